@@ -1,0 +1,15 @@
+pub mod SectorReads
+pub mod Limits
+pub mod Matching
+pub mod Parsing
+pub mod Rising
+pub mod Records
+pub mod Recovering
+pub mod Appending
+pub mod Bodies
+pub mod Encoding
+pub mod ReadFaults
+pub mod Gates
+pub mod Protocol
+pub mod Unique
+pub mod Writes

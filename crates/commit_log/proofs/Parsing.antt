@@ -1,0 +1,168 @@
+-- Bytes have one reading at most.
+use Rattle.std.proofs.Common.{◌≡◌, ℕ, zero, suc, ◌<◌, ◌≤◌, ◌+◌, ◌-◌, ◌^◌, ◌==◌, Bool, true, false, List, [], ◌∷◌, ◌++◌, length, take, drop, get_or, All, IfSome, Option, Some, None, refl, sym, ◌∙◌, ap, subst, arith, append_assoc, length-append}
+use Rattle.std.proofs.lemmas.List.{take_at, drop_at, drop_all, get_or-take, append-nil}
+use Rattle.std.proofs.lemmas.Grind.{flat_map-append}
+use Rattle.std.proofs.lemmas.Bool.Decides.{nat_tests}
+use Rattle.std.specs.Cmp.Lexicographic.{slice_cmp}
+use Rattle.std.specs.Ordering.{nat_cmp}
+use Rattle.std.specs.declared.cmp.Ordering.TheVariants.{Less}
+use Rattle.std.specs.List.{flat_map}
+use Rattle.byteorder.specs.Endian.{big_bytes, big_number}
+use Rattle.byteorder.specs.Numbers.{big_number-reads_back, length-bytes_high_first}
+use Rattle.model.specs.Key.{IsKey, IsValue}
+use Rattle.model.specs.Map.{KeyWrite}
+use Rattle.commit_log.specs.RecordFormat.{IsWithinLimits, IsWriteSet, entry_bytes, value_bytes, payload_bytes}
+use Rattle.commit_log.proofs.Rising.{adjacent}
+
+pub same_front : (xs ys r s : List ℕ) → length xs ≡ length ys → xs ++ r ≡ ys ++ s → (xs ≡ ys) × (r ≡ s)
+same_front xs ys r s len same = (
+  sym (take_at xs r (length ys) len) ∙ ap (λ (l : List ℕ). take (length ys) l) same ∙ take_at ys s (length ys) refl,
+  sym (drop_at xs r (length ys) len) ∙ ap (λ (l : List ℕ). drop (length ys) l) same ∙ drop_at ys s (length ys) refl,
+)
+
+pub same_number : (n x y : ℕ) (r s : List ℕ) → x < 256 ^ n → y < 256 ^ n → big_bytes n x ++ r ≡ big_bytes n y ++ s → (x ≡ y) × (r ≡ s)
+same_number n x y r s x_fits y_fits same = (
+  sym (big_number-reads_back n x r x_fits) ∙ ap (λ (l : List ℕ). big_number n l) same ∙ big_number-reads_back n y s y_fits,
+  (same_front (big_bytes n x) (big_bytes n y) r s (length-bytes_high_first n x ∙ sym (length-bytes_high_first n y)) same).1,
+)
+
+pub same_value : (v w : Option (List ℕ)) (r s : List ℕ) → IfSome v IsValue → IfSome w IsValue → value_bytes v ++ r ≡ value_bytes w ++ s → (v ≡ w) × (r ≡ s)
+same_value None None r s v_is w_is same = (refl, cc same)
+same_value None (Some w) r s v_is w_is same = absurd (cc same)
+same_value (Some v) None r s v_is w_is same = absurd (cc same)
+same_value (Some v) (Some w) r s v_is w_is same =
+    let tails : (big_bytes 4 (length v) ++ v) ++ r ≡ (big_bytes 4 (length w) ++ w) ++ s = cc same in
+    let regrouped : big_bytes 4 (length v) ++ (v ++ r) ≡ big_bytes 4 (length w) ++ (w ++ s) =
+    sym (append_assoc (big_bytes 4 (length v)) v r) ∙ tails ∙ append_assoc (big_bytes 4 (length w)) w s in
+    let number = same_number 4 (length v) (length w) (v ++ r) (w ++ s) (omega (arith, v_is)) (omega (arith, w_is)) regrouped in
+    let parts = same_front v w r s number.0 number.1 in
+    (ap (λ (l : List ℕ). Some l) parts.0, parts.1)
+
+entry_split : (w : KeyWrite) (r : List ℕ) → entry_bytes w ++ r ≡ big_bytes 2 (length w.0) ++ (w.0 ++ (value_bytes w.1 ++ r))
+entry_split w r =
+    append_assoc (big_bytes 2 (length w.0) ++ w.0) (value_bytes w.1) r ∙ append_assoc (big_bytes 2 (length w.0)) w.0 (value_bytes w.1 ++ r)
+
+pub same_entry : (w x : KeyWrite) (r s : List ℕ) → IsWithinLimits w → IsWithinLimits x → entry_bytes w ++ r ≡ entry_bytes x ++ s → (w ≡ x) × (r ≡ s)
+same_entry w x r s w_is x_is same =
+    let regrouped : big_bytes 2 (length w.0) ++ (w.0 ++ (value_bytes w.1 ++ r)) ≡ big_bytes 2 (length x.0) ++ (x.0 ++ (value_bytes x.1 ++ s)) =
+    sym (entry_split w r) ∙ same ∙ entry_split x s in
+    let number = same_number 2 (length w.0) (length x.0) (w.0 ++ (value_bytes w.1 ++ r)) (x.0 ++ (value_bytes x.1 ++ s)) (omega (arith, w_is.key.1)) (omega (arith, x_is.key.1)) regrouped in
+    let key = same_front w.0 x.0 (value_bytes w.1 ++ r) (value_bytes x.1 ++ s) number.0 number.1 in
+    let value = same_value w.1 x.1 r s w_is.value x_is.value key.1 in
+    ((λ i. (key.0 i, value.0 i)), value.1)
+
+-- no value stands behind the key
+pub no_value : (bytes key rest : List ℕ) → bytes ≡ (big_bytes 2 (length key) ++ key) ++ rest → IsKey key → ((v : Option (List ℕ)) (r : List ℕ) → IfSome v IsValue → rest ≡ value_bytes v ++ r → ⊥)
+    → (w : KeyWrite) (r : List ℕ) → IsWithinLimits w → bytes ≡ entry_bytes w ++ r → ⊥
+no_value bytes key rest is key_is none w r w_is same =
+    let regrouped : big_bytes 2 (length key) ++ (key ++ rest) ≡ big_bytes 2 (length w.0) ++ (w.0 ++ (value_bytes w.1 ++ r)) =
+    sym (append_assoc (big_bytes 2 (length key)) key rest) ∙ sym is ∙ same ∙ entry_split w r in
+    let number = same_number 2 (length key) (length w.0) (key ++ rest) (w.0 ++ (value_bytes w.1 ++ r)) (omega (arith, key_is.1)) (omega (arith, w_is.key.1)) regrouped in
+    let there = same_front key w.0 rest (value_bytes w.1 ++ r) number.0 number.1 in
+    none w.1 r w_is.value there.1
+
+limits_after : (w : KeyWrite) (writes : List KeyWrite) → All IsWithinLimits (w ∷ writes) → All IsWithinLimits writes
+limits_after w writes limits k d lt = limits (suc k) d (omega arith)
+
+-- what was read first is the front of each reading
+pub same_entries : (done writes : List KeyWrite) (rest : List ℕ) → All IsWithinLimits done → All IsWithinLimits writes → length done ≤ length writes
+    → flat_map entry_bytes writes ≡ flat_map entry_bytes done ++ rest → (take (length done) writes ≡ done) × (flat_map entry_bytes (drop (length done) writes) ≡ rest)
+same_entries [] writes rest done_is writes_is le same = (refl, same)
+same_entries (w ∷ done) [] rest done_is writes_is le same = absurd (omega arith)
+same_entries (w ∷ done) (x ∷ writes) rest done_is writes_is le same =
+    let regrouped : entry_bytes x ++ flat_map entry_bytes writes ≡ entry_bytes w ++ (flat_map entry_bytes done ++ rest) =
+    same ∙ append_assoc (entry_bytes w) (flat_map entry_bytes done) rest in
+    let first = same_entry x w (flat_map entry_bytes writes) (flat_map entry_bytes done ++ rest) (writes_is 0 x (omega arith)) (done_is 0 w (omega arith)) regrouped in
+    let others = same_entries done writes rest (limits_after w done done_is) (limits_after x writes writes_is) (omega arith) first.1 in
+    ((λ i. first.0 i ∷ others.0 i), others.1)
+
+drop_there : (n : ℕ) (writes : List KeyWrite) → n < length writes → (w : KeyWrite) × (rest : List KeyWrite) × (drop n writes ≡ w ∷ rest) × ((d : KeyWrite) → get_or writes n d ≡ w)
+drop_there n [] lt = absurd (omega arith)
+drop_there zero (w ∷ writes) lt = (w, writes, refl, (λ d. refl))
+drop_there (suc n) (x ∷ writes) lt = drop_there n writes (omega arith)
+
+module _ (bytes rest : List ℕ) (count : ℕ) (done : List KeyWrite) (is : bytes ≡ big_bytes 4 count ++ (flat_map entry_bytes done ++ rest)) (fits : count < 256 ^ 4) (done_is : All IsWithinLimits done) where
+  -- each reading has that count, and what was read in front
+  pub reading : (writes : List KeyWrite) → IsWriteSet writes → payload_bytes writes ≡ bytes → length done ≤ count
+      → (length writes ≡ count) × (take (length done) writes ≡ done) × (flat_map entry_bytes (drop (length done) writes) ≡ rest)
+  unfolding payload_bytes
+  reading writes proper same le =
+      let number = same_number 4 (length writes) count (flat_map entry_bytes writes) (flat_map entry_bytes done ++ rest) (omega (arith, proper.at_most)) fits (same ∙ is) in
+      let front = same_entries done writes rest done_is proper.limits (omega (arith, number.0)) number.1 in
+      (number.0, front.0, front.1)
+
+  -- there is no entry where one should be
+  pub no_entry : ((w : KeyWrite) (after : List ℕ) → IsWithinLimits w → rest ≡ entry_bytes w ++ after → ⊥) → length done < count → (writes : List KeyWrite) → IsWriteSet writes → payload_bytes writes ≡ bytes → ⊥
+  no_entry none lt writes proper same =
+      let read = reading writes proper same (omega arith) in
+      let there = drop_there (length done) writes (omega (arith, read.0)) in
+      let w = there.0 in
+      let limits : IsWithinLimits w = subst IsWithinLimits (there.3 w) (proper.limits (length done) w (omega (arith, read.0))) in
+      none w (flat_map entry_bytes there.1) limits (sym read.2 ∙ ap (λ (l : List KeyWrite). flat_map entry_bytes l) there.2)
+
+  -- an entry follows that isn't above the one before it
+  pub not_rising : (w : KeyWrite) (after : List ℕ) → rest ≡ entry_bytes w ++ after → IsWithinLimits w → 1 ≤ length done
+      → ((d : KeyWrite) → slice_cmp nat_cmp (get_or done (length done - 1) d).0 w.0 ≡ Less → ⊥) → length done < count → (writes : List KeyWrite) → IsWriteSet writes → payload_bytes writes ≡ bytes → ⊥
+  not_rising w after entry limits some falls lt writes proper same =
+      let read = reading writes proper same (omega arith) in
+      let there = drop_there (length done) writes (omega (arith, read.0)) in
+      let its : IsWithinLimits there.0 = subst IsWithinLimits (there.3 w) (proper.limits (length done) w (omega (arith, read.0))) in
+      let both : entry_bytes there.0 ++ flat_map entry_bytes there.1 ≡ entry_bytes w ++ after =
+      sym (ap (λ (l : List KeyWrite). flat_map entry_bytes l) there.2) ∙ read.2 ∙ entry in
+      let next : there.0 ≡ w = (same_entry there.0 w (flat_map entry_bytes there.1) after its limits both).0 in
+      let at_last : get_or writes (length done - 1) w ≡ get_or done (length done - 1) w =
+      sym (get_or-take (length done) writes (length done - 1) w (omega arith)) ∙ ap (λ (l : List KeyWrite). get_or l (length done - 1) w) read.1 in
+      let place : length done - 1 + 1 ≡ length done = omega arith in
+      let at_next : get_or writes (length done - 1 + 1) w ≡ w = ap (λ (k : ℕ). get_or writes k w) place ∙ there.3 w ∙ next in
+      let rises : slice_cmp nat_cmp (get_or writes (length done - 1) w).0 (get_or writes (length done - 1 + 1) w).0 ≡ Less = adjacent writes proper.rising (length done - 1) w (omega (arith, read.0)) in
+      falls w (ap (λ (k : List ℕ). slice_cmp nat_cmp k w.0) (ap (λ (x : KeyWrite). x.0) (sym at_last)) ∙ ap (λ (k : List ℕ). slice_cmp nat_cmp (get_or writes (length done - 1) w).0 k) (ap (λ (x : KeyWrite). x.0) (sym at_next)) ∙ rises)
+
+  -- bytes are left behind the last entry
+  pub left_over : length done ≡ count → 1 ≤ length rest → (writes : List KeyWrite) → IsWriteSet writes → payload_bytes writes ≡ bytes → ⊥
+  left_over all some writes proper same =
+      let read = reading writes proper same (omega arith) in
+      let none : drop (length done) writes ≡ [] = drop_all (length done) writes (omega (arith, read.0)) in
+      let empty : [] ≡ rest = sym (ap (λ (l : List KeyWrite). flat_map entry_bytes l) none) ∙ read.2 in
+      omega (arith, ap length empty)
+
+  pub whole : length done ≡ count → rest ≡ [] → payload_bytes done ≡ bytes
+  unfolding payload_bytes
+  whole all none =
+      ap (λ (n : ℕ). big_bytes 4 n ++ flat_map entry_bytes done) all
+      ∙ ap (λ (l : List ℕ). big_bytes 4 count ++ l) (sym (append-nil (flat_map entry_bytes done)) ∙ ap (λ (l : List ℕ). flat_map entry_bytes done ++ l) (sym none))
+      ∙ sym is
+
+-- a count that no write set has
+pub no_count : (bytes rest : List ℕ) (count : ℕ) → bytes ≡ big_bytes 4 count ++ rest → count < 256 ^ 4 → (1 ≤ count → count ≤ 64 → ⊥) → (writes : List KeyWrite) → IsWriteSet writes → payload_bytes writes ≡ bytes → ⊥
+unfolding payload_bytes
+no_count bytes rest count is fits out writes proper same =
+    let number = same_number 4 (length writes) count (flat_map entry_bytes writes) rest (omega (arith, proper.at_most)) fits (same ∙ is) in
+    out (omega (arith, number.0, proper.some)) (omega (arith, number.0, proper.at_most))
+
+pub too_few : (bytes : List ℕ) → length bytes < 4 → (writes : List KeyWrite) → IsWriteSet writes → payload_bytes writes ≡ bytes → ⊥
+unfolding payload_bytes
+too_few bytes short writes proper same = omega (arith, ap length same, length-append (big_bytes 4 (length writes)) (flat_map entry_bytes writes))
+
+-- one entry more was read
+pub read_more : (bytes front rest after : List ℕ) (done : List KeyWrite) (w : KeyWrite) → bytes ≡ front ++ (flat_map entry_bytes done ++ rest) → rest ≡ entry_bytes w ++ after → bytes ≡ front ++ (flat_map entry_bytes (done ++ w ∷ []) ++ after)
+read_more bytes front rest after done w so_far entry =
+    so_far ∙ ap (λ (l : List ℕ). front ++ (flat_map entry_bytes done ++ l)) entry
+    ∙ ap (λ (l : List ℕ). front ++ l)
+    (sym (append_assoc (flat_map entry_bytes done) (entry_bytes w) after)
+    ∙ ap (λ (l : List ℕ). l ++ after) (ap (λ (l : List ℕ). flat_map entry_bytes done ++ l) (sym (append-nil (entry_bytes w))) ∙ sym (flat_map-append entry_bytes done (w ∷ []))))
+
+zero_if : (n : ℕ) → (n == 0) ≡ true → n ≡ 0
+zero_if n told = grind (arith, nat_tests)
+
+some_unless : (n : ℕ) → (n == 0) ≡ false → 1 ≤ n
+some_unless n told = grind (arith, nat_tests)
+
+pub empty_if : (b : Bool) (xs : List ℕ) → b ≡ (length xs == 0) → b ≡ true → xs ≡ []
+empty_if b xs is told = none xs (zero_if (length xs) (sym is ∙ told))
+  where
+    none : (l : List ℕ) → length l ≡ 0 → l ≡ []
+    none [] empty = refl
+    none (x ∷ l) empty = absurd (omega arith)
+
+pub some_if : (b : Bool) (xs : List ℕ) → b ≡ (length xs == 0) → b ≡ false → 1 ≤ length xs
+some_if b xs is told = some_unless (length xs) (sym is ∙ told)

@@ -1,0 +1,9 @@
+use Rattle.std.proofs.Common.{◌≡◌, ◌+◌, ◌*◌, ◌≤◌, take}
+use Rattle.model.specs.Machine.{payload_size}
+use Rattle.commit_log.proofs.encode.payload_len.Given as goal
+
+abbrev pub invariant-loop-write : goal.invariant-loop-write
+invariant-loop-write l = record {
+  len : l.len ≡ payload_size (take l.write-index l.writes);
+  bound : l.len ≤ 4 + 4359 * l.write-index;
+}

@@ -1,0 +1,54 @@
+use Rattle.std.proofs.Common.{◌∙◌, sym, refl, drop, arith}
+use Rattle.std.proofs.lemmas.Result.{err_from_is_err_and}
+use Rattle.commit_log.specs.Reading.{ReadsAs}
+use Rattle.commit_log.proofs.ReadFaults.{read_fault}
+use Rattle.commit_log.proofs.SectorReads.{no_reads, read_on, reads_joined}
+use Rattle.commit_log.proofs.Recovering.{nothing_read, first_digest_is, ended, damaged, more}
+use Rattle.commit_log.proofs.read.read_records.Goals as goal
+
+pub records-init : goal.records-init
+records-init g c = record {
+  size = refl;
+  failures = refl;
+  only_reads = λ keeps. no_reads g.D.Sectors c.args.device.now (g.met.D.Sectors.only_now keeps c.args.device.now);
+  in_range = omega arith;
+  counted = omega arith;
+  found = λ keeps image size reads. nothing_read (drop 1 image) _ _ (sym first_digest_is) c.new-map.ensures;
+}
+
+pub returns-then-sector-ne1-clause-found : goal.returns-then-sector-ne1-clause-found
+returns-then-sector-ne1-clause-found g c keeps image size reads =
+    let there = reads _ _ ((c.records.invariant.only_reads keeps).reads _ _ (c.in-Ok.ensures.gives keeps)) in
+    let read = c.records.invariant.found keeps image size reads in
+    record {
+      lists = read.lists;
+      holds = ended image _ _ _ _ _ read there c.if-sector-ne1.true;
+      tells = record { gate = read.gate_is; records = read.records_are; digest = read.digest_is; map = read.map_is };
+    }
+
+pub returns-in_err-record-clause-found : goal.returns-in_err-record-clause-found
+returns-in_err-record-clause-found g c keeps image size reads =
+    let p = err_from_is_err_and c.from_residual.result c.from_residual.ensures.1 in
+    rw (p.1, p.2) (read_fault (drop 1 image) _ c.in_err-record.ensures.errors)
+
+pub records-preserved : goal.records-preserved
+records-preserved g c = record {
+  size = c.read_record.ensures.size ∙ c.read.ensures.size ∙ c.records.invariant.size;
+  failures = c.in_ok-record.ensures.fault ∙ c.in-Ok.ensures.ok.0 ∙ c.records.invariant.failures;
+  only_reads = λ keeps. reads_joined g.D.Sectors _ _ _ (read_on g.D.Sectors _ _ _ (c.records.invariant.only_reads keeps) (c.read.ensures.reads keeps) (c.read.ensures.crash keeps) (c.read.ensures.time keeps)) (c.read_record.ensures.only_reads keeps);
+  in_range = omega (arith, rw c.in-Some.is at c.in_ok-record.ensures.sectors);
+  counted = omega (arith, c.records.invariant.counted);
+  found = λ keeps image size reads.
+      let there = reads _ _ ((c.records.invariant.only_reads keeps).reads _ _ (c.in-Ok.ensures.gives keeps)) in
+      let mid : ReadsAs (g.D.Sectors.may_read c.read.new.self) image = λ i s read. reads i s ((c.records.invariant.only_reads keeps).reads i s (c.read.ensures.reads keeps i s read)) in
+      let read = c.records.invariant.found keeps image size reads in
+      more image _ _ _ _ _ read there c.if-sector-ne1.false c.in-Some.record.writes.items c.in-Some.record.sectors c.in-Some.record.digest.bytes _
+      (rw c.in-Some.is at (c.in_ok-record.ensures.some keeps image size mid)) (rw c.in-Some.is at (c.in_ok-record.ensures.counted keeps image size mid)) (rw c.in-Some.is at c.in_ok-record.ensures.digest) c.in_ok-apply-in-Some.ensures;
+}
+
+pub returns-in-None-clause-found : goal.returns-in-None-clause-found
+returns-in-None-clause-found g c keeps image size reads =
+    let there = reads _ _ ((c.records.invariant.only_reads keeps).reads _ _ (c.in-Ok.ensures.gives keeps)) in
+    let mid : ReadsAs (g.D.Sectors.may_read c.read.new.self) image = λ i s read. reads i s ((c.records.invariant.only_reads keeps).reads i s (c.read.ensures.reads keeps i s read)) in
+    let read = c.records.invariant.found keeps image size reads in
+    damaged image _ _ _ _ _ read there c.if-sector-ne1.false (rw c.in-None.is at (c.in_ok-record.ensures.none keeps image size mid))

@@ -1,0 +1,17 @@
+use Rattle.std.proofs.Common.{◌≡◌, ◌-◌, ◌<◌, ◌≤◌, ℕ, List, length, drop}
+use Rattle.commit_log.specs.Reading.{ReadsAs, OnlyReads}
+use Rattle.commit_log.proofs.Recovering.{HasRead}
+use Rattle.commit_log.proofs.read.read_records.Given as goal
+
+abbrev pub invariant-records : goal.invariant-records
+invariant-records g l = record {
+  size : g.D.Sectors.size l.device ≡ g.D.Sectors.size l.fn.device;
+  failures : g.D.Sectors.failures l.device ≡ g.D.Sectors.failures l.fn.device;
+  only_reads : g.D.Sectors.keeps_model → OnlyReads g.D.Sectors.may_read g.D.Sectors.may_leave g.D.Sectors.moment g.D.Sectors.left_since l.fn.device l.device;
+  in_range : l.gate < l.count;
+  counted : l.records ≤ l.gate;
+  found : g.D.Sectors.keeps_model → (image : List (List ℕ)) → length image ≡ l.count → ReadsAs (g.D.Sectors.may_read l.fn.device) image → HasRead (drop 1 image) l.gate l.records l.digest.bytes l.map;
+}
+
+abbrev pub decreases-records : goal.decreases-records
+decreases-records g l = l.count - l.gate

@@ -1,0 +1,7 @@
+use Rattle.std.proofs.Common.{refl}
+use Rattle.commit_log.specs.RecordFormat.{closed_gate}
+use Rattle.commit_log.proofs.record.closed_gate.Goals as goal
+
+pub returns : goal.returns
+unfolding closed_gate
+returns c = refl

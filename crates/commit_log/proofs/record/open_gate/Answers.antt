@@ -1,0 +1,7 @@
+use Rattle.std.proofs.Common.{refl}
+use Rattle.commit_log.specs.RecordFormat.{open_gate}
+use Rattle.commit_log.proofs.record.open_gate.Goals as goal
+
+pub returns : goal.returns
+unfolding open_gate
+returns c = refl

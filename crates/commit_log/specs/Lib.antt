@@ -1,0 +1,8 @@
+-- The log: its format, what an image holds, what a log stands for, and what opening finds.
+pub mod RecordFormat
+pub mod LogImage
+pub mod Recovery
+pub mod LogState
+pub mod LogFaults
+pub mod Reading
+pub mod Opening

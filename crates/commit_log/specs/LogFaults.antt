@@ -1,0 +1,30 @@
+-- Which faults a call of the log may answer.
+use Rattle.commit_log.specs.declared.faults.LogFault.{LogFault}
+use Rattle.commit_log.specs.declared.faults.LogFault.TheVariants.{NotALog, Damaged, Full, Device, Stopped, Memory}
+
+-- the device failed, or memory was refused
+abbrev pub IsDeviceOrMemory : LogFault → Type 0
+IsDeviceOrMemory NotALog = ⊥
+IsDeviceOrMemory (Damaged index) = ⊥
+IsDeviceOrMemory Full = ⊥
+IsDeviceOrMemory Device = Unit {0}
+IsDeviceOrMemory Stopped = ⊥
+IsDeviceOrMemory Memory = Unit {0}
+
+-- a fault of opening a log
+abbrev pub IsOpenFault : LogFault → Type 0
+IsOpenFault NotALog = Unit {0}
+IsOpenFault (Damaged index) = Unit {0}
+IsOpenFault Full = ⊥
+IsOpenFault Device = Unit {0}
+IsOpenFault Stopped = ⊥
+IsOpenFault Memory = Unit {0}
+
+-- a fault of an append
+abbrev pub IsAppendFault : LogFault → Type 0
+IsAppendFault NotALog = ⊥
+IsAppendFault (Damaged index) = ⊥
+IsAppendFault Full = Unit {0}
+IsAppendFault Device = Unit {0}
+IsAppendFault Stopped = Unit {0}
+IsAppendFault Memory = Unit {0}

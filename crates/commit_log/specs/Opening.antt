@@ -1,0 +1,63 @@
+-- What opening finds.
+use Rattle.std.specs.Prelude.{◌≡◌, ◌+◌, ℕ, List, [], length, slice_get, Some}
+use Rattle.model.specs.Map.{KeyWrite}
+use Rattle.commit_log.specs.RecordFormat.{first_digest}
+use Rattle.commit_log.specs.LogImage.{HoldsRecords, HoldsDamage, IsLogImage, IsDamaged, IsNoLog, span, last_digest}
+use Rattle.commit_log.specs.Recovery.{map_after}
+use Rattle.commit_log.specs.declared.read.Found.{Found}
+use Rattle.commit_log.specs.declared.faults.LogFault.{LogFault}
+use Rattle.commit_log.specs.declared.faults.LogFault.TheVariants.{NotALog, Damaged, Full, Device, Stopped, Memory}
+
+-- it tells of the records of these write sets
+pub record TellsOf (lists : List (List KeyWrite)) (found : Found) : Type 0 where
+  pub gate : found.gate ≡ 1 + span lists
+  pub records : found.records ≡ length lists
+  pub digest : found.digest.bytes ≡ last_digest lists 0 first_digest
+  pub map : found.map ≡ map_after [] lists
+
+-- it tells of the records that these sectors hold
+pub record IsFound (rest : List (List ℕ)) (found : Found) : Type 0 where
+  pub lists : List (List KeyWrite)
+  pub holds : HoldsRecords lists 0 first_digest rest
+  pub tells : TellsOf lists found
+
+-- these sectors are damaged behind so many records
+pub record IsDamagedAt (rest : List (List ℕ)) (index : ℕ) : Type 0 where
+  pub lists : List (List KeyWrite)
+  pub count : length lists ≡ index
+  pub holds : HoldsDamage lists 0 first_digest rest
+
+-- reading records fails by the device, for want of memory, or where they are damaged
+abbrev pub IsReadFault : List (List ℕ) → LogFault → Type 0
+IsReadFault rest NotALog = ⊥
+IsReadFault rest (Damaged index) = IsDamagedAt rest index
+IsReadFault rest Full = ⊥
+IsReadFault rest Device = Unit {0}
+IsReadFault rest Stopped = ⊥
+IsReadFault rest Memory = Unit {0}
+
+-- the image is damaged behind so many records
+abbrev pub IsDamagedImage : List (List ℕ) → ℕ → Type 0
+IsDamagedImage image index = (lists : List (List KeyWrite)) × (length lists ≡ index) × IsDamaged lists image
+
+-- opening fails by the device, for want of memory, or for what this image is
+abbrev pub IsRefusal : List (List ℕ) → LogFault → Type 0
+IsRefusal image NotALog = IsNoLog image
+IsRefusal image (Damaged index) = IsDamagedImage image index
+IsRefusal image Full = ⊥
+IsRefusal image Device = Unit {0}
+IsRefusal image Stopped = ⊥
+IsRefusal image Memory = Unit {0}
+
+-- a sync might have settled this image
+pub record CanSettle (size : ℕ) (may_read : ℕ → List ℕ → Type 0) (may_leave : List (List ℕ) → Type 0) (image : List (List ℕ)) : Type 0 where
+  pub size_is : length image ≡ size
+  pub read : (i : ℕ) (s : List ℕ) → slice_get image i ≡ Some s → may_read i s
+  pub left : may_leave image
+
+-- it tells of this image, which is all that a crash now may leave
+pub record IsOpened (may_leave : List (List ℕ) → Type 0) (image : List (List ℕ)) (found : Found) : Type 0 where
+  pub lists : List (List KeyWrite)
+  pub holds : IsLogImage lists image
+  pub tells : TellsOf lists found
+  pub left : (c : List (List ℕ)) → may_leave c → c ≡ image

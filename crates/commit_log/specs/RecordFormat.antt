@@ -1,0 +1,89 @@
+-- The bytes of the log's sectors, format 1. All numbers are big-endian.
+use Rattle.std.specs.Prelude.{ℕ, zero, suc, ◌+◌, ◌-◌, ◌*◌, ◌/◌, ◌≤◌, Bool, T, ◌==◌, List, [], ◌∷◌, ◌++◌, length, take, drop, replicate, All, IfSome, Option, Some, None, slice_index}
+use Rattle.std.specs.List.{flat_map}
+use Rattle.std.specs.Cmp.Lexicographic.{slice_cmp}
+use Rattle.std.specs.Ordering.{nat_cmp}
+use Rattle.std.specs.FinMap.Entries.{is_sorted}
+use Rattle.byteorder.specs.Endian.{big_bytes}
+use Rattle.sha2.specs.Sha256.{sha256}
+use Rattle.model.specs.Key.{IsKey, IsValue}
+use Rattle.model.specs.Map.{KeyWrite}
+
+-- what stands behind an entry's key: a put with its value, or a deletion
+abbrev pub value_bytes : Option (List ℕ) → List ℕ
+value_bytes (Some value) = 1 ∷ big_bytes 4 (length value) ++ value
+value_bytes None = 0 ∷ []
+
+-- one entry of a payload
+abbrev pub entry_bytes : KeyWrite → List ℕ
+entry_bytes write = (big_bytes 2 (length write.0) ++ write.0) ++ value_bytes write.1
+
+-- the payload of a record
+unfoldable pub payload_bytes : List KeyWrite → List ℕ
+payload_bytes writes = big_bytes 4 (length writes) ++ flat_map entry_bytes writes
+
+-- the digest of a record, from that of the record before it
+unfoldable pub record_digest : List ℕ → ℕ → List KeyWrite → List ℕ
+record_digest before index writes = sha256 ((before ++ big_bytes 8 index) ++ payload_bytes writes)
+
+-- the digest before the first record
+unfoldable pub first_digest : List ℕ
+first_digest = replicate 32 0
+
+-- a record's body before its zeros
+unfoldable pub body_bytes : List ℕ → ℕ → List KeyWrite → List ℕ
+body_bytes before index writes =
+    ((big_bytes 4 (length (payload_bytes writes)) ++ big_bytes 8 index) ++ record_digest before index writes) ++ payload_bytes writes
+
+-- how many sectors hold the body of a payload of this length
+abbrev pub sectors_for : ℕ → ℕ
+sectors_for len = (44 + len + 511) / 512
+
+-- how many sectors the body of this record has
+unfoldable pub sectors_of : List KeyWrite → ℕ
+sectors_of writes = sectors_for (length (payload_bytes writes))
+
+-- the body of a record: zeros stand behind its bytes up to the end of its last sector
+unfoldable pub padded_body : List ℕ → ℕ → List KeyWrite → List ℕ
+padded_body before index writes =
+    let bytes = body_bytes before index writes in
+    bytes ++ replicate (512 * sectors_of writes - length bytes) 0
+
+-- the first n sectors of these bytes
+abbrev pub sectors_in : ℕ → List ℕ → List (List ℕ)
+sectors_in zero bytes = []
+sectors_in (suc n) bytes = take 512 bytes ∷ sectors_in n (drop 512 bytes)
+
+-- the body's sectors
+unfoldable pub record_body : List ℕ → ℕ → List KeyWrite → List (List ℕ)
+record_body before index writes = sectors_in (sectors_of writes) (padded_body before index writes)
+
+-- a gate is open where its first byte is 1
+abbrev pub is_open : List ℕ → Bool
+is_open gate = slice_index gate 0 == 1
+
+unfoldable pub closed_gate : List ℕ
+closed_gate = replicate 512 0
+
+unfoldable pub open_gate : List ℕ
+open_gate = 1 ∷ replicate 511 0
+
+-- the first sector: `SSIKVLG1`, and zeros
+unfoldable pub head_sector : List ℕ
+head_sector = (83 ∷ 83 ∷ 73 ∷ 75 ∷ 86 ∷ 76 ∷ 71 ∷ 49 ∷ []) ++ replicate 504 0
+
+-- a write of a key, with a value or with none
+pub record IsWithinLimits (write : KeyWrite) : Type 0 where
+  pub key : IsKey write.0
+  pub value : IfSome write.1 IsValue
+
+-- each key is below those behind it
+abbrev pub IsRising : List KeyWrite → Type 0
+IsRising writes = T (is_sorted (slice_cmp nat_cmp) writes)
+
+-- what a record may hold: 1 to 64 writes by strictly rising key
+pub record IsWriteSet (writes : List KeyWrite) : Type 0 where
+  pub some : 1 ≤ length writes
+  pub at_most : length writes ≤ 64
+  pub limits : All IsWithinLimits writes
+  pub rising : IsRising writes

@@ -1,0 +1,27 @@
+//! Many sectors at a time.
+ghost use Rattle.std.specs.Prelude.{◌≡◌, ◌≢◌, ◌⊎◌, ◌<◌, ◌≤◌, ◌+◌, ◌*◌, ◌/◌, ◌%◌, ◌^◌, ℕ, List, length, take, drop, OnOk, OnErr};
+ghost use Rattle.sector.specs.SectorModel.{LeavesOnly};
+ghost use Rattle.sector.specs.Failures.{Rose};
+ghost use Rattle.commit_log.specs.LogState.{IsSameBefore};
+
+use sector::{DeviceFault, SECTOR_SIZE, Sectors};
+
+/// Writes whole sectors one after the other.
+pub fn write_sectors<D: Sectors>(device: &mut D, at: u64, bytes: &[u8]) -> Result<(), DeviceFault>
+    requires whole { length bytes.now % 512 ≡ 0 }
+    requires room { at + length bytes.now / 512 < D.size device.old }
+    requires fits { at + length bytes.now / 512 < 2 ^ 64 }
+    ensures size { D.size device.new ≡ D.size device.old }
+    ensures ok { OnOk result (D.failures device.new ≡ D.failures device.old) }
+    ensures fault { OnErr result (Rose (D.failures device.old) (D.failures device.new)) }
+    ensures written { D.keeps_model → OnOk result ((k : ℕ) (s : List ℕ) → k < length bytes.now / 512 → D.may_read device.new (at + k) s → s ≡ take 512 (drop (512 * k) bytes.now)) }
+    ensures crash { D.keeps_model → (c : List (List ℕ)) → D.may_leave device.new c → IsSameBefore at (D.may_leave device.old) c }
+    ensures time { D.keeps_model → LeavesOnly D.moment D.left_since device.old device.new (IsSameBefore at (D.may_leave device.old)) }
+{
+    for k in 0..bytes.len() / SECTOR_SIZE {
+        let mut sector = [0; 512];
+        sector.copy_from_slice(&bytes[512 * k..512 * k + 512]);
+        device.write(at + k as u64, &sector)?;
+    }
+    Ok(())
+}

@@ -1,0 +1,53 @@
+//! Why a call of the log gave up.
+ghost use Rattle.std.specs.Prelude.{◌≡◌};
+ghost use Rattle.commit_log.specs.declared.faults.LogFault.TheVariants.{Memory};
+
+use std::alloc::{AllocError, AllocFailed};
+use thiserror::Error;
+
+/// Why a call of the log gave up.
+#[derive(Clone, Copy, Debug, PartialEq, Eq, Error)]
+pub enum LogFault {
+    /// The device has fewer than two sectors, or its first isn't the head of a log.
+    #[error("not a log")]
+    NotALog,
+    /// Behind this many right records stands an open gate, and not the record that belongs there.
+    #[error("record {0} is damaged")]
+    Damaged(u64),
+    /// There is no room for the record, or for a head and a gate.
+    #[error("the log is full")]
+    Full,
+    /// The device failed in this call, and the log is stopped.
+    #[error("the device failed")]
+    Device,
+    /// The device failed in an earlier call.
+    #[error("the log is stopped")]
+    Stopped,
+    /// Memory was refused.
+    #[error("out of memory")]
+    Memory,
+}
+
+impl From<AllocError> for LogFault {
+    ghost from_gives = { λ _ e. e ≡ Memory };
+
+    fn from(_error: AllocError) -> Self {
+        LogFault::Memory
+    }
+}
+
+impl<T: Drop> From<AllocFailed<T>> for LogFault {
+    ghost from_gives = { λ _ e. e ≡ Memory };
+
+    fn from(_error: AllocFailed<T>) -> Self {
+        LogFault::Memory
+    }
+}
+
+impl From<model::Memory> for LogFault {
+    ghost from_gives = { λ _ e. e ≡ Memory };
+
+    fn from(_error: model::Memory) -> Self {
+        LogFault::Memory
+    }
+}

@@ -1,0 +1,47 @@
+//! Making an empty log.
+ghost use Rattle.std.specs.Prelude.{◌≡◌, ◌≢◌, ◌<◌, ◌≤◌, ◌↔◌, [], List, ℕ, OnOk, OnErr, IsErrOf, IfErr};
+ghost use Rattle.sector.specs.SectorModel.{IsSettled};
+ghost use Rattle.sector.specs.Failures.{Rose, Stayed};
+ghost use Rattle.commit_log.specs.LogImage.{IsLogImage};
+ghost use Rattle.commit_log.specs.Reading.{FaultIs};
+
+use crate::faults::LogFault;
+use crate::read::head_sector;
+use crate::record::closed_gate;
+use sector::{DeviceFault, Sectors};
+
+/// Makes a device an empty log: it writes a closed gate to sector 1, syncs, writes the head to sector 0, and syncs.
+///
+/// `Full` exactly where there are fewer than two sectors; the device is then not called. `Device` exactly where a call of the device
+/// failed; what the device holds is then open, and it may be formatted again. Takes no memory.
+pub fn format<D: Sectors>(device: &mut D) -> Result<(), LogFault>
+    ensures full { IsErrOf result LogFault.Full ↔ (D.size device.old < 2) }
+    ensures unchanged { IsErrOf result LogFault.Full → device.new ≡ device.old }
+    ensures errors { IfErr result (λ e. e ≢ LogFault.Full → e ≡ LogFault.Device) }
+    ensures fault { FaultIs (D.failures device.old) (D.failures device.new) result }
+    ensures no_fault { OnOk result (Stayed (D.failures device.old) (D.failures device.new)) }
+    ensures size { D.size device.new ≡ D.size device.old }
+    ensures formatted { D.keeps_model → OnOk result ((image : List (List ℕ)) × IsSettled (D.size device.new) (D.may_read device.new) (D.may_leave device.new) image × IsLogImage [] image) }
+{
+    if device.count() < 2 {
+        return Err(LogFault::Full);
+    }
+    match write_head(device) {
+        Ok(()) => Ok(()),
+        Err(_) => Err(LogFault::Device),
+    }
+}
+
+fn write_head<D: Sectors>(device: &mut D) -> Result<(), DeviceFault>
+    requires { 2 ≤ D.size device.old }
+    ensures size { D.size device.new ≡ D.size device.old }
+    ensures ok { OnOk result (Stayed (D.failures device.old) (D.failures device.new)) }
+    ensures fault { OnErr result (Rose (D.failures device.old) (D.failures device.new)) }
+    ensures formatted { D.keeps_model → OnOk result ((image : List (List ℕ)) × IsSettled (D.size device.new) (D.may_read device.new) (D.may_leave device.new) image × IsLogImage [] image) }
+{
+    device.write(1, &closed_gate())?;
+    device.sync()?;
+    device.write(0, &head_sector())?;
+    device.sync()?;
+    Ok(())
+}

@@ -1,0 +1,22 @@
+//! A log of write sets on a row of sectors, format 1.
+//!
+//! Sector 0 is the head. Behind it stand the records, each a gate sector and the sectors of its body, and then a closed gate. A record
+//! is appended with its gate closed; once its body and the closed gate behind it are settled, its gate is opened. So a crash leaves
+//! it whole or not at all, with no premise on digests. The digests, each over the one before it, find changed bytes.
+#![tactic(auto)]
+
+mod blocks;
+mod decode;
+mod encode;
+mod faults;
+mod formatting;
+mod log;
+mod read;
+mod record;
+mod state;
+
+pub use encode::payload_len;
+pub use faults::LogFault;
+pub use formatting::format;
+pub use log::Log;
+pub use read::{Found, read_log};

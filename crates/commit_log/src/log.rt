@@ -1,0 +1,137 @@
+//! The log. It is read once, when it is opened, and from then on only appended to.
+ghost use Rattle.std.specs.Prelude.{◌≡◌, ◌≢◌, ◌⊎◌, ℕ, length, MatchResult, IsErrAnd, ◌<◌, ◌≤◌, ◌^◌, ◌-◌, ◌+◌, ◌↔◌, true, false, List, [], ◌∷◌, ◌++◌, IsTrue, IfOk, IfErr, OnOk, OnErr, IsErrOf};
+
+use crate::encode::{encode, payload_len};
+use crate::faults::LogFault;
+use crate::read::read_log;
+use crate::record::write_record;
+use model::{Map, Write};
+use sector::{SECTOR_SIZE, Sectors};
+use std::alloc::Global;
+
+/// A log that was opened, and its device.
+#[derive(Drop)]
+pub struct Log<D: Sectors> {
+    pub(crate) device: D,
+    /// The closed gate, where the next record will stand.
+    pub(crate) gate: u64,
+    pub(crate) records: u64,
+    /// The digest of the last record.
+    pub(crate) digest: [u8; 32],
+    pub(crate) stopped: bool,
+    ghost in_range: { gate < D.size device },
+    ghost fits: { D.size device < 2 ^ 64 },
+    ghost counted: { records ≤ gate },
+}
+
+impl<D: Sectors> Log<D> {
+    ghost use Rattle.sector.specs.Failures.{Rose, Stayed};
+    ghost use Rattle.sector.specs.SectorModel.{LeavesOnly};
+    ghost use Rattle.model.specs.Map.{KeyWrite};
+    ghost use Rattle.model.specs.Machine.{body_sectors};
+    ghost use Rattle.commit_log.specs.RecordFormat.{IsWriteSet};
+    ghost use Rattle.commit_log.specs.LogImage.{IsLogImage, IsDamaged, IsNoLog};
+    ghost use Rattle.commit_log.specs.Recovery.{map_after};
+    ghost use Rattle.commit_log.specs.LogFaults.{IsDeviceOrMemory, IsOpenFault, IsAppendFault};
+    ghost use Rattle.commit_log.specs.Reading.{ReadsAs};
+    ghost use Rattle.commit_log.specs.LogState.{StandsFor, IsBeforeOrAfter, record_count, used_sectors, is_stopped, device_of, sector_count, failure_count};
+
+    /// Opens the log that a device holds, and gives the map that its write sets make of the empty one. It syncs the device, and reads
+    /// each sector up to the last closed gate once.
+    ///
+    /// The first fault met is answered: `Device` where a call of the device fails, `NotALog` where it has fewer than two sectors or the
+    /// first isn't the head, `Damaged` where an open gate has not its record behind it, `Memory` where memory is refused, for the map or
+    /// for one record. After a fault the device has been given up; `read_log`, which borrows it, says what it leaves.
+    pub fn open(alloc: Global, mut device: D) -> Result<(Self, Map), LogFault>
+        ensures size { IfOk result (λ r. sector_count r.0 ≡ D.size device) }
+        ensures running { IfOk result (λ r. is_stopped r.0 ≡ false) }
+        ensures failures { IfOk result (λ r. failure_count r.0 ≡ D.failures device) }
+        ensures faults { IfErr result IsOpenFault }
+
+        // The log stands for what was read: each crash leaves it.
+        ensures stands { D.keeps_model → IfOk result (λ r. (lists : List (List KeyWrite)) × StandsFor r.0 lists × (r.1 ≡ map_after [] lists)) }
+
+        // During the call a crash leaves what one before it could have left.
+        ensures during { D.keeps_model → IfOk result (λ r. LeavesOnly D.moment D.left_since device (device_of r.0) (D.may_leave device)) }
+
+        // A log is read as what it is.
+        ensures found { D.keeps_model → (disk : List (List ℕ)) (lists : List (List KeyWrite)) → length disk ≡ D.size device → ReadsAs (D.may_read device) disk
+            → IsLogImage lists disk → MatchResult result (λ r. StandsFor r.0 lists × (r.1 ≡ map_after [] lists)) IsDeviceOrMemory }
+        ensures damaged { D.keeps_model → (disk : List (List ℕ)) (lists : List (List KeyWrite)) → length disk ≡ D.size device → ReadsAs (D.may_read device) disk
+            → IsDamaged lists disk → IsErrAnd result (λ e. (e ≡ LogFault.Damaged (length lists)) ⊎ IsDeviceOrMemory e) }
+        ensures no_log { D.keeps_model → (disk : List (List ℕ)) → length disk ≡ D.size device → ReadsAs (D.may_read device) disk
+            → IsNoLog disk → IsErrAnd result (λ e. (e ≡ LogFault.NotALog) ⊎ IsDeviceOrMemory e) }
+
+        // Where each crash leaves some log, one is found.
+        ensures undamaged { D.keeps_model → ((c : List (List ℕ)) → D.may_leave device c → (lists : List (List KeyWrite)) × IsLogImage lists c) → IfErr result IsDeviceOrMemory }
+    {
+        let found = read_log(alloc, &mut device)?;
+        let digest = found.digest.bytes;
+        let log = Log {
+            device,
+            gate: found.gate,
+            records: found.records,
+            digest,
+            stopped: false,
+        };
+        Ok((log, found.map))
+    }
+
+    /// Adds a record of these writes, and answers its index, 0 for the first. The device is written once for each sector and synced twice.
+    ///
+    /// Faults come in this order: `Stopped` after an earlier `Device`; `Full` exactly where no closed gate would fit behind the record;
+    /// `Memory` where the memory for the record's body is refused; `Device` where a call of the device fails, and the log is then stopped.
+    /// The first three leave the log as it was, and make no call of the device.
+    pub fn append(&mut self, alloc: Global, writes: &[Write]) -> Result<u64, LogFault>
+        requires { IsWriteSet writes.now }
+        ensures index { IfOk result (λ index. index ≡ record_count self.old) }
+        ensures counted { OnOk result (record_count self.new ≡ record_count self.old + 1) }
+        ensures used { OnOk result (used_sectors self.new ≡ used_sectors self.old + (body_sectors writes.now + 1)) }
+        ensures running { OnOk result (is_stopped self.new ≡ false) }
+        ensures size { sector_count self.new ≡ sector_count self.old }
+
+        // When each fault comes, and what it leaves.
+        ensures faults { IfErr result IsAppendFault }
+        ensures stopped { IsErrOf result LogFault.Stopped ↔ (is_stopped self.old ≡ true) }
+        ensures full { IsErrOf result LogFault.Full ↔ ((is_stopped self.old ≡ false) × (sector_count self.old ≤ used_sectors self.old + body_sectors writes.now)) }
+        ensures device { IsErrOf result LogFault.Device → Rose (failure_count self.old) (failure_count self.new) }
+        ensures stops { IsErrOf result LogFault.Device → is_stopped self.new ≡ true }
+        ensures same { IsErrOf result LogFault.Device → (record_count self.new ≡ record_count self.old) × (used_sectors self.new ≡ used_sectors self.old) }
+        ensures unchanged { IfErr result (λ e. e ≢ LogFault.Device → self.new ≡ self.old) }
+        ensures no_fault { OnOk result (Stayed (failure_count self.old) (failure_count self.new)) }
+
+        // At `Ok` the log stands for its write sets and this one, and each crash leaves them.
+        ensures appended { D.keeps_model → (lists : List (List KeyWrite)) → StandsFor self.old lists → OnOk result (StandsFor self.new (lists ++ writes.now ∷ [])) }
+
+        // A crash at any moment of the call leaves the write sets from before it, with this one or without.
+        ensures any_moment { D.keeps_model → (lists : List (List KeyWrite)) → StandsFor self.old lists
+            → LeavesOnly D.moment D.left_since (device_of self.old) (device_of self.new) (IsBeforeOrAfter lists writes.now) }
+
+        // So does a crash after it, also where it failed.
+        ensures left { D.keeps_model → (lists : List (List KeyWrite)) → StandsFor self.old lists
+            → (c : List (List ℕ)) → D.may_leave (device_of self.new) c → IsBeforeOrAfter lists writes.now c }
+    {
+        if self.stopped {
+            return Err(LogFault::Stopped);
+        }
+        let len = payload_len(writes);
+        if !self.room(len) {
+            return Err(LogFault::Full);
+        }
+        let before = self.digest;
+        let (body, digest) = encode(alloc, &before, self.records, writes, len)?;
+        match write_record(&mut self.device, self.gate, &body) {
+            Err(_) => {
+                self.stopped = true;
+                Err(LogFault::Device)
+            }
+            Ok(()) => {
+                let index = self.records;
+                self.gate += 1 + (body.len() / SECTOR_SIZE) as u64;
+                self.records += 1;
+                self.digest = digest;
+                Ok(index)
+            }
+        }
+    }
+}

@@ -1,0 +1,176 @@
+//! Write sets, logs and devices for the tests.
+ghost use Rattle.std.specs.Prelude.{◌≡◌, ◌<◌, ◌≤◌, ◌^◌, ◌-◌, length, IfOk, OnOk, OnErr};
+ghost use Rattle.sector.specs.Failures.{Rose, Stayed};
+ghost use Rattle.commit_log.specs.RecordFormat.{IsWriteSet};
+
+use commit_log::{Log, format};
+use model::{Key, KeyRef, Map, Write};
+use sector::{DeviceFault, MemSectors, Sector, Sectors};
+use std::alloc::Global;
+use std::test::Fail;
+
+/// The write set that puts this value.
+pub fn put(alloc: Global, key: &[u8], value: &[u8]) -> Result<Vec<Write>, Fail>
+    requires { length value.now ≤ 4096 }
+    ensures { IfOk result (λ v. IsWriteSet v.items) }
+{
+    let key = Key::from_ref(alloc, KeyRef::new(key).ok_or("no key")?)?;
+    let mut writes = Vec::new(alloc);
+    writes.push(Write::new(key, Some(value.to_vec(alloc)?)))?;
+    Ok(writes)
+}
+
+/// The write set that deletes the key.
+pub fn delete(alloc: Global, key: &[u8]) -> Result<Vec<Write>, Fail>
+    ensures { IfOk result (λ v. IsWriteSet v.items) }
+{
+    let key = Key::from_ref(alloc, KeyRef::new(key).ok_or("no key")?)?;
+    let mut writes = Vec::new(alloc);
+    writes.push(Write::new(key, None))?;
+    Ok(writes)
+}
+
+/// Has the key this value in the map?
+pub fn has(map: &Map, key: &[u8], value: &[u8]) -> bool {
+    match KeyRef::new(key) {
+        Some(key) => map.get(key) == Some(value),
+        None => false,
+    }
+}
+
+/// An empty log on a device of this many sectors.
+pub fn empty_log(alloc: Global, count: u64) -> Result<Log<MemSectors>, Fail> {
+    let mut device = MemSectors::new(alloc, count)?;
+    format(&mut device)?;
+    let (log, _) = Log::open(alloc, device)?;
+    Ok(log)
+}
+
+/// What a sector holds, and 255s where there is none.
+pub fn content<D: Sectors>(device: &mut D, at: u64) -> Result<Sector, DeviceFault> {
+    let mut sector = [255; 512];
+    if at < device.count() {
+        device.read(at, &mut sector)?;
+    }
+    Ok(sector)
+}
+
+/// What a crash leaves in an unsettled sector.
+#[derive(Clone, Copy, Debug, PartialEq, Eq)]
+pub enum Fill {
+    Zeros,
+    Ones,
+    Highest,
+    Old,
+    New,
+}
+
+pub const FILLS: [Fill; 5] = [Fill::Zeros, Fill::Ones, Fill::Highest, Fill::Old, Fill::New];
+
+impl Fill {
+    fn content(self, settled: &Sector, written: &Sector) -> Sector {
+        match self {
+            Fill::Zeros => [0; 512],
+            Fill::Ones => [1; 512],
+            Fill::Highest => [255; 512],
+            Fill::Old => *settled,
+            Fill::New => *written,
+        }
+    }
+}
+
+/// What a crash leaves of the device.
+pub fn crashed(device: MemSectors, fill: Fill) -> MemSectors
+    ensures { result.failures ≡ 0 }
+{
+    device.crash(|_, settled, written| fill.content(settled, written))
+}
+
+/// A device that is stopped after so many calls: no later call reaches it.
+#[derive(Drop)]
+pub struct Stopping {
+    pub device: MemSectors,
+    calls_left: u64,
+    failures: u64,
+}
+
+impl Stopping {
+    pub fn new(device: MemSectors, calls: u64) -> Stopping {
+        Stopping {
+            device,
+            calls_left: calls,
+            failures: 0,
+        }
+    }
+
+    fn is_running(&mut self) -> bool
+        ensures device { self.new.device ≡ self.old.device }
+        ensures failures { self.new.failures ≡ self.old.failures }
+    {
+        let runs = self.calls_left > 0;
+        self.calls_left = self.calls_left.saturating_sub(1);
+        runs
+    }
+
+    fn told(&mut self, outcome: Result<(), DeviceFault>) -> Result<(), DeviceFault>
+        ensures device { self.new.device ≡ self.old.device }
+        ensures ok { OnOk result (Stayed self.old.failures self.new.failures) }
+        ensures fault { OnErr result (Rose self.old.failures self.new.failures) }
+    {
+        if outcome.is_ok() && self.failures < u64::MAX {
+            return Ok(());
+        }
+        self.failures = self.failures.saturating_add(1);
+        Err(DeviceFault)
+    }
+}
+
+impl Sectors for Stopping {
+    ghost size = { λ s. length s.device.slots.items };
+
+    ghost failures = { λ s. s.failures };
+
+    ghost keeps_model = { ⊥ };
+
+    ghost may_read = { λ s i sector. Unit {0} };
+
+    ghost may_leave = { λ s c. Unit {0} };
+
+    ghost moment = { λ s. 0 };
+
+    ghost left_since = { λ s t c. Unit {0} };
+
+    ghost leaves_all = { λ keeps s c left. absurd keeps };
+
+    ghost counts_now = { λ keeps s t c le left. tt };
+
+    ghost only_now = { λ keeps s c left. tt };
+
+    fn count(&self) -> u64 {
+        self.device.count()
+    }
+
+    fn read(&mut self, at: u64, into: &mut Sector) -> Result<(), DeviceFault> {
+        if !self.is_running() {
+            return self.told(Err(DeviceFault));
+        }
+        let outcome = self.device.read(at, into);
+        self.told(outcome)
+    }
+
+    fn write(&mut self, at: u64, from: &Sector) -> Result<(), DeviceFault> {
+        if !self.is_running() {
+            return self.told(Err(DeviceFault));
+        }
+        let outcome = self.device.write(at, from);
+        self.told(outcome)
+    }
+
+    fn sync(&mut self) -> Result<(), DeviceFault> {
+        if !self.is_running() {
+            return self.told(Err(DeviceFault));
+        }
+        let outcome = self.device.sync();
+        self.told(outcome)
+    }
+}

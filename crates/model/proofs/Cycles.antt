@@ -1,0 +1,216 @@
+-- Each cycle of dependencies has a pivot, if no two concurrent transactions write one key.
+use Rattle.std.proofs.Common.{◌≡◌, ◌≢◌, ◌⊎◌, ◌<◌, ◌≤◌, ◌||◌, List, [], ◌∷◌, ◌++◌, refl, sym, ap, subst, ◌∙◌, length, length-append, arith, inl, inr}
+use Rattle.std.specs.Prelude.{IsTrue, All, Contains, ⊤, take}
+use Rattle.std.specs.List.{AllByRecursion}
+use Rattle.std.proofs.lemmas.Bool.{ltb-true, leb-true, lt-ltb, or_cases, and_parts, and_from, cases_lt}
+use Rattle.std.proofs.lemmas.List.Elements.{All-contains, All-contains_itself, recursion_from_All, All-from_recursion}
+use Rattle.model.specs.History.{Record}
+use Rattle.model.specs.Dependency.{is_concurrent, write_alike, reads_from, write_write_dependency, write_read_dependency, read_write_dependency, dependency, concurrent_read_write, NoConcurrentWriters}
+use Rattle.model.specs.Cycle.{IsPath, IsCycle, PivotInCycle, CycleLaw}
+
+-- ---- what the tests say
+
+pub concurrent_from : (a b : Record) → a.begin < b.commit → b.begin < a.commit → IsTrue (is_concurrent a b)
+concurrent_from a b h g = and_from _ _ (lt-ltb a.begin b.commit h) (lt-ltb b.begin a.commit g)
+
+pub record WriteWriteParts (a b : Record) : Type 0 where
+  pub alike : IsTrue (write_alike a b)
+  pub earlier : a.commit < b.commit
+
+pub write_write_parts : (a b : Record) → IsTrue (write_write_dependency a b) → WriteWriteParts a b
+write_write_parts a b h = let p = and_parts _ _ h in record { alike = p.0; earlier = ltb-true _ _ p.1 }
+
+pub record WriteReadParts (a b : Record) : Type 0 where
+  pub reads : IsTrue (reads_from b a)
+  pub earlier : a.commit ≤ b.begin
+
+pub write_read_parts : (a b : Record) → IsTrue (write_read_dependency a b) → WriteReadParts a b
+write_read_parts a b h = let p = and_parts _ _ h in record { reads = p.0; earlier = leb-true _ _ p.1 }
+
+-- a read-write dependency between two that committed one after the other, in either order
+pub read_write_begins : (a b : Record) → IsTrue (read_write_dependency a b) → a.begin < b.commit
+read_write_begins a b h = ltb-true _ _ (and_parts _ _ (and_parts _ _ h).0).1
+
+pub dependency_cases : (a b : Record) → IsTrue (dependency a b) → WriteWriteParts a b ⊎ (WriteReadParts a b ⊎ IsTrue (read_write_dependency a b))
+dependency_cases a b h =
+    elim (or_cases (write_write_dependency a b || write_read_dependency a b) (read_write_dependency a b) h) [
+      | inl h' ↦ elim (or_cases (write_write_dependency a b) (write_read_dependency a b) h') [ inl g ↦ inl (write_write_parts a b g) | inr g ↦ inr (inl (write_read_parts a b g)) ]
+      | inr g ↦ inr (inr g)
+    ]
+
+-- ---- the dependencies next to the one that commits first
+
+dependency_out : (p y : Record) → y.begin < y.commit → y.commit ≤ p.commit → IsTrue (dependency p y) → IsTrue (concurrent_read_write p y)
+dependency_out p y begins first e =
+    elim (dependency_cases p y e) [
+      | inl w ↦ absurd (omega arith)
+      | inr w ↦ elim w [
+        | inl w' ↦ absurd (omega arith)
+        | inr rw' ↦ let since = read_write_begins p y rw' in and_from _ _ rw' (concurrent_from p y since (omega arith))
+      ]
+    ]
+
+dependency_in : (x p : Record) → x.begin < x.commit → p.begin < x.commit →
+    (x.commit ≢ p.commit → IsTrue (is_concurrent x p) → ¬ IsTrue (write_alike x p)) →
+    IsTrue (dependency x p) → IsTrue (concurrent_read_write x p)
+dependency_in x p begins since apart e =
+    elim (dependency_cases x p e) [
+      | inl w ↦ absurd (apart (omega arith) (concurrent_from x p (omega arith) since) w.alike)
+      | inr w ↦ elim w [
+        | inl w' ↦ absurd (omega arith)
+        | inr rw' ↦ and_from _ _ rw' (concurrent_from x p (read_write_begins x p rw') since)
+      ]
+    ]
+
+-- ---- the one that commits first, in a row of records
+
+-- each has a dependency to the next
+abbrev pub IsLinked : List Record → Type 0
+IsLinked [] = ⊤
+IsLinked (a ∷ []) = ⊤
+IsLinked (a ∷ b ∷ rs) = IsTrue (dependency a b) × IsLinked (b ∷ rs)
+
+path_links : (a : Record) (rs : List Record) (z e : Record) → IsPath a rs z → IsTrue (dependency z e) → IsLinked (a ∷ (rs ++ z ∷ e ∷ []))
+path_links a [] z e p h = (p, (h, tt))
+path_links a (r ∷ rs) z e p h = (p.0, path_links r rs z e p.1 h)
+
+-- three in a row, of which the last commits before each of ts
+record First (Q : Record → Type 0) (row ts : List Record) : Type 0 where
+  before : Record
+  pivot : Record
+  after : Record
+  front : List Record
+  back : List Record
+  stand : row ≡ front ++ (before ∷ pivot ∷ after ∷ back)
+  into : IsTrue (dependency before pivot)
+  out : IsTrue (dependency pivot after)
+  first : AllByRecursion (λ r. after.commit ≤ r.commit) ts
+  before_is : Q before
+  pivot_is : Q pivot
+  after_is : Q after
+
+AllByRecursion-weaker : {P Q : Record → Type 0} → ((r : Record) → P r → Q r) → (rs : List Record) → AllByRecursion P rs → AllByRecursion Q rs
+AllByRecursion-weaker f [] h = tt
+AllByRecursion-weaker f (r ∷ rs) h = (f r h.0, AllByRecursion-weaker f rs h.1)
+
+first_of_row : (Q : Record → Type 0) (x p t : Record) (ts : List Record) → IsLinked (x ∷ p ∷ t ∷ ts) → AllByRecursion Q (x ∷ p ∷ t ∷ ts) → First Q (x ∷ p ∷ t ∷ ts) (t ∷ ts)
+first_of_row Q x p t [] links are = record {
+  before = x;
+  pivot = p;
+  after = t;
+  front = [];
+  back = [];
+  stand = refl;
+  into = links.0;
+  out = links.1.0;
+  first = (omega arith, tt);
+  before_is = are.0;
+  pivot_is = are.1.0;
+  after_is = are.1.1.0;
+}
+first_of_row Q x p t (u ∷ us) links are = first_with (first_of_row Q p t u us links.1 are.1)
+  where
+    first_with : First Q (p ∷ t ∷ u ∷ us) (u ∷ us) → First Q (x ∷ p ∷ t ∷ u ∷ us) (t ∷ u ∷ us)
+    first_with f = elim (cases_lt f.after.commit t.commit) [
+      | inl less ↦ record {
+        before = f.before;
+        pivot = f.pivot;
+        after = f.after;
+        front = x ∷ f.front;
+        back = f.back;
+        stand = ap (λ rs. x ∷ rs) f.stand;
+        into = f.into;
+        out = f.out;
+        first = (omega arith, f.first);
+        before_is = f.before_is;
+        pivot_is = f.pivot_is;
+        after_is = f.after_is;
+      }
+      | inr ge ↦ record {
+        before = x;
+        pivot = p;
+        after = t;
+        front = [];
+        back = u ∷ us;
+        stand = refl;
+        into = links.0;
+        out = links.1.0;
+        first = (omega arith, AllByRecursion-weaker (λ r h. omega arith) (u ∷ us) f.first);
+        before_is = are.0;
+        pivot_is = are.1.0;
+        after_is = are.1.1.0;
+      }
+    ]
+
+pub AllByRecursion-append : (P : Record → Type 0) (xs ys : List Record) → AllByRecursion P xs → AllByRecursion P ys → AllByRecursion P (xs ++ ys)
+AllByRecursion-append P [] ys h g = g
+AllByRecursion-append P (x ∷ xs) ys h g = (h.0, AllByRecursion-append P xs ys h.1 g)
+
+pub AllByRecursion-parts : (P : Record → Type 0) (xs ys : List Record) → AllByRecursion P (xs ++ ys) → AllByRecursion P xs × AllByRecursion P ys
+AllByRecursion-parts P [] ys h = (tt, h)
+AllByRecursion-parts P (x ∷ xs) ys h = let p = AllByRecursion-parts P xs ys h.1 in ((h.0, p.0), p.1)
+
+-- ---- the law
+
+in_cycle : (history cycle : List Record) → All (λ r. r.begin < r.commit) history → NoConcurrentWriters history → All (Contains history) cycle →
+    (f : First (Contains cycle) (cycle ++ take 2 cycle) cycle) → PivotInCycle cycle
+in_cycle history cycle begins apart are f =
+    let first : All (λ r. f.after.commit ≤ r.commit) cycle = All-from_recursion (λ r. f.after.commit ≤ r.commit) cycle f.first in
+    let x_is : Contains history f.before = All-contains (Contains history) cycle f.before are f.before_is in
+    let p_is : Contains history f.pivot = All-contains (Contains history) cycle f.pivot are f.pivot_is in
+    let y_is : Contains history f.after = All-contains (Contains history) cycle f.after are f.after_is in
+    let x_begins : f.before.begin < f.before.commit = All-contains (λ r. r.begin < r.commit) history f.before begins x_is in
+    let y_begins : f.after.begin < f.after.commit = All-contains (λ r. r.begin < r.commit) history f.after begins y_is in
+    let y_first : f.after.commit ≤ f.pivot.commit = All-contains (λ r. f.after.commit ≤ r.commit) cycle f.pivot first f.pivot_is in
+    let y_before_x : f.after.commit ≤ f.before.commit = All-contains (λ r. f.after.commit ≤ r.commit) cycle f.before first f.before_is in
+    let out : IsTrue (concurrent_read_write f.pivot f.after) = dependency_out f.pivot f.after y_begins y_first f.out in
+    let since : f.pivot.begin < f.after.commit = read_write_begins f.pivot f.after (and_parts _ _ out).0 in
+    record {
+      before = f.before;
+      pivot = f.pivot;
+      after = f.after;
+      in_row = (f.front, f.back, f.stand);
+      makes = and_from _ _ (dependency_in f.before f.pivot x_begins (omega arith) (apart f.before f.pivot x_is p_is) f.into) out;
+      first = first;
+    }
+
+-- the cycle's records in the row that goes round once and on to the second
+round : (a b : Record) (rs : List Record) → IsCycle (a ∷ b ∷ rs) → First (Contains (a ∷ b ∷ rs)) (a ∷ b ∷ (rs ++ a ∷ b ∷ [])) (a ∷ b ∷ rs)
+round a b rs cyclic = turned (rs ++ a ∷ b ∷ []) refl
+  where
+    inside : AllByRecursion (Contains (a ∷ b ∷ rs)) (a ∷ b ∷ rs)
+    inside = recursion_from_All (Contains (a ∷ b ∷ rs)) (a ∷ b ∷ rs) (All-contains_itself (a ∷ b ∷ rs))
+
+    links : IsLinked (a ∷ b ∷ (rs ++ a ∷ b ∷ []))
+    links = (cyclic.0, path_links b rs a b cyclic.1 cyclic.0)
+
+    are : AllByRecursion (Contains (a ∷ b ∷ rs)) (a ∷ b ∷ (rs ++ a ∷ b ∷ []))
+    are = (inside.0, (inside.1.0, AllByRecursion-append (Contains (a ∷ b ∷ rs)) rs (a ∷ b ∷ []) inside.1.1 (inside.0, (inside.1.0, tt))))
+
+    turned : (tail : List Record) → tail ≡ rs ++ a ∷ b ∷ [] → First (Contains (a ∷ b ∷ rs)) (a ∷ b ∷ (rs ++ a ∷ b ∷ [])) (a ∷ b ∷ rs)
+    turned [] e = absurd (omega (arith, ap length e, length-append rs (a ∷ b ∷ [])))
+    turned (t ∷ ts) e = again (first_of_row (Contains (a ∷ b ∷ rs)) a b t ts (subst (λ l. IsLinked (a ∷ b ∷ l)) (sym e) links) (subst (λ l. AllByRecursion (Contains (a ∷ b ∷ rs)) (a ∷ b ∷ l)) (sym e) are))
+      where
+        again : First (Contains (a ∷ b ∷ rs)) (a ∷ b ∷ t ∷ ts) (t ∷ ts) → First (Contains (a ∷ b ∷ rs)) (a ∷ b ∷ (rs ++ a ∷ b ∷ [])) (a ∷ b ∷ rs)
+        again f =
+            let all : AllByRecursion (λ r. f.after.commit ≤ r.commit) (rs ++ a ∷ b ∷ []) = subst (AllByRecursion (λ r. f.after.commit ≤ r.commit)) e f.first in
+            let parts = AllByRecursion-parts (λ r. f.after.commit ≤ r.commit) rs (a ∷ b ∷ []) all in
+            record {
+              before = f.before;
+              pivot = f.pivot;
+              after = f.after;
+              front = f.front;
+              back = f.back;
+              stand = ap (λ l. a ∷ b ∷ l) (sym e) ∙ f.stand;
+              into = f.into;
+              out = f.out;
+              first = (parts.1.0, (parts.1.1.0, parts.0));
+              before_is = f.before_is;
+              pivot_is = f.pivot_is;
+              after_is = f.after_is;
+            }
+
+pub cycle_law : CycleLaw
+cycle_law history [] rise begins apart are cyclic = absurd cyclic
+cycle_law history (a ∷ []) rise begins apart are cyclic = absurd cyclic
+cycle_law history (a ∷ b ∷ rs) rise begins apart are cyclic = in_cycle history (a ∷ b ∷ rs) begins apart are (round a b rs cyclic)

@@ -1,0 +1,307 @@
+-- The machine keeps its history faithful, without pivots and without concurrent writers of one key.
+use Rattle.std.proofs.Common.{◌≡◌, ◌⊎◌, ℕ, suc, ◌+◌, ◌-◌, ◌^◌, ◌<◌, ◌≤◌, Bool, true, false, cond, ◌&&◌, List, [], ◌∷◌, ◌++◌, Option, Some, None, refl, sym, ap, subst, ◌∙◌, length, length-append, arith, inl, inr}
+use Rattle.std.specs.Prelude.{not, IsTrue, nat_lt, nat_le, ◌==◌, find}
+use Rattle.std.specs.declared.cmp.Ordering.TheVariants.{Less, Equal, Greater}
+use Rattle.std.specs.Ordering.{nat_cmp, eq_by_cmp}
+use Rattle.std.specs.List.{list_any, AllByRecursion}
+use Rattle.std.specs.FinMap.Entries.{find as value_of, put, where_key, by_order}
+use Rattle.std.proofs.lemmas.Bool.{or_cases, and_parts, and_from, lt-leb, false_from_ne_true}
+use Rattle.std.proofs.lemmas.List.Elements.{All-contains, All-from_recursion}
+use Rattle.model.specs.declared.refusals.Refusal.{Refusal}
+use Rattle.model.specs.declared.refusals.Refusal.TheVariants.{PivotSelf, FullLog, StoreFault, StoreStopped, FullNumbers, FullTransactions}
+use Rattle.model.specs.Map.{KeyMap, KeyWrite, is_same_key, after_writes}
+use Rattle.model.specs.Operations.{Operation, Response}
+use Rattle.model.specs.Operations.Operation.{Begin, Get, Set, Del, Range, Commit, Abort, Ping, Faulty}
+use Rattle.model.specs.Operations.Response.{Done, Refused}
+use Rattle.model.specs.PrivateCopy.{PrivateCopy, copy_of, copy_after, respond, responses, reads, writes}
+use Rattle.model.specs.History.{Record, record_of, map_at, IsNumberedFrom, IsFaithful, IsTrueRecord}
+use Rattle.model.specs.Dependency.{is_concurrent, writes_key, write_alike, is_pivot, NoConcurrentWriters}
+use Rattle.model.specs.Verdict.{verdict, is_overwritten, conflict_of, pivot_refusal, HasNoPivot}
+use Rattle.model.specs.Machine.{Running, State, Input, opened, last, snapshot, running_of, with_running, leave, record_to_commit, refuse, join_history, store, store_unless, body_sectors, commit, step_outside, own_step, step_inside, step_of, step, next, state_after}
+use Rattle.model.specs.Machine.Input.{Asks, Leaves}
+use Rattle.model.specs.Laws.{IsIsolated, IsSerializable, MachineLaw}
+use Rattle.model.proofs.Lookups.{same_key_comm}
+use Rattle.model.proofs.Members.{In, in_from_Contains, Contains-from_in, at_in, each_in, any_from_in, none_found}
+use Rattle.model.proofs.SerialOrders.{replay_law}
+
+-- ---- lists
+
+pub in_append_cases : (xs : List Record) (y x : Record) → In x (xs ++ y ∷ []) → In x xs ⊎ (x ≡ y)
+in_append_cases [] y x h = elim h [ inl e ↦ inr e | inr g ↦ absurd g ]
+in_append_cases (z ∷ xs) y x h = elim h [
+  | inl e ↦ inl (inl e)
+  | inr g ↦ elim (in_append_cases xs y x g) [ inl g' ↦ inl (inr g') | inr e ↦ inr e ]
+]
+
+-- an element that passes a test
+record Witness {X : Type 0} (p : X → Bool) (xs : List X) : Type 0 where
+  at : X
+  member : In at xs
+  passes : p at ≡ true
+
+any_witness : {X : Type 0} (p : X → Bool) (xs : List X) → list_any p xs ≡ true → Witness p xs
+any_witness p [] h = cc
+any_witness p (x ∷ xs) h = elim (or_cases (p x) (list_any p xs) h) [
+  | inl e ↦ record { at = x; member = inl refl; passes = e }
+  | inr g ↦ let w = any_witness p xs g in record { at = w.at; member = inr w.member; passes = w.passes }
+]
+
+write_alike_comm : (a b : Record) → write_alike a b ≡ true → write_alike b a ≡ true
+write_alike_comm a b h =
+    let w = any_witness (λ w. writes_key b w.0) a.writes h in
+    let v = any_witness (λ v. is_same_key w.at.0 v.0) b.writes w.passes in
+    any_from_in (λ v. writes_key a v.0) b.writes v.at v.member
+    (any_from_in (λ w. is_same_key v.at.0 w.0) a.writes w.at w.member (same_key_comm v.at.0 w.at.0 ∙ v.passes))
+
+each_inserted : {X : Type 0} (P : ℕ × X → Type 0) (es : List (ℕ × X)) (s : ℕ) (x : X) → ((k : ℕ) → P (k, x)) → AllByRecursion P es → AllByRecursion P (put nat_cmp s x es)
+each_inserted P [] s x h g = (h s, tt)
+each_inserted P (e ∷ es) s x h g =
+    elim (nat_cmp s e.0) as (λ o. AllByRecursion P (by_order o ((s, x) ∷ e ∷ es) ((e.0, x) ∷ es) (e ∷ put nat_cmp s x es))) [
+      | Less ↦ (h s, (g.0, g.1))
+      | Equal ↦ (h e.0, g.1)
+      | Greater ↦ (g.0, each_inserted P es s x h g.1)
+    ]
+
+each_left : {X : Type 0} (P : ℕ × X → Type 0) (test : ℕ → Bool) (es : List (ℕ × X)) → AllByRecursion P es → AllByRecursion P (where_key nat_cmp test es)
+each_left P test [] g = tt
+each_left P test (e ∷ es) g =
+    elim (test e.0) as (λ b. AllByRecursion P (cond b (e ∷ where_key nat_cmp test es) (where_key nat_cmp test es))) [ true ↦ (g.0, each_left P test es g.1) | false ↦ each_left P test es g.1 ]
+
+at_found : {X : Type 0} (P : X → Type 0) (s : ℕ) (es : List (ℕ × X)) → AllByRecursion (λ e. P e.1) es → (x : X) → value_of nat_cmp s es ≡ Some x → P x
+at_found P s [] g x e = cc
+at_found P s (f ∷ es) g x e =
+    elim (eq_by_cmp nat_cmp s f.0) as (λ b. cond b (Some f.1) (value_of nat_cmp s es) ≡ Some x → P x) [
+      | true ↦ λ h. let same : f.1 ≡ x = cc in subst P same g.0
+      | false ↦ λ h. at_found P s es g.1 x h
+    ] e
+
+-- ---- histories that grow
+
+pub map_at-append : (base : KeyMap) (rs : List Record) (r : Record) (n : ℕ) → n < r.commit → map_at base (rs ++ r ∷ []) n ≡ map_at base rs n
+map_at-append base [] r n h = ap (λ b. cond b (after_writes base r.writes) base) (lt-leb r.commit n h)
+map_at-append base (s ∷ rs) r n h = map_at-append (cond (nat_le s.commit n) (after_writes base s.writes) base) rs r n h
+
+pub numbered-append : (n : ℕ) (rs : List Record) (r : Record) → IsNumberedFrom n rs → r.commit ≡ suc (n + length rs) → IsNumberedFrom n (rs ++ r ∷ [])
+numbered-append n [] r h e = (omega arith, tt)
+numbered-append n (s ∷ rs) r h e = (h.0, numbered-append (suc n) rs r h.1 (omega arith))
+
+pub commit_low : (n : ℕ) (rs : List Record) → IsNumberedFrom n rs → AllByRecursion (λ r. r.commit ≤ n + length rs) rs
+commit_low n [] h = tt
+commit_low n (r ∷ rs) h = (let e = h.0 in omega arith, each_in (λ s. s.commit ≤ n + suc (length rs)) rs (λ s s_in. let low : s.commit ≤ suc n + length rs = at_in (λ u. u.commit ≤ suc n + length rs) rs s (commit_low (suc n) rs h.1) s_in in omega arith))
+
+pub responses-append : (c : PrivateCopy) (qs : List Operation) (q : Operation) → responses c (qs ++ q ∷ []) ≡ responses c qs ++ (respond (copy_after c qs) q).0 ∷ []
+responses-append c [] q = refl
+responses-append c (p ∷ qs) q = ap (λ rs. (respond c p).0 ∷ rs) (responses-append (respond c p).1 qs q)
+
+-- ---- what the machine keeps
+
+-- an open transaction began in the history, and was answered by its private copy
+pub record IsTrueRunning (base : KeyMap) (history : List Record) (t : Running) : Type 0 where
+  pub begins : t.begin ≤ length history
+  pub replies : t.replies ≡ responses (copy_of (map_at base history t.begin)) t.requests
+
+pub record Kept (base : KeyMap) (history : List Record) (running : List (ℕ × Running)) : Type 0 where
+  pub faithful : IsFaithful base history
+  pub no_pivot : HasNoPivot history
+  pub apart : NoConcurrentWriters history
+  pub open_true : AllByRecursion (λ e. IsTrueRunning base history e.1) running
+
+-- ---- a commit without conflict
+
+pub record IsClear (history : List Record) (r : Record) : Type 0 where
+  pub not_overwritten : (w : KeyWrite) → In w r.writes → is_overwritten history r w.0 ≡ true → ⊥
+  pub self : is_pivot (history ++ r ∷ []) r ≡ false
+  pub others : (p : Record) → In p history → is_pivot (history ++ r ∷ []) p ≡ true → ⊥
+
+pub clear_from : (history : List Record) (r : Record) → verdict history r ≡ None → IsClear history r
+unfolding verdict
+clear_from history r e = by (find (λ w. is_overwritten history r w.0) r.writes) refl e
+  where
+    with_pivots : ((w : KeyWrite) → In w r.writes → is_overwritten history r w.0 ≡ true → ⊥) → (b : Bool) → is_pivot (history ++ r ∷ []) r ≡ b →
+        (o : Option Record) → find (is_pivot (history ++ r ∷ [])) history ≡ o → cond b (Some PivotSelf) (pivot_refusal o) ≡ None → IsClear history r
+    with_pivots free true is o f h = cc
+    with_pivots free false is (Some p) f h = cc
+    with_pivots free false is None f h = record { not_overwritten = free; self = is; others = none_found (is_pivot (history ++ r ∷ [])) history f }
+
+    by : (o : Option KeyWrite) → find (λ w. is_overwritten history r w.0) r.writes ≡ o → conflict_of o (cond (is_pivot (history ++ r ∷ []) r) (Some PivotSelf) (pivot_refusal (find (is_pivot (history ++ r ∷ [])) history))) ≡ None → IsClear history r
+    by (Some w) f h = cc
+    by None f h = with_pivots (none_found (λ w. is_overwritten history r w.0) r.writes f) (is_pivot (history ++ r ∷ []) r) refl (find (is_pivot (history ++ r ∷ [])) history) refl h
+
+module _ (base : KeyMap) (history : List Record) where
+  true_after : (r : Record) → r.commit ≡ suc (length history) → (s : Record) → s.begin ≤ length history → IsTrueRecord base history s → IsTrueRecord base (history ++ r ∷ []) s
+  true_after r c s low h = subst (λ m. (b : s.begin < s.commit) → s.replies ≡ responses (copy_of m) s.requests → s.reads ≡ reads m s.requests → s.writes ≡ writes m s.requests → IsTrueRecord base (history ++ r ∷ []) s)
+      (map_at-append base history r s.begin (omega arith)) (λ b rs ms ws. record { begins_before = b; replies = rs; reads = ms; writes = ws }) h.begins_before h.replies h.reads h.writes
+
+  running_after : (r : Record) → r.commit ≡ suc (length history) → (t : Running) → IsTrueRunning base history t → IsTrueRunning base (history ++ r ∷ []) t
+  running_after r c t h = record {
+    begins = (let low = h.begins in omega (arith, length-append history (r ∷ [])));
+    replies = h.replies ∙ ap (λ m. responses (copy_of m) t.requests) (sym (map_at-append base history r t.begin (let low = h.begins in omega arith)));
+  }
+
+  -- the record of an open transaction that has no conflict joins the history
+  module _ (running : List (ℕ × Running)) (kept : Kept base history running) (t : Running) (true_t : IsTrueRunning base history t) where
+    abbrev joining : Record
+    joining = record_of t.begin (suc (length history)) (map_at base history t.begin) t.requests t.replies
+
+    joining_true : IsTrueRecord base (history ++ joining ∷ []) joining
+    joining_true = true_after joining refl joining true_t.begins (record { begins_before = (let low = true_t.begins in omega arith); replies = true_t.replies; reads = refl; writes = refl })
+
+    commits_low : (s : Record) → In s history → s.commit ≤ length history
+    commits_low s s_in = let low : s.commit ≤ 0 + length history = at_in (λ r. r.commit ≤ 0 + length history) history s (commit_low 0 history kept.faithful.numbered) s_in in omega arith
+
+    old_true : (s : Record) → In s history → IsTrueRecord base (history ++ joining ∷ []) s
+    old_true s s_in =
+        let is : IsTrueRecord base history s = All-contains (IsTrueRecord base history) history s kept.faithful.records (Contains-from_in history s s_in) in
+        let begins : s.begin < s.commit = is.begins_before in
+        let low = commits_low s s_in in true_after joining refl s (omega arith) is
+
+    all_true : (s : Record) → In s (history ++ joining ∷ []) → IsTrueRecord base (history ++ joining ∷ []) s
+    all_true s s_in = elim (in_append_cases history joining s s_in) [
+      | inl g ↦ old_true s g
+      | inr e ↦ subst (IsTrueRecord base (history ++ joining ∷ [])) (sym e) joining_true
+    ]
+
+    joined_faithful : IsFaithful base (history ++ joining ∷ [])
+    joined_faithful = record {
+      is_map = kept.faithful.is_map;
+      numbered = numbered-append 0 history joining kept.faithful.numbered (omega arith);
+      records = All-from_recursion (IsTrueRecord base (history ++ joining ∷ [])) (history ++ joining ∷ []) (each_in (IsTrueRecord base (history ++ joining ∷ [])) (history ++ joining ∷ []) all_true);
+    }
+
+    module _ (clear : IsClear history joining) where
+      joined_no_pivot : HasNoPivot (history ++ joining ∷ [])
+      joined_no_pivot p p_in = elim (in_append_cases history joining p (in_from_Contains (history ++ joining ∷ []) p p_in)) [
+        | inl g ↦ false_from_ne_true _ (clear.others p g)
+        | inr e ↦ ap (is_pivot (history ++ joining ∷ [])) e ∙ clear.self
+      ]
+
+      -- one that is concurrent with the new transaction has written none of its keys
+      no_overwriter : (a : Record) → In a history → IsTrue (is_concurrent joining a) → ¬ IsTrue (write_alike joining a)
+      no_overwriter a a_in conc alike =
+          let w = any_witness (λ w. writes_key a w.0) joining.writes alike in
+          clear.not_overwritten w.at w.member (any_from_in (λ r. writes_key r w.at.0 && nat_lt joining.begin r.commit) history a a_in (and_from _ _ w.passes (and_parts _ _ conc).0))
+
+      concurrent_comm : (a b : Record) → is_concurrent a b ≡ true → is_concurrent b a ≡ true
+      concurrent_comm a b h = let p = and_parts (nat_lt a.begin b.commit) (nat_lt b.begin a.commit) h in and_from _ _ p.1 p.0
+
+      joined_apart : NoConcurrentWriters (history ++ joining ∷ [])
+      joined_apart a b a_in b_in other conc alike =
+          elim (in_append_cases history joining a (in_from_Contains (history ++ joining ∷ []) a a_in)) [
+            | inl a_old ↦ elim (in_append_cases history joining b (in_from_Contains (history ++ joining ∷ []) b b_in)) [
+              | inl b_old ↦ kept.apart a b (Contains-from_in history a a_old) (Contains-from_in history b b_old) other conc alike
+              | inr b_is ↦ no_overwriter a a_old (ap (λ x. is_concurrent x a) (sym b_is) ∙ concurrent_comm a b conc) (ap (λ x. write_alike x a) (sym b_is) ∙ write_alike_comm a b alike)
+            ]
+            | inr a_is ↦ elim (in_append_cases history joining b (in_from_Contains (history ++ joining ∷ []) b b_in)) [
+              | inl b_old ↦ no_overwriter b b_old (ap (λ x. is_concurrent x b) (sym a_is) ∙ conc) (ap (λ x. write_alike x b) (sym a_is) ∙ alike)
+              | inr b_is ↦ other (ap (λ (x : Record). x.commit) a_is ∙ sym (ap (λ (x : Record). x.commit) b_is))
+            ]
+          ]
+
+      joined : Kept base (history ++ joining ∷ []) running
+      joined = record {
+        faithful = joined_faithful;
+        no_pivot = joined_no_pivot;
+        apart = joined_apart;
+        open_true = each_in (λ e. IsTrueRunning base (history ++ joining ∷ []) e.1) running (λ e e_in. running_after joining refl e.1 (at_in (λ f. IsTrueRunning base history f.1) running e kept.open_true e_in));
+      }
+
+-- ---- the steps
+
+abbrev pub Sound : State → Type 0
+Sound st = Kept st.base st.history st.running
+
+leave_kept : (base : KeyMap) (history : List Record) (running : List (ℕ × Running)) (s : ℕ) → Kept base history running → Kept base history (where_key nat_cmp (λ x. not (x == s)) running)
+leave_kept base history running s k = record { faithful = k.faithful; no_pivot = k.no_pivot; apart = k.apart; open_true = each_left (λ e. IsTrueRunning base history e.1) (λ x. not (x == s)) running k.open_true }
+
+open_kept : (base : KeyMap) (history : List Record) (running : List (ℕ × Running)) (s : ℕ) (t : Running) → IsTrueRunning base history t → Kept base history running → Kept base history (put nat_cmp s t running)
+open_kept base history running s t h k = record { faithful = k.faithful; no_pivot = k.no_pivot; apart = k.apart; open_true = each_inserted (λ e. IsTrueRunning base history e.1) running s t (λ _. h) k.open_true }
+
+store_kept : (st : State) (s : ℕ) (r : Record) (ws : List KeyWrite) (failed : Bool) → Sound st → Kept st.base (st.history ++ r ∷ []) st.running → Sound (store st s r ws failed).0
+store_kept st s r [] failed k j = leave_kept st.base (st.history ++ r ∷ []) st.running s j
+store_kept st s r (w ∷ ws) failed k j =
+    elim (nat_le st.count (st.used + body_sectors (w ∷ ws))) as (λ b. Sound (cond b (refuse st s FullLog) (cond failed (record (leave st s) { stopped = true }, Refused StoreFault) (join_history st s r (body_sectors (w ∷ ws) + 1)))).0) [
+      | true ↦ leave_kept st.base st.history st.running s k
+      | false ↦ elim failed as (λ b. Sound (cond b (record (leave st s) { stopped = true }, Refused StoreFault) (join_history st s r (body_sectors (w ∷ ws) + 1))).0) [
+        | true ↦ leave_kept st.base st.history st.running s k
+        | false ↦ leave_kept st.base (st.history ++ r ∷ []) st.running s j
+      ]
+    ]
+
+commit_kept : (st : State) (s : ℕ) (t : Running) (failed : Bool) → Sound st → IsTrueRunning st.base st.history t → Sound (commit st s t failed).0
+commit_kept st s t failed k h =
+    elim st.stopped as (λ b. Sound (cond b (refuse st s StoreStopped) (cond (last st == 2 ^ 63 - 1) (refuse st s FullNumbers) (store_unless (verdict st.history (record_to_commit st t)) st s (record_to_commit st t) failed))).0) [
+      | true ↦ leave_kept st.base st.history st.running s k
+      | false ↦ elim (last st == 2 ^ 63 - 1) as (λ b. Sound (cond b (refuse st s FullNumbers) (store_unless (verdict st.history (record_to_commit st t)) st s (record_to_commit st t) failed)).0) [
+        | true ↦ leave_kept st.base st.history st.running s k
+        | false ↦ decided (verdict st.history (record_to_commit st t)) refl
+      ]
+    ]
+  where
+    decided : (o : Option Refusal) → verdict st.history (record_to_commit st t) ≡ o → Sound (store_unless o st s (record_to_commit st t) failed).0
+    decided (Some conflict) e = leave_kept st.base st.history st.running s k
+    decided None e = store_kept st s (record_to_commit st t) (record_to_commit st t).writes failed k (joined st.base st.history st.running k t h (clear_from st.history (record_to_commit st t) e))
+
+own_kept : (st : State) (s : ℕ) (t : Running) (q : Operation) → Sound st → IsTrueRunning st.base st.history t → Sound (own_step st s t q).0
+own_kept st s t q k h = open_kept st.base st.history st.running s (record { begin = t.begin; requests = t.requests ++ q ∷ []; replies = t.replies ++ (respond (copy_after (copy_of (snapshot st t)) t.requests) q).0 ∷ [] })
+    (record { begins = h.begins; replies = ap (λ rs. rs ++ (respond (copy_after (copy_of (snapshot st t)) t.requests) q).0 ∷ []) h.replies ∙ sym (responses-append (copy_of (snapshot st t)) t.requests q) }) k
+
+inside_kept : (st : State) (s : ℕ) (t : Running) (q : Operation) (failed : Bool) → Sound st → IsTrueRunning st.base st.history t → Sound (step_inside st s t q failed).0
+inside_kept st s t Commit failed k h = commit_kept st s t failed k h
+inside_kept st s t Abort failed k h = leave_kept st.base st.history st.running s k
+inside_kept st s t Begin failed k h = own_kept st s t Begin k h
+inside_kept st s t (Get x) failed k h = own_kept st s t (Get x) k h
+inside_kept st s t (Set x v) failed k h = own_kept st s t (Set x v) k h
+inside_kept st s t (Del x) failed k h = own_kept st s t (Del x) k h
+inside_kept st s t (Range lo hi limit) failed k h = own_kept st s t (Range lo hi limit) k h
+inside_kept st s t Ping failed k h = own_kept st s t Ping k h
+inside_kept st s t (Faulty refusal) failed k h = own_kept st s t (Faulty refusal) k h
+
+outside_kept : (st : State) (s : ℕ) (q : Operation) → Sound st → Sound (step_outside st s q).0
+outside_kept st s Begin k =
+    elim st.stopped as (λ b. Sound (cond {A = State × Response} b (st, Refused StoreStopped) (cond (nat_lt (length st.running) 64) (with_running st s (record { begin = last st; requests = []; replies = [] }), Done) (st, Refused FullTransactions))).0) [
+      | true ↦ k
+      | false ↦ elim (nat_lt (length st.running) 64) as (λ b. Sound (cond {A = State × Response} b (with_running st s (record { begin = last st; requests = []; replies = [] }), Done) (st, Refused FullTransactions)).0) [
+        | true ↦ open_kept st.base st.history st.running s (record { begin = last st; requests = []; replies = [] }) (record { begins = omega arith; replies = refl }) k
+        | false ↦ k
+      ]
+    ]
+outside_kept st s Ping k = k
+outside_kept st s (Faulty refusal) k = k
+outside_kept st s (Get x) k = k
+outside_kept st s (Set x v) k = k
+outside_kept st s (Del x) k = k
+outside_kept st s (Range lo hi limit) k = k
+outside_kept st s Commit k = k
+outside_kept st s Abort k = k
+
+next_kept : (st : State) (i : Input) → Sound st → Sound (next st i)
+unfolding step
+next_kept st (Leaves s) k = leave_kept st.base st.history st.running s k
+next_kept st (Asks s q failed) k = of (running_of st s) refl
+  where
+    of : (o : Option Running) → running_of st s ≡ o → Sound (step_of o st s q failed).0
+    of None e = outside_kept st s q k
+    of (Some t) e = inside_kept st s t q failed k (at_found (IsTrueRunning st.base st.history) s st.running k.open_true t e)
+
+pub state_kept : (st : State) (inputs : List Input) → Sound st → Sound (state_after st inputs)
+state_kept st [] k = k
+state_kept st (i ∷ inputs) k = state_kept (next st i) inputs (next_kept st i k)
+
+pub machine_law : MachineLaw
+machine_law st reached = from st (subst Sound (sym reached.is) (state_kept (opened reached.contents reached.sectors_used reached.sectors) reached.inputs start))
+  where
+    start : Sound (opened reached.contents reached.sectors_used reached.sectors)
+    start = record {
+      faithful = record { is_map = reached.is_map; numbered = tt; records = λ k d l. absurd (omega arith) };
+      no_pivot = λ p p_in. absurd (omega arith);
+      apart = λ a b a_in b_in other conc alike. omega arith;
+      open_true = tt;
+    }
+
+    from : (st : State) → Sound st → IsIsolated st × IsSerializable st
+    from st k =
+        let law = replay_law st.base st.history k.faithful k.no_pivot k.apart in (
+          All-from_recursion (λ e. e.1.replies ≡ responses (copy_of (snapshot st e.1)) e.1.requests) st.running
+              (each_in (λ e. e.1.replies ≡ responses (copy_of (snapshot st e.1)) e.1.requests) st.running (λ e e_in. let is = at_in (λ f. IsTrueRunning st.base st.history f.1) st.running e k.open_true e_in in is.replies)),
+          record { faithful = k.faithful; no_pivot = k.no_pivot; apart = k.apart; replies = law.0; final_map = law.1 },
+        )

@@ -1,0 +1,134 @@
+-- Each dependency leads to a later place in the serial order.
+use Rattle.std.proofs.Common.{◌≡◌, ◌≢◌, ◌⊎◌, ◌<◌, ◌≤◌, false, ◌&&◌, List, Option, Some, None, refl, ap, arith, inl, inr}
+use Rattle.std.specs.Prelude.{IsTrue, nat_lt, ◌==◌}
+use Rattle.std.specs.List.{list_any}
+use Rattle.std.proofs.lemmas.Bool.{ltb-true, eqb-false, eq-eqb, lt-ltb, or_left, or_right, and_parts, and_from, cases_lt, cases_Bool, cases_order, both_ways, not-true}
+use Rattle.std.proofs.lemmas.List.Elements.{All-contains}
+use Rattle.model.specs.History.{Record, IsTrueRecord}
+use Rattle.model.specs.Dependency.{makes_pivot, is_concurrent, read_write_dependency, concurrent_read_write, is_pivot}
+use Rattle.model.specs.SerialOrder.{Place, is_before, place, place_before, first_overwriter}
+use Rattle.model.specs.Laws.{PlacesRise}
+use Rattle.model.proofs.Cycles.{concurrent_from, read_write_begins, dependency_cases}
+use Rattle.model.proofs.Members.{In, in_from_Contains, any_from_in, found, none_found, first_is_least, IsRising, rising_from_numbered}
+
+-- ---- where a transaction stands
+
+-- right before the first concurrent one that overwrote what it read
+pub record StandsBefore (history : List Record) (t : Record) : Type 0 where
+  pub other : Record
+  pub is : first_overwriter history t ≡ Some other
+  pub member : In other history
+  pub dependency : IsTrue (concurrent_read_write t other)
+  pub earlier : other.commit < t.commit
+  pub least : (z : Record) → In z history → IsTrue (concurrent_read_write t z) → z.commit < t.commit → other.commit ≤ z.commit
+
+-- where it committed
+pub record StandsAtCommit (history : List Record) (t : Record) : Type 0 where
+  pub is : first_overwriter history t ≡ None
+  pub none : (z : Record) → In z history → IsTrue (concurrent_read_write t z) → z.commit < t.commit → ⊥
+
+pub stand_of : (history : List Record) → IsRising history → (t : Record) → StandsBefore history t ⊎ StandsAtCommit history t
+stand_of history rise t = by (first_overwriter history t) refl
+  where
+    by : (o : Option Record) → first_overwriter history t ≡ o → StandsBefore history t ⊎ StandsAtCommit history t
+    by None e = inr (record { is = e; none = λ z h e' less. none_found (λ y. concurrent_read_write t y && nat_lt y.commit t.commit) history e z h (and_from _ _ e' (lt-ltb z.commit t.commit less)) })
+    by (Some y) e =
+        let f = found (λ y. concurrent_read_write t y && nat_lt y.commit t.commit) history y e in
+        let parts = and_parts (concurrent_read_write t y) (nat_lt y.commit t.commit) f.passes in
+        inl (record {
+          other = y;
+          is = e;
+          member = f.member;
+          dependency = parts.0;
+          earlier = ltb-true _ _ parts.1;
+          least = λ z h e' less. first_is_least (λ y. concurrent_read_write t y && nat_lt y.commit t.commit) history rise y e z h (and_from _ _ e' (lt-ltb z.commit t.commit less));
+        })
+
+pub place_of_before : (history : List Record) (t : Record) (s : StandsBefore history t) → place history t ≡ record { first = s.other.commit; second = 0; third = t.commit }
+place_of_before history t s = ap (λ o. place_before o t) s.is
+
+pub place_at_commit : (history : List Record) (t : Record) (s : StandsAtCommit history t) → place history t ≡ record { first = t.commit; second = 1; third = 0 }
+place_at_commit history t s = ap (λ o. place_before o t) s.is
+
+first_le_commit : (history : List Record) → IsRising history → (t : Record) → (place history t).first ≤ t.commit
+first_le_commit history rise t = elim (stand_of history rise t) [
+  | inl s ↦ let e : (place history t).first ≡ s.other.commit = ap (λ (p : Place). p.first) (place_of_before history t s) in let less = s.earlier in omega arith
+  | inr s ↦ let e : (place history t).first ≡ t.commit = ap (λ (p : Place). p.first) (place_at_commit history t s) in omega arith
+]
+
+-- ---- the order of places
+
+before_by_first : (p q : Place) → p.first < q.first → IsTrue (is_before p q)
+before_by_first p q h = or_left _ _ (lt-ltb p.first q.first h)
+
+before_by_second : (p q : Place) → p.first ≡ q.first → p.second < q.second → IsTrue (is_before p q)
+before_by_second p q e h = or_right (nat_lt p.first q.first) _ (and_from _ _ (eq-eqb p.first q.first e) (or_left _ _ (lt-ltb p.second q.second h)))
+
+-- ---- the dependencies
+
+-- one that had committed when the other began stands before it
+apart_rise : (history : List Record) → IsRising history → (a b : Record) → b.begin < b.commit → a.commit ≤ b.begin → IsTrue (is_before (place history a) (place history b))
+apart_rise history rise a b begins over =
+    let low = first_le_commit history rise a in
+    elim (stand_of history rise b) [
+      | inl s ↦ let e : (place history b).first ≡ s.other.commit = ap (λ (p : Place). p.first) (place_of_before history b s) in
+          let since = read_write_begins b s.other (and_parts _ _ s.dependency).0 in before_by_first (place history a) (place history b) (omega arith)
+      | inr s ↦ let e : (place history b).first ≡ b.commit = ap (λ (p : Place). p.first) (place_at_commit history b s) in before_by_first (place history a) (place history b) (omega arith)
+    ]
+
+over_from : (a b : Record) → is_concurrent a b ≡ false → a.begin < b.commit → a.commit ≤ b.begin
+over_from a b f since = elim (cases_lt b.begin a.commit) [
+  | inl h ↦ absurd (both_ways _ f (concurrent_from a b since h))
+  | inr h ↦ h
+]
+
+read_write_differs : (a b : Record) → IsTrue (read_write_dependency a b) → a.commit ≢ b.commit
+read_write_differs a b h = eqb-false a.commit b.commit (not-true (a.commit == b.commit) (and_parts _ _ h).1)
+
+concurrent_rise : (history : List Record) → IsRising history → (a b : Record) → In a history → In b history → is_pivot history b ≡ false →
+    IsTrue (read_write_dependency a b) → IsTrue (is_concurrent a b) → IsTrue (is_before (place history a) (place history b))
+concurrent_rise history rise a b a_in b_in no_pivot rw' conc =
+    elim (stand_of history rise b) [
+      | inl s ↦ absurd (both_ways _ no_pivot (any_from_in (λ x. list_any (λ y. makes_pivot x b y) history) history a a_in (any_from_in (λ y. makes_pivot a b y) history s.other s.member (and_from _ _ dependency_in s.dependency))))
+      | inr s ↦
+          let first : (place history b).first ≡ b.commit = ap (λ (p : Place). p.first) (place_at_commit history b s) in
+          let second : (place history b).second ≡ 1 = ap (λ (p : Place). p.second) (place_at_commit history b s) in
+          elim (cases_lt b.commit a.commit) [
+            | inl less ↦ elim (stand_of history rise a) [
+              | inl u ↦
+                  let first' : (place history a).first ≡ u.other.commit = ap (λ (p : Place). p.first) (place_of_before history a u) in
+                  let second' : (place history a).second ≡ 0 = ap (λ (p : Place). p.second) (place_of_before history a u) in
+                  let low : u.other.commit ≤ b.commit = u.least b b_in dependency_in less in
+                  elim (cases_order u.other.commit b.commit) [
+                    | inl e ↦ before_by_second (place history a) (place history b) (omega arith) (omega arith)
+                    | inr o ↦ before_by_first (place history a) (place history b) (omega arith)
+                  ]
+              | inr u ↦ absurd (u.none b b_in dependency_in less)
+            ]
+            | inr le ↦ let low = first_le_commit history rise a in let other = read_write_differs a b rw' in before_by_first (place history a) (place history b) (omega arith)
+          ]
+    ]
+  where
+    dependency_in : IsTrue (concurrent_read_write a b)
+    dependency_in = and_from _ _ rw' conc
+
+pub places_rise : PlacesRise
+places_rise base history faithful no_pivot apart a b a_in b_in e =
+    let rise = rising_from_numbered 0 history faithful.numbered in
+    let a_true = All-contains (IsTrueRecord base history) history a faithful.records a_in in
+    let b_true = All-contains (IsTrueRecord base history) history b faithful.records b_in in
+    let a_begins : a.begin < a.commit = a_true.begins_before in
+    let b_begins : b.begin < b.commit = b_true.begins_before in
+    elim (dependency_cases a b e) [
+      | inl w ↦ elim (cases_Bool (is_concurrent a b)) [
+        | inl t ↦ absurd (apart a b a_in b_in (let less = w.earlier in omega arith) t w.alike)
+        | inr f ↦ apart_rise history rise a b b_begins (over_from a b f (let less = w.earlier in omega arith))
+      ]
+      | inr w ↦ elim w [
+        | inl wr ↦ apart_rise history rise a b b_begins wr.earlier
+        | inr rw' ↦ elim (cases_Bool (is_concurrent a b)) [
+          | inl t ↦ concurrent_rise history rise a b (in_from_Contains history a a_in) (in_from_Contains history b b_in) (no_pivot b b_in) rw' t
+          | inr f ↦ apart_rise history rise a b b_begins (over_from a b f (read_write_begins a b rw'))
+        ]
+      ]
+    ]

@@ -1,0 +1,51 @@
+-- A serial order of a history without pivots, and its replay. The order is this project's own: it makes each dependency rise.
+use Rattle.std.specs.Prelude.{◌≡◌, ℕ, Bool, ◌&&◌, ◌||◌, List, [], ◌∷◌, Option, Some, None, find, nat_lt, ◌==◌, if◌then◌else◌, ⊤}
+use Rattle.model.specs.Map.{KeyMap}
+use Rattle.model.specs.PrivateCopy.{copy_of, copy_after, responses}
+use Rattle.model.specs.History.{Record}
+use Rattle.model.specs.Dependency.{concurrent_read_write}
+
+-- where a transaction stands in the serial order: places are compared number by number, from the left
+pub record Place : Type 0 where
+  pub first : ℕ
+  pub second : ℕ
+  pub third : ℕ
+
+abbrev pub is_before : Place → Place → Bool
+is_before p q =
+    nat_lt p.first q.first || (p.first == q.first) && (nat_lt p.second q.second || (p.second == q.second) && nat_lt p.third q.third)
+
+-- the first concurrent transaction that committed before t and wrote what t read. Records stand by rising commit number
+abbrev pub first_overwriter : List Record → Record → Option Record
+first_overwriter history t = find (λ y. concurrent_read_write t y && nat_lt y.commit t.commit) history
+
+-- right before the one that overwrote what t read, and else where t committed
+abbrev pub place_before : Option Record → Record → Place
+place_before None t = record { first = t.commit; second = 1; third = 0 }
+place_before (Some y) t = record { first = y.commit; second = 0; third = t.commit }
+
+abbrev pub place : List Record → Record → Place
+place history t = place_before (first_overwriter history t) t
+
+-- ts, which stand by rising place, with t where its place is
+abbrev pub placed : List Record → Record → List Record → List Record
+placed history t [] = t ∷ []
+placed history t (u ∷ us) = if is_before (place history t) (place history u) then t ∷ u ∷ us else u ∷ placed history t us
+
+abbrev pub by_place : List Record → List Record → List Record
+by_place history [] = []
+by_place history (t ∷ ts) = placed history t (by_place history ts)
+
+-- the history sorted by place
+unfoldable pub serial_order : List Record → List Record
+serial_order history = by_place history history
+
+-- the map after the transactions have run alone, one after another, each on the copy that the one before left
+abbrev pub replay : KeyMap → List Record → KeyMap
+replay m [] = m
+replay m (r ∷ rs) = replay (copy_after (copy_of m) r.requests).contents rs
+
+-- run so, each is given the replies that its record has
+abbrev pub ReplaysReplies : KeyMap → List Record → Type 0
+ReplaysReplies m [] = ⊤
+ReplaysReplies m (r ∷ rs) = (responses (copy_of m) r.requests ≡ r.replies) × ReplaysReplies (copy_after (copy_of m) r.requests).contents rs

@@ -1,0 +1,35 @@
+-- Whether a transaction may commit: the first committer wins (snapshot isolation, Fekete et al. 2005), and no pivot may appear
+-- (Cahill, Röhm, Fekete 2008). Which conflict is named is this project's profile.
+use Rattle.std.specs.Prelude.{Bool, ◌&&◌, List, [], ◌∷◌, ◌++◌, Option, Some, None, find, nat_lt, if◌then◌else◌, Contains, IsFalse}
+use Rattle.std.specs.List.{list_any}
+use Rattle.model.specs.declared.refusals.Refusal.{Refusal}
+use Rattle.model.specs.declared.refusals.Refusal.TheVariants.{Overwritten, PivotSelf, Pivot}
+use Rattle.model.specs.Map.{Bytes, KeyWrite}
+use Rattle.model.specs.History.{Record}
+use Rattle.model.specs.Dependency.{writes_key, is_pivot}
+
+-- whether a transaction that committed after t began has written the key
+abbrev pub is_overwritten : List Record → Record → Bytes → Bool
+is_overwritten history t k = list_any (λ r. writes_key r k && nat_lt t.begin r.commit) history
+
+-- the refusal that names the pivot, if there is one
+abbrev pub pivot_refusal : Option Record → Option Refusal
+pivot_refusal None = None
+pivot_refusal (Some p) = Some (Pivot p.commit)
+
+-- the refusal that names the overwritten key, and else that of the pivots
+abbrev pub conflict_of : Option KeyWrite → Option Refusal → Option Refusal
+conflict_of None other = other
+conflict_of (Some w) other = Some (Overwritten w.0)
+
+-- the conflict for which t, which would commit next, is refused: the least key of its writes that is overwritten; else t
+-- itself, where t is a pivot; else the pivot of least commit number. Writes stand by rising key, records by rising commit number.
+unfoldable pub verdict : List Record → Record → Option Refusal
+verdict history t =
+    conflict_of (find (λ w. is_overwritten history t w.0) t.writes)
+    (if is_pivot (history ++ t ∷ []) t then Some PivotSelf
+    else pivot_refusal (find (is_pivot (history ++ t ∷ [])) history))
+
+-- no record is a pivot
+abbrev pub HasNoPivot : List Record → Type 0
+HasNoPivot history = (p : Record) → Contains history p → IsFalse (is_pivot history p)

@@ -1,0 +1,118 @@
+//! Keys, lent and owned.
+ghost use Rattle.std.specs.Prelude.{◌≡◌, ◌↔◌, IsSome, IfSome, IfOk};
+ghost use Rattle.model.specs.Key.{IsKey};
+ghost use Rattle.model.specs.Map.{key_cmp};
+
+use crate::refusals::Memory;
+use std::alloc::Global;
+use std::cmp::Ordering;
+use std::marker::Model;
+
+/// The most bytes of a key. A key has 1 at least.
+pub const KEY_MAX: usize = 256;
+
+/// A key that is lent: 1 to 256 bytes of any value. Keys stand in the order of their bytes, a shorter key before its extensions.
+#[derive(Clone, Copy)]
+pub struct KeyRef<'a> {
+    bytes: &'a [u8],
+    ghost sized: { IsKey bytes.now },
+}
+
+impl<'a> KeyRef<'a> {
+    /// The key of these bytes, and `None` exactly where their number isn't 1 to 256. Takes no memory.
+    pub fn new(bytes: &'a [u8]) -> Option<KeyRef<'a>>
+        ensures sized { IsSome result ↔ IsKey bytes.now }
+        ensures bytes { IfSome result (λ k. k.bytes.now ≡ bytes.now) }
+    {
+        if bytes.len() >= 1 && bytes.len() <= KEY_MAX {
+            Some(KeyRef { bytes })
+        } else {
+            None
+        }
+    }
+
+    // The key of bytes that are known to be one.
+    pub(crate) fn from_bytes(bytes: &'a [u8]) -> KeyRef<'a>
+        requires { IsKey bytes.now }
+        ensures { result.bytes.now ≡ bytes.now }
+    {
+        KeyRef { bytes }
+    }
+
+    /// Which of two keys stands first. Takes no memory.
+    pub fn order(self, other: KeyRef<'_>) -> Ordering
+        ensures { result ≡ key_cmp self.entry.bytes.now other.entry.bytes.now }
+    {
+        self.bytes.cmp(other.bytes)
+    }
+
+    /// The key's bytes, which may outlive this value. Takes no memory.
+    pub fn bytes(self) -> &'a [u8]
+        ensures bytes { result.now ≡ self.entry.bytes.now }
+        ensures sized { IsKey result.now }
+    {
+        self.bytes
+    }
+}
+
+/// A key of 1 to 256 bytes that owns them. A clause sees its bytes.
+#[derive(Drop)]
+pub struct Key {
+    bytes: Vec<u8>,
+}
+
+impl Model for Key {
+    ghost use Rattle.std.specs.Prelude.{ℕ, List};
+    ghost use Rattle.model.specs.Key.{IsKey};
+
+    ghost Value = { List ℕ };
+
+    ghost view = { λ k. k.bytes.items };
+
+    ghost invariant = { λ k. IsKey k.bytes.items };
+}
+
+impl Key {
+    /// A copy of a lent key. It takes as many bytes as the key has; `Memory` where they are refused.
+    pub fn from_ref(alloc: Global, key: KeyRef<'_>) -> Result<Key, Memory>
+        ensures { IfOk result (λ k. k ≡ key.entry.bytes.now) }
+    {
+        Ok(Key {
+            bytes: Vec::from_slice(alloc, key.bytes())?,
+        })
+    }
+
+    // The key of bytes that are known to be one.
+    pub(crate) fn from_bytes(bytes: Vec<u8>) -> Key
+        requires { IsKey bytes.items }
+        ensures { result ≡ bytes.items }
+    {
+        Key { bytes }
+    }
+
+    /// A key of the same bytes. It takes as many bytes as the key has; `Memory` where they are refused.
+    pub fn copy(&self) -> Result<Key, Memory>
+        ensures { IfOk result (λ k. k ≡ self.now) }
+    {
+        Ok(Key {
+            bytes: self.bytes.clone()?,
+        })
+    }
+
+    /// Lends the key. Takes no memory.
+    pub fn lend(&self) -> KeyRef<'_>
+        ensures { result.bytes.now ≡ self.now }
+    {
+        KeyRef {
+            bytes: self.bytes.as_slice(),
+        }
+    }
+
+    /// The key's bytes. Takes no memory.
+    pub fn into_bytes(self) -> Vec<u8>
+        ensures bytes { result.items ≡ self }
+        ensures sized { IsKey self }
+    {
+        self.bytes
+    }
+}

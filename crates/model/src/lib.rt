@@ -1,0 +1,27 @@
+//! The store's types, its definitions and the laws about them.
+//!
+//! The definitions stand in `specs/`: maps, a transaction's private copy, histories, dependencies, cycles, the verdict on a commit,
+//! the machine, the serial order, the grammar of requests, the table of commands and the texts of replies.
+#![tactic(auto)]
+
+pub mod commands;
+pub mod keys;
+pub mod laws;
+pub mod maps;
+pub mod pairs;
+pub mod ranges;
+pub mod refusals;
+#[cfg(test)]
+mod tests;
+pub mod values;
+pub mod writes;
+
+pub use commands::{Command, Reply};
+pub use keys::{KEY_MAX, Key, KeyRef};
+pub use laws::{cycle_has_pivot, history_has_serial_order, machine_is_serializable};
+pub use maps::Map;
+pub use pairs::Pairs;
+pub use ranges::{Range, RangeRef};
+pub use refusals::{Memory, Refusal};
+pub use values::VALUE_MAX;
+pub use writes::Write;

@@ -1,0 +1,69 @@
+//! What transactions write.
+ghost use Rattle.std.specs.Prelude.{◌≡◌, option_map, option_copied};
+ghost use Rattle.model.specs.Map.{key_cmp};
+
+use crate::keys::{Key, KeyRef};
+use std::cmp::Ordering;
+use std::marker::Model;
+
+/// A written key with its last value, of at most 4,096 bytes, or `None` where it was deleted. A clause sees the pair.
+#[derive(Drop)]
+pub struct Write {
+    pub key: Key,
+    pub value: Option<Vec<u8>>,
+}
+
+impl Model for Write {
+    ghost use Rattle.std.specs.Prelude.{ℕ, List, Option, option_map};
+
+    ghost Value = { List ℕ × Option (List ℕ) };
+
+    ghost view = { λ w. (w.key, option_map (λ v. v.items) w.value) };
+}
+
+impl Write {
+    /// A write of this value, or a deletion. Takes no memory.
+    pub fn new(key: Key, value: Option<Vec<u8>>) -> Write
+        ensures { result ≡ (key, option_map (λ v. v.items) value) }
+    {
+        Write { key, value }
+    }
+
+    /// Lends the written key. Takes no memory.
+    pub fn lend_key(&self) -> KeyRef<'_>
+        ensures { result.bytes.now ≡ self.now.0 }
+    {
+        self.key.lend()
+    }
+
+    /// Whether the written key stands before (`Less`) or after the key of these bytes. Takes no memory.
+    pub fn compare(&self, key: &[u8]) -> Ordering
+        ensures { result ≡ key_cmp self.now.0 key.now }
+    {
+        self.lend_key().bytes().cmp(key)
+    }
+
+    /// Lends the value, or answers `None` where the key was deleted. Takes no memory.
+    pub fn value(&self) -> Option<&[u8]>
+        ensures { option_copied result ≡ self.now.1 }
+    {
+        match &self.value {
+            None => None,
+            Some(value) => Some(value.as_slice()),
+        }
+    }
+
+    /// Puts another value, or a deletion, in the place of the one that is there. Takes no memory.
+    pub fn set_value(&mut self, value: Option<Vec<u8>>)
+        ensures { self.new ≡ (self.old.0, option_map (λ v. v.items) value) }
+    {
+        self.value = value;
+    }
+
+    /// The key and the value. Takes no memory.
+    pub fn into_parts(self) -> (Key, Option<Vec<u8>>)
+        ensures { (result.0, option_map (λ v. v.items) result.1) ≡ self }
+    {
+        (self.key, self.value)
+    }
+}

@@ -1,0 +1,24 @@
+-- The parts that a request lends.
+use Rattle.std.proofs.Common.{◌≡◌, ◌<◌, [], ◌∷◌, List, ℕ, length, take, map, arith, ◌+◌, ◌++◌, set, ap, ◌∙◌, length-append}
+use Rattle.std.proofs.lemmas.List.{map-set, take_more_set, length-map}
+use Rattle.std.proofs.lemmas.List.Elements.{All-push}
+use Rattle.model.specs.Grammar.{IsPart, IsRequest}
+use Rattle.std.specs.Borrow.{Bor}
+
+-- the bytes that are lent
+abbrev pub lent : Bor (List ℕ) → List ℕ
+lent part = part.now
+
+-- one more part behind the first ones
+pub lent_more : (parts : List (Bor (List ℕ))) (len : ℕ) (part : Bor (List ℕ)) → len < length parts → take (len + 1) (map lent (set parts len part)) ≡ take len (map lent parts) ++ lent part ∷ []
+lent_more parts len part room =
+    let within : len < length (map lent parts) = omega (arith, length-map parts lent) in
+    ap (take (len + 1)) (map-set lent parts len part) ∙ take_more_set (map lent parts) len (lent part) within
+
+-- and the parts are a request again
+pub request_more : (parts : List (List ℕ)) (part : List ℕ) → IsRequest parts → length parts < 4 → IsPart part → IsRequest (parts ++ part ∷ [])
+request_more parts part so_far less fits = record {
+  some = omega (arith, length-append parts (part ∷ []), so_far.some);
+  few = omega (arith, length-append parts (part ∷ []));
+  each = All-push IsPart parts part so_far.each fits;
+}

@@ -1,0 +1,9 @@
+pub mod Digits
+pub mod Behind
+pub mod Lines
+pub mod Requests
+pub mod Exactly
+pub mod Appending
+pub mod GivenPairs
+pub mod Lent
+pub mod Limits

@@ -1,0 +1,240 @@
+-- Parts and requests: one form, and where a reader stops within one.
+use Rattle.std.proofs.Common.{◌≡◌, ℕ, ◌+◌, ◌-◌, ◌<◌, ◌≤◌, List, [], ◌∷◌, ◌++◌, length, replicate, refl, sym, ap, ◌∙◌, append_assoc, arith, All, length-append}
+use Rattle.std.specs.List.{flat_map}
+use Rattle.std.specs.Fmt.{decimal}
+use Rattle.std.proofs.lemmas.List.{append-nil, length-replicate}
+use Rattle.std.proofs.lemmas.List.Concat.{flat_map-append}
+use Rattle.std.proofs.lemmas.List.Elements.{All-append, All-replicate, All-nil, All-cons, All-head, All-tail, All-push}
+use Rattle.resp.specs.declared.decoding.Stop.{Stop}
+use Rattle.resp.specs.declared.decoding.Stop.TheVariants.{More}
+use Rattle.model.specs.Grammar.{crlf, bulk, array_of_bulks, IsPart, IsRequest, Spells}
+use Rattle.resp.specs.Reading.{Stops, Only, CountLine, LengthLine, PartText}
+use Rattle.resp.proofs.Behind.{stops_behind}
+use Rattle.resp.proofs.Lines.{line_one_form}
+
+-- lists of one length before others
+pub same_front : (xs ys a b : List ℕ) → length xs ≡ length ys → xs ++ a ≡ ys ++ b → (xs ≡ ys) × (a ≡ b)
+same_front [] [] a b len e = (refl, e)
+same_front [] (y ∷ ys) a b len e = absurd (omega arith)
+same_front (x ∷ xs) [] a b len e = absurd (omega arith)
+same_front (x ∷ xs) (y ∷ ys) a b len e =
+    let t : xs ++ a ≡ ys ++ b = cc in
+    let same = same_front xs ys a b (omega arith) t in
+    let first = same.0 in
+    (cc, same.1)
+
+-- ---- parts
+
+-- a part's text before other bytes, from left to right
+pub bulk_text : (part others : List ℕ) → bulk part ++ others ≡ 36 ∷ ((decimal (length part) ++ crlf) ++ (part ++ (crlf ++ others)))
+bulk_text part others = simp append_assoc
+
+pub bulk_one_form : (p q a b : List ℕ) → IsPart p → IsPart q → bulk p ++ a ≡ bulk q ++ b → (p ≡ q) × (a ≡ b)
+bulk_one_form p q a b ip iq e =
+    let spelled : 36 ∷ ((decimal (length p) ++ crlf) ++ (p ++ (crlf ++ a))) ≡ 36 ∷ ((decimal (length q) ++ crlf) ++ (q ++ (crlf ++ b))) = sym (bulk_text p a) ∙ e ∙ bulk_text q b in
+    let lines : (decimal (length p) ++ crlf) ++ (p ++ (crlf ++ a)) ≡ (decimal (length q) ++ crlf) ++ (q ++ (crlf ++ b)) = cc in
+    let line = line_one_form (length p) (length q) (p ++ (crlf ++ a)) (q ++ (crlf ++ b)) (omega (arith, ip.short)) (omega (arith, iq.short)) lines in
+    let same = same_front p q (crlf ++ a) (crlf ++ b) line.0 line.1 in
+    let ends : 13 ∷ 10 ∷ a ≡ 13 ∷ 10 ∷ b = same.1 in
+    (same.0, cc)
+
+-- a part's text from its parts
+joined_text : (digits front back : List ℕ) → (36 ∷ ((digits ++ crlf) ++ front)) ++ (back ++ crlf) ≡ (((36 ∷ digits) ++ crlf) ++ (front ++ back)) ++ crlf
+joined_text digits front back = ap (λ (xs : List ℕ). 36 ∷ xs) (regroup digits crlf front back)
+  where
+    regroup : (d c f b : List ℕ) → ((d ++ c) ++ f) ++ (b ++ c) ≡ ((d ++ c) ++ (f ++ b)) ++ c
+    regroup d c f b = simp append_assoc
+
+zeros_part : (n : ℕ) → n ≤ 4096 → IsPart (replicate n 0)
+zeros_part n le = record { short = omega (arith, length-replicate {A = ℕ} n 0); bytes = All-replicate (λ b. b < 256) n 0 (omega arith) }
+
+empty_part : IsPart []
+empty_part = record { short = omega arith; bytes = All-nil (λ b. b < 256) }
+
+pub part_mark : (bytes : List ℕ) (e : Stop) → Stops (Only (36 ∷ [])) bytes e → Stops PartText bytes e
+part_mark bytes e stopped =
+    stops_behind (Only (36 ∷ [])) PartText [] bytes bytes e refl (36 ∷ [], tt, refl)
+    (λ t v is. ((decimal 0 ++ crlf) ++ crlf, [], (empty_part, ap (λ (xs : List ℕ). xs ++ ((decimal 0 ++ crlf) ++ crlf)) is ∙ ap (λ (xs : List ℕ). 36 ∷ (xs ++ crlf)) (sym (append-nil (decimal 0 ++ crlf))))))
+    (λ some text more others p h joined. (36 ∷ [], (decimal (length p) ++ crlf) ++ (p ++ (crlf ++ others)), tt, refl, joined ∙ ap (λ (xs : List ℕ). xs ++ others) h.1 ∙ bulk_text p others))
+    stopped
+
+pub part_length : (bytes rest : List ℕ) (e : Stop) → bytes ≡ 36 ∷ rest → Stops LengthLine rest e → Stops PartText bytes e
+part_length bytes rest e is stopped =
+    stops_behind LengthLine PartText (36 ∷ []) rest bytes e is (decimal 0 ++ crlf, 0, (omega arith, refl))
+    (λ t n h. (replicate n 0 ++ crlf, replicate n 0, (zeros_part n h.0, made t n h.1)))
+    (λ some text more others p h joined.
+    let spelled : 36 ∷ (rest ++ more) ≡ 36 ∷ ((decimal (length p) ++ crlf) ++ (p ++ (crlf ++ others))) = joined ∙ ap (λ (xs : List ℕ). xs ++ others) h.1 ∙ bulk_text p others in
+    (decimal (length p) ++ crlf, p ++ (crlf ++ others), length p, (h.0.short, refl), cc))
+    stopped
+  where
+    made : (t : List ℕ) (n : ℕ) → t ≡ decimal n ++ crlf → (36 ∷ []) ++ (t ++ (replicate n 0 ++ crlf)) ≡ bulk (replicate n 0)
+    made t n same = rw (same, length-replicate {A = ℕ} n 0) (ap (λ (xs : List ℕ). 36 ∷ xs) (sym (append_assoc (decimal n ++ crlf) (replicate n 0) crlf)))
+
+-- the text of a part up to the end of its bytes
+pub part_front : (len : ℕ) (part : List ℕ) → List ℕ
+part_front len part = 36 ∷ ((decimal len ++ crlf) ++ part)
+
+pub part_short : (bytes line rest : List ℕ) (len : ℕ) → bytes ≡ 36 ∷ (line ++ rest) → LengthLine line len → length rest < len → All (λ b. b < 256) rest → Stops PartText bytes More
+part_short bytes line rest len is h less bytes_fit =
+    let gap = len - length rest in
+    let whole : List ℕ = rest ++ replicate gap 0 in
+    let whole_len : length whole ≡ len = omega (arith, length-append rest (replicate gap 0), length-replicate {A = ℕ} gap 0) in
+    let fits : IsPart whole = record { short = omega (arith, h.0); bytes = All-append (λ b. b < 256) rest (replicate gap 0) bytes_fit (All-replicate (λ b. b < 256) gap 0 (omega arith)) } in
+    (replicate gap 0 ++ crlf, whole, omega (arith, length-append (replicate gap 0) crlf), (fits, made bytes line rest gap len is h.1 whole_len))
+  where
+    made : (bytes line rest : List ℕ) (gap len : ℕ) → bytes ≡ 36 ∷ (line ++ rest) → line ≡ decimal len ++ crlf → length (rest ++ replicate gap 0) ≡ len → bytes ++ (replicate gap 0 ++ crlf) ≡ bulk (rest ++ replicate gap 0)
+    made bytes line rest gap len is same whole_len = rw (is, same, whole_len) (joined_text (decimal len) rest (replicate gap 0))
+
+pub part_end : (bytes line part rest : List ℕ) (len : ℕ) (e : Stop) → bytes ≡ 36 ∷ (line ++ (part ++ rest)) → LengthLine line len → length part ≡ len → All (λ b. b < 256) part → Stops (Only crlf) rest e → Stops PartText bytes e
+part_end bytes line part rest len e is h same_len bytes_fit stopped =
+    let fits : IsPart part = record { short = omega (arith, h.0); bytes = bytes_fit } in
+    stops_behind (Only crlf) PartText (36 ∷ (line ++ part)) rest bytes e (is ∙ ap (λ (xs : List ℕ). 36 ∷ xs) (sym (append_assoc line part rest))) (crlf, tt, refl)
+    (λ t v same. ([], part, (fits, rw (append-nil t, same) (made line part len h.1 same_len))))
+    (λ some text more others p g joined. (crlf, others, tt, refl, behind line part len p rest more others h fits same_len g.0 (joined ∙ ap (λ (xs : List ℕ). xs ++ others) g.1)))
+    stopped
+  where
+    made : (line part : List ℕ) (len : ℕ) → line ≡ decimal len ++ crlf → length part ≡ len → (36 ∷ (line ++ part)) ++ crlf ≡ bulk part
+    made line part len same same_len = rw (same, same_len) refl
+
+    behind : (line part : List ℕ) (len : ℕ) (p rest more others : List ℕ) → LengthLine line len → IsPart part → length part ≡ len → IsPart p → (36 ∷ (line ++ part)) ++ (rest ++ more) ≡ bulk p ++ others → rest ++ more ≡ crlf ++ others
+    behind line part len p rest more others h fits same_len ip joined =
+        let spelled : 36 ∷ (line ++ (part ++ (rest ++ more))) ≡ 36 ∷ ((decimal (length p) ++ crlf) ++ (p ++ (crlf ++ others))) = ap (λ (xs : List ℕ). 36 ∷ xs) (sym (append_assoc line part (rest ++ more))) ∙ joined ∙ bulk_text p others in
+        let lines : line ++ (part ++ (rest ++ more)) ≡ (decimal (length p) ++ crlf) ++ (p ++ (crlf ++ others)) = cc in
+        let one = line_one_form len (length p) (part ++ (rest ++ more)) (p ++ (crlf ++ others)) (omega (arith, h.0)) (omega (arith, ip.short)) (ap (λ (xs : List ℕ). xs ++ (part ++ (rest ++ more))) (sym h.1) ∙ lines) in
+        (same_front part p (rest ++ more) (crlf ++ others) (same_len ∙ one.0) one.1).1
+
+pub part_text : (bytes line part rest after : List ℕ) (len : ℕ) → bytes ≡ 36 ∷ (line ++ (part ++ rest)) → LengthLine line len → length part ≡ len → All (λ b. b < 256) part → rest ≡ crlf ++ after → (text : List ℕ) × PartText text part × (bytes ≡ text ++ after)
+part_text bytes line part rest after len is h same_len bytes_fit ended =
+    (bulk part, (record { short = omega (arith, h.0); bytes = bytes_fit }, refl), made)
+  where
+    made : bytes ≡ bulk part ++ after
+    made = rw (is, ended, h.1, ← same_len) (sym (bulk_text part after))
+
+-- ---- requests
+
+-- a request's text before other bytes, from left to right
+pub array_text : (parts : List (List ℕ)) (others : List ℕ) → array_of_bulks parts ++ others ≡ 42 ∷ ((decimal (length parts) ++ crlf) ++ (flat_map bulk parts ++ others))
+array_text parts others = ap (λ (xs : List ℕ). 42 ∷ xs) (append_assoc (decimal (length parts) ++ crlf) (flat_map bulk parts) others)
+
+-- as many parts with one text are the same
+parts_one_form : (ps qs : List (List ℕ)) (a b : List ℕ) → length ps ≡ length qs → All IsPart ps → All IsPart qs → flat_map bulk ps ++ a ≡ flat_map bulk qs ++ b → (ps ≡ qs) × (a ≡ b)
+parts_one_form [] [] a b len ips iqs e = (refl, e)
+parts_one_form [] (q ∷ qs) a b len ips iqs e = absurd (omega arith)
+parts_one_form (p ∷ ps) [] a b len ips iqs e = absurd (omega arith)
+parts_one_form (p ∷ ps) (q ∷ qs) a b len ips iqs e =
+    let one = bulk_one_form p q (flat_map bulk ps ++ a) (flat_map bulk qs ++ b) (All-head IsPart p ps ips) (All-head IsPart q qs iqs) (sym (append_assoc (bulk p) (flat_map bulk ps) a) ∙ e ∙ append_assoc (bulk q) (flat_map bulk qs) b) in
+    let others = parts_one_form ps qs a b (omega arith) (All-tail IsPart p ps ips) (All-tail IsPart q qs iqs) one.1 in
+    let first = one.0 in
+    let rest = others.0 in
+    (cc, others.1)
+
+-- one request's text doesn't begin another's
+pub array_one_form : (ps qs : List (List ℕ)) (a b : List ℕ) → IsRequest ps → IsRequest qs → array_of_bulks ps ++ a ≡ array_of_bulks qs ++ b → (ps ≡ qs) × (a ≡ b)
+array_one_form ps qs a b ips iqs e =
+    let spelled : 42 ∷ ((decimal (length ps) ++ crlf) ++ (flat_map bulk ps ++ a)) ≡ 42 ∷ ((decimal (length qs) ++ crlf) ++ (flat_map bulk qs ++ b)) = sym (array_text ps a) ∙ e ∙ array_text qs b in
+    let lines : (decimal (length ps) ++ crlf) ++ (flat_map bulk ps ++ a) ≡ (decimal (length qs) ++ crlf) ++ (flat_map bulk qs ++ b) = cc in
+    let line = line_one_form (length ps) (length qs) (flat_map bulk ps ++ a) (flat_map bulk qs ++ b) (omega (arith, ips.few)) (omega (arith, iqs.few)) lines in
+    parts_one_form ps qs a b line.0 ips.each iqs.each line.1
+
+-- after some of a request's parts, the next one follows
+next_part : (done ps : List (List ℕ)) (a b : List ℕ) → All IsPart done → All IsPart ps → length done < length ps → flat_map bulk done ++ a ≡ flat_map bulk ps ++ b → (t c : List ℕ) × (p : List ℕ) × PartText t p × (a ≡ t ++ c)
+next_part done [] a b idone ips less e = absurd (omega arith)
+next_part [] (p ∷ ps) a b idone ips less e = (bulk p, flat_map bulk ps ++ b, p, (All-head IsPart p ps ips, refl), e ∙ append_assoc (bulk p) (flat_map bulk ps) b)
+next_part (d ∷ done) (p ∷ ps) a b idone ips less e =
+    let one = bulk_one_form d p (flat_map bulk done ++ a) (flat_map bulk ps ++ b) (All-head IsPart d done idone) (All-head IsPart p ps ips) (sym (append_assoc (bulk d) (flat_map bulk done) a) ∙ e ∙ append_assoc (bulk p) (flat_map bulk ps) b) in
+    next_part done ps a b (All-tail IsPart d done idone) (All-tail IsPart p ps ips) (omega arith) one.1
+
+empty_parts : (n : ℕ) → All IsPart (replicate n [])
+empty_parts n = All-replicate IsPart n [] empty_part
+
+empty_request : (n : ℕ) → 1 ≤ n → n ≤ 4 → IsRequest (replicate n [])
+empty_request n some few = record { some = omega (arith, length-replicate {A = List ℕ} n []); few = omega (arith, length-replicate {A = List ℕ} n []); each = empty_parts n }
+
+pub request_mark : (bytes : List ℕ) (e : Stop) → Stops (Only (42 ∷ [])) bytes e → Stops Spells bytes e
+request_mark bytes e stopped =
+    stops_behind (Only (42 ∷ [])) Spells [] bytes bytes e refl (42 ∷ [], tt, refl)
+    (λ t v is. ((decimal 1 ++ crlf) ++ flat_map bulk ([] ∷ []), [] ∷ [], (one_part, ap (λ (xs : List ℕ). xs ++ ((decimal 1 ++ crlf) ++ flat_map bulk ([] ∷ []))) is)))
+    (λ some text more others ps h joined. (42 ∷ [], (decimal (length ps) ++ crlf) ++ (flat_map bulk ps ++ others), tt, refl, joined ∙ ap (λ (xs : List ℕ). xs ++ others) h.1 ∙ array_text ps others))
+    stopped
+  where
+    one_part : IsRequest ([] ∷ [])
+    one_part = record { some = omega arith; few = omega arith; each = All-cons IsPart [] [] empty_part (All-nil IsPart) }
+
+pub request_count : (bytes rest : List ℕ) (e : Stop) → bytes ≡ 42 ∷ rest → Stops CountLine rest e → Stops Spells bytes e
+request_count bytes rest e is stopped =
+    stops_behind CountLine Spells (42 ∷ []) rest bytes e is (decimal 1 ++ crlf, 1, (omega arith, omega arith, refl))
+    (λ t n h. (flat_map bulk (replicate n []), replicate n [], (empty_request n h.0 h.1, made t n h.2)))
+    (λ some text more others ps h joined.
+    let spelled : 42 ∷ (rest ++ more) ≡ 42 ∷ ((decimal (length ps) ++ crlf) ++ (flat_map bulk ps ++ others)) = joined ∙ ap (λ (xs : List ℕ). xs ++ others) h.1 ∙ array_text ps others in
+    (decimal (length ps) ++ crlf, flat_map bulk ps ++ others, length ps, (h.0.some, h.0.few, refl), cc))
+    stopped
+  where
+    made : (t : List ℕ) (n : ℕ) → t ≡ decimal n ++ crlf → (42 ∷ []) ++ (t ++ flat_map bulk (replicate n [])) ≡ array_of_bulks (replicate n [])
+    made t n same = rw (same, length-replicate {A = List ℕ} n []) refl
+
+-- a request's line, and the parts so far
+abbrev pub request_front : ℕ → List (List ℕ) → List ℕ
+request_front count parts = 42 ∷ ((decimal count ++ crlf) ++ flat_map bulk parts)
+
+-- what stands before the rest, while the parts are read
+pub record IsReadTo (bytes : List ℕ) (count i : ℕ) (parts : List (List ℕ)) (rest : List ℕ) : Type 0 where
+  pub some : 1 ≤ count
+  pub few : count ≤ 4
+  pub len : length parts ≡ i
+  pub each : All IsPart parts
+  pub text : bytes ≡ request_front count parts ++ rest
+
+pub read_start : (bytes rest line after : List ℕ) (count : ℕ) → bytes ≡ 42 ∷ rest → CountLine line count → rest ≡ line ++ after → IsReadTo bytes count 0 [] after
+read_start bytes rest line after count is h line_is = record {
+  some = h.0;
+  few = h.1;
+  len = refl;
+  each = All-nil IsPart;
+  text = is ∙ ap (λ (xs : List ℕ). 42 ∷ xs) (line_is ∙ ap (λ (xs : List ℕ). xs ++ after) (h.2 ∙ sym (append-nil (decimal count ++ crlf))));
+}
+
+pub read_more : (bytes : List ℕ) (count i : ℕ) (parts : List (List ℕ)) (rest part line after : List ℕ) → IsReadTo bytes count i parts rest → PartText line part → rest ≡ line ++ after → IsReadTo bytes count (i + 1) (parts ++ part ∷ []) after
+read_more bytes count i parts rest part line after so_far h is = record {
+  some = so_far.some;
+  few = so_far.few;
+  len = omega (arith, length-append parts (part ∷ []), so_far.len);
+  each = All-push IsPart parts part so_far.each h.0;
+  text = so_far.text ∙ ap (λ (xs : List ℕ). request_front count parts ++ xs) (is ∙ ap (λ (xs : List ℕ). xs ++ after) h.1) ∙ regroup (decimal count ++ crlf) (flat_map bulk parts) (bulk part) after (flat_map bulk (parts ++ part ∷ [])) (flat_map-append bulk parts (part ∷ []) ∙ ap (λ (xs : List ℕ). flat_map bulk parts ++ xs) (append-nil (bulk part)));
+}
+  where
+    regroup : (line front last after all : List ℕ) → all ≡ front ++ last → (42 ∷ (line ++ front)) ++ (last ++ after) ≡ (42 ∷ (line ++ all)) ++ after
+    regroup line front last after all is = ap (λ (xs : List ℕ). 42 ∷ xs) (sides line front last after) ∙ ap (λ (xs : List ℕ). (42 ∷ (line ++ xs)) ++ after) (sym is)
+      where
+        sides : (a b c d : List ℕ) → (a ++ b) ++ (c ++ d) ≡ (a ++ (b ++ c)) ++ d
+        sides a b c d = simp append_assoc
+
+pub read_stops : (bytes : List ℕ) (count i : ℕ) (parts : List (List ℕ)) (rest : List ℕ) (e : Stop) → IsReadTo bytes count i parts rest → i < count → Stops PartText rest e → Stops Spells bytes e
+read_stops bytes count i parts rest e so_far less stopped =
+    stops_behind PartText Spells (request_front count parts) rest bytes e so_far.text (bulk [], [], (empty_part, refl))
+    (λ t p h. (flat_map bulk (replicate (count - i - 1) []), parts ++ p ∷ replicate (count - i - 1) [], (whole p h.0, made t p h.1)))
+    (λ some text more others ps h joined.
+    let spelled : 42 ∷ ((decimal count ++ crlf) ++ (flat_map bulk parts ++ (rest ++ more))) ≡ 42 ∷ ((decimal (length ps) ++ crlf) ++ (flat_map bulk ps ++ others)) = ap (λ (xs : List ℕ). 42 ∷ xs) (sym (append_assoc (decimal count ++ crlf) (flat_map bulk parts) (rest ++ more))) ∙ joined ∙ ap (λ (xs : List ℕ). xs ++ others) h.1 ∙ array_text ps others in
+    let lines : (decimal count ++ crlf) ++ (flat_map bulk parts ++ (rest ++ more)) ≡ (decimal (length ps) ++ crlf) ++ (flat_map bulk ps ++ others) = cc in
+    let line = line_one_form count (length ps) (flat_map bulk parts ++ (rest ++ more)) (flat_map bulk ps ++ others) (omega (arith, so_far.few)) (omega (arith, h.0.few)) lines in
+    next_part parts ps (rest ++ more) others so_far.each h.0.each (omega (arith, so_far.len, line.0)) line.1)
+    stopped
+  where
+    gap : List (List ℕ)
+    gap = replicate (count - i - 1) []
+
+    len : (p : List ℕ) → length (parts ++ p ∷ replicate (count - i - 1) []) ≡ count
+    len p = omega (arith, length-append parts (p ∷ replicate (count - i - 1) []), length-replicate {A = List ℕ} (count - i - 1) [], so_far.len)
+
+    whole : (p : List ℕ) → IsPart p → IsRequest (parts ++ p ∷ replicate (count - i - 1) [])
+    whole p ip = record {
+      some = omega (arith, len p, so_far.some);
+      few = omega (arith, len p, so_far.few);
+      each = All-append IsPart parts (p ∷ replicate (count - i - 1) []) so_far.each (All-cons IsPart p (replicate (count - i - 1) []) ip (empty_parts (count - i - 1)));
+    }
+
+    made : (t p : List ℕ) → t ≡ bulk p → request_front count parts ++ (t ++ flat_map bulk (replicate (count - i - 1) [])) ≡ array_of_bulks (parts ++ p ∷ replicate (count - i - 1) [])
+    made t p same = rw (same, len p, flat_map-append bulk parts (p ∷ replicate (count - i - 1) [])) (ap (λ (xs : List ℕ). 42 ∷ xs) (append_assoc (decimal count ++ crlf) (flat_map bulk parts) (bulk p ++ flat_map bulk (replicate (count - i - 1) []))))
+
+pub read_all : (bytes : List ℕ) (count i : ℕ) (parts : List (List ℕ)) (rest : List ℕ) → IsReadTo bytes count i parts rest → i ≡ count → (text : List ℕ) × Spells text parts × (bytes ≡ text ++ rest)
+read_all bytes count i parts rest so_far done =
+    (array_of_bulks parts, (record { some = omega (arith, so_far.some, so_far.len); few = omega (arith, so_far.few, so_far.len); each = so_far.each }, refl), so_far.text ∙ ap (λ (n : ℕ). (42 ∷ ((decimal n ++ crlf) ++ flat_map bulk parts)) ++ rest) (sym done ∙ sym so_far.len))

@@ -1,0 +1,10 @@
+use Rattle.std.proofs.Common.{◌++◌, arith, length-append}
+use Rattle.std.specs.Fmt.{decimal}
+use Rattle.std.proofs.lemmas.Fmt.{length-decimal-le}
+use Rattle.resp.proofs.writing.append_number.Goals as goal
+
+pub returns-clause-brief : goal.returns-clause-brief
+returns-clause-brief c =
+    let before = c.args.before.now in
+    let digits = decimal c.args.n in
+    omega (arith, length-append before digits, length-append (before ++ digits) c.args.after.now, length-decimal-le 20 c.args.n (omega arith) (omega (arith, c.ranges.n.fits)) c.ranges.n.fits)

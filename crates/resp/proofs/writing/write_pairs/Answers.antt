@@ -1,0 +1,50 @@
+use Rattle.std.proofs.Common.{◌≡◌, ◌++◌, ◌∷◌, ◌+◌, ◌*◌, ◌≤◌, ℕ, List, true, false, [], length, arith, vec_len, length-append, ap, sym, subst, ◌∙◌, Result, Ok, Err, refl}
+use Rattle.std.specs.Prelude.{is_ok, is_err, codes}
+use Rattle.std.specs.List.{flat_map}
+use Rattle.std.specs.Fmt.{decimal}
+use Rattle.std.specs.Iterator.{AlwaysYields}
+use Rattle.std.proofs.iter.Next.{Yields-more}
+use Rattle.std.specs.Borrow.{Bor}
+use Rattle.model.specs.declared.keys.KeyRef.{KeyRef}
+use Rattle.model.specs.Grammar.{crlf, bulk}
+use Rattle.model.specs.KeyBytes.{pair_bytes}
+use Rattle.model.specs.Operations.Response.{Pairs}
+use Rattle.model.specs.ReplyText.{pair_text, reply_text}
+use Rattle.resp.proofs.GivenPairs.{given_front, same_given, pairs_text, pairs_more, pairs_front}
+use Rattle.resp.proofs.writing.write_pairs.Goals as goal
+
+not_ok : {T E : Type 0} (r : Result T E) → is_err r ≡ true → is_ok r ≡ false
+not_ok (Ok x) e = absurd cc
+not_ok (Err x) e = refl
+
+pub returns-then-is_err-clause-room : goal.returns-then-is_err-clause-room
+returns-then-is_err-clause-room g c all given fits =
+    let it = c.into_iter-key-iterator.result in
+    let gives : AlwaysYields g.I.Iterator.next_gives pair_bytes it all = subst (λ s. AlwaysYields g.I.Iterator.next_gives pair_bytes s all) (sym c.into_iter-key-iterator.ensures.into_iter_gives) given.1 in
+    let failed : is_ok c.append_pair.result ≡ false = not_ok c.append_pair.result (sym c.if-is_err.ensures.value) in
+    let old = c.args.out.now in
+    let before = c.loop-key.out in
+    let pair : KeyRef × Bor (List ℕ) = (c.in-Some.key, c.in-Some.value) in
+    let so_far = c.loop-key.yielded in
+    let more = Yields-more g.I.Iterator.next_gives it so_far c.loop-key.key-iterator pair c.next.new.self c.loop-key.yielded_by c.in-Some.ensures.steps in
+    let front = given_front g.I.Iterator.next_gives pair_bytes it all (so_far ++ pair ∷ []) c.next.new.self gives more in
+    let short : length (pairs_text c.args.n (so_far ++ pair ∷ [])) ≤ length (reply_text (Pairs all)) = pairs_front c.args.n (so_far ++ pair ∷ []) front.0 all front.1 given.0 in
+    let grown : length (pairs_text c.args.n (so_far ++ pair ∷ [])) ≡ length (pairs_text c.args.n so_far) + length (pair_text (pair_bytes pair)) = ap length (sym (pairs_more c.args.n so_far pair)) ∙ length-append (pairs_text c.args.n so_far) (pair_text (pair_bytes pair)) in
+    let len : vec_len before ≡ vec_len old + length (pairs_text c.args.n so_far) = omega (arith, before.ok.0, old.ok.0, ap length c.loop-key.invariant.items, length-append old.items (pairs_text c.args.n so_far)) in
+    let same : length (bulk c.bytes.result.now ++ bulk c.in-Some.value.now) ≡ length (pair_text (pair_bytes pair)) = ap (λ (xs : List ℕ). length (bulk xs ++ bulk c.in-Some.value.now)) c.bytes.ensures.bytes in
+    let succeeds : is_ok c.append_pair.result ≡ true = c.append_pair.ensures.room (omega (arith, grown, len, short, same, c.loop-key.invariant.capacity, fits)) in
+    absurd cc
+
+pub returns-clause-ok : goal.returns-clause-ok
+returns-clause-ok g c all given =
+    let it = c.into_iter-key-iterator.result in
+    let gives : AlwaysYields g.I.Iterator.next_gives pair_bytes it all = subst (λ s. AlwaysYields g.I.Iterator.next_gives pair_bytes s all) (sym c.into_iter-key-iterator.ensures.into_iter_gives) given.1 in
+    let e = same_given g.I.Iterator.next_gives pair_bytes it all c.loop-key.yielded c.loop-key.key-iterator c.next.new.self gives c.loop-key.yielded_by c.in-None.ensures.steps in
+    c.loop-key.invariant.items ∙ ap (λ (xs : List ℕ). c.args.out.now.items ++ xs) (ap (λ (ps : List (List ℕ × List ℕ)). (codes "*" ++ decimal (2 * c.args.n) ++ crlf) ++ flat_map pair_text ps) e ∙ ap (λ (k : ℕ). (codes "*" ++ decimal (2 * k) ++ crlf) ++ flat_map pair_text all) (sym given.0))
+
+pub returns-in_err-append_array_line-clause-room : goal.returns-in_err-append_array_line-clause-room
+returns-in_err-append_array_line-clause-room g c all given fits =
+    let line = codes "*" ++ decimal (2 * c.args.n) ++ crlf in
+    let short : length (line ++ []) ≤ length (reply_text (Pairs all)) = pairs_front c.args.n [] all all refl given.0 in
+    let room = c.in_err-append_array_line.ensures.room (omega (arith, short, length-append line [], fits)) in
+    absurd cc

@@ -1,0 +1,41 @@
+-- What a writer of some text leaves.
+use Rattle.std.specs.Prelude.{◌≡◌, ℕ, ◌+◌, ◌≤◌, Option, List, [], ◌++◌, length, vec_len, vec_capacity, Result, OnOk, OnErr, IsOk}
+use Rattle.std.specs.Global.{Vec}
+use Rattle.std.specs.List.{flat_map}
+use Rattle.std.specs.Borrow.{Bor}
+use Rattle.std.specs.Fmt.{decimal}
+use Rattle.model.specs.declared.refusals.Memory.{Memory}
+use Rattle.model.specs.declared.refusals.Refusal.{Refusal}
+use Rattle.model.specs.declared.refusals.Refusal.TheVariants.{Overwritten, Pivot}
+use Rattle.model.specs.declared.keys.KeyRef.{KeyRef}
+use Rattle.model.specs.declared.commands.Reply.{Reply}
+use Rattle.model.specs.declared.commands.Reply.TheVariants as replies
+use Rattle.model.specs.KeyBytes.{pair_bytes}
+use Rattle.model.specs.ReplyText.{hex_text}
+use Rattle.std.specs.Iterator.{AlwaysYields}
+
+-- the text stands at the end of new, or new has what old had; it is never refused where old has the room
+pub record Appends (old new : Vec ℕ) (text : List ℕ) (result : Result (Unit {0}) Memory) : Type 0 where
+  pub ok : OnOk result (new.items ≡ old.items ++ text)
+  pub err : OnErr result (new.items ≡ old.items)
+  pub room : vec_len old + length text ≤ vec_capacity old → IsOk result
+  pub capacity : vec_capacity old ≤ vec_capacity new
+
+-- the pieces, one after the other
+abbrev pub joined : List (Bor (List ℕ)) → List ℕ
+joined pieces = flat_map (λ piece. piece.now) pieces
+
+-- what follows a refusal's words
+abbrev pub detail : Refusal → List ℕ
+detail (Overwritten key) = hex_text key
+detail (Pivot n) = decimal n
+detail other = []
+
+-- every run of calls from pairs gives lent pairs with these bytes, n of them, and then `None`
+abbrev pub GivesPairs : {S : Type 0} → (S → Option (KeyRef × Bor (List ℕ)) → S → Type 0) → S → ℕ → List (List ℕ × List ℕ) → Type 0
+GivesPairs steps pairs n all = (length all ≡ n) × AlwaysYields steps pair_bytes pairs all
+
+-- any reply but a value
+abbrev pub IsBrief : Reply → Type 0
+IsBrief (replies.Value bytes) = ⊥
+IsBrief other = Unit {0}

@@ -1,0 +1,14 @@
+//! The wire format: requests are decoded, read as commands, and replies are written.
+#![tactic(auto)]
+
+mod commands;
+mod decoding;
+mod parts;
+#[cfg(test)]
+mod tests;
+mod writing;
+
+pub use commands::command;
+pub use decoding::{Decoded, decode, one_spelling};
+pub use parts::Request;
+pub use writing::{BRIEF_MAX, write_pairs, write_reply};

@@ -1,0 +1,190 @@
+//! The text of a reply.
+ghost use Rattle.std.specs.Prelude.{◌≡◌, ◌≤◌, ◌<◌, ◌+◌, ◌*◌, ◌++◌, ◌∷◌, [], ℕ, List, length, map, vec_len, vec_capacity, OnOk, OnErr, IsOk, codes};
+ghost use Rattle.std.specs.List.{flat_map};
+ghost use Rattle.std.specs.Iterator.{IsFinite};
+ghost use Rattle.std.specs.Fmt.{decimal};
+ghost use Rattle.model.specs.Grammar.{bulk, crlf};
+ghost use Rattle.model.specs.Key.{IsKey};
+ghost use Rattle.model.specs.Operations.{response_of};
+ghost use Rattle.model.specs.Operations.Response.{Pairs, Refused};
+ghost use Rattle.model.specs.ReplyText.{reply_text, refusal_text, hex_text};
+ghost use Rattle.resp.specs.Writing.{Appends, GivesPairs, IsBrief, joined, detail};
+
+use model::{KeyRef, Memory, Refusal, Reply};
+
+/// The most bytes of a reply that is neither a value nor pairs: those of a refusal that names a key of 256 bytes.
+pub const BRIEF_MAX: usize = 536;
+
+// Adds these pieces, all or none.
+fn append(out: &mut Vec<u8>, pieces: &[&[u8]]) -> Result<(), Memory>
+    ensures { Appends out.old out.new (joined pieces.now) result }
+{
+    let before = out.len();
+    for piece in pieces {
+        if out.extend_from_slice(piece).is_err() {
+            out.truncate(before);
+            return Err(Memory);
+        }
+    }
+    Ok(())
+}
+
+// A number's text between two others.
+fn append_number(out: &mut Vec<u8>, before: &[u8], n: u64, after: &[u8]) -> Result<(), Memory>
+    ensures text { Appends out.old out.new (before.now ++ decimal n ++ after.now) result }
+    ensures brief { length (before.now ++ decimal n ++ after.now) ≤ length before.now + length after.now + 20 }
+{
+    let mut buffer = itoa::Buffer::new();
+    let digits = buffer.format(n).as_bytes();
+    append(out, &[before, digits, after])
+}
+
+// A bulk.
+fn append_bulk(out: &mut Vec<u8>, bytes: &[u8]) -> Result<(), Memory>
+    ensures { Appends out.old out.new (bulk bytes.now) result }
+{
+    let mut buffer = itoa::Buffer::new();
+    let digits = buffer.format(bytes.len()).as_bytes();
+    append(out, &[b"$", digits, b"\r\n", bytes, b"\r\n"])
+}
+
+// Fills a buffer with the hex digits of these bytes.
+fn write_hex(bytes: &[u8], digits: &mut [u8])
+    requires { length digits.old ≡ 2 * length bytes.now }
+    ensures { digits.new ≡ hex_text bytes.now }
+{
+    hex::encode_to_slice(bytes, digits).unwrap();
+}
+
+// A pair's key and value, as bulks.
+fn append_pair(out: &mut Vec<u8>, key: &[u8], value: &[u8]) -> Result<(), Memory>
+    ensures { Appends out.old out.new (bulk key.now ++ bulk value.now) result }
+{
+    let mut key_buffer = itoa::Buffer::new();
+    let key_len = key_buffer.format(key.len()).as_bytes();
+    let mut value_buffer = itoa::Buffer::new();
+    let value_len = value_buffer.format(value.len()).as_bytes();
+    append(
+        out,
+        &[
+            b"$", key_len, b"\r\n", key, b"\r\n", b"$", value_len, b"\r\n", value, b"\r\n",
+        ],
+    )
+}
+
+// The line before an array's parts.
+fn append_array_line(out: &mut Vec<u8>, pairs: usize) -> Result<(), Memory>
+    ensures { Appends out.old out.new (codes "*" ++ decimal (2 * pairs) ++ crlf) result }
+{
+    let mut buffer = itoa::Buffer::new();
+    let digits = buffer.format(2 * pairs as u128).as_bytes();
+    append(out, &[b"*", digits, b"\r\n"])
+}
+
+// A key in hex, at the end of an error.
+fn append_overwritten(out: &mut Vec<u8>, key: &[u8]) -> Result<(), Memory>
+    requires { IsKey key.now }
+    ensures text { Appends out.old out.new (codes "-CONFLICT overwritten " ++ hex_text key.now ++ crlf) result }
+    ensures brief { length (codes "-CONFLICT overwritten " ++ hex_text key.now ++ crlf) ≤ BRIEF_MAX }
+{
+    let mut buffer = [0u8; 512];
+    let digits = &mut buffer[..2 * key.len()];
+    write_hex(key, digits);
+    append(out, &[b"-CONFLICT overwritten ", digits, b"\r\n"])
+}
+
+// What a refusal's text begins with, and what it is where no detail follows.
+fn words(refusal: &Refusal) -> &'static [u8]
+    ensures text { refusal_text refusal.now ≡ result.now ++ detail refusal.now }
+    ensures short { length result.now ≤ 24 }
+{
+    match refusal {
+        Refusal::BadFrame => b"ERR frame",
+        Refusal::UnknownCommand => b"ERR command",
+        Refusal::BadArguments => b"ERR arguments",
+        Refusal::BadKey => b"ERR key",
+        Refusal::BadLimit => b"ERR limit",
+        Refusal::AlreadyOpen => b"ERR open",
+        Refusal::NotOpen => b"ERR none",
+        Refusal::FullWrites => b"FULL writes",
+        Refusal::FullMarks => b"FULL marks",
+        Refusal::FullTransactions => b"FULL transactions",
+        Refusal::Overwritten(_) => b"CONFLICT overwritten ",
+        Refusal::PivotSelf => b"CONFLICT pivot self",
+        Refusal::Pivot(_) => b"CONFLICT pivot ",
+        Refusal::FullLog => b"FULL log",
+        Refusal::StoreFault => b"STORE fault",
+        Refusal::StoreStopped => b"STORE stopped",
+        Refusal::FullNumbers => b"FULL numbers",
+    }
+}
+
+// A refusal, as an error.
+fn append_refusal(out: &mut Vec<u8>, refusal: &Refusal) -> Result<(), Memory>
+    ensures text { Appends out.old out.new (reply_text (Refused refusal.now)) result }
+    ensures brief { length (reply_text (Refused refusal.now)) ≤ BRIEF_MAX }
+{
+    match refusal {
+        Refusal::Overwritten(key) => append_overwritten(out, key.lend().bytes()),
+        Refusal::Pivot(n) => append_number(out, b"-CONFLICT pivot ", *n, b"\r\n"),
+        _ => append(out, &[b"-", words(refusal), b"\r\n"]),
+    }
+}
+
+/// Writes a reply's text, in RESP2's form, at the end of `out`. It may grow `out`; where that is refused it answers `Memory`, and
+/// the bytes are as they were. A text that fits the room left takes no memory.
+pub fn write_reply(out: &mut Vec<u8>, reply: &Reply<'_>) -> Result<(), Memory>
+    // The text is added, and nothing else.
+    ensures ok { OnOk result (out.new.items ≡ out.old.items ++ reply_text (response_of reply.now)) }
+    // A refusal leaves the bytes as they were.
+    ensures err { OnErr result (out.new.items ≡ out.old.items) }
+    // A text that fits the room left is never refused.
+    ensures room { vec_len out.old + length (reply_text (response_of reply.now)) ≤ vec_capacity out.old → IsOk result }
+    // No reply but a value is longer.
+    ensures brief { IsBrief reply.now → length (reply_text (response_of reply.now)) ≤ BRIEF_MAX }
+    // No room is lost.
+    ensures capacity { vec_capacity out.old ≤ vec_capacity out.new }
+{
+    match reply {
+        Reply::Done => append(out, &[b"+OK\r\n"]),
+        Reply::Pong => append(out, &[b"+PONG\r\n"]),
+        Reply::Number(n) => append_number(out, b":", *n, b"\r\n"),
+        Reply::Value(None) => append(out, &[b"$-1\r\n"]),
+        Reply::Value(Some(bytes)) => append_bulk(out, bytes),
+        Reply::Refused(refusal) => append_refusal(out, refusal),
+    }
+}
+
+/// Writes the text of an array of `n` pairs, each key followed by its value, at the end of `out`. It may grow `out`; where that is
+/// refused it answers `Memory`, and the bytes are as they were. A text that fits the room left takes no memory.
+pub fn write_pairs<'a, I: Iterator<Item = (KeyRef<'a>, &'a [u8])> + Drop>(
+    out: &mut Vec<u8>,
+    n: usize,
+    pairs: I,
+) -> Result<(), Memory>
+    requires can { I.can_next pairs }
+    requires finite { IsFinite (I.remaining pairs) }
+    // Whatever its calls give, it is these n pairs.
+    requires gives { (all : List (List ℕ × List ℕ)) × GivesPairs I.next_gives pairs n all }
+
+    // Their text is added, and nothing else.
+    ensures ok { (all : List (List ℕ × List ℕ)) → GivesPairs I.next_gives pairs n all
+        → OnOk result (out.new.items ≡ out.old.items ++ reply_text (Pairs all)) }
+    // A refusal leaves the bytes as they were.
+    ensures err { OnErr result (out.new.items ≡ out.old.items) }
+    // A text that fits the room left is never refused.
+    ensures room { (all : List (List ℕ × List ℕ)) → GivesPairs I.next_gives pairs n all
+        → vec_len out.old + length (reply_text (Pairs all)) ≤ vec_capacity out.old → IsOk result }
+    // No room is lost.
+    ensures capacity { vec_capacity out.old ≤ vec_capacity out.new }
+{
+    let len = out.len();
+    append_array_line(out, n)?;
+    for (key, value) in pairs {
+        if append_pair(out, key.bytes(), value).is_err() {
+            out.truncate(len);
+            return Err(Memory);
+        }
+    }
+    Ok(())
+}

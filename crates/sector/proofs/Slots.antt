@@ -1,0 +1,112 @@
+-- What writes and syncs change in the slots of a device in memory.
+use Rattle.std.proofs.Common.{◌≡◌, ◌≢◌, ℕ, zero, suc, ◌+◌, ◌<◌, replicate, All, List, [], ◌∷◌, ◌++◌, length, map, set, get_or, slice_get, take, drop, None, Some, refl, sym, ◌∙◌, ap, arith, append_assoc, take-append-drop}
+use Rattle.std.proofs.lemmas.List.{append-nil, replicate-append-replicate}
+use Rattle.std.proofs.lemmas.Grind.{common_steps}
+use Rattle.std.specs.List.{concat}
+use Rattle.sector.specs.declared.memory.Slot.{Slot}
+use Rattle.sector.specs.Slots.{written, settled_slot, MayLeave, IsLeft, IsSettledSlot}
+use Rattle.sector.specs.SectorModel.{Settles, FollowsWrite}
+
+pub written-settled : (slots : List Slot) → written (map settled_slot slots) ≡ written slots
+written-settled [] = refl
+written-settled (slot ∷ slots) = ap (λ (l : List (List ℕ)). slot.written ∷ l) (written-settled slots)
+
+pub written_at : (slots : List Slot) (at : ℕ) (slot : Slot) (s : List ℕ) → slice_get (written (set slots at slot)) at ≡ Some s → s ≡ slot.written
+written_at [] at slot s found = cc
+written_at (x ∷ slots) zero slot s found = cc
+written_at (x ∷ slots) (suc at) slot s found = written_at slots at slot s found
+
+pub written_elsewhere : (slots : List Slot) (at : ℕ) (slot : Slot) (i : ℕ) → i ≢ at → slice_get (written (set slots at slot)) i ≡ slice_get (written slots) i
+written_elsewhere [] at slot i other = refl
+written_elsewhere (x ∷ slots) zero slot zero other = absurd (other refl)
+written_elsewhere (x ∷ slots) zero slot (suc i) other = refl
+written_elsewhere (x ∷ slots) (suc at) slot zero other = refl
+written_elsewhere (x ∷ slots) (suc at) slot (suc i) other = written_elsewhere slots at slot i (λ same. other (ap suc same))
+
+pub unsettled : (slots : List Slot) (at : ℕ) (slot : Slot) → FollowsWrite at (MayLeave slots) (MayLeave (set slots at slot))
+unsettled [] at slot [] left = ([], left, ([], refl))
+unsettled [] at slot (s ∷ c) left = absurd left
+unsettled (x ∷ slots) zero slot [] left = absurd left
+unsettled (x ∷ slots) zero slot (s ∷ c) left = (x.written ∷ c, (λ _. refl, left.1), (s, refl))
+unsettled (x ∷ slots) (suc at) slot [] left = absurd left
+unsettled (x ∷ slots) (suc at) slot (s ∷ c) left =
+    let rest = unsettled slots at slot c left.1 in
+    (s ∷ rest.0, (left.0, rest.1), (rest.2.0, ap (λ (l : List (List ℕ)). s ∷ l) rest.2.1))
+
+pub same_slots : (old new : List Slot) → new ≡ old → (c : List (List ℕ)) → MayLeave new c → MayLeave old c
+same_slots old new same c left = rw same at left
+
+-- what was written is a possible outcome
+pub was_left : (slots : List Slot) → MayLeave slots (written slots)
+was_left [] = tt
+was_left (slot ∷ slots) = (λ _. refl, was_left slots)
+
+-- and after a sync the only one
+pub only_written : (slots : List Slot) (c : List (List ℕ)) → MayLeave (map settled_slot slots) c → c ≡ written slots
+only_written [] [] left = refl
+only_written [] (s ∷ c) left = absurd left
+only_written (slot ∷ slots) [] left = absurd left
+only_written (slot ∷ slots) (s ∷ c) left =
+    let here : s ≡ slot.written = left.0 refl in
+    let rest : c ≡ written slots = only_written slots c left.1 in
+    cc
+
+pub length-written : (slots : List Slot) → length (written slots) ≡ length slots
+length-written [] = refl
+length-written (slot ∷ slots) = ap suc (length-written slots)
+
+-- a sync of these slots
+pub settles : (old new : List Slot) → new ≡ map settled_slot old → Settles (length new) (λ i s. slice_get (written old) i ≡ Some s) (λ i s. slice_get (written new) i ≡ Some s) (MayLeave old) (MayLeave new)
+settles old new is = record {
+  image = written new;
+  settled = record {
+    size_is = length-written new;
+    read = λ i s found. found;
+    left = λ c left. only_written old c (rw is at left) ∙ sym same;
+  };
+  was_read = λ i s found. rw same at found;
+  was_left = rw same (was_left old);
+}
+  where
+    same : written new ≡ written old
+    same = ap written is ∙ written-settled old
+
+-- leaves no more than before
+pub fewer : (old : List Slot) (c : List (List ℕ)) → MayLeave (map settled_slot old) c → MayLeave old c
+fewer old c left =
+    let is : c ≡ written old = only_written old c left in
+    rw is (was_left old)
+
+-- a crash makes of each sector what it may
+pub crashed : (old new : List Slot) → length new ≡ length old → ((k : ℕ) (d : Slot) → k < length old → IsLeft (get_or old k d) (get_or new k d)) → MayLeave old (written new)
+crashed [] [] same each = tt
+crashed [] (y ∷ new) same each = absurd (omega arith)
+crashed (x ∷ old) [] same each = absurd (omega arith)
+crashed (x ∷ old) (y ∷ new) same each =
+    ((each 0 x (omega arith)).1, crashed old new (omega arith) (λ k d lt. each (suc k) d (omega arith)))
+
+pub written-push : (slots : List Slot) (slot : Slot) → written (slots ++ slot ∷ []) ≡ written slots ++ slot.written ∷ []
+written-push [] slot = refl
+written-push (x ∷ slots) slot = ap (λ (l : List (List ℕ)). x.written ∷ l) (written-push slots slot)
+
+pub concat-push : (xss : List (List ℕ)) (xs rest : List ℕ) → concat (xss ++ xs ∷ []) ++ rest ≡ concat xss ++ (xs ++ rest)
+concat-push [] xs rest = rw append-nil
+concat-push (x ∷ xss) xs rest =
+    append_assoc x (concat (xss ++ xs ∷ [])) rest ∙ ap (λ (l : List ℕ). x ++ l) (concat-push xss xs rest) ∙ sym (append_assoc x (concat xss) (xs ++ rest))
+
+pub taken_in : (slots : List Slot) (slot : Slot) (rest image : List ℕ) → slot.written ≡ take 512 rest → concat (written slots) ++ rest ≡ image → concat (written (slots ++ slot ∷ [])) ++ drop 512 rest ≡ image
+taken_in slots slot rest image is so_far =
+    ap (λ (l : List (List ℕ)). concat l ++ drop 512 rest) (written-push slots slot)
+    ∙ concat-push (written slots) slot.written (drop 512 rest)
+    ∙ ap (λ (l : List ℕ). concat (written slots) ++ (l ++ drop 512 rest)) is
+    ∙ ap (λ (l : List ℕ). concat (written slots) ++ l) (take-append-drop 512 rest)
+    ∙ so_far
+
+pub all_settled-push : (slots : List Slot) (slot : Slot) → All IsSettledSlot slots → slot.settled ≡ None → All IsSettledSlot (slots ++ slot ∷ [])
+all_settled-push slots slot settled is = grind (arith, common_steps)
+
+pub blank-push : (slots : List Slot) (slot : Slot) (n : ℕ) → written slots ≡ replicate n (replicate 512 0) → slot.written ≡ replicate 512 0 → written (slots ++ slot ∷ []) ≡ replicate (n + 1) (replicate 512 0)
+blank-push slots slot n so_far is =
+    written-push slots slot ∙ ap (λ (l : List (List ℕ)). l ++ slot.written ∷ []) so_far
+    ∙ ap (λ (s : List ℕ). replicate n (replicate 512 0) ++ s ∷ []) is
+    ∙ replicate-append-replicate n 1 (replicate 512 0)

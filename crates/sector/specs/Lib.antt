@@ -1,0 +1,4 @@
+-- What a device of sectors gives back, and what a crash leaves of it.
+pub mod SectorModel
+pub mod Failures
+pub mod Slots

@@ -1,0 +1,93 @@
+//! The device as the crates above see it.
+ghost use Rattle.std.specs.Prelude.{◌≡◌, ◌≢◌, ◌<◌, ◌≤◌, ◌^◌, ℕ, List, length, OnOk, OnErr};
+ghost use Rattle.sector.specs.Failures.{Rose, Stayed};
+ghost use Rattle.sector.specs.SectorModel.{Elapses, FollowsWrite, Settles};
+
+use thiserror::Error;
+
+/// The bytes of a sector.
+pub const SECTOR_SIZE: usize = 512;
+
+/// The content of a sector.
+pub type Sector = [u8; 512];
+
+/// A read, a write or a sync of the device failed.
+#[derive(Clone, Copy, Debug, PartialEq, Eq, Error)]
+#[error("the device failed")]
+pub struct DeviceFault;
+
+/// A row of sectors, each of 512 bytes, that are read and written one at a time.
+///
+/// A written sector is unsettled until a sync succeeds: a crash may leave any 512 bytes in it, and leaves every other sector as it
+/// was. A crash may come at any moment, within a call too. A write that failed counts as written, and reads of its sector may then
+/// give anything. A sync that fails settles nothing.
+///
+/// Clauses on reads and crashes bound from above what may be found, and are said only of a type that keeps this model.
+pub trait Sectors: Drop {
+    /// How many sectors there are. No call changes it.
+    ghost size: { Self → ℕ };
+
+    /// How many reads, writes and syncs have failed. A count at 2^64 - 1 stays there.
+    ghost failures: { Self → ℕ };
+
+    /// The devices of this type keep the sector model.
+    ghost keeps_model: { Type 0 };
+
+    /// What a read of a sector may give.
+    ghost may_read: { Self → ℕ → List ℕ → Type 0 };
+
+    /// The images that a crash now may leave.
+    ghost may_leave: { Self → List (List ℕ) → Type 0 };
+
+    /// The moment, as a number that doesn't fall.
+    ghost moment: { Self → ℕ };
+
+    /// The images that a crash at some moment from that one on may have left, during a call or between two.
+    ghost left_since: { Self → ℕ → List (List ℕ) → Type 0 };
+
+    /// How many sectors there are. It makes no call of the device.
+    fn count(&self) -> u64
+        ensures { result ≡ size self.now };
+
+    /// Reads a sector. After a `DeviceFault` the bytes of `into` may be any. Takes no memory.
+    fn read(&mut self, at: u64, into: &mut Sector) -> Result<(), DeviceFault>
+        requires { at < size self.old }
+        ensures size { size self.new ≡ size self.old }
+        ensures ok { OnOk result (Stayed (failures self.old) (failures self.new)) }
+        ensures fault { OnErr result (Rose (failures self.old) (failures self.new)) }
+        ensures gives { keeps_model → OnOk result (may_read self.old at into.new) }
+        ensures reads { keeps_model → (i : ℕ) (s : List ℕ) → may_read self.new i s → may_read self.old i s }
+        ensures crash { keeps_model → (c : List (List ℕ)) → may_leave self.new c → may_leave self.old c }
+        ensures time { keeps_model → Elapses (moment self.old) (moment self.new) (left_since self.old) (left_since self.new) (may_leave self.new) };
+
+    /// Writes a sector. Until a sync succeeds a crash may leave anything in it, and after a `DeviceFault` a read of it may give
+    /// anything. Takes no memory.
+    fn write(&mut self, at: u64, from: &Sector) -> Result<(), DeviceFault>
+        requires { at < size self.old }
+        ensures size { size self.new ≡ size self.old }
+        ensures ok { OnOk result (Stayed (failures self.old) (failures self.new)) }
+        ensures fault { OnErr result (Rose (failures self.old) (failures self.new)) }
+        ensures written { keeps_model → OnOk result ((s : List ℕ) → may_read self.new at s → s ≡ from.now) }
+        ensures others { keeps_model → (i : ℕ) (s : List ℕ) → i ≢ at → may_read self.new i s → may_read self.old i s }
+        ensures crash { keeps_model → FollowsWrite at (may_leave self.old) (may_leave self.new) }
+        ensures time { keeps_model → Elapses (moment self.old) (moment self.new) (left_since self.old) (left_since self.new) (may_leave self.new) };
+
+    /// Settles every sector: from then on a crash leaves what a read gives. A `DeviceFault` settles nothing. Takes no memory.
+    fn sync(&mut self) -> Result<(), DeviceFault>
+        ensures size { size self.new ≡ size self.old }
+        ensures ok { OnOk result (Stayed (failures self.old) (failures self.new)) }
+        ensures fault { OnErr result (Rose (failures self.old) (failures self.new)) }
+        ensures settles { keeps_model → OnOk result (Settles (size self.new) (may_read self.old) (may_read self.new) (may_leave self.old) (may_leave self.new)) }
+        ensures reads { keeps_model → OnErr result ((i : ℕ) (s : List ℕ) → may_read self.new i s → may_read self.old i s) }
+        ensures crash { keeps_model → (c : List (List ℕ)) → may_leave self.new c → may_leave self.old c }
+        ensures time { keeps_model → Elapses (moment self.old) (moment self.new) (left_since self.old) (left_since self.new) (may_leave self.new) };
+
+    /// A crash leaves every sector.
+    ghost leaves_all: { keeps_model → (d : Self) (c : List (List ℕ)) → may_leave d c → length c ≡ size d };
+
+    /// A crash now is one since an earlier moment.
+    ghost counts_now: { keeps_model → (d : Self) (t : ℕ) (c : List (List ℕ)) → t ≤ moment d → may_leave d c → left_since d t c };
+
+    /// A crash since this moment leaves what a crash now may leave.
+    ghost only_now: { keeps_model → (d : Self) (c : List (List ℕ)) → left_since d (moment d) c → may_leave d c };
+}

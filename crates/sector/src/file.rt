@@ -1,0 +1,143 @@
+//! A device over a file. Nothing is claimed of what a file gives back or keeps.
+ghost use Rattle.std.specs.Prelude.{◌≡◌, ◌<◌, ◌≤◌, ◌^◌, IfOk, OnOk, OnErr};
+ghost use Rattle.sector.specs.Failures.{Rose, Stayed};
+
+use crate::{DeviceFault, SECTOR_SIZE, Sector, Sectors};
+use std::fs::{self, File, OpenFile, OpenOptions};
+use std::io::{self, Read};
+use std::os::unix::fs::FileExt;
+use std::path::Path;
+use std::rt::Files;
+
+/// A file of whole sectors. That it keeps the sector model is a premise of whoever relies on it, and is not claimed here.
+#[derive(Drop)]
+pub struct FileSectors {
+    file: File,
+    count: u64,
+    failures: u64,
+    ghost fits: { count < 2 ^ 55 },
+}
+
+impl FileSectors {
+    /// Makes a new file of `count` sectors of zeros, all of them written, and syncs it and its directory. A crash then finds the file,
+    /// and no later write of a sector has to find room on the disk for it.
+    ///
+    /// Answers an error where a file of this name exists, where `count` is 2^55 or more, and where a call of the system fails; a file
+    /// that it made it then removes. Takes no memory.
+    pub fn create<R: Files<File = File>>(rt: &R, path: &str, count: u64) -> io::Result<Self>
+        ensures count { IfOk result (λ f. f.count ≡ count) }
+        ensures failures { IfOk result (λ f. f.failures ≡ 0) }
+    {
+        if count >= 1 << 55 {
+            return Err(io::Error::from(io::ErrorKind::InvalidInput));
+        }
+        let mut file = options().create_new(true).open(rt, path)?;
+        match write_zeros(rt, path, &mut file, count * SECTOR_SIZE as u64) {
+            Ok(()) => Ok(FileSectors {
+                file,
+                count,
+                failures: 0,
+            }),
+            Err(error) => {
+                // The first error is the one to tell.
+                let _ = fs::remove_file(rt, path);
+                Err(error)
+            }
+        }
+    }
+
+    /// Opens a file of whole sectors. Answers an error where there is none of this name, where its length is no multiple of 512
+    /// (`InvalidData`), and where a call of the system fails. Takes no memory.
+    pub fn open<R: Files<File = File>>(rt: &R, path: &str) -> io::Result<Self>
+        ensures { IfOk result (λ f. f.failures ≡ 0) }
+    {
+        let file = options().open(rt, path)?;
+        let len = file.metadata()?.len();
+        if len % SECTOR_SIZE as u64 != 0 {
+            return Err(io::Error::from(io::ErrorKind::InvalidData));
+        }
+        Ok(FileSectors {
+            file,
+            count: len / SECTOR_SIZE as u64,
+            failures: 0,
+        })
+    }
+
+    /// Counts a call of the file, and tells how it ended. Where the count stands at its end, each call fails.
+    fn told(&mut self, outcome: io::Result<()>) -> Result<(), DeviceFault>
+        ensures count { self.new.count ≡ self.old.count }
+        ensures ok { OnOk result (Stayed self.old.failures self.new.failures) }
+        ensures fault { OnErr result (Rose self.old.failures self.new.failures) }
+    {
+        if outcome.is_ok() && self.failures < u64::MAX {
+            return Ok(());
+        }
+        self.failures = self.failures.saturating_add(1);
+        Err(DeviceFault)
+    }
+}
+
+/// How a file of sectors is opened.
+fn options() -> OpenOptions {
+    let mut options = OpenOptions::new();
+    options.read(true).write(true);
+    options
+}
+
+/// Fills a new file with zeros, so that the file system gives it its blocks now, and settles it and its name.
+fn write_zeros<R: Files<File = File>>(
+    rt: &R,
+    path: &str,
+    file: &mut File,
+    len: u64,
+) -> io::Result<()> {
+    let _written = io::copy(&mut io::repeat(0).take(len), file)?;
+    file.sync_all()?;
+    let directory = match Path::new(path).parent() {
+        Some(parent) if !parent.as_str().is_empty() => parent,
+        _ => Path::new("."),
+    };
+    File::open(rt, directory)?.sync_all()
+}
+
+impl Sectors for FileSectors {
+    ghost size = { λ f. f.count };
+
+    ghost failures = { λ f. f.failures };
+
+    /// Nothing is claimed of a file.
+    ghost keeps_model = { ⊥ };
+
+    ghost may_read = { λ f i s. Unit {0} };
+
+    ghost may_leave = { λ f c. Unit {0} };
+
+    ghost moment = { λ f. 0 };
+
+    ghost left_since = { λ f t c. Unit {0} };
+
+    ghost leaves_all = { λ keeps f c left. absurd keeps };
+
+    ghost counts_now = { λ keeps f c t le left. tt };
+
+    ghost only_now = { λ keeps f c left. tt };
+
+    fn count(&self) -> u64 {
+        self.count
+    }
+
+    fn read(&mut self, at: u64, into: &mut Sector) -> Result<(), DeviceFault> {
+        let outcome = self.file.read_exact_at(into, at * SECTOR_SIZE as u64);
+        self.told(outcome)
+    }
+
+    fn write(&mut self, at: u64, from: &Sector) -> Result<(), DeviceFault> {
+        let outcome = self.file.write_all_at(from, at * SECTOR_SIZE as u64);
+        self.told(outcome)
+    }
+
+    fn sync(&mut self) -> Result<(), DeviceFault> {
+        let outcome = self.file.sync_data();
+        self.told(outcome)
+    }
+}
