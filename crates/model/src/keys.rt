@@ -51,7 +51,8 @@ impl<'a> KeyRef<'a> {
         ensures bytes { result.now ≡ self.entry.bytes.now }
         ensures sized { IsKey result.now }
     {
-        self.bytes
+        let KeyRef { bytes } = self;
+        bytes
     }
 }
 
@@ -113,6 +114,7 @@ impl Key {
         ensures bytes { result.items ≡ self }
         ensures sized { IsKey self }
     {
-        self.bytes
+        let Key { bytes } = self;
+        bytes
     }
 }

@@ -1,0 +1,7 @@
+use Rattle.std.proofs.Common.{◌≡◌, take, length}
+use Rattle.marks.specs.Marked.{marks_of}
+use Rattle.marks.proofs.marks.Marks.copy.Given as goal
+
+-- the marks so far are copied
+abbrev pub invariant-loop-mark : goal.invariant-loop-mark
+invariant-loop-mark l = record { same : marks_of l.held.items ≡ marks_of (take l.mark-index l.mark-items); many : length l.held.items ≡ l.mark-index }

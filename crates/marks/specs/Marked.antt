@@ -1,0 +1,30 @@
+-- The marks that are held, and what one more does.
+use Rattle.std.specs.Prelude.{ℕ, List, [], ◌∷◌, ◌++◌, Bool, length, nat_lt, Option, Some, None, if◌then◌else◌, not, ◌&&◌, option_map}
+use Rattle.std.specs.List.{list_any}
+use Rattle.marks.specs.declared.held.Held.{Held}
+use Rattle.marks.specs.declared.held.Held.TheVariants.{Key, Range}
+use Rattle.model.specs.declared.ranges.RangeRef.{RangeRef}
+use Rattle.model.specs.PrivateCopy.{Mark, is_same_mark}
+use Rattle.model.specs.PrivateCopy.Mark.{OfKey, OfRange}
+
+abbrev pub mark_of : Held → Mark
+mark_of (Key k) = OfKey k
+mark_of (Range r) = OfRange r.lo r.hi
+
+abbrev pub marks_of : List Held → List Mark
+marks_of [] = []
+marks_of (h ∷ hs) = mark_of h ∷ marks_of hs
+
+abbrev pub range_mark : RangeRef → Mark
+range_mark r = OfRange r.lo.bytes.now (option_map (λ k. k.bytes.now) r.hi)
+
+abbrev pub has_mark : List Mark → Mark → Bool
+has_mark ms m = list_any (is_same_mark m) ms
+
+-- the mark is not there, and there is no room for one more
+abbrev pub is_full_for : List Mark → Mark → Bool
+is_full_for ms m = not (has_mark ms m) && not (nat_lt (length ms) 256)
+
+-- the marks with this one
+abbrev pub with_mark : List Mark → Mark → List Mark
+with_mark ms m = if has_mark ms m then ms else ms ++ m ∷ []

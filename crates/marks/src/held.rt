@@ -1,0 +1,93 @@
+//! One mark.
+use model::{Key, KeyRef, Memory, Range, RangeRef};
+use std::alloc::Global;
+
+/// A mark that owns its keys.
+#[derive(Drop)]
+pub(crate) enum Held {
+    Key(Key),
+    Range(Range),
+}
+
+impl Held {
+    ghost use Rattle.std.specs.Prelude.{◌≡◌, IfOk};
+    ghost use Rattle.marks.specs.Marked.{mark_of, range_mark};
+    ghost use Rattle.model.specs.PrivateCopy.{covers, is_same_mark};
+    ghost use Rattle.model.specs.PrivateCopy.Mark.{OfKey};
+
+    // The same mark once more.
+    pub(crate) fn copy(&self) -> Result<Held, Memory>
+        ensures { IfOk result (λ h. mark_of h ≡ mark_of self.now) }
+    {
+        match self {
+            Held::Key(key) => Ok(Held::Key(key.copy()?)),
+            Held::Range(range) => {
+                let lo = range.lo.copy()?;
+                let hi = match &range.hi {
+                    None => None,
+                    Some(hi) => Some(hi.copy()?),
+                };
+                Ok(Held::Range(Range { lo, hi }))
+            }
+        }
+    }
+
+    // The mark of a lent range.
+    pub(crate) fn from_range(alloc: Global, range: RangeRef<'_>) -> Result<Held, Memory>
+        ensures { IfOk result (λ h. mark_of h ≡ range_mark range.entry) }
+    {
+        let lo = Key::from_ref(alloc, range.lo)?;
+        let hi = match range.hi {
+            None => None,
+            Some(hi) => Some(Key::from_ref(alloc, hi)?),
+        };
+        Ok(Held::Range(Range { lo, hi }))
+    }
+
+    // Does the mark cover the key?
+    pub(crate) fn covers(&self, key: KeyRef<'_>) -> bool
+        ensures { result ≡ covers (mark_of self.now) key.entry.bytes.now }
+    {
+        match self {
+            Held::Key(held) => held.lend().order(key).is_eq(),
+            Held::Range(range) => {
+                if range.lo.lend().order(key).is_gt() {
+                    return false;
+                }
+                match &range.hi {
+                    Some(hi) => key.order(hi.lend()).is_lt(),
+                    None => true,
+                }
+            }
+        }
+    }
+
+    // Is it the mark of this key?
+    pub(crate) fn is_key(&self, key: KeyRef<'_>) -> bool
+        ensures { result ≡ is_same_mark (OfKey key.entry.bytes.now) (mark_of self.now) }
+    {
+        match self {
+            Held::Key(held) => key.order(held.lend()).is_eq(),
+            Held::Range(_) => false,
+        }
+    }
+
+    // Is it the mark of this range?
+    pub(crate) fn is_range(&self, range: RangeRef<'_>) -> bool
+        ensures { result ≡ is_same_mark (range_mark range.entry) (mark_of self.now) }
+    {
+        match self {
+            Held::Key(_) => false,
+            Held::Range(held) => {
+                if !range.lo.order(held.lo.lend()).is_eq() {
+                    return false;
+                }
+                match (range.hi, &held.hi) {
+                    (None, None) => true,
+                    (Some(hi), Some(end)) => hi.order(end.lend()).is_eq(),
+                    _ => false,
+                }
+            }
+        }
+    }
+}

@@ -1,0 +1,17 @@
+//! What a transaction has read: keys, and ranges of keys.
+//!
+//! A mark does what a SIREAD lock does in Cahill, Röhm, Fekete 2008. A range is marked whole, so that a key that was absent when it was
+//! read is among the reads too, and no phantom is missed.
+#![tactic(auto)]
+
+mod faults;
+mod held;
+mod marks;
+mod sorted;
+
+pub use faults::MarksFault;
+pub use marks::{MARKS_MAX, Marks};
+pub use sorted::{Keyed, has_key};
+
+#[cfg(test)]
+mod tests;

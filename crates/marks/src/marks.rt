@@ -1,0 +1,147 @@
+//! The marks of one transaction.
+ghost use Rattle.std.specs.Prelude.{◌≡◌, ◌↔◌, [], map, IsTrue, IsOk, OnOk, OnErr, IfOk, Err};
+ghost use Rattle.std.specs.List.{list_any};
+ghost use Rattle.model.specs.PrivateCopy.{is_covered};
+ghost use Rattle.model.specs.PrivateCopy.Mark.{OfKey};
+ghost use Rattle.marks.specs.Sorted.{is_rising};
+ghost use Rattle.marks.specs.Marked.{has_mark, is_full_for, with_mark, range_mark};
+
+use crate::faults::MarksFault;
+use crate::held::Held;
+use crate::sorted::Keyed;
+use model::{Key, KeyRef, Memory, RangeRef};
+use std::alloc::Global;
+use std::marker::Model;
+
+/// The most marks of a transaction.
+pub const MARKS_MAX: usize = 256;
+
+/// The marks of a transaction. A clause sees them in the order in which they were made.
+#[derive(Drop)]
+pub struct Marks {
+    held: Vec<Held>,
+}
+
+impl Model for Marks {
+    ghost use Rattle.std.specs.Prelude.{List, length, ◌≤◌};
+    ghost use Rattle.model.specs.PrivateCopy.{Mark};
+    ghost use Rattle.marks.specs.Marked.{marks_of};
+
+    ghost Value = { List Mark };
+
+    ghost view = { λ m. marks_of m.held.items };
+
+    ghost invariant = { λ m. length m.held.items ≤ 256 };
+}
+
+impl Marks {
+    /// No marks. Takes no memory.
+    pub fn new(alloc: Global) -> Marks
+        ensures { result ≡ [] }
+    {
+        Marks {
+            held: Vec::new(alloc),
+        }
+    }
+
+    /// Is the key among the reads, that is, does some mark cover it? Takes no memory.
+    pub fn covers(&self, key: KeyRef<'_>) -> bool
+        ensures { result ≡ is_covered self.now key.entry.bytes.now }
+    {
+        for mark in &self.held {
+            if mark.covers(key) {
+                return true;
+            }
+        }
+        false
+    }
+
+    /// Is the key of one of the items, which stand by rising key, among the reads? A binary search for each mark; takes no memory.
+    pub fn covers_any<K: Keyed>(&self, items: &[K]) -> bool
+        requires { IsTrue (is_rising (map K.key items.now)) }
+        ensures { result ≡ list_any (is_covered self.now) (map K.key items.now) }
+    {
+        for mark in &self.held {
+            if mark.covers_any(items) {
+                return true;
+            }
+        }
+        false
+    }
+
+    /// Marks a key. A mark that is there takes no memory and succeeds. A new one takes a copy of the key and a place; the marks are as
+    /// they were where it answers `FullMarks`, which it does where 256 are there, or `Memory`.
+    pub fn add_key(&mut self, key: KeyRef<'_>) -> Result<(), MarksFault>
+        ensures ok { OnOk result (self.new ≡ with_mark self.old (OfKey key.entry.bytes.now)) }
+        ensures err { OnErr result (self.new ≡ self.old) }
+        ensures full { (result ≡ Err MarksFault.FullMarks) ↔ IsTrue (is_full_for self.old (OfKey key.entry.bytes.now)) }
+        ensures known { IsTrue (has_mark self.old (OfKey key.entry.bytes.now)) → IsOk result }
+    {
+        if self.has_key(key) {
+            return Ok(());
+        }
+        if self.held.len() >= MARKS_MAX {
+            return Err(MarksFault::FullMarks);
+        }
+        let alloc = *self.held.allocator();
+        let held = Held::Key(Key::from_ref(alloc, key)?);
+        self.held.push(held)?;
+        Ok(())
+    }
+
+    /// Marks all keys of a range, present or not. A mark that is there takes no memory and succeeds. A new one takes copies of the bounds
+    /// and a place; the marks are as they were where it answers `FullMarks`, which it does where 256 are there, or `Memory`.
+    pub fn add_range(&mut self, range: RangeRef<'_>) -> Result<(), MarksFault>
+        ensures ok { OnOk result (self.new ≡ with_mark self.old (range_mark range.entry)) }
+        ensures err { OnErr result (self.new ≡ self.old) }
+        ensures full { (result ≡ Err MarksFault.FullMarks) ↔ IsTrue (is_full_for self.old (range_mark range.entry)) }
+        ensures known { IsTrue (has_mark self.old (range_mark range.entry)) → IsOk result }
+    {
+        if self.has_range(range) {
+            return Ok(());
+        }
+        if self.held.len() >= MARKS_MAX {
+            return Err(MarksFault::FullMarks);
+        }
+        let alloc = *self.held.allocator();
+        let held = Held::from_range(alloc, range)?;
+        self.held.push(held)?;
+        Ok(())
+    }
+
+    /// The same marks once more. It takes as much memory as they hold; `Memory` where it is refused.
+    pub fn copy(&self) -> Result<Marks, Memory>
+        ensures { IfOk result (λ m. m ≡ self.now) }
+    {
+        let alloc = *self.held.allocator();
+        let mut held = Vec::with_capacity(alloc, self.held.len())?;
+        for mark in &self.held {
+            held.push(mark.copy()?)?;
+        }
+        Ok(Marks { held })
+    }
+
+    // Is this mark there?
+    fn has_key(&self, key: KeyRef<'_>) -> bool
+        ensures { result ≡ has_mark self.now (OfKey key.entry.bytes.now) }
+    {
+        for mark in &self.held {
+            if mark.is_key(key) {
+                return true;
+            }
+        }
+        false
+    }
+
+    // Is this mark there?
+    fn has_range(&self, range: RangeRef<'_>) -> bool
+        ensures { result ≡ has_mark self.now (range_mark range.entry) }
+    {
+        for mark in &self.held {
+            if mark.is_range(range) {
+                return true;
+            }
+        }
+        false
+    }
+}

@@ -1,0 +1,371 @@
+-- What is kept decides the verdict over the whole history, and stays what is kept of it.
+use Rattle.std.proofs.Common.{◌≡◌, ℕ, zero, suc, ◌+◌, ◌<◌, ◌≤◌, Bool, true, false, not, cond, ◌&&◌, ◌||◌, List, [], ◌∷◌, ◌++◌, Option, Some, None, refl, sym, ap, subst, ◌∙◌, length, length-append, length-drop, take, drop, ◌-◌, map, arith, inl, inr}
+use Rattle.std.specs.Prelude.{nat_lt, ◌==◌, find, max}
+use Rattle.std.specs.List.{list_any, filter, position}
+use Rattle.std.specs.Option.{option_map}
+use Rattle.std.proofs.lemmas.Bool.{lt-ltb, le-ltb, ltb-true, ltb-false, cases_lt, false_from_ne_true}
+use Rattle.std.proofs.lemmas.Bool.Decides.{nat_tests}
+use Rattle.std.proofs.lemmas.List.Elements.{All-contains, All-from_recursion, filter-append}
+use Rattle.std.proofs.lemmas.List.{map-append, length-map}
+use Rattle.model.specs.declared.refusals.Refusal.{Refusal}
+use Rattle.model.specs.declared.refusals.Refusal.TheVariants as refusal
+use Rattle.model.specs.Map.{Bytes, KeyWrite, is_same_key}
+use Rattle.model.specs.PrivateCopy.{is_covered}
+use Rattle.model.specs.History.{Record, IsNumberedFrom}
+use Rattle.model.specs.Dependency.{writes_key, reads_from, concurrent_read_write, is_pivot}
+use Rattle.model.specs.Verdict.{verdict, conflict_of, pivot_refusal, is_overwritten}
+use Rattle.model.proofs.Members.{In, at_in, each_in, Contains-from_in, in_from_Contains}
+use Rattle.model.proofs.Machines.{in_append_cases, numbered-append, commit_low, clear_from}
+use Rattle.model.proofs.Pivots.{any_filter, find_alike, no_read_write_itself, read_write_kept, or_false, over_not_concurrent, has_read_write_in, has_read_write_out, has_read_write_in-push, has_read_write_out-push, verdict_by_kept}
+use Rattle.snapshot.specs.View.{View}
+use Rattle.pivot_check.specs.Kept.{KeptRecord, Facts, key_of, keys_of, since, is_written, leads_to, follows, becomes_pivot, with_dependencies, own_record, IsInReach}
+use Rattle.pivot_check.specs.declared.verdict.Verdict.{Verdict}
+use Rattle.pivot_check.specs.declared.verdict.Verdict.TheVariants.{Overwritten}
+use Rattle.pivot_check.specs.StandsFor.{StandsFor, IsRecordOf, IsClear, Says, verdict_found, kept_of, kept_above}
+use Rattle.pivot_check.proofs.Lists.{any-map, find-map, any_same, find_same, map_same, drop-map, drop-nil, found_at, found_nowhere}
+
+in_filter : {X : Type 0} (p : X → Bool) (xs : List X) (x : X) → In x (filter p xs) → In x xs
+in_filter p [] x h = absurd h
+in_filter p (y ∷ ys) x h =
+    elim (p y) as (λ b. In x (cond b (y ∷ filter p ys) (filter p ys)) → In x (y ∷ ys)) [
+      | true ↦ λ g. elim g [ inl e ↦ inl e | inr g' ↦ inr (in_filter p ys x g') ]
+      | false ↦ λ g. inr (in_filter p ys x g)
+    ] h
+
+passes_filter : {X : Type 0} (p : X → Bool) (xs : List X) (x : X) → In x (filter p xs) → p x ≡ true
+passes_filter p [] x h = absurd h
+passes_filter p (y ∷ ys) x h =
+    elim (p y) as (λ b. p y ≡ b → In x (cond b (y ∷ filter p ys) (filter p ys)) → p x ≡ true) [
+      | true ↦ λ e g. elim g [ inl same ↦ ap p same ∙ e | inr g' ↦ passes_filter p ys x g' ]
+      | false ↦ λ e g. passes_filter p ys x g
+    ] refl h
+
+differ : (a b : ℕ) → a < b → (a == b) ≡ false
+differ a b h = grind (arith, nat_tests)
+
+differ' : (a b : ℕ) → b < a → (a == b) ≡ false
+differ' a b h = grind (arith, nat_tests)
+
+-- ---- the records above a number, in a history that is numbered
+above_is_drop : (n : ℕ) (rs : List Record) → IsNumberedFrom n rs → (b : ℕ) → filter (λ p. nat_lt b p.commit) rs ≡ drop (b - n) rs
+above_is_drop n [] h b = sym (drop-nil (b - n))
+above_is_drop n (r ∷ rs) h b = elim (cases_lt n b) [
+  | inl lt ↦
+      let below : nat_lt b r.commit ≡ false = le-ltb b r.commit (let c = h.0 in omega arith) in
+      let more : b - n ≡ suc (b - suc n) = omega arith in
+      ap (λ v. cond v (r ∷ filter (λ p. nat_lt b p.commit) rs) (filter (λ p. nat_lt b p.commit) rs)) below ∙ above_is_drop (suc n) rs h.1 b ∙ ap (λ k. drop k (r ∷ rs)) (sym more)
+  | inr le ↦
+      let above : nat_lt b r.commit ≡ true = lt-ltb b r.commit (let c = h.0 in omega arith) in
+      let none : b - n ≡ 0 = omega arith in
+      let none' : b - suc n ≡ 0 = omega arith in
+      ap (λ v. cond v (r ∷ filter (λ p. nat_lt b p.commit) rs) (filter (λ p. nat_lt b p.commit) rs)) above
+      ∙ ap (λ ps. r ∷ ps) (above_is_drop (suc n) rs h.1 b ∙ ap (λ k. drop k rs) none') ∙ ap (λ k. drop k (r ∷ rs)) (sym none)
+]
+
+numbered_drop : (n : ℕ) (rs : List Record) → IsNumberedFrom n rs → (k : ℕ) → k ≤ length rs → IsNumberedFrom (n + k) (drop k rs)
+numbered_drop n rs h zero le = subst (λ m. IsNumberedFrom m rs) (omega arith) h
+numbered_drop n [] h (suc k) le = tt
+numbered_drop n (r ∷ rs) h (suc k) le = subst (λ m. IsNumberedFrom m (drop k rs)) (omega arith) (numbered_drop (suc n) rs h.1 k (omega arith))
+
+-- a change of the records above a number
+changed_above : (f : KeptRecord → KeptRecord) (g : Record → KeptRecord) (n : ℕ) (rs : List Record) → IsNumberedFrom n rs → (b : ℕ)
+    → take (b - n) (map g rs) ++ map f (drop (b - n) (map g rs)) ≡ map (λ p. cond (nat_lt b p.commit) (f (g p)) (g p)) rs
+changed_above f g n [] h b = empty (b - n)
+  where
+    empty : (k : ℕ) → take {A = KeptRecord} k [] ++ map f (drop k []) ≡ []
+    empty zero = refl
+    empty (suc k) = refl
+changed_above f g n (r ∷ rs) h b = elim (cases_lt n b) [
+  | inl lt ↦
+      let below : nat_lt b r.commit ≡ false = le-ltb b r.commit (let c = h.0 in omega arith) in
+      let more : b - n ≡ suc (b - suc n) = omega arith in
+      ap (λ k. take k (map g (r ∷ rs)) ++ map f (drop k (map g (r ∷ rs)))) more
+      ∙ ap (λ ks. g r ∷ ks) (changed_above f g (suc n) rs h.1 b)
+      ∙ ap (λ v. cond v (f (g r)) (g r) ∷ map (λ p. cond (nat_lt b p.commit) (f (g p)) (g p)) rs) (sym below)
+  | inr le ↦
+      let above : nat_lt b r.commit ≡ true = lt-ltb b r.commit (let c = h.0 in omega arith) in
+      let none : b - n ≡ 0 = omega arith in
+      let none' : b - suc n ≡ 0 = omega arith in
+      ap (λ k. take k (map g (r ∷ rs)) ++ map f (drop k (map g (r ∷ rs)))) none
+      ∙ ap (λ ks. f (g r) ∷ ks) (sym (ap (λ k. take k (map g rs) ++ map f (drop k (map g rs))) none') ∙ changed_above f g (suc n) rs h.1 b)
+      ∙ ap (λ v. cond v (f (g r)) (g r) ∷ map (λ p. cond (nat_lt b p.commit) (f (g p)) (g p)) rs) (sym above)
+]
+
+filter_filter : (a b : ℕ) (rs : List Record) → filter (λ p. nat_lt b p.commit) (filter (λ p. nat_lt a p.commit) rs) ≡ filter (λ p. nat_lt (max a b) p.commit) rs
+filter_filter a b [] = refl
+filter_filter a b (r ∷ rs) =
+    elim (nat_lt a r.commit) as (λ v. nat_lt a r.commit ≡ v → filter (λ p. nat_lt b p.commit) (cond v (r ∷ filter (λ p. nat_lt a p.commit) rs) (filter (λ p. nat_lt a p.commit) rs)) ≡ filter (λ p. nat_lt (max a b) p.commit) (r ∷ rs)) [
+      | true ↦ λ e. elim (nat_lt b r.commit) as (λ v. nat_lt b r.commit ≡ v → cond v (r ∷ filter (λ p. nat_lt b p.commit) (filter (λ p. nat_lt a p.commit) rs)) (filter (λ p. nat_lt b p.commit) (filter (λ p. nat_lt a p.commit) rs)) ≡ filter (λ p. nat_lt (max a b) p.commit) (r ∷ rs)) [
+        | true ↦ λ g. ap (λ ps. r ∷ ps) (filter_filter a b rs) ∙ ap (λ w. cond w (r ∷ filter (λ p. nat_lt (max a b) p.commit) rs) (filter (λ p. nat_lt (max a b) p.commit) rs)) (sym (above (ltb-true a r.commit e) (ltb-true b r.commit g)))
+        | false ↦ λ g. filter_filter a b rs ∙ ap (λ w. cond w (r ∷ filter (λ p. nat_lt (max a b) p.commit) rs) (filter (λ p. nat_lt (max a b) p.commit) rs)) (sym (below_b (ltb-false b r.commit g)))
+      ] refl
+      | false ↦ λ e. filter_filter a b rs ∙ ap (λ w. cond w (r ∷ filter (λ p. nat_lt (max a b) p.commit) rs) (filter (λ p. nat_lt (max a b) p.commit) rs)) (sym (below_a (ltb-false a r.commit e)))
+    ] refl
+  where
+    above : a < r.commit → b < r.commit → nat_lt (max a b) r.commit ≡ true
+    above h g = lt-ltb (max a b) r.commit (omega arith)
+
+    below_a : r.commit ≤ a → nat_lt (max a b) r.commit ≡ false
+    below_a h = le-ltb (max a b) r.commit (omega arith)
+
+    below_b : r.commit ≤ b → nat_lt (max a b) r.commit ≡ false
+    below_b h = le-ltb (max a b) r.commit (omega arith)
+
+-- what is left of a concurrent dependency, where the numbers are known
+sides : (a b c d e : Bool) → b ≡ true → c ≡ false → d ≡ true → e ≡ true → (a && b && not c && (d && e)) ≡ a
+sides a b c d e b' c' d' e' = (λ i. a && b' i && not (c' i) && (d' i && e' i)) ∙ by a
+  where
+    by : (a : Bool) → (a && true && not false && (true && true)) ≡ a
+    by true = refl
+    by false = refl
+
+module _ (f : Facts) (history : List Record) (s : StandsFor f history) (t : View) (reach : IsInReach f t) (r : Record) (own : IsRecordOf t (f.last + 1) r) where
+  abbrev kept : List Record
+  kept = filter (λ p. nat_lt f.oldest p.commit) history
+
+  -- those that are concurrent with the transaction
+  abbrev late : List Record
+  late = filter (λ p. nat_lt t.begin p.commit) history
+
+  abbrev records : List KeptRecord
+  records = since f t.begin
+
+  abbrev place : ℕ
+  place = length f.records - (f.last - t.begin)
+
+  kept_is_drop : kept ≡ drop f.oldest history
+  kept_is_drop = above_is_drop 0 history s.numbered f.oldest ∙ ap (λ k. drop k history) (omega arith)
+
+  kept_numbered : IsNumberedFrom f.oldest kept
+  kept_numbered = subst (IsNumberedFrom f.oldest) (sym kept_is_drop) (subst (λ n. IsNumberedFrom n (drop f.oldest history)) (omega arith) (numbered_drop 0 history s.numbered f.oldest (let l = s.last in let a = reach.begun in let b = reach.held in omega arith)))
+
+  place_is : place ≡ t.begin - f.oldest
+  place_is =
+      let l = s.last in let a = reach.begun in let b = reach.held in
+      let len : length f.records ≡ length history - f.oldest = ap length s.records ∙ length-map kept (kept_of history) ∙ ap length kept_is_drop ∙ length-drop f.oldest history in
+      omega arith
+
+  late_is : drop place kept ≡ late
+  late_is =
+      let b = reach.held in
+      let greatest : max f.oldest t.begin ≡ t.begin = omega arith in
+      ap (λ k. drop k kept) place_is ∙ sym (above_is_drop f.oldest kept kept_numbered t.begin) ∙ filter_filter f.oldest t.begin history ∙ ap (λ m. filter (λ p. nat_lt m p.commit) history) greatest
+
+  records_are : records ≡ map (kept_of history) late
+  records_are = ap (drop place) s.records ∙ drop-map (kept_of history) place kept ∙ ap (map (kept_of history)) late_is
+
+  low : t.begin ≤ r.begin
+  low = let b = own.begin in omega arith
+
+  commits_low : (p : Record) → In p history → p.commit ≤ f.last
+  commits_low p p_in = let below : p.commit ≤ 0 + length history = at_in (λ u. u.commit ≤ 0 + length history) history p (commit_low 0 history s.numbered) p_in in let l = s.last in omega arith
+
+  begins_low : (p : Record) → In p history → p.begin < r.commit
+  begins_low p p_in =
+      let begun : p.begin < p.commit = All-contains (λ u. u.begin < u.commit) history p s.begun (Contains-from_in history p p_in) in
+      let below = commits_low p p_in in let c = own.commit in omega arith
+
+  into_new : (p : Record) → In p history → t.begin < p.commit → concurrent_read_write p r ≡ leads_to (kept_of history p) t
+  into_new p p_in above =
+      let begins = begins_low p p_in in
+      let below = commits_low p p_in in
+      let c = own.commit in let b = own.begin in
+      sides (reads_from p r) (nat_lt p.begin r.commit) (p.commit == r.commit) (nat_lt p.begin r.commit) (nat_lt r.begin p.commit)
+      (lt-ltb p.begin r.commit begins) (differ p.commit r.commit (omega arith)) (lt-ltb p.begin r.commit begins) (lt-ltb r.begin p.commit (omega arith))
+      ∙ ap (list_any (λ w. is_covered p.reads w.0)) own.writes
+      ∙ sym (any-map (is_covered p.reads) key_of t.writes)
+
+  from_new : (p : Record) → In p history → t.begin < p.commit → concurrent_read_write r p ≡ follows (kept_of history p) t
+  from_new p p_in above =
+      let begins = begins_low p p_in in
+      let below = commits_low p p_in in
+      let c = own.commit in let b = own.begin in
+      sides (reads_from r p) (nat_lt r.begin p.commit) (r.commit == p.commit) (nat_lt r.begin p.commit) (nat_lt p.begin r.commit)
+      (lt-ltb r.begin p.commit (omega arith)) (differ' r.commit p.commit (omega arith)) (lt-ltb r.begin p.commit (omega arith)) (lt-ltb p.begin r.commit begins)
+      ∙ (λ i. list_any (λ w. is_covered (own.reads i) w.0) p.writes)
+      ∙ sym (any-map (is_covered t.marks) key_of p.writes)
+
+  in_history : (p : Record) → In p late → In p history
+  in_history p p_in = in_filter (λ p. nat_lt t.begin p.commit) history p p_in
+
+  is_late : (p : Record) → In p late → t.begin < p.commit
+  is_late p p_in = ltb-true t.begin p.commit (passes_filter (λ p. nat_lt t.begin p.commit) history p p_in)
+
+  any_in : list_any (λ x. concurrent_read_write x r) late ≡ list_any (λ k. leads_to k t) records
+  any_in =
+      any_same (λ x. concurrent_read_write x r) (λ x. leads_to (kept_of history x) t) late (each_in (λ x. concurrent_read_write x r ≡ leads_to (kept_of history x) t) late (λ x x_in. into_new x (in_history x x_in) (is_late x x_in)))
+      ∙ sym (any-map (λ k. leads_to k t) (kept_of history) late)
+      ∙ ap (list_any (λ k. leads_to k t)) (sym records_are)
+
+  any_out : list_any (λ y. concurrent_read_write r y) late ≡ list_any (λ k. follows k t) records
+  any_out =
+      any_same (λ y. concurrent_read_write r y) (λ y. follows (kept_of history y) t) late (each_in (λ y. concurrent_read_write r y ≡ follows (kept_of history y) t) late (λ y y_in. from_new y (in_history y y_in) (is_late y y_in)))
+      ∙ sym (any-map (λ k. follows k t) (kept_of history) late)
+      ∙ ap (list_any (λ k. follows k t)) (sym records_are)
+
+  written : (k : Bytes) → is_overwritten late r k ≡ is_written records k
+  written k =
+      any_same (λ p. writes_key p k && nat_lt r.begin p.commit) (λ p. list_any (is_same_key k) (keys_of p.writes)) late
+      (each_in (λ p. (writes_key p k && nat_lt r.begin p.commit) ≡ list_any (is_same_key k) (keys_of p.writes)) late (λ p p_in.
+      let above = is_late p p_in in let b = own.begin in
+      (λ i. writes_key p k && lt-ltb r.begin p.commit (omega arith) i) ∙ and_true (writes_key p k) ∙ sym (any-map (is_same_key k) key_of p.writes)))
+      ∙ sym (any-map (λ q. list_any (is_same_key k) q.keys) (kept_of history) late)
+      ∙ ap (λ ks. is_written ks k) (sym records_are)
+    where
+      and_true : (a : Bool) → (a && true) ≡ a
+      and_true true = refl
+      and_true false = refl
+
+  overwritten : find (λ w. is_overwritten late r w.0) r.writes ≡ find (λ w. is_written records w.0) t.writes
+  overwritten = find_alike (λ w. is_overwritten late r w.0) (λ w. is_written records w.0) (λ w. written w.0) r.writes ∙ ap (find (λ w. is_written records w.0)) own.writes
+
+  first_pivot : pivot_refusal (find (λ p. (has_read_write_in history p || concurrent_read_write r p) && (has_read_write_out history p || concurrent_read_write p r)) late)
+      ≡ option_map refusal.Pivot (option_map (λ k. k.commit) (find (becomes_pivot t) records))
+  first_pivot =
+      ap pivot_refusal (find_same (λ p. (has_read_write_in history p || concurrent_read_write r p) && (has_read_write_out history p || concurrent_read_write p r)) (λ p. becomes_pivot t (kept_of history p)) late
+      (each_in (λ p. ((has_read_write_in history p || concurrent_read_write r p) && (has_read_write_out history p || concurrent_read_write p r)) ≡ becomes_pivot t (kept_of history p)) late
+      (λ p p_in. let a = from_new p (in_history p p_in) (is_late p p_in) in let b = into_new p (in_history p p_in) (is_late p p_in) in λ i. (has_read_write_in history p || a i) && (has_read_write_out history p || b i))))
+      ∙ named (find (λ p. becomes_pivot t (kept_of history p)) late)
+      ∙ ap (λ o. option_map refusal.Pivot (option_map (λ (k : KeptRecord). k.commit) o)) (sym (find-map (becomes_pivot t) (kept_of history) late))
+      ∙ ap (λ ks. option_map refusal.Pivot (option_map (λ (k : KeptRecord). k.commit) (find (becomes_pivot t) ks))) (sym records_are)
+    where
+      named : (o : Option Record) → pivot_refusal o ≡ option_map refusal.Pivot (option_map (λ (k : KeptRecord). k.commit) (option_map (kept_of history) o))
+      named None = refl
+      named (Some p) = refl
+
+  -- the verdict over the whole history is one over what is kept
+  pub verdict_is : verdict history r ≡ conflict_of (find (λ w. is_written records w.0) t.writes)
+      (cond (list_any (λ k. leads_to k t) records && list_any (λ k. follows k t) records) (Some refusal.PivotSelf)
+      (option_map refusal.Pivot (option_map (λ k. k.commit) (find (becomes_pivot t) records))))
+  verdict_is = verdict_by_kept history r t.begin low s.no_pivot
+      ∙ (λ i. conflict_of (overwritten i) (cond (any_in i && any_out i) (Some refusal.PivotSelf) (first_pivot i)))
+
+  abbrev overwrites : KeyWrite → Bool
+  overwrites w = is_written records w.0
+
+  abbrev pivots_say : Option Refusal
+  pivots_say = cond (list_any (λ k. leads_to k t) records && list_any (λ k. follows k t) records) (Some refusal.PivotSelf)
+      (option_map refusal.Pivot (option_map (λ k. k.commit) (find (becomes_pivot t) records)))
+
+  pub says_overwritten : (i : ℕ) → Some i ≡ position overwrites t.writes → Says (Overwritten i) t.writes (verdict history r)
+  says_overwritten i e = let at = found_at overwrites ([], None) t.writes i (sym e) in
+      (at.0, at.1, verdict_is ∙ ap (λ o. conflict_of o pivots_say) at.2)
+
+  -- what is answered where it overwrites no concurrent commit
+  pub says_found : None ≡ position overwrites t.writes → (self : Bool) → self ≡ (list_any (λ k. leads_to k t) records && list_any (λ k. follows k t) records)
+      → (other : Option ℕ) → other ≡ option_map (λ k. k.commit) (find (becomes_pivot t) records) → (v : Verdict) → v ≡ verdict_found self other → Says v t.writes (verdict history r)
+  says_found none self self_is other other_is v v_is = subst (λ (v : Verdict). Says v t.writes (verdict history r)) (sym v_is) (found self other
+      (verdict_is ∙ ap (λ o. conflict_of o pivots_say) (found_nowhere overwrites t.writes (sym none)) ∙ (λ i. cond (sym self_is i) (Some refusal.PivotSelf) (option_map refusal.Pivot (sym other_is i)))))
+    where
+      found : (self : Bool) (other : Option ℕ) → verdict history r ≡ cond self (Some refusal.PivotSelf) (option_map refusal.Pivot other) → Says (verdict_found self other) t.writes (verdict history r)
+      found true other e = e
+      found false None e = e
+      found false (Some n) e = e
+
+  -- ---- the transaction commits
+  own_in : has_read_write_in (history ++ r ∷ []) r ≡ list_any (λ k. leads_to k t) records
+  own_in = has_read_write_in-push history r r ∙ ap (λ b. has_read_write_in history r || b) (no_read_write_itself r) ∙ or_false (has_read_write_in history r)
+      ∙ sym (any_filter (λ x. concurrent_read_write x r) (λ p. nat_lt t.begin p.commit) (λ x h. read_write_kept t.begin r x low (or_right' (concurrent_read_write r x) _ h)) history)
+      ∙ any_in
+    where
+      or_right' : (a b : Bool) → b ≡ true → (a || b) ≡ true
+      or_right' true b h = refl
+      or_right' false b h = h
+
+  own_out : has_read_write_out (history ++ r ∷ []) r ≡ list_any (λ k. follows k t) records
+  own_out = has_read_write_out-push history r r ∙ ap (λ b. has_read_write_out history r || b) (no_read_write_itself r) ∙ or_false (has_read_write_out history r)
+      ∙ sym (any_filter (λ y. concurrent_read_write r y) (λ p. nat_lt t.begin p.commit) (λ y h. read_write_kept t.begin r y low (or_left' (concurrent_read_write r y) _ h)) history)
+      ∙ any_out
+    where
+      or_left' : (a b : Bool) → a ≡ true → (a || b) ≡ true
+      or_left' true b h = refl
+      or_left' false b h = cc
+
+  -- the records kept, once the transaction has committed
+  abbrev with_new : List KeptRecord
+  with_new = take place f.records ++ map (with_dependencies t) (drop place f.records)
+
+  kept_with_new : with_new ≡ map (kept_of (history ++ r ∷ [])) kept
+  kept_with_new =
+      (λ i. take (place_is i) (s.records i) ++ map (with_dependencies t) (drop (place_is i) (s.records i)))
+      ∙ changed_above (with_dependencies t) (kept_of history) f.oldest kept kept_numbered t.begin
+      ∙ map_same (λ p. cond (nat_lt t.begin p.commit) (with_dependencies t (kept_of history p)) (kept_of history p)) (kept_of (history ++ r ∷ [])) kept
+      (each_in (λ p. cond (nat_lt t.begin p.commit) (with_dependencies t (kept_of history p)) (kept_of history p) ≡ kept_of (history ++ r ∷ []) p) kept (λ p p_in. each p (in_filter (λ p. nat_lt f.oldest p.commit) history p p_in)))
+    where
+      each : (p : Record) → In p history → cond (nat_lt t.begin p.commit) (with_dependencies t (kept_of history p)) (kept_of history p) ≡ kept_of (history ++ r ∷ []) p
+      each p p_in = elim (cases_lt t.begin p.commit) [
+        | inl above ↦
+            let a = ap (λ b. has_read_write_in history p || b) (sym (from_new p p_in above)) ∙ sym (has_read_write_in-push history r p) in
+            let b = ap (λ b. has_read_write_out history p || b) (sym (into_new p p_in above)) ∙ sym (has_read_write_out-push history r p) in
+            ap (λ v. cond v (with_dependencies t (kept_of history p)) (kept_of history p)) (lt-ltb t.begin p.commit above)
+            ∙ (λ i. record { begin = p.begin; commit = p.commit; marks = p.reads; keys = keys_of p.writes; has_read_write_in = a i; has_read_write_out = b i })
+        | inr below ↦
+            let bb = own.begin in
+            let apart = over_not_concurrent r p (omega arith) in
+            let a = sym (or_false (has_read_write_in history p)) ∙ ap (λ b. has_read_write_in history p || b) (sym apart.0) ∙ sym (has_read_write_in-push history r p) in
+            let b = sym (or_false (has_read_write_out history p)) ∙ ap (λ b. has_read_write_out history p || b) (sym apart.1) ∙ sym (has_read_write_out-push history r p) in
+            ap (λ v. cond v (with_dependencies t (kept_of history p)) (kept_of history p)) (le-ltb t.begin p.commit below)
+            ∙ (λ i. record { begin = p.begin; commit = p.commit; marks = p.reads; keys = keys_of p.writes; has_read_write_in = a i; has_read_write_out = b i })
+      ]
+
+  own_kept : own_record records t (f.last + 1) ≡ kept_of (history ++ r ∷ []) r
+  own_kept = sym (λ i. record { begin = own.begin i; commit = own.commit i; marks = own.reads i; keys = keys_of (own.writes i); has_read_write_in = own_in i; has_read_write_out = own_out i })
+
+  all_kept : with_new ++ own_record records t (f.last + 1) ∷ [] ≡ kept_above f.oldest (history ++ r ∷ [])
+  all_kept =
+      (λ i. kept_with_new i ++ own_kept i ∷ [])
+      ∙ sym (map-append (kept_of (history ++ r ∷ [])) kept (r ∷ []))
+      ∙ ap (λ rs. map (kept_of (history ++ r ∷ [])) (kept ++ rs)) (sym new_is_kept)
+      ∙ ap (map (kept_of (history ++ r ∷ []))) (sym (filter-append (λ p. nat_lt f.oldest p.commit) history (r ∷ [])))
+    where
+      new_is_kept : filter (λ p. nat_lt f.oldest p.commit) (r ∷ []) ≡ r ∷ []
+      new_is_kept = ap (λ b. cond b (r ∷ []) []) (lt-ltb f.oldest r.commit (let c = own.commit in let a = reach.held in let b = reach.begun in omega arith))
+
+  pub stands_for : verdict history r ≡ None → StandsFor (record { records = with_new ++ own_record records t (f.last + 1) ∷ []; oldest = f.oldest; last = f.last + 1 }) (history ++ r ∷ [])
+  stands_for clear =
+      let free = clear_from history r clear in record {
+        numbered = (let l = s.last in let c = own.commit in numbered-append 0 history r s.numbered (omega arith));
+        begun = All-from_recursion (λ u. u.begin < u.commit) (history ++ r ∷ []) (each_in (λ u. u.begin < u.commit) (history ++ r ∷ []) (λ u u_in. elim (in_append_cases history r u u_in) [
+          | inl g ↦ All-contains (λ u. u.begin < u.commit) history u s.begun (Contains-from_in history u g)
+          | inr e ↦ subst (λ (u : Record). u.begin < u.commit) (sym e) (let b = own.begin in let c = own.commit in let h = reach.begun in omega arith)
+        ]));
+        no_pivot = (λ p p_in. elim (in_append_cases history r p (in_from_Contains (history ++ r ∷ []) p p_in)) [
+          | inl g ↦ false_from_ne_true _ (free.others p g)
+          | inr e ↦ ap (is_pivot (history ++ r ∷ [])) e ∙ free.self
+        ]);
+        last = (let l = s.last in omega (arith, length-append history (r ∷ [])));
+        records = all_kept;
+      }
+
+-- the records kept before, once the transaction has committed
+abbrev pub after_note : Facts → View → List KeptRecord
+after_note f t = let place = length f.records - (f.last - t.begin) in take place f.records ++ map (with_dependencies t) (drop place f.records)
+
+-- the transaction commits as number n
+pub notes : (f : Facts) (history : List Record) → StandsFor f history → (t : View) → IsInReach f t → (n : ℕ) → n ≡ f.last + 1 → (r : Record) → IsRecordOf t n r → IsClear f t
+    → StandsFor (record { records = after_note f t ++ own_record (since f t.begin) t n ∷ []; oldest = f.oldest; last = n }) (history ++ r ∷ [])
+notes f history s t reach n next r own clear =
+    let own' : IsRecordOf t (f.last + 1) r = subst (λ m. IsRecordOf t m r) next own in
+    subst (λ m. StandsFor (record { records = after_note f t ++ own_record (since f t.begin) t m ∷ []; oldest = f.oldest; last = m }) (history ++ r ∷ [])) (sym next)
+    (stands_for f history s t reach r own' (clear history s r own'))
+
+-- ---- forgetting
+
+pub filter-map : {A B : Type 0} (p : B → Bool) (v : A → B) (xs : List A) → filter p (map v xs) ≡ map v (filter (λ x. p (v x)) xs)
+filter-map p v [] = refl
+filter-map p v (x ∷ xs) = elim (p (v x)) as (λ b. cond b (v x ∷ filter p (map v xs)) (filter p (map v xs)) ≡ map v (cond b (x ∷ filter (λ x. p (v x)) xs) (filter (λ x. p (v x)) xs))) [
+  | true ↦ ap (λ ys. v x ∷ ys) (filter-map p v xs)
+  | false ↦ filter-map p v xs
+]
+
+pub forgets : (f : Facts) (history : List Record) (oldest : ℕ) → StandsFor f history
+    → StandsFor (record { records = filter (λ k. nat_lt oldest k.commit) f.records; oldest = max f.oldest oldest; last = f.last }) history
+forgets f history oldest s = record {
+  numbered = s.numbered;
+  begun = s.begun;
+  no_pivot = s.no_pivot;
+  last = s.last;
+  records = ap (filter (λ k. nat_lt oldest k.commit)) s.records
+      ∙ filter-map (λ k. nat_lt oldest k.commit) (kept_of history) (filter (λ p. nat_lt f.oldest p.commit) history)
+      ∙ ap (map (kept_of history)) (filter_filter f.oldest oldest history);
+}

@@ -1,0 +1,4 @@
+pub mod Lists
+pub mod Histories
+pub mod Rising
+pub mod Above

@@ -1,0 +1,90 @@
+-- What is kept of committed transactions, so that a commit can be checked once older ones are forgotten.
+use Rattle.std.specs.Prelude.{◌≡◌, ℕ, ◌<◌, ◌≤◌, Bool, ◌&&◌, ◌||◌, List, Option, Some, None, map, length, drop, ◌-◌}
+use Rattle.std.specs.List.{list_any, AllByRecursion}
+use Rattle.model.specs.Map.{Bytes, KeyWrite, is_same_key}
+use Rattle.model.specs.PrivateCopy.{Mark, is_covered}
+use Rattle.snapshot.specs.View.{View}
+
+-- what is kept of a committed transaction: the marks of what it read, the keys that it wrote by rising key, and whether a
+-- concurrent read-write dependency leads to it, and from it
+pub record KeptRecord : Type 0 where
+  pub begin : ℕ
+  pub commit : ℕ
+  pub marks : List Mark
+  pub keys : List Bytes
+  pub has_read_write_in : Bool
+  pub has_read_write_out : Bool
+
+-- the records with a commit number above `oldest`, in the order of their commits, and the last commit number
+pub record Facts : Type 0 where
+  pub records : List KeptRecord
+  pub oldest : ℕ
+  pub last : ℕ
+
+abbrev pub key_of : KeyWrite → Bytes
+key_of w = w.0
+
+abbrev pub keys_of : List KeyWrite → List Bytes
+keys_of ws = map key_of ws
+
+-- the records that committed after `begin`: the commit numbers of the records kept are the last ones, without gaps
+abbrev pub since : Facts → ℕ → List KeptRecord
+since f begin = drop (length f.records - (f.last - begin)) f.records
+
+-- whether one of the records has written the key
+abbrev pub is_written : List KeptRecord → Bytes → Bool
+is_written rs k = list_any (λ r. list_any (is_same_key k) r.keys) rs
+
+-- whether a read-write dependency leads from the concurrent record to the transaction that commits next
+abbrev pub leads_to : KeptRecord → View → Bool
+leads_to r t = list_any (is_covered r.marks) (keys_of t.writes)
+
+-- whether one leads from that transaction to the concurrent record
+abbrev pub follows : KeptRecord → View → Bool
+follows r t = list_any (is_covered t.marks) r.keys
+
+-- whether the concurrent record is a pivot once the transaction has committed
+abbrev pub becomes_pivot : View → KeptRecord → Bool
+becomes_pivot t r = (r.has_read_write_in || follows r t) && (r.has_read_write_out || leads_to r t)
+
+-- the first of two numbers that may be there
+abbrev pub first_of : Option ℕ → Option ℕ → Option ℕ
+first_of None o = o
+first_of (Some n) o = Some n
+
+-- the concurrent record once the transaction has committed
+abbrev pub with_dependencies : View → KeptRecord → KeptRecord
+with_dependencies t r = record r { has_read_write_in = r.has_read_write_in || follows r t; has_read_write_out = r.has_read_write_out || leads_to r t }
+
+-- the transaction's own record, where the records are those that are concurrent
+abbrev pub own_record : List KeptRecord → View → ℕ → KeptRecord
+own_record rs t n = record {
+  begin = t.begin;
+  commit = n;
+  marks = t.marks;
+  keys = keys_of t.writes;
+  has_read_write_in = list_any (λ r. leads_to r t) rs;
+  has_read_write_out = list_any (λ r. follows r t) rs;
+}
+
+-- the records committed after that number
+abbrev pub AreAbove : ℕ → List KeptRecord → Type 0
+AreAbove oldest rs = AllByRecursion (λ r. oldest < r.commit) rs
+
+-- a transaction that may ask: it began with a commit number that was given, and with none that was forgotten
+pub record IsInReach (f : Facts) (t : View) : Type 0 where
+  pub begun : t.begin ≤ f.last
+  pub held : f.oldest ≤ t.begin
+
+-- the memory that was made ready: free places for records, and the marks and keys of a record
+pub record Room : Type 0 where
+  pub places : ℕ
+  pub ready : Option (List Mark × List Bytes)
+
+-- there is room for the transaction's record
+abbrev pub HasRoom : Room → View → Type 0
+HasRoom room t = (0 < room.places) × (room.ready ≡ Some (t.marks, keys_of t.writes))
+
+pub record CommittedValue : Type 0 where
+  pub facts : Facts
+  pub room : Room

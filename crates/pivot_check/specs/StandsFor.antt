@@ -1,0 +1,71 @@
+-- The histories for which what is kept stands, and what the check of a commit says about them.
+use Rattle.std.specs.Prelude.{◌≡◌, ℕ, ◌<◌, ◌+◌, Bool, true, false, List, Option, Some, None, map, nat_lt, length, All, slice_get, ⊤}
+use Rattle.std.specs.List.{list_any, filter}
+use Rattle.model.specs.declared.refusals.Refusal.{Refusal}
+use Rattle.model.specs.declared.refusals.Refusal.TheVariants as refusal
+use Rattle.pivot_check.specs.declared.verdict.Verdict.{Verdict}
+use Rattle.pivot_check.specs.declared.verdict.Verdict.TheVariants.{Clear, Overwritten, PivotSelf, Pivot}
+use Rattle.model.specs.Map.{KeyWrite}
+use Rattle.model.specs.History.{Record, IsNumberedFrom}
+use Rattle.model.specs.Dependency.{concurrent_read_write}
+use Rattle.model.specs.Verdict.{verdict, HasNoPivot}
+use Rattle.snapshot.specs.View.{View}
+use Rattle.pivot_check.specs.Kept.{KeptRecord, Facts, keys_of}
+
+-- what is kept of a record of the history, the whole of which decides its flags
+abbrev pub kept_of : List Record → Record → KeptRecord
+kept_of history r = record {
+  begin = r.begin;
+  commit = r.commit;
+  marks = r.reads;
+  keys = keys_of r.writes;
+  has_read_write_in = list_any (λ x. concurrent_read_write x r) history;
+  has_read_write_out = list_any (λ y. concurrent_read_write r y) history;
+}
+
+-- what is kept of the history: its records with a commit number above `oldest`
+abbrev pub kept_above : ℕ → List Record → List KeptRecord
+kept_above oldest history = map (kept_of history) (filter (λ r. nat_lt oldest r.commit) history)
+
+-- what is kept stands for the history
+pub record StandsFor (f : Facts) (history : List Record) : Type 0 where
+  pub numbered : IsNumberedFrom 0 history
+  pub begun : All (λ r. r.begin < r.commit) history
+  pub no_pivot : HasNoPivot history
+  pub last : f.last ≡ length history
+  pub records : f.records ≡ kept_above f.oldest history
+
+-- the record of the transaction that commits as number n
+pub record IsRecordOf (t : View) (n : ℕ) (r : Record) : Type 0 where
+  pub begin : r.begin ≡ t.begin
+  pub commit : r.commit ≡ n
+  pub reads : r.reads ≡ t.marks
+  pub writes : r.writes ≡ t.writes
+
+-- what the answer says of the writes is the conflict
+abbrev pub Says : Verdict → List KeyWrite → Option Refusal → Type 0
+Says Clear ws conflict = conflict ≡ None
+Says (Overwritten i) ws conflict = (w : KeyWrite) × (slice_get ws i ≡ Some w) × (conflict ≡ Some (refusal.Overwritten w.0))
+Says PivotSelf ws conflict = conflict ≡ Some refusal.PivotSelf
+Says (Pivot n) ws conflict = conflict ≡ Some (refusal.Pivot n)
+
+-- an overwritten key has a place among the writes
+abbrev pub IsPlaced : Verdict → List KeyWrite → Type 0
+IsPlaced (Overwritten i) ws = i < length ws
+IsPlaced Clear ws = ⊤
+IsPlaced PivotSelf ws = ⊤
+IsPlaced (Pivot n) ws = ⊤
+
+-- what is answered where the transaction overwrites no concurrent commit: is it a pivot itself, and which other one is the first
+abbrev pub verdict_found : Bool → Option ℕ → Verdict
+verdict_found true other = PivotSelf
+verdict_found false None = Clear
+verdict_found false (Some n) = Pivot n
+
+-- the answer is the verdict over each history that is stood for
+abbrev pub IsVerdict : Facts → View → Verdict → Type 0
+IsVerdict f t answer = (history : List Record) → StandsFor f history → (r : Record) → IsRecordOf t (f.last + 1) r → Says answer t.writes (verdict history r)
+
+-- over each of them the transaction may commit
+abbrev pub IsClear : Facts → View → Type 0
+IsClear f t = (history : List Record) → StandsFor f history → (r : Record) → IsRecordOf t (f.last + 1) r → verdict history r ≡ None

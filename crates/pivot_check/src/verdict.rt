@@ -1,0 +1,15 @@
+//! The answer to a commit.
+
+/// Whether a transaction may commit, and what it is refused for.
+#[derive(Clone, Copy, Debug, PartialEq, Eq)]
+pub enum Verdict {
+    /// It may commit.
+    Clear,
+    /// A transaction that committed since it began has written a key that it wrote too. The number is the place of the least
+    /// such key among its entries.
+    Overwritten(usize),
+    /// It would be a pivot.
+    PivotSelf,
+    /// It would make this committed transaction a pivot: the one of least commit number.
+    Pivot(u64),
+}

@@ -1,0 +1,43 @@
+//! Why a call gives up.
+use model::Refusal;
+use std::alloc::{AllocError, AllocFailed};
+
+/// Why a call gives up. After `Memory` nothing has changed.
+#[derive(Drop)]
+pub enum EngineFault {
+    Refused(Refusal),
+    Memory,
+}
+
+impl From<model::Memory> for EngineFault {
+    ghost use Rattle.std.specs.Prelude.{◌≡◌};
+    ghost use Rattle.plain_engine.specs.declared.faults.EngineFault.TheVariants.{Memory};
+
+    ghost from_gives = { λ _ e. e ≡ Memory };
+
+    fn from(_memory: model::Memory) -> EngineFault {
+        EngineFault::Memory
+    }
+}
+
+impl From<AllocError> for EngineFault {
+    ghost use Rattle.std.specs.Prelude.{◌≡◌};
+    ghost use Rattle.plain_engine.specs.declared.faults.EngineFault.TheVariants.{Memory};
+
+    ghost from_gives = { λ _ e. e ≡ Memory };
+
+    fn from(_error: AllocError) -> EngineFault {
+        EngineFault::Memory
+    }
+}
+
+impl<T: Drop> From<AllocFailed<T>> for EngineFault {
+    ghost use Rattle.std.specs.Prelude.{◌≡◌};
+    ghost use Rattle.plain_engine.specs.declared.faults.EngineFault.TheVariants.{Memory};
+
+    ghost from_gives = { λ _ e. e ≡ Memory };
+
+    fn from(_error: AllocFailed<T>) -> EngineFault {
+        EngineFault::Memory
+    }
+}

@@ -1,0 +1,54 @@
+//! A line is a session's label and the words of one request, parted by spaces. The word `""` stands for the empty part.
+use model::Memory;
+use std::alloc::Global;
+
+/// The session of a line, 0 where the label is no number, and the frame of its request. `Memory` where it is refused.
+pub fn frame_of(alloc: Global, line: &str) -> Result<(u64, Vec<u8>), Memory> {
+    let mut words = Vec::new(alloc);
+    for word in line.split_whitespace() {
+        words.push(word)?;
+    }
+    let mut frame = Vec::new(alloc);
+    let Some((label, parts)) = words.split_first() else {
+        return Ok((0, frame));
+    };
+    append_count(alloc, &mut frame, b"*", parts.len())?;
+    for part in parts {
+        let bytes: &[u8] = if *part == "\"\"" {
+            b""
+        } else {
+            part.as_bytes()
+        };
+        append_count(alloc, &mut frame, b"$", bytes.len())?;
+        frame.extend_from_slice(bytes)?;
+        frame.extend_from_slice(b"\r\n")?;
+    }
+    Ok((label.parse::<u64>().unwrap_or(0), frame))
+}
+
+fn append_count(
+    alloc: Global,
+    frame: &mut Vec<u8>,
+    mark: &[u8],
+    count: usize,
+) -> Result<(), Memory> {
+    let digits = format!(in alloc; "{count}")?;
+    frame.extend_from_slice(mark)?;
+    frame.extend_from_slice(digits.as_bytes())?;
+    frame.extend_from_slice(b"\r\n")?;
+    Ok(())
+}
+
+/// A reply's text as one line: its last line end is dropped, and each other one is a space. `Memory` where it is refused.
+pub fn shown(alloc: Global, reply: &[u8]) -> Result<Vec<u8>, Memory> {
+    let mut line = Vec::new(alloc);
+    for byte in reply {
+        match *byte {
+            b'\r' => {}
+            b'\n' => line.push(b' ')?,
+            other => line.push(other)?,
+        }
+    }
+    line.pop();
+    Ok(line)
+}

@@ -1,0 +1,344 @@
+-- A transaction's writes and marks against its private copy.
+use Rattle.std.proofs.Common.{◌≡◌, ◌≢◌, ℕ, suc, ◌+◌, ◌<◌, ◌≤◌, Bool, true, false, T, not, cond, ◌&&◌, ◌||◌, List, [], ◌∷◌, ◌++◌, length, Option, Some, None, Result, Ok, Err, refl, sym, ap, subst, ◌∙◌, arith, inl, inr}
+use Rattle.std.specs.Prelude.{nat_lt, is_some, IsTrue, ◌↔◌, IfOk, option_copied, if◌then◌else◌}
+use Rattle.std.specs.Borrow.{Bor}
+use Rattle.std.specs.List.{AllByRecursion, list_any}
+use Rattle.std.specs.BTreeSet.{insert_key}
+use Rattle.std.specs.declared.cmp.Ordering.{Ordering}
+use Rattle.std.specs.declared.cmp.Ordering.TheVariants.{Less, Equal, Greater}
+use Rattle.std.specs.Ordering.{is_eq, is_lt, nat_cmp, match_ordering}
+use Rattle.std.specs.Cmp.Lexicographic.{slice_cmp, nat_list_cmp_total}
+use Rattle.std.specs.FinMap.Entries.{find, put, is_sorted, below_all, by_order, find-put, is_sorted-put}
+use Rattle.std.proofs.lemmas.Bool.{both_ways, cases_Bool, lt-ltb, le-ltb, ltb-true, ltb-false}
+use Rattle.std.proofs.lemmas.Map.Lookups.{exact_bytes}
+use Rattle.model.specs.declared.refusals.Refusal.TheVariants as refusal
+use Rattle.model.specs.Map.{Bytes, KeyMap, KeyWrite, IsMap, key_cmp, is_same_key, value_at, after_write, after_writes}
+use Rattle.model.specs.Operations.{Operation, Response}
+use Rattle.model.specs.Operations.Operation.{Get, Set, Del}
+use Rattle.model.specs.Operations.Response.{Done, Value, Refused}
+use Rattle.model.specs.PrivateCopy.{PrivateCopy, Mark, copy_of, copy_after, respond, answer, after_read, is_written, is_same_mark, reads, writes, values_at, after_put as copy_put}
+use Rattle.model.specs.PrivateCopy.Mark.{OfKey}
+use Rattle.model.proofs.Lookups.{same_key, same_key_comm, same_key_itself, same_map, value_after_write, IsMap-after_write, IsMap-after_writes}
+use Rattle.model.proofs.Steps.{copy_after-push}
+use Rattle.marks.specs.Marked.{has_mark, is_full_for, with_mark}
+use Rattle.write_buffer.specs.Buffered as buffer
+use Rattle.write_buffer.specs.Buffered.{AreEntries, written, with_write}
+use Rattle.snapshot.specs.declared.faults.SnapshotFault.{SnapshotFault}
+use Rattle.snapshot.specs.declared.faults.SnapshotFault.TheVariants.{FullWrites, FullMarks, Memory}
+use Rattle.snapshot.specs.View.{View, new_view, or_else, value_read, after_get, after_put, keys_of, copy_held, is_full_get, marked}
+use Rattle.snapshot.specs.Made.{HasMade, MakesOneMore, IsValueReply, IsDoneReply, IsFault, is_refused}
+use Rattle.write_buffer.specs.declared.faults.WritesFault as faults
+use Rattle.write_buffer.specs.declared.faults.WritesFault.TheVariants as writes_fault
+use Rattle.std.specs.Prelude.{OnOk, OnErr}
+use Rattle.versions.specs.Chains.{ChainsValue}
+use Rattle.versions.specs.Meaning.{map_seen}
+
+-- ---- lookups over writes
+
+parts : (a b : Bool) → T (a && b) → T a × T b
+parts true b h = (tt, h)
+parts false b h = absurd h
+
+less_not_equal : (o : Ordering) → T (is_lt o) → is_eq o ≡ false
+less_not_equal Less h = refl
+less_not_equal Equal h = absurd h
+less_not_equal Greater h = absurd h
+
+pub none_above : {X : Type 0} (k : Bytes) (es : List (Bytes × X)) → T (below_all (slice_cmp nat_cmp) k es) → find (slice_cmp nat_cmp) k es ≡ None
+none_above k [] h = refl
+none_above k (e ∷ es) h = let p = parts _ _ h in ap (λ b. cond b (Some e.1) (find (slice_cmp nat_cmp) k es)) (less_not_equal _ p.0) ∙ none_above k es p.1
+
+-- what the map has at a key after the writes
+pub value_held : (ws : List KeyWrite) (m : KeyMap) (q : Bytes) → T (is_sorted (slice_cmp nat_cmp) ws) → value_at (after_writes m ws) q ≡ or_else (written ws q) (value_at m q)
+value_held [] m q h = refl
+value_held (w ∷ ws) m q h =
+    let p = parts _ _ h in
+    value_held ws (after_write m w.0 w.1) q p.1 ∙ ap (or_else (written ws q)) (value_after_write m w.0 w.1 q)
+    ∙ elim (is_same_key q w.0) as (λ b. is_same_key q w.0 ≡ b → or_else (written ws q) (cond b w.1 (value_at m q)) ≡ or_else (cond b (Some w.1) (written ws q)) (value_at m q)) [
+      | true ↦ λ t. ap (λ o. or_else o w.1) (ap (written ws) (same_key q w.0 t) ∙ none_above w.0 ws p.0)
+      | false ↦ λ t. refl
+    ] refl
+
+pub any_keys : (k : Bytes) (ws : List KeyWrite) → list_any (is_same_key k) (keys_of ws) ≡ is_some (written ws k)
+any_keys k [] = refl
+any_keys k (w ∷ ws) = elim (is_same_key k w.0) as (λ b. (b || list_any (is_same_key k) (keys_of ws)) ≡ is_some (cond b (Some w.1) (written ws k))) [ true ↦ refl | false ↦ any_keys k ws ]
+
+pub length-keys_of : (ws : List KeyWrite) → length (keys_of ws) ≡ length ws
+length-keys_of [] = refl
+length-keys_of (w ∷ ws) = ap (λ n. suc n) (length-keys_of ws)
+
+keys-put : (k : Bytes) (v : Option Bytes) (ws : List KeyWrite) → keys_of (put (slice_cmp nat_cmp) k v ws) ≡ insert_key (slice_cmp nat_cmp) (keys_of ws) k
+keys-put k v [] = refl
+keys-put k v (w ∷ ws) = elim (key_cmp k w.0) as (λ o. keys_of (by_order o ((k, v) ∷ w ∷ ws) ((w.0, v) ∷ ws) (w ∷ put (slice_cmp nat_cmp) k v ws)) ≡ match_ordering o (k ∷ w.0 ∷ keys_of ws) (w.0 ∷ keys_of ws) (w.0 ∷ insert_key (slice_cmp nat_cmp) (keys_of ws) k)) [
+  | Less ↦ refl
+  | Equal ↦ refl
+  | Greater ↦ ap (λ l. w.0 ∷ l) (keys-put k v ws)
+]
+
+keys-put_same : (k : Bytes) (v : Option Bytes) (ws : List KeyWrite) → T (is_sorted (slice_cmp nat_cmp) ws) → is_some (written ws k) ≡ true → keys_of (put (slice_cmp nat_cmp) k v ws) ≡ keys_of ws
+keys-put_same k v [] h e = absurd (both_ways _ refl e)
+keys-put_same k v (w ∷ ws) h e =
+    let p = parts _ _ h in
+    elim (key_cmp k w.0) as (λ o. key_cmp k w.0 ≡ o → is_some (cond (is_eq o) (Some w.1) (written ws k)) ≡ true → keys_of (by_order o ((k, v) ∷ w ∷ ws) ((w.0, v) ∷ ws) (w ∷ put (slice_cmp nat_cmp) k v ws)) ≡ w.0 ∷ keys_of ws) [
+      | Less ↦ λ o t. absurd (both_ways _ (ap is_some (none_above k ws (lower k w.0 ws o p.0))) t)
+      | Equal ↦ λ o t. refl
+      | Greater ↦ λ o t. ap (λ l. w.0 ∷ l) (keys-put_same k v ws p.1 t)
+    ] refl e
+  where
+    both : (a b : Bool) → T a → T b → T (a && b)
+    both true b x y = y
+    both false b x y = x
+
+    less : (o : Ordering) → T (is_lt o) → o ≡ Less
+    less Less x = refl
+    less Equal x = absurd x
+    less Greater x = absurd x
+
+    lower : (j i : Bytes) (us : List KeyWrite) → key_cmp j i ≡ Less → T (below_all (slice_cmp nat_cmp) i us) → T (below_all (slice_cmp nat_cmp) j us)
+    lower j i [] o x = tt
+    lower j i (u ∷ us) o x = let y = parts _ _ x in both _ _ (subst (λ r. T (is_lt r)) (sym (nat_list_cmp_total.trans j i u.0 o (less _ y.0))) tt) (lower j i us o y.1)
+
+through : (b : Bool) (w : Option Bytes) (o : Option (Option Bytes)) (v : Option Bytes) → or_else (cond b (Some w) o) v ≡ cond b w (or_else o v)
+through true w o v = refl
+through false w o v = refl
+
+pub contents-put : (m : KeyMap) (k : Bytes) (v : Option Bytes) (ws : List KeyWrite) → IsMap m → T (is_sorted (slice_cmp nat_cmp) ws) → after_writes m (put (slice_cmp nat_cmp) k v ws) ≡ after_write (after_writes m ws) k v
+contents-put m k v ws h s = same_map (after_writes m (put (slice_cmp nat_cmp) k v ws)) (after_write (after_writes m ws) k v)
+    (IsMap-after_writes m (put (slice_cmp nat_cmp) k v ws) h) (IsMap-after_write (after_writes m ws) k v (IsMap-after_writes m ws h))
+    (λ q. value_held (put (slice_cmp nat_cmp) k v ws) m q (is_sorted-put (slice_cmp nat_cmp) nat_list_cmp_total k v ws s)
+    ∙ ap (λ o. or_else o (value_at m q)) (find-put (slice_cmp nat_cmp) nat_list_cmp_total q k v ws)
+    ∙ through (is_same_key q k) v (written ws q) (value_at m q)
+    ∙ ap (cond (is_same_key q k) v) (sym (value_held ws m q s))
+    ∙ sym (value_after_write (after_writes m ws) k v q))
+
+-- ---- what a read, a read of a key and a write give, by what is there and what fits
+
+abbrev pub read_out : View → KeyMap → Mark → Response → Bool → Bool → Response × PrivateCopy
+read_out t m mark response there few = if there then (response, copy_held t m) else (if few then (response, record (copy_held t m) { marks = t.marks ++ mark ∷ [] }) else (Refused refusal.FullMarks, copy_held t m))
+
+abbrev pub get_out : View → KeyMap → Bytes → Bool → Response × PrivateCopy
+get_out t m k there = if there then (Value (value_at (after_writes m t.writes) k), copy_held t m) else after_read (copy_held t m) (OfKey k) (Value (value_at (after_writes m t.writes) k))
+
+abbrev pub put_out : View → KeyMap → Bytes → Option Bytes → Bool → Bool → Response × PrivateCopy
+put_out t m k v there few = if there then (Done, record (copy_held t m) { contents = after_write (after_writes m t.writes) k v }) else (if few then (Done, record (copy_held t m) { contents = after_write (after_writes m t.writes) k v; written = insert_key (slice_cmp nat_cmp) (keys_of t.writes) k }) else (Refused refusal.FullWrites, copy_held t m))
+
+-- ---- a mark
+
+negated : (b : Bool) → not b ≡ false → b ≡ true
+negated true e = refl
+negated false e = absurd (both_ways true e refl)
+
+negated_true : (b : Bool) → not b ≡ true → b ≡ false
+negated_true true e = absurd (both_ways false refl e)
+negated_true false e = refl
+
+pub marked_as : (t : View) (m : KeyMap) (mark : Mark) (response : Response) → is_full_for t.marks mark ≡ false → after_read (copy_held t m) mark response ≡ (response, copy_held (marked t mark) m)
+marked_as t m mark response e = elim (has_mark t.marks mark) as (λ b. (not b && not (nat_lt (length t.marks) 256)) ≡ false →
+    ◌≡◌ {A = Response × PrivateCopy} (read_out t m mark response b (nat_lt (length t.marks) 256)) (response, record { contents = after_writes m t.writes; written = keys_of t.writes; marks = if b then t.marks else t.marks ++ mark ∷ [] })) [
+      | true ↦ λ f. refl
+      | false ↦ λ f. ap (λ (b : Bool). read_out t m mark response false b) (negated (nat_lt (length t.marks) 256) f)
+    ] e
+
+pub refused_as : (t : View) (m : KeyMap) (mark : Mark) (response : Response) → is_full_for t.marks mark ≡ true → (after_read (copy_held t m) mark response).0 ≡ Refused refusal.FullMarks
+refused_as t m mark response e = elim (has_mark t.marks mark) as (λ b. (not b && not (nat_lt (length t.marks) 256)) ≡ true →
+    (read_out t m mark response b (nat_lt (length t.marks) 256)).0 ≡ Refused refusal.FullMarks) [
+      | true ↦ λ f. absurd (both_ways false refl f)
+      | false ↦ λ f. ap (λ (b : Bool). (read_out t m mark response false b).0) (negated_true (nat_lt (length t.marks) 256) f)
+    ] e
+
+-- ---- a read of a key
+
+module _ (t : View) (m : KeyMap) (k : Bytes) (h : AreEntries t.writes) where
+  value_is : value_at (after_writes m t.writes) k ≡ value_read t m k
+  value_is = value_held t.writes m k h.sorted
+
+  -- a mark for which there is room
+  marking : (response : Response) → is_full_for t.marks (OfKey k) ≡ false → after_read (copy_held t m) (OfKey k) response ≡ (response, copy_held (marked t (OfKey k)) m)
+  marking response e = marked_as t m (OfKey k) response e
+
+  pub respond-get : is_full_get t k ≡ false → respond (copy_held t m) (Get k) ≡ (Value (value_read t m k), copy_held (after_get t k) m)
+  respond-get e =
+      ap (λ (b : Bool). get_out t m k b) (any_keys k t.writes)
+      ∙ elim (is_some (written t.writes k)) as (λ b. (not b && is_full_for t.marks (OfKey k)) ≡ false →
+      ◌≡◌ {A = Response × PrivateCopy} (get_out t m k b) (Value (value_at (after_writes m t.writes) k), copy_held (if b then t else marked t (OfKey k)) m)) [
+        | true ↦ λ f. refl
+        | false ↦ λ f. marking (Value (value_at (after_writes m t.writes) k)) f
+      ] e
+      ∙ ap (λ (v : Option Bytes). (Value v, copy_held (after_get t k) m)) value_is
+
+  pub respond-get_full : is_full_get t k ≡ true → (respond (copy_held t m) (Get k)).0 ≡ Refused refusal.FullMarks
+  respond-get_full e =
+      ap (λ (b : Bool). (get_out t m k b).0) (any_keys k t.writes)
+      ∙ elim (is_some (written t.writes k)) as (λ b. (not b && is_full_for t.marks (OfKey k)) ≡ true → (get_out t m k b).0 ≡ Refused refusal.FullMarks) [
+        | true ↦ λ f. absurd (both_ways false refl f)
+        | false ↦ λ f. refused_as t m (OfKey k) (Value (value_at (after_writes m t.writes) k)) f
+      ] e
+
+-- ---- a write of a key
+
+module _ (t : View) (m : KeyMap) (k : Bytes) (v : Option Bytes) (h : AreEntries t.writes) where
+  pub respond-put : IsMap m → buffer.is_full_for t.writes k ≡ false → copy_put (copy_held t m) k v ≡ (Done, copy_held (after_put t k v) m)
+  respond-put is_map e =
+      let contents = contents-put m k v t.writes is_map h.sorted in
+      ap (λ (b : Bool). put_out t m k v b (nat_lt (length (keys_of t.writes)) 64)) (any_keys k t.writes)
+      ∙ elim (is_some (written t.writes k)) as (λ b. is_some (written t.writes k) ≡ b → (not b && not (nat_lt (length t.writes) 64)) ≡ false →
+      ◌≡◌ {A = Response × PrivateCopy} (put_out t m k v b (nat_lt (length (keys_of t.writes)) 64)) (Done, copy_held (after_put t k v) m)) [
+        | true ↦ λ w f. λ i. (Done, record { contents = sym contents i; written = sym (keys-put_same k v t.writes h.sorted w) i; marks = t.marks })
+        | false ↦ λ w f. ap (λ (b : Bool). put_out t m k v false b)
+            (ap (λ n. nat_lt n 64) (length-keys_of t.writes) ∙ negated (nat_lt (length t.writes) 64) f)
+            ∙ λ i. (Done, record { contents = sym contents i; written = sym (keys-put k v t.writes) i; marks = t.marks })
+      ] refl e
+
+  pub respond-put_full : buffer.is_full_for t.writes k ≡ true → (copy_put (copy_held t m) k v).0 ≡ Refused refusal.FullWrites
+  respond-put_full e =
+      ap (λ (b : Bool). (put_out t m k v b (nat_lt (length (keys_of t.writes)) 64)).0) (any_keys k t.writes)
+      ∙ elim (is_some (written t.writes k)) as (λ b. (not b && not (nat_lt (length t.writes) 64)) ≡ true →
+      (put_out t m k v b (nat_lt (length (keys_of t.writes)) 64)).0 ≡ Refused refusal.FullWrites) [
+        | true ↦ λ f. absurd (both_ways false refl f)
+        | false ↦ λ f. ap (λ (b : Bool). (put_out t m k v false b).0)
+            (ap (λ n. nat_lt n 64) (length-keys_of t.writes) ∙ negated_true (nat_lt (length t.writes) 64) f)
+      ] e
+
+-- ---- what the calls answer, after own requests
+
+pub answer_held : (t : View) (m : KeyMap) (qs : List Operation) (q : Operation) → HasMade t m qs → answer m qs q ≡ (respond (copy_held t m) q).0
+answer_held t m qs q h = ap (λ c. (respond c q).0) (sym h.copy)
+
+-- the fault of a read is the response, or memory was refused
+pub read_fault : (e : SnapshotFault) (full : Bool) (response : Response) → e ≢ FullWrites → (◌≡◌ {A = SnapshotFault} e FullMarks ↔ IsTrue full) → (full ≡ true → response ≡ Refused refusal.FullMarks) → (full ≡ false → is_refused response ≡ false) → IsFault e response
+read_fault FullWrites full response never iff fails other = absurd (never refl)
+read_fault FullMarks full response never iff fails other = fails (iff.0 refl)
+read_fault Memory full response never iff fails other = elim (cases_Bool full) [ inl t ↦ absurd (apart (iff.1 t)) | inr f ↦ other f ]
+  where
+    apart : ◌≡◌ {A = SnapshotFault} Memory FullMarks → ⊥
+    apart e = cc
+
+pub get-made : (t : View) (m : KeyMap) (qs : List Operation) (k : Bytes) → is_full_get t k ≡ false → HasMade t m qs → HasMade (after_get t k) m (qs ++ Get k ∷ [])
+get-made t m qs k e h = record {
+  is_map = h.is_map;
+  entries = elim (is_some (written t.writes k)) as (λ b. AreEntries (if b then t else marked t (OfKey k)).writes) [ true ↦ h.entries | false ↦ h.entries ];
+  copy = sym (ap (λ (r : Response × PrivateCopy). r.1) (respond-get t m k h.entries e)) ∙ ap (λ c. (respond c (Get k)).1) h.copy ∙ sym (copy_after-push (copy_of m) qs (Get k));
+}
+
+pub get-leaves : (t u : View) (k : Bytes) → is_full_get t k ≡ false → u ≡ after_get t k → MakesOneMore t u (Get k)
+get-leaves t u k room after = λ m qs h. subst (λ (w : View). HasMade w m (qs ++ Get k ∷ [])) (sym after) (get-made t m qs k room h)
+
+pub get-value : (t : View) (m : KeyMap) (qs : List Operation) (k : Bytes) (v : Option (Bor Bytes)) → is_full_get t k ≡ false → option_copied v ≡ value_read t m k → HasMade t m qs → answer m qs (Get k) ≡ Value (option_copied v)
+get-value t m qs k v e is h = answer_held t m qs (Get k) h ∙ ap (λ (r : Response × PrivateCopy). r.0) (respond-get t m k h.entries e) ∙ ap Value (sym is)
+
+pub get-fault : (t : View) (m : KeyMap) (qs : List Operation) (k : Bytes) (e : SnapshotFault) → e ≢ FullWrites → (◌≡◌ {A = SnapshotFault} e FullMarks ↔ IsTrue (is_full_get t k)) → HasMade t m qs → IsFault e (answer m qs (Get k))
+get-fault t m qs k e never iff h = read_fault e (is_full_get t k) (answer m qs (Get k)) never iff
+    (λ f. answer_held t m qs (Get k) h ∙ respond-get_full t m k h.entries f)
+    (λ f. ap is_refused (answer_held t m qs (Get k) h ∙ ap (λ (r : Response × PrivateCopy). r.0) (respond-get t m k h.entries f)))
+
+-- the request that writes the value, or deletes
+abbrev pub write_of : Bytes → Option Bytes → Operation
+write_of k None = Del k
+write_of k (Some v) = Set k v
+
+respond_write : (c : PrivateCopy) (k : Bytes) (v : Option Bytes) → respond c (write_of k v) ≡ copy_put c k v
+respond_write c k None = refl
+respond_write c k (Some v) = refl
+
+pub put-made : (t : View) (m : KeyMap) (qs : List Operation) (k : Bytes) (v : Option Bytes) → AreEntries (with_write t.writes k v) → buffer.is_full_for t.writes k ≡ false → HasMade t m qs → HasMade (after_put t k v) m (qs ++ write_of k v ∷ [])
+put-made t m qs k v entries e h = record {
+  is_map = h.is_map;
+  entries = entries;
+  copy = sym (ap (λ (r : Response × PrivateCopy). r.1) (respond_write (copy_held t m) k v ∙ respond-put t m k v h.entries h.is_map e)) ∙ ap (λ c. (respond c (write_of k v)).1) h.copy ∙ sym (copy_after-push (copy_of m) qs (write_of k v));
+}
+
+pub put-done : (t : View) (m : KeyMap) (qs : List Operation) (k : Bytes) (v : Option Bytes) → buffer.is_full_for t.writes k ≡ false → HasMade t m qs → answer m qs (write_of k v) ≡ Done
+put-done t m qs k v e h = answer_held t m qs (write_of k v) h ∙ ap (λ (r : Response × PrivateCopy). r.0) (respond_write (copy_held t m) k v ∙ respond-put t m k v h.entries h.is_map e)
+
+-- a call that answered Ok was not refused
+pub ok_not_full : {A E : Type 0} (r : Result A E) (x : A) (e : E) (b : Bool) → ((r ≡ Err e) ↔ IsTrue b) → r ≡ Ok x → b ≡ false
+ok_not_full {A} {E} r x e b iff is = elim (cases_Bool b) [
+  | inl t ↦ let c : ◌≡◌ {A = Result A E} (Ok x) (Err e) = sym is ∙ iff.1 t in cc
+  | inr f ↦ f
+]
+
+-- the clauses of a write, by what the buffer answered
+pub put-refused : (t : View) (m : KeyMap) (qs : List Operation) (k : Bytes) (v : Option Bytes) → buffer.is_full_for t.writes k ≡ true → HasMade t m qs → answer m qs (write_of k v) ≡ Refused refusal.FullWrites
+put-refused t m qs k v full h = answer_held t m qs (write_of k v) h ∙ ap (λ (r : Response × PrivateCopy). r.0) (respond_write (copy_held t m) k v) ∙ respond-put_full t m k v h.entries full
+
+pub put-granted : (t : View) (m : KeyMap) (qs : List Operation) (k : Bytes) (v : Option Bytes) → buffer.is_full_for t.writes k ≡ false → HasMade t m qs → is_refused (answer m qs (write_of k v)) ≡ false
+put-granted t m qs k v room h = ap is_refused (put-done t m qs k v room h)
+
+-- what the buffer answered to a write
+pub record Answered (r : Result (Unit {0}) faults.WritesFault) (old new : List KeyWrite) (k : Bytes) (v : Option Bytes) : Type 0 where
+  pub ok : OnOk r (new ≡ with_write old k v)
+  pub err : OnErr r (new ≡ old)
+  pub entries : AreEntries new
+  pub full : (r ≡ Err writes_fault.FullWrites) ↔ IsTrue (buffer.is_full_for old k)
+
+abbrev pub as_fault : Result (Unit {0}) faults.WritesFault → Result (Unit {0}) SnapshotFault
+as_fault (Ok x) = Ok x
+as_fault (Err writes_fault.FullWrites) = Err FullWrites
+as_fault (Err writes_fault.Memory) = Err Memory
+
+room_after : (r : Result (Unit {0}) faults.WritesFault) (b : Bool) → ((r ≡ Err writes_fault.FullWrites) ↔ IsTrue b) → (r ≡ Err writes_fault.FullWrites → ⊥) → b ≡ false
+room_after r b iff other = elim (cases_Bool b) [ inl t ↦ absurd (other (iff.1 t)) | inr f ↦ f ]
+
+pub write-reply : (r : Result (Unit {0}) faults.WritesFault) (t : View) (new : List KeyWrite) (m : KeyMap) (qs : List Operation) (k : Bytes) (v : Option Bytes) → Answered r t.writes new k v → HasMade t m qs → IsDoneReply (as_fault r) (answer m qs (write_of k v))
+write-reply (Ok x) t new m qs k v a h = put-done t m qs k v (room_after (Ok x) _ a.full (λ e. cc)) h
+write-reply (Err writes_fault.FullWrites) t new m qs k v a h = put-refused t m qs k v (a.full.0 refl) h
+write-reply (Err writes_fault.Memory) t new m qs k v a h = put-granted t m qs k v (room_after (Err writes_fault.Memory) _ a.full (λ e. cc)) h
+
+pub write-made : (r : Result (Unit {0}) faults.WritesFault) (t : View) (new : List KeyWrite) (k : Bytes) (v : Option Bytes) → Answered r t.writes new k v → OnOk (as_fault r) (MakesOneMore t (record t { writes = new }) (write_of k v))
+write-made (Ok x) t new k v a = λ m qs h. subst (λ ws. HasMade (record t { writes = ws }) m (qs ++ write_of k v ∷ [])) (sym a.ok) (put-made t m qs k v (subst AreEntries a.ok a.entries) (room_after (Ok x) _ a.full (λ e. cc)) h)
+write-made (Err writes_fault.FullWrites) t new k v a = tt
+write-made (Err writes_fault.Memory) t new k v a = tt
+
+pub write-full : (r : Result (Unit {0}) faults.WritesFault) (old new : List KeyWrite) (k : Bytes) (v : Option Bytes) → Answered r old new k v → (as_fault r ≡ Err FullWrites) ↔ IsTrue (buffer.is_full_for old k)
+write-full (Ok x) old new k v a = (λ e. cc, λ t. (let e : ◌≡◌ {A = Result (Unit {0}) faults.WritesFault} (Ok x) (Err writes_fault.FullWrites) = a.full.1 t in cc))
+write-full (Err writes_fault.FullWrites) old new k v a = (λ e. a.full.0 refl, λ t. refl)
+write-full (Err writes_fault.Memory) old new k v a = (λ e. cc, λ t. (let e : ◌≡◌ {A = Result (Unit {0}) faults.WritesFault} (Err writes_fault.Memory) (Err writes_fault.FullWrites) = a.full.1 t in cc))
+
+-- the mark of a read changes no answer
+pub read-after_get : (t u : View) (v : ChainsValue) (k : Bytes) → u ≡ after_get t k → value_read u (map_seen v u.begin) k ≡ value_read t (map_seen v t.begin) k
+read-after_get t u v k e = ap (λ (u : View). value_read u (map_seen v u.begin) k) e
+    ∙ elim (is_some (written t.writes k)) as (λ b. value_read (if b then t else marked t (OfKey k)) (map_seen v (if b then t else marked t (OfKey k)).begin) k ≡ value_read t (map_seen v t.begin) k) [ true ↦ refl | false ↦ refl ]
+
+pub room_of : {x : Unit {0}} {b : Bool} → ((◌≡◌ {A = Result (Unit {0}) SnapshotFault} (Ok x) (Err FullMarks)) ↔ IsTrue b) → b ≡ false
+room_of {x} {b} iff = elim (cases_Bool b) [ inl t ↦ let e = iff.1 t in cc | inr f ↦ f ]
+
+pub ok_iff : {A : Type 0} {b : Bool} (x : A) → b ≡ false → (◌≡◌ {A = Result A SnapshotFault} (Ok x) (Err FullMarks)) ↔ IsTrue b
+ok_iff {A} {b} x f = (λ e. cc, λ t. absurd (both_ways b f t))
+
+-- between faults and results that are faults
+same_fault : {A : Type 0} (e f : SnapshotFault) → ◌≡◌ {A = Result A SnapshotFault} (Err e) (Err f) → e ≡ f
+same_fault e f is = cc
+
+pub fault_iff : {e : SnapshotFault} {b : Bool} → ((◌≡◌ {A = Result (Unit {0}) SnapshotFault} (Err e) (Err FullMarks)) ↔ IsTrue b) → (e ≡ FullMarks) ↔ IsTrue b
+fault_iff {e} {b} iff = (λ is. iff.0 (ap Err is), λ t. same_fault e FullMarks (iff.1 t))
+
+pub err_iff : {A : Type 0} {e : SnapshotFault} {b : Bool} → ((◌≡◌ {A = Result (Unit {0}) SnapshotFault} (Err e) (Err FullMarks)) ↔ IsTrue b) → (◌≡◌ {A = Result A SnapshotFault} (Err e) (Err FullMarks)) ↔ IsTrue b
+err_iff {A} {e} {b} iff = (λ is. iff.0 (ap Err (same_fault e FullMarks is)), λ t. ap Err (same_fault e FullMarks (iff.1 t)))
+
+pub never_of : {e : SnapshotFault} → ((◌≡◌ {A = Result (Unit {0}) SnapshotFault} (Err e) (Err FullWrites)) → ⊥) → e ≢ FullWrites
+never_of {e} h is = h (ap Err is)
+
+-- ---- what the own requests wrote and read
+
+all_apart : (x : KeyWrite) (ws us : List KeyWrite) → T (below_all (slice_cmp nat_cmp) x.0 us) → AllByRecursion (λ w. written ws w.0 ≡ Some w.1) us → AllByRecursion (λ w. written (x ∷ ws) w.0 ≡ Some w.1) us
+all_apart x ws [] b h = tt
+all_apart x ws (u ∷ us) b h = let y = parts _ _ b in
+    (ap (λ c. cond c (Some x.1) (written ws u.0)) (same_key_comm u.0 x.0 ∙ less_not_equal _ y.0) ∙ h.0, all_apart x ws us y.1 h.1)
+
+all_written : (ws : List KeyWrite) → T (is_sorted (slice_cmp nat_cmp) ws) → AllByRecursion (λ w. written ws w.0 ≡ Some w.1) ws
+all_written [] h = tt
+all_written (x ∷ ws) h = let y = parts _ _ h in
+    (ap (λ c. cond c (Some x.1) (written ws x.0)) (same_key_itself x.0), all_apart x ws ws y.0 (all_written ws y.1))
+
+values_of : (m : KeyMap) (ws us : List KeyWrite) → T (is_sorted (slice_cmp nat_cmp) ws) → AllByRecursion (λ w. written ws w.0 ≡ Some w.1) us → us ≡ values_at (after_writes m ws) (keys_of us)
+values_of m ws [] s h = refl
+values_of m ws (u ∷ us) s h = λ i. (u.0, sym (value_held ws m u.0 s ∙ ap (λ o. or_else o (value_at m u.0)) h.0) i) ∷ values_of m ws us s h.1 i
+
+pub writes-made : (t : View) (m : KeyMap) (qs : List Operation) → HasMade t m qs → t.writes ≡ writes m qs
+writes-made t m qs h = values_of m t.writes t.writes h.entries.sorted (all_written t.writes h.entries.sorted) ∙ ap (λ (c : PrivateCopy). values_at c.contents c.written) h.copy
+
+pub reads-made : (t : View) (m : KeyMap) (qs : List Operation) → HasMade t m qs → t.marks ≡ reads m qs
+reads-made t m qs h = ap (λ (c : PrivateCopy). c.marks) h.copy
+
+pub new-made : (b : ℕ) (m : KeyMap) → IsMap m → HasMade (new_view b) m []
+new-made b m is_map = record { is_map = is_map; entries = record { sorted = tt; few = omega arith; within = tt }; copy = refl }

@@ -1,0 +1,34 @@
+use Rattle.std.proofs.Common.{◌≡◌, Ok, Err, refl, sym, ap, subst, ◌∙◌}
+use Rattle.std.specs.Prelude.{option_copied}
+use Rattle.model.specs.Map.{KeyMap}
+use Rattle.snapshot.specs.View.{View, value_read, after_get, is_full_get}
+use Rattle.versions.specs.Meaning.{map_seen}
+use Rattle.snapshot.proofs.Copies.{get-value, get-leaves, get-fault, read-after_get, err_iff, fault_iff, ok_iff, room_of, never_of}
+use Rattle.snapshot.proofs.transaction.Transaction.get.Goals as goal
+
+pub returns-in-Ok : goal.returns-in-Ok
+returns-in-Ok c =
+    let t = c.args.self.now in
+    let k = c.args.key.bytes.now in
+    let room = room_of c.in-Ok.ensures.full in (
+      (refl, λ _. tt, (c.in-Ok.ensures.ok, get-leaves t c.mark_key.new.self k room c.in-Ok.ensures.ok)),
+      record {
+        known = λ t. refl;
+        full = ok_iff c.peek.result room;
+        reply = λ m qs is h. get-value t m qs k c.peek.result room (c.peek.ensures ∙ read-after_get t c.mark_key.new.self c.args.versions.now k c.in-Ok.ensures.ok ∙ ap (λ (n : KeyMap). value_read t n k) is) h;
+        after = tt;
+      },
+    )
+
+pub returns-in-Err : goal.returns-in-Err
+returns-in-Err c =
+    let t = c.args.self.now in
+    let k = c.args.key.bytes.now in (
+      (refl, λ _. tt, c.in-Err.ensures.err),
+      record {
+        known = λ t. c.in-Err.ensures.known t;
+        full = err_iff c.in-Err.ensures.full;
+        reply = λ m qs is h. get-fault t m qs k c.in-Err.fault (never_of c.in-Err.ensures.never) (fault_iff c.in-Err.ensures.full) h;
+        after = tt;
+      },
+    )

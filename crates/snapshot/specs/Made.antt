@@ -1,0 +1,46 @@
+-- The own requests that a transaction has made, and how a call answers one more.
+use Rattle.std.specs.Prelude.{◌≡◌, Bool, true, false, List, [], ◌∷◌, ◌++◌, Option, Result, Ok, Err, option_copied, IsFalse}
+use Rattle.std.specs.Borrow.{Bor}
+use Rattle.model.specs.declared.refusals.Refusal.TheVariants as refusal
+use Rattle.model.specs.Map.{Bytes, KeyMap, IsMap}
+use Rattle.model.specs.Operations.{Operation, Response}
+use Rattle.model.specs.Operations.Operation.{Get}
+use Rattle.model.specs.Operations.Response.{Done, Value, Pairs, Refused}
+use Rattle.model.specs.PrivateCopy.{copy_of, copy_after}
+use Rattle.write_buffer.specs.Buffered.{AreEntries}
+use Rattle.snapshot.specs.declared.faults.SnapshotFault.{SnapshotFault}
+use Rattle.snapshot.specs.declared.faults.SnapshotFault.TheVariants.{FullWrites, FullMarks, Memory}
+use Rattle.snapshot.specs.View.{View, copy_held, after_get}
+
+-- the transaction stands where a private copy of m stands after the own requests qs
+pub record HasMade (t : View) (m : KeyMap) (qs : List Operation) : Type 0 where
+  pub is_map : IsMap m
+  pub entries : AreEntries t.writes
+  pub copy : copy_held t m ≡ copy_after (copy_of m) qs
+
+-- whatever own requests the transaction has made, it has now made one more
+abbrev pub MakesOneMore : View → View → Operation → Type 0
+MakesOneMore old new q = (m : KeyMap) (qs : List Operation) → HasMade old m qs → HasMade new m (qs ++ q ∷ [])
+
+abbrev pub is_refused : Response → Bool
+is_refused (Refused r) = true
+is_refused _ = false
+
+-- the fault is the response, or memory was refused where the response is none
+abbrev pub IsFault : SnapshotFault → Response → Type 0
+IsFault FullWrites response = response ≡ Refused refusal.FullWrites
+IsFault FullMarks response = response ≡ Refused refusal.FullMarks
+IsFault Memory response = IsFalse (is_refused response)
+
+abbrev pub IsValueReply : Result (Option (Bor Bytes)) SnapshotFault → Response → Type 0
+IsValueReply (Ok v) response = response ≡ Value (option_copied v)
+IsValueReply (Err e) response = IsFault e response
+
+-- what a read of the key leaves
+abbrev pub IsLeftByGet : View → Bytes → Result (Option (Bor Bytes)) SnapshotFault → View → Type 0
+IsLeftByGet old k (Ok v) new = (new ≡ after_get old k) × MakesOneMore old new (Get k)
+IsLeftByGet old k (Err e) new = new ≡ old
+
+abbrev pub IsDoneReply : {A : Type 0} → Result A SnapshotFault → Response → Type 0
+IsDoneReply (Ok v) response = response ≡ Done
+IsDoneReply (Err e) response = IsFault e response

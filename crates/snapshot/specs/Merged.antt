@@ -1,0 +1,34 @@
+-- The pairs that a range read answers: a map's pairs with the writes over them.
+use Rattle.std.specs.Prelude.{ℕ, List, [], ◌∷◌, Option, Some, None, take, Bool, not, ◌&&◌, if◌then◌else◌}
+use Rattle.marks.specs.Marked.{is_full_for}
+use Rattle.std.specs.Ordering.{nat_cmp}
+use Rattle.std.specs.Cmp.Lexicographic.{slice_cmp}
+use Rattle.std.specs.FinMap.Entries.{by_order, where_key}
+use Rattle.model.specs.Map.{Bytes, KeyMap, KeyWrite, key_cmp, is_in_range, is_empty_range, pairs_in_range}
+use Rattle.model.specs.PrivateCopy.Mark.{OfRange}
+use Rattle.snapshot.specs.View.{View, marked}
+
+abbrev pub with_value : Bytes → Option Bytes → KeyMap → KeyMap
+with_value k None ps = ps
+with_value k (Some v) ps = (k, v) ∷ ps
+
+-- the pairs with one write in its place, and then f of what is left
+abbrev pub merged_one : KeyWrite → (KeyMap → KeyMap) → KeyMap → KeyMap
+merged_one w f [] = with_value w.0 w.1 (f [])
+merged_one w f (p ∷ ps) = by_order (key_cmp w.0 p.0) (with_value w.0 w.1 (f (p ∷ ps))) (with_value w.0 w.1 (f ps)) (p ∷ merged_one w f ps)
+
+-- the pairs with the writes over them, both by rising key
+abbrev pub merged : List KeyWrite → KeyMap → KeyMap
+merged [] ps = ps
+merged (w ∷ ws) ps = merged_one w (merged ws) ps
+
+-- what a range read of the transaction over the map m answers
+abbrev pub rows_of : View → KeyMap → Bytes → Option Bytes → ℕ → KeyMap
+rows_of t m lo hi limit = take limit (merged (where_key (slice_cmp nat_cmp) (is_in_range lo hi) t.writes) (pairs_in_range m lo hi))
+
+-- the transaction after a read of the range
+abbrev pub after_range : View → Bytes → Option Bytes → View
+after_range t lo hi = if is_empty_range lo hi then t else marked t (OfRange lo hi)
+
+abbrev pub is_full_range : View → Bytes → Option Bytes → Bool
+is_full_range t lo hi = not (is_empty_range lo hi) && is_full_for t.marks (OfRange lo hi)

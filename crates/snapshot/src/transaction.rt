@@ -1,0 +1,228 @@
+//! One transaction.
+ghost use Rattle.std.specs.Prelude.{◌||◌, ◌≡◌, ◌≢◌, ◌≤◌, ◌<◌, ◌↔◌, ◌++◌, ◌∷◌, [], List, length, IsTrue, IsOk, OnOk, OnErr, Err, Some, None, option_map, option_copied, is_some, slice_index_or};
+ghost use Rattle.std.specs.Borrow.{sem};
+ghost use Rattle.std.specs.Io.BufRead.{Rests};
+ghost use Rattle.model.specs.Map.{KeyMap, KeyWrite, IsMap, is_empty_range};
+ghost use Rattle.model.specs.Operations.{Operation};
+ghost use Rattle.model.specs.Operations.Operation.{Get, Set, Del, Range};
+ghost use Rattle.model.specs.PrivateCopy.{answer, reads, writes};
+ghost use Rattle.model.specs.PrivateCopy.Mark.{OfKey, OfRange};
+ghost use Rattle.marks.specs.Marked.{has_mark};
+ghost use Rattle.write_buffer.specs.Buffered.{AreEntries, written, is_full_for};
+ghost use Rattle.versions.specs.Meaning.{map_seen};
+ghost use Rattle.snapshot.specs.View.{new_view, value_read, after_get, after_put, is_full_get};
+ghost use Rattle.snapshot.specs.Merged.{rows_of, after_range, is_full_range};
+ghost use Rattle.snapshot.specs.RowPairs.{row_pairs};
+ghost use Rattle.snapshot.specs.Made.{HasMade, MakesOneMore, IsValueReply, IsDoneReply, IsLeftByGet};
+ghost use Rattle.snapshot.specs.PairsReply.{IsPairsReply, IsLeftByRange};
+ghost use Rattle.snapshot.specs.contracts.transaction.Transaction.{the_row};
+
+use crate::faults::SnapshotFault;
+use crate::rows::Rows;
+use crate::spans::{is_empty, within};
+use marks::Marks;
+use model::{Key, KeyRef, RangeRef, VALUE_MAX, Write};
+use std::alloc::Global;
+use std::marker::Model;
+use versions::Versions;
+use write_buffer::{WriteBuffer, WritesFault, Written};
+
+/// A transaction: its begin number, its own writes, and the marks of its reads. It stands for a private copy of the map that its begin
+/// number sees, on which it has made its own requests (`HasMade`); what others commit later is nothing to it.
+#[derive(Drop)]
+pub struct Transaction {
+    begin: u64,
+    buffer: WriteBuffer,
+    marks: Marks,
+}
+
+impl Model for Transaction {
+    ghost use Rattle.write_buffer.specs.Buffered.{AreEntries};
+    ghost use Rattle.snapshot.specs.View.{View};
+
+    ghost Value = { View };
+
+    ghost view = { λ t. record { begin = t.begin; writes = t.buffer; marks = t.marks } };
+
+    ghost invariant = { λ t. AreEntries t.buffer };
+}
+
+impl Transaction {
+    /// A transaction that begins at this number and has made no request. Takes no memory.
+    pub fn new(alloc: Global, begin: u64) -> Transaction
+        ensures new { result ≡ new_view begin }
+        ensures made { (m : KeyMap) → IsMap m → HasMade result m [] }
+    {
+        Transaction {
+            begin,
+            buffer: WriteBuffer::new(alloc),
+            marks: Marks::new(alloc),
+        }
+    }
+
+    /// The number at which it began.
+    pub fn begin(&self) -> u64
+        ensures { result ≡ self.now.begin }
+    {
+        self.begin
+    }
+
+    /// The marks of its reads. Takes no memory.
+    pub fn marks(&self) -> &Marks
+        ensures marks { result.now ≡ self.now.marks }
+        ensures made { (m : KeyMap) (qs : List Operation) → HasMade self.now m qs → result.now ≡ reads m qs }
+    {
+        &self.marks
+    }
+
+    /// The last writes, by rising key. Takes no memory.
+    pub fn entries(&self) -> &[Write]
+        ensures writes { result.now ≡ self.now.writes }
+        ensures entries { AreEntries self.now.writes }
+        ensures made { (m : KeyMap) (qs : List Operation) → HasMade self.now m qs → result.now ≡ writes m qs }
+    {
+        self.buffer.entries()
+    }
+
+    /// Hands the last writes out, by rising key. Takes no memory.
+    pub fn into_writes(self) -> Vec<Write>
+        ensures writes { result.items ≡ self.writes }
+        ensures entries { AreEntries self.writes }
+        ensures made { (m : KeyMap) (qs : List Operation) → HasMade self m qs → result.items ≡ writes m qs }
+    {
+        self.buffer.into_entries()
+    }
+
+    /// Hands out the key of the write at place `i`. Takes no memory.
+    pub fn into_key(self, i: usize) -> Key
+        requires { i < length self.writes }
+        ensures { (d : KeyWrite) → result ≡ (slice_index_or self.writes i d).0 }
+    {
+        let mut writes = self.into_writes();
+        let (key, _) = writes.swap_remove(i).into_parts();
+        key
+    }
+
+    // Makes the mark that a read of the key needs: none where the transaction wrote the key itself.
+    fn mark_key(&mut self, key: KeyRef<'_>) -> Result<(), SnapshotFault>
+        ensures ok { OnOk result (self.new ≡ after_get self.old key.entry.bytes.now) }
+        ensures err { OnErr result (self.new ≡ self.old) }
+        ensures full { (result ≡ Err SnapshotFault.FullMarks) ↔ IsTrue (is_full_get self.old key.entry.bytes.now) }
+        ensures known { IsTrue (is_some (written self.old.writes key.entry.bytes.now) || has_mark self.old.marks (OfKey key.entry.bytes.now)) → IsOk result }
+        ensures never { result ≢ Err SnapshotFault.FullWrites }
+    {
+        match self.buffer.get(key) {
+            Written::NotWritten => self.marks.add_key(key)?,
+            _ => {}
+        }
+        Ok(())
+    }
+
+    // What a read of the key gives.
+    fn peek<'a>(&'a self, versions: &'a Versions, key: KeyRef<'_>) -> Option<&'a [u8]>
+        ensures { option_copied result ≡ value_read self.now (map_seen versions.now self.now.begin) key.entry.bytes.now }
+    {
+        match self.buffer.get(key) {
+            Written::NotWritten => versions.at(self.begin, key),
+            Written::Gone => None,
+            Written::Value(value) => Some(value),
+        }
+    }
+
+    /// Reads a key: lends what the transaction last wrote to it, else what its begin number sees. The read is marked unless the
+    /// transaction wrote the key itself. It takes the memory of a new mark and no other; `FullMarks` or `Memory` where that mark is
+    /// refused.
+    pub fn get<'a>(
+        &'a mut self,
+        versions: &'a Versions,
+        key: KeyRef<'_>,
+    ) -> Result<Option<&'a [u8]>, SnapshotFault>
+        ensures full { (result ≡ Err SnapshotFault.FullMarks) ↔ IsTrue (is_full_get self.old key.entry.bytes.now) }
+        // A read that needs no new mark succeeds.
+        ensures known { IsTrue (is_some (written self.old.writes key.entry.bytes.now) || has_mark self.old.marks (OfKey key.entry.bytes.now)) → IsOk result }
+        ensures reply { (m : KeyMap) (qs : List Operation) → map_seen versions.now self.old.begin ≡ m → HasMade self.old m qs → IsValueReply result (answer m qs (Get key.entry.bytes.now)) }
+        ensures* after { sem 𝓛 (Rests the_row self.entry (λ new. IsLeftByGet self.old key.entry.bytes.now result new)) }
+    {
+        match self.mark_key(key) {
+            Ok(()) => Ok(self.peek(versions, key)),
+            Err(fault) => Err(fault),
+        }
+    }
+
+    // Makes the mark that a read of the range needs: none where the range is empty.
+    fn mark_range(&mut self, range: RangeRef<'_>) -> Result<(), SnapshotFault>
+        ensures ok { OnOk result (self.new ≡ after_range self.old range.entry.lo.bytes.now (option_map (λ k. k.bytes.now) range.entry.hi)) }
+        ensures err { OnErr result (self.new ≡ self.old) }
+        ensures full { (result ≡ Err SnapshotFault.FullMarks) ↔ IsTrue (is_full_range self.old range.entry.lo.bytes.now (option_map (λ k. k.bytes.now) range.entry.hi)) }
+        ensures known { IsTrue (is_empty_range range.entry.lo.bytes.now (option_map (λ k. k.bytes.now) range.entry.hi) || has_mark self.old.marks (OfRange range.entry.lo.bytes.now (option_map (λ k. k.bytes.now) range.entry.hi))) → IsOk result }
+        ensures never { result ≢ Err SnapshotFault.FullWrites }
+    {
+        if !is_empty(range) {
+            self.marks.add_range(range)?;
+        }
+        Ok(())
+    }
+
+    // The pairs that a read of the range gives.
+    fn rows<'a>(&'a self, versions: &'a Versions, range: RangeRef<'_>, limit: u8) -> Rows<'a>
+        ensures { row_pairs result ≡ rows_of self.now (map_seen versions.now self.now.begin) range.entry.lo.bytes.now (option_map (λ k. k.bytes.now) range.entry.hi) limit }
+    {
+        let writes = within(self.entries(), range);
+        Rows::new(writes, versions.range(self.begin, range), limit)
+    }
+
+    /// Reads the pairs of a range by rising key, `limit` at most: those that the begin number sees, with the transaction's own writes
+    /// over them. The range is marked whole, however few pairs it has or the limit lets through, unless it is empty. It takes the memory
+    /// of a new mark and no other; `FullMarks` or `Memory` where that mark is refused.
+    pub fn range<'a>(
+        &'a mut self,
+        versions: &'a Versions,
+        range: RangeRef<'_>,
+        limit: u8,
+    ) -> Result<Rows<'a>, SnapshotFault>
+        ensures full { (result ≡ Err SnapshotFault.FullMarks) ↔ IsTrue (is_full_range self.old range.entry.lo.bytes.now (option_map (λ k. k.bytes.now) range.entry.hi)) }
+        // A read that needs no new mark succeeds.
+        ensures known { IsTrue (is_empty_range range.entry.lo.bytes.now (option_map (λ k. k.bytes.now) range.entry.hi) || has_mark self.old.marks (OfRange range.entry.lo.bytes.now (option_map (λ k. k.bytes.now) range.entry.hi))) → IsOk result }
+        ensures reply { (m : KeyMap) (qs : List Operation) → map_seen versions.now self.old.begin ≡ m → HasMade self.old m qs → IsPairsReply result (answer m qs (Range range.entry.lo.bytes.now (option_map (λ k. k.bytes.now) range.entry.hi) limit)) }
+        ensures* after { sem 𝓛 (Rests the_row self.entry (λ new. IsLeftByRange self.old range.entry.lo.bytes.now (option_map (λ k. k.bytes.now) range.entry.hi) limit result new)) }
+    {
+        match self.mark_range(range) {
+            Ok(()) => Ok(self.rows(versions, range, limit)),
+            Err(fault) => Err(fault),
+        }
+    }
+
+    /// Writes a value of at most 4,096 bytes to a key. It takes a copy of the value, and for a new key a copy of the key and a place;
+    /// `FullWrites`, where the key is new and 64 are written, or `Memory`.
+    pub fn put(&mut self, key: KeyRef<'_>, value: &[u8]) -> Result<(), SnapshotFault>
+        requires { length value.now ≤ VALUE_MAX }
+        ensures ok { OnOk result (self.new ≡ after_put self.old key.entry.bytes.now (Some value.now)) }
+        ensures err { OnErr result (self.new ≡ self.old) }
+        ensures full { (result ≡ Err SnapshotFault.FullWrites) ↔ IsTrue (is_full_for self.old.writes key.entry.bytes.now) }
+        ensures reply { (m : KeyMap) (qs : List Operation) → HasMade self.old m qs → IsDoneReply result (answer m qs (Set key.entry.bytes.now value.now)) }
+        ensures made { OnOk result (MakesOneMore self.old self.new (Set key.entry.bytes.now value.now)) }
+    {
+        match self.buffer.put(key, value) {
+            Ok(()) => Ok(()),
+            Err(WritesFault::FullWrites) => Err(SnapshotFault::FullWrites),
+            Err(WritesFault::Memory) => Err(SnapshotFault::Memory),
+        }
+    }
+
+    /// Deletes a key, present or not. Where the key is written already it takes no memory and succeeds; a new one takes a copy of the
+    /// key and a place; `FullWrites`, where the key is new and 64 are written, or `Memory`.
+    pub fn delete(&mut self, key: KeyRef<'_>) -> Result<(), SnapshotFault>
+        ensures ok { OnOk result (self.new ≡ after_put self.old key.entry.bytes.now None) }
+        ensures err { OnErr result (self.new ≡ self.old) }
+        ensures full { (result ≡ Err SnapshotFault.FullWrites) ↔ IsTrue (is_full_for self.old.writes key.entry.bytes.now) }
+        ensures known { IsTrue (is_some (written self.old.writes key.entry.bytes.now)) → IsOk result }
+        ensures reply { (m : KeyMap) (qs : List Operation) → HasMade self.old m qs → IsDoneReply result (answer m qs (Del key.entry.bytes.now)) }
+        ensures made { OnOk result (MakesOneMore self.old self.new (Del key.entry.bytes.now)) }
+    {
+        match self.buffer.delete(key) {
+            Ok(()) => Ok(()),
+            Err(WritesFault::FullWrites) => Err(SnapshotFault::FullWrites),
+            Err(WritesFault::Memory) => Err(SnapshotFault::Memory),
+        }
+    }
+}

@@ -1,0 +1,484 @@
+-- All chains: what is made, what more room leaves, what an install adds and what a reclaim leaves.
+use Rattle.std.proofs.Common.{◌≡◌, ℕ, zero, suc, ◌+◌, ◌-◌, ◌<◌, ◌≤◌, Bool, true, false, T, cond, ◌&&◌, ◌||◌, List, [], ◌∷◌, ◌++◌, length, take, get_or, set, Option, Some, None, refl, sym, ap, subst, ◌∙◌, arith, inl, inr, length-append}
+use Rattle.std.specs.Prelude.{option_map, nat_lt, nat_le, if◌then◌else◌, IfSome, swap_remove, ◌⊎◌}
+use Rattle.std.proofs.Math.Seq.{take-length}
+use Rattle.std.proofs.lemmas.Grind.{common_steps}
+use Rattle.std.proofs.lemmas.List.Folds.{list_any_at, list_any_more, list_any-append}
+use Rattle.std.proofs.lemmas.List.Sorted.{list_any-IsPermutation, IsPermutation-swap_remove}
+use Rattle.std.specs.List.{AllByRecursion}
+use Rattle.std.specs.declared.cmp.Ordering.{Ordering}
+use Rattle.std.specs.declared.cmp.Ordering.TheVariants.{Less, Equal, Greater}
+use Rattle.std.specs.Ordering.{is_eq, is_lt, nat_cmp}
+use Rattle.std.specs.Cmp.Lexicographic.{slice_cmp}
+use Rattle.std.specs.FinMap.Entries.{put, below_all, by_order}
+use Rattle.std.proofs.lemmas.Bool.{cases_Bool, both_ways, or_cases, or_left, or_right, le-leb, leb-true}
+use Rattle.model.specs.Map.{Bytes, KeyMap, KeyWrite, IsMap, key_cmp, is_same_key, value_at, after_write, after_writes}
+use Rattle.model.proofs.Lookups.{same_key, same_key_comm, same_key_itself, same_map}
+use Rattle.model.specs.Entries.{IsAt, IsGap}
+use Rattle.versions.specs.Chains.{Stamped, ChainValue, Chains, ChainsValue, find_chain, seen, seen_in, version_at, value_of, visible, with_value, added, stamped, fresh_chain, IsReady, HasRoom, IsPrepared, one_if_new, new_keys, reclaimed, has_older, is_listed, IsListed, IsReclaimedAt, base_chains, IsKept, IsRisingChain, IsRisingTo, IsRoomier, IsRoomierChain}
+use Rattle.versions.specs.Meaning.{kept_in, is_written_by, is_among, IsSameMeaning, IsReclaimed, IsTightChain, writes_of}
+use Rattle.versions.proofs.ChainLaws.{seen-added, rising-added, version_at-reclaimed, version_at-newest, tight-reclaimed, rising-seen_by, without_older, reclaimed_twice}
+use Rattle.model.proofs.Entries.{IsSorted, IsBelowAll, parts}
+use Rattle.versions.proofs.Visibles.{IsMap-visible, value-visible, visible-put, visible-put_same, find_chain-put, sorted-put}
+
+both : (a b : Bool) → T a → T b → T (a && b)
+both true b h g = g
+both false b h g = h
+
+-- ---- a fact of all chains
+
+pub all-find : (P : ChainValue → Type 0) (k : Bytes) (c : ChainValue) (es : Chains) → AllByRecursion (λ e. P e.1) es → find_chain k es ≡ Some c → P c
+all-find P k c [] h e = absurd (not_some e)
+  where
+    not_some : ◌≡◌ {A = Option ChainValue} None (Some c) → ⊥
+    not_some e = cc
+all-find P k c (f ∷ es) h e = elim (is_same_key k f.0) as (λ b. cond b (Some f.1) (find_chain k es) ≡ Some c → P c) [
+  | true ↦ λ is. let same : f.1 ≡ c = cc in subst P same h.0
+  | false ↦ λ is. all-find P k c es h.1 is
+] e
+
+pub all-put : (P : ChainValue → Type 0) (k : Bytes) (c : ChainValue) (es : Chains) → P c → AllByRecursion (λ e. P e.1) es → AllByRecursion (λ e. P e.1) (put (slice_cmp nat_cmp) k c es)
+all-put P k c [] p h = (p, tt)
+all-put P k c (f ∷ es) p h = elim (key_cmp k f.0) as (λ o. AllByRecursion (λ e. P e.1) (by_order o ((k, c) ∷ f ∷ es) ((f.0, c) ∷ es) (f ∷ put (slice_cmp nat_cmp) k c es))) [
+  | Less ↦ (p, h)
+  | Equal ↦ (p, h.1)
+  | Greater ↦ (h.0, all-put P k c es p h.1)
+]
+
+pub kept-put : (k : Bytes) (c : ChainValue) (es : Chains) (last : ℕ) → IsKept es last → IsRisingChain last c → IsKept (put (slice_cmp nat_cmp) k c es) last
+kept-put k c es last h p = record { sorted = sorted-put k c es h.sorted; rising = all-put (IsRisingChain last) k c es p h.rising }
+
+-- ---- the keys with older versions
+
+pub listed-put : (k : Bytes) (c : ChainValue) (es : Chains) (ks us : List Bytes) → IsListed es ks → ((q : Bytes) → is_listed ks q ≡ true → is_listed us q ≡ true) → (has_older (Some c) ≡ true → is_listed us k ≡ true)
+    → IsListed (put (slice_cmp nat_cmp) k c es) us
+listed-put k c es ks us h more here q t =
+    elim (is_same_key q k) as (λ b. is_same_key q k ≡ b → has_older (cond b (Some c) (find_chain q es)) ≡ true → is_listed us q ≡ true) [
+      | true ↦ λ s o. ap (is_listed us) (same_key q k s) ∙ here o
+      | false ↦ λ s o. more q (h q o)
+    ] refl (ap has_older (sym (find_chain-put q k c es)) ∙ t)
+
+pub listed_first : (q : Bytes) (ks : List Bytes) (k : Bytes) → is_listed ks q ≡ true → is_listed (ks ++ k ∷ []) q ≡ true
+listed_first q ks k t = list_any-append (is_same_key q) ks (k ∷ []) ∙ or_left (is_listed ks q) (is_listed (k ∷ []) q) t
+
+pub listed_last : (q : Bytes) (ks : List Bytes) (k : Bytes) → k ≡ q → is_listed (ks ++ k ∷ []) q ≡ true
+listed_last q ks k e = list_any-append (is_same_key q) ks (k ∷ []) ∙ or_right (is_listed ks q) (is_listed (k ∷ []) q) (or_left (is_same_key q k) false (ap (is_same_key q) e ∙ same_key_itself q))
+
+-- ---- the chains of a map
+
+below_base : (k : Bytes) (m : KeyMap) → T (below_all (slice_cmp nat_cmp) k m) → IsBelowAll k (base_chains m)
+below_base k [] h = tt
+below_base k (p ∷ ps) h = let q = parts _ _ h in both _ _ q.0 (below_base k ps q.1)
+
+sorted_base : (m : KeyMap) → IsMap m → IsSorted (base_chains m)
+sorted_base [] h = tt
+sorted_base (p ∷ ps) h = let q = parts _ _ h in both _ _ (below_base p.0 ps q.0) (sorted_base ps q.1)
+
+rising_base : (m : KeyMap) → AllByRecursion (λ e. IsRisingChain 0 e.1) (base_chains m)
+rising_base [] = tt
+rising_base (p ∷ ps) = ((tt, omega arith), rising_base ps)
+
+pub kept-base : (m : KeyMap) → IsMap m → IsKept (base_chains m) 0
+kept-base m h = record { sorted = sorted_base m h; rising = rising_base m }
+
+pub listed-base : (m : KeyMap) → IsListed (base_chains m) []
+listed-base [] k t = t
+listed-base (p ∷ ps) k t = elim (is_same_key k p.0) as (λ b. has_older (cond b (Some (fresh_chain (stamped 0 (Some p.1)) 0)) (find_chain k (base_chains ps))) ≡ true → false ≡ true) [
+  | true ↦ λ o. o
+  | false ↦ λ o. listed-base ps k o
+] t
+
+pub visible-base : (n : ℕ) (m : KeyMap) → visible n (base_chains m) ≡ m
+visible-base n [] = refl
+visible-base n (p ∷ ps) = ap (λ b. with_value p.0 (value_of (if b then Some (stamped 0 (Some p.1)) else None)) (visible n (base_chains ps))) (le-leb 0 n (omega arith)) ∙ ap (λ l. p ∷ l) (visible-base n ps)
+
+pub newest-base : (k : Bytes) (m : KeyMap) → option_map (λ (c : ChainValue). c.newest.number) (find_chain k (base_chains m)) ≡ option_map (λ _. 0) (value_at m k)
+newest-base k [] = refl
+newest-base k (p ∷ ps) = elim (is_same_key k p.0) as (λ b. option_map (λ (c : ChainValue). c.newest.number) (cond b (Some (fresh_chain (stamped 0 (Some p.1)) 0)) (find_chain k (base_chains ps))) ≡ option_map (λ _. 0) (cond b (Some p.1) (value_at ps k))) [
+  | true ↦ refl
+  | false ↦ newest-base k ps
+]
+
+-- ---- more room
+
+pub roomier-refl : (es : Chains) → IsRoomier es es
+roomier-refl [] = tt
+roomier-refl (e ∷ es) = (refl, record { older = refl; newest = refl; room = omega arith }, roomier-refl es)
+
+pub roomier-trans : (es fs gs : Chains) → IsRoomier es fs → IsRoomier fs gs → IsRoomier es gs
+roomier-trans [] [] [] h g = tt
+roomier-trans [] [] (x ∷ gs) h g = g
+roomier-trans [] (f ∷ fs) gs h g = absurd h
+roomier-trans (e ∷ es) [] gs h g = absurd h
+roomier-trans (e ∷ es) (f ∷ fs) [] h g = g
+roomier-trans (e ∷ es) (f ∷ fs) (x ∷ gs) h g =
+    let a = h.1 in let b = g.1 in
+    (g.0 ∙ h.0, record { older = b.older ∙ a.older; newest = b.newest ∙ a.newest; room = omega (arith, a.room, b.room) }, roomier-trans es fs gs h.2 g.2)
+
+pub roomier-set : (es : Chains) (i : ℕ) (e f : Bytes × ChainValue) → i < length es → e ≡ get_or es i e → f.0 ≡ e.0 → IsRoomierChain e.1 f.1 → IsRoomier es (set es i f)
+roomier-set [] i e f lt at k r = tt
+roomier-set (x ∷ es) zero e f lt at k r = (k ∙ ap (λ (p : Bytes × ChainValue). p.0) at, subst (λ (p : Bytes × ChainValue). IsRoomierChain p.1 f.1) at r, roomier-refl es)
+roomier-set (x ∷ es) (suc i) e f lt at k r = (refl, record { older = refl; newest = refl; room = omega arith }, roomier-set es i e f (omega arith) at k r)
+
+same_version : (n : ℕ) (c d : ChainValue) → IsRoomierChain c d → seen n d ≡ seen n c
+same_version n c d r = λ i. value_of (if nat_le (r.newest i).number n then Some (r.newest i) else Rattle.versions.specs.Chains.last_at n None (r.older i))
+
+pub visible-roomier : (n : ℕ) (es fs : Chains) → IsRoomier es fs → visible n fs ≡ visible n es
+visible-roomier n [] [] h = refl
+visible-roomier n [] (f ∷ fs) h = absurd h
+visible-roomier n (e ∷ es) [] h = absurd h
+visible-roomier n (e ∷ es) (f ∷ fs) h = λ i. with_value (h.0 i) (same_version n e.1 f.1 h.1 i) (visible-roomier n es fs h.2 i)
+
+-- the chain that is found, with no less room
+abbrev pub RoomierFound : Option ChainValue → Option ChainValue → Type 0
+RoomierFound None None = Unit {0}
+RoomierFound (Some c) (Some d) = IsRoomierChain c d
+RoomierFound _ _ = ⊥
+
+pub find-roomier : (k : Bytes) (es fs : Chains) → IsRoomier es fs → RoomierFound (find_chain k es) (find_chain k fs)
+find-roomier k [] [] h = tt
+find-roomier k [] (f ∷ fs) h = absurd h
+find-roomier k (e ∷ es) [] h = absurd h
+find-roomier k (e ∷ es) (f ∷ fs) h =
+    subst (λ (q : Bytes). RoomierFound (find_chain k (e ∷ es)) (cond (is_same_key k q) (Some f.1) (find_chain k fs))) (sym h.0)
+    (elim (is_same_key k e.0) as (λ b. RoomierFound (cond b (Some e.1) (find_chain k es)) (cond b (Some f.1) (find_chain k fs))) [ true ↦ h.1 | false ↦ find-roomier k es fs h.2 ])
+
+number_roomier : (o p : Option ChainValue) → RoomierFound o p → option_map (λ (c : ChainValue). c.newest.number) p ≡ option_map (λ (c : ChainValue). c.newest.number) o
+number_roomier None None h = refl
+number_roomier None (Some d) h = absurd h
+number_roomier (Some c) None h = absurd h
+number_roomier (Some c) (Some d) h = ap (λ (v : Stamped). Some v.number) h.newest
+
+kept_roomier : (o p : Option ChainValue) → RoomierFound o p → kept_in p ≡ kept_in o
+kept_roomier None None h = refl
+kept_roomier None (Some d) h = absurd h
+kept_roomier (Some c) None h = absurd h
+kept_roomier (Some c) (Some d) h = ap (λ l. length l + 1) h.older
+
+one_roomier : (o p : Option ChainValue) → RoomierFound o p → one_if_new p ≡ one_if_new o
+one_roomier None None h = refl
+one_roomier None (Some d) h = absurd h
+one_roomier (Some c) None h = absurd h
+one_roomier (Some c) (Some d) h = refl
+
+pub room_roomier : (o p : Option ChainValue) → RoomierFound o p → HasRoom o → HasRoom p
+room_roomier None None h r = tt
+room_roomier None (Some d) h r = absurd h
+room_roomier (Some c) None h r = absurd h
+room_roomier (Some c) (Some d) h r = omega (arith, h.room)
+
+older_roomier : (o p : Option ChainValue) → RoomierFound o p → has_older p ≡ has_older o
+older_roomier None None h = refl
+older_roomier None (Some d) h = absurd h
+older_roomier (Some c) None h = absurd h
+older_roomier (Some c) (Some d) h = ap (λ l. nat_lt 0 (length l)) h.older
+
+pub listed-roomier : (es fs : Chains) (ks : List Bytes) → IsRoomier es fs → IsListed es ks → IsListed fs ks
+listed-roomier es fs ks more h k t = h k (sym (older_roomier (find_chain k es) (find_chain k fs) (find-roomier k es fs more)) ∙ t)
+
+pub same-roomier : (old new : ChainsValue) → IsRoomier old.chains new.chains → new.last ≡ old.last → IsSameMeaning old new
+same-roomier old new h e = record {
+  maps = λ n. visible-roomier n old.chains new.chains h;
+  newest = λ k. number_roomier (find_chain k old.chains) (find_chain k new.chains) (find-roomier k old.chains new.chains h);
+  kept = λ k. kept_roomier (find_chain k old.chains) (find_chain k new.chains) (find-roomier k old.chains new.chains h);
+  last = e;
+}
+
+below_roomier : (k : Bytes) (es fs : Chains) → IsRoomier es fs → IsBelowAll k es → IsBelowAll k fs
+below_roomier k [] [] h g = tt
+below_roomier k [] (f ∷ fs) h g = absurd h
+below_roomier k (e ∷ es) [] h g = absurd h
+below_roomier k (e ∷ es) (f ∷ fs) h g = let p = parts _ _ g in both _ _ (subst (λ (q : Bytes). T (is_lt (key_cmp k q))) (sym h.0) p.0) (below_roomier k es fs h.2 p.1)
+
+sorted_roomier : (es fs : Chains) → IsRoomier es fs → IsSorted es → IsSorted fs
+sorted_roomier [] [] h g = tt
+sorted_roomier [] (f ∷ fs) h g = absurd h
+sorted_roomier (e ∷ es) [] h g = absurd h
+sorted_roomier (e ∷ es) (f ∷ fs) h g = let p = parts _ _ g in
+    both _ _ (subst (λ (q : Bytes). IsBelowAll q fs) (sym h.0) (below_roomier e.0 es fs h.2 p.0)) (sorted_roomier es fs h.2 p.1)
+
+rising_roomier : (last : ℕ) (es fs : Chains) → IsRoomier es fs → AllByRecursion (λ e. IsRisingChain last e.1) es → AllByRecursion (λ e. IsRisingChain last e.1) fs
+rising_roomier last [] [] h g = tt
+rising_roomier last [] (f ∷ fs) h g = absurd h
+rising_roomier last (e ∷ es) [] h g = absurd h
+rising_roomier last (e ∷ es) (f ∷ fs) h g =
+    let r = h.1 in
+    (subst (λ (p : List Stamped × Stamped). IsRisingTo p.0 p.1.number × (p.1.number ≤ last)) {x = (e.1.older, e.1.newest)} {y = (f.1.older, f.1.newest)} (λ i. (sym r.older i, sym r.newest i)) g.0, rising_roomier last es fs h.2 g.1)
+
+pub kept-roomier : (es fs : Chains) (last : ℕ) → IsRoomier es fs → IsKept es last → IsKept fs last
+kept-roomier es fs last h g = record { sorted = sorted_roomier es fs h g.sorted; rising = rising_roomier last es fs h g.rising }
+
+-- what was made for the writes is still there
+pub room-roomier : (ws : List KeyWrite) (es fs : Chains) → IsRoomier es fs → AllByRecursion (λ w. HasRoom (find_chain w.0 es)) ws → AllByRecursion (λ w. HasRoom (find_chain w.0 fs)) ws
+room-roomier [] es fs h g = tt
+room-roomier (w ∷ ws) es fs h g = (room_roomier (find_chain w.0 es) (find_chain w.0 fs) (find-roomier w.0 es fs h) g.0, room-roomier ws es fs h g.1)
+
+pub new_keys-roomier : (ws : List KeyWrite) (es fs : Chains) → IsRoomier es fs → new_keys fs ws ≡ new_keys es ws
+new_keys-roomier [] es fs h = refl
+new_keys-roomier (w ∷ ws) es fs h = λ i. one_roomier (find_chain w.0 es) (find_chain w.0 fs) (find-roomier w.0 es fs h) i + new_keys-roomier ws es fs h i
+
+-- one more of the writes
+pub room-more : (ws : List KeyWrite) (es : Chains) (w : KeyWrite) → AllByRecursion (λ w. HasRoom (find_chain w.0 es)) ws → HasRoom (find_chain w.0 es) → AllByRecursion (λ w. HasRoom (find_chain w.0 es)) (ws ++ w ∷ [])
+room-more [] es w h r = (r, tt)
+room-more (x ∷ ws) es w h r = (h.0, room-more ws es w h.1 r)
+
+pub new_keys-more : (ws : List KeyWrite) (es : Chains) (w : KeyWrite) → new_keys es (ws ++ w ∷ []) ≡ new_keys es ws + one_if_new (find_chain w.0 es)
+new_keys-more [] es w = omega arith
+new_keys-more (x ∷ ws) es w = omega (arith, new_keys-more ws es w)
+
+-- ---- an install
+
+ready_one : (n last : ℕ) (o : Option ChainValue) → ((c : ChainValue) → o ≡ Some c → IsRisingChain last c) → last < n → HasRoom o → IsReady n o
+ready_one n last None h lt r = tt
+ready_one n last (Some c) h lt r = (omega (arith, (h c refl).1), r)
+
+pub ready-prepared : (n last : ℕ) (es : Chains) (ws : List KeyWrite) → IsKept es last → last < n → AllByRecursion (λ w. HasRoom (find_chain w.0 es)) ws → AllByRecursion (λ w. IsReady n (find_chain w.0 es)) ws
+ready-prepared n last es [] h lt r = tt
+ready-prepared n last es (w ∷ ws) h lt r = (ready_one n last (find_chain w.0 es) (λ c e. all-find (IsRisingChain last) w.0 c es h.rising e) lt r.0, ready-prepared n last es ws h lt r.1)
+
+pub rising_one : (n last : ℕ) (es : Chains) (k : Bytes) (v : Option Bytes) (room : ℕ) → IsKept es last → IsReady n (find_chain k es) → n ≤ last → IsRisingChain last (added (find_chain k es) (stamped n v) room)
+rising_one n last es k v room h r le = elim (find_chain k es) as (λ o. find_chain k es ≡ o → IsReady n o → IsRisingChain last (added o (stamped n v) room)) [
+  | None ↦ λ e g. rising-added None (stamped n v) room last tt le
+  | Some c ↦ λ e g. rising-added (Some c) (stamped n v) room last ((all-find (IsRisingChain last) k c es h.rising e).0, g.0) le
+] refl r
+
+-- keys above k are not k
+apart : (k q : Bytes) → T (is_lt (key_cmp k q)) → is_same_key q k ≡ false
+apart k q h = same_key_comm q k ∙ at (key_cmp k q) h
+  where
+    at : (o : Ordering) → T (is_lt o) → is_eq o ≡ false
+    at Less g = refl
+    at Equal g = absurd g
+    at Greater g = absurd g
+
+find_apart : (k : Bytes) (c : ChainValue) (es : Chains) (q : Bytes) → T (is_lt (key_cmp k q)) → find_chain q (put (slice_cmp nat_cmp) k c es) ≡ find_chain q es
+find_apart k c es q h = find_chain-put q k c es ∙ ap (λ b. cond b (Some c) (find_chain q es)) (apart k q h)
+
+pub ready-apart : (n : ℕ) (k : Bytes) (c : ChainValue) (es : Chains) (ws : List KeyWrite) → T (below_all (slice_cmp nat_cmp) k ws) → AllByRecursion (λ w. IsReady n (find_chain w.0 es)) ws → AllByRecursion (λ w. IsReady n (find_chain w.0 (put (slice_cmp nat_cmp) k c es))) ws
+ready-apart n k c es [] h r = tt
+ready-apart n k c es (w ∷ ws) h r = let p = parts _ _ h in (subst (IsReady n) (sym (find_apart k c es w.0 p.0)) r.0, ready-apart n k c es ws p.1 r.1)
+
+pub new_keys-apart : (k : Bytes) (c : ChainValue) (es : Chains) (ws : List KeyWrite) → T (below_all (slice_cmp nat_cmp) k ws) → new_keys (put (slice_cmp nat_cmp) k c es) ws ≡ new_keys es ws
+new_keys-apart k c es [] h = refl
+new_keys-apart k c es (w ∷ ws) h = let p = parts _ _ h in λ i. one_if_new (find_apart k c es w.0 p.0 i) + new_keys-apart k c es ws p.1 i
+
+-- what m sees once the writes are in
+abbrev pub written_map : ℕ → ℕ → List KeyWrite → KeyMap → KeyMap
+written_map n m ws base = if nat_le n m then after_writes base ws else base
+
+abbrev pub written_number : ℕ → List KeyWrite → Bytes → Option ℕ → Option ℕ
+written_number n ws k o = if is_written_by ws k then Some n else o
+
+pub maps-step : (n m : ℕ) (w : KeyWrite) (ws : List KeyWrite) (room : ℕ) (es : Chains) → IsSorted es
+    → written_map n m ws (visible m (put (slice_cmp nat_cmp) w.0 (added (find_chain w.0 es) (stamped n w.1) room) es)) ≡ written_map n m (w ∷ ws) (visible m es)
+maps-step n m w ws room es h =
+    let c = added (find_chain w.0 es) (stamped n w.1) room in
+    let sees = seen-added m (find_chain w.0 es) (stamped n w.1) room in
+    elim (nat_le n m) as (λ b. nat_le n m ≡ b → (if b then after_writes (visible m (put (slice_cmp nat_cmp) w.0 c es)) ws else visible m (put (slice_cmp nat_cmp) w.0 c es)) ≡ (if b then after_writes (after_write (visible m es) w.0 w.1) ws else visible m es)) [
+      | true ↦ λ t. ap (λ l. after_writes l ws) (visible-put m w.0 c es h ∙ ap (after_write (visible m es) w.0) (sees ∙ ap (λ b. if b then w.1 else seen_in m (find_chain w.0 es)) t))
+      | false ↦ λ t. visible-put_same m w.0 c es h (sees ∙ ap (λ b. if b then w.1 else seen_in m (find_chain w.0 es)) t)
+    ] refl
+
+number_added : (o : Option ChainValue) (v : Stamped) (room : ℕ) → (added o v room).newest ≡ v
+number_added None v room = refl
+number_added (Some c) v room = refl
+
+pub newest-step : (n : ℕ) (k : Bytes) (w : KeyWrite) (ws : List KeyWrite) (room : ℕ) (es : Chains)
+    → written_number n ws k (option_map (λ (c : ChainValue). c.newest.number) (find_chain k (put (slice_cmp nat_cmp) w.0 (added (find_chain w.0 es) (stamped n w.1) room) es)))
+    ≡ written_number n (w ∷ ws) k (option_map (λ (c : ChainValue). c.newest.number) (find_chain k es))
+newest-step n k w ws room es =
+    let c = added (find_chain w.0 es) (stamped n w.1) room in
+    ap (λ o. written_number n ws k (option_map (λ (c : ChainValue). c.newest.number) o)) (find_chain-put k w.0 c es)
+    ∙ elim (is_same_key k w.0) as (λ b. written_number n ws k (option_map (λ (c : ChainValue). c.newest.number) (cond b (Some c) (find_chain k es))) ≡ (if (b || is_written_by ws k) then Some n else option_map (λ (c : ChainValue). c.newest.number) (find_chain k es))) [
+      | true ↦ ap (λ (v : Stamped). written_number n ws k (Some v.number)) (number_added (find_chain w.0 es) (stamped n w.1) room) ∙ either (is_written_by ws k)
+      | false ↦ refl
+    ]
+  where
+    either : (b : Bool) → (if b then Some n else Some n) ≡ Some n
+    either true = refl
+    either false = refl
+
+kept_added : (o : Option ChainValue) (v : Stamped) (room : ℕ) → kept_in (Some (added o v room)) ≡ kept_in o + 1
+kept_added None v room = refl
+kept_added (Some c) v room = ap (λ n. n + 1) (length-append c.older (c.newest ∷ []))
+
+pub kept-step : (n : ℕ) (k : Bytes) (w : KeyWrite) (ws : List KeyWrite) (room : ℕ) (es : Chains)
+    → kept_in (find_chain k (put (slice_cmp nat_cmp) w.0 (added (find_chain w.0 es) (stamped n w.1) room) es)) + writes_of ws k ≡ kept_in (find_chain k es) + writes_of (w ∷ ws) k
+kept-step n k w ws room es =
+    let c = added (find_chain w.0 es) (stamped n w.1) room in
+    ap (λ o. kept_in o + writes_of ws k) (find_chain-put k w.0 c es)
+    ∙ elim (is_same_key k w.0) as (λ b. is_same_key k w.0 ≡ b → kept_in (cond b (Some c) (find_chain k es)) + writes_of ws k ≡ kept_in (find_chain k es) + ((if b then 1 else 0) + writes_of ws k)) [
+      | true ↦ λ t. (let more : kept_in (Some c) ≡ kept_in (find_chain k es) + 1 = kept_added (find_chain w.0 es) (stamped n w.1) room ∙ ap (λ (j : Bytes). kept_in (find_chain j es) + 1) (sym (same_key k w.0 t)) in omega arith)
+      | false ↦ λ f. omega arith
+    ] refl
+
+-- ---- a reclaim
+
+untouched : (bs : List ℕ) (o : Option ChainValue) → has_older o ≡ false → o ≡ option_map (reclaimed bs) o
+untouched bs None e = refl
+untouched bs (Some c) e = ap Some (sym (without_older bs c.older c.newest c.room e))
+
+twice : (bs : List ℕ) (o : Option ChainValue) → IfSome o (λ c. IsRisingTo c.older c.newest.number) → option_map (reclaimed bs) (option_map (reclaimed bs) o) ≡ option_map (reclaimed bs) o
+twice bs None h = refl
+twice bs (Some c) h = ap Some (reclaimed_twice bs c h)
+
+rising_found : (k : Bytes) (es : Chains) (last : ℕ) → IsKept es last → IfSome (find_chain k es) (λ c. IsRisingChain last c)
+rising_found k es last h = elim (find_chain k es) as (λ o. find_chain k es ≡ o → IfSome o (λ c. IsRisingChain last c)) [
+  | None ↦ λ e. tt
+  | Some c ↦ λ e. all-find (IsRisingChain last) k c es h.rising e
+] refl
+
+rising_older : (last : ℕ) (o : Option ChainValue) → IfSome o (λ c. IsRisingChain last c) → IfSome o (λ c. IsRisingTo c.older c.newest.number)
+rising_older last None h = tt
+rising_older last (Some c) h = h.0
+
+length-swap_remove : {X : Type 0} (xs : List X) (i : ℕ) (d : X) → i < length xs → length (swap_remove xs i d) + 1 ≡ length xs
+length-swap_remove xs i d lt = grind (arith, common_steps)
+
+take-swap_remove : {X : Type 0} (xs : List X) (i : ℕ) (d : X) → i < length xs → take i (swap_remove xs i d) ≡ take i xs
+take-swap_remove xs i d lt = grind (arith, common_steps)
+
+-- which default is named makes no difference
+pub swap_remove-default : {X : Type 0} (xs : List X) (i : ℕ) (d e : X) → 0 < length xs → swap_remove xs i d ≡ swap_remove xs i e
+swap_remove-default {X} xs i d e lt = let last : length xs - 1 < length xs = omega arith in ap (λ y. take (length xs - 1) (set xs i y)) (any_default xs (length xs - 1) last)
+  where
+    any_default : (ys : List X) (j : ℕ) → j < length ys → get_or ys j d ≡ get_or ys j e
+    any_default [] j h = absurd (omega arith)
+    any_default (y ∷ ys) zero h = refl
+    any_default (y ∷ ys) (suc j) h = any_default ys j (omega arith)
+
+-- the chains of the first of the keys are as they were, and all others are reclaimed
+pub record Reclaiming (bs : List ℕ) (old now : Chains) (ks : List Bytes) (left : ℕ) : Type 0 where
+  pub in_range : left ≤ length ks
+  pub kept : (last : ℕ) → IsKept old last → IsKept now last
+  pub listed : IsListed now ks
+  pub each : (k : Bytes) → (find_chain k now ≡ option_map (reclaimed bs) (find_chain k old)) ⊎ ((find_chain k now ≡ find_chain k old) × (is_listed (take left ks) k ≡ true))
+
+pub reclaiming-begun : (bs : List ℕ) (old : Chains) (ks : List Bytes) (left : ℕ) → left ≡ length ks → IsListed old ks → Reclaiming bs old old ks left
+reclaiming-begun bs old ks left all h = record {
+  in_range = omega arith;
+  kept = λ last g. g;
+  listed = h;
+  each = λ k. elim (cases_Bool (has_older (find_chain k old))) [
+    | inl t ↦ inr (refl, ap (λ l. is_listed l k) (ap (λ n. take n ks) all ∙ take-length ks) ∙ h k t)
+    | inr f ↦ inl (untouched bs (find_chain k old) f)
+  ];
+}
+
+module _ (bs : List ℕ) (old now new : Chains) (ks : List Bytes) (m left last : ℕ) (k : Bytes) (next : left ≡ m + 1) (at : k ≡ get_or ks m k) (ordered : IsKept old last) (r : Reclaiming bs old now ks left) (reclaims : IsReclaimedAt bs k now new) where
+  here : find_chain k new ≡ option_map (reclaimed bs) (find_chain k old)
+  here = reclaims.found k ∙ ap (λ b. if b then option_map (reclaimed bs) (find_chain k now) else find_chain k now) (same_key_itself k)
+      ∙ elim (r.each k) [
+        | inl done ↦ ap (option_map (reclaimed bs)) done ∙ twice bs (find_chain k old) (rising_older last (find_chain k old) (rising_found k old last ordered))
+        | inr same ↦ ap (option_map (reclaimed bs)) same.0
+      ]
+
+  elsewhere : (q : Bytes) → is_same_key q k ≡ false → find_chain q new ≡ find_chain q now
+  elsewhere q f = reclaims.found q ∙ ap (λ b. if b then option_map (reclaimed bs) (find_chain k now) else find_chain q now) f
+
+  within : m < length ks
+  within = let h = r.in_range in omega arith
+
+  each_next : (q : Bytes) → (find_chain q new ≡ option_map (reclaimed bs) (find_chain q old)) ⊎ ((find_chain q new ≡ find_chain q old) × (is_listed (take m ks) q ≡ true))
+  each_next q = elim (cases_Bool (is_same_key q k)) [
+    | inl t ↦ let same : q ≡ k = same_key q k t in inl (ap (λ (j : Bytes). find_chain j new) same ∙ here ∙ ap (λ (j : Bytes). option_map (reclaimed bs) (find_chain j old)) (sym same))
+    | inr f ↦ elim (r.each q) [
+      | inl done ↦ inl (elsewhere q f ∙ done)
+      | inr same ↦ inr (elsewhere q f ∙ same.0, earlier q f same.1)
+    ]
+  ]
+    where
+      earlier : (q : Bytes) → is_same_key q k ≡ false → is_listed (take left ks) q ≡ true → is_listed (take m ks) q ≡ true
+      earlier q f t = elim (or_cases (is_listed (take m ks) q) (is_same_key q (get_or ks m k)) (sym (list_any_more (is_same_key q) ks m k within) ∙ ap (λ n. is_listed (take n ks) q) (sym next) ∙ t)) [
+        | inl e ↦ e
+        | inr e ↦ absurd (both_ways _ f (ap (is_same_key q) at ∙ e))
+      ]
+
+  kept_next : (last : ℕ) → IsKept old last → IsKept new last
+  kept_next last g = reclaims.kept last (r.kept last g)
+
+  -- the key stays in the list
+  pub reclaiming-stays : has_older (find_chain k new) ≡ true → Reclaiming bs old new ks m
+  reclaiming-stays t = record {
+    in_range = let h = within in omega arith;
+    kept = kept_next;
+    listed = λ q o. elim (cases_Bool (is_same_key q k)) [
+      | inl s ↦ list_any_at (is_same_key q) ks m k within (ap (is_same_key q) (sym at) ∙ s)
+      | inr f ↦ r.listed q (ap has_older (sym (elsewhere q f)) ∙ o)
+    ];
+    each = each_next;
+  }
+
+  -- the key leaves the list
+  pub reclaiming-leaves : (us : List Bytes) → us ≡ swap_remove ks m k → has_older (find_chain k new) ≡ false → Reclaiming bs old new us m
+  reclaiming-leaves us is none = record {
+    in_range = let h = within in omega (arith, ap length is, length-swap_remove ks m k within);
+    kept = kept_next;
+    listed = λ q o. elim (cases_Bool (is_same_key q k)) [
+      | inl s ↦ absurd (both_ways _ none (ap (λ (j : Bytes). has_older (find_chain j new)) (sym (same_key q k s)) ∙ o))
+      | inr f ↦ ap (λ l. is_listed l q) is ∙ sym (ap (λ b. b || is_listed (swap_remove ks m k) q) f) ∙ sym (list_any-IsPermutation (is_same_key q) ks (k ∷ swap_remove ks m k) (IsPermutation-swap_remove ks m k within at)) ∙ r.listed q (ap has_older (sym (elsewhere q f)) ∙ o)
+    ];
+    each = λ q. elim (each_next q) [
+      | inl done ↦ inl done
+      | inr same ↦ inr (same.0, ap (λ l. is_listed l q) (ap (take m) is ∙ take-swap_remove ks m k within) ∙ same.1)
+    ];
+  }
+
+pub reclaiming-ended : (bs : List ℕ) (old now : Chains) (ks : List Bytes) (left : ℕ) → left ≡ 0 → Reclaiming bs old now ks left → (k : Bytes) → find_chain k now ≡ option_map (reclaimed bs) (find_chain k old)
+reclaiming-ended bs old now ks left e r k = elim (r.each k) [
+  | inl done ↦ done
+  | inr same ↦ absurd (both_ways false refl (ap (λ n. is_listed (take n ks) k) (sym e) ∙ same.1))
+]
+
+-- which numbers see what they saw
+sees_same : (bs : List ℕ) (last n : ℕ) (c : ChainValue) → c.newest.number ≤ last → (is_among bs n || nat_le last n) ≡ true → seen n (reclaimed bs c) ≡ seen n c
+sees_same bs last n c le h = elim (cases_Bool (is_among bs n)) [
+  | inl t ↦ ap value_of (version_at-reclaimed bs c n t)
+  | inr f ↦ ap value_of (version_at-newest bs c n (let above = leb-true last n (sym (ap (λ b. b || nat_le last n) f) ∙ h) in omega arith))
+]
+
+sees_found : (bs : List ℕ) (last n : ℕ) (o : Option ChainValue) → IfSome o (λ c. IsRisingChain last c) → (is_among bs n || nat_le last n) ≡ true → seen_in n (option_map (reclaimed bs) o) ≡ seen_in n o
+sees_found bs last n None h t = refl
+sees_found bs last n (Some c) h t = sees_same bs last n c h.1 t
+
+number_reclaimed : (bs : List ℕ) (o : Option ChainValue) → option_map (λ (c : ChainValue). c.newest.number) (option_map (reclaimed bs) o) ≡ option_map (λ (c : ChainValue). c.newest.number) o
+number_reclaimed bs None = refl
+number_reclaimed bs (Some c) = refl
+
+tight_found : (bs : List ℕ) (last : ℕ) (o : Option ChainValue) (c : ChainValue) → IfSome o (λ c. IsRisingChain last c) → option_map (reclaimed bs) o ≡ Some c → IsTightChain bs c
+tight_found bs last None c h e = absurd (not_some e)
+  where
+    not_some : ◌≡◌ {A = Option ChainValue} None (Some c) → ⊥
+    not_some e = cc
+tight_found bs last (Some d) c h e = let same : reclaimed bs d ≡ c = cc in subst (IsTightChain bs) same (tight-reclaimed bs d h.0)
+
+pub reclaimed-whole : (old new : ChainsValue) (bs : List ℕ) → IsKept old.chains old.last → IsKept new.chains new.last → new.last ≡ old.last
+    → ((k : Bytes) → find_chain k new.chains ≡ option_map (reclaimed bs) (find_chain k old.chains)) → IsReclaimed old new bs
+reclaimed-whole old new bs h g e is = record {
+  maps = λ n t. same_map (visible n new.chains) (visible n old.chains) (IsMap-visible n new.chains g.sorted) (IsMap-visible n old.chains h.sorted)
+      (λ q. value-visible n q new.chains g.sorted ∙ ap (seen_in n) (is q) ∙ sees_found bs old.last n (find_chain q old.chains) (rising_found q old.chains old.last h) t ∙ sym (value-visible n q old.chains h.sorted));
+  newest = λ k. ap (option_map (λ (c : ChainValue). c.newest.number)) (is k) ∙ number_reclaimed bs (find_chain k old.chains);
+  kept = λ k. ap kept_in (is k);
+  last = e;
+  tight = λ k c f. tight_found bs old.last (find_chain k old.chains) c (rising_found k old.chains old.last h) (sym (is k) ∙ f);
+}
+
+-- one chain reclaimed in its place
+pub reclaimed-at : (bs : List ℕ) (k : Bytes) (es : Chains) (i : ℕ) (e f : Bytes × ChainValue) → IsAt es k i → e ≡ get_or es i e → f ≡ (e.0, reclaimed bs e.1) → IsReclaimedAt bs k es (set es i f)
+reclaimed-at bs k es i e f at is made =
+    let key : e.0 ≡ k = ap (λ (p : Bytes × ChainValue). p.0) is ∙ at.key e in
+    let there : find_chain k es ≡ Some e.1 = at.found e ∙ ap (λ (p : Bytes × ChainValue). Some p.1) (sym is) in
+    let whole : set es i f ≡ put (slice_cmp nat_cmp) k (reclaimed bs e.1) es = ap (set es i) (made ∙ ap (λ (q : Bytes). (q, reclaimed bs e.1)) key) ∙ at.written (reclaimed bs e.1) in
+    record {
+      found = λ q. ap (find_chain q) whole ∙ find_chain-put q k (reclaimed bs e.1) es ∙ ap (λ o. if is_same_key q k then option_map (reclaimed bs) o else find_chain q es) (sym there);
+      kept = λ last h. subst (λ (l : Chains). IsKept l last) (sym whole) (kept-put k (reclaimed bs e.1) es last h (let r = all-find (IsRisingChain last) k e.1 es h.rising there in (rising-seen_by bs e.1.newest.number e.1.older r.0, r.1)));
+    }
+
+pub reclaimed-gap : (bs : List ℕ) (k : Bytes) (es : Chains) (i : ℕ) → IsGap es k i → IsReclaimedAt bs k es es
+reclaimed-gap bs k es i gap = record {
+  found = λ q. elim (is_same_key q k) as (λ b. is_same_key q k ≡ b → find_chain q es ≡ (if b then option_map (reclaimed bs) (find_chain k es) else find_chain q es)) [
+    | true ↦ λ t. ap (λ (j : Bytes). find_chain j es) (same_key q k t) ∙ gap.absent ∙ ap (option_map (reclaimed bs)) (sym gap.absent)
+    | false ↦ λ f. refl
+  ] refl;
+  kept = λ last h. h;
+}

@@ -1,0 +1,12 @@
+use Rattle.std.proofs.Common.{ap, ◌∙◌}
+use Rattle.versions.specs.Chains.{Stamped}
+use Rattle.versions.proofs.ChainLaws.{passed_by, met}
+use Rattle.versions.proofs.chain.Chain.seen.Goals as goal
+
+pub returns-then-version-n : goal.returns-then-version-n
+returns-then-version-n c = c.lend_value-then-version-n.ensures
+    ∙ met c.args.n c.loop-version.version-iterator.iter.rest.now c.next.new.self.iter.rest.now c.in-Some.version.now c.version.inside.number _ c.in-Some.ensures.steps (ap (λ (v : Stamped). v.number) c.version.view_is) c.if-version-n.true c.loop-version.invariant
+
+pub loop-version-preserved : goal.loop-version-preserved
+loop-version-preserved c =
+    passed_by c.args.n c.loop-version.version-iterator.iter.rest.now c.next.new.self.iter.rest.now c.in-Some.version.now c.version.inside.number _ c.in-Some.ensures.steps (ap (λ (v : Stamped). v.number) c.version.view_is) c.if-version-n.false c.loop-version.invariant

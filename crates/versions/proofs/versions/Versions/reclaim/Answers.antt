@@ -1,0 +1,31 @@
+use Rattle.std.proofs.Common.{ℕ, List, ◌≡◌, drop, length, sym, subst, ◌∙◌, ap, refl, arith}
+use Rattle.std.specs.Prelude.{option_map}
+use Rattle.model.specs.Map.{Bytes}
+use Rattle.versions.specs.Chains.{Chains, ChainsValue, IsKept, IsListed, find_chain, reclaimed}
+use Rattle.versions.specs.Meaning.{IsReclaimed}
+use Rattle.versions.proofs.Stores.{reclaimed-whole}
+use Rattle.versions.proofs.Histories.{stands-reclaimed}
+use Rattle.versions.proofs.Calls.{all_items}
+use Rattle.versions.proofs.versions.Versions.reclaim.Goals as goal
+
+whole : (old inside new : ChainsValue) (bs : List ℕ) → inside ≡ old → IsKept inside.chains inside.last → IsKept new.chains new.last → new.last ≡ inside.last
+    → ((k : Bytes) → find_chain k new.chains ≡ option_map (reclaimed bs) (find_chain k inside.chains)) → IsReclaimed old new bs
+whole old inside new bs same kept kept' last each = subst (λ (v : ChainsValue). IsReclaimed v new bs) same (reclaimed-whole inside new bs kept kept' last each)
+
+pub invariant_of-self : goal.invariant_of-self
+invariant_of-self c =
+    let new = c.reclaim_crowded.new.chains in
+    let is = all_items c.self.inside.chains.len new (drop (length new) c.self.inside.chains.items) (omega (arith, c.deref_mut.ensures.len, c.reclaim_crowded.auto.chains)) in
+    let kept = c.reclaim_crowded.ensures.kept c.self.inside.last (subst (λ (l : Chains). IsKept l c.self.inside.last) (sym c.deref_mut.ensures.value) c.self.invariant.0) in
+    (subst (λ (l : Chains). IsKept l c.self.inside.last) (sym is) kept, subst (λ (l : Chains). IsListed l c.reclaim_crowded.new.crowded.items) (sym is) c.reclaim_crowded.ensures.listed)
+
+pub returns-clause-reclaimed : goal.returns-clause-reclaimed
+returns-clause-reclaimed c =
+    let new = c.reclaim_crowded.new.chains in
+    let is = all_items c.self.inside.chains.len new (drop (length new) c.self.inside.chains.items) (omega (arith, c.deref_mut.ensures.len, c.reclaim_crowded.auto.chains)) in
+    let kept = c.reclaim_crowded.ensures.kept c.self.inside.last (subst (λ (l : Chains). IsKept l c.self.inside.last) (sym c.deref_mut.ensures.value) c.self.invariant.0) in
+    whole c.args.self.now _ _ c.args.begins.now c.self.view_is c.self.invariant.0 (subst (λ (l : Chains). IsKept l c.self.inside.last) (sym is) kept) refl
+    (λ (k : Bytes). ap (find_chain k) is ∙ c.reclaim_crowded.ensures.reclaimed k ∙ ap (λ (l : Chains). option_map (reclaimed c.args.begins.now) (find_chain k l)) c.deref_mut.ensures.value)
+
+pub returns-clause-stands : goal.returns-clause-stands
+returns-clause-stands c = λ held base history s. stands-reclaimed c.args.self.now held base history _ c.args.begins.now (returns-clause-reclaimed c) s

@@ -1,0 +1,174 @@
+-- Chains of versions by key, as contracts see them.
+use Rattle.std.specs.Prelude.{◌≡◌, ℕ, T, ◌+◌, ◌-◌, ◌<◌, ◌≤◌, Bool, false, List, [], ◌∷◌, ◌++◌, length, Option, Some, None, option_map, nat_le, nat_lt, ◌&&◌, if◌then◌else◌, IsTrue, ⊤}
+use Rattle.std.specs.List.{AllByRecursion, list_any}
+use Rattle.std.specs.Ordering.{nat_cmp}
+use Rattle.std.specs.Cmp.Lexicographic.{slice_cmp}
+use Rattle.std.specs.FinMap.Entries.{find, is_sorted}
+use Rattle.model.specs.Map.{Bytes, KeyMap, KeyWrite, is_same_key}
+
+-- the commit number of a version and its value, `None` for a deletion
+pub record Stamped : Type 0 where
+  pub number : ℕ
+  pub value : Option Bytes
+
+-- the newest version of a key, those before it by rising number, and how many more fit without memory
+pub record ChainValue : Type 0 where
+  pub older : List Stamped
+  pub newest : Stamped
+  pub room : ℕ
+
+-- chains by key
+abbrev pub Chains : Type 0
+Chains = List (Bytes × ChainValue)
+
+-- the chains by rising key, how many more fit without memory, and the greatest number that was installed, or 0
+pub record ChainsValue : Type 0 where
+  pub chains : Chains
+  pub spare : ℕ
+  -- the keys that may have older versions, and how many more fit without memory
+  pub crowded : List Bytes
+  pub crowded_spare : ℕ
+  pub last : ℕ
+
+-- the last version with a number of at most n, and d where there is none
+abbrev pub last_at : ℕ → Option Stamped → List Stamped → Option Stamped
+last_at n d [] = d
+last_at n d (v ∷ vs) = last_at n (if nat_le v.number n then Some v else d) vs
+
+-- the newest version with a number of at most n
+abbrev pub version_at : ℕ → ChainValue → Option Stamped
+version_at n c = if nat_le c.newest.number n then Some c.newest else last_at n None c.older
+
+abbrev pub value_of : Option Stamped → Option Bytes
+value_of None = None
+value_of (Some v) = v.value
+
+-- what n sees of a chain
+abbrev pub seen : ℕ → ChainValue → Option Bytes
+seen n c = value_of (version_at n c)
+
+abbrev pub seen_in : ℕ → Option ChainValue → Option Bytes
+seen_in n None = None
+seen_in n (Some c) = seen n c
+
+abbrev pub find_chain : Bytes → Chains → Option ChainValue
+find_chain k es = find (slice_cmp nat_cmp) k es
+
+abbrev pub with_value : Bytes → Option Bytes → KeyMap → KeyMap
+with_value k None ps = ps
+with_value k (Some v) ps = (k, v) ∷ ps
+
+-- the pairs that n sees
+abbrev pub visible : ℕ → Chains → KeyMap
+visible n [] = []
+visible n (e ∷ es) = with_value e.0 (seen n e.1) (visible n es)
+
+-- ---- a version more
+
+abbrev pub stamped : ℕ → Option Bytes → Stamped
+stamped n v = record { number = n; value = v }
+
+abbrev pub fresh_chain : Stamped → ℕ → ChainValue
+fresh_chain v room = record { older = []; newest = v; room = room }
+
+abbrev pub longer_chain : ChainValue → Stamped → ℕ → ChainValue
+longer_chain c v room = record { older = c.older ++ c.newest ∷ []; newest = v; room = room }
+
+-- the chain with a version more
+abbrev pub added : Option ChainValue → Stamped → ℕ → ChainValue
+added None v room = fresh_chain v room
+added (Some c) v room = longer_chain c v room
+
+-- a version with number n can be added to the chain without memory
+abbrev pub IsReady : ℕ → Option ChainValue → Type 0
+IsReady n None = ⊤
+IsReady n (Some c) = (c.newest.number < n) × (0 < c.room)
+
+abbrev pub HasRoom : Option ChainValue → Type 0
+HasRoom None = ⊤
+HasRoom (Some c) = 0 < c.room
+
+abbrev pub one_if_new : Option ChainValue → ℕ
+one_if_new None = 1
+one_if_new (Some c) = 0
+
+-- how many of the writes are of keys that have no chain
+abbrev pub new_keys : Chains → List KeyWrite → ℕ
+new_keys es [] = 0
+new_keys es (w ∷ ws) = one_if_new (find_chain w.0 es) + new_keys es ws
+
+-- the writes can be installed without memory
+pub record IsPrepared (v : ChainsValue) (ws : List KeyWrite) : Type 0 where
+  pub chains : AllByRecursion (λ w. HasRoom (find_chain w.0 v.chains)) ws
+  pub spare : new_keys v.chains ws ≤ v.spare
+  pub crowded : length ws ≤ v.crowded_spare
+
+-- ---- what a reclaim leaves
+
+abbrev pub first_number : List Stamped → ℕ → ℕ
+first_number [] n = n
+first_number (v ∷ vs) n = v.number
+
+-- some of the numbers is at least low and below high
+abbrev pub is_between : List ℕ → ℕ → ℕ → Bool
+is_between bs low high = list_any (λ b. nat_le low b && nat_lt b high) bs
+
+-- the versions that some of the numbers sees, where the version after the last one has number next
+abbrev pub seen_by : List ℕ → ℕ → List Stamped → List Stamped
+seen_by bs next [] = []
+seen_by bs next (v ∷ vs) = if is_between bs v.number (first_number vs next) then v ∷ seen_by bs next vs else seen_by bs next vs
+
+abbrev pub reclaimed : List ℕ → ChainValue → ChainValue
+reclaimed bs c = record { older = seen_by bs c.newest.number c.older; newest = c.newest; room = c.room + (length c.older - length (seen_by bs c.newest.number c.older)) }
+
+-- ---- what always holds
+
+-- the numbers rise strictly, up to below n
+abbrev pub IsRisingTo : List Stamped → ℕ → Type 0
+IsRisingTo [] n = ⊤
+IsRisingTo (v ∷ vs) n = AllByRecursion (λ u. v.number < u.number) vs × (v.number < n) × IsRisingTo vs n
+
+abbrev pub IsRisingChain : ℕ → ChainValue → Type 0
+IsRisingChain last c = IsRisingTo c.older c.newest.number × (c.newest.number ≤ last)
+
+-- the chains stand by strictly rising key, and the numbers in each rise
+pub record IsKept (chains : Chains) (last : ℕ) : Type 0 where
+  pub sorted : T (is_sorted (slice_cmp nat_cmp) chains)
+  pub rising : AllByRecursion (λ e. IsRisingChain last e.1) chains
+
+-- ---- which keys have older versions
+
+abbrev pub has_older : Option ChainValue → Bool
+has_older None = false
+has_older (Some c) = nat_lt 0 (length c.older)
+
+abbrev pub is_listed : List Bytes → Bytes → Bool
+is_listed ks k = list_any (is_same_key k) ks
+
+-- each key with older versions is among these
+abbrev pub IsListed : Chains → List Bytes → Type 0
+IsListed chains ks = (k : Bytes) → IsTrue (has_older (find_chain k chains)) → IsTrue (is_listed ks k)
+
+-- the key's chain was reclaimed, and no other has changed
+pub record IsReclaimedAt (bs : List ℕ) (k : Bytes) (old new : Chains) : Type 0 where
+  pub found : (q : Bytes) → find_chain q new ≡ (if is_same_key q k then option_map (reclaimed bs) (find_chain k old) else find_chain q old)
+  pub kept : (last : ℕ) → IsKept old last → IsKept new last
+
+-- ---- chains that are made, and chains with more room
+
+-- the chains of a map's pairs, each with one version of number 0
+abbrev pub base_chains : KeyMap → Chains
+base_chains [] = []
+base_chains (p ∷ ps) = (p.0, fresh_chain (stamped 0 (Some p.1)) 0) ∷ base_chains ps
+
+-- the chain with no less room
+pub record IsRoomierChain (c d : ChainValue) : Type 0 where
+  pub older : d.older ≡ c.older
+  pub newest : d.newest ≡ c.newest
+  pub room : c.room ≤ d.room
+
+-- the same chains, with no less room
+abbrev pub IsRoomier : Chains → Chains → Type 0
+IsRoomier [] [] = ⊤
+IsRoomier (e ∷ es) (f ∷ fs) = (f.0 ≡ e.0) × IsRoomierChain e.1 f.1 × IsRoomier es fs
+IsRoomier _ _ = ⊥

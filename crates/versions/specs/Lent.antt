@@ -1,0 +1,7 @@
+-- The pairs that a range of versions has left.
+use Rattle.model.specs.Map.{KeyMap}
+use Rattle.versions.specs.declared.pairs.Pairs.{Pairs}
+use Rattle.versions.specs.Chains.{visible}
+
+abbrev pub range_pairs : Pairs → KeyMap
+range_pairs p = visible p.n p.chains.now

@@ -1,0 +1,5 @@
+pub mod Chains
+pub mod Meaning
+pub mod StandsFor
+pub mod Lent
+pub mod Laws

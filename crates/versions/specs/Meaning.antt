@@ -1,0 +1,69 @@
+-- What versions mean: a map for each number, the number of each key's newest version, and how many versions are kept.
+use Rattle.std.specs.Prelude.{◌≡◌, ℕ, ◌+◌, Bool, ◌||◌, ◌==◌, nat_le, IsTrue, List, [], ◌∷◌, length, Option, Some, None, option_map, if◌then◌else◌}
+use Rattle.std.specs.List.{AllByRecursion, list_any}
+use Rattle.model.specs.Map.{Bytes, KeyMap, KeyWrite, is_same_key, after_writes}
+use Rattle.versions.specs.Chains.{Stamped, ChainValue, ChainsValue, version_at, visible, find_chain, reclaimed}
+
+-- the map that number n sees
+abbrev pub map_seen : ChainsValue → ℕ → KeyMap
+map_seen v n = visible n v.chains
+
+-- the number of the key's newest version
+abbrev pub newest_of : ChainsValue → Bytes → Option ℕ
+newest_of v k = option_map (λ (c : ChainValue). c.newest.number) (find_chain k v.chains)
+
+abbrev pub kept_in : Option ChainValue → ℕ
+kept_in None = 0
+kept_in (Some c) = length c.older + 1
+
+-- how many versions of the key are kept
+abbrev pub kept_of : ChainsValue → Bytes → ℕ
+kept_of v k = kept_in (find_chain k v.chains)
+
+abbrev pub is_among : List ℕ → ℕ → Bool
+is_among bs n = list_any (λ b. b == n) bs
+
+-- nothing that can be asked for has changed
+pub record IsSameMeaning (old new : ChainsValue) : Type 0 where
+  pub maps : (n : ℕ) → map_seen new n ≡ map_seen old n
+  pub newest : (k : Bytes) → newest_of new k ≡ newest_of old k
+  pub kept : (k : Bytes) → kept_of new k ≡ kept_of old k
+  pub last : new.last ≡ old.last
+
+-- how many of the writes are of the key
+abbrev pub writes_of : List KeyWrite → Bytes → ℕ
+writes_of [] k = 0
+writes_of (w ∷ ws) k = (if is_same_key k w.0 then 1 else 0) + writes_of ws k
+
+abbrev pub is_written_by : List KeyWrite → Bytes → Bool
+is_written_by ws k = list_any (λ w. is_same_key k w.0) ws
+
+-- the writes came in with number n, and nothing else has changed
+pub record IsInstalled (old new : ChainsValue) (n : ℕ) (ws : List KeyWrite) : Type 0 where
+  pub maps : (m : ℕ) → map_seen new m ≡ (if nat_le n m then after_writes (map_seen old m) ws else map_seen old m)
+  pub newest : (k : Bytes) → newest_of new k ≡ (if is_written_by ws k then Some n else newest_of old k)
+  pub kept : (k : Bytes) → kept_of new k ≡ kept_of old k + writes_of ws k
+  pub last : new.last ≡ n
+
+-- each version of a chain is its newest or is the one that some of the numbers sees
+abbrev pub IsSeen : List ℕ → ChainValue → Stamped → Type 0
+IsSeen bs c v = (b : ℕ) × IsTrue (is_among bs b) × (version_at b c ≡ Some v)
+
+abbrev pub IsTightChain : List ℕ → ChainValue → Type 0
+IsTightChain bs c = AllByRecursion (IsSeen bs c) c.older
+
+-- each kept version is the newest of its key or is seen from one of the numbers
+abbrev pub IsTight : List ℕ → ChainsValue → Type 0
+IsTight bs v = (k : Bytes) (c : ChainValue) → find_chain k v.chains ≡ Some c → IsTightChain bs c
+
+-- how many of the key's versions are its newest or are seen from one of the numbers
+abbrev pub needed_of : List ℕ → ChainsValue → Bytes → ℕ
+needed_of bs v k = kept_in (option_map (reclaimed bs) (find_chain k v.chains))
+
+-- what the numbers see, and what the greatest installed and those above it see, hasn't changed, and no other version is kept
+pub record IsReclaimed (old new : ChainsValue) (bs : List ℕ) : Type 0 where
+  pub maps : (n : ℕ) → IsTrue (is_among bs n || nat_le old.last n) → map_seen new n ≡ map_seen old n
+  pub newest : (k : Bytes) → newest_of new k ≡ newest_of old k
+  pub kept : (k : Bytes) → kept_of new k ≡ needed_of bs old k
+  pub last : new.last ≡ old.last
+  pub tight : IsTight bs new

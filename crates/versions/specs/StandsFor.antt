@@ -1,0 +1,25 @@
+-- The histories that versions stand for.
+use Rattle.std.specs.Prelude.{◌≡◌, ℕ, ◌≤◌, Bool, ◌||◌, nat_le, IsTrue, List, [], ◌∷◌, length, Option, Some, option_map, if◌then◌else◌}
+use Rattle.model.specs.Map.{Bytes, KeyMap, IsMap, value_at}
+use Rattle.model.specs.History.{Record, map_at}
+use Rattle.model.specs.Dependency.{writes_key}
+use Rattle.versions.specs.Chains.{ChainsValue}
+use Rattle.versions.specs.Meaning.{map_seen, newest_of}
+
+-- the commit number of the last record that writes the key, and d where none does
+abbrev pub last_writer_from : Option ℕ → List Record → Bytes → Option ℕ
+last_writer_from d [] k = d
+last_writer_from d (r ∷ rs) k = last_writer_from (if writes_key r k then Some r.commit else d) rs k
+
+-- the commit number of the key's last writer, and 0 for a key of the base that has none
+abbrev pub last_writer : KeyMap → List Record → Bytes → Option ℕ
+last_writer base history k = last_writer_from (option_map (λ _. 0) (value_at base k)) history k
+
+-- the versions stand for the history over the base at the numbers that are held
+pub record StandsFor (v : ChainsValue) (held : ℕ → Bool) (base : KeyMap) (history : List Record) : Type 0 where
+  pub is_map : IsMap base
+  -- a number that is held, or that is at least the greatest installed, sees the map at that number
+  pub maps : (n : ℕ) → IsTrue (held n || nat_le v.last n) → map_seen v n ≡ map_at base history n
+  pub newest : (k : Bytes) → newest_of v k ≡ last_writer base history k
+  -- what was installed has the number of a record
+  pub within : v.last ≤ length history

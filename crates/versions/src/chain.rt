@@ -1,0 +1,168 @@
+//! The versions of one key.
+ghost use Rattle.std.specs.Prelude.{◌≡◌, ◌+◌, ◌<◌, ◌≤◌, length, IsOk, OnOk, option_copied};
+ghost use Rattle.model.specs.Map.{key_cmp};
+ghost use Rattle.versions.specs.Chains.{seen, longer_chain, fresh_chain, has_older, reclaimed, is_between};
+
+use model::{Key, KeyRef};
+use std::alloc::{AllocError, Global};
+use std::cmp::Ordering;
+use std::marker::Model;
+use std::mem;
+
+/// What a commit left at a key: a value, or `None` for a deletion.
+#[derive(Drop)]
+pub(crate) struct Version {
+    pub(crate) number: u64,
+    pub(crate) value: Option<Vec<u8>>,
+}
+
+impl Model for Version {
+    ghost use Rattle.std.specs.Prelude.{option_map};
+    ghost use Rattle.versions.specs.Chains.{Stamped};
+
+    ghost Value = { Stamped };
+
+    ghost view = { λ v. record { number = v.number; value = option_map (λ b. b.items) v.value } };
+}
+
+/// The newest version of a key, and those before it by rising number.
+#[derive(Drop)]
+pub(crate) struct Chain {
+    key: Key,
+    newest: Version,
+    older: Vec<Version>,
+}
+
+impl Model for Chain {
+    ghost use Rattle.std.specs.Prelude.{ℕ, List, ◌-◌};
+    ghost use Rattle.std.specs.Vec.{vec_len, vec_capacity};
+    ghost use Rattle.versions.specs.Chains.{ChainValue};
+
+    ghost Value = { List ℕ × ChainValue };
+
+    ghost view = { λ c. (c.key, record { older = c.older.items; newest = c.newest; room = vec_capacity c.older - vec_len c.older }) };
+}
+
+impl Chain {
+    // A chain of one version. Takes no memory.
+    pub(crate) fn new(alloc: Global, key: Key, version: Version) -> Chain
+        ensures { result ≡ (key, fresh_chain version 0) }
+    {
+        Chain {
+            key,
+            newest: version,
+            older: Vec::new(alloc),
+        }
+    }
+
+    pub(crate) fn key(&self) -> KeyRef<'_>
+        ensures { result.bytes.now ≡ self.now.0 }
+    {
+        self.key.lend()
+    }
+
+    // Which of the chain's key and another stands first.
+    pub(crate) fn compare(&self, key: &[u8]) -> Ordering
+        ensures { result ≡ key_cmp self.now.0 key.now }
+    {
+        self.key.lend().bytes().cmp(key)
+    }
+
+    // The number of the newest version.
+    pub(crate) fn number(&self) -> u64
+        ensures { result ≡ self.now.1.newest.number }
+    {
+        self.newest.number
+    }
+
+    // How many versions are kept.
+    pub(crate) fn len(&self) -> usize
+        ensures { result ≡ length self.now.1.older + 1 }
+    {
+        self.older.len() + 1
+    }
+
+    // Is there a version before the newest?
+    pub(crate) fn has_older(&self) -> bool
+        ensures { result ≡ has_older (Some self.now.1) }
+    {
+        !self.older.is_empty()
+    }
+
+    // What number `n` sees. The walk starts at the newest, which most readers see.
+    pub(crate) fn seen(&self, n: u64) -> Option<&[u8]>
+        ensures { option_copied result ≡ seen n self.now.1 }
+    {
+        if self.newest.number <= n {
+            return lend_value(&self.newest);
+        }
+        for version in self.older.iter().rev() {
+            if version.number <= n {
+                return lend_value(version);
+            }
+        }
+        None
+    }
+
+    // Makes room for a version.
+    pub(crate) fn reserve(&mut self) -> Result<(), AllocError>
+        ensures key { self.new.0 ≡ self.old.0 }
+        ensures older { self.new.1.older ≡ self.old.1.older }
+        ensures newest { self.new.1.newest ≡ self.old.1.newest }
+        ensures room { self.old.1.room ≤ self.new.1.room }
+        ensures made { OnOk result (0 < self.new.1.room) }
+        ensures known { 0 < self.old.1.room → IsOk result }
+    {
+        self.older.reserve(1)
+    }
+
+    // Adds a version in the room that was made for it.
+    pub(crate) fn add(&mut self, version: Version)
+        requires { 0 < self.old.1.room }
+        ensures { self.new ≡ (self.old.0, longer_chain self.old.1 version self.new.1.room) }
+    {
+        let before = mem::replace(&mut self.newest, version);
+        match self.older.push(before) {
+            Ok(()) => {}
+            Err(_) => unreachable!(),
+        }
+    }
+
+    // Drops the older versions that none of the numbers sees.
+    pub(crate) fn reclaim(&mut self, begins: &[u64])
+        ensures { self.new ≡ (self.old.0, reclaimed begins.now self.old.1) }
+    {
+        let last = self.newest.number;
+        let mut i = 0;
+        while i < self.older.len() {
+            let next = if i + 1 < self.older.len() {
+                self.older[i + 1].number
+            } else {
+                last
+            };
+            if is_any_between(begins, self.older[i].number, next) {
+                i += 1;
+            } else {
+                let _ = self.older.remove(i);
+            }
+        }
+    }
+}
+
+fn lend_value(version: &Version) -> Option<&[u8]>
+    ensures { option_copied result ≡ version.now.value }
+{
+    match &version.value {
+        None => None,
+        Some(value) => Some(value.as_slice()),
+    }
+}
+
+// Is some number at least `low` and below `high`?
+fn is_any_between(numbers: &[u64], low: u64, high: u64) -> bool
+    ensures { result ≡ is_between numbers.now low high }
+{
+    numbers
+        .iter()
+        .any(|number| low <= *number && *number < high)
+}

@@ -1,0 +1,19 @@
+//! The versions of the store's values: a chain of them for each key, by commit number.
+//!
+//! A reader asks by number and is lent what the commits up to that number left, so a transaction that began at a number sees one
+//! map as long as that number is held. Old versions go where no held number sees them.
+#![tactic(auto)]
+
+mod chain;
+mod laws;
+mod pairs;
+mod reclaiming;
+mod searching;
+mod versions;
+
+pub use laws::{history_has_maps, numbers_change, read_only_record_follows};
+pub use pairs::Pairs;
+pub use versions::Versions;
+
+#[cfg(test)]
+mod tests;

@@ -1,0 +1,44 @@
+//! Lent pairs of a key and a value.
+use crate::chain::Chain;
+use model::KeyRef;
+
+/// The pairs of a range that one number sees, by rising key. Its calls take no memory.
+#[derive(Clone, Copy)]
+pub struct Pairs<'a> {
+    chains: &'a [Chain],
+    n: u64,
+}
+
+impl<'a> Pairs<'a> {
+    ghost use Rattle.std.specs.Prelude.{◌≡◌};
+    ghost use Rattle.versions.specs.Chains.{visible};
+    ghost use Rattle.versions.specs.Lent.{range_pairs};
+
+    pub(crate) fn new(chains: &'a [Chain], n: u64) -> Pairs<'a>
+        ensures { range_pairs result ≡ visible n chains.now }
+    {
+        Pairs { chains, n }
+    }
+}
+
+impl<'a> Iterator for Pairs<'a> {
+    type Item = (KeyRef<'a>, &'a [u8]);
+
+    ghost use Rattle.std.specs.Iterator.{YieldsFirstBy, item_count};
+    ghost use Rattle.model.specs.KeyBytes.{pair_bytes};
+    ghost use Rattle.versions.specs.Lent.{range_pairs};
+
+    ghost next_gives = { YieldsFirstBy pair_bytes range_pairs };
+
+    ghost remaining = { item_count range_pairs };
+
+    fn next(&mut self) -> Option<(KeyRef<'a>, &'a [u8])> {
+        while let Some((first, rest)) = self.chains.split_first() {
+            self.chains = rest;
+            if let Some(value) = first.seen(self.n) {
+                return Some((first.key(), value));
+            }
+        }
+        None
+    }
+}

@@ -1,0 +1,215 @@
+//! The versions of all keys.
+ghost use Rattle.std.specs.Prelude.{◌≡◌, ◌≢◌, ℕ, T, true, ◌+◌, ◌≤◌, ◌<◌, ◌&&◌, Bool, List, [], ◌∷◌, ◌++◌, length, IsOk, IfOk, OnOk, option_map, option_copied};
+ghost use Rattle.std.specs.Ordering.{nat_cmp};
+ghost use Rattle.std.specs.Cmp.Lexicographic.{slice_cmp};
+ghost use Rattle.std.specs.FinMap.Entries.{put, is_sorted, where_key};
+ghost use Rattle.model.specs.Map.{KeyMap, IsMap, value_at, pairs_in_range, is_below};
+ghost use Rattle.model.specs.History.{Record};
+ghost use Rattle.versions.specs.Chains.{IsPrepared, IsReady, HasRoom, IsRoomier, find_chain, one_if_new, added, stamped};
+ghost use Rattle.versions.specs.Meaning.{map_seen, newest_of, kept_of, is_among, IsSameMeaning, IsInstalled, IsReclaimed};
+ghost use Rattle.versions.specs.Lent.{range_pairs};
+ghost use Rattle.versions.specs.StandsFor.{StandsFor};
+
+use crate::chain::{Chain, Version};
+use crate::pairs::Pairs;
+use crate::reclaiming::reclaim_crowded;
+use crate::searching::{search, split_place};
+use model::{Key, KeyRef, Map, Memory, RangeRef, Write};
+use std::alloc::{AllocError, Global};
+use std::marker::Model;
+
+/// The versions of all keys, found by binary search. A clause sees the map that each number sees (`map_seen`), the number of each
+/// key's newest version (`newest_of`), how many versions of it are kept (`kept_of`), and the histories that these stand for
+/// (`StandsFor`).
+#[derive(Drop)]
+pub struct Versions {
+    // by rising key
+    chains: Vec<Chain>,
+    // the keys with older versions, so that a reclaim need not look at the others
+    crowded: Vec<Key>,
+    // the greatest number that was installed
+    last: u64,
+}
+
+impl Model for Versions {
+    ghost use Rattle.std.specs.Prelude.{◌-◌};
+    ghost use Rattle.std.specs.Vec.{vec_len, vec_capacity};
+    ghost use Rattle.versions.specs.Chains.{ChainsValue, IsKept, IsListed};
+
+    ghost Value = { ChainsValue };
+
+    ghost view = { λ v. record { chains = v.chains.items; spare = vec_capacity v.chains - vec_len v.chains; crowded = v.crowded.items; crowded_spare = vec_capacity v.crowded - vec_len v.crowded; last = v.last } };
+
+    ghost invariant = { λ v. IsKept v.chains.items v.last × IsListed v.chains.items v.crowded.items };
+}
+
+impl Versions {
+    /// The versions of an opened map, all of number 0. It takes a chain for each key of the map; `Memory` where they are refused.
+    pub fn from_map(alloc: Global, map: Map) -> Result<Versions, Memory>
+        ensures { IfOk result (λ v. StandsFor v (λ _. true) map []) }
+    {
+        let mut rest = map;
+        let mut chains = Vec::with_capacity(alloc, rest.len())?;
+        while let Some((key, value)) = rest.pop_first() {
+            let newest = Version {
+                number: 0,
+                value: Some(value),
+            };
+            chains.push(Chain::new(alloc, key, newest))?;
+        }
+        Ok(Versions {
+            chains,
+            crowded: Vec::new(alloc),
+            last: 0,
+        })
+    }
+
+    /// Lends the value that number `n` sees at the key, and `None` where it sees none. Takes no memory.
+    pub fn at(&self, n: u64, key: KeyRef<'_>) -> Option<&[u8]>
+        ensures { option_copied result ≡ value_at (map_seen self.now n) key.entry.bytes.now }
+    {
+        match search(&self.chains, key.bytes()) {
+            Ok(i) => self.chains[i].seen(n),
+            Err(_) => None,
+        }
+    }
+
+    /// Lends the pairs of the range that number `n` sees, by rising key. Takes no memory.
+    pub fn range(&self, n: u64, range: RangeRef<'_>) -> Pairs<'_>
+        ensures { range_pairs result ≡ pairs_in_range (map_seen self.now n) range.entry.lo.bytes.now (option_map (λ k. k.bytes.now) range.entry.hi) }
+    {
+        let below = self.below(range.hi);
+        let start = split_place(below, range.lo.bytes());
+        Pairs::new(&below[start..], n)
+    }
+
+    // The chains below the upper end, where there is one.
+    fn below(&self, hi: Option<KeyRef<'_>>) -> &[Chain]
+        ensures below { result.now ≡ where_key (slice_cmp nat_cmp) (λ q. is_below q (option_map (λ k. k.bytes.now) hi.entry)) self.now.chains }
+        ensures sorted { T (is_sorted (slice_cmp nat_cmp) result.now) }
+    {
+        let chains = self.chains.as_slice();
+        match hi {
+            None => chains,
+            Some(hi) => &chains[..split_place(chains, hi.bytes())],
+        }
+    }
+
+    /// The number of the key's newest version, be it a value or a deletion: that of its last commit, and 0 for a value of the opened
+    /// map. `None` where the key was never there. Takes no memory.
+    pub fn newest(&self, key: KeyRef<'_>) -> Option<u64>
+        ensures { result ≡ newest_of self.now key.entry.bytes.now }
+    {
+        match search(&self.chains, key.bytes()) {
+            Ok(i) => Some(self.chains[i].number()),
+            Err(_) => None,
+        }
+    }
+
+    /// How many versions of the key are kept; a deletion counts too. Takes no memory.
+    pub fn kept(&self, key: KeyRef<'_>) -> usize
+        ensures { result ≡ kept_of self.now key.entry.bytes.now }
+    {
+        match search(&self.chains, key.bytes()) {
+            Ok(i) => self.chains[i].len(),
+            Err(_) => 0,
+        }
+    }
+
+    // Makes room in the key's chain, and says how many chains the key needs.
+    fn make_room(&mut self, key: &[u8]) -> Result<usize, AllocError>
+        ensures chains { IsRoomier self.old.chains self.new.chains }
+        ensures spare { self.new.spare ≡ self.old.spare }
+        ensures crowded { self.new.crowded ≡ self.old.crowded }
+        ensures crowded_spare { self.new.crowded_spare ≡ self.old.crowded_spare }
+        ensures last { self.new.last ≡ self.old.last }
+        ensures room { OnOk result (HasRoom (find_chain key.now self.new.chains)) }
+        ensures new { IfOk result (λ count. count ≡ one_if_new (find_chain key.now self.new.chains)) }
+        ensures known { HasRoom (find_chain key.now self.old.chains) → IsOk result }
+    {
+        match search(&self.chains, key) {
+            Ok(i) => {
+                self.chains[i].reserve()?;
+                Ok(0)
+            }
+            Err(_) => Ok(1),
+        }
+    }
+
+    /// Makes the room in which these writes can be installed: once for all chains of new keys, once in the chain of each other key,
+    /// and for a list of the keys. What the versions mean stays, also where memory is refused, which is answered by `Memory`.
+    /// Where the room is there already, it takes none and succeeds.
+    pub fn prepare(&mut self, writes: &[Write]) -> Result<(), Memory>
+        ensures prepared { OnOk result (IsPrepared self.new writes.now) }
+        ensures known { IsPrepared self.old writes.now → IsOk result }
+        ensures same { IsSameMeaning self.old self.new }
+        ensures stands { (held : ℕ → Bool) (base : KeyMap) (history : List Record) → StandsFor self.old held base history → StandsFor self.new held base history }
+    {
+        let mut new_chains = 0;
+        for write in writes {
+            new_chains += self.make_room(write.lend_key().bytes())?;
+        }
+        self.chains.reserve(new_chains)?;
+        self.crowded.reserve(writes.len())?;
+        Ok(())
+    }
+
+    // Adds a version in the room that was made for it.
+    fn add(&mut self, n: u64, write: Write)
+        requires ready { IsReady n (find_chain write.0 self.old.chains) }
+        requires spare { one_if_new (find_chain write.0 self.old.chains) ≤ self.old.spare }
+        requires crowded_spare { 1 ≤ self.old.crowded_spare }
+        requires within { n ≤ self.old.last }
+        ensures chains { (room : ℕ) × (self.new.chains ≡ put (slice_cmp nat_cmp) write.0 (added (find_chain write.0 self.old.chains) (stamped n write.1) room) self.old.chains) }
+        ensures spare { self.old.spare ≤ self.new.spare + one_if_new (find_chain write.0 self.old.chains) }
+        ensures crowded_spare { self.old.crowded_spare ≤ self.new.crowded_spare + 1 }
+        ensures last { self.new.last ≡ self.old.last }
+    {
+        let (key, value) = write.into_parts();
+        let version = Version { number: n, value };
+        match search(&self.chains, key.lend().bytes()) {
+            Ok(i) => {
+                let is_listed = self.chains[i].has_older();
+                self.chains[i].add(version);
+                if !is_listed {
+                    match self.crowded.push(key) {
+                        Ok(()) => {}
+                        Err(_) => unreachable!(),
+                    }
+                }
+            }
+            Err(i) => {
+                let alloc = *self.chains.allocator();
+                match self.chains.insert(i, Chain::new(alloc, key, version)) {
+                    Ok(()) => {}
+                    Err(_) => unreachable!(),
+                }
+            }
+        }
+    }
+
+    /// Installs the writes of commit `n` in the room that `prepare` made for them. No number below `n` sees another map than before.
+    /// Takes no memory.
+    pub fn install(&mut self, n: u64, writes: Vec<Write>)
+        requires some { writes.items ≢ [] }
+        requires rising { T (is_sorted (slice_cmp nat_cmp) writes.items) }
+        requires prepared { IsPrepared self.old writes.items }
+        requires above { self.old.last < n }
+        ensures installed { IsInstalled self.old self.new n writes.items }
+        ensures stands { (held : ℕ → Bool) (base : KeyMap) (history : List Record) (r : Record) → StandsFor self.old held base history → length history + 1 ≡ n → r.commit ≡ n → r.writes ≡ writes.items → StandsFor self.new held base (history ++ r ∷ []) }
+    {
+        self.last = n;
+        for write in writes {
+            self.add(n, write);
+        }
+    }
+
+    /// Drops the versions that are neither the newest of their keys nor seen from one of the numbers; there may be no number. A
+    /// deletion that is the newest version of its key stays. Looks at the keys with older versions alone, and takes no memory.
+    pub fn reclaim(&mut self, begins: &[u64])
+        ensures reclaimed { IsReclaimed self.old self.new begins.now }
+        ensures stands { (held : ℕ → Bool) (base : KeyMap) (history : List Record) → StandsFor self.old held base history → StandsFor self.new (λ n. held n && is_among begins.now n) base history }
+    {
+        reclaim_crowded(&mut self.chains, &mut self.crowded, begins);
+    }
+}
