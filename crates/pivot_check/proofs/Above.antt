@@ -4,7 +4,7 @@ use Rattle.std.specs.Prelude.{nat_lt}
 use Rattle.std.specs.List.{filter}
 use Rattle.std.proofs.lemmas.Bool.{lt-ltb, ltb-true}
 use Rattle.snapshot.specs.View.{View}
-use Rattle.pivot_check.specs.Kept.{KeptRecord, Facts, AreAbove, with_dependencies, own_record, since, IsInReach}
+use Rattle.pivot_check.specs.Kept.{KeptRecord, Facts, AreAbove, with_dependencies, own_record, since}
 use Rattle.pivot_check.proofs.Histories.{after_note}
 
 pub filter_above : (m : ℕ) (ks : List KeptRecord) → AreAbove m (filter (λ k. nat_lt m k.commit) ks)
@@ -32,5 +32,5 @@ changed_above m (suc n) t [] h = tt
 changed_above m (suc n) t (k ∷ ks) h = (h.0, changed_above m n t ks h.1)
 
 -- the records once the transaction has committed as number n
-pub note_above : (f : Facts) (t : View) (n : ℕ) → AreAbove f.oldest f.records → IsInReach f t → n ≡ f.last + 1 → AreAbove f.oldest (after_note f t ++ own_record (since f t.begin) t n ∷ [])
-note_above f t n h reach next = push_above f.oldest (after_note f t) (own_record (since f t.begin) t n) (changed_above f.oldest _ t f.records h) (let a = reach.held in let b = reach.begun in omega arith)
+pub note_above : (f : Facts) (t : View) (n : ℕ) → AreAbove f.oldest f.records → f.oldest ≤ f.last → n ≡ f.last + 1 → AreAbove f.oldest (after_note f t ++ own_record (since f t.begin) t n ∷ [])
+note_above f t n h below next = push_above f.oldest (after_note f t) (own_record (since f t.begin) t n) (changed_above f.oldest _ t f.records h) (omega arith)

@@ -29,7 +29,7 @@ pub struct Committed {
 }
 
 impl Model for Committed {
-    ghost use Rattle.std.specs.Prelude.{◌-◌};
+    ghost use Rattle.std.specs.Prelude.{◌-◌, ◌≤◌};
     ghost use Rattle.std.specs.Vec.{vec_len, vec_capacity};
     ghost use Rattle.pivot_check.specs.Kept.{CommittedValue, AreAbove};
 
@@ -42,7 +42,7 @@ impl Model for Committed {
       room = record { places = vec_capacity c.records - vec_len c.records; ready = ready_of c.ready };
     } };
 
-    ghost invariant = { λ c. AreAbove c.oldest (records_of c.records.items) };
+    ghost invariant = { λ c. (c.oldest ≤ c.last) × AreAbove c.oldest (records_of c.records.items) };
 }
 
 impl Committed {
@@ -84,17 +84,14 @@ impl Committed {
 
     // The place of the first record that committed after `begin`: commit numbers have no gaps.
     fn start(&self, begin: u64) -> usize
-        requires { begin ≤ self.now.facts.last }
         ensures place { result ≡ length self.now.facts.records - (self.now.facts.last - begin) }
     {
-        self.records
-            .len()
-            .saturating_sub((self.last - begin) as usize)
+        let later = self.last.saturating_sub(begin);
+        self.kept().saturating_sub(later as usize)
     }
 
     // The records that committed after `begin`.
     fn since(&self, begin: u64) -> &[Kept]
-        requires { begin ≤ self.now.facts.last }
         ensures { records_of result.now ≡ since self.now.facts begin }
     {
         let start = self.start(begin);
@@ -108,8 +105,7 @@ impl Committed {
     /// It looks at the concurrent records alone. For each it takes a binary search for each mark of the one side among the keys of the
     /// other, and one for each written key. Takes no memory.
     pub fn verdict(&self, tx: &Transaction) -> Verdict
-        requires { IsInReach self.now.facts tx.now }
-        ensures verdict { IsVerdict self.now.facts tx.now result }
+        ensures verdict { IsInReach self.now.facts tx.now → IsVerdict self.now.facts tx.now result }
         ensures place { IsPlaced result tx.now.writes }
     {
         let concurrent = self.since(tx.begin());
@@ -137,10 +133,8 @@ impl Committed {
     /// records alone, as `verdict` does. Takes no memory: `reserve` made room.
     pub fn note(&mut self, tx: &Transaction, n: u64)
         requires next { n ≡ self.old.facts.last + 1 }
-        requires in_reach { IsInReach self.old.facts tx.now }
-        requires clear { IsClear self.old.facts tx.now }
         requires room { HasRoom self.old.room tx.now }
-        ensures stands_for { (h : List Record) → StandsFor self.old.facts h → (r : Record) → IsRecordOf tx.now n r → StandsFor self.new.facts (h ++ r ∷ []) }
+        ensures stands_for { IsInReach self.old.facts tx.now → IsClear self.old.facts tx.now → (h : List Record) → StandsFor self.old.facts h → (r : Record) → IsRecordOf tx.now n r → StandsFor self.new.facts (h ++ r ∷ []) }
         ensures last { self.new.facts.last ≡ n }
         ensures oldest { self.new.facts.oldest ≡ self.old.facts.oldest }
     {

@@ -32,7 +32,10 @@ returns-then-oldest-self-clause-records c = left c
 pub returns-else-oldest-self-clause-records : goal.returns-else-oldest-self-clause-records
 returns-else-oldest-self-clause-records c =
     let was : records_of c.self.inside.records.items ≡ c.args.self.now.facts.records = ap (λ (v : CommittedValue). v.facts.records) c.self.view_is in
-    filter_all c.args.oldest c.self.inside.oldest c.args.self.now.facts.records (omega arith) (subst (AreAbove c.self.inside.oldest) was c.self.invariant)
+    filter_all c.args.oldest c.self.inside.oldest c.args.self.now.facts.records (omega arith) (subst (AreAbove c.self.inside.oldest) was c.self.invariant.1)
 
 pub invariant_of-self : goal.invariant_of-self
-invariant_of-self c = subst (AreAbove c.args.oldest) (sym (left c)) (filter_above c.args.oldest c.args.self.now.facts.records)
+invariant_of-self c =
+    let last = ap (λ (v : CommittedValue). v.facts.last) c.self.view_is in
+    let within = c.requires in
+    (omega (arith, last, within), subst (AreAbove c.args.oldest) (sym (left c)) (filter_above c.args.oldest c.args.self.now.facts.records))

@@ -75,13 +75,17 @@ same : (c : goal.After-self-2-1) → ◌≡◌ {A = Facts} (record { records = a
 same c = sym (λ i. record { records = records c i; oldest = ap (λ (v : CommittedValue). v.facts.oldest) c.self.view_is i; last = c.args.n })
 
 pub returns-clause-stands_for : goal.returns-clause-stands_for
-returns-clause-stands_for c = λ h s r own.
-    subst (λ (f : Facts). StandsFor f (h ++ r ∷ [])) (same c) (notes c.args.self.now.facts h s c.args.tx.now c.requires.in_reach c.args.n c.requires.next r own c.requires.clear)
+returns-clause-stands_for c = λ reach clear h s r own.
+    subst (λ (f : Facts). StandsFor f (h ++ r ∷ [])) (same c) (notes c.args.self.now.facts h s c.args.tx.now reach c.args.n c.requires.next r own clear)
 
 pub invariant_of-self : goal.invariant_of-self
 invariant_of-self c =
     let f = c.args.self.now.facts in
     let t = c.args.tx.now in
     let oldest = ap (λ (v : CommittedValue). v.facts.oldest) c.self.view_is in
-    subst (AreAbove c.self.inside.oldest) (sym (records c)) (subst (λ (m : ℕ). AreAbove m (after_note f t ++ own_record (since f t.begin) t c.args.n ∷ [])) (sym oldest)
-    (note_above f t c.args.n (subst (AreAbove f.oldest) (was c) (subst (λ (m : ℕ). AreAbove m (records_of c.self.inside.records.items)) oldest c.self.invariant)) c.requires.in_reach c.requires.next))
+    let last = ap (λ (v : CommittedValue). v.facts.last) c.self.view_is in
+    let below = c.self.invariant.0 in let next = c.requires.next in (
+      omega (arith, below, last, next),
+      subst (AreAbove c.self.inside.oldest) (sym (records c)) (subst (λ (m : ℕ). AreAbove m (after_note f t ++ own_record (since f t.begin) t c.args.n ∷ [])) (sym oldest)
+          (note_above f t c.args.n (subst (AreAbove f.oldest) (was c) (subst (λ (m : ℕ). AreAbove m (records_of c.self.inside.records.items)) oldest c.self.invariant.1)) (omega (arith, below, oldest, last)) next)),
+    )

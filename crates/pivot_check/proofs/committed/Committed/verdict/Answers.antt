@@ -13,7 +13,7 @@ places : (rs ks : List KeptRecord) (ws vs : List KeyWrite) (o : Option ℕ) → 
 places rs ks ws vs o e g h = h ∙ (λ i. position (λ w. is_written (e i) w.0) (g i))
 
 pub returns-in-Some-clause-verdict : goal.returns-in-Some-clause-verdict
-returns-in-Some-clause-verdict c = λ h s r own. says_overwritten c.args.self.now.facts h s c.args.tx.now c.requires r own c.in-Some.i
+returns-in-Some-clause-verdict c = λ reach h s r own. says_overwritten c.args.self.now.facts h s c.args.tx.now reach r own c.in-Some.i
     (places (records_of c.since-concurrent.result.now) (since c.args.self.now.facts c.args.tx.now.begin) c.entries.result.now c.args.tx.now.writes (Some c.in-Some.i)
     (c.since-concurrent.ensures ∙ ap (since c.args.self.now.facts) c.begin.ensures) c.entries.ensures.writes c.in-Some.ensures)
 
@@ -22,7 +22,7 @@ returns-in-None-clause-verdict c =
     let t = c.args.tx.now in
     let concurrent = since c.args.self.now.facts t.begin in
     let e : records_of c.since-concurrent.result.now ≡ concurrent = c.since-concurrent.ensures ∙ ap (since c.args.self.now.facts) c.begin.ensures in
-    λ h s r own. says_found c.args.self.now.facts h s t c.requires r own
+    λ reach h s r own. says_found c.args.self.now.facts h s t reach r own
     (places (records_of c.since-concurrent.result.now) concurrent c.entries.result.now t.writes None e c.entries.ensures.writes c.in-None.ensures)
     (c.of.result.own.has_in && c.of.result.own.has_out) (λ i. (c.of.ensures.has_in ∙ ap (list_any (λ r. leads_to r t)) e) i && (c.of.ensures.has_out ∙ ap (list_any (λ r. follows r t)) e) i)
     c.of.result.pivot (c.of.ensures.pivot ∙ ap (λ rs. option_map (λ (r : KeptRecord). r.commit) (find (becomes_pivot t) rs)) e)
