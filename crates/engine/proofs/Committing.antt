@@ -1,0 +1,371 @@
+-- What a commit does to the states that an engine stands for.
+use Rattle.std.proofs.Common.{◌≡◌, ◌⊎◌, ◌<◌, ◌≤◌, ◌+◌, ◌-◌, ◌^◌, ◌↔◌, ℕ, suc, zero, Bool, true, false, List, [], ◌∷◌, ◌++◌, Option, Some, None, refl, sym, ap, subst, ◌∙◌, length, length-append, arith, ◌||◌, inl, inr}
+use Rattle.std.specs.Prelude.{nat_lt, nat_le, not, ◌==◌, IsTrue, if◌then◌else◌, slice_get, slice_index_or, Err}
+use Rattle.std.specs.List.{AllByRecursion}
+use Rattle.std.specs.Ordering.{nat_cmp}
+use Rattle.std.specs.Map.{lookup, remove_entry}
+use Rattle.std.specs.BTreeMap.{is_at}
+use Rattle.std.specs.FinMap.Entries.{where_key, is_sorted-where_key}
+use Rattle.std.proofs.lemmas.Bool.{lt-ltb, le-ltb, le-leb, eq-eqb, ne_eqb, or_left, or_right, cases_lt, both_ways}
+use Rattle.model.specs.declared.refusals.Refusal.{Refusal}
+use Rattle.model.specs.declared.refusals.Refusal.TheVariants.{StoreStopped, FullNumbers, FullLog, StoreFault, Overwritten, PivotSelf, Pivot}
+use Rattle.model.specs.Map.{Bytes, KeyMap, KeyWrite, after_writes}
+use Rattle.model.specs.Operations.{Operation, Response}
+use Rattle.model.specs.Operations.Operation.{Commit}
+use Rattle.model.specs.Operations.Response.{Number, Refused}
+use Rattle.model.specs.History.{Record, map_at}
+use Rattle.model.specs.Verdict.{verdict}
+use Rattle.model.specs.Machine.{State, Running, last, snapshot, leave, record_to_commit, refuse, join_history, body_sectors, store, store_unless, commit, step, IsReached}
+use Rattle.model.proofs.Machines.{map_at-append, commit_low}
+use Rattle.snapshot.specs.View.{View}
+use Rattle.snapshot.specs.Made.{HasMade}
+use Rattle.model.specs.PrivateCopy.{PrivateCopy, writes}
+use Rattle.pivot_check.specs.Kept.{Facts, CommittedValue, IsInReach}
+use Rattle.pivot_check.specs.StandsFor.{IsRecordOf, IsVerdict, IsClear, StandsFor as CommittedStandsFor}
+use Rattle.pivot_check.specs.declared.Verdict.{Verdict}
+use Rattle.pivot_check.specs.declared.Verdict.TheVariants as verdicts
+use Rattle.sector.specs.declared.device.Sectors.{Ghosts}
+use Rattle.sector.specs.Failures.{Rose, Stayed}
+use Rattle.sector.specs.SectorModel.{LeavesOnly}
+use Rattle.commit_log.specs.declared.log.Log.{Log}
+use Rattle.commit_log.specs.LogState.{is_stopped, used_sectors, sector_count}
+use Rattle.engine.specs.HistoryValue.{HistoryValue, HistoryStandsFor, IsSameHistory}
+use Rattle.engine.specs.declared.engine.Engine.{Engine}
+use Rattle.engine.specs.StandsFor.{StandsFor, IsRunning, AreRunning}
+use Rattle.engine.specs.Changes.{entry_of, Leaves, IsWritten, HasLogRoom, IsLogged, IsLogStopped, sectors_taken}
+use Rattle.engine.specs.declared.faults.EngineFault.{EngineFault}
+use Rattle.engine.specs.declared.faults.EngineFault.TheVariants.{Refused as Refusing}
+use Rattle.engine.specs.Meaning.{StandsForSame, Leads, IsReadOnly, has_risen, response_to}
+use Rattle.engine.specs.Recovery.{IsStored, HoldsMap, committed_map}
+use Rattle.engine.proofs.Sessions.{IsFound, beside_remove, beside_weaker}
+use Rattle.engine.proofs.Steps.{step_with, reached_step, commit_stopped, commit_numbers, commit_judged, store_full, store_fault, store_joined, map_at_push, map_at_all}
+use Rattle.engine.proofs.Calls.{Held, found_open, ended}
+
+-- ---- memory made ready
+
+pub same_history : (a b : HistoryValue) (held : ℕ → Bool) (base : KeyMap) (history : List Record) → IsSameHistory a b → HistoryStandsFor a held base history → HistoryStandsFor b held base history
+same_history a b held base history same h =
+    let v = same.versions in let old = h.versions in
+    record {
+      versions = record {
+        is_map = old.is_map;
+        maps = λ n t. v.maps n ∙ old.maps n (subst (λ l. IsTrue (held n || nat_le l n)) v.last t);
+        newest = λ k. v.newest k ∙ old.newest k;
+        within = subst (λ l. l ≤ length history) (sym v.last) old.within;
+      };
+      committed = subst (λ f. CommittedStandsFor f history) (sym same.facts) h.committed;
+    }
+
+pub same_turned : (a b : HistoryValue) → IsSameHistory a b → IsSameHistory b a
+same_turned a b same =
+    let v = same.versions in
+    record { versions = record { maps = λ n. sym (v.maps n); newest = λ k. sym (v.newest k); kept = λ k. sym (v.kept k); last = sym v.last }; facts = sym same.facts }
+
+are_running : (facts facts' : Facts) (held : ℕ → Bool) (base : KeyMap) (history : List Record) (es es' : List (ℕ × View)) (rs : List (ℕ × Running)) → facts ≡ facts' → es ≡ es'
+    → AreRunning facts held base history es rs → AreRunning facts' held base history es' rs
+are_running facts facts' held base history es es' rs f x h = subst (λ (l : List (ℕ × View)). AreRunning facts' held base history l rs) x (subst (λ (k : Facts). AreRunning k held base history es rs) f h)
+
+-- ---- places
+
+at_place : (ws : List KeyWrite) (i : ℕ) (w : KeyWrite) → slice_get ws i ≡ Some w → slice_index_or ws i w ≡ w
+at_place [] i w e = cc
+at_place (x ∷ ws) zero w e = cc
+at_place (x ∷ ws) (suc i) w e = at_place ws i w e
+
+written_or_not : (ws : List KeyWrite) → (ws ≡ []) ⊎ IsWritten ws
+written_or_not [] = inl refl
+written_or_not (w ∷ ws) = inr (λ e. cc)
+
+-- no room in the log
+pub no_room : (b : Bool) (used count : ℕ) (ws : List KeyWrite) → (IsTrue b ↔ HasLogRoom used count ws) → b ≡ false → IsWritten ws × (count ≤ used + body_sectors ws)
+no_room b used count ws iff e = elim (written_or_not ws) [
+  | inl none ↦ absurd (both_ways b e (iff.1 (λ some. absurd (some none))))
+  | inr some ↦ (some, elim (cases_lt (used + body_sectors ws) count) [ inl lt ↦ absurd (both_ways b e (iff.1 (λ s. lt))) | inr le ↦ le ])
+]
+
+-- ---- the device's failures
+
+pub not_risen : (before now : ℕ) → Stayed before now → has_risen before now ≡ false
+not_risen before now h =
+    let a : nat_lt before now ≡ false = le-ltb before now (omega (arith, h.0)) in
+    let b : (before == 2 ^ 64 - 1) ≡ false = ne_eqb before (2 ^ 64 - 1) (λ k. omega (arith, h.1)) in
+    rw (a, b) refl
+
+pub risen : (before now : ℕ) → Rose before now → has_risen before now ≡ true
+risen before now h = elim h [
+  | inl l ↦ or_left (nat_lt before now) (before == 2 ^ 64 - 1) (lt-ltb before now l)
+  | inr r ↦ or_right (nat_lt before now) (before == 2 ^ 64 - 1) (eq-eqb before (2 ^ 64 - 1) r.0)
+]
+
+some_same : {X : Type 0} (x y : X) → Some x ≡ Some y → x ≡ y
+some_same x y q = cc
+
+module _ {D : Type 0} {g : Ghosts D} where
+  pub same_with : (e e' : Engine D g) (m : State) → e'.log ≡ e.log → e'.running.entries ≡ e.running.entries → IsSameHistory e.history e'.history → StandsFor e m → StandsFor e' m
+  same_with e e' m log entries same h = record {
+    reached = h.reached;
+    stopped = h.stopped ∙ ap is_stopped (sym log);
+    used = subst (λ (l : Log D g). m.used ≡ l.gate + 1) (sym log) h.used;
+    count = subst (λ (l : Log D g). m.count ≡ g.size l.device) (sym log) h.count;
+    stored = subst (λ (l : Log D g). g.keeps_model → is_stopped l ≡ false → IsStored l (map_at m.base m.history (length m.history))) (sym log) h.stored;
+    held = h.held;
+    history = same_history e.history e'.history h.held m.base m.history same h.history;
+    kept = subst (λ (f : Facts). f.oldest ≤ length m.history) (sym same.facts) h.kept;
+    few = h.few;
+    running = are_running e.history.committed.facts e'.history.committed.facts h.held m.base m.history e.running.entries e'.running.entries m.running (sym same.facts) (sym entries) h.running;
+    sorted = h.sorted;
+    few_open = subst (λ (es : List (ℕ × View)). length es ≤ 64) (sym entries) h.few_open;
+  }
+
+  -- memory was refused
+  pub refused_memory : (e e' : Engine D g) → e'.log ≡ e.log → e'.running.entries ≡ e.running.entries → IsSameHistory e.history e'.history → StandsForSame e e'
+  refused_memory e e' log entries same m = (same_with e e' m log entries same, same_with e' e m (sym log) (sym entries) (same_turned e.history e'.history same))
+
+  -- ---- a commit that is refused, and ends the transaction
+
+  pub told : {A : Type 0} (e e' : Engine D g) (s : ℕ) (failed : Bool) (f : A → Response) (result : EngineFault) (refusal : Refusal) → result ≡ Refusing refusal → Leads e e' s Commit failed (Some (Refused refusal))
+      → Leads e e' s Commit failed (response_to f (Err result))
+  told e e' s failed f result refusal is h = subst (λ r. Leads e e' s Commit failed (response_to f (Err r))) (sym is) h
+
+  commit_ended : (e e' : Engine D g) (s : ℕ) (t : View) (failed : Bool) (refusal : Refusal) → entry_of s e ≡ Some t → Leaves e e' s
+      → ((m : State) (r : Running) (h : StandsFor e m) → Held e m h t r → commit m s r failed ≡ refuse m s refusal) → Leads e e' s Commit failed (Some (Refused refusal))
+  commit_ended e e' s t failed refusal some leaves says = ended e e' s t Commit failed (Refused refusal) some leaves (λ m r h is same. says m r h same)
+
+  pub ended_stopped : (e e' : Engine D g) (s : ℕ) (t : View) (failed : Bool) → entry_of s e ≡ Some t → Leaves e e' s → is_stopped e.log ≡ true → Leads e e' s Commit failed (Some (Refused StoreStopped))
+  ended_stopped e e' s t failed some leaves stopped = commit_ended e e' s t failed StoreStopped some leaves (λ m r h same. commit_stopped m s r failed (h.stopped ∙ stopped))
+
+  pub ended_numbers : (e e' : Engine D g) (s : ℕ) (t : View) (failed : Bool) → entry_of s e ≡ Some t → Leaves e e' s → is_stopped e.log ≡ false → 2 ^ 63 - 1 ≤ e.history.committed.facts.last
+      → Leads e e' s Commit failed (Some (Refused FullNumbers))
+  ended_numbers e e' s t failed some leaves stopped numbers =
+      commit_ended e e' s t failed FullNumbers some leaves (λ m r h same. let few = h.few in let l = h.history.committed.last in commit_numbers m s r failed (h.stopped ∙ stopped) (omega arith))
+
+  -- what may come before the verdict
+  pub record Judges (e : Engine D g) (s : ℕ) (t : View) (v : Verdict) : Type 0 where
+    pub some : entry_of s e ≡ Some t
+    pub running : is_stopped e.log ≡ false
+    pub numbers : e.history.committed.facts.last < 2 ^ 63 - 1
+    pub made : (m : KeyMap) (qs : List Operation) → HasMade t m qs → t.writes ≡ writes m qs
+    pub verdict : IsInReach e.history.committed.facts t → IsVerdict e.history.committed.facts t v
+
+  pub judges : (e : Engine D g) (s : ℕ) (t : View) (v : Verdict) (committed : CommittedValue) → Some t ≡ entry_of s e → is_stopped e.log ≡ false → (last : ℕ) → last ≡ e.history.committed.facts.last → last < 2 ^ 63 - 1 → (ws : List KeyWrite) → ws ≡ t.writes → ((m : KeyMap) (qs : List Operation) → HasMade t m qs → ws ≡ writes m qs)
+      → committed ≡ e.history.committed → (IsInReach committed.facts t → IsVerdict committed.facts t v) → Judges e s t v
+  judges e s t v committed some running last is numbers ws written made same says = record {
+    made = λ m qs h. sym written ∙ made m qs h;
+    some = sym some;
+    running = running;
+    numbers = subst (λ n. n < 2 ^ 63 - 1) is numbers;
+    verdict = subst (λ (x : CommittedValue). IsInReach x.facts t → IsVerdict x.facts t v) same says;
+  }
+
+  -- the machine's record of the transaction
+  own_record : (e : Engine D g) (m : State) (t : View) (r : Running) (h : StandsFor e m) → ((m : KeyMap) (qs : List Operation) → HasMade t m qs → t.writes ≡ writes m qs) → Held e m h t r → IsRecordOf t (e.history.committed.facts.last + 1) (record_to_commit m r)
+  own_record e m t r h made same =
+      let l = h.history.committed.last in
+      record {
+        begin = sym same.begin;
+        commit = omega arith;
+        reads = sym (ap (λ (c : PrivateCopy). c.marks) same.made.copy);
+        writes = sym (made (snapshot m r) r.requests same.made);
+      }
+
+  judged : (e : Engine D g) (m : State) (s : ℕ) (t : View) (r : Running) (failed : Bool) (h : StandsFor e m) → Held e m h t r → is_stopped e.log ≡ false → e.history.committed.facts.last < 2 ^ 63 - 1
+      → (o : Option Refusal) → verdict m.history (record_to_commit m r) ≡ o → commit m s r failed ≡ store_unless o m s (record_to_commit m r) failed
+  judged e m s t r failed h same running numbers o is = let l = h.history.committed.last in commit_judged m s r failed (h.stopped ∙ running) (omega arith) o is
+
+  conflict : (e e' : Engine D g) (s : ℕ) (t : View) (failed : Bool) (v : Verdict) (refusal : Refusal) → Judges e s t v → Leaves e e' s
+      → ((m : State) (r : Running) (h : StandsFor e m) → Held e m h t r → verdict m.history (record_to_commit m r) ≡ Some refusal) → Leads e e' s Commit failed (Some (Refused refusal))
+  conflict e e' s t failed v refusal j leaves says =
+      commit_ended e e' s t failed refusal j.some leaves (λ m r h same. judged e m s t r failed h same j.running j.numbers (Some refusal) (says m r h same))
+
+  pub ended_overwritten : (e e' : Engine D g) (s : ℕ) (t u : View) (failed : Bool) (i : ℕ) (key : Bytes) → Judges e s t (verdicts.Overwritten i) → Leaves e e' s → Some u ≡ entry_of s e
+      → ((d : KeyWrite) → key ≡ (slice_index_or u.writes i d).0) → Leads e e' s Commit failed (Some (Refused (Overwritten key)))
+  ended_overwritten e e' s t u failed i key j leaves taken at =
+      conflict e e' s t failed (verdicts.Overwritten i) (Overwritten key) j leaves (λ m r h same.
+      let said = j.verdict same.in_reach m.history h.history.committed (record_to_commit m r) (own_record e m t r h j.made same) in
+      let is : u ≡ t = some_same u t (taken ∙ j.some) in
+      said.2 ∙ ap (λ (k : Bytes). Some (Overwritten k)) (sym (at said.0 ∙ ap (λ (x : View). (slice_index_or x.writes i said.0).0) is ∙ ap (λ (w : KeyWrite). w.0) (at_place t.writes i said.0 said.1))))
+
+  pub ended_self : (e e' : Engine D g) (s : ℕ) (t : View) (failed : Bool) → Judges e s t verdicts.PivotSelf → Leaves e e' s → Leads e e' s Commit failed (Some (Refused PivotSelf))
+  ended_self e e' s t failed j leaves =
+      conflict e e' s t failed verdicts.PivotSelf PivotSelf j leaves (λ m r h same. j.verdict same.in_reach m.history h.history.committed (record_to_commit m r) (own_record e m t r h j.made same))
+
+  pub ended_pivot : (e e' : Engine D g) (s : ℕ) (t : View) (failed : Bool) (n : ℕ) → Judges e s t (verdicts.Pivot n) → Leaves e e' s → Leads e e' s Commit failed (Some (Refused (Pivot n)))
+  ended_pivot e e' s t failed n j leaves =
+      conflict e e' s t failed (verdicts.Pivot n) (Pivot n) j leaves (λ m r h same. j.verdict same.in_reach m.history h.history.committed (record_to_commit m r) (own_record e m t r h j.made same))
+
+  -- the machine's commit of what has no conflict
+  cleared : (e : Engine D g) (m : State) (s : ℕ) (t : View) (r : Running) (failed : Bool) (h : StandsFor e m) → Held e m h t r → Judges e s t verdicts.Clear
+      → commit m s r failed ≡ store m s (record_to_commit m r) t.writes failed
+  cleared e m s t r failed h same j =
+      let own = own_record e m t r h j.made same in
+      judged e m s t r failed h same j.running j.numbers None (j.verdict same.in_reach m.history h.history.committed (record_to_commit m r) own)
+      ∙ ap (λ ws. store m s (record_to_commit m r) ws failed) own.writes
+
+  pub ended_full : (e e' : Engine D g) (s : ℕ) (t : View) (failed : Bool) → Judges e s t verdicts.Clear → Leaves e e' s → IsWritten t.writes → sector_count e.log ≤ used_sectors e.log + body_sectors t.writes
+      → Leads e e' s Commit failed (Some (Refused FullLog))
+  ended_full e e' s t failed j leaves some full =
+      commit_ended e e' s t failed FullLog j.some leaves (λ m r h same. let used = h.used in let count = h.count in
+      cleared e m s t r failed h same j ∙ store_full m s (record_to_commit m r) t.writes failed some (omega (arith, used, count, full)))
+
+  -- ---- a commit in which the device failed
+
+  pub ended_fault : (e f e' : Engine D g) (s : ℕ) (t : View) (failed : Bool) → Judges e s t verdicts.Clear → HasLogRoom (used_sectors e.log) (sector_count e.log) t.writes
+      → IsLogStopped e.log f.log t.writes → IsSameHistory e.history f.history → f.running.entries ≡ e.running.entries → Leaves f e' s → failed ≡ true → Leads e e' s Commit failed (Some (Refused StoreFault))
+  ended_fault e f e' s t failed j room stops same entries leaves fault m h =
+      let at = found_open e m s t h j.some in
+      let used = h.used in let count = h.count in let fits = room stops.written in
+      let after : State × Response = (record (leave m s) { stopped = true }, Refused StoreFault) in
+      let is : step m s Commit failed ≡ after =
+      step_with m s Commit failed at.run at.is ∙ cleared e m s t at.run failed h at.same j
+      ∙ store_fault m s (record_to_commit m at.run) t.writes failed stops.written (omega (arith, used, count, fits)) fault in
+      let reached : IsReached after.0 = subst (λ (p : State × Response). IsReached p.0) is (reached_step m s Commit failed h.reached) in
+      let log : e'.log ≡ f.log = leaves.store.log in
+      let facts : e'.history.committed.facts ≡ e.history.committed.facts = ap (λ (v : HistoryValue). v.committed.facts) leaves.store.history ∙ same.facts in
+      let removed : e'.running.entries ≡ remove_entry (is_at (nat_cmp s)) e.running.entries = leaves.entries ∙ ap (remove_entry (is_at (nat_cmp s))) entries in
+      let running = beside_remove (Held e m h) s e.running.entries m.running h.sorted h.running in (
+        subst (λ (p : State × Response). StandsFor e' p.0) (sym is)
+            (record {
+              reached = reached;
+              stopped = sym (ap is_stopped log ∙ stops.stopped);
+              used = h.used ∙ sym (ap (λ (l : Log D g). l.gate + 1) log ∙ stops.used);
+              count = h.count ∙ sym (ap (λ (l : Log D g). g.size l.device) log ∙ stops.size);
+              stored = λ keeps runs. absurd (both_ways (is_stopped e'.log) runs (ap is_stopped log ∙ stops.stopped));
+              held = h.held;
+              history = subst (λ (v : HistoryValue). HistoryStandsFor v h.held m.base m.history) (sym leaves.store.history) (same_history e.history f.history h.held m.base m.history same h.history);
+              kept = subst (λ (x : Facts). x.oldest ≤ length m.history) (sym facts) h.kept;
+              few = h.few;
+              running = are_running e.history.committed.facts e'.history.committed.facts h.held m.base m.history (remove_entry (is_at (nat_cmp s)) e.running.entries) e'.running.entries (where_key nat_cmp (λ x. not (x == s)) m.running) (sym facts) (sym removed) running;
+              sorted = is_sorted-where_key nat_cmp (λ x. not (x == s)) m.running h.sorted;
+              few_open = (let few = h.few_open in let fewer = leaves.fewer in let e2 = ap length entries in omega (arith, few, fewer, e2));
+            }),
+        ap (λ (p : State × Response). p.1) is,
+      )
+
+  -- ---- a commit that is answered a number
+
+  -- what the calls before have made of the engine
+  pub record Joins (e e' : Engine D g) (s : ℕ) (t : View) : Type 0 where
+    pub room : HasLogRoom (used_sectors e.log) (sector_count e.log) t.writes
+    pub logged : IsLogged e.log e'.log t.writes
+    pub stored : g.keeps_model → (map : KeyMap) → IsStored e.log map → IsStored e'.log (after_writes map t.writes)
+    pub entries : e'.running.entries ≡ remove_entry (is_at (nat_cmp s)) e.running.entries
+    pub fewer : length e'.running.entries ≤ length e.running.entries
+    pub last : e'.history.committed.facts.last ≡ e.history.committed.facts.last + 1
+    pub oldest : e'.history.committed.facts.oldest ≡ e.history.committed.facts.oldest
+    pub history : (held : ℕ → Bool) (base : KeyMap) (history : List Record) (r : Record) → HistoryStandsFor e.history held base history → IsInReach e.history.committed.facts t → IsClear e.history.committed.facts t
+        → IsRecordOf t (e.history.committed.facts.last + 1) r → HistoryStandsFor e'.history held base (history ++ r ∷ [])
+
+  -- the machine's step, whether or not the device failed where nothing was written
+  pub step_joined : (e : Engine D g) (s : ℕ) (t : View) (failed : Bool) → Judges e s t verdicts.Clear → HasLogRoom (used_sectors e.log) (sector_count e.log) t.writes → (IsWritten t.writes → failed ≡ false)
+      → (m : State) (h : StandsFor e m) (at : IsFound (Held e m h) s t m.running) → step m s Commit failed ≡ join_history m s (record_to_commit m at.run) (sectors_taken t.writes)
+  step_joined e s t failed j room quiet m h at =
+      let used = h.used in let count = h.count in
+      step_with m s Commit failed at.run at.is ∙ cleared e m s t at.run failed h at.same j
+      ∙ store_joined m s (record_to_commit m at.run) t.writes failed (λ some. let fits = room some in omega (arith, used, count, fits)) quiet
+
+  -- the committed map with the transaction's writes
+  pub map_joined : (e : Engine D g) (s : ℕ) (t : View) (j : Judges e s t verdicts.Clear) (m : State) (h : StandsFor e m) (at : IsFound (Held e m h) s t m.running)
+      → map_at m.base (m.history ++ record_to_commit m at.run ∷ []) (length (m.history ++ record_to_commit m at.run ∷ [])) ≡ after_writes (committed_map m) t.writes
+  map_joined e s t j m h at =
+      let r = record_to_commit m at.run in
+      let own = own_record e m t at.run h j.made at.same in
+      let long : length (m.history ++ r ∷ []) ≡ suc (length m.history) = simp length-append (omega arith) in
+      let low : AllByRecursion (λ x. x.commit ≤ length m.history) m.history = subst (λ n. AllByRecursion (λ x. x.commit ≤ n) m.history) zero_more (commit_low 0 m.history h.history.committed.numbered) in
+      ap (map_at m.base (m.history ++ r ∷ [])) long ∙ map_at_push m.base m.history r (suc (length m.history))
+      ∙ ap (λ b. if b then after_writes (map_at m.base m.history (suc (length m.history))) r.writes else map_at m.base m.history (suc (length m.history))) (le-leb (suc (length m.history)) (suc (length m.history)) (omega arith))
+      ∙ (λ i. after_writes (map_at_all m.base m.history (length m.history) (suc (length m.history)) low (omega arith) i) (own.writes i))
+    where
+      zero_more : 0 + length m.history ≡ length m.history
+      zero_more = omega arith
+
+  pub joined : (e e' : Engine D g) (s : ℕ) (t : View) (failed : Bool) → Judges e s t verdicts.Clear → Joins e e' s t → (IsWritten t.writes → failed ≡ false)
+      → Leads e e' s Commit failed (Some (Number (e.history.committed.facts.last + 1)))
+  joined e e' s t failed j joins quiet m h =
+      let at = found_open e m s t h j.some in
+      let facts = e.history.committed.facts in let facts' = e'.history.committed.facts in
+      let r : Record = record_to_commit m at.run in
+      let is : step m s Commit failed ≡ join_history m s r (sectors_taken t.writes) = step_joined e s t failed j joins.room quiet m h at in
+      let reached : IsReached (join_history m s r (sectors_taken t.writes)).0 = subst (λ (p : State × Response). IsReached p.0) is (reached_step m s Commit failed h.reached) in
+      let l = h.history.committed.last in let used = h.used in let taken = joins.logged.used in
+      let long : length (m.history ++ r ∷ []) ≡ length m.history + 1 = length-append m.history (r ∷ []) in
+      let clear : IsClear facts t = j.verdict at.same.in_reach in
+      let later : (u : View) (x : Running) → IsRunning facts h.held m.base m.history u x → IsRunning facts' h.held m.base (m.history ++ r ∷ []) u x =
+      λ u x k.
+      let begun = k.in_reach.begun in let held = k.in_reach.held in let b = k.begin in let last' = joins.last in let oldest' = joins.oldest in
+      record {
+        begin = k.begin;
+        made = subst (λ (map : KeyMap). HasMade u map x.requests) (sym (map_at-append m.base m.history r x.begin (omega arith))) k.made;
+        in_reach = record { begun = omega arith; held = omega arith };
+        is_held = k.is_held;
+      } in
+      let running = beside_weaker (Held e m h) (λ u x. IsRunning facts' h.held m.base (m.history ++ r ∷ []) u x) later (remove_entry (is_at (nat_cmp s)) e.running.entries) (where_key nat_cmp (λ x. not (x == s)) m.running)
+      (beside_remove (Held e m h) s e.running.entries m.running h.sorted h.running) in (
+        subst (λ (p : State × Response). StandsFor e' p.0) (sym is)
+            (record {
+              reached = reached;
+              stopped = h.stopped ∙ j.running ∙ sym joins.logged.running;
+              used = omega (arith, used, taken);
+              count = h.count ∙ sym joins.logged.size;
+              stored = λ keeps runs. subst (IsStored e'.log) (sym (map_joined e s t j m h at)) (joins.stored keeps (committed_map m) (h.stored keeps j.running));
+              held = h.held;
+              history = joins.history h.held m.base m.history r h.history at.same.in_reach clear (own_record e m t at.run h j.made at.same);
+              kept = (let k = h.kept in let o = joins.oldest in omega (arith, k, o, long));
+              few = (let n = j.numbers in omega (arith, n, l, long));
+              running = subst (λ (es : List (ℕ × View)). AreRunning facts' h.held m.base (m.history ++ r ∷ []) es (where_key nat_cmp (λ x. not (x == s)) m.running)) (sym joins.entries) running;
+              sorted = is_sorted-where_key nat_cmp (λ x. not (x == s)) m.running h.sorted;
+              few_open = (let few = h.few_open in let fewer = joins.fewer in omega (arith, few, fewer));
+            }),
+        ap (λ (p : State × Response). p.1) is ∙ ap Number (number l),
+      )
+    where
+      number : e.history.committed.facts.last ≡ length m.history → suc (length m.history) ≡ e.history.committed.facts.last + 1
+      number l = omega arith
+
+  -- what a commit's calls have made of the engine
+  pub joins_from : (e f e₁ : Engine D g) (new : HistoryValue) (s : ℕ) (t u : View) (ws : List KeyWrite) → entry_of s e ≡ Some t → ws ≡ t.writes → f.running.entries ≡ e.running.entries
+      → HasLogRoom (used_sectors e.log) (sector_count e.log) t.writes → IsLogged e.log f.log ws → (g.keeps_model → (map : KeyMap) → IsStored e.log map → IsStored f.log (after_writes map ws))
+      → IsSameHistory e.history f.history → Leaves f e₁ s → Some u ≡ entry_of s f
+      → new.committed.facts.last ≡ e₁.history.committed.facts.last + 1 → new.committed.facts.oldest ≡ e₁.history.committed.facts.oldest
+      → ((held : ℕ → Bool) (base : KeyMap) (history : List Record) (r : Record) → HistoryStandsFor e₁.history held base history → IsInReach e₁.history.committed.facts u → IsClear e₁.history.committed.facts u
+      → IsRecordOf u (e₁.history.committed.facts.last + 1) r → HistoryStandsFor new held base (history ++ r ∷ []))
+      → Joins e (record e₁ { history = new }) s t
+  joins_from e f e₁ new s t u ws some written entries room logged stored same leaves taken last oldest stands =
+      let facts : e₁.history.committed.facts ≡ e.history.committed.facts = ap (λ (v : HistoryValue). v.committed.facts) leaves.store.history ∙ same.facts in
+      let is : u ≡ t = some_same u t (taken ∙ ap (lookup (is_at (nat_cmp s))) entries ∙ some) in
+      let log : f.log ≡ e₁.log = sym leaves.store.log in
+      record {
+        room = room;
+        logged = subst (λ (l : Log D g). IsLogged e.log l t.writes) log (subst (IsLogged e.log f.log) written logged);
+        stored = λ keeps map h. subst (λ (l : Log D g). IsStored l (after_writes map t.writes)) log (subst (λ (x : List KeyWrite). IsStored f.log (after_writes map x)) written (stored keeps map h));
+        entries = leaves.entries ∙ ap (remove_entry (is_at (nat_cmp s))) entries;
+        fewer = (let fewer = leaves.fewer in let long = ap length entries in omega (arith, fewer, long));
+        last = last ∙ ap (λ (x : Facts). x.last + 1) facts;
+        oldest = oldest ∙ ap (λ (x : Facts). x.oldest) facts;
+        history = λ held base history r h.
+            by_facts e₁.history.committed.facts e.history.committed.facts u t facts is (HistoryStandsFor new held base (history ++ r ∷ [])) r
+            (stands held base history r (subst (λ (v : HistoryValue). HistoryStandsFor v held base history) (sym leaves.store.history) (same_history e.history f.history held base history same h)));
+      }
+    where
+      by_facts : (a b : Facts) (u t : View) → a ≡ b → u ≡ t → (P : Type 0) (r : Record) → (IsInReach a u → IsClear a u → IsRecordOf u (a.last + 1) r → P) → IsInReach b t → IsClear b t → IsRecordOf t (b.last + 1) r → P
+      by_facts a b u t f v P r h = subst (λ (x : View). IsInReach b x → IsClear b x → IsRecordOf x (b.last + 1) r → P) v (subst (λ (x : Facts). IsInReach x u → IsClear x u → IsRecordOf u (x.last + 1) r → P) f h)
+
+  pub number_is : (e e' : Engine D g) (s : ℕ) (failed : Bool) (n k : ℕ) → n ≡ k → Leads e e' s Commit failed (Some (Number n)) → Leads e e' s Commit failed (Some (Number k))
+  number_is e e' s failed n k is h = subst (λ x. Leads e e' s Commit failed (Some (Number x))) is h
+
+  -- where the session has written nothing, its transaction hasn't
+  pub unwritten : (e : Engine D g) (s : ℕ) (t : View) (ws : List KeyWrite) (m : State) (h : StandsFor e m) → entry_of s e ≡ Some t → ws ≡ t.writes → ((m : KeyMap) (qs : List Operation) → HasMade t m qs → ws ≡ writes m qs)
+      → IsReadOnly m s → t.writes ≡ []
+  unwritten e s t ws m h some written made none =
+      let at = found_open e m s t h some in sym written ∙ made (snapshot m at.run) at.run.requests at.same.made ∙ none at.run at.is
+
+  -- a crash during a commit that came as far as the log
+  pub crash_stored : (e : Engine D g) (log : Log D g) (device : D) (s : ℕ) (t : View) (ws : List KeyWrite) → Judges e s t verdicts.Clear → HasLogRoom (used_sectors e.log) (sector_count e.log) t.writes → ws ≡ t.writes → device ≡ log.device
+      → ((map : KeyMap) → IsStored e.log map → LeavesOnly g.moment g.left_since e.log.device log.device (λ c. HoldsMap c map ⊎ HoldsMap c (after_writes map ws)))
+      → g.keeps_model → (m : State) → StandsFor e m → m.stopped ≡ false → LeavesOnly g.moment g.left_since e.log.device device (λ c. HoldsMap c (committed_map m) ⊎ HoldsMap c (committed_map (step m s Commit false).0))
+  crash_stored e log device s t ws j room written same crash keeps m h runs =
+      let at = found_open e m s t h j.some in
+      let is = step_joined e s t false j room (λ _. refl) m h at in
+      let after : after_writes (committed_map m) ws ≡ committed_map (step m s Commit false).0 =
+      ap (after_writes (committed_map m)) written ∙ sym (map_joined e s t j m h at) ∙ sym (ap (λ (p : State × Response). committed_map p.0) is) in
+      subst (λ (d : D). LeavesOnly g.moment g.left_since e.log.device d (λ c. HoldsMap c (committed_map m) ⊎ HoldsMap c (committed_map (step m s Commit false).0))) (sym same)
+      (subst (λ (k : KeyMap). LeavesOnly g.moment g.left_since e.log.device log.device (λ c. HoldsMap c (committed_map m) ⊎ HoldsMap c k)) after (crash (committed_map m) (h.stored keeps (sym h.stopped ∙ runs))))

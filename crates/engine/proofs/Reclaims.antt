@@ -1,0 +1,101 @@
+-- What an engine stands for once nothing is kept that no open transaction needs.
+use Rattle.std.proofs.Common.{◌≡◌, ◌≤◌, ◌<◌, ◌&&◌, ℕ, Bool, true, List, [], ◌∷◌, refl, sym, subst, ◌∙◌, length, arith, map}
+use Rattle.std.specs.Prelude.{max, All, ◌==◌}
+use Rattle.std.specs.List.{AllByRecursion}
+use Rattle.std.specs.BTreeMap.{values}
+use Rattle.std.specs.Map.{values_of}
+use Rattle.std.proofs.lemmas.Bool.{or_left, or_right, and_from, eq-eqb}
+use Rattle.std.proofs.lemmas.List.Elements.{All-from_recursion, recursion_from_All, All-weaker}
+use Rattle.model.specs.Map.{KeyMap}
+use Rattle.model.specs.History.{Record}
+use Rattle.model.specs.Machine.{State, Running, last}
+use Rattle.versions.specs.Meaning.{is_among}
+use Rattle.snapshot.specs.View.{View}
+use Rattle.pivot_check.specs.Kept.{Facts, KeptRecord}
+use Rattle.sector.specs.declared.device.Sectors.{Ghosts}
+use Rattle.engine.specs.HistoryValue.{HistoryValue, HistoryStandsFor}
+use Rattle.engine.specs.declared.engine.Engine.{Engine}
+use Rattle.engine.specs.StandsFor.{StandsFor, AreRunning}
+use Rattle.engine.specs.Least.{IsLeast}
+
+abbrev pub begins_of : List (ℕ × View) → List ℕ
+begins_of es = map (λ t. t.begin) (values_of es)
+
+-- each begin number is among the begin numbers
+grow : (b : ℕ) (bs : List ℕ) (es : List (ℕ × View)) → AllByRecursion (λ e. is_among bs e.1.begin ≡ true) es → AllByRecursion (λ e. is_among (b ∷ bs) e.1.begin ≡ true) es
+grow b bs [] h = tt
+grow b bs (e ∷ es) h = (or_right (b == e.1.begin) (is_among bs e.1.begin) h.0, grow b bs es h.1)
+
+among_all : (es : List (ℕ × View)) → AllByRecursion (λ e. is_among (begins_of es) e.1.begin ≡ true) es
+among_all [] = tt
+among_all (e ∷ es) = (or_left (e.1.begin == e.1.begin) (is_among (begins_of es) e.1.begin) (eq-eqb e.1.begin e.1.begin refl), grow e.1.begin (begins_of es) es (among_all es))
+
+entries_of : (P : View → Type 0) (es : List (ℕ × View)) → AllByRecursion P (values_of es) → AllByRecursion (λ e. P e.1) es
+entries_of P [] h = tt
+entries_of P (e ∷ es) h = (h.0, entries_of P es h.1)
+
+module _ (facts facts' : Facts) (held : ℕ → Bool) (bs : List ℕ) (base : KeyMap) (history : List Record) where
+  still_running : (oldest : ℕ) → facts'.last ≡ facts.last → facts'.oldest ≡ max facts.oldest oldest → (es : List (ℕ × View)) (rs : List (ℕ × Running)) → AllByRecursion (λ e. oldest ≤ e.1.begin) es
+      → AllByRecursion (λ e. is_among bs e.1.begin ≡ true) es → AreRunning facts held base history es rs → AreRunning facts' (λ n. held n && is_among bs n) base history es rs
+  still_running oldest l o [] [] low among h = tt
+  still_running oldest l o [] (r ∷ rs) low among h = absurd h
+  still_running oldest l o (e ∷ es) [] low among h = absurd h
+  still_running oldest l o (e ∷ es) (r ∷ rs) low among h =
+      let k = h.0.1 in let begun = k.in_reach.begun in let held' = k.in_reach.held in let least = low.0 in (
+        (
+          h.0.0,
+          record {
+            begin = k.begin;
+            made = k.made;
+            in_reach = record { begun = omega arith; held = omega arith };
+            is_held = and_from (held r.1.begin) (is_among bs r.1.begin) k.is_held (subst (λ n. is_among bs n ≡ true) k.begin among.0);
+          },
+        ),
+        still_running oldest l o es rs low.1 among.1 h.1,
+      )
+
+begins_same : (facts : Facts) (held : ℕ → Bool) (base : KeyMap) (history : List Record) (es : List (ℕ × View)) (rs : List (ℕ × Running)) → AreRunning facts held base history es rs → begins_of es ≡ map (λ r. r.1.begin) rs
+begins_same facts held base history [] [] h = refl
+begins_same facts held base history [] (r ∷ rs) h = absurd h
+begins_same facts held base history (e ∷ es) [] h = absurd h
+begins_same facts held base history (e ∷ es) (r ∷ rs) h = λ i. h.0.1.begin i ∷ begins_same facts held base history es rs h.1 i
+
+begins_low : (facts : Facts) (held : ℕ → Bool) (base : KeyMap) (history : List Record) (n : ℕ) (es : List (ℕ × View)) (rs : List (ℕ × Running)) → AreRunning facts held base history es rs → AllByRecursion (λ r. n ≤ r.1.begin) rs
+    → AllByRecursion (λ t. n ≤ t.begin) (values_of es)
+begins_low facts held base history n [] [] h low = tt
+begins_low facts held base history n [] (r ∷ rs) h low = absurd h
+begins_low facts held base history n (e ∷ es) [] h low = absurd h
+begins_low facts held base history n (e ∷ es) (r ∷ rs) h low = (subst (λ k. n ≤ k) (sym h.0.1.begin) low.0, begins_low facts held base history n es rs h.1 low.1)
+
+module _ {D : Type 0} {g : Ghosts D} (e : Engine D g) (new : HistoryValue) (oldest : ℕ) (bs : List ℕ) (least : IsLeast (λ t. t.begin) e.history.committed.facts.last (values e.running) oldest)
+    (numbers : length e.running.entries ≤ 64 → bs ≡ begins_of e.running.entries) where
+  pub reclaimed_stands : ((held : ℕ → Bool) (base : KeyMap) (history : List Record) → HistoryStandsFor e.history held base history → HistoryStandsFor new (λ n. held n && is_among bs n) base history)
+      → new.committed.facts.last ≡ e.history.committed.facts.last → new.committed.facts.oldest ≡ max e.history.committed.facts.oldest oldest → (m : State) → StandsFor e m → StandsFor (record e { history = new }) m
+  reclaimed_stands stands l o m h =
+      let facts = e.history.committed.facts in
+      let is = h.history.committed.last in let kept = h.kept in let below = least.below_last in
+      record {
+        reached = h.reached;
+        stopped = h.stopped;
+        used = h.used;
+        count = h.count;
+        stored = h.stored;
+        held = λ n. h.held n && is_among bs n;
+        history = stands h.held m.base m.history h.history;
+        kept = omega (arith, is, kept, below, o);
+        few = h.few;
+        running = still_running facts new.committed.facts h.held bs m.base m.history oldest l o e.running.entries m.running
+            (entries_of (λ t. oldest ≤ t.begin) e.running.entries (recursion_from_All (λ t. oldest ≤ t.begin) (values e.running) least.below))
+            (subst (λ ns. AllByRecursion (λ x. is_among ns x.1.begin ≡ true) e.running.entries) (sym (numbers h.few_open)) (among_all e.running.entries)) h.running;
+        sorted = h.sorted;
+        few_open = h.few_open;
+      }
+
+  pub numbers_are : (m : State) → StandsFor e m → bs ≡ map (λ r. r.1.begin) m.running
+  numbers_are m h = numbers h.few_open ∙ begins_same e.history.committed.facts h.held m.base m.history e.running.entries m.running h.running
+
+  pub none_below : (m : State) → StandsFor e m → (n : ℕ) → n ≤ last m → AllByRecursion (λ r. n ≤ r.1.begin) m.running → (rs : List KeptRecord) → All (λ r. oldest < r.commit) rs → All (λ r. n < r.commit) rs
+  none_below m h n low each rs above =
+      let is = h.history.committed.last in
+      let below : n ≤ oldest = least.greatest n (omega (arith, is)) (All-from_recursion (λ t. n ≤ t.begin) (values e.running) (begins_low e.history.committed.facts h.held m.base m.history n e.running.entries m.running h.running each)) in
+      All-weaker (λ (r : KeptRecord). oldest < r.commit) (λ (r : KeptRecord). n < r.commit) (λ r k. omega arith) rs above

@@ -1,0 +1,58 @@
+-- The states that an engine stands for once it was opened.
+use Rattle.std.proofs.Common.{◌≡◌, ◌≤◌, ◌+◌, ◌∷◌, ◌∙◌, ℕ, Bool, true, false, List, [], sym, ap, subst, refl, length, arith}
+use Rattle.model.specs.Map.{KeyMap, KeyWrite}
+use Rattle.model.specs.History.{Record}
+use Rattle.model.specs.Machine.{State, Running, opened}
+use Rattle.snapshot.specs.View.{View}
+use Rattle.pivot_check.specs.Kept.{Facts}
+use Rattle.sector.specs.declared.device.Sectors.{Ghosts}
+use Rattle.commit_log.specs.declared.log.Log.{Log}
+use Rattle.commit_log.specs.LogState.{is_stopped, used_sectors, sector_count, StandsFor as LogStandsFor}
+use Rattle.commit_log.specs.LogImage.{span}
+use Rattle.commit_log.specs.Recovery.{map_after}
+use Rattle.engine.specs.HistoryValue.{HistoryStandsFor}
+use Rattle.engine.specs.declared.engine.Engine.{Engine}
+use Rattle.engine.specs.StandsFor.{StandsFor, AreRunning}
+use Rattle.engine.specs.Recovery.{IsStored, HoldsMap, committed_map}
+use Rattle.engine.proofs.Steps.{reached_opened}
+
+none_running : (facts : Facts) (held : ℕ → Bool) (base : KeyMap) (history : List Record) (rs : List (ℕ × Running)) → AreRunning facts held base history [] rs → rs ≡ []
+none_running facts held base history [] h = refl
+none_running facts held base history (_ ∷ _) h = elim h [ ]
+
+module _ {D : Type 0} {g : Ghosts D} where
+  pub opened_stands : (e : Engine D g) (map : KeyMap) (count : ℕ) → is_stopped e.log ≡ false → sector_count e.log ≡ count → HistoryStandsFor e.history (λ _. true) map [] → e.history.committed.facts ≡ record { records = []; oldest = 0; last = 0 }
+      → e.running.entries ≡ [] → (g.keeps_model → IsStored e.log map) → StandsFor e (opened map (used_sectors e.log) count)
+  opened_stands e map count running size h facts none stored = record {
+    reached = reached_opened map (used_sectors e.log) count h.versions.is_map;
+    stopped = sym running;
+    used = refl;
+    count = sym size;
+    stored = λ keeps runs. stored keeps;
+    held = λ _. true;
+    history = h;
+    kept = (let oldest = ap (λ (f : Facts). f.oldest) facts in omega (arith, oldest));
+    few = omega arith;
+    running = subst (λ (es : List (ℕ × View)). AreRunning e.history.committed.facts (λ _. true) map [] es []) (sym none) tt;
+    sorted = tt;
+    few_open = subst (λ (es : List (ℕ × View)). length es ≤ 64) (sym none) (omega arith);
+  }
+
+  pub stored_from : (log : Log D g) (map : KeyMap) (lists : List (List KeyWrite)) → LogStandsFor log lists → map ≡ map_after [] lists → IsStored log map
+  stored_from log map lists stands makes = record { lists = lists; stands = stands; makes = sym makes }
+
+  -- the map and the sectors that were found
+  pub found_stands : (e : Engine D g) (map : KeyMap) (count : ℕ) (lists : List (List KeyWrite)) → LogStandsFor e.log lists → map ≡ map_after [] lists → StandsFor e (opened map (used_sectors e.log) count)
+      → StandsFor e (opened (map_after [] lists) (2 + span lists) count)
+  found_stands e map count lists stands makes h =
+      let gate = stands.gate in
+      let used : used_sectors e.log ≡ 2 + span lists = omega (arith, gate) in
+      subst (λ (k : KeyMap). StandsFor e (opened k (2 + span lists) count)) makes (subst (λ n. StandsFor e (opened map n count)) used h)
+
+  -- nothing is open in the machine either
+  pub idle_stands : (e : Engine D g) → e.running.entries ≡ [] → (m : State) → StandsFor e m → m.running ≡ []
+  idle_stands e none m h = none_running e.history.committed.facts h.held m.base m.history m.running (subst (λ (es : List (ℕ × View)). AreRunning e.history.committed.facts h.held m.base m.history es m.running) none h.running)
+
+  -- a crash of a store that isn't stopped leaves what has committed
+  pub holds_map : (e : Engine D g) → g.keeps_model → (m : State) → StandsFor e m → m.stopped ≡ false → (c : List (List ℕ)) → g.may_leave e.log.device c → HoldsMap c (committed_map m)
+  holds_map e keeps m h runs c left = let s = h.stored keeps (sym h.stopped ∙ runs) in (s.lists, s.stands.left c left, s.makes)

@@ -1,0 +1,55 @@
+use Rattle.std.proofs.Common.{refl, sym, ap, Some}
+use Rattle.std.specs.Prelude.{option_map}
+use Rattle.model.specs.declared.refusals.Refusal.TheVariants.{NotOpen}
+use Rattle.model.specs.Operations.Operation.{Range}
+use Rattle.model.specs.Operations.Response.{Pairs}
+use Rattle.snapshot.specs.View.{View}
+use Rattle.snapshot.specs.RowPairs.{row_pairs}
+use Rattle.engine.proofs.Calls.{own_call, refused_outside}
+use Rattle.engine.proofs.Requests.{read_answered, read_refused, begin-after_range, known_range, known_nowhere}
+use Rattle.engine.proofs.engine.Engine.range.Goals as goal
+
+pub returns-in-Ok : goal.returns-in-Ok
+returns-in-Ok g c =
+    let is = rw c.in-Ok.is at c.range.follows.holds-at-none in (
+      (
+        refl,
+        λ _. tt,
+        (
+          own_call c.args.self.now _ c.args.s (Range c.args.range.lo.bytes.now (option_map (λ k. k.bytes.now) c.args.range.hi) c.args.limit) _ c.in-Some.transaction.now c.range.follows.lender-at-none (Some (Pairs (row_pairs c.in-Ok.rows)))
+              (λ m r. refl) (record { log = refl; history = refl }) (sym c.in-Some.ensures.value) (c.get_mut.follows.holds _).0 (c.get_mut.follows.holds _).2
+              (begin-after_range c.in-Some.transaction.now _ c.args.range.lo.bytes.now (option_map (λ k. k.bytes.now) c.args.range.hi) is.0)
+              (read_answered c.args.self.now c.in-Some.transaction.now _ c.versions-versions.result.now (Range c.args.range.lo.bytes.now (option_map (λ k. k.bytes.now) c.args.range.hi) c.args.limit) (Pairs (row_pairs c.in-Ok.rows)) c.versions-versions.ensures (λ m qs seen made. c.in-Ok.ensures.reply m qs seen made) is.1),
+          refl,
+        ),
+      ),
+      record { known = λ m h t r k. refl; after = tt },
+    )
+
+pub returns-in-Err : goal.returns-in-Err
+returns-in-Err g c =
+    let is = rw c.in-Err.is at c.range.follows.holds-at-none in (
+      (
+        refl,
+        λ _. tt,
+        (
+          own_call c.args.self.now _ c.args.s (Range c.args.range.lo.bytes.now (option_map (λ k. k.bytes.now) c.args.range.hi) c.args.limit) _ c.in-Some.transaction.now c.range.follows.lender-at-none _
+              (λ m r. refl) (record { log = refl; history = refl }) (sym c.in-Some.ensures.value) (c.get_mut.follows.holds _).0 (c.get_mut.follows.holds _).2
+              (ap (λ (u : View). u.begin) is)
+              (read_refused c.args.self.now c.in-Some.transaction.now _ c.versions-versions.result.now (Range c.args.range.lo.bytes.now (option_map (λ k. k.bytes.now) c.args.range.hi) c.args.limit) (λ rows. Pairs (row_pairs rows)) c.in-Err.fault c.from.result c.from.ensures c.versions-versions.ensures
+              (λ m qs seen made. c.in-Err.ensures.reply m qs seen made) is),
+          refl,
+        ),
+      ),
+      record { known = λ m h t r k. c.in-Err.ensures.known (known_range c.args.self.now c.args.s c.in-Some.transaction.now (sym c.in-Some.ensures.value) c.args.range.lo.bytes.now (option_map (λ k. k.bytes.now) c.args.range.hi) m h t r k); after = tt },
+    )
+
+pub returns-in-None : goal.returns-in-None
+returns-in-None g c = (
+  (
+    refl,
+    λ _. tt,
+    (refused_outside c.args.self.now _ c.args.s (Range c.args.range.lo.bytes.now (option_map (λ k. k.bytes.now) c.args.range.hi) c.args.limit) _ NotOpen (record { log = refl; history = refl }) (ap (λ n. n.entries) c.get_mut.follows.holds-at-none) (sym c.in-None.ensures.value) (λ m h. refl), refl),
+  ),
+  record { known = λ m h t r k. known_nowhere c.args.self.now c.args.s (sym c.in-None.ensures.value) m h t r; after = tt },
+)

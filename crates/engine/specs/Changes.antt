@@ -1,0 +1,56 @@
+-- What the engine's private calls change.
+use Rattle.std.specs.Prelude.{◌≡◌, ℕ, ◌+◌, ◌<◌, ◌≤◌, true, false, List, [], ◌∷◌, length, Option}
+use Rattle.std.specs.Ordering.{nat_cmp}
+use Rattle.std.specs.Map.{lookup, remove_entry}
+use Rattle.std.specs.BTreeMap.{is_at}
+use Rattle.model.specs.Map.{KeyWrite}
+use Rattle.model.specs.Machine.{body_sectors}
+use Rattle.sector.specs.declared.device.Sectors.{Ghosts}
+use Rattle.sector.specs.Failures.{Rose, Stayed}
+use Rattle.commit_log.specs.declared.log.Log.{Log}
+use Rattle.commit_log.specs.LogState.{is_stopped, used_sectors, sector_count, failure_count}
+use Rattle.snapshot.specs.View.{View}
+use Rattle.engine.specs.declared.engine.Engine.{Engine}
+
+-- the session's open transaction
+abbrev pub entry_of : {D : Type 0} {g : Ghosts D} → ℕ → Engine D g → Option View
+entry_of s e = lookup (is_at (nat_cmp s)) e.running.entries
+
+-- only open transactions differ
+pub record IsSameStore {D : Type 0} {g : Ghosts D} (e e' : Engine D g) : Type 0 where
+  pub log : e'.log ≡ e.log
+  pub history : e'.history ≡ e.history
+
+-- the session's transaction has ended, and nothing else has changed
+pub record Leaves {D : Type 0} {g : Ghosts D} (e e' : Engine D g) (s : ℕ) : Type 0 where
+  pub store : IsSameStore e e'
+  pub entries : e'.running.entries ≡ remove_entry (is_at (nat_cmp s)) e.running.entries
+  pub fewer : length e'.running.entries ≤ length e.running.entries
+
+-- how many sectors a commit of these writes takes in the log: none where nothing was written
+abbrev pub sectors_taken : List KeyWrite → ℕ
+sectors_taken [] = 0
+sectors_taken (w ∷ ws) = body_sectors (w ∷ ws) + 1
+
+abbrev pub IsWritten : List KeyWrite → Type 0
+IsWritten ws = ws ≡ [] → ⊥
+
+-- there is room in the log for what was written
+abbrev pub HasLogRoom : ℕ → ℕ → List KeyWrite → Type 0
+HasLogRoom used count ws = IsWritten ws → used + body_sectors ws < count
+
+-- what was written, if anything was, stands in the log
+pub record IsLogged {D : Type 0} {g : Ghosts D} (old new : Log D g) (ws : List KeyWrite) : Type 0 where
+  pub running : is_stopped new ≡ false
+  pub used : used_sectors new ≡ used_sectors old + sectors_taken ws
+  pub size : sector_count new ≡ sector_count old
+  pub no_fault : IsWritten ws → Stayed (failure_count old) (failure_count new)
+  pub untouched : ws ≡ [] → new ≡ old
+
+-- the device failed, and the log has stopped
+pub record IsLogStopped {D : Type 0} {g : Ghosts D} (old new : Log D g) (ws : List KeyWrite) : Type 0 where
+  pub written : IsWritten ws
+  pub stopped : is_stopped new ≡ true
+  pub used : used_sectors new ≡ used_sectors old
+  pub size : sector_count new ≡ sector_count old
+  pub fault : Rose (failure_count old) (failure_count new)

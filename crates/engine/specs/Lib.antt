@@ -1,0 +1,8 @@
+-- The definitions of the engine.
+pub mod Faults
+pub mod Least
+pub mod HistoryValue
+pub mod Recovery
+pub mod StandsFor
+pub mod Changes
+pub mod Meaning

@@ -1,0 +1,81 @@
+-- What a call of the engine does to the states of the machine that it stands for.
+use Rattle.std.specs.Prelude.{◌≡◌, ◌↔◌, ℕ, ◌-◌, ◌^◌, Bool, ◌||◌, nat_lt, ◌==◌, Option, Some, None, Result, Ok, Err, IsTrue, List, []}
+use Rattle.model.specs.Operations.{Operation, Response}
+use Rattle.model.specs.Operations.Response.{Refused}
+use Rattle.model.specs.declared.refusals.Refusal.TheVariants.{NotOpen, FullMarks}
+use Rattle.model.specs.Map.{Bytes, is_empty_range}
+use Rattle.model.specs.PrivateCopy.{PrivateCopy, copy_of, copy_after, writes, is_written, is_same_mark}
+use Rattle.model.specs.PrivateCopy.Mark.{OfKey, OfRange}
+use Rattle.model.specs.Machine.{State, Running, running_of, snapshot, step}
+use Rattle.std.specs.List.{list_any}
+use Rattle.sector.specs.declared.device.Sectors.{Ghosts}
+use Rattle.commit_log.specs.LogState.{failure_count, device_of as log_device, is_stopped as is_log_stopped}
+use Rattle.engine.specs.declared.engine.Engine.{Engine}
+use Rattle.engine.specs.declared.faults.EngineFault.{EngineFault}
+use Rattle.engine.specs.declared.faults.EngineFault.TheVariants.{Refused as Refusing, Memory}
+use Rattle.engine.specs.declared.faults.ReadFault.{ReadFault}
+use Rattle.engine.specs.declared.faults.ReadFault.TheVariants as reads
+use Rattle.versions.specs.Chains.{ChainsValue}
+use Rattle.pivot_check.specs.Kept.{KeptRecord}
+pub use Rattle.engine.specs.StandsFor.{StandsFor}
+
+-- the device, how many of its calls have failed, and whether one failed in a commit
+abbrev pub device_of : {D : Type 0} {g : Ghosts D} → Engine D g → D
+device_of e = log_device e.log
+
+abbrev pub failures_of : {D : Type 0} {g : Ghosts D} → Engine D g → ℕ
+failures_of e = failure_count e.log
+
+abbrev pub is_stopped : {D : Type 0} {g : Ghosts D} → Engine D g → Bool
+is_stopped e = is_log_stopped e.log
+
+-- whether a count of failures rose, or could rise no more
+abbrev pub has_risen : ℕ → ℕ → Bool
+has_risen before now = nat_lt before now || (before == 2 ^ 64 - 1)
+
+-- every state that the old engine stood for is one of the new engine, and no other is
+abbrev pub StandsForSame : {D : Type 0} {g : Ghosts D} → Engine D g → Engine D g → Type 0
+StandsForSame old new = (m : State) → StandsFor old m ↔ StandsFor new m
+
+-- from every state that the old engine stood for to the machine's next one, with the machine's response; where memory was
+-- refused, there is no response, and the states are as they were
+abbrev pub Leads : {D : Type 0} {g : Ghosts D} → Engine D g → Engine D g → ℕ → Operation → Bool → Option Response → Type 0
+Leads old new s q failed (Some response) =
+    (m : State) → StandsFor old m → StandsFor new (step m s q failed).0 × ((step m s q failed).1 ≡ response)
+Leads old new s q failed None = StandsForSame old new
+
+-- the response that a result says, and nothing where memory was refused
+abbrev pub response_to : {T : Type 0} → (T → Response) → Result T EngineFault → Option Response
+response_to f (Ok x) = Some (f x)
+response_to f (Err (Refusing refusal)) = Some (Refused refusal)
+response_to f (Err Memory) = None
+
+-- the same of a read
+abbrev pub response_to_read : {T : Type 0} → (T → Response) → Result T ReadFault → Option Response
+response_to_read f (Ok x) = Some (f x)
+response_to_read f (Err reads.NotOpen) = Some (Refused NotOpen)
+response_to_read f (Err reads.FullMarks) = Some (Refused FullMarks)
+response_to_read f (Err reads.Memory) = None
+
+-- the session's private copy
+abbrev pub copy_in : State → Running → PrivateCopy
+copy_in m t = copy_after (copy_of (snapshot m t)) t.requests
+
+-- the transaction has written the key, or has its mark
+abbrev pub IsKnownKey : State → Running → Bytes → Type 0
+IsKnownKey m t k = IsTrue (is_written (copy_in m t) k || list_any (is_same_mark (OfKey k)) (copy_in m t).marks)
+
+-- the range is empty, or the transaction has its mark
+abbrev pub IsKnownRange : State → Running → Bytes → Option Bytes → Type 0
+IsKnownRange m t lo hi = IsTrue (is_empty_range lo hi || list_any (is_same_mark (OfRange lo hi)) (copy_in m t).marks)
+
+-- the session's open transaction, if it has one, has written nothing
+abbrev pub IsReadOnly : State → ℕ → Type 0
+IsReadOnly m s = (t : Running) → running_of m s ≡ Some t → writes (snapshot m t) t.requests ≡ []
+
+-- the versions and the records that are kept
+abbrev pub versions_of : {D : Type 0} {g : Ghosts D} → Engine D g → ChainsValue
+versions_of e = e.history.versions
+
+abbrev pub records_of : {D : Type 0} {g : Ghosts D} → Engine D g → List KeptRecord
+records_of e = e.history.committed.facts.records

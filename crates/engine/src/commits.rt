@@ -1,0 +1,98 @@
+//! Commits.
+use crate::engine::Engine;
+use crate::faults::EngineFault;
+use crate::records::{StoreFault, has_room, store};
+use model::Refusal;
+use pivot_check::Verdict;
+use sector::Sectors;
+use snapshot::Transaction;
+
+/// The last commit number of all.
+const LAST_MAX: u64 = 9_223_372_036_854_775_807;
+
+impl<D: Sectors> Engine<D> {
+    ghost use Rattle.std.specs.Prelude.{◌≡◌, ◌≤◌, ◌⊎◌, ℕ, List, false, Some, None, IsSome, IfOk};
+    ghost use Rattle.model.specs.Operations.Operation.{Commit};
+    ghost use Rattle.model.specs.Operations.Response.{Number};
+    ghost use Rattle.engine.specs.Changes.{entry_of, Leaves};
+    ghost use Rattle.model.specs.Machine.{State, step};
+    ghost use Rattle.sector.specs.SectorModel.{LeavesOnly};
+    ghost use Rattle.engine.specs.Recovery.{HoldsMap, committed_map};
+    ghost use Rattle.engine.specs.Meaning.{StandsFor, Leads, IsReadOnly, response_to, device_of, failures_of, has_risen};
+
+    /// Commits the session's transaction, and answers its commit number. Where it wrote something, one record is appended to the log; what
+    /// it takes of memory is made before, so that nothing can fail once the record stands.
+    ///
+    /// Refusals, the first of these: `NotOpen`; `StoreStopped`; `FullNumbers` where the last number is 2^63 - 1; `Overwritten`, `PivotSelf` or
+    /// `Pivot`, as the check of commits says; `FullLog` where the log has no room for the record; `StoreFault` where the device fails, and
+    /// the store is then stopped. Each ends the transaction. `Memory`, where memory for versions, for a record or for the log's sectors
+    /// is refused, comes before `StoreFault` and leaves the transaction open.
+    pub fn commit(&mut self, s: u64) -> Result<u64, EngineFault>
+        ensures step { Leads self.old self.new s Commit (has_risen (failures_of self.old) (failures_of self.new)) (response_to (λ n. Number n) result) }
+        ensures device { failures_of self.old ≤ failures_of self.new }
+
+        // Where nothing was written, the device is left alone.
+        ensures read_only { (m : State) → StandsFor self.old m → IsReadOnly m s → device_of self.new ≡ device_of self.old }
+
+        // A crash at any moment of the call leaves the committed map of before it, or that with the transaction's writes.
+        ensures crash { D.keeps_model → (m : State) → StandsFor self.old m → m.stopped ≡ false → LeavesOnly D.moment D.left_since (device_of self.old) (device_of self.new)
+            (λ c. HoldsMap c (committed_map m) ⊎ HoldsMap c (committed_map (step m s Commit false).0)) }
+
+        // Once a number was answered, a crash leaves the latter alone.
+        ensures acknowledged { D.keeps_model → IfOk result (λ n. (m : State) → StandsFor self.new m → (c : List (List ℕ)) → D.may_leave (device_of self.new) c → HoldsMap c (committed_map m)) }
+    {
+        let Some(transaction) = self.running.get(&s) else {
+            return Err(EngineFault::Refused(Refusal::NotOpen));
+        };
+        let writes = transaction.entries();
+        if self.log.is_stopped() {
+            return Err(self.refuse(s, Refusal::StoreStopped));
+        }
+        if self.history.committed().last() >= LAST_MAX {
+            return Err(self.refuse(s, Refusal::FullNumbers));
+        }
+        match self.history.committed().verdict(transaction) {
+            Verdict::Clear => {}
+            Verdict::Overwritten(i) => {
+                let key = self.end(s).into_key(i);
+                return Err(EngineFault::Refused(Refusal::Overwritten(key)));
+            }
+            Verdict::PivotSelf => return Err(self.refuse(s, Refusal::PivotSelf)),
+            Verdict::Pivot(n) => return Err(self.refuse(s, Refusal::Pivot(n))),
+        }
+        if !has_room(&self.log, writes) {
+            return Err(self.refuse(s, Refusal::FullLog));
+        }
+        if self.history.prepare(transaction).is_err() {
+            return Err(EngineFault::Memory);
+        }
+        match store(&mut self.log, self.alloc, writes) {
+            Ok(()) => {}
+            Err(StoreFault::Memory) => return Err(EngineFault::Memory),
+            Err(StoreFault::Device) => return Err(self.refuse(s, Refusal::StoreFault)),
+        }
+        let ended = self.end(s);
+        Ok(self.history.join(ended))
+    }
+
+    // Ends the session's transaction.
+    fn end(&mut self, s: u64) -> Transaction
+        requires { IsSome (entry_of s self.old) }
+        ensures taken { Some result ≡ entry_of s self.old }
+        ensures leaves { Leaves self.old self.new s }
+    {
+        let Some(transaction) = self.running.remove(&s) else {
+            unreachable!()
+        };
+        transaction
+    }
+
+    // Ends the session's transaction by this refusal.
+    fn refuse(&mut self, s: u64, refusal: Refusal) -> EngineFault
+        ensures refusal { result ≡ EngineFault.Refused refusal }
+        ensures leaves { Leaves self.old self.new s }
+    {
+        self.running.remove(&s);
+        EngineFault::Refused(refusal)
+    }
+}

@@ -1,0 +1,181 @@
+//! The engine.
+use crate::faults::EngineFault;
+use crate::history::History;
+use crate::reclaiming::{begins, oldest_begin};
+use commit_log::Log;
+use model::{KeyRef, Refusal, machine_is_serializable};
+use sector::Sectors;
+use snapshot::Transaction;
+use std::alloc::Global;
+use std::collections::BTreeMap;
+use versions::numbers_change;
+
+/// The most open transactions.
+pub(crate) const OPEN_MAX: usize = 64;
+
+/// A store, and an open transaction for some of its sessions.
+///
+/// It is the machine of the model (`Machine.antt`): each call leads from every state that the engine stands for to the machine's next
+/// state, with the machine's response; where memory is refused, it leaves the states as they were. So each open transaction is
+/// answered by a private copy of the map committed at its begin, and a commit is refused where it would overwrite a concurrent one
+/// or make a pivot (Cahill, Röhm, Fekete 2008; Fekete et al. 2005).
+#[derive(Drop)]
+pub struct Engine<D: Sectors> {
+    pub(crate) log: Log<D>,
+    pub(crate) history: History,
+    pub(crate) running: BTreeMap<u64, Transaction>,
+    pub(crate) alloc: Global,
+}
+
+impl<D: Sectors> Engine<D> {
+    ghost use Rattle.std.specs.Prelude.{◌≡◌, ◌≢◌, ◌≤◌, ◌<◌, ℕ, List, All, map, false, Some, None, Err, IfOk, length};
+    ghost use Rattle.model.specs.declared.refusals.Refusal.{Refusal as Reason};
+    ghost use Rattle.model.specs.Operations.Operation.{Begin, Set, Del, Abort, Ping, Faulty};
+    ghost use Rattle.model.specs.Operations.Response.{Done, Pong, Refused};
+    ghost use Rattle.model.specs.Machine.{State, IsReached, last, leave};
+    ghost use Rattle.model.specs.Laws.{IsIsolated, IsSerializable};
+    ghost use Rattle.versions.specs.Meaning.{kept_of, IsTight};
+    ghost use Rattle.std.specs.List.{AllByRecursion};
+    ghost use Rattle.engine.specs.Recovery.{HoldsMap, committed_map};
+    ghost use Rattle.engine.specs.Meaning.{StandsFor, Leads, response_to, device_of, versions_of, records_of};
+
+    /// Begins a transaction of the session, over the map that is committed now.
+    ///
+    /// Refusals, the first of these: `AlreadyOpen`, which is a reply inside the transaction; `StoreStopped`; `FullTransactions` where 64
+    /// are open. It may take a node of the tree of open transactions; `Memory` where that is refused.
+    pub fn begin(&mut self, s: u64) -> Result<(), EngineFault>
+        ensures step { Leads self.old self.new s Begin false (response_to (λ _. Done) result) }
+        ensures device { device_of self.new ≡ device_of self.old }
+    {
+        if self.running.contains_key(&s) {
+            return Err(EngineFault::Refused(Refusal::AlreadyOpen));
+        }
+        if self.log.is_stopped() {
+            return Err(EngineFault::Refused(Refusal::StoreStopped));
+        }
+        if self.running.len() >= OPEN_MAX {
+            return Err(EngineFault::Refused(Refusal::FullTransactions));
+        }
+        numbers_change();
+        let last = self.history.committed().last();
+        self.running.insert(s, Transaction::new(self.alloc, last))?;
+        Ok(())
+    }
+
+    /// Writes a value to a key of the session's private copy.
+    ///
+    /// Refusals: `NotOpen`; `FullWrites` for a 65th written key. It may take a copy of the key and one of the value, and room for a write;
+    /// `Memory` where that is refused.
+    pub fn set(&mut self, s: u64, key: KeyRef<'_>, value: &[u8]) -> Result<(), EngineFault>
+        requires { length value.now ≤ 4096 }
+        ensures step { Leads self.old self.new s (Set key.entry.bytes.now value.now) false (response_to (λ _. Done) result) }
+        ensures device { device_of self.new ≡ device_of self.old }
+    {
+        match self.running.get_mut(&s) {
+            Some(transaction) => match transaction.put(key, value) {
+                Ok(()) => Ok(()),
+                Err(fault) => Err(EngineFault::from(fault)),
+            },
+            None => Err(EngineFault::Refused(Refusal::NotOpen)),
+        }
+    }
+
+    /// Deletes a key of the session's private copy, present or not.
+    ///
+    /// Refusals: `NotOpen`; `FullWrites` for a 65th written key. It may take a copy of the key, and room for a write; `Memory` where that is
+    /// refused.
+    pub fn del(&mut self, s: u64, key: KeyRef<'_>) -> Result<(), EngineFault>
+        ensures step { Leads self.old self.new s (Del key.entry.bytes.now) false (response_to (λ _. Done) result) }
+        ensures device { device_of self.new ≡ device_of self.old }
+    {
+        match self.running.get_mut(&s) {
+            Some(transaction) => match transaction.delete(key) {
+                Ok(()) => Ok(()),
+                Err(fault) => Err(EngineFault::from(fault)),
+            },
+            None => Err(EngineFault::Refused(Refusal::NotOpen)),
+        }
+    }
+
+    /// Ends the session's transaction without a commit, also where the session leaves or sends a broken frame. It is refused for
+    /// `NotOpen` alone. Takes no memory.
+    pub fn abort(&mut self, s: u64) -> Result<(), EngineFault>
+        ensures step { Leads self.old self.new s Abort false (response_to (λ _. Done) result) }
+        ensures answered { result ≢ Err EngineFault.Memory }
+        ensures leaves { (m : State) → StandsFor self.old m → StandsFor self.new (leave m s) }
+        ensures device { device_of self.new ≡ device_of self.old }
+    {
+        match self.running.remove(&s) {
+            Some(_transaction) => Ok(()),
+            None => Err(EngineFault::Refused(Refusal::NotOpen)),
+        }
+    }
+
+    /// Does nothing: what the engine stands for once the session was answered a request that needs no call, which is PING or a request
+    /// with a fault in its form. Inside a transaction each of them is an own request.
+    pub fn passes(&self, s: u64)
+        ensures ping { Leads self.now self.now s Ping false (Some Pong) }
+        ensures faulty { (refusal : Reason) → Leads self.now self.now s (Faulty refusal) false (Some (Refused refusal)) }
+    {}
+
+    /// Does nothing: what holds of each state that the engine stands for. The machine reaches it; its open transactions see their own
+    /// copies alone; and what has committed has a serial order, which gives the same replies and the same final map.
+    pub fn is_lawful(&self)
+        ensures { (m : State) → StandsFor self.now m → IsReached m × IsIsolated m × IsSerializable m }
+    {
+        machine_is_serializable();
+    }
+
+    /// Does nothing: a crash of a store that isn't stopped leaves the map of all that has committed.
+    pub fn is_stored(&self)
+        ensures { D.keeps_model → (m : State) → StandsFor self.now m → m.stopped ≡ false → (c : List (List ℕ)) → D.may_leave (device_of self.now) c → HoldsMap c (committed_map m) }
+    {}
+
+    /// Drops what no open transaction needs: each version that is neither the newest of its key nor seen from the begin of an open
+    /// transaction, and the records of transactions that were committed when each of them began. Takes no memory.
+    pub fn reclaim(&mut self)
+        ensures keeps { (m : State) → StandsFor self.old m → StandsFor self.new m }
+        ensures versions { (m : State) → StandsFor self.old m → IsTight (map (λ e. e.1.begin) m.running) (versions_of self.new) }
+        ensures records { (m : State) → StandsFor self.old m → (n : ℕ) → n ≤ last m → AllByRecursion (λ e. n ≤ e.1.begin) m.running → All (λ r. n < r.commit) (records_of self.new) }
+        ensures device { device_of self.new ≡ device_of self.old }
+    {
+        let oldest = oldest_begin(&self.running, self.history.committed().last());
+        let mut numbers = [0; OPEN_MAX];
+        let count = begins(&self.running, &mut numbers);
+        self.history.reclaim(&numbers[..count], oldest);
+    }
+
+    /// Has the device failed in a commit? Nothing can begin or commit any more.
+    pub fn stopped(&self) -> bool
+        ensures { (m : State) → StandsFor self.now m → result ≡ m.stopped }
+    {
+        self.log.is_stopped()
+    }
+
+    /// How many versions of the key are kept. Takes no memory.
+    pub fn kept_versions(&self, key: KeyRef<'_>) -> usize
+        ensures { result ≡ kept_of (versions_of self.now) key.entry.bytes.now }
+    {
+        self.history.versions().kept(key)
+    }
+
+    /// How many records of committed transactions are kept. Takes no memory.
+    pub fn kept_records(&self) -> usize
+        ensures { result ≡ length (records_of self.now) }
+    {
+        self.history.committed().kept()
+    }
+
+    /// Gives the device back. Takes no memory.
+    pub fn into_device(self) -> D
+        ensures { result ≡ device_of self }
+    {
+        let Engine {
+            log,
+            history: _,
+            running: _,
+            alloc: _,
+        } = self;
+        log.into_device()
+    }
+}

@@ -1,0 +1,102 @@
+//! What has committed.
+ghost use Rattle.std.specs.Prelude.{◌≡◌, ℕ, ◌+◌, ◌-◌, ◌^◌, ◌<◌, ◌≤◌, ◌&&◌, Bool, true, List, [], ◌∷◌, ◌++◌, All, IfOk, OnOk, max};
+ghost use Rattle.model.specs.Map.{KeyMap};
+ghost use Rattle.model.specs.History.{Record};
+ghost use Rattle.versions.specs.Meaning.{is_among, IsTight};
+ghost use Rattle.pivot_check.specs.Kept.{IsInReach};
+ghost use Rattle.pivot_check.specs.StandsFor.{IsRecordOf, IsClear};
+ghost use Rattle.engine.specs.HistoryValue.{HistoryStandsFor, IsSameHistory, IsReady};
+
+use model::{Map, Memory};
+use pivot_check::Committed;
+use snapshot::Transaction;
+use std::alloc::Global;
+use std::marker::Model;
+use versions::{Versions, read_only_record_follows};
+
+/// What has committed: the versions of its writes, and the records by which later commits are checked.
+#[derive(Drop)]
+pub(crate) struct History {
+    versions: Versions,
+    committed: Committed,
+}
+
+impl Model for History {
+    ghost use Rattle.std.specs.Prelude.{◌≤◌};
+    ghost use Rattle.engine.specs.HistoryValue.{HistoryValue};
+
+    ghost Value = { HistoryValue };
+
+    ghost view = { λ h. record { versions = h.versions; committed = h.committed } };
+
+    ghost invariant = { λ h. h.versions.last ≤ h.committed.facts.last };
+}
+
+impl History {
+    /// Nothing has committed over this map.
+    pub(crate) fn over(alloc: Global, map: Map) -> Result<History, Memory>
+        ensures stands { IfOk result (λ h. HistoryStandsFor h (λ _. true) map []) }
+        ensures empty { IfOk result (λ h. h.committed.facts ≡ record { records = []; oldest = 0; last = 0 }) }
+    {
+        Ok(History {
+            versions: Versions::from_map(alloc, map)?,
+            committed: Committed::new(alloc),
+        })
+    }
+
+    pub(crate) fn versions(&self) -> &Versions
+        ensures { result.now ≡ self.now.versions }
+    {
+        &self.versions
+    }
+
+    pub(crate) fn committed(&self) -> &Committed
+        ensures { result.now ≡ self.now.committed }
+    {
+        &self.committed
+    }
+
+    /// Makes the memory that the transaction's commit needs. What the history means stays, also where memory is refused.
+    pub(crate) fn prepare(&mut self, transaction: &Transaction) -> Result<(), Memory>
+        ensures same { IsSameHistory self.old self.new }
+        ensures ready { OnOk result (IsReady self.new transaction.now) }
+    {
+        self.versions.prepare(transaction.entries())?;
+        self.committed.reserve(transaction)
+    }
+
+    /// Takes the transaction in as the next commit, in the memory that was made for it, and answers its number.
+    pub(crate) fn join(&mut self, transaction: Transaction) -> u64
+        requires ready { IsReady self.old transaction }
+        requires few { self.old.committed.facts.last < 2 ^ 63 - 1 }
+        ensures number { result ≡ self.old.committed.facts.last + 1 }
+        ensures last { self.new.committed.facts.last ≡ self.old.committed.facts.last + 1 }
+        ensures oldest { self.new.committed.facts.oldest ≡ self.old.committed.facts.oldest }
+        ensures stands { (held : ℕ → Bool) (base : KeyMap) (history : List Record) (r : Record) → HistoryStandsFor self.old held base history
+            → IsInReach self.old.committed.facts transaction → IsClear self.old.committed.facts transaction → IsRecordOf transaction (self.old.committed.facts.last + 1) r
+            → HistoryStandsFor self.new held base (history ++ r ∷ []) }
+    {
+        let number = self.committed.last() + 1;
+        self.committed.note(&transaction, number);
+        let writes = transaction.into_writes();
+        read_only_record_follows();
+        if !writes.is_empty() {
+            self.versions.install(number, writes);
+        }
+        number
+    }
+
+    /// Drops the versions that are neither the newest of their keys nor seen from one of the numbers, and the records with a commit
+    /// number of at most `oldest`.
+    pub(crate) fn reclaim(&mut self, begins: &[u64], oldest: u64)
+        requires { oldest ≤ self.old.committed.facts.last }
+        ensures stands { (held : ℕ → Bool) (base : KeyMap) (history : List Record) → HistoryStandsFor self.old held base history → HistoryStandsFor self.new (λ n. held n && is_among begins.now n) base history }
+        ensures last { self.new.committed.facts.last ≡ self.old.committed.facts.last }
+        ensures oldest { self.new.committed.facts.oldest ≡ max self.old.committed.facts.oldest oldest }
+        ensures tight { IsTight begins.now self.new.versions }
+        ensures forgotten { (held : ℕ → Bool) (base : KeyMap) (history : List Record) → HistoryStandsFor self.old held base history → All (λ r. oldest < r.commit) self.new.committed.facts.records }
+    {
+        self.versions.reclaim(begins);
+        self.committed.forget(oldest);
+    }
+}

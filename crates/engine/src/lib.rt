@@ -1,0 +1,15 @@
+//! Open transactions over one store.
+#![tactic(auto)]
+
+mod commits;
+mod engine;
+mod faults;
+mod history;
+mod opening;
+mod reads;
+mod reclaiming;
+mod records;
+
+pub use engine::Engine;
+pub use faults::{EngineFault, ReadFault};
+pub use snapshot::Rows;

@@ -1,0 +1,59 @@
+//! Opening a store.
+use crate::engine::Engine;
+use crate::history::History;
+use commit_log::{Log, LogFault};
+use sector::Sectors;
+use std::alloc::Global;
+use std::collections::BTreeMap;
+
+impl<D: Sectors> Engine<D> {
+    ghost use Rattle.std.specs.Prelude.{◌≡◌, ◌⊎◌, ◌+◌, ℕ, List, [], false, length, IfOk, IfErr, IsErrAnd, MatchResult};
+    ghost use Rattle.model.specs.Map.{KeyMap, KeyWrite};
+    ghost use Rattle.model.specs.Machine.{State, opened};
+    ghost use Rattle.sector.specs.SectorModel.{LeavesOnly};
+    ghost use Rattle.commit_log.specs.LogImage.{IsLogImage, IsDamaged, IsNoLog, span};
+    ghost use Rattle.commit_log.specs.LogFaults.{IsDeviceOrMemory, IsOpenFault};
+    ghost use Rattle.commit_log.specs.Reading.{ReadsAs};
+    ghost use Rattle.commit_log.specs.Recovery.{map_after};
+    ghost use Rattle.engine.specs.Meaning.{StandsFor, device_of, failures_of, is_stopped};
+
+    /// Opens the store whose log a device holds. Nothing is open in it, and nothing has committed since.
+    ///
+    /// Faults are those of `Log::open`, and `Memory` where the memory for the map is refused. After a fault the device has been
+    /// given up.
+    pub fn open(alloc: Global, dev: D) -> Result<Engine<D>, LogFault>
+        ensures opens { IfOk result (λ e. (base : KeyMap) × (used : ℕ) × StandsFor e (opened base used (D.size dev))) }
+        ensures idle { IfOk result (λ e. (m : State) → StandsFor e m → m.running ≡ []) }
+        ensures running { IfOk result (λ e. is_stopped e ≡ false) }
+        ensures failures { IfOk result (λ e. failures_of e ≡ D.failures dev) }
+        ensures faults { IfErr result IsOpenFault }
+
+        // A log is opened with the map that its write sets make.
+        ensures found { D.keeps_model → (disk : List (List ℕ)) (lists : List (List KeyWrite)) → length disk ≡ D.size dev → ReadsAs (D.may_read dev) disk
+            → IsLogImage lists disk → MatchResult result (λ e. StandsFor e (opened (map_after [] lists) (2 + span lists) (D.size dev))) IsDeviceOrMemory }
+        ensures damaged { D.keeps_model → (disk : List (List ℕ)) (lists : List (List KeyWrite)) → length disk ≡ D.size dev → ReadsAs (D.may_read dev) disk
+            → IsDamaged lists disk → IsErrAnd result (λ e. (e ≡ LogFault.Damaged (length lists)) ⊎ IsDeviceOrMemory e) }
+        ensures no_log { D.keeps_model → (disk : List (List ℕ)) → length disk ≡ D.size dev → ReadsAs (D.may_read dev) disk
+            → IsNoLog disk → IsErrAnd result (λ e. (e ≡ LogFault.NotALog) ⊎ IsDeviceOrMemory e) }
+
+        // Where each crash leaves some log, one is found.
+        ensures undamaged { D.keeps_model → ((c : List (List ℕ)) → D.may_leave dev c → (lists : List (List KeyWrite)) × IsLogImage lists c) → IfErr result IsDeviceOrMemory }
+
+        // During the call a crash leaves what one before it could have left.
+        ensures during { D.keeps_model → IfOk result (λ e. LeavesOnly D.moment D.left_since dev (device_of e) (D.may_leave dev)) }
+    {
+        let (log, map) = match Log::open(alloc, dev) {
+            Ok(opened) => opened,
+            Err(fault) => return Err(fault),
+        };
+        match History::over(alloc, map) {
+            Ok(history) => Ok(Engine {
+                log,
+                history,
+                running: BTreeMap::new(alloc),
+                alloc,
+            }),
+            Err(_) => Err(LogFault::Memory),
+        }
+    }
+}

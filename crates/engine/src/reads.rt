@@ -1,0 +1,61 @@
+//! Reads.
+use crate::engine::Engine;
+use crate::faults::ReadFault;
+use model::{KeyRef, RangeRef};
+use sector::Sectors;
+use snapshot::Rows;
+
+impl<D: Sectors> Engine<D> {
+    ghost use Rattle.std.specs.Prelude.{◌≡◌, ◌≤◌, false, Some, IsOk, option_copied, option_map};
+    ghost use Rattle.std.specs.Borrow.{sem};
+    ghost use Rattle.std.specs.Io.BufRead.{Rests};
+    ghost use Rattle.model.specs.Operations.Operation.{Get, Range};
+    ghost use Rattle.model.specs.Operations.Response.{Value, Pairs};
+    ghost use Rattle.snapshot.specs.RowPairs.{row_pairs};
+    ghost use Rattle.model.specs.Machine.{State, Running, running_of};
+    ghost use Rattle.engine.specs.Meaning.{StandsFor, Leads, response_to_read, device_of, IsKnownKey, IsKnownRange};
+    ghost use Rattle.engine.specs.contracts.engine.Engine.{the_row};
+
+    /// Lends what the session's private copy has at the key, and `None` where it has nothing. The key is marked as read, unless the
+    /// transaction wrote it.
+    ///
+    /// Refusals: `NotOpen`; `FullMarks` for a 257th mark. It may take a copy of the key and room for a mark; `Memory` where that is refused,
+    /// never for a key that is written or marked.
+    pub fn get(&mut self, s: u64, key: KeyRef<'_>) -> Result<Option<&[u8]>, ReadFault>
+        ensures known { (m : State) → StandsFor self.old m → (t : Running) → running_of m s ≡ Some t → IsKnownKey m t key.entry.bytes.now → IsOk result }
+        ensures* after { sem 𝓛 (Rests (the_row D.row D.Sectors) self.entry (λ new.
+            Leads self.old new s (Get key.entry.bytes.now) false (response_to_read (λ v. Value (option_copied v)) result)
+            × (device_of new ≡ device_of self.old))) }
+    {
+        let versions = self.history.versions();
+        match self.running.get_mut(&s) {
+            Some(transaction) => match transaction.get(versions, key) {
+                Ok(value) => Ok(value),
+                Err(fault) => Err(ReadFault::from(fault)),
+            },
+            None => Err(ReadFault::NotOpen),
+        }
+    }
+
+    /// Lends the first pairs of a range in the session's private copy, by rising key, at most `limit`, from 1 to 128. The range is marked as
+    /// read, unless it is empty.
+    ///
+    /// Refusals: `NotOpen`; `FullMarks` for a 257th mark. It may take copies of the bounds and room for a mark; `Memory` where that is
+    /// refused, never for a range that is empty or marked.
+    pub fn range(&mut self, s: u64, range: RangeRef<'_>, limit: u8) -> Result<Rows<'_>, ReadFault>
+        requires { (1 ≤ limit) × (limit ≤ 128) }
+        ensures known { (m : State) → StandsFor self.old m → (t : Running) → running_of m s ≡ Some t → IsKnownRange m t range.entry.lo.bytes.now (option_map (λ k. k.bytes.now) range.entry.hi) → IsOk result }
+        ensures* after { sem 𝓛 (Rests (the_row D.row D.Sectors) self.entry (λ new.
+            Leads self.old new s (Range range.entry.lo.bytes.now (option_map (λ k. k.bytes.now) range.entry.hi) limit) false (response_to_read (λ rows. Pairs (row_pairs rows)) result)
+            × (device_of new ≡ device_of self.old))) }
+    {
+        let versions = self.history.versions();
+        match self.running.get_mut(&s) {
+            Some(transaction) => match transaction.range(versions, range, limit) {
+                Ok(rows) => Ok(rows),
+                Err(fault) => Err(ReadFault::from(fault)),
+            },
+            None => Err(ReadFault::NotOpen),
+        }
+    }
+}
