@@ -1,0 +1,10 @@
+pub mod RequestSteps
+pub mod ServeEffects
+pub mod EventSteps
+pub mod StreamLaws
+pub mod OpenTransactions
+pub mod CrashSteps
+pub mod RunLaws
+pub mod PrivateReplies
+pub mod HubEvents
+pub mod PiecesOfStreams

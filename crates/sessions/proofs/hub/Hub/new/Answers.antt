@@ -1,0 +1,11 @@
+use Rattle.std.proofs.Common.{refl}
+use Rattle.sessions.specs.SessionStreams.{Begun}
+use Rattle.sessions.proofs.hub.Hub.new.Goals as goal
+
+pub returns : goal.returns
+returns g c m h = record {
+  engine = h;
+  sessions = c.new.ensures.empty;
+  latest = refl;
+  reached = Begun m (c.is_lawful.ensures m h).0 (c.requires m h);
+}

@@ -1,0 +1,26 @@
+use Rattle.std.proofs.Common.{List, sym, subst, arith}
+use Rattle.engine.specs.Meaning.{has_risen}
+use Rattle.sessions.specs.declared.events.Event.TheVariants.{Joined}
+use Rattle.sessions.specs.Laws.{Runs}
+use Rattle.sessions.specs.SessionStreams.{HubEvent}
+use Rattle.sessions.specs.StandsFor.{event_of, failures}
+use Rattle.sessions.proofs.RunLaws.{no_events, one_more, map_take_push}
+use Rattle.sessions.proofs.hub.Hub.run.Goals as goal
+
+pub loop-event-init : goal.loop-event-init
+loop-event-init g c = record {
+  device = omega arith;
+  runs = λ h stands. no_events c.args.self.now h _ c.machine_is_serializable.ensures stands;
+}
+
+pub loop-event-preserved : goal.loop-event-preserved
+loop-event-preserved g c = record {
+  device = omega (arith, c.loop-event.invariant.device, c.step-outcome.ensures.device);
+  runs = λ h stands. (
+      let all = map_take_push event_of c.args.events.now c.loop-event.event-index (Joined 0) c.loop-event-test.true in
+      let P : List HubEvent → Type 0 = λ hs. Runs c.step-outcome.new.self h hs (has_risen (failures c.args.self.now) (failures c.step-outcome.new.self)) in
+      let leads = c.step-outcome.ensures.step in
+      let so_far = c.loop-event.invariant.runs h stands in
+      subst P (sym all) (one_more c.loop-event.self c.step-outcome.new.self h _ _ c.step-outcome.result _ _ _ c.loop-event.invariant.device c.step-outcome.ensures.device
+      c.machine_is_serializable.ensures stands.reached so_far leads.0 leads.2 (leads.3 _ so_far.stands)));
+}

@@ -1,0 +1,27 @@
+use Rattle.std.proofs.Common.{refl}
+use Rattle.sessions.proofs.CrashSteps.{survives_front}
+use Rattle.sessions.proofs.ServeEffects.{aborts_left}
+use Rattle.sessions.proofs.requests.serve_request.Goals as goal
+
+pub returns-in-Err-clause-step : goal.returns-in-Err-clause-step
+returns-in-Err-clause-step g c = (
+  c.in-Whole.request,
+  c.in-Whole.used,
+  (c.in-Whole.ensures.whole c.in-Whole.request c.in-Whole.used).0 (refl, refl),
+  c.in-Err.ensures.step.0,
+  aborts_left c.args.engine.now c.execute_request.new.engine c.abort_transaction.new.engine c.args.s c.in-Err.ensures.step.1 c.abort_transaction.ensures.left,
+  c.in-Err.ensures.step.2,
+)
+
+pub returns-in-Ok-clause-crash : goal.returns-in-Ok-clause-crash
+returns-in-Ok-clause-crash g c =
+    survives_front c.args.engine.now c.execute_request.new.engine c.execute_request.new.engine c.args.s c.args.inbox.now refl c.in-Whole.request c.in-Whole.used
+    ((c.in-Whole.ensures.whole c.in-Whole.request c.in-Whole.used).0 (refl, refl)) c.execute_request.ensures.crash
+
+pub returns-in-Err-clause-crash : goal.returns-in-Err-clause-crash
+returns-in-Err-clause-crash g c =
+    survives_front c.args.engine.now c.execute_request.new.engine c.abort_transaction.new.engine c.args.s c.args.inbox.now c.abort_transaction.ensures.device c.in-Whole.request c.in-Whole.used
+    ((c.in-Whole.ensures.whole c.in-Whole.request c.in-Whole.used).0 (refl, refl)) c.execute_request.ensures.crash
+
+pub returns-in-Ok-clause-step : goal.returns-in-Ok-clause-step
+returns-in-Ok-clause-step g c = (c.in-Whole.request, (c.in-Whole.ensures.whole c.in-Whole.request c.in-Whole.used).0 (refl, refl), c.in-Ok.ensures.step)

@@ -1,0 +1,83 @@
+-- What the parts of a Serve do to an engine and an output.
+use Rattle.std.specs.Prelude.{◌≡◌, ℕ, Bool, List, [], drop, Option, Some, None, Result, Ok, Err, true, false, IsTrue}
+use Rattle.sector.specs.declared.device.Sectors.{Ghosts}
+use Rattle.model.specs.declared.refusals.Memory.{Memory}
+use Rattle.model.specs.Map.{Bytes}
+use Rattle.model.specs.Operations.{Operation, Response}
+use Rattle.model.specs.Operations.Response.{Done}
+use Rattle.model.specs.Machine.{State, step, leave}
+use Rattle.model.specs.ReplyText.{reply_text}
+use Rattle.engine.specs.declared.engine.Engine.{Engine}
+use Rattle.engine.specs.Meaning.{StandsFor}
+use Rattle.engine.specs.declared.faults.ReadFault.{ReadFault}
+use Rattle.engine.specs.Meaning.{failures_of, has_risen, response_to_read}
+use Rattle.sessions.specs.declared.buffer.Buffer.{Buffer}
+use Rattle.sessions.specs.declared.events.Outcome.{Outcome}
+use Rattle.sessions.specs.declared.events.Outcome.TheVariants.{Memory as OfMemory}
+use Rattle.sessions.specs.declared.requests.Served.{Served}
+use Rattle.sessions.specs.declared.requests.Served.TheVariants.{Answered, Incomplete, Broken, Refused}
+use Rattle.sessions.specs.SessionStreams.{SessionState, Front, Whole, More, Bad, IsFront, Choice, IsServed, asks, takes_memory, bad_frame, serve, may_serve}
+
+-- the bytes that were not given out yet
+abbrev pub rest : Buffer → Bytes
+rest b = drop b.start b.bytes.items
+
+-- whether the device failed between the two
+abbrev pub has_failed : {D : Type 0} {g : Ghosts D} → Engine D g → Engine D g → Bool
+has_failed old new = has_risen (failures_of old) (failures_of new)
+
+-- this response was written to an empty output, or memory was refused and nothing was
+abbrev pub Writes : Option Response → Bytes → Result (Unit {0}) Memory → Type 0
+Writes (Some response) after (Ok done) = after ≡ reply_text response
+Writes (Some response) after (Err refused) = ⊥
+Writes None after (Ok done) = ⊥
+Writes None after (Err refused) = after ≡ []
+
+-- the response that a refused read has, and none where memory was refused
+abbrev pub refusal_to_read : ReadFault → Option Response
+refusal_to_read fault = response_to_read (λ (u : Unit {0}). Done) (Err fault)
+
+-- from every state that the old engine stood for to one that is the same once the session has left
+abbrev pub LeavesSame : {D : Type 0} {g : Ghosts D} → Engine D g → Engine D g → ℕ → Type 0
+LeavesSame old new s = (m : State) → StandsFor old m → (left : State) × StandsFor new left × (leave left s ≡ leave m s)
+
+-- the request was executed and its response written to an empty output; where memory was refused nothing was, and the
+-- transaction is still to be aborted
+abbrev pub Executes : {D : Type 0} {g : Ghosts D} → Engine D g → Engine D g → ℕ → Operation → Bool → Bytes → Result (Unit {0}) Memory → Type 0
+Executes old new s q failed after (Ok done) =
+    (m : State) → StandsFor old m → StandsFor new (step m s q failed).0 × (after ≡ reply_text (step m s q failed).1)
+Executes old new s q failed after (Err refused) = IsTrue (takes_memory q) × LeavesSame old new s × (after ≡ [])
+
+-- the session's transaction is aborted, if it has one
+abbrev pub Aborts : {D : Type 0} {g : Ghosts D} → Engine D g → Engine D g → ℕ → Type 0
+Aborts old new s = (m : State) → StandsFor old m → StandsFor new (leave m s)
+
+-- what was found at the front of an inbox and answered into an empty output
+abbrev pub ServesFront : {D : Type 0} {g : Ghosts D} → Engine D g → Engine D g → ℕ → Bool → Bytes → Bytes → Served → Type 0
+ServesFront old new s failed inbox after (Answered used) =
+    (parts : List Bytes) × IsFront inbox (Whole parts used)
+    × ((m : State) → StandsFor old m → StandsFor new (step m s (asks parts) failed).0 × (after ≡ reply_text (step m s (asks parts) failed).1))
+ServesFront old new s failed inbox after Incomplete = IsFront inbox More × (new ≡ old) × (after ≡ [])
+ServesFront old new s failed inbox after Broken = IsFront inbox Bad × Aborts old new s × (after ≡ reply_text bad_frame)
+ServesFront old new s failed inbox after Refused =
+    (parts : List Bytes) × (used : ℕ) × IsFront inbox (Whole parts used) × IsTrue (takes_memory (asks parts)) × Aborts old new s × (after ≡ [])
+
+abbrev pub is_memory : Outcome → Bool
+is_memory OfMemory = true
+is_memory other = false
+
+-- the effect of a Serve by its choice
+pub record HasEffect {D : Type 0} {g : Ghosts D} (old new : Engine D g) (s : ℕ) (c : Choice) (m : State) (before after : SessionState) (outcome : Outcome) : Type 0 where
+  pub engine : StandsFor new (serve c m s before).machine
+  pub session : after ≡ (serve c m s before).now
+  pub outcome_is : outcome ≡ (serve c m s before).outcome
+
+-- what is chosen where memory was refused as the outcome says
+abbrev pub chosen : Front → Outcome → Bool → Choice
+chosen front outcome failed = record { front = front; refused = is_memory outcome; failed = failed }
+
+-- one Serve of a session: what the grammar finds is one front for all states
+abbrev pub ServesSession : {D : Type 0} {g : Ghosts D} → Engine D g → Engine D g → ℕ → SessionState → SessionState → Outcome → Type 0
+ServesSession old new s before after outcome =
+    (front : Front) × (IsTrue (may_serve before) → IsServed before.inbox (chosen front outcome (has_failed old new)))
+    × ((m : State) → StandsFor old m → HasEffect old new s (chosen front outcome (has_failed old new)) m before after outcome)

@@ -1,0 +1,72 @@
+-- What a crash at an event leaves on the device.
+use Rattle.std.specs.Prelude.{◌≡◌, ◌⊎◌, ℕ, false, true, List, Some}
+use Rattle.std.specs.Map.{lookup}
+use Rattle.std.specs.BTreeMap.{is_at}
+use Rattle.std.specs.Ordering.{nat_cmp}
+use Rattle.sector.specs.declared.device.Sectors.{Ghosts}
+use Rattle.sector.specs.SectorModel.{LeavesOnly}
+use Rattle.model.specs.Map.{Bytes}
+use Rattle.model.specs.Operations.{Operation}
+use Rattle.model.specs.Operations.Operation.{Commit}
+use Rattle.model.specs.Machine.{State, step}
+use Rattle.engine.specs.declared.engine.Engine.{Engine}
+use Rattle.engine.specs.Meaning.{StandsFor as EngineStandsFor, device_of}
+use Rattle.engine.specs.Recovery.{HoldsMap, committed_map}
+use Rattle.sessions.specs.declared.hub.Hub.{Hub}
+use Rattle.sessions.specs.SessionStreams.{HubState, HubEvent, Serves, SessionState, SessionStream, Whole, IsFront, asks, may_serve, stream_of}
+use Rattle.sessions.specs.StandsFor.{StandsFor, device}
+
+-- a crash at any moment of the session's COMMIT leaves the map from before it, or the one with the transaction's writes
+abbrev pub SurvivesCommit : {D : Type 0} {g : Ghosts D} → Engine D g → Engine D g → ℕ → Type 0
+SurvivesCommit {D} {g} old new s =
+    g.keeps_model → (m : State) → EngineStandsFor old m → m.stopped ≡ false →
+    LeavesOnly g.moment g.left_since (device_of old) (device_of new) (λ c. HoldsMap c (committed_map m) ⊎ HoldsMap c (committed_map (step m s Commit false).0))
+
+-- the device is as it was, or the request is a COMMIT
+abbrev pub SurvivesRequest : {D : Type 0} {g : Ghosts D} → Engine D g → Engine D g → ℕ → Operation → Type 0
+SurvivesRequest old new s q = (device_of new ≡ device_of old) ⊎ ((q ≡ Commit) × SurvivesCommit old new s)
+
+-- a COMMIT stands at the front of these bytes
+pub record BeginsWithCommit (inbox : Bytes) : Type 0 where
+  pub parts : List Bytes
+  pub used : ℕ
+  pub front : IsFront inbox (Whole parts used)
+  pub asked : asks parts ≡ Commit
+
+abbrev pub SurvivesFront : {D : Type 0} {g : Ghosts D} → Engine D g → Engine D g → ℕ → Bytes → Type 0
+SurvivesFront old new s inbox = (device_of new ≡ device_of old) ⊎ (BeginsWithCommit inbox × SurvivesCommit old new s)
+
+-- a Serve of this session executes a COMMIT
+pub record ServesCommit (n : SessionState) : Type 0 where
+  pub may : may_serve n ≡ true
+  pub commit : BeginsWithCommit n.inbox
+
+abbrev pub SurvivesServe : {D : Type 0} {g : Ghosts D} → Engine D g → Engine D g → ℕ → SessionState → Type 0
+SurvivesServe old new s n = (device_of new ≡ device_of old) ⊎ (ServesCommit n × SurvivesCommit old new s)
+
+abbrev pub SurvivesEvent : {D : Type 0} {g : Ghosts D} → Hub D g → Hub D g → HubEvent → Type 0
+SurvivesEvent old new e =
+    (device new ≡ device old)
+    ⊎ ((s : ℕ) × (n : SessionState) × (e ≡ Serves s) × (lookup (is_at (nat_cmp s)) old.sessions.entries ≡ Some n) × ServesCommit n × SurvivesCommit old.engine new.engine s)
+
+-- the event executes a COMMIT of this session
+pub record Commits (h : HubState) (e : HubEvent) (s : ℕ) : Type 0 where
+  pub is : e ≡ Serves s
+  pub stream : SessionStream
+  pub present : stream_of h s ≡ Some stream
+  pub serves : ServesCommit stream.now
+
+-- the image holds the map committed before the event or, where this executes a COMMIT, that with the transaction's writes
+abbrev pub HoldsBeforeOrAfter : HubState → HubEvent → List (List ℕ) → Type 0
+HoldsBeforeOrAfter h e c = HoldsMap c (committed_map h.machine) ⊎ ((s : ℕ) × Commits h e s × HoldsMap c (committed_map (step h.machine s Commit false).0))
+
+-- a crash at any moment of the event leaves such an image, where the device keeps its model and the store is not stopped
+abbrev pub SurvivesCrash : {D : Type 0} {g : Ghosts D} → Hub D g → Hub D g → HubEvent → Type 0
+SurvivesCrash {D} {g} old new e =
+    g.keeps_model → (h : HubState) → StandsFor old h → h.machine.stopped ≡ false →
+    LeavesOnly g.moment g.left_since (device old) (device new) (HoldsBeforeOrAfter h e)
+
+-- a crash now leaves the map that is committed
+abbrev pub IsStored : {D : Type 0} {g : Ghosts D} → Hub D g → Type 0
+IsStored {D} {g} hub =
+    g.keeps_model → (h : HubState) → StandsFor hub h → h.machine.stopped ≡ false → (c : List (List ℕ)) → g.may_leave (device hub) c → HoldsMap c (committed_map h.machine)

@@ -1,0 +1,5 @@
+pub mod SessionStreams
+pub mod Calls
+pub mod StandsFor
+pub mod Laws
+pub mod Crashes

@@ -1,0 +1,62 @@
+-- Which states a hub stands for, and what an event does to them.
+use Rattle.std.specs.Prelude.{◌≡◌, ℕ, List, [], map, Option, Some, None}
+use Rattle.sector.specs.declared.device.Sectors.{Ghosts}
+use Rattle.engine.specs.Meaning.{StandsFor as EngineStandsFor}
+use Rattle.engine.specs.Meaning.{device_of, failures_of}
+use Rattle.sessions.specs.declared.events.Status.{Status}
+use Rattle.sessions.specs.declared.events.Status.TheVariants.{Absent}
+use Rattle.sessions.specs.declared.events.Outcome.{Outcome}
+use Rattle.sessions.specs.declared.events.Event.{Event}
+use Rattle.sessions.specs.declared.events.Event.TheVariants.{Joined, Bytes, Serve, Sent, Left}
+use Rattle.sessions.specs.declared.hub.Hub.{Hub}
+use Rattle.sessions.specs.Calls.{is_memory, has_failed}
+use Rattle.sessions.specs.SessionStreams.{HubState, SessionState, SessionStream, HubEvent, Joins, Receives, Serves, Sends, Leaves, Choice, IsPossible, hub_step, room, IsReachedHub}
+
+abbrev pub event_of : Event → HubEvent
+event_of (Joined s) = Joins s
+event_of (Bytes s piece) = Receives s piece.now
+event_of (Serve s) = Serves s
+event_of (Sent s n) = Sends s n
+event_of (Left s) = Leaves s
+
+-- what each session that is present has at hand
+abbrev pub at_hand : List (ℕ × SessionStream) → List (ℕ × SessionState)
+at_hand es = map (λ e. (e.0, e.1.now)) es
+
+-- a hub keeps of each session what it has at hand, and of those that left the greatest number
+pub record StandsFor {D : Type 0} {g : Ghosts D} (hub : Hub D g) (h : HubState) : Type 0 where
+  pub engine : EngineStandsFor hub.engine h.machine
+  pub sessions : hub.sessions.entries ≡ at_hand h.present
+  pub latest : hub.latest ≡ h.latest
+  pub reached : IsReachedHub h
+
+-- the device of the hub's engine, and how many of its calls have failed
+abbrev pub device : {D : Type 0} {g : Ghosts D} → Hub D g → D
+device hub = device_of hub.engine
+
+abbrev pub failures : {D : Type 0} {g : Ghosts D} → Hub D g → ℕ
+failures hub = failures_of hub.engine
+
+-- the state and the outcome that an event leads to by a choice
+pub record Reaches {D : Type 0} {g : Ghosts D} (new : Hub D g) (h : HubState) (e : HubEvent) (c : Choice) (outcome : Outcome) : Type 0 where
+  pub possible : IsPossible h e c
+  pub stands : StandsFor new (hub_step h e c).0
+  pub outcome_is : outcome ≡ (hub_step h e c).1
+
+-- by one choice, in which memory was refused exactly where the outcome says so, and the device failed exactly where its
+-- count says so, from every state that the old hub stood for to the next
+abbrev pub HubLeads : {D : Type 0} {g : Ghosts D} → Hub D g → Hub D g → HubEvent → Outcome → Type 0
+HubLeads old new e outcome =
+    (c : Choice) × (c.refused ≡ is_memory outcome) × (c.failed ≡ has_failed old.engine new.engine) × ((h : HubState) → StandsFor old h → Reaches new h e c outcome)
+
+abbrev pub status_in : Option SessionStream → Status
+status_in None = Absent
+status_in (Some st) = st.now.status
+
+abbrev pub room_in : Option SessionStream → ℕ
+room_in None = 0
+room_in (Some st) = room st.now
+
+abbrev pub pending_in : Option SessionStream → List ℕ
+pending_in None = []
+pending_in (Some st) = st.now.pending

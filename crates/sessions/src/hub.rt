@@ -1,0 +1,261 @@
+//! The sessions that are present, over one engine.
+ghost use Rattle.std.specs.Prelude.{◌≡◌, ◌≤◌, ℕ, [], map};
+ghost use Rattle.engine.specs.Meaning.{has_risen};
+ghost use Rattle.engine.specs.Meaning.{StandsFor as EngineStandsFor};
+ghost use Rattle.model.specs.Machine.{State};
+ghost use Rattle.sessions.specs.Crashes.{SurvivesEvent, SurvivesCrash, IsStored};
+ghost use Rattle.sessions.specs.Laws.{IsLawful, Runs};
+ghost use Rattle.sessions.specs.SessionStreams.{HubState, is_above, hub_over, stream_of, Joins, Receives, Serves, Sends, Leaves};
+ghost use Rattle.sessions.specs.StandsFor.{HubLeads, StandsFor, event_of, status_in, room_in, pending_in, device, failures};
+
+use crate::events::{Event, Outcome, SESSIONS_MAX, Status};
+use crate::requests::abort_transaction;
+use crate::session::Session;
+use engine::Engine;
+use model::machine_is_serializable;
+use sector::Sectors;
+use std::alloc::Global;
+use std::collections::BTreeMap;
+
+/// Whether the number is above the greatest that has joined.
+fn is_above(s: u64, latest: Option<u64>) -> bool
+    ensures { result ≡ is_above s latest }
+{
+    match latest {
+        Some(t) => t < s,
+        None => true,
+    }
+}
+
+/// The sessions that are present, over one engine. It takes one event at a time.
+///
+/// A session's requests are those that the grammar finds in the bytes that came in, however these were cut into pieces, and its
+/// replies are those of the machine in `model`, one Serve after another. What a hub stands for are the machine's states with each
+/// session's bytes, and each event leads from every one of them to the next.
+#[derive(Drop)]
+pub struct Hub<D: Sectors> {
+    alloc: Global,
+    engine: Engine<D>,
+    sessions: BTreeMap<u64, Session>,
+    /// The greatest number that has joined.
+    latest: Option<u64>,
+}
+
+impl<D: Sectors> Hub<D> {
+    /// A hub over an engine with no open transaction. No session is present. Takes no memory.
+    pub fn new(alloc: Global, engine: Engine<D>) -> Hub<D>
+        requires { (m : State) → EngineStandsFor engine m → m.running ≡ [] }
+        ensures { (m : State) → EngineStandsFor engine m → StandsFor result (hub_over m) }
+    {
+        engine.is_lawful();
+        Hub {
+            alloc,
+            engine,
+            sessions: BTreeMap::new(alloc),
+            latest: None,
+        }
+    }
+
+    /// How the session stands: `Absent` where it has not joined or has left. Takes no memory.
+    pub fn status(&self, s: u64) -> Status
+        ensures { (h : HubState) → StandsFor self.now h → result ≡ status_in (stream_of h s) }
+    {
+        match self.sessions.get(&s) {
+            Some(session) => session.status(),
+            None => Status::Absent,
+        }
+    }
+
+    /// How many bytes the session's inbox still takes, from 0 to 32,768; 0 for an absent session. Takes no memory.
+    pub fn room(&self, s: u64) -> usize
+        ensures { (h : HubState) → StandsFor self.now h → result ≡ room_in (stream_of h s) }
+    {
+        match self.sessions.get(&s) {
+            Some(session) => session.room(),
+            None => 0,
+        }
+    }
+
+    /// The session's bytes that are to be sent; none for an absent session. Takes no memory.
+    pub fn pending(&self, s: u64) -> &[u8]
+        ensures { (h : HubState) → StandsFor self.now h → result.now ≡ pending_in (stream_of h s) }
+    {
+        match self.sessions.get(&s) {
+            Some(session) => session.pending(),
+            None => &[],
+        }
+    }
+
+    /// Whether the device has failed in a COMMIT: BEGIN and COMMIT are then refused until the log is opened again. Takes no memory.
+    pub fn stopped(&self) -> bool
+        ensures { (h : HubState) → StandsFor self.now h → result ≡ h.machine.stopped }
+    {
+        self.engine.stopped()
+    }
+
+    /// Gives the engine back. Open transactions stay open in it. Takes no memory.
+    pub fn into_engine(self) -> Engine<D>
+        ensures { (h : HubState) → StandsFor self h → EngineStandsFor result h.machine }
+    {
+        let Hub {
+            alloc: _,
+            engine,
+            sessions: _,
+            latest: _,
+        } = self;
+        engine
+    }
+
+    /// A session joins.
+    fn join(&mut self, s: u64) -> Outcome
+        ensures step { HubLeads self.old self.new (Joins s) result }
+        ensures device { device self.new ≡ device self.old }
+    {
+        if !is_above(s, self.latest) {
+            return Outcome::Unknown;
+        }
+        if self.sessions.len() >= SESSIONS_MAX {
+            return Outcome::Crowded;
+        }
+        let Ok(session) = Session::new(self.alloc) else {
+            return Outcome::Memory;
+        };
+        match self.sessions.insert(s, session) {
+            Ok(_before) => {
+                self.latest = Some(s);
+                Outcome::Done
+            }
+            Err(_refused) => Outcome::Memory,
+        }
+    }
+
+    /// A piece of a session's bytes comes in.
+    fn receive(&mut self, s: u64, piece: &[u8]) -> Outcome
+        ensures step { HubLeads self.old self.new (Receives s piece.now) result }
+        ensures device { device self.new ≡ device self.old }
+    {
+        match self.sessions.get_mut(&s) {
+            Some(session) => {
+                if !session.is_open() {
+                    return Outcome::Idle;
+                }
+                if piece.len() > session.room() {
+                    return Outcome::NoRoom;
+                }
+                session.receive(piece);
+                Outcome::Done
+            }
+            None => Outcome::Unknown,
+        }
+    }
+
+    /// A session's next request is executed.
+    fn serve(&mut self, s: u64) -> Outcome
+        ensures step { HubLeads self.old self.new (Serves s) result }
+        ensures crash { SurvivesEvent self.old self.new (Serves s) }
+        ensures device { failures self.old ≤ failures self.new }
+    {
+        match self.sessions.get_mut(&s) {
+            Some(session) => session.serve(&mut self.engine, s),
+            None => Outcome::Unknown,
+        }
+    }
+
+    /// Pending bytes of a session were sent.
+    fn sent(&mut self, s: u64, n: usize) -> Outcome
+        ensures step { HubLeads self.old self.new (Sends s n) result }
+        ensures device { device self.new ≡ device self.old }
+    {
+        match self.sessions.get_mut(&s) {
+            Some(session) => {
+                if n > session.pending().len() {
+                    return Outcome::BadCount;
+                }
+                session.mark_sent(n);
+                Outcome::Done
+            }
+            None => Outcome::Unknown,
+        }
+    }
+
+    /// A session leaves.
+    fn left(&mut self, s: u64) -> Outcome
+        ensures step { HubLeads self.old self.new (Leaves s) result }
+        ensures device { device self.new ≡ device self.old }
+    {
+        match self.sessions.remove(&s) {
+            Some(_session) => {
+                abort_transaction(&mut self.engine, s);
+                Outcome::Done
+            }
+            None => Outcome::Unknown,
+        }
+    }
+
+    /// Applies one event.
+    fn apply(&mut self, event: &Event<'_>) -> Outcome
+        ensures step { HubLeads self.old self.new (event_of event.now) result }
+        ensures crash { SurvivesEvent self.old self.new (event_of event.now) }
+        ensures device { failures self.old ≤ failures self.new }
+    {
+        match event {
+            Event::Joined(s) => self.join(*s),
+            Event::Bytes(s, piece) => self.receive(*s, piece),
+            Event::Serve(s) => self.serve(*s),
+            Event::Sent(s, n) => self.sent(*s, *n),
+            Event::Left(s) => self.left(*s),
+        }
+    }
+
+    /// Does nothing, and takes no memory. Its contract says what a crash between two events leaves: the map that is committed.
+    pub fn is_stored(&self)
+        ensures { IsStored self.now }
+    {
+        self.engine.is_stored();
+    }
+
+    /// Applies one event, exactly where it may be applied, and answers `Done` then. Each other outcome and what it leaves stands at
+    /// `Outcome`.
+    ///
+    /// `Joined` takes the session's inbox and output, 33,304 bytes, and its place; `Serve` what the engine takes for the request and
+    /// the reply's text beyond 536 bytes. `Bytes`, `Sent` and `Left` take no memory.
+    ///
+    /// A crash at any moment of the event leaves the map committed before it or, where it executes a COMMIT, that with the
+    /// transaction's writes; after the event it leaves the map that is then committed.
+    pub fn step(&mut self, event: &Event<'_>) -> Outcome
+        ensures step { HubLeads self.old self.new (event_of event.now) result }
+        ensures crash { SurvivesCrash self.old self.new (event_of event.now) }
+        ensures stored { IsStored self.new }
+        ensures device { failures self.old ≤ failures self.new }
+    {
+        self.is_stored();
+        let outcome = self.apply(event);
+        self.is_stored();
+        outcome
+    }
+
+    /// Applies events one after another, and takes the memory that `step` takes.
+    ///
+    /// Whatever the sessions send, and however their bytes are cut and interleaved: every reply between a transaction's begin and its
+    /// commit or abort is what a private copy of the map committed at its begin answers to its own requests alone, and the committed
+    /// transactions, run one at a time in one order, give the same replies and the same final map. (Serializable snapshot isolation
+    /// as in Cahill, Röhm and Fekete, SIGMOD 2008.)
+    pub fn run(&mut self, events: &[Event<'_>])
+        ensures run { (h : HubState) → StandsFor self.old h → Runs self.new h (map event_of events.now) (has_risen (failures self.old) (failures self.new)) }
+        ensures device { failures self.old ≤ failures self.new }
+    {
+        machine_is_serializable();
+        for event in events {
+            let _outcome = self.step(event);
+        }
+    }
+
+    /// Does nothing, and takes no memory. Its contract says what holds of every state that the hub stands for: no reply of an open
+    /// transaction depends on others, what has committed has a serial order, and each session's bytes are those of its requests and of
+    /// the machine's replies.
+    pub fn is_lawful(&self)
+        ensures { (h : HubState) → StandsFor self.now h → IsLawful h }
+    {
+        machine_is_serializable();
+    }
+}

@@ -1,0 +1,247 @@
+//! One request of a session: executed by the engine, answered into an output.
+ghost use Rattle.std.specs.Prelude.{◌≡◌, ◌≤◌, [], vec_capacity, Some, false};
+ghost use Rattle.model.specs.KeyBytes.{key_bytes, end_bytes};
+ghost use Rattle.model.specs.Operations.{operation_of, response_of, IsFit};
+ghost use Rattle.model.specs.Operations.Operation.{Get, Range, Abort as ToAbort, Commit as ToCommit};
+ghost use Rattle.model.specs.Operations.Response.{Done};
+ghost use Rattle.resp.specs.Writing.{IsBrief};
+ghost use Rattle.engine.specs.Meaning.{failures_of, device_of, response_to};
+ghost use Rattle.sessions.specs.Calls.{Writes, refusal_to_read, Executes, Aborts, ServesFront, has_failed};
+ghost use Rattle.sessions.specs.Crashes.{SurvivesCommit, SurvivesRequest, SurvivesFront};
+ghost use Rattle.sessions.specs.SessionStreams.{asks};
+
+use engine::{Engine, EngineFault, ReadFault};
+use model::{Command, KeyRef, Memory, RangeRef, Refusal, Reply};
+use resp::{Decoded, Request, command, decode, write_pairs, write_reply};
+use sector::Sectors;
+
+/// Writes a reply that always has room: any but a value and the pairs of a range.
+fn write_brief(out: &mut Vec<u8>, reply: &Reply<'_>) -> Result<(), Memory>
+    requires brief { IsBrief reply.now }
+    requires empty { out.old.items ≡ [] }
+    requires room { 536 ≤ vec_capacity out.old }
+    ensures written { Writes (Some (response_of reply.now)) out.new.items result }
+    ensures capacity { vec_capacity out.old ≤ vec_capacity out.new }
+{
+    write_reply(out, reply)
+}
+
+/// Writes what a call without a value answered.
+fn write_done(out: &mut Vec<u8>, answer: Result<(), EngineFault>) -> Result<(), Memory>
+    requires empty { out.old.items ≡ [] }
+    requires room { 536 ≤ vec_capacity out.old }
+    ensures written { Writes (response_to (λ _. Done) answer) out.new.items result }
+    ensures capacity { vec_capacity out.old ≤ vec_capacity out.new }
+{
+    match answer {
+        Ok(()) => write_brief(out, &Reply::Done),
+        Err(EngineFault::Refused(refusal)) => write_brief(out, &Reply::Refused(&refusal)),
+        Err(EngineFault::Memory) => Err(Memory),
+    }
+}
+
+/// Writes why a read was refused.
+fn write_read_fault(out: &mut Vec<u8>, fault: ReadFault) -> Result<(), Memory>
+    requires empty { out.old.items ≡ [] }
+    requires room { 536 ≤ vec_capacity out.old }
+    ensures written { Writes (refusal_to_read fault) out.new.items result }
+    ensures capacity { vec_capacity out.old ≤ vec_capacity out.new }
+{
+    match fault {
+        ReadFault::NotOpen => write_brief(out, &Reply::Refused(&Refusal::NotOpen)),
+        ReadFault::FullMarks => write_brief(out, &Reply::Refused(&Refusal::FullMarks)),
+        ReadFault::Memory => Err(Memory),
+    }
+}
+
+/// Executes a GET, and writes its reply.
+fn get<D: Sectors>(
+    engine: &mut Engine<D>,
+    s: u64,
+    key: KeyRef<'_>,
+    out: &mut Vec<u8>,
+) -> Result<(), Memory>
+    requires empty { out.old.items ≡ [] }
+    requires room { 536 ≤ vec_capacity out.old }
+    ensures step { Executes engine.old engine.new s (Get (key_bytes key.entry)) false out.new.items result }
+    ensures device { device_of engine.new ≡ device_of engine.old }
+    ensures capacity { vec_capacity out.old ≤ vec_capacity out.new }
+{
+    match engine.get(s, key) {
+        Ok(value) => write_reply(out, &Reply::Value(value)),
+        Err(fault) => write_read_fault(out, fault),
+    }
+}
+
+/// Executes a RANGE, and writes its reply.
+fn range<D: Sectors>(
+    engine: &mut Engine<D>,
+    s: u64,
+    range: RangeRef<'_>,
+    limit: u8,
+    out: &mut Vec<u8>,
+) -> Result<(), Memory>
+    requires empty { out.old.items ≡ [] }
+    requires room { 536 ≤ vec_capacity out.old }
+    requires limit { (1 ≤ limit) × (limit ≤ 128) }
+    ensures step { Executes engine.old engine.new s (Range (key_bytes range.entry.lo) (end_bytes range.entry.hi) limit) false out.new.items result }
+    ensures device { device_of engine.new ≡ device_of engine.old }
+    ensures capacity { vec_capacity out.old ≤ vec_capacity out.new }
+{
+    match engine.range(s, range, limit) {
+        Ok(rows) => write_pairs(out, rows.len(), rows),
+        Err(fault) => write_read_fault(out, fault),
+    }
+}
+
+/// Executes a COMMIT, and writes its reply.
+fn commit<D: Sectors>(engine: &mut Engine<D>, s: u64, out: &mut Vec<u8>) -> Result<(), Memory>
+    requires empty { out.old.items ≡ [] }
+    requires room { 536 ≤ vec_capacity out.old }
+    ensures step { Executes engine.old engine.new s ToCommit (has_failed engine.old engine.new) out.new.items result }
+    ensures crash { SurvivesCommit engine.old engine.new s }
+    ensures device { failures_of engine.old ≤ failures_of engine.new }
+    ensures capacity { vec_capacity out.old ≤ vec_capacity out.new }
+{
+    match engine.commit(s) {
+        Ok(number) => {
+            engine.reclaim();
+            write_brief(out, &Reply::Number(number))
+        }
+        Err(EngineFault::Refused(refusal)) => {
+            engine.reclaim();
+            write_brief(out, &Reply::Refused(&refusal))
+        }
+        Err(EngineFault::Memory) => Err(Memory),
+    }
+}
+
+/// Executes an ABORT, and writes its reply.
+fn abort<D: Sectors>(engine: &mut Engine<D>, s: u64, out: &mut Vec<u8>) -> Result<(), Memory>
+    requires empty { out.old.items ≡ [] }
+    requires room { 536 ≤ vec_capacity out.old }
+    ensures step { Executes engine.old engine.new s ToAbort false out.new.items result }
+    ensures device { device_of engine.new ≡ device_of engine.old }
+    ensures capacity { vec_capacity out.old ≤ vec_capacity out.new }
+{
+    let answer = engine.abort(s);
+    engine.reclaim();
+    write_done(out, answer)
+}
+
+/// Executes one command of the session, and writes its reply.
+fn execute<D: Sectors>(
+    engine: &mut Engine<D>,
+    s: u64,
+    command: Command<'_>,
+    out: &mut Vec<u8>,
+) -> Result<(), Memory>
+    requires fits { IsFit command }
+    requires empty { out.old.items ≡ [] }
+    requires room { 536 ≤ vec_capacity out.old }
+    ensures step { Executes engine.old engine.new s (operation_of command.entry) (has_failed engine.old engine.new) out.new.items result }
+    ensures crash { SurvivesRequest engine.old engine.new s (operation_of command.entry) }
+    ensures device { failures_of engine.old ≤ failures_of engine.new }
+    ensures capacity { vec_capacity out.old ≤ vec_capacity out.new }
+{
+    match command {
+        Command::Begin => {
+            let answer = engine.begin(s);
+            write_done(out, answer)
+        }
+        Command::Get(key) => get(engine, s, key, out),
+        Command::Set(key, value) => {
+            let answer = engine.set(s, key, value);
+            write_done(out, answer)
+        }
+        Command::Del(key) => {
+            let answer = engine.del(s, key);
+            write_done(out, answer)
+        }
+        Command::Range(bounds, limit) => range(engine, s, bounds, limit, out),
+        Command::Commit => commit(engine, s, out),
+        Command::Abort => abort(engine, s, out),
+        Command::Ping => {
+            engine.passes(s);
+            write_brief(out, &Reply::Pong)
+        }
+    }
+}
+
+/// Executes one request of the session, and writes its reply.
+fn execute_request<D: Sectors>(
+    engine: &mut Engine<D>,
+    s: u64,
+    request: &Request<'_>,
+    out: &mut Vec<u8>,
+) -> Result<(), Memory>
+    requires empty { out.old.items ≡ [] }
+    requires room { 536 ≤ vec_capacity out.old }
+    ensures step { Executes engine.old engine.new s (asks request.now) (has_failed engine.old engine.new) out.new.items result }
+    ensures crash { SurvivesRequest engine.old engine.new s (asks request.now) }
+    ensures device { failures_of engine.old ≤ failures_of engine.new }
+    ensures capacity { vec_capacity out.old ≤ vec_capacity out.new }
+{
+    match command(request) {
+        Ok(command) => execute(engine, s, command, out),
+        Err(refusal) => {
+            engine.passes(s);
+            write_brief(out, &Reply::Refused(&refusal))
+        }
+    }
+}
+
+/// Aborts the session's transaction, if it has one. Takes no memory.
+pub(crate) fn abort_transaction<D: Sectors>(engine: &mut Engine<D>, s: u64)
+    ensures left { Aborts engine.old engine.new s }
+    ensures device { device_of engine.new ≡ device_of engine.old }
+{
+    match engine.abort(s) {
+        Ok(()) => engine.reclaim(),
+        Err(_not_open) => {}
+    }
+}
+
+/// What a Serve found at the front of an inbox.
+#[derive(Clone, Copy)]
+pub(crate) enum Served {
+    /// A request of so many bytes; its reply was written.
+    Answered(usize),
+    /// The beginning of a request.
+    Incomplete,
+    /// No request begins so; the refusal was written, and the transaction is aborted.
+    Broken,
+    /// A request for which memory was refused; nothing was written, and the transaction is aborted.
+    Refused,
+}
+
+/// Executes the request at the front of an inbox, and writes its reply.
+pub(crate) fn serve_request<D: Sectors>(
+    engine: &mut Engine<D>,
+    s: u64,
+    inbox: &[u8],
+    out: &mut Vec<u8>,
+) -> Served
+    requires empty { out.old.items ≡ [] }
+    requires room { 536 ≤ vec_capacity out.old }
+    ensures step { ServesFront engine.old engine.new s (has_failed engine.old engine.new) inbox.now out.new.items result }
+    ensures crash { SurvivesFront engine.old engine.new s inbox.now }
+    ensures device { failures_of engine.old ≤ failures_of engine.new }
+    ensures capacity { vec_capacity out.old ≤ vec_capacity out.new }
+{
+    match decode(inbox) {
+        Decoded::Whole(request, used) => match execute_request(engine, s, &request, out) {
+            Ok(()) => Served::Answered(used),
+            Err(_memory) => {
+                abort_transaction(engine, s);
+                Served::Refused
+            }
+        },
+        Decoded::More => Served::Incomplete,
+        Decoded::Bad => {
+            abort_transaction(engine, s);
+            let _ = write_brief(out, &Reply::Refused(&Refusal::BadFrame));
+            Served::Broken
+        }
+    }
+}

@@ -1,0 +1,5 @@
+//! Worked examples over a hub, its engine and a device in memory.
+#![tactic(auto)]
+
+#[cfg(test)]
+mod tests;
