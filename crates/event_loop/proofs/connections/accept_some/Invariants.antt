@@ -1,0 +1,7 @@
+use Rattle.stream_driver.specs.Sessions.{Stands}
+use Rattle.stream_driver.specs.Entries.{HaveSessions}
+use Rattle.event_loop.specs.Numbers.{AreBelow}
+use Rattle.event_loop.proofs.connections.accept_some.Given as goal
+
+abbrev pub invariant-loop-accepted : goal.invariant-loop-accepted
+invariant-loop-accepted g l = Stands l.hub × HaveSessions l.hub l.table.slots × AreBelow l.next l.table.slots

@@ -1,0 +1,7 @@
+-- The numbers of the sessions in a table.
+use Rattle.std.specs.Prelude.{◌≡◌, ◌<◌, ℕ, List, Option, Some, None, slice_index_or}
+use Rattle.stream_driver.specs.declared.entries.Entry.{Entry}
+
+-- each is below the next one's
+abbrev pub AreBelow : {T : Type 0} → ℕ → List (Option (Entry T)) → Type 0
+AreBelow {T} next slots = (key : ℕ) (entry : Entry T) → slice_index_or slots key None ≡ Some entry → entry.session < next

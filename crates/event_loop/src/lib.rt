@@ -1,0 +1,12 @@
+//! Sessions over TCP: a loop that polls, accepts connections, drives those that are ready, and takes out those that are gone.
+//!
+//! Nothing in a contract says what the system's sockets do. That each entry that is ready is driven, and how, is the contract of
+//! `drive_ready`; that a turn makes the polled entries ready is shown by tests.
+#![tactic(auto)]
+
+mod connections;
+mod server;
+mod socket;
+
+pub use server::EventLoop;
+pub use socket::Socket;

@@ -1,0 +1,112 @@
+-- Parts of a run follow one another.
+use Rattle.std.proofs.Common.{◌≡◌, ◌≢◌, ℕ, ◌+◌, ◌≤◌, Bool, IsTrue, List, [], ◌∷◌, ◌++◌, length, Some, refl, sym, ap, subst, ◌∙◌, arith, append_assoc, length-append}
+use Rattle.std.specs.List.{flat_map, AllByRecursion}
+use Rattle.std.proofs.lemmas.List.{append-nil}
+use Rattle.std.proofs.lemmas.List.Concat.{flat_map-append}
+use Rattle.model.specs.Map.{Bytes}
+use Rattle.model.specs.ReplyText.{reply_text}
+use Rattle.sessions.specs.SessionStreams.{HubState, SessionStream, HubEvent, Choice, ArePossible, run, hub_step, stream_of}
+use Rattle.stream_driver.specs.Traffic.{Traffic}
+use Rattle.stream_driver.specs.Sessions.{GoesOn, Runs, session_of, IsPresentIn}
+use Rattle.stream_driver.specs.Drives.{Carried, NoneFell}
+use Rattle.stream_driver.proofs.Events.{no_events}
+
+-- two lists that grow one after the other
+pub grown : {A : Type 0} (a b b' c x y : List A) → b ≡ a ++ x → b' ≡ b → c ≡ b' ++ y → c ≡ a ++ (x ++ y)
+grown a b b' c x y e same f = f ∙ ap (λ l. l ++ y) (same ∙ e) ∙ append_assoc a x y
+
+pub texts_then : (gone1 pend1 pend1' pend0 made1 gone2 pend2 made2 : List ℕ) → gone1 ++ pend1 ≡ pend0 ++ made1 → pend1' ≡ pend1 → gone2 ++ pend2 ≡ pend1' ++ made2
+    → (gone1 ++ gone2) ++ pend2 ≡ pend0 ++ (made1 ++ made2)
+texts_then gone1 pend1 pend1' pend0 made1 gone2 pend2 made2 e same f =
+    append_assoc gone1 gone2 pend2 ∙ ap (λ l. gone1 ++ l) (f ∙ ap (λ l. l ++ made2) same) ∙ sym (append_assoc gone1 pend1 made2) ∙ ap (λ l. l ++ made2) e ∙ append_assoc pend0 made1 made2
+
+abbrev pub history_then : (a b b' c : SessionStream) → b' ≡ b → GoesOn a b → GoesOn b' c → GoesOn a c
+history_then a b b' c same p q = record {
+  received = p.received ++ q.received;
+  received_is = grown a.received b.received b'.received c.received p.received q.received p.received_is (ap (λ x. x.received) same) q.received_is;
+  served = p.served ++ q.served;
+  served_is = grown a.served b.served b'.served c.served p.served q.served p.served_is (ap (λ x. x.served) same) q.served_is;
+  replies = p.replies ++ q.replies;
+  replies_is = grown a.replies b.replies b'.replies c.replies p.replies q.replies p.replies_is (ap (λ x. x.replies) same) q.replies_is;
+  sent = p.sent ++ q.sent;
+  sent_is = grown a.sent b.sent b'.sent c.sent p.sent q.sent p.sent_is (ap (λ x. x.sent) same) q.sent_is;
+  texts =
+      texts_then p.sent b.now.pending b'.now.pending a.now.pending (flat_map reply_text p.replies) q.sent c.now.pending (flat_map reply_text q.replies) p.texts (ap (λ x. x.now.pending) same) q.texts
+      ∙ ap (λ l. a.now.pending ++ l) (sym (flat_map-append reply_text p.replies q.replies));
+}
+
+pub all_then : {A : Type 0} (P : A → Type 0) (xs ys : List A) → AllByRecursion P xs → AllByRecursion P ys → AllByRecursion P (xs ++ ys)
+all_then P [] ys a b = b
+all_then P (x ∷ xs) ys a b = (a.0, all_then P xs ys a.1 b)
+
+pub run_then : (h : HubState) (xs ys : List (HubEvent × Choice)) → run h (xs ++ ys) ≡ run (run h xs) ys
+run_then h [] ys = refl
+run_then h (x ∷ xs) ys = run_then (hub_step h x.0 x.1).0 xs ys
+
+pub possible_then : (h : HubState) (xs ys : List (HubEvent × Choice)) → ArePossible h xs → ArePossible (run h xs) ys → ArePossible h (xs ++ ys)
+possible_then h [] ys a b = b
+possible_then h (x ∷ xs) ys a b = (a.0, possible_then (hub_step h x.0 x.1).0 xs ys a.1 b)
+
+pub one_history : (x y : SessionStream) → Some x ≡ Some y → x ≡ y
+one_history x y e = cc
+
+abbrev pub runs_then : (s : ℕ) (a b c : HubState) → Runs s a b → Runs s b c → Runs s a c
+runs_then s a b c p q = record {
+  events = p.events ++ q.events;
+  own = all_then (λ e. session_of e.0 ≡ s) p.events q.events p.own q.own;
+  possible = possible_then a p.events q.events p.possible (subst (λ v. ArePossible v q.events) p.run_is q.possible);
+  run_is = q.run_is ∙ ap (λ v. run v q.events) p.run_is ∙ sym (run_then a p.events q.events);
+  first = p.first;
+  last = q.last;
+  first_is = p.first_is;
+  last_is = q.last_is;
+  history = history_then p.first p.last q.first q.last (one_history q.first p.last (sym q.first_is ∙ p.last_is)) p.history q.history;
+  present = q.present;
+  others = λ t apart. q.others t apart ∙ p.others t apart;
+}
+
+pub same_counts : (t : Traffic) → NoneFell t t
+same_counts t = record { read_blocked = omega arith; read_failed = omega arith; read_ended = omega arith; write_blocked = omega arith; write_failed = omega arith }
+
+pub none_fell : (a b c : Traffic) → NoneFell a b → NoneFell b c → NoneFell a c
+none_fell a b c p q = record {
+  read_blocked = omega (arith, p.read_blocked, q.read_blocked);
+  read_failed = omega (arith, p.read_failed, q.read_failed);
+  read_ended = omega (arith, p.read_ended, q.read_ended);
+  write_blocked = omega (arith, p.write_blocked, q.write_blocked);
+  write_failed = omega (arith, p.write_failed, q.write_failed);
+}
+
+module _ (s : ℕ) (tells : Bool) where
+  -- nothing has happened
+  abbrev pub nothing : (h : HubState) (t : Traffic) → IsPresentIn h s → Carried s tells h t h t
+  nothing h t present = record {
+    runs = no_events s h present;
+    given = λ _. sym (append-nil t.given);
+    taken = λ _. sym (append-nil t.taken);
+    counts = same_counts t;
+  }
+
+  -- the stream answered, and the hub stayed
+  abbrev pub answered : (h : HubState) (before after : Traffic) → IsPresentIn h s → (IsTrue tells → after.given ≡ before.given ++ []) → (IsTrue tells → after.taken ≡ before.taken ++ []) → NoneFell before after
+      → Carried s tells h before h after
+  answered h before after present given taken counts = record { runs = no_events s h present; given = given; taken = taken; counts = counts }
+
+  -- the stream stayed, and the hub ran
+  abbrev pub alone : (h k : HubState) (t : Traffic) (r : Runs s h k) → [] ≡ r.history.received → [] ≡ r.history.sent → Carried s tells h t k t
+  alone h k t r received sent = record {
+    runs = r;
+    given = λ _. sym (append-nil t.given) ∙ ap (λ l. t.given ++ l) received;
+    taken = λ _. sym (append-nil t.taken) ∙ ap (λ l. t.taken ++ l) sent;
+    counts = same_counts t;
+  }
+
+  -- one part after another
+  abbrev pub and_then : (old : HubState) (before : Traffic) (mid : HubState) (between : Traffic) (new : HubState) (after : Traffic) → Carried s tells old before mid between → Carried s tells mid between new after
+      → Carried s tells old before new after
+  and_then old before mid between new after p q = record {
+    runs = runs_then s old mid new p.runs q.runs;
+    given = λ t. grown before.given between.given between.given after.given p.runs.history.received q.runs.history.received (p.given t) refl (q.given t);
+    taken = λ t. grown before.taken between.taken between.taken after.taken p.runs.history.sent q.runs.history.sent (p.taken t) refl (q.taken t);
+    counts = none_fell before between after p.counts q.counts;
+  }

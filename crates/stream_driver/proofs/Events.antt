@@ -1,0 +1,205 @@
+-- What one event does to the history of its session.
+use Rattle.std.proofs.Common.{◌≡◌, ◌≢◌, ℕ, ◌+◌, ◌-◌, ◌≤◌, ◌<◌, nat_le, nat_lt, Bool, true, false, not, if◌then◌else◌, List, [], ◌∷◌, ◌++◌, length, take, drop, Option, Some, None, IsTrue, refl, sym, ap, subst, ◌∙◌, arith, length-append}
+use Rattle.std.specs.List.{flat_map, AllByRecursion}
+use Rattle.std.specs.Map.{lookup, remove_entry, set_value}
+use Rattle.std.proofs.lemmas.Bool.Decides.{nat_tests}
+use Rattle.std.proofs.lemmas.List.{append-nil, take-append-drop, length-take, length-drop}
+use Rattle.model.specs.Map.{Bytes}
+use Rattle.model.specs.Machine.{State, leave, step}
+use Rattle.model.specs.Grammar.{IsProperBeginning}
+use Rattle.model.specs.ReplyText.{reply_text}
+use Rattle.sessions.specs.declared.events.Status.{Status}
+use Rattle.sessions.specs.declared.events.Status.TheVariants.{Absent, Open, Ending, Refused}
+use Rattle.sessions.specs.declared.events.Outcome.{Outcome}
+use Rattle.sessions.specs.declared.events.Outcome.TheVariants.{Done, Memory, Idle}
+use Rattle.sessions.specs.SessionStreams.{HubState, IsServed, SessionState, SessionStream, HubEvent, Joins, Receives, Serves, Sends, Leaves, Front, Whole, More, Bad, IsFront, Choice, Effect, IsPossible, IsServePossible, hub_step, stream_of, with_stream, with_effect, is_open, may_serve, serve_front, out_of_memory, served_with, no_effect, broken_frame, asks, room}
+use Rattle.sessions.specs.StandsFor.{status_in, room_in, pending_in}
+use Rattle.stream_driver.specs.Sessions.{GoesOn, Runs, session_of, status_at, pending_at, room_at, inbox_at, inbox_in, IsPresentIn, AwaitsMore}
+use Rattle.stream_driver.proofs.Lookups.{test, set-same, set-other, remove-other}
+
+pub found : (o : Option SessionStream) → status_in o ≢ Absent → (st : SessionStream) × (o ≡ Some st)
+found None here = absurd (here refl)
+found (Some st) here = (st, refl)
+
+pub open_present : (h : HubState) (s : ℕ) → status_at h s ≡ Open → IsPresentIn h s
+open_present h s is = λ gone. (let bad : Open ≡ Absent = sym is ∙ gone in cc)
+
+-- nothing has happened
+abbrev pub same_history : (st : SessionStream) → GoesOn st st
+same_history st = record {
+  received = [];
+  received_is = sym (append-nil st.received);
+  served = [];
+  served_is = sym (append-nil st.served);
+  replies = [];
+  replies_is = sym (append-nil st.replies);
+  sent = [];
+  sent_is = sym (append-nil st.sent);
+  texts = sym (append-nil st.now.pending);
+}
+
+abbrev pub no_events : (s : ℕ) (h : HubState) → IsPresentIn h s → Runs s h h
+no_events s h present = record {
+  events = [];
+  own = tt;
+  possible = tt;
+  run_is = refl;
+  first = (found (stream_of h s) present).0;
+  last = (found (stream_of h s) present).0;
+  first_is = (found (stream_of h s) present).1;
+  last_is = (found (stream_of h s) present).1;
+  history = same_history (found (stream_of h s) present).0;
+  present = present;
+  others = λ t apart. refl;
+}
+
+-- one event that changes its session's history alone
+abbrev pub one_event : (s : ℕ) (h : HubState) (e : HubEvent) (c : Choice) (first last : SessionStream) → session_of e ≡ s → IsPossible h e c → stream_of h s ≡ Some first
+    → (hub_step h e c).0.present ≡ set_value (test s) h.present last → GoesOn first last → last.now.status ≢ Absent → Runs s h (hub_step h e c).0
+one_event s h e c first last own possible is changes history present = record {
+  events = (e, c) ∷ [];
+  own = (own, tt);
+  possible = (possible, tt);
+  run_is = refl;
+  first = first;
+  last = last;
+  first_is = is;
+  last_is = ap (lookup (test s)) changes ∙ set-same s last h.present first is;
+  history = history;
+  present = λ gone. present (sym (ap status_in (ap (lookup (test s)) changes ∙ set-same s last h.present first is)) ∙ gone);
+  others = λ t apart. ap (lookup (test t)) changes ∙ set-other s last h.present t apart;
+}
+
+-- ---- bytes come in
+
+abbrev pub received_by : SessionStream → Bytes → SessionStream
+received_by st piece = record st { now = record { inbox = st.now.inbox ++ piece; pending = st.now.pending; status = st.now.status }; received = st.received ++ piece }
+
+pub receives : (h : HubState) (s : ℕ) (piece : Bytes) (c : Choice) (st : SessionStream) → stream_of h s ≡ Some st → st.now.status ≡ Open → length piece ≤ room st.now
+    → hub_step h (Receives s piece) c ≡ (with_stream h s (received_by st piece), Done)
+unfolding hub_step
+receives h s piece c st is opened fits = let test : nat_lt (room st.now) (length piece) ≡ false = grind (arith, nat_tests) in rw (is, opened, test) refl
+
+abbrev pub bytes_came : (st : SessionStream) (piece : Bytes) → GoesOn st (received_by st piece)
+bytes_came st piece = record {
+  received = piece;
+  received_is = refl;
+  served = [];
+  served_is = sym (append-nil st.served);
+  replies = [];
+  replies_is = sym (append-nil st.replies);
+  sent = [];
+  sent_is = sym (append-nil st.sent);
+  texts = sym (append-nil st.now.pending);
+}
+
+-- ---- bytes are sent
+
+abbrev pub sent_from : SessionStream → ℕ → SessionStream
+sent_from st n = record st { now = record { inbox = st.now.inbox; pending = drop n st.now.pending; status = st.now.status }; sent = st.sent ++ take n st.now.pending }
+
+pub sends : (h : HubState) (s n : ℕ) (c : Choice) (st : SessionStream) → stream_of h s ≡ Some st → n ≤ length st.now.pending → hub_step h (Sends s n) c ≡ (with_stream h s (sent_from st n), Done)
+unfolding hub_step
+sends h s n c st is fits = let test : nat_le n (length st.now.pending) ≡ true = grind (arith, nat_tests) in rw (is, test) refl
+
+abbrev pub bytes_went : (st : SessionStream) (n : ℕ) → GoesOn st (sent_from st n)
+bytes_went st n = record {
+  received = [];
+  received_is = sym (append-nil st.received);
+  served = [];
+  served_is = sym (append-nil st.served);
+  replies = [];
+  replies_is = sym (append-nil st.replies);
+  sent = take n st.now.pending;
+  sent_is = refl;
+  texts = take-append-drop n st.now.pending ∙ sym (append-nil st.now.pending);
+}
+
+-- ---- a request is looked for
+
+abbrev pub after_effect : SessionStream → Effect → SessionStream
+after_effect st e = record st { now = e.now; served = st.served ++ e.served; replies = st.replies ++ e.replies }
+
+pub serves : (h : HubState) (s : ℕ) (c : Choice) (st : SessionStream) → stream_of h s ≡ Some st → st.now.status ≡ Open → st.now.pending ≡ []
+    → hub_step h (Serves s) c ≡ with_effect h s st (serve_front c.front c h.machine s st.now)
+unfolding hub_step
+serves h s c st is opened nothing =
+    let may : may_serve st.now ≡ true = rw (opened, nothing) refl in
+    rw is (ap (λ b. with_effect h s st (if b then serve_front c.front c h.machine s st.now else no_effect h.machine st.now)) may)
+
+-- the texts of the replies are pending
+pub effect_texts : (front : Front) (c : Choice) (m : State) (s : ℕ) (n : SessionState) → n.pending ≡ [] → (serve_front front c m s n).now.pending ≡ flat_map reply_text (serve_front front c m s n).replies
+effect_texts (Whole parts used) c m s n nothing =
+    elim c.refused as (λ b. (let e : Effect = if b then out_of_memory m s else served_with (step m s (asks parts) c.failed) n parts used in e).now.pending ≡ flat_map reply_text (let e : Effect = if b then out_of_memory m s else served_with (step m s (asks parts) c.failed) n parts used in e).replies) [
+      | true ↦ refl
+      | false ↦ sym (append-nil (reply_text (step m s (asks parts) c.failed).1))
+    ]
+effect_texts More c m s n nothing = nothing
+effect_texts Bad c m s n nothing = sym (append-nil _)
+
+abbrev pub was_served : (st : SessionStream) (e : Effect) → st.now.pending ≡ [] → e.now.pending ≡ flat_map reply_text e.replies → GoesOn st (after_effect st e)
+was_served st e nothing texts = record {
+  received = [];
+  received_is = sym (append-nil st.received);
+  served = e.served;
+  served_is = refl;
+  replies = e.replies;
+  replies_is = refl;
+  sent = [];
+  sent_is = sym (append-nil st.sent);
+  texts = texts ∙ sym (ap (λ l. l ++ flat_map reply_text e.replies) nothing);
+}
+
+-- what a request that is looked for comes to
+pub data Comes (n : SessionState) (e : Effect) : Type 0 where
+  Answered : e.outcome ≡ Done → e.now.status ≡ Open → length e.served ≡ 1 → Comes n e
+  IsBroken : e.outcome ≡ Done → e.now.status ≡ Ending → Comes n e
+  IsStarved : e.outcome ≡ Memory → e.now.status ≡ Refused → Comes n e
+  Awaits : e.outcome ≡ Idle → e.now ≡ n → e.served ≡ [] → IsProperBeginning n.inbox → Comes n e
+
+pub comes : (front : Front) (c : Choice) (m : State) (s : ℕ) (n : SessionState) → IsFront n.inbox front → Comes n (serve_front front c m s n)
+comes (Whole parts used) c m s n is =
+    elim c.refused as (λ b. Comes n (if b then out_of_memory m s else served_with (step m s (asks parts) c.failed) n parts used)) [
+      | true ↦ IsStarved refl refl
+      | false ↦ Answered refl refl refl
+    ]
+comes More c m s n is = Awaits refl refl refl is
+comes Bad c m s n is = IsBroken refl refl
+
+-- the event of a Serve
+module _ (s : ℕ) (h : HubState) (c : Choice) (st : SessionStream) (is : stream_of h s ≡ Some st) (opened : st.now.status ≡ Open) (nothing : st.now.pending ≡ []) (possible : IsPossible h (Serves s) c) where
+  abbrev pub effect : Effect
+  effect = serve_front c.front c h.machine s st.now
+
+  pub serves_is : hub_step h (Serves s) c ≡ with_effect h s st effect
+  serves_is = serves h s c st is opened nothing
+
+  pub front_is : IsServed st.now.inbox c
+  front_is =
+      let here : IsServePossible (Some st) c = subst (λ o. IsServePossible o c) is possible in
+      let may : may_serve st.now ≡ true = rw (opened, nothing) refl in
+      here may
+
+  pub comes_to : Comes st.now effect
+  comes_to = comes c.front c h.machine s st.now front_is.0
+
+  pub status_kept : effect.now.status ≢ Absent
+  status_kept = elim comes_to [
+    | Answered o status len ↦ λ gone. (let bad : Open ≡ Absent = sym status ∙ gone in cc)
+    | IsBroken o status ↦ λ gone. (let bad : Ending ≡ Absent = sym status ∙ gone in cc)
+    | IsStarved o status ↦ λ gone. (let bad : Refused ≡ Absent = sym status ∙ gone in cc)
+    | Awaits o same none begins ↦ λ gone. (let bad : Open ≡ Absent = sym opened ∙ sym (ap (λ n. n.status) same) ∙ gone in cc)
+  ]
+
+  abbrev pub served_event : Runs s h (hub_step h (Serves s) c).0
+  served_event = one_event s h (Serves s) c st (after_effect st effect) refl possible is (ap (λ r. r.0.present) serves_is) (was_served st effect nothing (effect_texts c.front c h.machine s st.now nothing)) status_kept
+
+-- ---- a session leaves
+
+pub leaves_others : (h : HubState) (s : ℕ) (c : Choice) (t : ℕ) → t ≢ s → stream_of (hub_step h (Leaves s) c).0 t ≡ stream_of h t
+unfolding hub_step
+leaves_others h s c t apart = by (stream_of h s)
+  where
+    by : (o : Option SessionStream) → stream_of (Rattle.sessions.specs.SessionStreams.depart o h s).0 t ≡ stream_of h t
+    by None = refl
+    by (Some st) = remove-other h.present t s apart

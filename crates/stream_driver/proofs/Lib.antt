@@ -1,0 +1,8 @@
+pub mod Lookups
+pub mod Inboxes
+pub mod States
+pub mod Events
+pub mod Carry
+pub mod Parts
+pub mod Loops
+pub mod Turns

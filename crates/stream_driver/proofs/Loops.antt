@@ -1,0 +1,340 @@
+-- The turns of the loops.
+use Rattle.std.proofs.Common.{◌≡◌, ◌≢◌, ◌⊎◌, inl, inr, ℕ, ◌+◌, ◌-◌, ◌<◌, ◌≤◌, ◌^◌, min, max, Bool, IsTrue, List, [], ◌∷◌, ◌++◌, length, Some, refl, sym, ap, subst, ◌∙◌, arith, length-append}
+use Rattle.std.proofs.lemmas.List.{append-nil, nil_from_length}
+use Rattle.model.specs.Grammar.{IsProperBeginning}
+use Rattle.sessions.specs.declared.events.Status.{Status}
+use Rattle.sessions.specs.declared.events.Status.TheVariants.{Absent, Open, Ending, Refused}
+use Rattle.sessions.specs.declared.events.Outcome.{Outcome}
+use Rattle.sessions.specs.declared.events.Outcome.TheVariants.{Done, Memory, Idle}
+use Rattle.sessions.specs.SessionStreams.{HubState, SessionStream, Serves, Leaves, Choice, IsPossible, hub_step, stream_of}
+use Rattle.sector.specs.declared.device.Sectors.{Ghosts}
+use Rattle.sessions.specs.declared.hub.Hub.{Hub}
+use Rattle.sessions.specs.StandsFor.{HubLeads, status_in, pending_in, room_in}
+use Rattle.stream_driver.specs.declared.answers.ReadAnswer.TheVariants.{Moved, Blocked, Failed, Ended}
+use Rattle.stream_driver.specs.declared.answers.WriteAnswer.TheVariants.{Moved as Wrote, Blocked as WriteBlocked, Failed as WriteFailed}
+use Rattle.stream_driver.specs.declared.answers.Progress.TheVariants.{Waiting, Again, Gone}
+use Rattle.stream_driver.specs.declared.driving.Flush.TheVariants.{Empty, Blocked as FlushBlocked, Failed as FlushFailed}
+use Rattle.stream_driver.specs.declared.driving.Exchange.{Exchange}
+use Rattle.stream_driver.specs.declared.driving.Exchange.TheVariants.{Served, Broke as ExchangeBroke, Starved as ExchangeStarved, Blocked as ExchangeBlocked, Failed as ExchangeFailed, Ended as ExchangeEnded}
+use Rattle.stream_driver.specs.Traffic.{Traffic, Rose, one_more}
+use Rattle.stream_driver.specs.Sessions.{Leads, Runs, AwaitsMore, status_at, pending_at, room_at, inbox_at, inbox_in, IsPresentIn}
+use Rattle.stream_driver.specs.Drives.{Carried, NoneFell, Drove, Why, EndsAs, Parts}
+use Rattle.stream_driver.specs.Calls.{Moves, WritesSome, ReadsSome, Flushes, Exchanges, WrittenSoFar, ReadSoFar, DrivenSoFar, served_in}
+use Rattle.stream_driver.proofs.States.{leads_step}
+use Rattle.stream_driver.proofs.Inboxes.{beginning_short}
+use Rattle.stream_driver.proofs.Events.{Comes, Answered, IsBroken, IsStarved, Awaits, comes_to, serves_is, served_event, effect, after_effect, found, open_present}
+use Rattle.stream_driver.proofs.Carry.{nothing, answered, alone, and_then}
+
+-- a status that is neither absent nor open
+closed_kinds : (status : Status) → status ≢ Absent → status ≢ Open → {none : List ℕ} → none ≡ [] → (status ≡ Refused) ⊎ ((status ≡ Ending) × (none ≡ []))
+closed_kinds Absent a b e = absurd (a refl)
+closed_kinds Open a b e = absurd (b refl)
+closed_kinds Ending a b e = inr (refl, e)
+closed_kinds Refused a b e = inl refl
+
+no_more : (xs : List ℕ) → 0 ≡ length xs → xs ≡ []
+no_more xs e = nil_from_length xs (sym e)
+
+some_more : (xs : List ℕ) (n : ℕ) → n ≡ length xs → 0 < n → xs ≢ []
+some_more xs n e some = λ none. let long : length xs ≡ 0 = ap length none in omega arith
+
+module _ (s : ℕ) (tells : Bool) where
+  pub written_none : (h : HubState) (t : Traffic) (owed : ℕ) → IsPresentIn h s → owed ≡ length (pending_at h s) → WrittenSoFar s tells h t h t owed
+  written_none h t owed present is = record { moves = record { carried = nothing s tells h t present; none_served = refl; status = refl }; owed_is = is }
+
+  pub read_nothing : (h : HubState) (t : Traffic) (room : ℕ) → status_at h s ≡ Open → pending_at h s ≡ [] → room ≡ room_at h s → ReadSoFar s tells h t h t room
+  read_nothing h t room is_open none is = record {
+    moves = record { carried = nothing s tells h t (open_present h s is_open); none_served = refl; status = refl };
+    is_open = is_open;
+    nothing = none;
+    room_is = is;
+  }
+
+  pub driven_none : (h : HubState) (t : Traffic) → IsPresentIn h s → DrivenSoFar s tells h t h t 0
+  driven_none h t present = record { carried = nothing s tells h t present; served_is = λ _. refl }
+
+  module _ (old : HubState) (before : Traffic) (mid : HubState) (between : Traffic) (new : HubState) (after : Traffic) where
+    abbrev pub moves_then : Moves s tells old before mid between → Moves s tells mid between new after → Moves s tells old before new after
+    moves_then p q = record {
+      carried = and_then s tells old before mid between new after p.carried q.carried;
+      none_served = length-append p.carried.runs.history.served q.carried.runs.history.served ∙ (let a = p.none_served in let b = q.none_served in omega arith);
+      status = q.status ∙ p.status;
+    }
+
+    module _ (owed : ℕ) (p : WrittenSoFar s tells old before mid between owed) where
+      pub written_then : (n : ℕ) → WritesSome s tells mid between (Wrote n) new after → WrittenSoFar s tells old before new after (owed - n)
+      written_then n q = record { moves = moves_then p.moves q.moves; owed_is = let was = p.owed_is in let left = q.why.1 in omega arith }
+
+      pub written_within : (n : ℕ) → WritesSome s tells mid between (Wrote n) new after → n ≤ owed
+      written_within n q = let was = p.owed_is in let left = q.why.1 in omega arith
+
+      pub written_blocked : 0 < owed → WritesSome s tells mid between WriteBlocked new after → Flushes s tells old before FlushBlocked new after
+      written_blocked some q = record {
+        moves = moves_then p.moves q.moves;
+        why =
+            let below : before.write_blocked ≤ between.write_blocked = p.moves.carried.counts.write_blocked in
+            let rose : Rose between.write_blocked after.write_blocked = q.why.0 in
+            (omega arith, λ none. some_more (pending_at mid s) owed p.owed_is some (sym q.why.1 ∙ none));
+      }
+
+      pub written_failed : WritesSome s tells mid between WriteFailed new after → Flushes s tells old before FlushFailed new after
+      written_failed q = record {
+        moves = moves_then p.moves q.moves;
+        why =
+            let below : before.write_failed ≤ between.write_failed = p.moves.carried.counts.write_failed in
+            let rose : Rose between.write_failed after.write_failed = q.why in
+            omega arith;
+      }
+
+    module _ (room : ℕ) (p : ReadSoFar s tells old before mid between room) where
+      pub read_then : (n : ℕ) → ReadsSome s tells mid between (Moved n) new after → ReadSoFar s tells old before new after (room - n)
+      read_then n q = record {
+        moves = moves_then p.moves q.moves;
+        is_open = q.moves.status ∙ p.is_open;
+        nothing = q.pending ∙ p.nothing;
+        room_is = let was = p.room_is in let left = q.why.1 in omega arith;
+      }
+
+      pub read_within : (n : ℕ) → ReadsSome s tells mid between (Moved n) new after → n ≤ room
+      read_within n q = let was = p.room_is in let left = q.why.1 in omega arith
+
+      abbrev so_far : Carried s tells mid between new after → Carried s tells old before new after
+      so_far q = and_then s tells old before mid between new after p.moves.carried q
+
+      pub read_blocked : AwaitsMore mid s → ReadsSome s tells mid between Blocked new after → Exchanges s tells old before ExchangeBlocked new after
+      read_blocked more q = record {
+        carried = so_far q.moves.carried;
+        why =
+            let below : before.read_blocked ≤ between.read_blocked = p.moves.carried.counts.read_blocked in
+            let rose : Rose between.read_blocked after.read_blocked = q.why.0 in
+            (omega arith, subst (λ v. AwaitsMore v s) (sym q.why.1) more);
+      }
+
+      pub read_failed : ReadsSome s tells mid between Failed new after → Exchanges s tells old before ExchangeFailed new after
+      read_failed q = record {
+        carried = so_far q.moves.carried;
+        why =
+            let below : before.read_failed ≤ between.read_failed = p.moves.carried.counts.read_failed in
+            let rose : Rose between.read_failed after.read_failed = q.why in
+            omega arith;
+      }
+
+      pub read_ended : AwaitsMore mid s → ReadsSome s tells mid between Ended new after → Exchanges s tells old before ExchangeEnded new after
+      read_ended more q = record {
+        carried = so_far q.moves.carried;
+        why =
+            let below : before.read_ended ≤ between.read_ended = p.moves.carried.counts.read_ended in
+            let rose : Rose between.read_ended after.read_ended = q.why.0 in
+            (omega arith, subst (λ v. AwaitsMore v s) (sym q.why.1) more);
+      }
+
+  pub written_all : (old : HubState) (before : Traffic) (new : HubState) (after : Traffic) (owed : ℕ) → WrittenSoFar s tells old before new after owed → owed ≡ 0 → Flushes s tells old before Empty new after
+  written_all old before new after owed p none = record { moves = p.moves; why = no_more (pending_at new s) (sym none ∙ p.owed_is) }
+
+  -- ---- a request is looked for
+
+  module _ (old : HubState) (before : Traffic) (mid : HubState) (between : Traffic) (room : ℕ) (p : ReadSoFar s tells old before mid between room) (c : Choice) (possible : IsPossible mid (Serves s) c) (outcome : Outcome)
+      (outcome_is : outcome ≡ (hub_step mid (Serves s) c).1) where
+    abbrev st : SessionStream
+    st = p.moves.carried.runs.last
+
+    opened : st.now.status ≡ Open
+    opened = sym (ap status_in p.moves.carried.runs.last_is) ∙ p.is_open
+
+    none : st.now.pending ≡ []
+    none = sym (ap pending_in p.moves.carried.runs.last_is) ∙ p.nothing
+
+    abbrev new : HubState
+    new = (hub_step mid (Serves s) c).0
+
+    abbrev served : Runs s mid new
+    served = served_event s mid c st p.moves.carried.runs.last_is opened none possible
+
+    abbrev done : Carried s tells old before new between
+    done = and_then s tells old before mid between new between p.moves.carried (alone s tells mid new between served refl refl)
+
+    what : Comes st.now (effect s mid c st p.moves.carried.runs.last_is opened none possible)
+    what = comes_to s mid c st p.moves.carried.runs.last_is opened none possible
+
+    effect_outcome : outcome ≡ (effect s mid c st p.moves.carried.runs.last_is opened none possible).outcome
+    effect_outcome = outcome_is ∙ ap (λ r. r.1) (serves_is s mid c st p.moves.carried.runs.last_is opened none possible)
+
+    status_is : status_at new s ≡ (effect s mid c st p.moves.carried.runs.last_is opened none possible).now.status
+    status_is = ap status_in served.last_is
+
+    how_many : length (p.moves.carried.runs.history.served ++ served.history.served) ≡ length served.history.served
+    how_many = length-append p.moves.carried.runs.history.served served.history.served ∙ (let a = p.moves.none_served in omega arith)
+
+    pub serve_starved : outcome ≡ Memory → Exchanges s tells old before ExchangeStarved new between
+    serve_starved e = elim what [
+      | Answered o status len ↦ absurd (let bad : Done ≡ Memory = sym o ∙ sym effect_outcome ∙ e in cc)
+      | IsBroken o status ↦ absurd (let bad : Done ≡ Memory = sym o ∙ sym effect_outcome ∙ e in cc)
+      | IsStarved o status ↦ record { carried = done; why = status_is ∙ status }
+      | Awaits o same unserved begins ↦ absurd (let bad : Idle ≡ Memory = sym o ∙ sym effect_outcome ∙ e in cc)
+    ]
+
+    pub serve_open : outcome ≡ Done → status_at new s ≡ Open → Exchanges s tells old before Served new between
+    serve_open e is_open = elim what [
+      | Answered o status len ↦ record { carried = done; why = (is_open, how_many ∙ len) }
+      | IsBroken o status ↦ absurd (let bad : Ending ≡ Open = sym status ∙ sym status_is ∙ is_open in cc)
+      | IsStarved o status ↦ absurd (let bad : Memory ≡ Done = sym o ∙ sym effect_outcome ∙ e in cc)
+      | Awaits o same unserved begins ↦ absurd (let bad : Idle ≡ Done = sym o ∙ sym effect_outcome ∙ e in cc)
+    ]
+
+    pub serve_closed : outcome ≡ Done → status_at new s ≢ Open → Exchanges s tells old before ExchangeBroke new between
+    serve_closed e is_closed = elim what [
+      | Answered o status len ↦ absurd (is_closed (status_is ∙ status))
+      | IsBroken o status ↦ record { carried = done; why = status_is ∙ status }
+      | IsStarved o status ↦ absurd (let bad : Memory ≡ Done = sym o ∙ sym effect_outcome ∙ e in cc)
+      | Awaits o same unserved begins ↦ absurd (let bad : Idle ≡ Done = sym o ∙ sym effect_outcome ∙ e in cc)
+    ]
+
+    -- the inbox holds the beginning of a request, and has room for more
+    pub serve_awaits : outcome ≢ Done → outcome ≢ Memory → ReadSoFar s tells old before new between room × AwaitsMore new s × (0 < room)
+    serve_awaits not_done not_memory = elim what [
+      | Answered o status len ↦ absurd (not_done (effect_outcome ∙ o))
+      | IsBroken o status ↦ absurd (not_done (effect_outcome ∙ o))
+      | IsStarved o status ↦ absurd (not_memory (effect_outcome ∙ o))
+      | Awaits o same unserved begins ↦
+          let inbox_now : inbox_at new s ≡ st.now.inbox = ap inbox_in served.last_is ∙ ap (λ n. n.inbox) same in
+          let pending_now : pending_at new s ≡ [] = ap pending_in served.last_is ∙ ap (λ n. n.pending) same ∙ none in
+          let status_now : status_at new s ≡ Open = status_is ∙ ap (λ n. n.status) same ∙ opened in
+          let room_now : room_at new s ≡ room_at mid s = ap room_in served.last_is ∙ ap (λ n. 32768 - length n.inbox) same ∙ sym (ap room_in p.moves.carried.runs.last_is) in
+          let short : length st.now.inbox < 32768 = beginning_short st.now.inbox begins in
+          let room_was : room ≡ 32768 - length st.now.inbox = p.room_is ∙ ap room_in p.moves.carried.runs.last_is in (
+            record {
+              moves = record { carried = done; none_served = how_many ∙ ap length unserved; status = status_now ∙ sym p.is_open ∙ p.moves.status };
+              is_open = status_now;
+              nothing = pending_now;
+              room_is = p.room_is ∙ sym room_now;
+            },
+            (pending_now, subst IsProperBeginning (sym inbox_now) begins),
+            omega arith,
+          )
+    ]
+
+  -- ---- between two requests
+
+  module _ (old : HubState) (before : Traffic) (mid : HubState) (between : Traffic) (new : HubState) (after : Traffic) (count : ℕ) (p : DrivenSoFar s tells old before mid between count) where
+    abbrev further : Carried s tells mid between new after → Carried s tells old before new after
+    further q = and_then s tells old before mid between new after p.carried q
+
+    pub total : (q : Carried s tells mid between new after) → served_in (further q) ≡ served_in p.carried + served_in q
+    total q = length-append p.carried.runs.history.served q.runs.history.served
+
+    -- the output was written, as far as it goes
+    abbrev pub driven_flushed : Moves s tells mid between new after → DrivenSoFar s tells old before new after count
+    driven_flushed q = record {
+      carried = further q.carried;
+      served_is = λ is_open.
+          let all = total q.carried in
+          let first : served_in p.carried ≡ count = p.served_is (sym q.status ∙ is_open) in
+          let none = q.none_served in
+          all ∙ omega arith;
+    }
+
+    pub driven_served : status_at mid s ≡ Open → Exchanges s tells mid between Served new after → DrivenSoFar s tells old before new after (count + 1)
+    driven_served was_open q = record {
+      carried = further q.carried;
+      served_is = λ _.
+          let all = total q.carried in
+          let first : served_in p.carried ≡ count = p.served_is was_open in
+          let one : served_in q.carried ≡ 1 = q.why.1 in
+          all ∙ omega arith;
+    }
+
+    pub driven_broke : Exchanges s tells mid between ExchangeBroke new after → DrivenSoFar s tells old before new after (count + 1)
+    driven_broke q = record {
+      carried = further q.carried;
+      served_is = λ is_open. absurd (let bad : Open ≡ Ending = sym is_open ∙ q.why in cc);
+    }
+
+    pub waits_to_write : Flushes s tells mid between FlushBlocked new after → Drove s tells old before Waiting new after
+    waits_to_write q = record {
+      last = new;
+      carried = further q.moves.carried;
+      ends = refl;
+      why =
+          let below : before.write_blocked ≤ between.write_blocked = p.carried.counts.write_blocked in
+          let rose : Rose between.write_blocked after.write_blocked = q.why.0 in
+          inl (omega arith, q.why.1);
+    }
+
+    pub waits_to_read : Exchanges s tells mid between ExchangeBlocked new after → Drove s tells old before Waiting new after
+    waits_to_read q = record {
+      last = new;
+      carried = further q.carried;
+      ends = refl;
+      why =
+          let below : before.read_blocked ≤ between.read_blocked = p.carried.counts.read_blocked in
+          let rose : Rose between.read_blocked after.read_blocked = q.why.0 in
+          inr (omega arith, q.why.1);
+    }
+
+    module _ (gone : HubState) (parts : Parts s new gone) where
+      pub gone_writing : Flushes s tells mid between FlushFailed new after → Drove s tells old before Gone gone after
+      gone_writing q = record {
+        last = new;
+        carried = further q.moves.carried;
+        ends = parts;
+        why =
+            let below : before.write_failed ≤ between.write_failed = p.carried.counts.write_failed in
+            let rose : Rose between.write_failed after.write_failed = q.why in
+            inr (inl (omega arith));
+      }
+
+      gone_reading : Exchanges s tells mid between ExchangeFailed new after → Drove s tells old before Gone gone after
+      gone_reading q = record {
+        last = new;
+        carried = further q.carried;
+        ends = parts;
+        why =
+            let below : before.read_failed ≤ between.read_failed = p.carried.counts.read_failed in
+            let rose : Rose between.read_failed after.read_failed = q.why in
+            inl (omega arith);
+      }
+
+      gone_at_end : Exchanges s tells mid between ExchangeEnded new after → Drove s tells old before Gone gone after
+      gone_at_end q = record {
+        last = new;
+        carried = further q.carried;
+        ends = parts;
+        why =
+            let below : before.read_ended ≤ between.read_ended = p.carried.counts.read_ended in
+            let rose : Rose between.read_ended after.read_ended = q.why.0 in
+            inr (inr (inl (omega arith, q.why.1)));
+      }
+
+      gone_starved : Exchanges s tells mid between ExchangeStarved new after → Drove s tells old before Gone gone after
+      gone_starved q = record { last = new; carried = further q.carried; ends = parts; why = inr (inr (inr (inl q.why))) }
+
+      -- which of these, by the answer
+      pub gone_serving : (answer : Exchange) → answer ≢ Served → answer ≢ ExchangeBroke → answer ≢ ExchangeBlocked → Exchanges s tells mid between answer new after → Drove s tells old before Gone gone after
+      gone_serving Served a b c q = absurd (a refl)
+      gone_serving ExchangeBroke a b c q = absurd (b refl)
+      gone_serving ExchangeBlocked a b c q = absurd (c refl)
+      gone_serving ExchangeStarved a b c q = gone_starved q
+      gone_serving ExchangeFailed a b c q = gone_reading q
+      gone_serving ExchangeEnded a b c q = gone_at_end q
+
+      -- nothing is pending, and the session is no longer open
+      pub gone_closed : Flushes s tells mid between Empty new after → status_at new s ≢ Open → Drove s tells old before Gone gone after
+      gone_closed q is_closed = record {
+        last = new;
+        carried = further q.moves.carried;
+        ends = parts;
+        why = inr (inr (inr (closed_kinds (status_at new s) q.moves.carried.runs.present is_closed q.why)));
+      }
+
+    pub again : Flushes s tells mid between Empty new after → count ≡ 64 → status_at new s ≡ Open → Drove s tells old before Again new after
+    again q all is_open = record { last = new; carried = further q.moves.carried; ends = refl; why = ((driven_flushed q.moves).served_is is_open ∙ all, q.why) }
+
+-- a request was looked for, and there is only the beginning of one
+abbrev pub HasRead : ℕ → Bool → Traffic → Traffic → ℕ → HubState → HubState → Type 0
+HasRead s tells before between room h k = ReadSoFar s tells h before k between room × AwaitsMore k s × (0 < room)
+
+pub waits : {D : Type 0} {g : Ghosts D} (a b c : Hub D g) (s : ℕ) (tells : Bool) (before between : Traffic) (room : ℕ) (outcome : Outcome) → Leads a b (λ h k. ReadSoFar s tells h before k between room)
+    → HubLeads b c (Serves s) outcome → outcome ≢ Done → outcome ≢ Memory → Leads a c (HasRead s tells before between room)
+waits a b c s tells before between room outcome p q not_done not_memory =
+    leads_step a b c (λ h k. ReadSoFar s tells h before k between room) (HasRead s tells before between room) (Serves s) outcome p q
+    (λ h k choice possible is stands r. serve_awaits s tells h before k between room r choice possible outcome is not_done not_memory)

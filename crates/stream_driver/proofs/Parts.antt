@@ -1,0 +1,168 @@
+-- One read and one write.
+use Rattle.std.proofs.Common.{◌≡◌, ◌≢◌, ℕ, ◌+◌, ◌-◌, ◌<◌, ◌≤◌, ◌^◌, min, max, Bool, IsTrue, List, [], ◌++◌, length, take, drop, Some, refl, sym, ap, subst, ◌∙◌, arith, length-append}
+use Rattle.std.proofs.lemmas.List.{append-nil, length-take, length-drop}
+use Rattle.model.specs.Map.{Bytes}
+use Rattle.sessions.specs.declared.events.Status.TheVariants.{Absent, Open}
+use Rattle.sessions.specs.declared.events.Outcome.TheVariants.{Done}
+use Rattle.sector.specs.declared.device.Sectors.{Ghosts}
+use Rattle.sessions.specs.declared.hub.Hub.{Hub}
+use Rattle.sessions.specs.SessionStreams.{HubState, SessionStream, Receives, Sends, Choice, IsPossible, hub_step, with_stream, stream_of}
+use Rattle.sessions.specs.StandsFor.{StandsFor, HubLeads, status_in, pending_in, room_in}
+use Rattle.stream_driver.specs.declared.answers.ReadAnswer.{ReadAnswer}
+use Rattle.stream_driver.specs.declared.answers.ReadAnswer.TheVariants.{Moved, Blocked, Failed, Ended}
+use Rattle.stream_driver.specs.declared.answers.WriteAnswer.{WriteAnswer}
+use Rattle.stream_driver.specs.declared.answers.WriteAnswer.TheVariants.{Moved as Wrote, Blocked as WriteBlocked, Failed as WriteFailed}
+use Rattle.stream_driver.specs.Traffic.{Traffic, Rose, one_more, after_read, after_write, SameCounts, bytes_read, bytes_written}
+use Rattle.stream_driver.specs.Sessions.{Leads, Runs, status_at, pending_at, room_at, IsPresentIn}
+use Rattle.stream_driver.specs.Drives.{Carried, NoneFell}
+use Rattle.stream_driver.specs.Calls.{WritesSome, ReadsSome}
+use Rattle.stream_driver.proofs.Lookups.{test}
+use Rattle.stream_driver.proofs.Events.{found, one_event, received_by, receives, bytes_came, sent_from, sends, bytes_went, open_present}
+use Rattle.stream_driver.proofs.Carry.{answered}
+
+-- the counts after an answer don't fall
+write_none_fell : (answer : WriteAnswer) (b a : Traffic) → SameCounts a (after_write answer b) → NoneFell b a
+write_none_fell (Wrote n) b a (p, q, r, t, u) = record { read_blocked = omega arith; read_failed = omega arith; read_ended = omega arith; write_blocked = omega arith; write_failed = omega arith }
+write_none_fell WriteBlocked b a (p, q, r, t, u) = record { read_blocked = omega arith; read_failed = omega arith; read_ended = omega arith; write_blocked = omega arith; write_failed = omega arith }
+write_none_fell WriteFailed b a (p, q, r, t, u) = record { read_blocked = omega arith; read_failed = omega arith; read_ended = omega arith; write_blocked = omega arith; write_failed = omega arith }
+
+read_none_fell : (answer : ReadAnswer) (b a : Traffic) → SameCounts a (after_read answer b) → NoneFell b a
+read_none_fell (Moved n) b a (p, q, r, t, u) = record { read_blocked = omega arith; read_failed = omega arith; read_ended = omega arith; write_blocked = omega arith; write_failed = omega arith }
+read_none_fell Blocked b a (p, q, r, t, u) = record { read_blocked = omega arith; read_failed = omega arith; read_ended = omega arith; write_blocked = omega arith; write_failed = omega arith }
+read_none_fell Failed b a (p, q, r, t, u) = record { read_blocked = omega arith; read_failed = omega arith; read_ended = omega arith; write_blocked = omega arith; write_failed = omega arith }
+read_none_fell Ended b a (p, q, r, t, u) = record { read_blocked = omega arith; read_failed = omega arith; read_ended = omega arith; write_blocked = omega arith; write_failed = omega arith }
+
+module _ {D : Type 0} {g : Ghosts D} (hub new : Hub D g) (s : ℕ) (tells : Bool) (b a : Traffic) where
+  pub wrote_moved : (n : ℕ) → 0 < n → (outcome : Rattle.sessions.specs.declared.events.Outcome.Outcome) → HubLeads hub new (Sends s n) outcome
+      → ((h : HubState) → StandsFor hub h → IsPresentIn h s × (n ≤ length (pending_at h s)))
+      → ((h : HubState) → StandsFor hub h → IsTrue tells → a.taken ≡ b.taken ++ take n (pending_at h s)) → (IsTrue tells → a.given ≡ b.given) → SameCounts a (after_write (Wrote n) b)
+      → Leads hub new (λ h k. WritesSome s tells h b (Wrote n) k a)
+  wrote_moved n some outcome leads here taken given counts = λ h stands.
+      let c = leads.0 in
+      let there = leads.3 h stands in
+      let st = found (stream_of h s) (here h stands).0 in
+      let is : stream_of h s ≡ Some st.0 = st.1 in
+      let pending : pending_at h s ≡ st.0.now.pending = ap pending_in is in
+      let fits : n ≤ length st.0.now.pending = subst (λ l. n ≤ length l) pending (here h stands).1 in
+      let stays : st.0.now.status ≢ Absent = λ gone. (here h stands).0 (ap status_in is ∙ gone) in
+      let step : hub_step h (Sends s n) c ≡ (with_stream h s (sent_from st.0 n), Done) = sends h s n c st.0 is fits in
+      let runs : Runs s h (hub_step h (Sends s n) c).0 = one_event s h (Sends s n) c st.0 (sent_from st.0 n) refl tt is (ap (λ r. r.0.present) step) (bytes_went st.0 n) stays in (
+        (hub_step h (Sends s n) c).0,
+        there.stands,
+        record {
+          moves = record {
+            carried = record {
+              runs = one_event s h (Sends s n) c st.0 (sent_from st.0 n) refl tt is (ap (λ r. r.0.present) step) (bytes_went st.0 n) stays;
+              given = λ t. given t ∙ sym (append-nil b.given);
+              taken = λ t. taken h stands t ∙ ap (λ l. b.taken ++ take n l) pending;
+              counts = write_none_fell (Wrote n) b a counts;
+            };
+            none_served = refl;
+            status = ap status_in runs.last_is ∙ sym (ap status_in is);
+          };
+          why =
+              let left : length (pending_at (hub_step h (Sends s n) c).0 s) ≡ length (drop n st.0.now.pending) = ap (λ o. length (pending_in o)) runs.last_is in
+              let rest : length (drop n st.0.now.pending) ≡ length st.0.now.pending - n = length-drop n st.0.now.pending in
+              let all : length (pending_at h s) ≡ length st.0.now.pending = ap length pending in
+              (some, omega arith);
+        },
+      )
+
+  pub read_moved : (n : ℕ) → 0 < n → (piece : Bytes) (outcome : Rattle.sessions.specs.declared.events.Outcome.Outcome) → HubLeads hub new (Receives s piece) outcome
+      → ((h : HubState) → StandsFor hub h → (status_at h s ≡ Open) × (length piece ≤ room_at h s)) → length piece ≡ n
+      → (IsTrue tells → a.given ≡ b.given ++ piece) → (IsTrue tells → a.taken ≡ b.taken) → SameCounts a (after_read (Moved n) b)
+      → Leads hub new (λ h k. ReadsSome s tells h b (Moved n) k a)
+  read_moved n some piece outcome leads here long given taken counts = λ h stands.
+      let c = leads.0 in
+      let there = leads.3 h stands in
+      let st = found (stream_of h s) (open_present h s (here h stands).0) in
+      let is : stream_of h s ≡ Some st.0 = st.1 in
+      let opened : st.0.now.status ≡ Open = sym (ap status_in is) ∙ (here h stands).0 in
+      let fits : length piece ≤ 32768 - length st.0.now.inbox = subst (λ r. length piece ≤ r) (ap room_in is) (here h stands).1 in
+      let step : hub_step h (Receives s piece) c ≡ (with_stream h s (received_by st.0 piece), Done) = receives h s piece c st.0 is opened fits in
+      let stays : st.0.now.status ≢ Absent = λ gone. (let bad : Open ≡ Absent = sym opened ∙ gone in cc) in
+      let runs : Runs s h (hub_step h (Receives s piece) c).0 = one_event s h (Receives s piece) c st.0 (received_by st.0 piece) refl tt is (ap (λ r. r.0.present) step) (bytes_came st.0 piece) stays in (
+        (hub_step h (Receives s piece) c).0,
+        there.stands,
+        record {
+          moves = record {
+            carried = record {
+              runs = one_event s h (Receives s piece) c st.0 (received_by st.0 piece) refl tt is (ap (λ r. r.0.present) step) (bytes_came st.0 piece) stays;
+              given = given;
+              taken = λ t. taken t ∙ sym (append-nil b.taken);
+              counts = read_none_fell (Moved n) b a counts;
+            };
+            none_served = refl;
+            status = ap status_in runs.last_is ∙ sym (ap status_in is);
+          };
+          pending = ap pending_in runs.last_is ∙ sym (ap pending_in is);
+          why =
+              let after : room_at (hub_step h (Receives s piece) c).0 s ≡ 32768 - length (st.0.now.inbox ++ piece) = ap room_in runs.last_is in
+              let before : room_at h s ≡ 32768 - length st.0.now.inbox = ap room_in is in
+              let joined : length (st.0.now.inbox ++ piece) ≡ length st.0.now.inbox + length piece = length-append st.0.now.inbox piece in
+              (some, omega arith);
+        },
+      )
+
+-- the stream didn't move
+module _ {D : Type 0} {g : Ghosts D} (hub : Hub D g) (s : ℕ) (tells : Bool) (b a : Traffic) where
+  pub wrote_none : (answer : WriteAnswer) → ((n : ℕ) → answer ≢ Wrote n) → ((h : HubState) → StandsFor hub h → IsPresentIn h s)
+      → (from : List ℕ) → (IsTrue tells → a.given ≡ b.given) → (IsTrue tells → a.taken ≡ b.taken ++ take (bytes_written answer) from) → SameCounts a (after_write answer b)
+      → Leads hub hub (λ h k. WritesSome s tells h b answer k a)
+  wrote_none (Wrote n) differs here from given taken counts = absurd (differs n refl)
+  wrote_none WriteBlocked differs here from given taken counts = λ h stands. (
+    h,
+    stands,
+    record {
+      moves = record {
+        carried = answered s tells h b a (here h stands) (λ t. given t ∙ sym (append-nil b.given)) taken (write_none_fell WriteBlocked b a counts);
+        none_served = refl;
+        status = refl;
+      };
+      why = (omega (arith, counts.3), refl);
+    },
+  )
+  wrote_none WriteFailed differs here from given taken counts = λ h stands. (
+    h,
+    stands,
+    record {
+      moves = record {
+        carried = answered s tells h b a (here h stands) (λ t. given t ∙ sym (append-nil b.given)) taken (write_none_fell WriteFailed b a counts);
+        none_served = refl;
+        status = refl;
+      };
+      why = omega (arith, counts.4);
+    },
+  )
+
+  module _ (here : (h : HubState) → StandsFor hub h → status_at h s ≡ Open) (into : List ℕ) (taken : IsTrue tells → a.taken ≡ b.taken) where
+    pub read_none : (answer : ReadAnswer) → ((n : ℕ) → answer ≢ Moved n) → (IsTrue tells → a.given ≡ b.given ++ take (bytes_read answer) into) → SameCounts a (after_read answer b)
+        → Leads hub hub (λ h k. ReadsSome s tells h b answer k a)
+    read_none (Moved n) differs given counts = absurd (differs n refl)
+    read_none Blocked differs given counts = λ h stands. (
+      h,
+      stands,
+      record {
+        moves = record { carried = answered s tells h b a (open_present h s (here h stands)) given (λ t. taken t ∙ sym (append-nil b.taken)) (read_none_fell Blocked b a counts); none_served = refl; status = refl };
+        pending = refl;
+        why = (omega (arith, counts.0), refl);
+      },
+    )
+    read_none Failed differs given counts = λ h stands. (
+      h,
+      stands,
+      record {
+        moves = record { carried = answered s tells h b a (open_present h s (here h stands)) given (λ t. taken t ∙ sym (append-nil b.taken)) (read_none_fell Failed b a counts); none_served = refl; status = refl };
+        pending = refl;
+        why = omega (arith, counts.1);
+      },
+    )
+    read_none Ended differs given counts = λ h stands. (
+      h,
+      stands,
+      record {
+        moves = record { carried = answered s tells h b a (open_present h s (here h stands)) given (λ t. taken t ∙ sym (append-nil b.taken)) (read_none_fell Ended b a counts); none_served = refl; status = refl };
+        pending = refl;
+        why = (omega (arith, counts.2), refl);
+      },
+    )

@@ -1,0 +1,22 @@
+use Rattle.std.proofs.Common.{rules, ◌≡◌, ◌≤◌, ◌<◌, length, arith, sym, ap, subst, ◌∙◌, take, List, ℕ, ◌++◌, IsTrue}
+use Rattle.std.proofs.Math.Logic.{∥∥₁_elim}
+use Rattle.std.proofs.Math.Bridge.{le_prop}
+use Rattle.stream_driver.specs.Sessions.{IsPresentIn, pending_at}
+use Rattle.stream_driver.proofs.States.{present_at}
+use Rattle.stream_driver.proofs.Parts.{wrote_moved, wrote_none}
+use Rattle.stream_driver.proofs.driving.write_some.Goals as goal
+
+pub write-answer-requires : goal.write-answer-requires
+write-answer-requires g c = ∥∥₁_elim c.requires le_prop (λ w. subst (λ l. 0 < length l) (sym (c.pending.ensures w.0 w.1)) w.2.1)
+
+pub returns-in-Moved : goal.returns-in-Moved
+returns-in-Moved g c =
+    wrote_moved c.args.hub.now c.step.new.self c.args.s g.S.Stream.tells (g.S.Stream.traffic c.args.stream.now) (g.S.Stream.traffic c.write-answer.new.self) c.in-Moved.n c.in-Moved.ensures.within.0 c.step.result c.step.ensures.step
+    (λ h stands. (present_at c.args.hub.now c.args.s h stands _ c.requires (λ k p. p.0), subst (λ l. c.in-Moved.n ≤ length l) (c.pending.ensures h stands) c.in-Moved.ensures.within.1))
+    (λ h stands t. c.in-Moved.ensures.taken t ∙ ap (λ l. (g.S.Stream.traffic c.args.stream.now).taken ++ take c.in-Moved.n l) (c.pending.ensures h stands))
+    c.in-Moved.ensures.given c.in-Moved.ensures.counts
+
+pub returns-in_default : goal.returns-in_default
+returns-in_default g c =
+    wrote_none c.args.hub.now c.args.s g.S.Stream.tells (g.S.Stream.traffic c.args.stream.now) (g.S.Stream.traffic c.write-answer.new.self) c.write-answer.result c.in_default.not-Moved
+    (λ h stands. present_at c.args.hub.now c.args.s h stands _ c.requires (λ k p. p.0)) c.pending.result.now c.write-answer.ensures.given c.write-answer.ensures.taken c.write-answer.ensures.counts

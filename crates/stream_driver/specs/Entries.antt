@@ -1,0 +1,64 @@
+-- What a turn over the table of connections does.
+use Rattle.std.specs.Prelude.{◌≡◌, ◌≢◌, ℕ, Bool, List, [], ◌∷◌, Option, Some, None, slice_index_or, take, drop, length}
+use Rattle.sector.specs.declared.device.Sectors.{Ghosts}
+use Rattle.sessions.specs.declared.hub.Hub.{Hub}
+use Rattle.sessions.specs.SessionStreams.{HubState}
+use Rattle.stream_driver.specs.declared.answers.Progress.{Progress}
+use Rattle.stream_driver.specs.declared.answers.Progress.TheVariants.{Waiting, Again, Gone}
+use Rattle.stream_driver.specs.declared.entries.EntryState.{EntryState}
+use Rattle.stream_driver.specs.declared.entries.EntryState.TheVariants.{Idle, Ready, Gone as EntryGone}
+use Rattle.stream_driver.specs.declared.entries.Entry.{Entry}
+use Rattle.stream_driver.specs.Traffic.{Traffic}
+use Rattle.stream_driver.specs.Sessions.{IsPresent, Leads}
+use Rattle.stream_driver.specs.Drives.{Drove}
+
+-- what an entry is after its drive
+abbrev pub state_after : Progress → EntryState
+state_after Waiting = Idle
+state_after Again = Ready
+state_after Gone = EntryGone
+
+-- each entry that isn't gone has a session that is present, and that no other entry has
+pub record HaveSessions {D : Type 0} {g : Ghosts D} {T : Type 0} (hub : Hub D g) (slots : List (Option (Entry T))) : Type 0 where
+  pub present : (key : ℕ) (entry : Entry T) → slice_index_or slots key None ≡ Some entry → entry.state ≢ EntryGone → IsPresent hub entry.session
+  pub own : (key other : ℕ) (entry another : Entry T) → slice_index_or slots key None ≡ Some entry → slice_index_or slots other None ≡ Some another
+      → entry.state ≢ EntryGone → another.state ≢ EntryGone → entry.session ≡ another.session → key ≡ other
+
+-- each entry has the session that it had
+abbrev pub KeepSessions : {T : Type 0} → List (Option (Entry T)) → List (Option (Entry T)) → Type 0
+KeepSessions {T} old new = (key : ℕ) (entry : Entry T) → slice_index_or new key None ≡ Some entry → (was : Entry T) × (slice_index_or old key None ≡ Some was) × (entry.session ≡ was.session)
+
+module _ {T : Type 0} (tells : Bool) (traffic : T → Traffic) where
+  -- one drive left the entry so
+  pub record DrivenOnce (hub : HubState) (old : Entry T) (later : HubState) (new : Entry T) : Type 0 where
+    pub answer : Progress
+    pub drove : Drove old.session tells hub (traffic old.stream) answer later (traffic new.stream)
+    pub session : new.session ≡ old.session
+    pub state : new.state ≡ state_after answer
+
+  -- an entry that is ready was driven once, and another is unchanged
+  abbrev pub DrivenIn : EntryState → HubState → Entry T → HubState → Entry T → Type 0
+  DrivenIn Ready hub old later new = DrivenOnce hub old later new
+  DrivenIn Idle hub old later new = (new ≡ old) × (later ≡ hub)
+  DrivenIn EntryGone hub old later new = (new ≡ old) × (later ≡ hub)
+
+  abbrev pub DrivenEntry : HubState → Entry T → HubState → Entry T → Type 0
+  DrivenEntry hub old later new = DrivenIn old.state hub old later new
+
+  abbrev pub DrivenSlot : HubState → Option (Entry T) → HubState → Option (Entry T) → Type 0
+  DrivenSlot hub None later slot = (slot ≡ None) × (later ≡ hub)
+  DrivenSlot hub (Some old) later slot = (new : Entry T) × (slot ≡ Some new) × DrivenEntry hub old later new
+
+  -- the slots one after another, by rising key
+  abbrev pub DrivenAll : HubState → List (Option (Entry T)) → HubState → List (Option (Entry T)) → Type 0
+  DrivenAll hub [] later new = (new ≡ []) × (later ≡ hub)
+  DrivenAll hub (slot ∷ slots) later new =
+      (first : Option (Entry T)) × (mid : HubState) × (others : List (Option (Entry T))) × (new ≡ first ∷ others) × DrivenSlot hub slot mid first × DrivenAll mid slots later others
+
+  -- the slots below a key were driven, and the others stand as they were
+  pub record EntriesSoFar {D : Type 0} {g : Ghosts D} (key : ℕ) (hub : Hub D g) (slots : List (Option (Entry T))) (later : Hub D g) (new : List (Option (Entry T))) : Type 0 where
+    pub driven : Leads hub later (λ h k. DrivenAll h (take key slots) k (take key new))
+    pub rest : drop key new ≡ drop key slots
+    pub len : length new ≡ length slots
+    pub sessions : HaveSessions later new
+    pub numbers : KeepSessions slots new

@@ -1,0 +1,5 @@
+pub mod Traffic
+pub mod Sessions
+pub mod Drives
+pub mod Calls
+pub mod Entries

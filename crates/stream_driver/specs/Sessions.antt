@@ -1,0 +1,87 @@
+-- One session of a hub, and what a run of its events adds to its history.
+use Rattle.std.specs.Prelude.{◌≡◌, ◌≢◌, ℕ, List, [], ◌∷◌, ◌++◌, Option, Some, None}
+use Rattle.std.specs.List.{flat_map, AllByRecursion}
+use Rattle.model.specs.Map.{Bytes}
+use Rattle.model.specs.Operations.{Response}
+use Rattle.model.specs.Grammar.{IsProperBeginning}
+use Rattle.model.specs.ReplyText.{reply_text}
+use Rattle.sessions.specs.declared.events.Status.{Status}
+use Rattle.sessions.specs.declared.events.Status.TheVariants.{Absent}
+use Rattle.sector.specs.declared.device.Sectors.{Ghosts}
+use Rattle.sessions.specs.declared.hub.Hub.{Hub}
+use Rattle.sessions.specs.SessionStreams.{HubState, SessionStream, HubEvent, Joins, Receives, Serves, Sends, Leaves, Choice, ArePossible, run, stream_of}
+use Rattle.sessions.specs.StandsFor.{StandsFor, status_in, room_in, pending_in}
+
+abbrev pub inbox_in : Option SessionStream → Bytes
+inbox_in None = []
+inbox_in (Some st) = st.now.inbox
+
+abbrev pub status_at : HubState → ℕ → Status
+status_at h s = status_in (stream_of h s)
+
+abbrev pub room_at : HubState → ℕ → ℕ
+room_at h s = room_in (stream_of h s)
+
+abbrev pub pending_at : HubState → ℕ → Bytes
+pending_at h s = pending_in (stream_of h s)
+
+abbrev pub inbox_at : HubState → ℕ → Bytes
+inbox_at h s = inbox_in (stream_of h s)
+
+abbrev pub IsPresentIn : HubState → ℕ → Type 0
+IsPresentIn h s = status_at h s ≢ Absent
+
+-- the session waits for the rest of a request
+abbrev pub AwaitsMore : HubState → ℕ → Type 0
+AwaitsMore h s = (pending_at h s ≡ []) × IsProperBeginning (inbox_at h s)
+
+-- the hub stands for some state that is so
+abbrev pub InSomeState : {D : Type 0} {g : Ghosts D} → Hub D g → (HubState → Type 0) → Type 0
+InSomeState hub P = ∥ ((h : HubState) × StandsFor hub h × P h) ∥₁
+
+-- the hub stands for some state
+abbrev pub Stands : {D : Type 0} {g : Ghosts D} → Hub D g → Type 0
+Stands hub = InSomeState hub (λ h. Unit {0})
+
+-- the session is present
+abbrev pub IsPresent : {D : Type 0} {g : Ghosts D} → Hub D g → ℕ → Type 0
+IsPresent hub s = InSomeState hub (λ h. IsPresentIn h s)
+
+-- from every state that the old hub stands for to one that the new hub stands for and that is so related to it
+abbrev pub Leads : {D : Type 0} {g : Ghosts D} → Hub D g → Hub D g → (HubState → HubState → Type 0) → Type 0
+Leads old new P = (h : HubState) → StandsFor old h → (k : HubState) × StandsFor new k × P h k
+
+-- whose event it is
+abbrev pub session_of : HubEvent → ℕ
+session_of (Joins s) = s
+session_of (Receives s piece) = s
+session_of (Serves s) = s
+session_of (Sends s n) = s
+session_of (Leaves s) = s
+
+-- what came in, the requests that were served, the machine's replies and what was told to be sent go on; what was sent, followed by
+-- what is pending, is what was pending, followed by the texts of these replies
+pub record GoesOn (first last : SessionStream) : Type 0 where
+  pub received : Bytes
+  pub received_is : last.received ≡ first.received ++ received
+  pub served : List (List Bytes)
+  pub served_is : last.served ≡ first.served ++ served
+  pub replies : List Response
+  pub replies_is : last.replies ≡ first.replies ++ replies
+  pub sent : Bytes
+  pub sent_is : last.sent ≡ first.sent ++ sent
+  pub texts : sent ++ last.now.pending ≡ first.now.pending ++ flat_map reply_text replies
+
+-- a run of events of one session, which stays present; the others are unchanged
+pub record Runs (s : ℕ) (old new : HubState) : Type 0 where
+  pub events : List (HubEvent × Choice)
+  pub own : AllByRecursion (λ e. session_of e.0 ≡ s) events
+  pub possible : ArePossible old events
+  pub run_is : new ≡ run old events
+  pub first : SessionStream
+  pub last : SessionStream
+  pub first_is : stream_of old s ≡ Some first
+  pub last_is : stream_of new s ≡ Some last
+  pub history : GoesOn first last
+  pub present : IsPresentIn new s
+  pub others : (t : ℕ) → t ≢ s → stream_of new t ≡ stream_of old t

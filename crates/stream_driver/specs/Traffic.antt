@@ -1,0 +1,59 @@
+-- What a stream has moved and answered so far.
+use Rattle.std.specs.Prelude.{◌≡◌, ℕ, ◌+◌, ◌<◌, ◌≤◌, ◌^◌, ◌-◌, min, max, List, ◌++◌, take}
+use Rattle.stream_driver.specs.declared.answers.ReadAnswer.{ReadAnswer}
+use Rattle.stream_driver.specs.declared.answers.ReadAnswer.TheVariants.{Moved, Blocked, Failed, Ended}
+use Rattle.stream_driver.specs.declared.answers.WriteAnswer.{WriteAnswer}
+use Rattle.stream_driver.specs.declared.answers.WriteAnswer.TheVariants.{Moved as Wrote, Blocked as WriteBlocked, Failed as WriteFailed}
+
+-- the bytes that reads gave and writes took, and how often each call gave each answer but `Moved`
+pub record Traffic : Type 0 where
+  pub given : List ℕ
+  pub taken : List ℕ
+  pub read_blocked : ℕ
+  pub read_failed : ℕ
+  pub read_ended : ℕ
+  pub write_blocked : ℕ
+  pub write_failed : ℕ
+
+-- a u64 count after one more: the highest stays
+abbrev pub one_more : ℕ → ℕ
+one_more count = max count (min (count + 1) (2 ^ 64 - 1))
+
+-- the count rose, or could not
+abbrev pub Rose : ℕ → ℕ → Type 0
+Rose old new = one_more old ≤ new
+
+-- a read or a write that moves bytes moves one at least, and no more than there are
+abbrev pub ReadsWithin : ReadAnswer → ℕ → Type 0
+ReadsWithin (Moved n) len = (0 < n) × (n ≤ len)
+ReadsWithin _ len = Unit {0}
+
+abbrev pub WritesWithin : WriteAnswer → ℕ → Type 0
+WritesWithin (Wrote n) len = (0 < n) × (n ≤ len)
+WritesWithin _ len = Unit {0}
+
+abbrev pub bytes_read : ReadAnswer → ℕ
+bytes_read (Moved n) = n
+bytes_read _ = 0
+
+abbrev pub bytes_written : WriteAnswer → ℕ
+bytes_written (Wrote n) = n
+bytes_written _ = 0
+
+-- the same bytes, and what the counts are after this answer
+abbrev pub after_read : ReadAnswer → Traffic → Traffic
+after_read (Moved n) t = t
+after_read Blocked t = record t { read_blocked = one_more t.read_blocked }
+after_read Failed t = record t { read_failed = one_more t.read_failed }
+after_read Ended t = record t { read_ended = one_more t.read_ended }
+
+abbrev pub after_write : WriteAnswer → Traffic → Traffic
+after_write (Wrote n) t = t
+after_write WriteBlocked t = record t { write_blocked = one_more t.write_blocked }
+after_write WriteFailed t = record t { write_failed = one_more t.write_failed }
+
+-- the counts alone
+abbrev pub SameCounts : Traffic → Traffic → Type 0
+SameCounts a b =
+    (a.read_blocked ≡ b.read_blocked) × (a.read_failed ≡ b.read_failed) × (a.read_ended ≡ b.read_ended)
+    × (a.write_blocked ≡ b.write_blocked) × (a.write_failed ≡ b.write_failed)

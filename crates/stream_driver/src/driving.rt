@@ -1,0 +1,160 @@
+//! One drive.
+ghost use Rattle.std.specs.Prelude.{◌≡◌, ◌<◌, length, []};
+ghost use Rattle.sessions.specs.declared.events.Status.TheVariants.{Open};
+ghost use Rattle.stream_driver.specs.Sessions.{InSomeState, IsPresent, IsPresentIn, Leads, pending_at, status_at, room_at};
+ghost use Rattle.stream_driver.specs.Drives.{Drove, Parts};
+ghost use Rattle.stream_driver.specs.Calls.{WritesSome, Flushes, ReadsSome, Exchanges};
+
+use crate::answers::{Progress, ReadAnswer, WriteAnswer};
+use crate::stream::Stream;
+use sector::Sectors;
+use sessions::{Event, Hub, Outcome, Status};
+
+/// The most requests that one drive serves.
+pub const REQUESTS_MAX: u32 = 64;
+
+/// The most bytes that one read asks for.
+pub const READ_MAX: usize = 4_096;
+
+// How the output of a session stands.
+#[derive(Clone, Copy)]
+enum Flush {
+    Empty,
+    Blocked,
+    Failed,
+}
+
+// How one request went.
+#[derive(Clone, Copy)]
+enum Exchange {
+    Served,
+    Broke,
+    Starved,
+    Blocked,
+    Failed,
+    Ended,
+}
+
+// One write of what is pending.
+fn write_some<D: Sectors, S: Stream>(hub: &mut Hub<D>, s: u64, stream: &mut S) -> WriteAnswer
+    requires { InSomeState hub.old (λ h. IsPresentIn h s × (0 < length (pending_at h s))) }
+    ensures { Leads hub.old hub.new (λ h k. WritesSome s S.tells h (S.traffic stream.old) result k (S.traffic stream.new)) }
+{
+    let answer = stream.write(hub.pending(s));
+    if let WriteAnswer::Moved(n) = answer {
+        let _ = hub.step(&Event::Sent(s, n));
+    }
+    answer
+}
+
+// Writes what is pending, as far as the stream takes it.
+fn write_out<D: Sectors, S: Stream>(hub: &mut Hub<D>, s: u64, stream: &mut S) -> Flush
+    requires { IsPresent hub.old s }
+    ensures { Leads hub.old hub.new (λ h k. Flushes s S.tells h (S.traffic stream.old) result k (S.traffic stream.new)) }
+{
+    let mut owed = hub.pending(s).len();
+    while owed > 0 {
+        match write_some(hub, s, stream) {
+            WriteAnswer::Moved(n) => owed -= n,
+            WriteAnswer::Blocked => return Flush::Blocked,
+            WriteAnswer::Failed => return Flush::Failed,
+        }
+    }
+    Flush::Empty
+}
+
+// One read into the inbox, which has so much room.
+fn read_some<D: Sectors, S: Stream>(
+    hub: &mut Hub<D>,
+    s: u64,
+    room: usize,
+    stream: &mut S,
+) -> ReadAnswer
+    requires some { 0 < room }
+    requires opened { InSomeState hub.old (λ h. (status_at h s ≡ Open) × (room ≡ room_at h s)) }
+    ensures { Leads hub.old hub.new (λ h k. ReadsSome s S.tells h (S.traffic stream.old) result k (S.traffic stream.new)) }
+{
+    let mut buffer = [0u8; READ_MAX];
+    let most = room.min(READ_MAX);
+    let part = &mut buffer[..most];
+    let answer = stream.read(part);
+    if let ReadAnswer::Moved(n) = answer {
+        let _ = hub.step(&Event::Bytes(s, &part[..n]));
+    }
+    answer
+}
+
+// Reads until one request can be served, and serves it.
+fn serve_one<D: Sectors, S: Stream>(hub: &mut Hub<D>, s: u64, stream: &mut S) -> Exchange
+    requires { InSomeState hub.old (λ h. (status_at h s ≡ Open) × (pending_at h s ≡ [])) }
+    ensures { Leads hub.old hub.new (λ h k. Exchanges s S.tells h (S.traffic stream.old) result k (S.traffic stream.new)) }
+{
+    let mut room = hub.room(s);
+    loop {
+        match hub.step(&Event::Serve(s)) {
+            Outcome::Done => {
+                return match hub.status(s) {
+                    Status::Open => Exchange::Served,
+                    _ => Exchange::Broke,
+                };
+            }
+            Outcome::Memory => return Exchange::Starved,
+            _ => {}
+        }
+        match read_some(hub, s, room, stream) {
+            ReadAnswer::Moved(n) => room -= n,
+            ReadAnswer::Blocked => return Exchange::Blocked,
+            ReadAnswer::Failed => return Exchange::Failed,
+            ReadAnswer::Ended => return Exchange::Ended,
+        }
+    }
+}
+
+// The session leaves.
+fn part<D: Sectors>(hub: &mut Hub<D>, s: u64) -> Progress
+    ensures answer { result ≡ Progress.Gone }
+    ensures left { Leads hub.old hub.new (λ h k. Parts s h k) }
+{
+    let _ = hub.step(&Event::Left(s));
+    Progress::Gone
+}
+
+/// Carries bytes between a stream and a session that is present, until the stream blocks, the session has left, or `REQUESTS_MAX`
+/// requests were served and their replies sent.
+///
+/// It writes what is pending; where nothing is, it serves a request; where the inbox holds only the beginning of one, it reads, at most
+/// `READ_MAX` bytes and never more than the inbox has room for. A call of the stream that fails, the stream's end (what was read of a
+/// request is dropped), a broken frame once its reply was written, and a request that was refused memory make the session leave, which
+/// aborts its transaction. Other sessions are unchanged.
+///
+/// It may grow what the requests grow, and the output of the session.
+pub fn drive<D: Sectors, S: Stream>(hub: &mut Hub<D>, s: u64, stream: &mut S) -> Progress
+    requires { IsPresent hub.old s }
+    ensures { Leads hub.old hub.new (λ h k. Drove s S.tells h (S.traffic stream.old) result k (S.traffic stream.new)) }
+{
+    'requests: for _served in 0..REQUESTS_MAX {
+        match write_out(hub, s, stream) {
+            Flush::Empty => {}
+            Flush::Blocked => return Progress::Waiting,
+            Flush::Failed => return part(hub, s),
+        }
+        match hub.status(s) {
+            Status::Open => {}
+            _ => return part(hub, s),
+        }
+        match serve_one(hub, s, stream) {
+            Exchange::Served | Exchange::Broke => {}
+            Exchange::Blocked => return Progress::Waiting,
+            _ => return part(hub, s),
+        }
+    }
+    match write_out(hub, s, stream) {
+        Flush::Empty => {}
+        Flush::Blocked => return Progress::Waiting,
+        Flush::Failed => return part(hub, s),
+    }
+    match hub.status(s) {
+        Status::Open => Progress::Again,
+        _ => part(hub, s),
+    }
+}

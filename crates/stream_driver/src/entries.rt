@@ -1,0 +1,65 @@
+//! A table of connections.
+ghost use Rattle.std.specs.Prelude.{◌≡◌, ◌≢◌};
+ghost use Rattle.stream_driver.specs.Sessions.{IsPresent, Leads};
+ghost use Rattle.stream_driver.specs.Entries.{DrivenEntry, DrivenAll, HaveSessions, KeepSessions};
+
+use crate::answers::Progress;
+use crate::driving::drive;
+use crate::stream::Stream;
+use sector::Sectors;
+use sessions::Hub;
+use slab::Slab;
+
+/// How a connection stands.
+#[derive(Clone, Copy, PartialEq, Eq, Debug)]
+pub enum EntryState {
+    /// It waits for its stream.
+    Idle,
+    /// It is to be driven.
+    Ready,
+    /// Its session has left. It is to be taken out.
+    Gone,
+}
+
+/// A connection: the number of its session, its stream, and how it stands.
+#[derive(Drop)]
+pub struct Entry<S: Stream> {
+    pub session: u64,
+    pub stream: S,
+    pub state: EntryState,
+}
+
+// Drives an entry, if it is ready.
+fn drive_entry<D: Sectors, S: Stream>(hub: &mut Hub<D>, entry: &mut Entry<S>)
+    requires { entry.old.state ≢ EntryState.Gone → IsPresent hub.old entry.old.session }
+    ensures driven { Leads hub.old hub.new (λ h k. DrivenEntry S.tells S.traffic h entry.old k entry.new) }
+    ensures session { entry.new.session ≡ entry.old.session }
+    ensures gone { entry.old.state ≡ EntryState.Gone → entry.new.state ≡ EntryState.Gone }
+{
+    if let EntryState::Ready = entry.state {
+        entry.state = match drive(hub, entry.session, &mut entry.stream) {
+            Progress::Waiting => EntryState::Idle,
+            Progress::Again => EntryState::Ready,
+            Progress::Gone => EntryState::Gone,
+        };
+    }
+}
+
+/// Drives each entry that is `Ready` once, by rising key, and leaves the others as they are. After `Waiting` an entry is `Idle`, after
+/// `Again` it stays `Ready`, after `Gone` it is `Gone`.
+///
+/// The session of each entry that isn't `Gone` is present, and no other entry has it.
+///
+/// It may grow what the requests grow, and the outputs of the sessions.
+pub fn drive_ready<D: Sectors, S: Stream>(hub: &mut Hub<D>, table: &mut Slab<Entry<S>>)
+    requires { HaveSessions hub.old table.old.slots }
+    ensures driven { Leads hub.old hub.new (λ h k. DrivenAll S.tells S.traffic h table.old.slots k table.new.slots) }
+    ensures sessions { HaveSessions hub.new table.new.slots }
+    ensures numbers { KeepSessions table.old.slots table.new.slots }
+{
+    for key in 0..table.capacity() {
+        if let Some(entry) = table.get_mut(key) {
+            drive_entry(hub, entry);
+        }
+    }
+}

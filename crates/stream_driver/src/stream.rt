@@ -1,0 +1,36 @@
+//! Connections.
+
+use crate::answers::{ReadAnswer, WriteAnswer};
+
+/// A connection whose calls don't wait.
+///
+/// What it has moved and answered is told by five counts, of each answer but `Moved` of each call, and by the bytes that went each way.
+/// A count is a u64: it rises with its answer, and once it stands at 2^64 - 1 it stays. The bytes are claimed of a type that tells
+/// them alone; a socket leaves them open.
+pub trait Stream: Drop {
+    ghost use Rattle.std.specs.Prelude.{◌≡◌, ◌<◌, ◌++◌, Bool, IsTrue, length, take};
+    ghost use Rattle.stream_driver.specs.Traffic.{Traffic, ReadsWithin, WritesWithin, bytes_read, bytes_written, after_read, after_write, SameCounts};
+
+    /// The bytes of `traffic` are those that the calls moved.
+    ghost tells: { Bool };
+
+    /// The bytes that were moved, and how often each call gave each answer but `Moved`.
+    ghost traffic: { Self → Traffic };
+
+    /// Reads at least one byte and at most as many as `into` holds, or answers why none came. What it answers stands at the front of
+    /// `into`. Takes no memory.
+    fn read(&mut self, into: &mut [u8]) -> ReadAnswer
+        requires { 0 < length into.old }
+        ensures within { ReadsWithin result (length into.old) }
+        ensures given { IsTrue tells → (traffic self.new).given ≡ (traffic self.old).given ++ take (bytes_read result) into.new }
+        ensures taken { IsTrue tells → (traffic self.new).taken ≡ (traffic self.old).taken }
+        ensures counts { SameCounts (traffic self.new) (after_read result (traffic self.old)) };
+
+    /// Writes at least one byte from the front of `from`, or answers why none went. Takes no memory that a caller sees.
+    fn write(&mut self, from: &[u8]) -> WriteAnswer
+        requires { 0 < length from.now }
+        ensures within { WritesWithin result (length from.now) }
+        ensures given { IsTrue tells → (traffic self.new).given ≡ (traffic self.old).given }
+        ensures taken { IsTrue tells → (traffic self.new).taken ≡ (traffic self.old).taken ++ take (bytes_written result) from.now }
+        ensures counts { SameCounts (traffic self.new) (after_write result (traffic self.old)) };
+}
