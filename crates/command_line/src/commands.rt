@@ -1,0 +1,65 @@
+//! The commands as `clap` reads them.
+
+use clap::{Arg, ArgAction, Command};
+use std::alloc::{AllocError, Global};
+
+// An option that must be given, with one text.
+fn text_option<'a>(alloc: Global, name: &'a str, value: &'a str, help: &'a str) -> Arg<'a> {
+    Arg::new(alloc, name)
+        .long(name)
+        .value_name(value)
+        .help(help)
+        .required(true)
+        .action(ArgAction::Set)
+}
+
+fn create<'a>(alloc: Global) -> Result<Command<'a>, AllocError> {
+    let sectors = Arg::new(alloc, "sectors")
+        .long("sectors")
+        .value_name("N")
+        .help("How many sectors of 512 bytes, 2 to 4194304")
+        .required(true)
+        .action(ArgAction::Set)
+        .value_parser(clap::value_parser!(u64).range(2..=4_194_304));
+    Command::new(alloc, "create")
+        .about("Makes a data file and formats it")
+        .arg(text_option(alloc, "data", "F", "The file, which must not exist"))?
+        .arg(sectors)
+}
+
+fn serve<'a>(alloc: Global) -> Result<Command<'a>, AllocError> {
+    Command::new(alloc, "serve")
+        .about("Serves a data file")
+        .arg(text_option(alloc, "data", "F", "The file"))?
+        .arg(text_option(alloc, "listen", "A", "The address and port to listen on"))
+}
+
+fn check<'a>(alloc: Global) -> Result<Command<'a>, AllocError> {
+    Command::new(alloc, "check")
+        .about("Opens a data file and counts what it holds")
+        .arg(text_option(alloc, "data", "F", "The file"))
+}
+
+fn play<'a>(alloc: Global) -> Result<Command<'a>, AllocError> {
+    let sectors = Arg::new(alloc, "sectors")
+        .long("sectors")
+        .value_name("N")
+        .help("How many sectors of 512 bytes, 2 to 65536")
+        .default_value("4096")
+        .action(ArgAction::Set)
+        .value_parser(clap::value_parser!(u64).range(2..=65_536));
+    Command::new(alloc, "play")
+        .about("Runs the lines of standard input over a device in memory")
+        .arg(sectors)
+}
+
+/// The whole command line. It may grow what `clap` keeps of it.
+pub(crate) fn command<'a>(alloc: Global) -> Result<Command<'a>, AllocError> {
+    Command::new(alloc, "ssikvd")
+        .about("An ordered store whose transactions are serializable")
+        .subcommand_required(true)
+        .subcommand(create(alloc)?)?
+        .subcommand(serve(alloc)?)?
+        .subcommand(check(alloc)?)?
+        .subcommand(play(alloc)?)
+}

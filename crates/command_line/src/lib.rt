@@ -1,0 +1,11 @@
+//! The command line: what its words ask for.
+#![tactic(auto)]
+
+mod asked;
+mod commands;
+mod reading;
+#[cfg(test)]
+mod tests;
+
+pub use asked::Asked;
+pub use reading::parse;

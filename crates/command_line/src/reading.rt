@@ -1,0 +1,76 @@
+//! Reading a command line.
+ghost use Rattle.std.specs.Prelude.{◌≡◌, ◌≤◌, IfOk, IfSome};
+ghost use Rattle.command_line.specs.Ranges.{IsInRange};
+
+use crate::asked::{Asked, FILE_SECTORS_MAX, MEMORY_SECTORS_MAX, SECTORS_MIN};
+use crate::commands::command;
+use clap::error::ErrorKind;
+use clap::{ArgMatches, Error};
+use std::alloc::Global;
+
+// The number of sectors that was given, where it is one of a device that has at most so many.
+fn sectors(found: &ArgMatches<'_>, most: u64) -> Option<u64>
+    ensures { IfSome result (λ n. (2 ≤ n) × (n ≤ most)) }
+{
+    match found.get_one::<u64>("sectors") {
+        Some(n) if n >= SECTORS_MIN && n <= most => Some(n),
+        _ => None,
+    }
+}
+
+fn create<'a>(found: &ArgMatches<'a>) -> Option<Asked<'a>>
+    ensures { IfSome result IsInRange }
+{
+    Some(Asked::Create {
+        data: found.get_str("data")?,
+        sectors: sectors(found, FILE_SECTORS_MAX)?,
+    })
+}
+
+fn play<'a>(found: &ArgMatches<'a>) -> Option<Asked<'a>>
+    ensures { IfSome result IsInRange }
+{
+    Some(Asked::Play {
+        sectors: sectors(found, MEMORY_SECTORS_MAX)?,
+    })
+}
+
+// What the command of this name was given.
+fn asked<'a>(name: &str, found: &ArgMatches<'a>) -> Option<Asked<'a>>
+    ensures { IfSome result IsInRange }
+{
+    match name {
+        "create" => create(found),
+        "serve" => Some(Asked::Serve {
+            data: found.get_str("data")?,
+            listen: found.get_str("listen")?,
+        }),
+        "check" => Some(Asked::Check {
+            data: found.get_str("data")?,
+        }),
+        "play" => play(found),
+        _ => None,
+    }
+}
+
+/// Reads the words of a command line, the program's name first.
+///
+/// A number of sectors is one of its command's range: 2 to 4,194,304 for `create`, 2 to 65,536 for `play`, which takes 4,096 where
+/// none is given. An error is `clap`'s, of which `use_stderr` tells whether the line was refused or help was asked for; it is
+/// `OutOfMemory` where memory was refused.
+///
+/// It may grow what `clap` keeps of the commands, the words and the error.
+pub fn parse<'a>(alloc: Global, words: &'a [&'a str]) -> Result<Asked<'a>, Error>
+    ensures { IfOk result IsInRange }
+{
+    let mut command = command(alloc)?;
+    let found = command.try_get_matches_from_mut(words)?;
+    let asked = match found.subcommand() {
+        Some((name, inner)) => asked(name, inner),
+        None => None,
+    };
+    match asked {
+        Some(asked) => Ok(asked),
+        None => Err(command.error(ErrorKind::InvalidValue, "no such command")?),
+    }
+}

@@ -1,0 +1,106 @@
+//! Why a command ends early.
+
+use crate::{BAD_LINE, FAULT};
+use commit_log::LogFault;
+use model::Memory;
+use std::alloc::{AllocError, AllocFailed};
+use std::fmt::{Display, Formatter};
+use std::io::{ErrorKind, Write};
+use std::{fmt, io};
+
+/// Why a command ends early.
+#[derive(Clone, Copy, PartialEq, Eq, Debug)]
+pub enum Fault {
+    /// What the data file holds is not a log.
+    NotALog,
+    /// The record of this index, 0 for the first, is damaged.
+    Damaged(u64),
+    /// The log has no room.
+    LogFull,
+    /// The device failed.
+    Device,
+    /// A file, the input or the output failed.
+    File,
+    /// The address is none, or can't be listened at.
+    Listen,
+    /// The poll failed.
+    Poll,
+    /// Memory was refused.
+    Memory,
+    /// The line of this number, 1 for the first, is none of a script.
+    BadLine(u64),
+    /// The line of this number names one session too many.
+    Crowded(u64),
+}
+
+impl Display for Fault {
+    fn fmt<W: fmt::Write>(&self, f: &mut Formatter<W>) -> fmt::Result {
+        match self {
+            Fault::NotALog => f.write_str("ssikvd: not a log"),
+            Fault::Damaged(index) => write!(f, "ssikvd: damaged record {index}"),
+            Fault::LogFull => f.write_str("ssikvd: log full"),
+            Fault::Device => f.write_str("ssikvd: device fault"),
+            Fault::File => f.write_str("ssikvd: file fault"),
+            Fault::Listen => f.write_str("ssikvd: listen fault"),
+            Fault::Poll => f.write_str("ssikvd: poll fault"),
+            Fault::Memory => f.write_str("ssikvd: out of memory"),
+            Fault::BadLine(number) => write!(f, "line {number}: bad line"),
+            Fault::Crowded(number) => write!(f, "line {number}: crowded"),
+        }
+    }
+}
+
+impl From<Memory> for Fault {
+    fn from(_refused: Memory) -> Fault {
+        Fault::Memory
+    }
+}
+
+impl From<AllocError> for Fault {
+    fn from(_refused: AllocError) -> Fault {
+        Fault::Memory
+    }
+}
+
+impl<T: Drop> From<AllocFailed<T>> for Fault {
+    fn from(_refused: AllocFailed<T>) -> Fault {
+        Fault::Memory
+    }
+}
+
+impl From<LogFault> for Fault {
+    fn from(fault: LogFault) -> Fault {
+        match fault {
+            LogFault::NotALog => Fault::NotALog,
+            LogFault::Damaged(index) => Fault::Damaged(index),
+            LogFault::Full => Fault::LogFull,
+            LogFault::Device | LogFault::Stopped => Fault::Device,
+            LogFault::Memory => Fault::Memory,
+        }
+    }
+}
+
+/// An error of a file, the input or the output, among which a want of memory is told by its kind.
+impl From<io::Error> for Fault {
+    fn from(error: io::Error) -> Fault {
+        or_memory(&error, Fault::File)
+    }
+}
+
+/// The fault, unless the error is a want of memory.
+pub(crate) fn or_memory(error: &io::Error, fault: Fault) -> Fault {
+    if error.kind() == ErrorKind::OutOfMemory {
+        Fault::Memory
+    } else {
+        fault
+    }
+}
+
+/// Writes the text of a fault on its own line, and answers the exit status. Where the text can't be written, nothing more is done.
+pub fn report<E: Write>(fault: Fault, err: &mut E) -> u8 {
+    let _ = writeln!(err, "{fault}");
+    match fault {
+        Fault::BadLine(_) | Fault::Crowded(_) => BAD_LINE,
+        _ => FAULT,
+    }
+}

@@ -1,0 +1,56 @@
+//! The command that a line names.
+
+use crate::data::{check, create};
+use crate::faults::{Fault, report};
+use crate::scripts::play;
+use crate::serving::serve;
+use crate::{DONE, REFUSED};
+use clap::Error;
+use clap::error::ErrorKind;
+use command_line::{Asked, parse};
+use std::alloc::Global;
+use std::fs::File;
+use std::io::{Read, Write};
+use std::net::Net;
+use std::rt::Files;
+use std::sync::Wait;
+
+/// Runs the command that the words ask for, the program's name first, and answers the exit status: `DONE`, `REFUSED` for a command line
+/// that was refused, `BAD_LINE` for a line of a script that was, `FAULT` otherwise. What went wrong is written on `err`.
+///
+/// It takes the memory of the command and of reading the words.
+pub fn run<R: Files<File = File> + Net + Wait, I: Read + Drop, O: Write, E: Write>(
+    rt: &R,
+    alloc: Global,
+    words: &[&str],
+    reader: I,
+    out: &mut O,
+    err: &mut E,
+) -> u8 {
+    let done = match parse(alloc, words) {
+        Ok(Asked::Create { data, sectors }) => create(rt, data, sectors),
+        Ok(Asked::Serve { data, listen }) => serve(rt, alloc, data, listen, out, err),
+        Ok(Asked::Check { data }) => check(rt, alloc, data, out),
+        Ok(Asked::Play { sectors }) => play(alloc, sectors, reader, out),
+        Err(error) => return refuse(&error, out, err),
+    };
+    match done {
+        Ok(()) => DONE,
+        Err(fault) => report(fault, err),
+    }
+}
+
+// Help goes to the output with `DONE`, and what is refused to the error output with `REFUSED`.
+fn refuse<O: Write, E: Write>(error: &Error, out: &mut O, err: &mut E) -> u8 {
+    if error.kind() == ErrorKind::OutOfMemory {
+        return report(Fault::Memory, err);
+    }
+    if error.use_stderr() {
+        let _ = write!(err, "{error}");
+        return REFUSED;
+    }
+    match write!(out, "{error}") {
+        Ok(()) => DONE,
+        Err(_) => report(Fault::File, err),
+    }
+}
