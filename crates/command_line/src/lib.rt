@@ -4,8 +4,6 @@
 mod asked;
 mod commands;
 mod reading;
-#[cfg(test)]
-mod tests;
 
 pub use asked::Asked;
 pub use reading::parse;

@@ -7,8 +7,6 @@ mod lines;
 mod running;
 mod scripts;
 mod serving;
-#[cfg(test)]
-mod tests;
 
 pub use data::{check, create};
 pub use faults::{Fault, report};

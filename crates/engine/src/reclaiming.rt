@@ -23,10 +23,7 @@ pub(crate) fn oldest_begin(running: &BTreeMap<u64, Transaction>, last: u64) -> u
 
 // Puts the begin numbers of the open transactions, of which there are 64 at most, into the front of `numbers`, and answers how many
 // they are.
-pub(crate) fn begins(
-    running: &BTreeMap<u64, Transaction>,
-    numbers: &mut [u64; OPEN_MAX],
-) -> usize
+pub(crate) fn begins(running: &BTreeMap<u64, Transaction>, numbers: &mut [u64; OPEN_MAX]) -> usize
     ensures count { result ≤ 64 }
     ensures numbers { length running.now.entries ≤ 64 → take result numbers.new ≡ map (λ t. t.begin) (values running.now) }
 {

@@ -1,5 +1,5 @@
 -- What a join does to the sessions of a hub.
-use Rattle.std.proofs.Common.{◌≡◌, ◌≢◌, ℕ, Bool, true, false, cond, not, if◌then◌else◌, nat_le, List, [], ◌∷◌, length, Option, Some, None, refl, sym, ap, ◌∙◌, nat_cmp, arith}
+use Rattle.std.proofs.Common.{◌≡◌, ◌≢◌, ℕ, Bool, true, false, cond, not, if◌then◌else◌, nat_le, List, [], ◌∷◌, length, Some, None, refl, ap, ◌∙◌, nat_cmp, arith}
 use Rattle.std.specs.declared.cmp.Ordering.{Ordering}
 use Rattle.std.specs.declared.cmp.Ordering.TheVariants.{Less, Equal, Greater}
 use Rattle.std.specs.Ordering.{match_ordering, is_eq}
@@ -8,7 +8,7 @@ use Rattle.std.specs.BTreeMap.{insert_entry, is_at}
 use Rattle.std.proofs.lemmas.Bool.Decides.{nat_tests}
 use Rattle.sessions.specs.declared.events.Outcome.{Outcome}
 use Rattle.sessions.specs.declared.events.Outcome.TheVariants.{Done, Unknown, Crowded, Memory}
-use Rattle.sessions.specs.SessionStreams.{HubState, SessionStream, Joins, Choice, hub_step, stream_of, join, new_stream, is_above}
+use Rattle.sessions.specs.SessionStreams.{HubState, SessionStream, Joins, Choice, hub_step, stream_of, new_stream, is_above}
 
 abbrev test : ℕ → ℕ → Bool
 test s = is_at (nat_cmp s)

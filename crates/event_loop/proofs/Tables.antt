@@ -1,5 +1,5 @@
 -- The table keeps a session of its own for each entry, under a number that is below the next.
-use Rattle.std.proofs.Common.{◌≡◌, ◌≢◌, ◌⊎◌, inl, inr, ℕ, ◌+◌, ◌<◌, ◌≤◌, List, [], ◌∷◌, length, set, get_or, refl, sym, ap, subst, ◌∙◌, arith, Option, Some, None, unwrap_or}
+use Rattle.std.proofs.Common.{◌≡◌, ◌≢◌, ◌⊎◌, inl, inr, ℕ, ◌+◌, ◌<◌, List, length, set, get_or, refl, sym, ap, subst, ◌∙◌, arith, Option, Some, None, unwrap_or}
 use Rattle.std.proofs.lemmas.Bool.{cases_lt, cases_eq}
 use Rattle.std.proofs.lemmas.List.{get_or-set_same, get_or-set_other}
 use Rattle.std.proofs.Math.ListN.{get_or-eq_default}
@@ -10,11 +10,11 @@ use Rattle.sessions.specs.declared.events.Status.TheVariants.{Absent, Open}
 use Rattle.sessions.specs.declared.events.Outcome.{Outcome}
 use Rattle.sessions.specs.declared.events.Outcome.TheVariants.{Done}
 use Rattle.sessions.specs.declared.hub.Hub.{Hub}
-use Rattle.sessions.specs.SessionStreams.{HubState, Joins, hub_step, stream_of}
-use Rattle.sessions.specs.StandsFor.{StandsFor, HubLeads, status_in}
-use Rattle.stream_driver.specs.declared.entries.EntryState.TheVariants.{Idle, Ready, Gone}
+use Rattle.sessions.specs.SessionStreams.{HubState, Joins, hub_step}
+use Rattle.sessions.specs.StandsFor.{HubLeads, status_in}
+use Rattle.stream_driver.specs.declared.entries.EntryState.TheVariants.{Gone}
 use Rattle.stream_driver.specs.declared.entries.Entry.{Entry}
-use Rattle.stream_driver.specs.Sessions.{Stands, IsPresent, IsPresentIn, Leads}
+use Rattle.stream_driver.specs.Sessions.{Stands, IsPresent, Leads}
 use Rattle.stream_driver.specs.Entries.{HaveSessions, KeepSessions}
 use Rattle.event_loop.specs.Numbers.{AreBelow}
 use Rattle.event_loop.proofs.Joins.{joins_other, joins_same}

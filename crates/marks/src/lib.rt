@@ -12,6 +12,3 @@ mod sorted;
 pub use faults::MarksFault;
 pub use marks::{MARKS_MAX, Marks};
 pub use sorted::{Keyed, has_key};
-
-#[cfg(test)]
-mod tests;

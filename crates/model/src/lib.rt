@@ -11,8 +11,6 @@ pub mod maps;
 pub mod pairs;
 pub mod ranges;
 pub mod refusals;
-#[cfg(test)]
-mod tests;
 pub mod values;
 pub mod writes;
 

@@ -4,8 +4,6 @@
 mod commands;
 mod decoding;
 mod parts;
-#[cfg(test)]
-mod tests;
 mod writing;
 
 pub use commands::command;

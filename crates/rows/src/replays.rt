@@ -1,10 +1,11 @@
 //! The committed transactions of a row, run again one at a time by a plain function: each request is answered by the map that the
 //! transaction before left.
+use crate::side_by_side::SideBySide;
 use crate::worked::{self, Line};
-use crate::{Decoding, PlainStore, first_difference};
-use plain_engine::Engine;
+use crate::{first_difference, reply_to};
 use std::alloc::{AllocError, Global};
 use std::collections::BTreeMap;
+use std::process::Abort;
 use std::test::Fail;
 
 type Text = &'static str;
@@ -214,32 +215,23 @@ fn replay(alloc: Global, all: &[Transaction]) -> Result<(Contents, Option<String
     Ok((map, wrong))
 }
 
-fn is_map_of(engine: &Engine, map: &Contents) -> bool {
-    let pairs = engine.committed_map();
-    if pairs.len() != map.len() {
-        return false;
-    }
-    for (pair, (key, value)) in pairs.iter().zip(map.iter()) {
-        if pair.0.lend().bytes() != key.as_bytes() || pair.1.lend() != value.as_bytes() {
-            return false;
-        }
-    }
-    true
-}
-
-fn engine_after(alloc: Global, row: &[Line]) -> Result<Engine, Fail> {
-    let mut store = Decoding {
-        store: PlainStore::new(alloc, worked::SECTORS, false),
-    };
-    match first_difference(alloc, &mut store, row)? {
-        None => Ok(store.store.engine),
-        Some(_) => Err("the row is answered otherwise")?,
-    }
+/// Runs a row over each store, and its committed transactions one at a time: each reply and the final map are the same.
+fn expect_replay(rt: &impl Abort, alloc: Global, sectors: u64, row: &[Line]) -> Result<(), Fail> {
+    let sorted = by_place(alloc, committed(alloc, row)?)?;
+    let (map, wrong) = replay(alloc, &sorted)?;
+    assert!(rt; wrong.is_none(), "{wrong:?}");
+    let mut stores = SideBySide::new(alloc, sectors, false)?;
+    assert!(rt; first_difference(alloc, &mut stores, row)?.is_none());
+    let _begun = reply_to(alloc, &mut stores, "99 BEGIN")?;
+    let found = reply_to(alloc, &mut stores, "99 RANGE \0 \"\" 128")?;
+    let due = range(alloc, &map, "\0", "\"\"", 128)?;
+    assert_eq!(rt; found.as_slice(), due.as_bytes());
+    Ok(())
 }
 
 #[test]
 fn serial_order_gives_the_same_replies_and_map(rt: HostRuntime) -> Result<(), Fail> {
-    let rows: [&[Line]; 14] = [
+    let rows: [&[Line]; 15] = [
         &worked::COMMITTED_WRITE_IS_SEEN,
         &worked::SNAPSHOT_IS_KEPT,
         &worked::OWN_WRITE_IS_PRIVATE,
@@ -254,16 +246,13 @@ fn serial_order_gives_the_same_replies_and_map(rt: HostRuntime) -> Result<(), Fa
         &worked::PIVOT_AFTER_ITS_NEIGHBOUR_WAS_FORGOTTEN,
         &worked::DELETED_KEY,
         &worked::SERIAL_ORDER_IS_NOT_COMMIT_ORDER,
+        &worked::OLD_VERSION_IS_KEPT,
     ];
     let alloc = rt.alloc();
     for row in rows {
-        let all = committed(alloc, row)?;
-        let sorted = by_place(alloc, all)?;
-        let (map, wrong) = replay(alloc, &sorted)?;
-        assert!(rt; wrong.is_none(), "{wrong:?}");
-        assert!(rt; is_map_of(&engine_after(alloc, row)?, &map));
+        expect_replay(&rt, alloc, worked::SECTORS, row)?;
     }
-    Ok(())
+    expect_replay(&rt, alloc, worked::LOG_FULL_SECTORS, &worked::LOG_FULL)
 }
 
 #[test]

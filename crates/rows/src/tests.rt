@@ -1,44 +1,89 @@
 //! Each row over each store.
-use crate::worked::{self, Line};
-use crate::{Decoding, PlainStore, Store, first_difference, reply_to};
+use crate::side_by_side::{SideBySide, engine_store};
+use crate::worked::{self, Counted, Line};
+use crate::{Decoding, EngineStore, Store, first_difference, reply_to};
+use model::KeyRef;
+use sector::Sectors;
+use std::alloc::{AllocError, Global};
 use std::test::Fail;
 
 const SECTORS: u64 = worked::SECTORS;
 
-fn plain_store(rt: &HostRuntime, sectors: u64, device_fails: bool) -> Decoding<PlainStore> {
-    Decoding {
-        store: PlainStore::new(rt.alloc(), sectors, device_fails),
-    }
-}
-
-/// Runs a row over each store: the plain engine, and here the others come.
+/// Runs a row over each store.
 fn run_over(rt: &HostRuntime, sectors: u64, device_fails: bool, row: &[Line]) -> Result<(), Fail> {
-    let mut plain = plain_store(rt, sectors, device_fails);
-    expect_row(rt, "the plain engine", &mut plain, row)
+    let mut stores = SideBySide::new(rt.alloc(), sectors, device_fails)?;
+    expect_row(rt.alloc(), &mut stores, row)
 }
 
 fn run(rt: &HostRuntime, row: &[Line]) -> Result<(), Fail> {
     run_over(rt, SECTORS, false, row)
 }
 
-fn expect_row<S: Store>(
-    rt: &HostRuntime,
-    name: &str,
-    store: &mut S,
-    row: &[Line],
-) -> Result<(), Fail> {
-    match first_difference(rt.alloc(), store, row)? {
+fn expect_row<S: Store>(alloc: Global, store: &mut S, row: &[Line]) -> Result<(), Fail> {
+    match first_difference(alloc, store, row)? {
         None => Ok(()),
-        Some((i, reply)) => Err(format!(in rt.alloc(); "{name} at line {i}: {reply:?}")?)?,
+        Some((i, reply)) => Err(Fail::new(format_args!("at line {i}: {reply:?}"))),
     }
 }
 
-fn expect<S: Store>(rt: &HostRuntime, store: &mut S, asked: &str, due: &str) -> Result<(), Fail> {
-    let reply = reply_to(rt.alloc(), store, asked)?;
-    if reply.as_slice() != due.as_bytes() {
-        Err(format!(in rt.alloc(); "{asked}: {reply:?}")?)?;
+/// Runs the lines of a row, each for its numbers, over each store.
+fn run_counted(rt: &HostRuntime, row: &[Counted]) -> Result<(), Fail> {
+    let mut stores = SideBySide::new(rt.alloc(), SECTORS, false)?;
+    expect_each(rt.alloc(), &mut stores, row)
+}
+
+fn expect_each<S: Store>(alloc: Global, store: &mut S, row: &[Counted]) -> Result<(), Fail> {
+    for counted in row {
+        expect_counted(alloc, store, counted)?;
     }
     Ok(())
+}
+
+fn expect_counted<S: Store>(alloc: Global, store: &mut S, counted: &Counted) -> Result<(), Fail> {
+    let (from, to, (asked, due)) = *counted;
+    for number in from..to {
+        let line = with_number(alloc, asked, number)?;
+        let reply = reply_to(alloc, store, &line)?;
+        if reply.as_slice() != due.as_bytes() {
+            return Err(Fail::new(asked));
+        }
+    }
+    Ok(())
+}
+
+fn with_number(alloc: Global, line: &str, number: u16) -> Result<String, AllocError> {
+    match line.split_once('#') {
+        Some((front, back)) => format!(in alloc; "{front}{number}{back}"),
+        None => String::from_str(alloc, line),
+    }
+}
+
+/// Ends a transaction by bytes that spell no request.
+fn expect_abort<S: Store>(alloc: Global, store: &mut S) -> Result<(), Fail> {
+    expect_row(alloc, store, &[("1 BEGIN", "+OK")])?;
+    let mut out = Vec::new(alloc);
+    store.answer(1, b"*01\r\n", &mut out)?;
+    if out.as_slice() != b"-ERR frame\r\n".as_slice() {
+        return Err(Fail::new("another reply"));
+    }
+    expect_row(alloc, store, &[("1 GET a", "-ERR none")])
+}
+
+/// How many versions of a and how many records a store that reclaims keeps behind the row.
+fn kept_behind(alloc: Global, row: &[Line]) -> Result<(usize, usize), Fail> {
+    let mut store = engine_store(alloc, SECTORS, false, true)?;
+    kept_by(alloc, &mut store, row)
+}
+
+fn kept_by<D: Sectors>(
+    alloc: Global,
+    store: &mut Decoding<EngineStore<D>>,
+    row: &[Line],
+) -> Result<(usize, usize), Fail> {
+    expect_row(alloc, store, row)?;
+    let key = KeyRef::new(b"a").ok_or("no key")?;
+    let engine = &store.store.engine;
+    Ok((engine.kept_versions(key), engine.kept_records()))
 }
 
 #[test]
@@ -99,14 +144,7 @@ fn pivot_after_its_neighbour_was_forgotten(rt: HostRuntime) -> Result<(), Fail> 
 
 #[test]
 fn sixty_four_writes(rt: HostRuntime) -> Result<(), Fail> {
-    let mut store = plain_store(&rt, SECTORS, false);
-    expect(&rt, &mut store, "1 BEGIN", "+OK")?;
-    for i in 0..64u8 {
-        let line = format!(in rt.alloc(); "1 SET k{i} v")?;
-        expect(&rt, &mut store, &line, "+OK")?;
-    }
-    expect(&rt, &mut store, "1 SET k64 v", "-FULL writes")?;
-    expect(&rt, &mut store, "1 SET k7 w", "+OK")
+    run_counted(&rt, &worked::SIXTY_FOUR_WRITES)
 }
 
 #[test]
@@ -126,14 +164,7 @@ fn refusals_outside_a_transaction(rt: HostRuntime) -> Result<(), Fail> {
 
 #[test]
 fn sixty_four_transactions(rt: HostRuntime) -> Result<(), Fail> {
-    let mut store = plain_store(&rt, SECTORS, false);
-    for session in 1..65u8 {
-        let line = format!(in rt.alloc(); "{session} BEGIN")?;
-        expect(&rt, &mut store, &line, "+OK")?;
-    }
-    expect(&rt, &mut store, "65 BEGIN", "-FULL transactions")?;
-    expect(&rt, &mut store, "1 ABORT", "+OK")?;
-    expect(&rt, &mut store, "65 BEGIN", "+OK")
+    run_counted(&rt, &worked::SIXTY_FOUR_TRANSACTIONS)
 }
 
 #[test]
@@ -143,17 +174,7 @@ fn device_fault(rt: HostRuntime) -> Result<(), Fail> {
 
 #[test]
 fn two_hundred_fifty_six_marks(rt: HostRuntime) -> Result<(), Fail> {
-    let mut store = plain_store(&rt, SECTORS, false);
-    expect(&rt, &mut store, "1 BEGIN", "+OK")?;
-    expect(&rt, &mut store, "1 SET z 1", "+OK")?;
-    for i in 0..256u16 {
-        let line = format!(in rt.alloc(); "1 GET k{i}")?;
-        expect(&rt, &mut store, &line, "$-1")?;
-    }
-    expect(&rt, &mut store, "1 GET k256", "-FULL marks")?;
-    expect(&rt, &mut store, "1 GET k7", "$-1")?;
-    expect(&rt, &mut store, "1 GET z", "$1 1")?;
-    expect(&rt, &mut store, "1 RANGE a b 1", "-FULL marks")
+    run_counted(&rt, &worked::TWO_HUNDRED_FIFTY_SIX_MARKS)
 }
 
 #[test]
@@ -174,10 +195,20 @@ fn range_over_own_writes(rt: HostRuntime) -> Result<(), Fail> {
 /// Bytes that spell no request end the transaction.
 #[test]
 fn broken_frame_aborts(rt: HostRuntime) -> Result<(), Fail> {
-    let mut store = plain_store(&rt, SECTORS, false);
-    expect(&rt, &mut store, "1 BEGIN", "+OK")?;
-    let mut out = Vec::new(rt.alloc());
-    store.answer(1, b"*01\r\n", &mut out)?;
-    assert_eq!(rt; out.as_slice(), b"-ERR frame\r\n".as_slice());
-    expect(&rt, &mut store, "1 GET a", "-ERR none")
+    let mut stores = SideBySide::new(rt.alloc(), SECTORS, false)?;
+    expect_abort(rt.alloc(), &mut stores)
+}
+
+#[test]
+fn kept_versions_and_records(rt: HostRuntime) -> Result<(), Fail> {
+    let row = &worked::OLD_VERSION_IS_KEPT;
+    let forgetting = &worked::PIVOT_AFTER_ITS_NEIGHBOUR_WAS_FORGOTTEN;
+    for (lines, due) in [
+        (&row[..10], (2, 2)),
+        (&row[..], (1, 0)),
+        (&forgetting[..8], (0, 1)),
+    ] {
+        assert_eq!(rt; kept_behind(rt.alloc(), lines)?, due);
+    }
+    Ok(())
 }

@@ -131,7 +131,7 @@ pub static ONE_AFTER_THE_OTHER: [Line; 10] = [
     ("2 COMMIT", ":2"),
 ];
 
-/// A store that forgets has forgotten the first transaction before the last commit.
+/// A store that reclaims has forgotten the first transaction before the last commit: behind the eighth line it keeps one record.
 pub static PIVOT_AFTER_ITS_NEIGHBOUR_WAS_FORGOTTEN: [Line; 10] = [
     ("1 BEGIN", "+OK"),
     ("2 BEGIN", "+OK"),
@@ -239,4 +239,48 @@ pub static RANGE_OVER_OWN_WRITES: [Line; 12] = [
     ("1 RANGE a \"\" 9", "*6 $1 a $1 2 $1 d $1 3 $1 e $1 4"),
     ("1 RANGE a \"\" 2", "*4 $1 a $1 2 $1 d $1 3"),
     ("1 RANGE b c 5", "*0"),
+];
+
+/// Of a store that reclaims: behind the tenth line two versions of the key are kept, one of them for an open transaction, and the
+/// records of two commits; behind the last line one version and no record.
+pub static OLD_VERSION_IS_KEPT: [Line; 12] = [
+    ("1 BEGIN", "+OK"),
+    ("1 SET a 1", "+OK"),
+    ("1 COMMIT", ":1"),
+    ("1 BEGIN", "+OK"),
+    ("2 BEGIN", "+OK"),
+    ("2 SET a 2", "+OK"),
+    ("2 COMMIT", ":2"),
+    ("2 BEGIN", "+OK"),
+    ("2 SET a 3", "+OK"),
+    ("2 COMMIT", ":3"),
+    ("1 GET a", "$1 1"),
+    ("1 ABORT", "+OK"),
+];
+
+/// A line that is asked for each number from the first to before the second, which it has in the place of its `#`.
+pub type Counted = (u16, u16, Line);
+
+pub static SIXTY_FOUR_WRITES: [Counted; 4] = [
+    (0, 1, ("1 BEGIN", "+OK")),
+    (0, 64, ("1 SET k# v", "+OK")),
+    (64, 65, ("1 SET k# v", "-FULL writes")),
+    (7, 8, ("1 SET k# w", "+OK")),
+];
+
+pub static SIXTY_FOUR_TRANSACTIONS: [Counted; 4] = [
+    (1, 65, ("# BEGIN", "+OK")),
+    (65, 66, ("# BEGIN", "-FULL transactions")),
+    (1, 2, ("# ABORT", "+OK")),
+    (65, 66, ("# BEGIN", "+OK")),
+];
+
+pub static TWO_HUNDRED_FIFTY_SIX_MARKS: [Counted; 7] = [
+    (0, 1, ("1 BEGIN", "+OK")),
+    (0, 1, ("1 SET z 1", "+OK")),
+    (0, 256, ("1 GET k#", "$-1")),
+    (256, 257, ("1 GET k#", "-FULL marks")),
+    (7, 8, ("1 GET k#", "$-1")),
+    (0, 1, ("1 GET z", "$1 1")),
+    (0, 1, ("1 RANGE a b 1", "-FULL marks")),
 ];

@@ -1,20 +1,18 @@
 -- What one event does to the history of its session.
-use Rattle.std.proofs.Common.{◌≡◌, ◌≢◌, ℕ, ◌+◌, ◌-◌, ◌≤◌, ◌<◌, nat_le, nat_lt, Bool, true, false, not, if◌then◌else◌, List, [], ◌∷◌, ◌++◌, length, take, drop, Option, Some, None, IsTrue, refl, sym, ap, subst, ◌∙◌, arith, length-append}
-use Rattle.std.specs.List.{flat_map, AllByRecursion}
-use Rattle.std.specs.Map.{lookup, remove_entry, set_value}
+use Rattle.std.proofs.Common.{◌≡◌, ◌≢◌, ℕ, ◌≤◌, nat_le, nat_lt, true, false, if◌then◌else◌, [], ◌∷◌, ◌++◌, length, take, drop, Option, Some, None, refl, sym, ap, subst, ◌∙◌, arith}
+use Rattle.std.specs.List.{flat_map}
+use Rattle.std.specs.Map.{lookup, set_value}
 use Rattle.std.proofs.lemmas.Bool.Decides.{nat_tests}
-use Rattle.std.proofs.lemmas.List.{append-nil, take-append-drop, length-take, length-drop}
+use Rattle.std.proofs.lemmas.List.{append-nil, take-append-drop}
 use Rattle.model.specs.Map.{Bytes}
-use Rattle.model.specs.Machine.{State, leave, step}
+use Rattle.model.specs.Machine.{State, step}
 use Rattle.model.specs.Grammar.{IsProperBeginning}
 use Rattle.model.specs.ReplyText.{reply_text}
-use Rattle.sessions.specs.declared.events.Status.{Status}
 use Rattle.sessions.specs.declared.events.Status.TheVariants.{Absent, Open, Ending, Refused}
-use Rattle.sessions.specs.declared.events.Outcome.{Outcome}
 use Rattle.sessions.specs.declared.events.Outcome.TheVariants.{Done, Memory, Idle}
 use Rattle.sessions.specs.SessionStreams.{HubState, IsServed, SessionState, SessionStream, HubEvent, Joins, Receives, Serves, Sends, Leaves, Front, Whole, More, Bad, IsFront, Choice, Effect, IsPossible, IsServePossible, hub_step, stream_of, with_stream, with_effect, is_open, may_serve, serve_front, out_of_memory, served_with, no_effect, broken_frame, asks, room}
-use Rattle.sessions.specs.StandsFor.{status_in, room_in, pending_in}
-use Rattle.stream_driver.specs.Sessions.{GoesOn, Runs, session_of, status_at, pending_at, room_at, inbox_at, inbox_in, IsPresentIn, AwaitsMore}
+use Rattle.sessions.specs.StandsFor.{status_in}
+use Rattle.stream_driver.specs.Sessions.{GoesOn, Runs, session_of, status_at, IsPresentIn}
 use Rattle.stream_driver.proofs.Lookups.{test, set-same, set-other, remove-other}
 
 pub found : (o : Option SessionStream) → status_in o ≢ Absent → (st : SessionStream) × (o ≡ Some st)

@@ -1,11 +1,10 @@
 -- Sessions in the list of those that are present, after one of them has changed, come or gone.
-use Rattle.std.proofs.Common.{◌≡◌, ℕ, Bool, true, false, cond, List, [], ◌∷◌, Option, Some, None, option_map, inl, inr, refl, sym, ap, ◌∙◌, nat_cmp, arith}
+use Rattle.std.proofs.Common.{◌≡◌, ℕ, Bool, true, false, cond, List, [], ◌∷◌, Some, None, option_map, refl, sym, ap, ◌∙◌, nat_cmp, arith}
 use Rattle.std.specs.Map.{lookup, remove_entry, set_value}
 use Rattle.std.specs.BTreeMap.{is_at}
 use Rattle.std.proofs.lemmas.Bool.Decides.{nat_tests}
-use Rattle.sessions.specs.SessionStreams.{HubState, SessionStream, stream_of}
-use Rattle.sessions.specs.StandsFor.{StandsFor, at_hand}
-use Rattle.sessions.specs.declared.hub.Hub.{Hub}
+use Rattle.sessions.specs.SessionStreams.{SessionStream}
+use Rattle.sessions.specs.StandsFor.{at_hand}
 
 abbrev pub test : ℕ → ℕ → Bool
 test s = is_at (nat_cmp s)

@@ -1,12 +1,12 @@
 -- The turns of the loops.
-use Rattle.std.proofs.Common.{◌≡◌, ◌≢◌, ◌⊎◌, inl, inr, ℕ, ◌+◌, ◌-◌, ◌<◌, ◌≤◌, ◌^◌, min, max, Bool, IsTrue, List, [], ◌∷◌, ◌++◌, length, Some, refl, sym, ap, subst, ◌∙◌, arith, length-append}
-use Rattle.std.proofs.lemmas.List.{append-nil, nil_from_length}
+use Rattle.std.proofs.Common.{◌≡◌, ◌≢◌, ◌⊎◌, inl, inr, ℕ, ◌+◌, ◌-◌, ◌<◌, ◌≤◌, Bool, List, [], ◌++◌, length, refl, sym, ap, subst, ◌∙◌, arith, length-append}
+use Rattle.std.proofs.lemmas.List.{nil_from_length}
 use Rattle.model.specs.Grammar.{IsProperBeginning}
 use Rattle.sessions.specs.declared.events.Status.{Status}
 use Rattle.sessions.specs.declared.events.Status.TheVariants.{Absent, Open, Ending, Refused}
 use Rattle.sessions.specs.declared.events.Outcome.{Outcome}
 use Rattle.sessions.specs.declared.events.Outcome.TheVariants.{Done, Memory, Idle}
-use Rattle.sessions.specs.SessionStreams.{HubState, SessionStream, Serves, Leaves, Choice, IsPossible, hub_step, stream_of}
+use Rattle.sessions.specs.SessionStreams.{HubState, SessionStream, Serves, Choice, IsPossible, hub_step}
 use Rattle.sector.specs.declared.device.Sectors.{Ghosts}
 use Rattle.sessions.specs.declared.hub.Hub.{Hub}
 use Rattle.sessions.specs.StandsFor.{HubLeads, status_in, pending_in, room_in}
@@ -16,14 +16,14 @@ use Rattle.stream_driver.specs.declared.answers.Progress.TheVariants.{Waiting, A
 use Rattle.stream_driver.specs.declared.driving.Flush.TheVariants.{Empty, Blocked as FlushBlocked, Failed as FlushFailed}
 use Rattle.stream_driver.specs.declared.driving.Exchange.{Exchange}
 use Rattle.stream_driver.specs.declared.driving.Exchange.TheVariants.{Served, Broke as ExchangeBroke, Starved as ExchangeStarved, Blocked as ExchangeBlocked, Failed as ExchangeFailed, Ended as ExchangeEnded}
-use Rattle.stream_driver.specs.Traffic.{Traffic, Rose, one_more}
+use Rattle.stream_driver.specs.Traffic.{Traffic, Rose}
 use Rattle.stream_driver.specs.Sessions.{Leads, Runs, AwaitsMore, status_at, pending_at, room_at, inbox_at, inbox_in, IsPresentIn}
-use Rattle.stream_driver.specs.Drives.{Carried, NoneFell, Drove, Why, EndsAs, Parts}
+use Rattle.stream_driver.specs.Drives.{Carried, Drove, Parts}
 use Rattle.stream_driver.specs.Calls.{Moves, WritesSome, ReadsSome, Flushes, Exchanges, WrittenSoFar, ReadSoFar, DrivenSoFar, served_in}
 use Rattle.stream_driver.proofs.States.{leads_step}
 use Rattle.stream_driver.proofs.Inboxes.{beginning_short}
-use Rattle.stream_driver.proofs.Events.{Comes, Answered, IsBroken, IsStarved, Awaits, comes_to, serves_is, served_event, effect, after_effect, found, open_present}
-use Rattle.stream_driver.proofs.Carry.{nothing, answered, alone, and_then}
+use Rattle.stream_driver.proofs.Events.{Comes, Answered, IsBroken, IsStarved, Awaits, comes_to, serves_is, served_event, effect, open_present}
+use Rattle.stream_driver.proofs.Carry.{nothing, alone, and_then}
 
 -- a status that is neither absent nor open
 closed_kinds : (status : Status) → status ≢ Absent → status ≢ Open → {none : List ℕ} → none ≡ [] → (status ≡ Refused) ⊎ ((status ≡ Ending) × (none ≡ []))

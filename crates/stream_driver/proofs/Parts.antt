@@ -1,22 +1,21 @@
 -- One read and one write.
-use Rattle.std.proofs.Common.{◌≡◌, ◌≢◌, ℕ, ◌+◌, ◌-◌, ◌<◌, ◌≤◌, ◌^◌, min, max, Bool, IsTrue, List, [], ◌++◌, length, take, drop, Some, refl, sym, ap, subst, ◌∙◌, arith, length-append}
-use Rattle.std.proofs.lemmas.List.{append-nil, length-take, length-drop}
+use Rattle.std.proofs.Common.{◌≡◌, ◌≢◌, ℕ, ◌+◌, ◌-◌, ◌<◌, ◌≤◌, Bool, IsTrue, List, ◌++◌, length, take, drop, Some, refl, sym, ap, subst, ◌∙◌, arith, length-append}
+use Rattle.std.proofs.lemmas.List.{append-nil, length-drop}
 use Rattle.model.specs.Map.{Bytes}
 use Rattle.sessions.specs.declared.events.Status.TheVariants.{Absent, Open}
 use Rattle.sessions.specs.declared.events.Outcome.TheVariants.{Done}
 use Rattle.sector.specs.declared.device.Sectors.{Ghosts}
 use Rattle.sessions.specs.declared.hub.Hub.{Hub}
-use Rattle.sessions.specs.SessionStreams.{HubState, SessionStream, Receives, Sends, Choice, IsPossible, hub_step, with_stream, stream_of}
+use Rattle.sessions.specs.SessionStreams.{HubState, Receives, Sends, hub_step, with_stream, stream_of}
 use Rattle.sessions.specs.StandsFor.{StandsFor, HubLeads, status_in, pending_in, room_in}
 use Rattle.stream_driver.specs.declared.answers.ReadAnswer.{ReadAnswer}
 use Rattle.stream_driver.specs.declared.answers.ReadAnswer.TheVariants.{Moved, Blocked, Failed, Ended}
 use Rattle.stream_driver.specs.declared.answers.WriteAnswer.{WriteAnswer}
 use Rattle.stream_driver.specs.declared.answers.WriteAnswer.TheVariants.{Moved as Wrote, Blocked as WriteBlocked, Failed as WriteFailed}
-use Rattle.stream_driver.specs.Traffic.{Traffic, Rose, one_more, after_read, after_write, SameCounts, bytes_read, bytes_written}
+use Rattle.stream_driver.specs.Traffic.{Traffic, after_read, after_write, SameCounts, bytes_read, bytes_written}
 use Rattle.stream_driver.specs.Sessions.{Leads, Runs, status_at, pending_at, room_at, IsPresentIn}
-use Rattle.stream_driver.specs.Drives.{Carried, NoneFell}
+use Rattle.stream_driver.specs.Drives.{NoneFell}
 use Rattle.stream_driver.specs.Calls.{WritesSome, ReadsSome}
-use Rattle.stream_driver.proofs.Lookups.{test}
 use Rattle.stream_driver.proofs.Events.{found, one_event, received_by, receives, bytes_came, sent_from, sends, bytes_went, open_present}
 use Rattle.stream_driver.proofs.Carry.{answered}
 

@@ -1,5 +1,5 @@
 -- The states that one hub stands for agree on what its sessions have at hand.
-use Rattle.std.proofs.Common.{◌≡◌, ◌≢◌, ℕ, Bool, ◌-◌, ◌≤◌, subst, List, [], ◌∷◌, length, Option, Some, None, option_map, refl, sym, ap, ◌∙◌}
+use Rattle.std.proofs.Common.{◌≡◌, ℕ, ◌-◌, ◌≤◌, subst, List, [], ◌∷◌, length, Option, Some, None, option_map, refl, sym, ap, ◌∙◌}
 use Rattle.std.specs.Map.{lookup}
 use Rattle.std.proofs.Math.Logic.{∥∥₁_elim, ∥∥₁_map}
 use Rattle.std.proofs.Math.Bridge.{le_prop}
@@ -10,7 +10,7 @@ use Rattle.sector.specs.declared.device.Sectors.{Ghosts}
 use Rattle.sessions.specs.declared.hub.Hub.{Hub}
 use Rattle.sessions.specs.SessionStreams.{HubState, SessionState, HubEvent, Choice, IsPossible, hub_step, SessionStream, stream_of}
 use Rattle.sessions.specs.StandsFor.{StandsFor, HubLeads, status_in, room_in, pending_in}
-use Rattle.stream_driver.specs.Sessions.{InSomeState, Leads, IsPresent, IsPresentIn, status_at, pending_at, room_at}
+use Rattle.stream_driver.specs.Sessions.{InSomeState, Leads, IsPresentIn, status_at, pending_at, room_at}
 use Rattle.stream_driver.proofs.Lookups.{test, lookup-at_hand}
 
 alike : {D : Type 0} {g : Ghosts D} (hub : Hub D g) (h k : HubState) (s : ℕ) → StandsFor hub h → StandsFor hub k → option_map (λ st. st.now) (stream_of h s) ≡ option_map (λ st. st.now) (stream_of k s)

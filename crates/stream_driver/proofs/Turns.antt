@@ -1,24 +1,23 @@
 -- The turns of a walk over the table.
-use Rattle.std.proofs.Common.{◌≡◌, ◌≢◌, ◌⊎◌, inl, inr, ℕ, ◌+◌, ◌-◌, ◌<◌, ◌≤◌, Bool, IsTrue, List, [], ◌∷◌, ◌++◌, length, set, take, drop, get_or, refl, sym, ap, subst, ◌∙◌, arith, rules, Option, Some, None, unwrap_or, add-zero}
+use Rattle.std.proofs.Common.{◌≡◌, ◌≢◌, ◌⊎◌, inl, inr, ℕ, ◌+◌, ◌<◌, ◌≤◌, Bool, List, [], ◌∷◌, ◌++◌, length, set, take, drop, get_or, refl, sym, ap, subst, ◌∙◌, arith, Option, Some, None, unwrap_or, add-zero}
 use Rattle.std.proofs.lemmas.Bool.{cases_lt, cases_eq}
-use Rattle.std.proofs.lemmas.List.{take_all, take_more, take_more_set, get_or-drop, drop-drop, drop-set-lt, take-set, length-set, get_or-set_same, get_or-set_other}
+use Rattle.std.proofs.lemmas.List.{take_all, take_more, take_more_set, get_or-drop, drop-drop, drop-set-lt, length-set, get_or-set_same, get_or-set_other}
 use Rattle.std.proofs.Math.ListN.{get_or-eq_default}
-use Rattle.std.proofs.Math.Logic.{∥∥₁_map}
 use Rattle.sector.specs.declared.device.Sectors.{Ghosts}
 use Rattle.sessions.specs.declared.hub.Hub.{Hub}
 use Rattle.sessions.specs.SessionStreams.{HubState, stream_of}
-use Rattle.sessions.specs.StandsFor.{StandsFor, status_in}
+use Rattle.sessions.specs.StandsFor.{status_in}
 use Rattle.stream_driver.specs.declared.answers.Progress.{Progress}
 use Rattle.stream_driver.specs.declared.answers.Progress.TheVariants.{Waiting, Again, Gone}
 use Rattle.stream_driver.specs.declared.entries.EntryState.{EntryState}
 use Rattle.stream_driver.specs.declared.entries.EntryState.TheVariants.{Idle, Ready, Gone as EntryGone}
 use Rattle.stream_driver.specs.declared.entries.Entry.{Entry}
 use Rattle.stream_driver.specs.Traffic.{Traffic}
-use Rattle.stream_driver.specs.Sessions.{Leads, InSomeState, IsPresent, IsPresentIn, status_at}
-use Rattle.stream_driver.specs.Drives.{Drove, EndsAs}
-use Rattle.stream_driver.specs.Entries.{HaveSessions, DrivenOnce, DrivenEntry, DrivenIn, DrivenSlot, DrivenAll, EntriesSoFar, state_after}
+use Rattle.stream_driver.specs.Sessions.{Leads, IsPresent, IsPresentIn}
+use Rattle.stream_driver.specs.Drives.{EndsAs}
+use Rattle.stream_driver.specs.Entries.{HaveSessions, DrivenEntry, DrivenIn, DrivenSlot, DrivenAll, EntriesSoFar, state_after}
 use Rattle.stream_driver.proofs.Events.{leaves_others}
-use Rattle.stream_driver.proofs.States.{present_at, leads_then, leads_map, some_after}
+use Rattle.stream_driver.proofs.States.{leads_then, leads_map, some_after}
 
 ends_other : (s : ℕ) (last new : HubState) (answer : Progress) (t : ℕ) → t ≢ s → EndsAs s last new answer → stream_of new t ≡ stream_of last t
 ends_other s last new Waiting t d e = ap (λ h. stream_of h t) e

@@ -1,5 +1,5 @@
 -- What the parts of a drive do.
-use Rattle.std.specs.Prelude.{◌≡◌, ◌≢◌, ℕ, ◌+◌, ◌<◌, ◌≤◌, Bool, [], length}
+use Rattle.std.specs.Prelude.{◌≡◌, ◌≢◌, ℕ, ◌+◌, ◌<◌, Bool, [], length}
 use Rattle.sessions.specs.declared.events.Status.TheVariants.{Open, Ending, Refused}
 use Rattle.sessions.specs.SessionStreams.{HubState}
 use Rattle.stream_driver.specs.declared.answers.ReadAnswer.{ReadAnswer}

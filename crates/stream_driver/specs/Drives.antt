@@ -1,6 +1,6 @@
 -- What a drive does to the hub and to the stream.
-use Rattle.std.specs.Prelude.{◌≡◌, ◌≢◌, ◌⊎◌, ℕ, ◌+◌, ◌≤◌, Bool, IsTrue, [], ◌++◌, length}
-use Rattle.sessions.specs.declared.events.Status.TheVariants.{Open, Ending, Refused}
+use Rattle.std.specs.Prelude.{◌≡◌, ◌≢◌, ◌⊎◌, ℕ, ◌≤◌, Bool, IsTrue, [], ◌++◌, length}
+use Rattle.sessions.specs.declared.events.Status.TheVariants.{Ending, Refused}
 use Rattle.sessions.specs.SessionStreams.{HubState, Leaves, Choice, hub_step}
 use Rattle.stream_driver.specs.declared.answers.Progress.{Progress}
 use Rattle.stream_driver.specs.declared.answers.Progress.TheVariants.{Waiting, Again, Gone}

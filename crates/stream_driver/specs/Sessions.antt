@@ -1,5 +1,5 @@
 -- One session of a hub, and what a run of its events adds to its history.
-use Rattle.std.specs.Prelude.{◌≡◌, ◌≢◌, ℕ, List, [], ◌∷◌, ◌++◌, Option, Some, None}
+use Rattle.std.specs.Prelude.{◌≡◌, ◌≢◌, ℕ, List, [], ◌++◌, Option, Some, None}
 use Rattle.std.specs.List.{flat_map, AllByRecursion}
 use Rattle.model.specs.Map.{Bytes}
 use Rattle.model.specs.Operations.{Response}

@@ -14,6 +14,3 @@ mod versions;
 pub use laws::{history_has_maps, numbers_change, read_only_record_follows};
 pub use pairs::Pairs;
 pub use versions::Versions;
-
-#[cfg(test)]
-mod tests;

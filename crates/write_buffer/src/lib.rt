@@ -8,6 +8,3 @@ mod written;
 pub use buffer::{WRITES_MAX, WriteBuffer};
 pub use faults::WritesFault;
 pub use written::Written;
-
-#[cfg(test)]
-mod tests;

@@ -1,4 +1,4 @@
-use Rattle.std.proofs.Common.{◌≡◌, ap, subst, sym, rules}
+use Rattle.std.proofs.Common.{◌≡◌, ap, subst, sym}
 use Rattle.sessions.specs.declared.events.Outcome.TheVariants.{Done}
 use Rattle.stream_driver.specs.Entries.{HaveSessions}
 use Rattle.event_loop.specs.Numbers.{AreBelow}

@@ -1,4 +1,4 @@
-use Rattle.std.proofs.Common.{rules, ◌≡◌, sym}
+use Rattle.std.proofs.Common.{sym}
 use Rattle.event_loop.proofs.Tables.{marked, marked_numbers}
 use Rattle.event_loop.proofs.connections.make_polled_ready.Goals as goal
 

@@ -1,4 +1,3 @@
-use Rattle.std.proofs.Common.{rules, ◌≡◌, sym}
 use Rattle.event_loop.proofs.Tables.{vacated, vacated_numbers}
 use Rattle.event_loop.proofs.connections.take_gone_out.Goals as goal
 use Rattle.event_loop.proofs.connections.take_gone_out.Goals.{then-gone+in-Some-1, then-gone+in-None-1, else-gone}

@@ -1,5 +1,5 @@
 use Rattle.std.proofs.Common.{refl, sym}
-use Rattle.model.specs.KeyBytes.{key_bytes, end_bytes, pair_bytes}
+use Rattle.model.specs.KeyBytes.{key_bytes, end_bytes}
 use Rattle.model.specs.Operations.Operation.{Range}
 use Rattle.snapshot.specs.RowPairs.{row_pairs}
 use Rattle.sessions.proofs.RequestSteps.{executes_read, executes_refused}

@@ -1,7 +1,6 @@
-use Rattle.std.proofs.Common.{rules, inl, inr, ◌≡◌, ◌≢◌, ◌≤◌, ◌<◌, ℕ, length, arith, sym, ap, ◌∙◌, [], List}
+use Rattle.std.proofs.Common.{inl, inr, ◌≡◌, arith, sym, ◌∙◌, []}
 use Rattle.sessions.specs.declared.events.Status.TheVariants.{Open}
-use Rattle.stream_driver.specs.Sessions.{status_at, pending_at, IsPresentIn}
-use Rattle.stream_driver.specs.Calls.{DrivenSoFar}
+use Rattle.stream_driver.specs.Sessions.{status_at, pending_at}
 use Rattle.stream_driver.proofs.States.{present_at, leads_then, leads_three, leads_four, some_after}
 use Rattle.stream_driver.proofs.Loops.{driven_none, driven_flushed, driven_served, driven_broke, waits_to_write, waits_to_read, gone_writing, gone_serving, gone_closed, again}
 use Rattle.stream_driver.proofs.driving.drive.Goals as goal

@@ -1,6 +1,5 @@
-use Rattle.std.proofs.Common.{rules, ◌≡◌, ◌≤◌, ◌<◌, length, arith, sym, ap, subst, ◌∙◌, take, List, ℕ, ◌++◌, IsTrue}
+use Rattle.std.proofs.Common.{◌≡◌, ◌≤◌, length, arith, subst, take}
 use Rattle.std.proofs.lemmas.Grind.{common_steps}
-use Rattle.stream_driver.specs.Sessions.{room_at}
 use Rattle.stream_driver.proofs.States.{open_at, room_seen}
 use Rattle.stream_driver.proofs.Parts.{read_moved, read_none}
 use Rattle.stream_driver.proofs.driving.read_some.Goals as goal

@@ -1,8 +1,5 @@
-use Rattle.std.proofs.Common.{rules, ◌≡◌, ◌≢◌, ◌≤◌, ◌<◌, ◌+◌, ◌-◌, length, arith, sym, ap, ◌∙◌, [], List}
-use Rattle.sessions.specs.declared.events.Status.TheVariants.{Open}
-use Rattle.stream_driver.specs.Sessions.{Leads, InSomeState, AwaitsMore, pending_at, status_at, room_at}
-use Rattle.stream_driver.specs.Calls.{ReadSoFar}
-use Rattle.stream_driver.proofs.States.{open_at, nothing_at, leads_then, leads_map, leads_step, some_after, le_after}
+use Rattle.std.proofs.Common.{◌≤◌, ◌+◌, ◌-◌, arith, sym, ◌∙◌}
+use Rattle.stream_driver.proofs.States.{open_at, nothing_at, leads_then, leads_step, some_after, le_after}
 use Rattle.stream_driver.proofs.Loops.{read_nothing, read_then, read_within, read_blocked, read_failed, read_ended, serve_starved, serve_open, serve_closed, waits}
 use Rattle.stream_driver.proofs.driving.serve_one.Goals as goal
 

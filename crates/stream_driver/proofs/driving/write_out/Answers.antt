@@ -1,5 +1,4 @@
-use Rattle.std.proofs.Common.{rules, ◌≡◌, ◌≤◌, ◌<◌, length, arith, sym, ap, ◌∙◌, [], List}
-use Rattle.stream_driver.specs.Sessions.{IsPresentIn, pending_at}
+use Rattle.std.proofs.Common.{◌≡◌, ◌≤◌, length, arith, ap}
 use Rattle.stream_driver.proofs.States.{present_at, leads_then, leads_map, some_after, le_after}
 use Rattle.stream_driver.proofs.Loops.{written_none, written_then, written_within, written_blocked, written_failed, written_all}
 use Rattle.stream_driver.proofs.driving.write_out.Goals as goal

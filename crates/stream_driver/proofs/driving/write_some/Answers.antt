@@ -1,7 +1,6 @@
-use Rattle.std.proofs.Common.{rules, ◌≡◌, ◌≤◌, ◌<◌, length, arith, sym, ap, subst, ◌∙◌, take, List, ℕ, ◌++◌, IsTrue}
+use Rattle.std.proofs.Common.{◌≤◌, ◌<◌, length, sym, ap, subst, ◌∙◌, take, ◌++◌}
 use Rattle.std.proofs.Math.Logic.{∥∥₁_elim}
 use Rattle.std.proofs.Math.Bridge.{le_prop}
-use Rattle.stream_driver.specs.Sessions.{IsPresentIn, pending_at}
 use Rattle.stream_driver.proofs.States.{present_at}
 use Rattle.stream_driver.proofs.Parts.{wrote_moved, wrote_none}
 use Rattle.stream_driver.proofs.driving.write_some.Goals as goal

@@ -1,4 +1,4 @@
-use Rattle.std.proofs.Common.{rules, ◌≡◌, sym, None, Some}
+use Rattle.std.proofs.Common.{sym}
 use Rattle.stream_driver.proofs.Turns.{entries_driven, entries_vacant}
 use Rattle.stream_driver.proofs.entries.drive_ready.Goals as goal
 use Rattle.stream_driver.proofs.entries.drive_ready.Goals.{in-Some, in_default}

@@ -1,0 +1,56 @@
+//! The versions that are kept.
+ghost use Rattle.std.specs.Prelude.{◌≡◌, ◌<◌, OnOk};
+
+use crate::helpers::{is_pair, key, put};
+use model::{Key, KeyRef, Map, Memory, RangeRef, Write};
+use std::alloc::Global;
+use std::test::Fail;
+use versions::Versions;
+
+// Commits one write, or a deletion, with this number.
+fn commit(
+    alloc: Global,
+    versions: &mut Versions,
+    n: u64,
+    key: KeyRef<'_>,
+    value: Option<Vec<u8>>,
+) -> Result<(), Memory>
+    requires { versions.old.last < n }
+    ensures { OnOk result (versions.new.last ≡ n) }
+{
+    let mut writes = Vec::new(alloc);
+    writes.push(Write::new(Key::from_ref(alloc, key)?, value))?;
+    versions.prepare(&writes)?;
+    versions.install(n, writes);
+    Ok(())
+}
+
+// The versions of a map with `1` at `a`, after a commit that writes `2` there and one that deletes it.
+fn after_two_commits(alloc: Global) -> Result<Versions, Memory> {
+    let mut map = Map::new(alloc);
+    put(alloc, &mut map, b"a", b"1")?;
+    let value = Vec::from_slice(alloc, b"2")?;
+    let mut versions = Versions::from_map(alloc, map)?;
+    commit(alloc, &mut versions, 1, key(b"a"), Some(value))?;
+    commit(alloc, &mut versions, 2, key(b"a"), None)?;
+    Ok(versions)
+}
+
+/// A reader of the opened map sees it while two commits go past, and then its version goes.
+#[test]
+fn kept_versions(rt: HostRuntime) -> Result<(), Fail> {
+    let (a, b) = (key(b"a"), key(b"b"));
+    let mut versions = after_two_commits(rt.alloc())?;
+    assert!(rt; versions.kept(a) == 3);
+    versions.reclaim(&[0]);
+    assert!(rt; versions.kept(a) == 2 && versions.kept(b) == 0);
+    assert!(rt; versions.newest(a) == Some(2) && versions.newest(b).is_none());
+    assert!(rt; versions.at(0, a) == Some(b"1".as_slice()));
+    assert!(rt; versions.at(2, a).is_none());
+    let from_a = RangeRef { lo: a, hi: None };
+    assert!(rt; is_pair(versions.range(0, from_a).next(), b"a", b"1"));
+    assert!(rt; versions.range(2, from_a).next().is_none());
+    versions.reclaim(&[]);
+    assert!(rt; versions.kept(a) == 1);
+    Ok(())
+}

@@ -1,0 +1,21 @@
+//! Tests of the crates below the engine against values from outside: keys, requests, replies, devices, versions and transactions.
+#![tactic(auto)]
+
+#[cfg(test)]
+mod devices;
+#[cfg(test)]
+mod helpers;
+#[cfg(test)]
+mod kept;
+#[cfg(test)]
+mod keys;
+#[cfg(test)]
+mod marked;
+#[cfg(test)]
+mod replies;
+#[cfg(test)]
+mod requests;
+#[cfg(test)]
+mod transactions;
+#[cfg(test)]
+mod written;

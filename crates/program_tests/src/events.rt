@@ -1,0 +1,129 @@
+//! The events of a hub.
+use crate::hubs::{Pieces, new_hub};
+use model::KeyRef;
+use rows::{Store, reply_to};
+use sessions::{Event, Outcome, Status};
+use std::alloc::Global;
+use std::test::Fail;
+
+const BEGIN: &[u8] = b"*1\r\n$5\r\nBEGIN\r\n";
+
+const TWO_PINGS: &[u8] = b"*1\r\n$4\r\nPING\r\n*1\r\n$4\r\nPING\r\n";
+
+static TOO_LONG: [u8; 32_769] = [0; 32_769];
+
+/// Each event with its outcome, and then the bytes pending and the room of session 5.
+#[test]
+fn hub_events(rt: HostRuntime) -> Result<(), Fail> {
+    let mut hub = new_hub(rt.alloc(), 4096)?;
+    let pong = b"+PONG\r\n".as_slice();
+    let none = b"".as_slice();
+    let steps = [
+        (Event::Joined(5), Outcome::Done, none, 32_768),
+        (Event::Joined(5), Outcome::Unknown, none, 32_768),
+        (Event::Joined(3), Outcome::Unknown, none, 32_768),
+        (Event::Serve(5), Outcome::Idle, none, 32_768),
+        (Event::Bytes(5, TWO_PINGS), Outcome::Done, none, 32_740),
+        (Event::Serve(5), Outcome::Done, pong, 32_754),
+        (Event::Serve(5), Outcome::Idle, pong, 32_754),
+        (Event::Sent(5, 8), Outcome::BadCount, pong, 32_754),
+        (Event::Sent(5, 7), Outcome::Done, none, 32_754),
+        (Event::Serve(5), Outcome::Done, pong, 32_768),
+        (Event::Bytes(5, &TOO_LONG), Outcome::NoRoom, pong, 32_768),
+        (Event::Left(5), Outcome::Done, none, 0),
+        (Event::Sent(5, 0), Outcome::Unknown, none, 0),
+    ];
+    for (event, outcome, pending, room) in &steps {
+        let answered = hub.step(event) == *outcome;
+        if !answered || hub.pending(5) != *pending || hub.room(5) != *room {
+            return Err("another outcome, output or room".into());
+        }
+    }
+    Ok(())
+}
+
+#[test]
+fn crowded(rt: HostRuntime) -> Result<(), Fail> {
+    let mut hub = new_hub(rt.alloc(), 16)?;
+    for session in 0..129u64 {
+        let due = if session < 128 {
+            Outcome::Done
+        } else {
+            Outcome::Crowded
+        };
+        assert!(rt; hub.step(&Event::Joined(session)) == due);
+    }
+    Ok(())
+}
+
+#[test]
+fn bytes_one_at_a_time(rt: HostRuntime) -> Result<(), Fail> {
+    let mut hub = new_hub(rt.alloc(), 4096)?;
+    hub.run(&[Event::Joined(1), Event::Joined(2)]);
+    for byte in BEGIN.chunks(1) {
+        assert!(rt; hub.pending(1).is_empty());
+        hub.run(&[Event::Bytes(1, byte), Event::Serve(1)]);
+    }
+    assert!(rt; hub.pending(1) == b"+OK\r\n".as_slice());
+    hub.run(&[Event::Bytes(2, b"*01\r\n"), Event::Serve(2)]);
+    assert!(rt; hub.pending(2) == b"-ERR frame\r\n".as_slice());
+    assert!(rt; hub.status(2) == Status::Ending);
+    Ok(())
+}
+
+fn expect<S: Store>(alloc: Global, store: &mut S, asked: &str, due: &str) -> Result<(), Fail> {
+    let reply = reply_to(alloc, store, asked)?;
+    if reply.as_slice() != due.as_bytes() {
+        Err(format!(in alloc; "{asked}: {reply:?}")?)?;
+    }
+    Ok(())
+}
+
+#[test]
+fn sixty_four_transactions(rt: HostRuntime) -> Result<(), Fail> {
+    let mut store = Pieces::new(new_hub(rt.alloc(), 4096)?, 16_424);
+    for session in 1..65u64 {
+        let asked = format!(in rt.alloc(); "{session} BEGIN")?;
+        expect(rt.alloc(), &mut store, &asked, "+OK")?;
+    }
+    let rest = [
+        ("65 BEGIN", "-FULL transactions"),
+        ("1 ABORT", "+OK"),
+        ("65 BEGIN", "+OK"),
+    ];
+    for (asked, due) in rest {
+        expect(rt.alloc(), &mut store, asked, due)?;
+    }
+    Ok(())
+}
+
+/// An old transaction keeps versions and records; once it has ended, the next event drops them.
+#[test]
+fn kept_versions_and_records(rt: HostRuntime) -> Result<(), Fail> {
+    let asked = [
+        ("1 BEGIN", "+OK"),
+        ("1 SET a 1", "+OK"),
+        ("1 COMMIT", ":1"),
+        ("1 BEGIN", "+OK"),
+        ("2 BEGIN", "+OK"),
+        ("2 SET a 2", "+OK"),
+        ("2 COMMIT", ":2"),
+        ("2 BEGIN", "+OK"),
+        ("2 SET a 3", "+OK"),
+        ("2 COMMIT", ":3"),
+        ("1 GET a", "$1 1"),
+        ("1 ABORT", "+OK"),
+    ];
+    for (lines, versions, records) in [(10usize, 2usize, 2usize), (12, 1, 0)] {
+        let mut store = Pieces::new(new_hub(rt.alloc(), 4096)?, 16_424);
+        for (line, due) in &asked[..lines] {
+            expect(rt.alloc(), &mut store, line, due)?;
+        }
+        let engine = store.hub.into_engine();
+        let Some(key) = KeyRef::new(b"a") else {
+            return Err("no key".into());
+        };
+        assert!(rt; engine.kept_versions(key) == versions && engine.kept_records() == records);
+    }
+    Ok(())
+}

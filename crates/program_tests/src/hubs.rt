@@ -1,0 +1,53 @@
+//! Hubs over devices in memory.
+ghost use Rattle.std.specs.Prelude.{◌≤◌};
+
+use commit_log::format;
+use engine::Engine;
+use model::Memory;
+use rows::Store;
+use sector::MemSectors;
+use sessions::{Event, Hub, Outcome};
+use std::alloc::Global;
+use std::test::Fail;
+
+/// A hub over a formatted device of so many sectors.
+pub(crate) fn new_hub(alloc: Global, sectors: u64) -> Result<Hub<MemSectors>, Fail>
+    requires { sectors ≤ 65536 }
+{
+    let mut device = MemSectors::new(alloc, sectors)?;
+    format(&mut device)?;
+    let engine = Engine::open(alloc, device)?;
+    Ok(Hub::new(alloc, engine))
+}
+
+/// A hub whose sessions 1 to 70 have joined. Requests come in pieces of `size` bytes.
+#[derive(Drop)]
+pub(crate) struct Pieces {
+    pub(crate) hub: Hub<MemSectors>,
+    pub(crate) size: usize,
+}
+
+impl Pieces {
+    pub(crate) fn new(mut hub: Hub<MemSectors>, size: usize) -> Pieces {
+        for session in 1..=70u64 {
+            let _ = hub.step(&Event::Joined(session));
+        }
+        Pieces { hub, size }
+    }
+}
+
+impl Store for Pieces {
+    fn answer(&mut self, session: u64, frame: &[u8], out: &mut Vec<u8>) -> Result<(), Memory> {
+        for piece in frame.chunks(self.size.max(1)) {
+            let _ = self.hub.step(&Event::Bytes(session, piece));
+        }
+        if let Outcome::Memory = self.hub.step(&Event::Serve(session)) {
+            return Err(Memory);
+        }
+        let pending = self.hub.pending(session);
+        let sent = pending.len();
+        out.extend_from_slice(pending)?;
+        let _ = self.hub.step(&Event::Sent(session, sent));
+        Ok(())
+    }
+}

@@ -1,0 +1,18 @@
+//! Tests of the sessions, the driver, the loop and the program: what clients send, in any pieces, and what they read.
+#![tactic(auto)]
+
+#[cfg(test)]
+mod events;
+#[cfg(test)]
+mod hubs;
+#[cfg(test)]
+mod loops;
+#[cfg(test)]
+mod programs;
+mod script;
+#[cfg(test)]
+mod streams;
+#[cfg(test)]
+mod tables;
+
+pub use script::{Script, Trouble};

@@ -1,0 +1,15 @@
+#!/bin/sh
+# Tries the wrong bodies of this folder, which the gate leaves out for its time: `wrong_bodies/run.sh [CRATE..]`, all crates where none is named.
+# The prover must refuse each. They are tried on a copy of the repository; it takes 10 to 30 seconds for each, and a check of the crate.
+set -e
+here=$(cd "$(dirname "$0")" && pwd)
+copy=$(mktemp -d)
+trap 'rm -rf "$copy"' EXIT
+tar -C "$here/.." --exclude=out --exclude=.git -cf - crates crates.txt HANDLES | tar -C "$copy" -xf -
+[ $# -gt 0 ] || set -- $(cd "$here" && ls -d */ | tr -d /)
+for crate; do
+    rm -rf "$copy/crates/$crate/must-fail"
+    cp -r "$here/$crate" "$copy/crates/$crate/must-fail"
+done
+cd "$copy"
+rt must-fail "$@"
