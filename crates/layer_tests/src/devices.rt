@@ -53,7 +53,7 @@ fn kind(made: io::Result<FileSectors>) -> Option<ErrorKind> {
 
 #[test]
 fn a_file_keeps_what_was_written(rt: HostRuntime) -> Result<(), Fail> {
-    let path = format!(in rt.alloc(); "/tmp/sectors-kept-{}", process::id(rt.process()))?;
+    let path = format!(in rt.alloc(); "sectors-kept-{}", process::id(rt.process()))?;
     let path = path.as_str();
     assert!(rt; kind(FileSectors::open(&rt, path)) == Some(ErrorKind::NotFound));
     let mut device = FileSectors::create(&rt, path, 40)?;
@@ -72,7 +72,7 @@ fn a_file_keeps_what_was_written(rt: HostRuntime) -> Result<(), Fail> {
 
 #[test]
 fn a_file_has_whole_sectors_and_not_too_many(rt: HostRuntime) -> Result<(), Fail> {
-    let path = format!(in rt.alloc(); "/tmp/sectors-cut-{}", process::id(rt.process()))?;
+    let path = format!(in rt.alloc(); "sectors-cut-{}", process::id(rt.process()))?;
     let path = path.as_str();
     assert!(rt; kind(FileSectors::create(&rt, path, 1 << 55)) == Some(ErrorKind::InvalidInput));
     assert!(rt; fs::write(&rt, path, [0; 513].as_slice()).is_ok());

@@ -45,8 +45,7 @@ fn kept_versions(rt: HostRuntime) -> Result<(), Fail> {
     versions.reclaim(&[0]);
     assert!(rt; versions.kept(a) == 2 && versions.kept(b) == 0);
     assert!(rt; versions.newest(a) == Some(2) && versions.newest(b).is_none());
-    assert!(rt; versions.at(0, a) == Some(b"1".as_slice()));
-    assert!(rt; versions.at(2, a).is_none());
+    assert!(rt; versions.at(0, a) == Some(b"1".as_slice()) && versions.at(2, a).is_none());
     let from_a = RangeRef { lo: a, hi: None };
     assert!(rt; is_pair(versions.range(0, from_a).next(), b"a", b"1"));
     assert!(rt; versions.range(2, from_a).next().is_none());

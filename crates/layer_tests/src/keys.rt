@@ -1,8 +1,7 @@
-//! Keys, maps and writes.
+//! Keys and maps.
 use crate::helpers::{is_pair, key, put};
-use model::{Key, KeyRef, Map, Write};
+use model::{KeyRef, Map};
 use std::cmp::Ordering;
-use std::test::Fail;
 
 fn length(bytes: &[u8]) -> Option<usize> {
     Some(KeyRef::new(bytes)?.bytes().len())
@@ -55,16 +54,4 @@ fn maps_keep_the_last_value(rt: HostRuntime) {
     assert!(rt; is_pair(pairs.next(), b"b", b"4"));
     assert!(rt; pops(&mut map, b"a", b"2"));
     assert!(rt; map.len() == 1);
-}
-
-#[test]
-fn writes_have_a_value_or_none(rt: HostRuntime) -> Result<(), Fail> {
-    let value = Vec::from_slice(rt.alloc(), b"1")?;
-    let mut write = Write::new(Key::from_ref(rt.alloc(), key(b"k"))?, Some(value));
-    assert!(rt; write.compare(b"l") == Ordering::Less);
-    assert!(rt; write.value() == Some(b"1".as_slice()));
-    write.set_value(None);
-    let (name, value) = write.into_parts();
-    assert!(rt; value.is_none() && name.into_bytes().as_slice() == b"k".as_slice());
-    Ok(())
 }

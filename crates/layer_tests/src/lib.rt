@@ -10,12 +10,8 @@ mod kept;
 #[cfg(test)]
 mod keys;
 #[cfg(test)]
-mod marked;
-#[cfg(test)]
 mod replies;
 #[cfg(test)]
 mod requests;
 #[cfg(test)]
 mod transactions;
-#[cfg(test)]
-mod written;

@@ -123,9 +123,27 @@ static DELETED_KEY: [Step; 5] = [
     Step::Get(b"b", None),
 ];
 
+static READS_AND_WRITES: [Step; 13] = [
+    Step::IsRead(b"a", false),
+    Step::Get(b"a", Some(b'1')),
+    Step::Range(b"b", b"d", 1, &[(b'b', b'1')]),
+    Step::IsRead(b"a", true),
+    Step::IsRead(b"b", true),
+    Step::IsRead(b"c", true),
+    Step::Set(b"d", b'1'),
+    Step::Set(b"a", b'2'),
+    Step::Set(b"d", b'3'),
+    Step::Delete(b"a"),
+    Step::Get(b"d", Some(b'3')),
+    Step::Get(b"a", None),
+    // What it wrote itself it has not read.
+    Step::IsRead(b"d", false),
+];
+
 #[test]
 fn worked_steps(rt: HostRuntime) {
-    let rows: [(&[u8], &[Step]); 3] = [
+    let rows: [(&[u8], &[Step]); 4] = [
+        (b"ab", &READS_AND_WRITES),
         (b"bd", &RANGE_OVER_OWN_WRITES),
         (b"ab", &BOUNDS_AND_LIMITS),
         (b"a", &DELETED_KEY),
@@ -162,7 +180,7 @@ fn two_hundred_fifty_six_marks(rt: HostRuntime) -> Result<(), Fail> {
 fn sixty_four_writes(rt: HostRuntime) {
     let mut t = Transaction::new(rt.alloc(), 7);
     for i in 0..64u8 {
-        assert!(rt; t.put(key(&[i]), b"1").is_ok());
+        assert!(rt; t.put(key(&[63 - i]), b"1").is_ok());
     }
     assert!(rt; t.put(key(b"z"), b"1") == Err(SnapshotFault::FullWrites));
     assert!(rt; t.put(key(&[63]), b"2").is_ok());
