@@ -73,8 +73,8 @@ fn bytes_one_at_a_time(rt: HostRuntime) -> Result<(), Fail> {
 
 fn expect<S: Store>(alloc: Global, store: &mut S, asked: &str, due: &str) -> Result<(), Fail> {
     let reply = reply_to(alloc, store, asked)?;
-    if reply.as_slice() != due.as_bytes() {
-        Err(format!(in alloc; "{asked}: {reply:?}")?)?;
+    if reply.as_str() != due {
+        Err(format!(in alloc; "{asked}: {reply}")?)?;
     }
     Ok(())
 }

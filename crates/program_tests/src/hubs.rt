@@ -1,5 +1,6 @@
 //! Hubs over devices in memory.
-ghost use Rattle.std.specs.Prelude.{◌≤◌};
+ghost use Rattle.std.specs.Prelude.{◌≤◌, IfOk};
+ghost use Rattle.stream_driver.specs.Sessions.{Stands};
 
 use commit_log::format;
 use engine::Engine;
@@ -13,6 +14,7 @@ use std::test::Fail;
 /// A hub over a formatted device of so many sectors.
 pub(crate) fn new_hub(alloc: Global, sectors: u64) -> Result<Hub<MemSectors>, Fail>
     requires { sectors ≤ 65536 }
+    ensures { IfOk result (λ hub. Stands hub) }
 {
     let mut device = MemSectors::new(alloc, sectors)?;
     format(&mut device)?;

@@ -76,7 +76,7 @@ fn expect_row<S: Store>(
 ) -> Result<(), Fail> {
     match first_difference(alloc, store, lines)? {
         None => Ok(()),
-        Some((i, reply)) => Err(format!(in alloc; "{name} at line {i}: {reply:?}")?)?,
+        Some((asked, reply)) => Err(format!(in alloc; "{name}: {asked}: {reply}")?)?,
     }
 }
 

@@ -1,24 +1,22 @@
 //! Three commits of one key each on 16 sectors, with a crash and a failure at each device call of theirs.
-ghost use Rattle.std.specs.Prelude.{◌≤◌, ◌<◌, ◌^◌};
+ghost use Rattle.std.specs.Prelude.{◌≤◌};
 
-use crate::side_by_side::{OPENING, empty_log};
+use crate::side_by_side::{OPENING, empty_log, opened};
 use crate::stopping::Stopping;
+use crate::stores::{Store, first_difference, reply_to};
 use crate::worked::Line;
-use crate::{Decoding, EngineStore, Store, first_difference, reply_to};
 use commit_log::LogFault;
 use engine::Engine;
 use model::Memory;
-use sector::{MemSectors, Sector, Sectors};
+use sector::{MemSectors, Sector};
 use std::alloc::Global;
+use std::process::Abort;
 use std::test::Fail;
 
 const SECTORS: u64 = 16;
 
 /// The device calls of a commit: writes of the body and of a closed gate, a sync, a write of the open gate, a sync.
-const CALLS: u64 = 5;
-
-/// The write of the open gate.
-const GATE_CALL: u64 = 4;
+const CALLS: u8 = 5;
 
 static COMMITS: [[Line; 3]; 3] = [
     [("1 BEGIN", "+OK"), ("1 SET a 1", "+OK"), ("1 COMMIT", ":1")],
@@ -26,7 +24,9 @@ static COMMITS: [[Line; 3]; 3] = [
     [("1 BEGIN", "+OK"), ("1 SET c 1", "+OK"), ("1 COMMIT", ":3")],
 ];
 
-/// What is answered after a fault, where session 9 began before the commits.
+static BYSTANDER: [Line; 1] = [("9 BEGIN", "+OK")];
+
+/// What is answered behind a fault, where the bystander began before the commits.
 static STOPPED: [Line; 4] = [
     ("1 BEGIN", "-STORE stopped"),
     ("9 GET a", "$-1"),
@@ -43,7 +43,7 @@ static FOUND: [&str; 4] = [
 ];
 
 /// What a crash leaves in an unsettled sector.
-#[derive(Clone, Copy, Debug, PartialEq, Eq)]
+#[derive(Clone, Copy, Debug)]
 enum Fill {
     Zeros,
     Highest,
@@ -66,132 +66,109 @@ impl Fill {
     }
 }
 
-/// How many commits were acknowledged, and how many are found then.
-#[derive(Clone, Copy, Debug, PartialEq, Eq)]
-struct Run {
-    acknowledged: u64,
-    found: u64,
-}
-
-/// What is due after so many device calls, where so many have ended. Until a commit's last call has ended its gate is unsettled, and
-/// byte 0 of what the crash leaves there tells whether the commit is found.
-fn due(fill: Fill, begun: u64, ended: u64) -> Run
-    requires { (begun < 2 ^ 32) × (ended ≤ begun) }
-{
-    let acknowledged = ended / CALLS;
-    let opened = acknowledged * CALLS + GATE_CALL;
-    let is_found = match fill {
-        Fill::Ones => begun >= opened,
-        Fill::New => ended >= opened,
+/// Is the commit found that is under way, where so many of its device calls have ended? Its gate is unsettled from the fourth call to
+/// the end of the fifth, and the record stands where byte 0 of the gate is 1.
+fn is_found(ended: u8, within_next: bool, fill: Fill) -> bool {
+    match fill {
+        Fill::Ones => ended == 4 || ended == 3 && within_next,
+        Fill::New => ended == 4,
         Fill::Zeros | Fill::Highest | Fill::Old => false,
-    };
-    Run {
-        acknowledged,
-        found: if is_found {
-            acknowledged + 1
-        } else {
-            acknowledged
-        },
     }
 }
 
-fn opened<D: Sectors>(alloc: Global, device: D) -> Result<Decoding<EngineStore<D>>, LogFault> {
-    let engine = Engine::open(alloc, device)?;
-    Ok(Decoding {
-        store: EngineStore {
-            engine,
-            reclaims: true,
-        },
+/// Commits until a reply isn't the commit's number: how many are acknowledged, and whether the other reply tells of a fault.
+fn commit_all<S: Store>(alloc: Global, store: &mut S) -> Result<(usize, bool), Memory> {
+    for (i, lines) in COMMITS.iter().enumerate() {
+        if let Some((_, reply)) = first_difference(alloc, store, lines)? {
+            return Ok((i, reply.as_str() == "-STORE fault"));
+        }
+    }
+    Ok((COMMITS.len(), false))
+}
+
+/// Commits until a fault: how many are acknowledged, where the store has then stopped.
+fn commit_to_fault<S: Store>(alloc: Global, store: &mut S) -> Result<Option<usize>, Memory> {
+    let begun = first_difference(alloc, store, &BYSTANDER)?.is_none();
+    let (count, is_fault) = commit_all(alloc, store)?;
+    let stopped = first_difference(alloc, store, &STOPPED)?.is_none();
+    Ok(if begun && is_fault && stopped {
+        Some(count)
+    } else {
+        None
     })
 }
 
-/// Commits until the store doesn't answer the commit's number: how many it answered, and the other reply.
-fn commit_all<S: Store>(alloc: Global, store: &mut S) -> Result<(u64, Vec<u8>), Memory> {
-    let mut acknowledged = 0u64;
-    for lines in &COMMITS {
-        if let Some((_, reply)) = first_difference(alloc, store, lines)? {
-            return Ok((acknowledged, reply));
+/// How many of the commits the store has.
+fn found_by<S: Store>(alloc: Global, store: &mut S) -> Result<usize, Fail> {
+    let _begun = reply_to(alloc, store, "1 BEGIN")?;
+    let pairs = reply_to(alloc, store, "1 RANGE \0 \"\" 9")?;
+    for (i, due) in FOUND.iter().enumerate() {
+        if pairs.as_str() == *due {
+            return Ok(i);
         }
-        acknowledged = acknowledged.saturating_add(1);
     }
-    Ok((acknowledged, Vec::new(alloc)))
+    Err(Fail::new("other pairs"))
 }
 
 /// How many of the commits are found after a crash.
-fn found(alloc: Global, device: MemSectors, fill: Fill) -> Result<u64, Fail> {
+fn found(alloc: Global, device: MemSectors, fill: Fill) -> Result<usize, Fail> {
     let left = device.crash(|_, settled, written| fill.content(settled, written));
-    let mut store = opened(alloc, left)?;
-    let _begun = reply_to(alloc, &mut store, "1 BEGIN")?;
-    let pairs = reply_to(alloc, &mut store, "1 RANGE \0 \"\" 9")?;
-    match FOUND
-        .iter()
-        .position(|text| text.as_bytes() == pairs.as_slice())
-    {
-        Some(count) => Ok(count as u64),
-        None => Err("other pairs")?,
-    }
+    let mut store = opened(alloc, left, true)?;
+    found_by(alloc, &mut store)
 }
 
-/// A crash after so many device calls.
-fn stopped_after(alloc: Global, calls: u64, fill: Fill) -> Result<Run, Fail>
-    requires { calls < 2 ^ 32 }
-{
-    let device = Stopping::new(empty_log(alloc, SECTORS)?, OPENING + calls);
-    let mut store = opened(alloc, device)?;
-    let (acknowledged, _) = commit_all(alloc, &mut store)?;
-    let found = found(alloc, store.store.engine.into_device().device, fill)?;
-    Ok(Run {
-        acknowledged,
-        found,
-    })
+/// How many commits are acknowledged, and how many are found, where the device stops after so many calls.
+fn stopped_after(alloc: Global, calls: u8, fill: Fill) -> Result<(usize, usize), Fail> {
+    let device = Stopping::new(empty_log(alloc, SECTORS)?, OPENING + u64::from(calls));
+    let mut store = opened(alloc, device, true)?;
+    let outcome = commit_all(alloc, &mut store);
+    let device = store.store.engine.into_device().device;
+    let (count, _) = outcome?;
+    Ok((count, found(alloc, device, fill)?))
 }
 
-/// A failure of this device call, the first being 1, and a crash.
-fn failed_at(alloc: Global, call: u64, fill: Fill) -> Result<Run, Fail>
-    requires { call < 2 ^ 32 }
-{
+/// The same where this device call fails, and a crash comes once the store has told so.
+fn failed_at(alloc: Global, call: u8, fill: Fill) -> Result<(usize, usize), Fail> {
     let mut device = empty_log(alloc, SECTORS)?;
-    device.fail_call(OPENING + call);
-    let mut store = opened(alloc, device)?;
-    let _begun = reply_to(alloc, &mut store, "9 BEGIN")?;
-    let (acknowledged, reply) = commit_all(alloc, &mut store)?;
-    if reply.as_slice() != b"-STORE fault".as_slice() {
-        Err("no fault")?;
+    device.fail_call(OPENING + u64::from(call));
+    let mut store = opened(alloc, device, true)?;
+    let outcome = commit_to_fault(alloc, &mut store);
+    let device = store.store.engine.into_device();
+    let count = outcome?.ok_or("no stop by a fault")?;
+    Ok((count, found(alloc, device, fill)?))
+}
+
+/// Runs a crash after so many device calls, or within the next one, which fails.
+fn expect_at(rt: &impl Abort, alloc: Global, ended: u8, within_next: bool) -> Result<(), Fail> {
+    for fill in FILLS {
+        let run = if within_next {
+            failed_at(alloc, ended.saturating_add(1), fill)?
+        } else {
+            stopped_after(alloc, ended, fill)?
+        };
+        let count = usize::from(ended / CALLS);
+        let more = usize::from(is_found(ended % CALLS, within_next, fill));
+        assert_eq!(rt;
+            run,
+            (count, count.saturating_add(more)),
+            "after {ended} {fill:?}"
+        );
     }
-    if first_difference(alloc, &mut store, &STOPPED)?.is_some() {
-        Err("not stopped")?;
-    }
-    let found = found(alloc, store.store.engine.into_device(), fill)?;
-    Ok(Run {
-        acknowledged,
-        found,
-    })
+    Ok(())
 }
 
 #[test]
 fn crash_after_each_device_call(rt: HostRuntime) -> Result<(), Fail> {
-    for fill in FILLS {
-        for calls in 0..16 {
-            assert_eq!(rt;
-                stopped_after(rt.alloc(), calls, fill)?,
-                due(fill, calls, calls),
-                "{fill:?} after {calls}"
-            );
-        }
+    for ended in 0..16 {
+        expect_at(&rt, rt.alloc(), ended, false)?;
     }
     Ok(())
 }
 
 #[test]
 fn failure_of_each_device_call(rt: HostRuntime) -> Result<(), Fail> {
-    for fill in FILLS {
-        for call in 1..16 {
-            assert_eq!(rt;
-                failed_at(rt.alloc(), call, fill)?,
-                due(fill, call, call - 1),
-                "{fill:?} at {call}"
-            );
-        }
+    for ended in 0..15 {
+        expect_at(&rt, rt.alloc(), ended, true)?;
     }
     Ok(())
 }

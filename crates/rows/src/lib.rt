@@ -1,9 +1,12 @@
-//! Worked rows: what sessions ask, line by line, and what each line is answered. Every store of this repository is run over them.
+//! Worked rows: what sessions ask, line by line, and what each line is answered. Each runs over a plain engine and over the engine, and
+//! its committed transactions run again one at a time. Three commits run with a crash and a failure at each device call.
 #![tactic(auto)]
 
 #[cfg(test)]
 mod crashes;
+#[cfg(test)]
 mod lines;
+#[cfg(test)]
 mod plain;
 #[cfg(test)]
 mod replays;
@@ -11,13 +14,11 @@ mod replays;
 mod side_by_side;
 #[cfg(test)]
 mod stopping;
+#[cfg(test)]
 mod stored;
+#[cfg(test)]
 mod stores;
 #[cfg(test)]
 mod tests;
-pub mod worked;
-
-pub use lines::{frame_of, shown};
-pub use plain::PlainStore;
-pub use stored::EngineStore;
-pub use stores::{Decoding, Serves, Store, first_difference, reply_to};
+#[cfg(test)]
+mod worked;

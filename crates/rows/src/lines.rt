@@ -4,26 +4,21 @@ use std::alloc::Global;
 
 /// The session of a line, 0 where the label is no number, and the frame of its request. `Memory` where it is refused.
 pub fn frame_of(alloc: Global, line: &str) -> Result<(u64, Vec<u8>), Memory> {
-    let mut words = Vec::new(alloc);
-    for word in line.split_whitespace() {
-        words.push(word)?;
-    }
+    let (label, request) = line.split_once(' ').unwrap_or((line, ""));
     let mut frame = Vec::new(alloc);
-    let Some((label, parts)) = words.split_first() else {
-        return Ok((0, frame));
-    };
-    append_count(alloc, &mut frame, b"*", parts.len())?;
-    for part in parts {
-        let bytes: &[u8] = if *part == "\"\"" {
-            b""
-        } else {
-            part.as_bytes()
-        };
-        append_count(alloc, &mut frame, b"$", bytes.len())?;
-        frame.extend_from_slice(bytes)?;
-        frame.extend_from_slice(b"\r\n")?;
+    append_count(alloc, &mut frame, b"*", request.split_whitespace().count())?;
+    for part in request.split_whitespace() {
+        append_part(alloc, &mut frame, part)?;
     }
     Ok((label.parse::<u64>().unwrap_or(0), frame))
+}
+
+fn append_part(alloc: Global, frame: &mut Vec<u8>, part: &str) -> Result<(), Memory> {
+    let bytes: &[u8] = if part == "\"\"" { b"" } else { part.as_bytes() };
+    append_count(alloc, frame, b"$", bytes.len())?;
+    frame.extend_from_slice(bytes)?;
+    frame.extend_from_slice(b"\r\n")?;
+    Ok(())
 }
 
 fn append_count(
@@ -40,13 +35,13 @@ fn append_count(
 }
 
 /// A reply's text as one line: its last line end is dropped, and each other one is a space. `Memory` where it is refused.
-pub fn shown(alloc: Global, reply: &[u8]) -> Result<Vec<u8>, Memory> {
-    let mut line = Vec::new(alloc);
+pub fn shown(alloc: Global, reply: &[u8]) -> Result<String, Memory> {
+    let mut line = String::new(alloc);
     for byte in reply {
         match *byte {
             b'\r' => {}
-            b'\n' => line.push(b' ')?,
-            other => line.push(other)?,
+            b'\n' => line.push(' ')?,
+            other => line.push(char::from(other))?,
         }
     }
     line.pop();

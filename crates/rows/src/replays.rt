@@ -1,11 +1,10 @@
 //! The committed transactions of a row, run again one at a time by a plain function: each request is answered by the map that the
 //! transaction before left.
 use crate::side_by_side::SideBySide;
+use crate::stores::{Store, first_difference, reply_to};
 use crate::worked::{self, Line};
-use crate::{first_difference, reply_to};
 use std::alloc::{AllocError, Global};
 use std::collections::BTreeMap;
-use std::process::Abort;
 use std::test::Fail;
 
 type Text = &'static str;
@@ -30,49 +29,75 @@ struct Transaction {
     steps: Vec<(Asked, Text)>,
 }
 
-fn parsed(alloc: Global, request: Text) -> Result<Asked, AllocError> {
-    let mut words = Vec::new(alloc);
-    for word in request.split_whitespace() {
-        words.push(word)?;
-    }
-    Ok(match words.as_slice() {
-        [name, key] if *name == "GET" => Asked::Get(key),
-        [name, key, value] if *name == "SET" => Asked::Set(key, value),
-        [name, key] if *name == "DEL" => Asked::Del(key),
-        [name, lo, hi, limit] if *name == "RANGE" => {
-            Asked::Range(lo, hi, limit.parse::<usize>().unwrap_or(0))
-        }
+fn parsed(request: Text) -> Asked {
+    let mut words = request.split_whitespace();
+    let name = words.next().unwrap_or("");
+    let key = words.next().unwrap_or("");
+    let other = words.next().unwrap_or("");
+    let limit = words.next().unwrap_or("");
+    match name {
+        "GET" => Asked::Get(key),
+        "SET" => Asked::Set(key, other),
+        "DEL" => Asked::Del(key),
+        "RANGE" => Asked::Range(key, other, limit.parse::<usize>().unwrap_or(0)),
         _ => Asked::Other,
-    })
+    }
+}
+
+/// The transactions of the lines so far: those that are open, by session, and those that committed, in the order of their commits.
+#[derive(Drop)]
+struct Found {
+    open: BTreeMap<Text, Transaction>,
+    committed: Vec<Transaction>,
+}
+
+impl Found {
+    fn begin(&mut self, alloc: Global, session: Text) -> Result<(), AllocError> {
+        let transaction = Transaction {
+            begin: self.committed.len() as u64,
+            commit: 0,
+            steps: Vec::new(alloc),
+        };
+        self.open.insert(session, transaction)?;
+        Ok(())
+    }
+
+    fn commit(&mut self, session: Text, reply: Text) -> Result<(), AllocError> {
+        let Some(mut transaction) = self.open.remove(session) else {
+            return Ok(());
+        };
+        if let Some(number) = reply.strip_prefix(':') {
+            transaction.commit = number.parse::<u64>().unwrap_or(0);
+            self.committed.push(transaction)?;
+        }
+        Ok(())
+    }
+
+    fn take(&mut self, alloc: Global, line: Line) -> Result<(), AllocError> {
+        let (session, request) = line.0.split_once(' ').unwrap_or(("", ""));
+        match request {
+            "BEGIN" => self.begin(alloc, session),
+            "COMMIT" => self.commit(session, line.1),
+            _ => {
+                if let Some(transaction) = self.open.get_mut(session) {
+                    transaction.steps.push((parsed(request), line.1))?;
+                }
+                Ok(())
+            }
+        }
+    }
 }
 
 /// The transactions of a row that committed, in the order of their commits.
-fn committed(alloc: Global, row: &[Line]) -> Result<Vec<Transaction>, Fail> {
-    let mut open = BTreeMap::new(alloc);
-    let mut done: Vec<Transaction> = Vec::new(alloc);
+fn committed(alloc: Global, row: &[Line]) -> Result<Vec<Transaction>, AllocError> {
+    let mut found = Found {
+        open: BTreeMap::new(alloc),
+        committed: Vec::new(alloc),
+    };
     for line in row {
-        let (text, reply) = *line;
-        let (session, request) = text.split_once(' ').ok_or("a line has two words")?;
-        if request == "BEGIN" {
-            let transaction = Transaction {
-                begin: done.len() as u64,
-                commit: 0,
-                steps: Vec::new(alloc),
-            };
-            open.insert(session, transaction)?;
-        } else if request == "COMMIT" {
-            let Some(mut transaction) = open.remove(session) else {
-                continue;
-            };
-            if let Some(number) = reply.strip_prefix(':') {
-                transaction.commit = number.parse::<u64>().ok().ok_or("a number")?;
-                done.push(transaction)?;
-            }
-        } else if let Some(transaction) = open.get_mut(session) {
-            transaction.steps.push((parsed(alloc, request)?, reply))?;
-        }
+        found.take(alloc, *line)?;
     }
-    Ok(done)
+    Ok(found.committed)
 }
 
 /// The key that a request writes.
@@ -128,12 +153,17 @@ fn place(all: &[Transaction], t: &Transaction) -> (u64, u64, u64) {
     (t.commit, 1, 0)
 }
 
+fn places(alloc: Global, all: &[Transaction]) -> Result<Vec<(u64, u64, u64)>, AllocError> {
+    let mut places = Vec::new(alloc);
+    for t in all {
+        places.push(place(all, t))?;
+    }
+    Ok(places)
+}
+
 /// Takes the transactions out in the order of their places.
 fn by_place(alloc: Global, mut all: Vec<Transaction>) -> Result<Vec<Transaction>, AllocError> {
-    let mut places = Vec::new(alloc);
-    for t in &all {
-        places.push(place(&all, t))?;
-    }
+    let mut places = places(alloc, &all)?;
     let mut sorted = Vec::new(alloc);
     for _ in 0..all.len() {
         if let Some(i) = least(&places) {
@@ -187,46 +217,82 @@ fn range(
     hi: Text,
     limit: usize,
 ) -> Result<String, AllocError> {
-    let mut pairs = format!(in alloc; "")?;
+    let mut pairs = String::new(alloc);
     let mut count = 0usize;
     for (key, value) in map.iter() {
         if count < limit && is_within(lo, hi, key) {
             count += 1;
-            let pair = format!(in alloc; " ${} {key} ${} {value}", key.len(), value.len())?;
-            pairs.push_str(&pair)?;
+            append_pair(alloc, &mut pairs, key, value)?;
         }
     }
     format!(in alloc; "*{}{pairs}", count as u128 * 2)
 }
 
-/// Runs the transactions one after another from the empty map: the map that they leave, and the first reply that isn't the one that
-/// was given.
-fn replay(alloc: Global, all: &[Transaction]) -> Result<(Contents, Option<String>), AllocError> {
-    let mut map = BTreeMap::new(alloc);
-    let mut wrong = None;
-    for t in all {
-        for step in &t.steps {
-            let reply = answer(alloc, &mut map, step.0)?;
-            if wrong.is_none() && reply.as_str() != step.1 {
-                wrong = Some(reply);
-            }
-        }
-    }
-    Ok((map, wrong))
+fn append_pair(
+    alloc: Global,
+    pairs: &mut String,
+    key: Text,
+    value: Text,
+) -> Result<(), AllocError> {
+    let pair = format!(in alloc; " ${} {key} ${} {value}", key.len(), value.len())?;
+    pairs.push_str(&pair)
 }
 
-/// Runs a row over each store, and its committed transactions one at a time: each reply and the final map are the same.
-fn expect_replay(rt: &impl Abort, alloc: Global, sectors: u64, row: &[Line]) -> Result<(), Fail> {
-    let sorted = by_place(alloc, committed(alloc, row)?)?;
-    let (map, wrong) = replay(alloc, &sorted)?;
-    assert!(rt; wrong.is_none(), "{wrong:?}");
+/// What a replay gives.
+#[derive(Drop)]
+enum Replayed {
+    /// The replies that were given, and at the end this whole map.
+    Same(String),
+    /// This reply, the first that isn't the one that was given.
+    Other(String),
+}
+
+/// Runs the transactions one after another from the empty map.
+fn replay(alloc: Global, all: &[Transaction]) -> Result<Replayed, AllocError> {
+    let mut map = BTreeMap::new(alloc);
+    for t in all {
+        if let Some(reply) = first_other_reply(alloc, &mut map, &t.steps)? {
+            return Ok(Replayed::Other(reply));
+        }
+    }
+    Ok(Replayed::Same(range(alloc, &map, "\0", "\"\"", 128)?))
+}
+
+fn first_other_reply(
+    alloc: Global,
+    map: &mut Contents,
+    steps: &[(Asked, Text)],
+) -> Result<Option<String>, AllocError> {
+    for step in steps {
+        let reply = answer(alloc, map, step.0)?;
+        if reply.as_str() != step.1 {
+            return Ok(Some(reply));
+        }
+    }
+    Ok(None)
+}
+
+/// The whole map behind a row, as each store answers it.
+fn map_behind(alloc: Global, sectors: u64, row: &[Line]) -> Result<String, Fail> {
     let mut stores = SideBySide::new(alloc, sectors, false)?;
-    assert!(rt; first_difference(alloc, &mut stores, row)?.is_none());
-    let _begun = reply_to(alloc, &mut stores, "99 BEGIN")?;
-    let found = reply_to(alloc, &mut stores, "99 RANGE \0 \"\" 128")?;
-    let due = range(alloc, &map, "\0", "\"\"", 128)?;
-    assert_eq!(rt; found.as_slice(), due.as_bytes());
-    Ok(())
+    map_by(alloc, &mut stores, row)
+}
+
+fn map_by<S: Store>(alloc: Global, store: &mut S, row: &[Line]) -> Result<String, Fail> {
+    if first_difference(alloc, store, row)?.is_some() {
+        return Err(Fail::new("the row is answered otherwise"));
+    }
+    let _begun = reply_to(alloc, store, "99 BEGIN")?;
+    Ok(reply_to(alloc, store, "99 RANGE \0 \"\" 128")?)
+}
+
+/// Are the committed transactions of a row answered alike in the serial order, and do they leave the same map?
+fn is_replayed(alloc: Global, sectors: u64, row: &[Line]) -> Result<bool, Fail> {
+    let sorted = by_place(alloc, committed(alloc, row)?)?;
+    match replay(alloc, &sorted)? {
+        Replayed::Same(map) => Ok(map.as_str() == map_behind(alloc, sectors, row)?.as_str()),
+        Replayed::Other(_reply) => Ok(false),
+    }
 }
 
 #[test]
@@ -248,25 +314,24 @@ fn serial_order_gives_the_same_replies_and_map(rt: HostRuntime) -> Result<(), Fa
         &worked::SERIAL_ORDER_IS_NOT_COMMIT_ORDER,
         &worked::OLD_VERSION_IS_KEPT,
     ];
-    let alloc = rt.alloc();
-    for row in rows {
-        expect_replay(&rt, alloc, worked::SECTORS, row)?;
+    for (i, row) in rows.iter().enumerate() {
+        assert!(rt; is_replayed(rt.alloc(), worked::SECTORS, row)?, "row {i}");
     }
-    expect_replay(&rt, alloc, worked::LOG_FULL_SECTORS, &worked::LOG_FULL)
+    assert!(rt; is_replayed(rt.alloc(), worked::LOG_FULL_SECTORS, &worked::LOG_FULL)?);
+    Ok(())
 }
 
+/// Two transactions, of which the first in the order of commits is the second in the serial order.
 #[test]
 fn commit_order_gives_another_reply(rt: HostRuntime) -> Result<(), Fail> {
     let alloc = rt.alloc();
     let all = committed(alloc, &worked::SERIAL_ORDER_IS_NOT_COMMIT_ORDER)?;
-    assert_eq!(rt; all.len(), 2);
-    assert_eq!(rt; place(&all, &all[0]), (1, 1, 0));
-    assert_eq!(rt; place(&all, &all[1]), (1, 0, 2));
-    let (_, wrong) = replay(alloc, &all)?;
-    let reply = wrong.ok_or("the same replies")?;
-    assert_eq!(rt; reply.as_str(), "$1 1");
-    let sorted = by_place(alloc, all)?;
-    assert_eq!(rt; sorted.len(), 2);
-    assert_eq!(rt; sorted[0].commit, 2);
+    let places = places(alloc, &all)?;
+    assert_eq!(rt; places.as_slice(), [(1, 1, 0), (1, 0, 2)].as_slice());
+    let is_other = match replay(alloc, &all)? {
+        Replayed::Same(_map) => false,
+        Replayed::Other(reply) => reply.as_str() == "$1 1",
+    };
+    assert!(rt; is_other);
     Ok(())
 }

@@ -1,11 +1,13 @@
 //! The stores that the rows are run over, asked side by side.
 ghost use Rattle.std.specs.Prelude.{◌≡◌, IfOk};
 
-use crate::{Decoding, EngineStore, PlainStore, Store};
-use commit_log::format;
+use crate::plain::PlainStore;
+use crate::stored::EngineStore;
+use crate::stores::{Decoding, Store};
+use commit_log::{LogFault, format};
 use engine::Engine;
 use model::Memory;
-use sector::MemSectors;
+use sector::{MemSectors, Sectors};
 use std::alloc::Global;
 use std::test::Fail;
 
@@ -21,6 +23,18 @@ pub fn empty_log(alloc: Global, sectors: u64) -> Result<MemSectors, Fail>
     Ok(device.crash(|_, settled, _| *settled))
 }
 
+/// The engine over what a device holds.
+pub fn opened<D: Sectors>(
+    alloc: Global,
+    device: D,
+    reclaims: bool,
+) -> Result<Decoding<EngineStore<D>>, LogFault> {
+    let engine = Engine::open(alloc, device)?;
+    Ok(Decoding {
+        store: EngineStore { engine, reclaims },
+    })
+}
+
 /// The engine over the empty map, on a device whose first call after the opening fails, or none.
 pub fn engine_store(
     alloc: Global,
@@ -32,10 +46,7 @@ pub fn engine_store(
     if device_fails {
         device.fail_call(OPENING + 1);
     }
-    let engine = Engine::open(alloc, device)?;
-    Ok(Decoding {
-        store: EngineStore { engine, reclaims },
-    })
+    Ok(opened(alloc, device, reclaims)?)
 }
 
 /// The plain engine, an engine that keeps all, and one that reclaims. A reply is that of each of them; where one answers otherwise,

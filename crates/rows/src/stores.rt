@@ -2,6 +2,7 @@
 ghost use Rattle.model.specs.Operations.{IsFit};
 
 use crate::lines::{frame_of, shown};
+use crate::worked::Line;
 use model::{Command, Memory, Refusal, Reply};
 use resp::{Decoded, command, decode, write_reply};
 use std::alloc::Global;
@@ -47,25 +48,25 @@ impl<S: Serves + Drop> Store for Decoding<S> {
 }
 
 /// What the store replies to a line, as one line. `Memory` where it is refused.
-pub fn reply_to<S: Store>(alloc: Global, store: &mut S, line: &str) -> Result<Vec<u8>, Memory> {
+pub fn reply_to<S: Store>(alloc: Global, store: &mut S, line: &str) -> Result<String, Memory> {
     let (session, frame) = frame_of(alloc, line)?;
     let mut out = Vec::new(alloc);
     store.answer(session, &frame, &mut out)?;
     shown(alloc, &out)
 }
 
-/// The place of the first line of a row that the store answers otherwise, with its reply, and `None` where there is none. `Memory`
-/// where it is refused.
+/// The first line of a row that the store answers otherwise, with its reply, and `None` where there is none. `Memory` where it is
+/// refused.
 pub fn first_difference<S: Store>(
     alloc: Global,
     store: &mut S,
-    row: &[(&str, &str)],
-) -> Result<Option<(usize, Vec<u8>)>, Memory> {
-    for (i, line) in row.iter().enumerate() {
+    row: &[Line],
+) -> Result<Option<(&'static str, String)>, Memory> {
+    for line in row {
         let (asked, due) = *line;
         let reply = reply_to(alloc, store, asked)?;
-        if reply.as_slice() != due.as_bytes() {
-            return Ok(Some((i, reply)));
+        if reply.as_str() != due {
+            return Ok(Some((asked, reply)));
         }
     }
     Ok(None)

@@ -1,7 +1,8 @@
 //! Each row over each store.
 use crate::side_by_side::{SideBySide, engine_store};
+use crate::stored::EngineStore;
+use crate::stores::{Decoding, Store, first_difference, reply_to};
 use crate::worked::{self, Counted, Line};
-use crate::{Decoding, EngineStore, Store, first_difference, reply_to};
 use model::KeyRef;
 use sector::Sectors;
 use std::alloc::{AllocError, Global};
@@ -22,7 +23,7 @@ fn run(rt: &HostRuntime, row: &[Line]) -> Result<(), Fail> {
 fn expect_row<S: Store>(alloc: Global, store: &mut S, row: &[Line]) -> Result<(), Fail> {
     match first_difference(alloc, store, row)? {
         None => Ok(()),
-        Some((i, reply)) => Err(Fail::new(format_args!("at line {i}: {reply:?}"))),
+        Some((asked, reply)) => Err(Fail::new(format_args!("{asked}: {reply}"))),
     }
 }
 
@@ -44,8 +45,8 @@ fn expect_counted<S: Store>(alloc: Global, store: &mut S, counted: &Counted) -> 
     for number in from..to {
         let line = with_number(alloc, asked, number)?;
         let reply = reply_to(alloc, store, &line)?;
-        if reply.as_slice() != due.as_bytes() {
-            return Err(Fail::new(asked));
+        if reply.as_str() != due {
+            return Err(Fail::new(format_args!("{line}: {reply}")));
         }
     }
     Ok(())
