@@ -31,12 +31,11 @@ pub(crate) fn any_ready(table: &Slab<Entry<Socket>>) -> bool {
         .any(|(_, entry)| entry.state == EntryState::Ready)
 }
 
-// The poll tells of an entry: it is woken, and is to be driven if it waited.
-fn make_ready(entry: &mut Entry<Socket>, ended: bool)
+// An entry that waited is to be driven.
+fn make_ready(entry: &mut Entry<Socket>)
     ensures session { entry.new.session ≡ entry.old.session }
     ensures gone { entry.old.state ≡ EntryState.Gone → entry.new.state ≡ EntryState.Gone }
 {
-    entry.stream.wake(ended);
     if entry.state == EntryState::Idle {
         entry.state = EntryState::Ready;
     }
@@ -57,7 +56,7 @@ pub(crate) fn make_polled_ready<D: Sectors>(
     for event in events {
         let Token(key) = event.token();
         if let Some(entry) = table.get_mut(key) {
-            make_ready(entry, event.is_read_closed());
+            make_ready(entry);
         }
     }
 }

@@ -6,16 +6,9 @@ use stream_driver::{ReadAnswer, Stream, WriteAnswer};
 
 /// A TCP connection as a stream. It leaves open which bytes it moves. An interrupted call, and a write that takes no byte, are
 /// `Failed`; a read that gives none is `Ended`.
-///
-/// A read that gives fewer bytes than were asked for has taken all that had come. The poll tells of what comes later, so the next read
-/// is `Blocked` without a call of the system, until the poll has told.
 #[derive(Drop)]
 pub struct Socket {
     stream: TcpStream,
-    /// All that had come was read, and the poll has told of nothing since.
-    drained: bool,
-    /// The peer sends no more: the poll tells of no later end.
-    ending: bool,
     read_blocked: u64,
     read_failed: u64,
     read_ended: u64,
@@ -28,20 +21,12 @@ impl Socket {
     pub fn new(stream: TcpStream) -> Socket {
         Socket {
             stream,
-            drained: false,
-            ending: false,
             read_blocked: 0,
             read_failed: 0,
             read_ended: 0,
             write_blocked: 0,
             write_failed: 0,
         }
-    }
-
-    /// The poll tells of the connection, and whether its peer sends no more. Takes no memory.
-    pub(crate) fn wake(&mut self, ended: bool) {
-        self.drained = false;
-        self.ending = ended;
     }
 }
 
@@ -61,19 +46,12 @@ impl Stream for Socket {
     } };
 
     fn read(&mut self, into: &mut [u8]) -> ReadAnswer {
-        if self.drained {
-            self.read_blocked = self.read_blocked.saturating_add(1);
-            return ReadAnswer::Blocked;
-        }
         match self.stream.read(into) {
             Ok(0) => {
                 self.read_ended = self.read_ended.saturating_add(1);
                 ReadAnswer::Ended
             }
-            Ok(n) => {
-                self.drained = n < into.len() && !self.ending;
-                ReadAnswer::Moved(n)
-            }
+            Ok(n) => ReadAnswer::Moved(n),
             Err(error) if error.kind() == ErrorKind::WouldBlock => {
                 self.read_blocked = self.read_blocked.saturating_add(1);
                 ReadAnswer::Blocked
