@@ -6,7 +6,7 @@ use commit_log::format;
 use engine::Engine;
 use model::Memory;
 use rows::Store;
-use sector::MemSectors;
+use sector::{MemSectors, Sectors};
 use sessions::{Event, Hub, Outcome};
 use std::alloc::Global;
 use std::test::Fail;
@@ -18,6 +18,13 @@ pub(crate) fn new_hub(alloc: Global, sectors: u64) -> Result<Hub<MemSectors>, Fa
 {
     let mut device = MemSectors::new(alloc, sectors)?;
     format(&mut device)?;
+    opened(alloc, device)
+}
+
+/// A hub over a formatted device.
+pub(crate) fn opened<D: Sectors>(alloc: Global, device: D) -> Result<Hub<D>, Fail>
+    ensures { IfOk result (λ hub. Stands hub) }
+{
     let engine = Engine::open(alloc, device)?;
     Ok(Hub::new(alloc, engine))
 }

@@ -1,10 +1,8 @@
 //! The loop, with clients over sockets of the same process.
-use crate::hubs::new_hub;
+use crate::hubs::{new_hub, opened};
 use commands::{DONE, create, run};
-use engine::Engine;
 use event_loop::EventLoop;
 use sector::{FileSectors, Sectors};
-use sessions::Hub;
 use std::alloc::Global;
 use std::fs;
 use std::io::{self, Read, Write};
@@ -78,7 +76,7 @@ fn data_file(rt: HostRuntime) -> Result<(), Fail> {
     let _ = fs::remove_file(&rt, name);
     create(&rt, name, 4).map_err(|_| "create")?;
     let device = FileSectors::open(&rt, name)?;
-    let hub = Hub::new(rt.alloc(), Engine::open(rt.alloc(), device)?);
+    let hub = opened(rt.alloc(), device)?;
     let mut events = EventLoop::bind(&rt, rt.alloc(), anywhere(), hub)?;
     let mut client = TcpStream::connect(&rt, events.address()?)?;
     client.set_nonblocking(true)?;

@@ -4,7 +4,6 @@
 
 #[cfg(test)]
 mod crashes;
-#[cfg(test)]
 mod lines;
 #[cfg(test)]
 mod plain;
@@ -16,9 +15,10 @@ mod side_by_side;
 mod stopping;
 #[cfg(test)]
 mod stored;
-#[cfg(test)]
 mod stores;
 #[cfg(test)]
 mod tests;
-#[cfg(test)]
-mod worked;
+pub mod worked;
+
+pub use lines::{frame_of, shown};
+pub use stores::{Decoding, Serves, Store, first_difference, reply_to};
