@@ -1,0 +1,325 @@
+"""The program from outside: its processes, its connections, and the calls of its that fail."""
+import contextlib
+import errno
+import mmap
+import os
+import select
+import shutil
+import socket
+import struct
+import subprocess
+import sys
+import tempfile
+import time
+
+HERE = os.path.dirname(os.path.abspath(__file__))
+PROGRAM = os.environ.get("SSIKVD") or os.path.join(HERE, "..", "crates", "ssikvd", "out", "ssikvd")
+SHIM = os.path.join(HERE, "out", "refuse.so")
+PATIENCE = 20.0
+ALL = 2 ** 64 - 1
+
+OUT_OF_MEMORY = b"ssikvd: out of memory\n"
+DEVICE_FAULT = b"ssikvd: device fault\n"
+STORE_STOPPED = b"ssikvd: store stopped\n"
+
+
+class Deviation(Exception):
+    """The program did what it should not."""
+
+
+class Tally:
+    """What a harness found. Deviations of one text are counted together."""
+
+    TEXT_MAX = 600
+
+    def __init__(self, name):
+        self.name, self.runs, self.deviations = name, 0, {}
+
+    @contextlib.contextmanager
+    def run(self, what):
+        """One run, whose deviation is counted."""
+        self.runs += 1
+        try:
+            yield
+        except Deviation as found:
+            self._add(str(found), what)
+        except OSError as found:
+            self._add(f"{type(found).__name__}: {found}", what)
+
+    def _add(self, text, what):
+        self.deviations.setdefault(text[:self.TEXT_MAX], []).append(what)
+
+    def end(self, more=""):
+        """Prints the line of the harness, behind its deviations, and answers whether all held."""
+        for text, places in self.deviations.items():
+            print(f"  DEVIATION in {len(places)} runs, first {places[0]}, last {places[-1]}: {text}")
+        count = sum(len(places) for places in self.deviations.values())
+        verdict = f"{count} DEVIATIONS" if count else "all held"
+        print(f"{self.name}: {self.runs} runs, {verdict}{more}", flush=True)
+        return not count
+
+
+def expect(holds, text):
+    if not holds:
+        raise Deviation(text)
+
+
+# Calls that fail
+
+MEMORY, DEVICE, RECEIVE, SEND, ACCEPT = range(5)
+
+
+class Calls:
+    """The calls of one kind that a process makes: how many there were, and which fail."""
+
+    SIZE = 40
+
+    def __init__(self, shared, kind):
+        self.shared, self.place = shared, self.SIZE * kind
+        self.pass_on()
+
+    def _get(self, at):
+        return struct.unpack_from("=Q", self.shared, self.place + 8 * at)[0]
+
+    def _put(self, at, number):
+        struct.pack_into("=Q", self.shared, self.place + 8 * at, number)
+
+    @property
+    def made(self):
+        return self._get(0)
+
+    @property
+    def failed(self):
+        return self._get(1)
+
+    def fail(self, first, last=None, error=errno.ENOMEM):
+        """The calls from the first to the last, counted from 1, fail with this error; where it is 0 they move one byte."""
+        self._put(3, 0)
+        self._put(2, first)
+        self._put(4, error)
+        self._put(3, last or first)
+
+    def fail_all(self, error=errno.ENOMEM):
+        self.fail(1, ALL, error)
+
+    def pass_on(self):
+        self._put(3, 0)
+
+
+class Refusals:
+    """The calls of a process, by kind, which the shim shares."""
+
+    def __init__(self, folder_name):
+        self.name = os.path.join(folder_name, "refusals")
+        size = Calls.SIZE * (ACCEPT + 1)
+        with open(self.name, "wb") as file:
+            file.write(bytes(size))
+        with open(self.name, "r+b") as file:
+            self.shared = mmap.mmap(file.fileno(), size)
+        self.kinds = [Calls(self.shared, kind) for kind in range(ACCEPT + 1)]
+
+    def of(self, kind):
+        return self.kinds[kind]
+
+    def environment(self):
+        return {**os.environ, "LD_PRELOAD": SHIM, "REFUSE_CONTROL": self.name}
+
+
+# Processes
+
+@contextlib.contextmanager
+def folder():
+    """A folder that is removed at the end."""
+    name = tempfile.mkdtemp(prefix="ssikvd-harness-")
+    try:
+        yield name
+    finally:
+        shutil.rmtree(name, ignore_errors=True)
+
+
+def run(words, stdin=b"", environment=None):
+    """A command that ends by itself: its status, output and error output."""
+    ran = subprocess.run([PROGRAM, *words], input=stdin, capture_output=True, env=environment, timeout=PATIENCE)
+    return ran.returncode, ran.stdout, ran.stderr
+
+
+def create(data, sectors):
+    found = run(["create", "--data", data, "--sectors", str(sectors)])
+    expect(found == (0, b"", b""), f"create answered {found}")
+
+
+def check(data):
+    """The counts that `check` prints: records, keys, sectors used, sectors."""
+    status, out, err = run(["check", "--data", data])
+    words = out.decode(errors="replace").split()
+    fits = len(words) == 8 and words[0::2] == ["records", "keys", "sectors", "of"] and all(w.isdigit() for w in words[1::2])
+    expect(status == 0 and not err and fits, f"check answered {(status, out, err)}")
+    return tuple(int(w) for w in words[1::2])
+
+
+class Server:
+    """A running `serve`. It is ended by its own handle."""
+
+    def __init__(self, data, environment=None, limit=None):
+        words = [PROGRAM, "serve", "--data", data, "--listen", "127.0.0.1:0"]
+        self.errors = tempfile.TemporaryFile()
+        self.process = subprocess.Popen(
+            words, stdin=subprocess.DEVNULL, stdout=subprocess.PIPE, stderr=self.errors, env=environment, preexec_fn=limit)
+        self.line = self._first_line()
+        self.port = int(self.line.rsplit(b":", 1)[1]) if self.is_listening() else None
+
+    def _first_line(self):
+        line, end = b"", time.monotonic() + PATIENCE
+        while not line.endswith(b"\n"):
+            ready, _, _ = select.select([self.process.stdout], [], [], max(0.0, end - time.monotonic()))
+            piece = os.read(self.process.stdout.fileno(), 4_096) if ready else b""
+            if not piece:
+                break
+            line += piece
+        return line
+
+    def is_listening(self):
+        return self.line.startswith(b"listening 127.0.0.1:") and self.line.endswith(b"\n")
+
+    def is_alive(self):
+        return self.process.poll() is None
+
+    def status(self):
+        """The exit status of a server that ended by itself."""
+        try:
+            return self.process.wait(PATIENCE)
+        except subprocess.TimeoutExpired:
+            return None
+
+    def error_text(self):
+        self.errors.seek(0)
+        return self.errors.read()
+
+    def memory(self, name):
+        """A line of the process's status, in bytes, such as VmHWM."""
+        with open(f"/proc/{self.process.pid}/status", encoding="ascii") as file:
+            return next(1_024 * int(line.split()[1]) for line in file if line.startswith(name + ":"))
+
+    def processor_seconds(self):
+        with open(f"/proc/{self.process.pid}/stat", encoding="ascii") as file:
+            fields = file.read().rsplit(")", 1)[1].split()
+        return (int(fields[11]) + int(fields[12])) / os.sysconf("SC_CLK_TCK")
+
+    def kill(self):
+        if self.is_alive():
+            self.process.kill()
+        self.process.wait()
+        self.process.stdout.close()
+        self.errors.close()
+
+    def __enter__(self):
+        return self
+
+    def __exit__(self, *_):
+        self.kill()
+
+
+# Connections
+
+class Connection:
+    """A client. Whole replies are taken out of what came in."""
+
+    def __init__(self, port, timeout=PATIENCE, receive_buffer=None):
+        self.socket = socket.socket()
+        self.socket.settimeout(timeout)
+        if receive_buffer:
+            self.socket.setsockopt(socket.SOL_SOCKET, socket.SO_RCVBUF, receive_buffer)
+        self.socket.connect(("127.0.0.1", port))
+        self.socket.setsockopt(socket.IPPROTO_TCP, socket.TCP_NODELAY, 1)
+        self.came = bytearray()
+        self.is_closed = False
+
+    def send(self, data):
+        """Sends it whole, unless the connection is closed."""
+        try:
+            self.socket.sendall(data)
+        except (BrokenPipeError, ConnectionResetError):
+            self.is_closed = True
+
+    def _more(self):
+        """Did more bytes come? None will where the connection is closed."""
+        try:
+            piece = self.socket.recv(1 << 16)
+        except (ConnectionResetError, BrokenPipeError):
+            piece = b""
+        except socket.timeout:
+            raise Deviation(f"no reply in time, after {bytes(self.came[:60])!r}") from None
+        self.came += piece
+        self.is_closed = not piece
+        return bool(piece)
+
+    def _line_end(self, at):
+        """The place behind the line that begins here; None where it was cut off."""
+        while True:
+            end = self.came.find(b"\r\n", at)
+            if end >= 0:
+                return end + 2
+            if not self._more():
+                return None
+
+    def _bulk_end(self, at):
+        end = self._line_end(at)
+        if end is None:
+            return None
+        expect(self.came[at] == ord("$"), f"no bulk: {bytes(self.came[at:at + 20])!r}")
+        length = int(self.came[at + 1:end - 2])
+        if length >= 0:
+            end += length + 2
+        while len(self.came) < end:
+            if not self._more():
+                return None
+        return end
+
+    def reply(self):
+        """The next reply's bytes; None where the connection was closed before a byte of it."""
+        end = self._line_end(0)
+        if end is not None and self.came[:1] == b"*":
+            for _ in range(int(self.came[1:end - 2])):
+                end = self._bulk_end(end)
+                if end is None:
+                    break
+        elif end is not None and self.came[:1] == b"$":
+            end = self._bulk_end(0)
+        if end is None:
+            expect(not self.came, f"closed within a reply: {bytes(self.came[:60])!r}")
+            return None
+        reply = bytes(self.came[:end])
+        del self.came[:end]
+        return reply
+
+    def ask(self, request):
+        """Sends a request and waits for its reply."""
+        self.send(request)
+        return self.reply()
+
+    def rest(self):
+        """All that comes until the connection is closed."""
+        while self._more():
+            pass
+        rest = bytes(self.came)
+        self.came.clear()
+        return rest
+
+    def reset(self):
+        """Closes the connection at once, so that the other side finds it reset."""
+        self.socket.setsockopt(socket.SOL_SOCKET, socket.SO_LINGER, struct.pack("ii", 1, 0))
+        self.socket.close()
+
+    def close(self):
+        self.socket.close()
+
+    def __enter__(self):
+        return self
+
+    def __exit__(self, *_):
+        self.close()
+
+
+def is_long():
+    """Is the long form of the harness asked for?"""
+    return "long" in sys.argv[1:]

@@ -1,0 +1,59 @@
+"""A client that behaves, and is to be served while others don't."""
+import threading
+import time
+
+from client import Connection, Deviation, expect
+from model import OK, frame, refusal
+
+KEY, VALUE = b"\xff good", b"1"
+PAUSE = 0.005
+FULL = refusal("FULL transactions")
+
+
+class GoodClient(threading.Thread):
+    """Commits one key again and again, each request behind the reply before, and takes the time of each reply."""
+
+    def __init__(self, port):
+        super().__init__(daemon=True)
+        self.connection = Connection(port)
+        self.turn, self.is_done = threading.Lock(), False
+        self.commits, self.full, self.slowest, self.deviation = 0, 0, 0.0, None
+
+    def _ask(self, *parts):
+        begun = time.monotonic()
+        reply = self.connection.ask(frame(*parts))
+        self.slowest = max(self.slowest, time.monotonic() - begun)
+        return reply
+
+    def _transaction(self):
+        reply = self._ask("BEGIN")
+        if reply == FULL:
+            self.full += 1
+            return
+        expect(reply == OK, f"BEGIN answered {reply!r}")
+        expect(self._ask("GET", KEY) in (b"$-1\r\n", b"$1\r\n1\r\n"), "GET answered another value")
+        expect(self._ask("SET", KEY, VALUE) == OK, "SET was refused")
+        reply = self._ask("COMMIT") or b""
+        expect(reply[:1] == b":", f"COMMIT answered {reply!r}")
+        self.commits += 1
+
+    def run(self):
+        try:
+            while not self.is_done:
+                with self.turn:
+                    self._transaction()
+                time.sleep(PAUSE)
+        except (Deviation, OSError) as found:
+            self.deviation = found
+
+    def since(self):
+        """What happened since it was asked last: commits, refusals for 64 others, the slowest reply."""
+        with self.turn:
+            found = self.commits, self.full, self.slowest
+            self.commits, self.full, self.slowest = 0, 0, 0.0
+        return found
+
+    def end(self):
+        self.is_done = True
+        self.join()
+        self.connection.close()

@@ -1,0 +1,396 @@
+"""Clients that don't behave, against `serve`, while a good client is served.
+
+Half frames and silence, urgent bytes, floods of pipelined requests, peers that don't read, as many connections as there are and more, resets
+within a reply, random bytes, and every session at its limits at once. The good client's slowest reply stays under a bound, the server
+doesn't end, what may be answered is the model's, and the memory of the process stays under the bound that its limits give.
+
+`quick` does each once and small.
+"""
+import os
+import random
+import select
+import signal
+import socket
+import sys
+import time
+
+from client import Connection, Server, Tally, create, expect, folder, is_long
+from good_client import KEY as GOOD_KEY, VALUE as GOOD_VALUE, GoodClient
+from model import (
+    BROKEN_FRAME, Broken, INBOX_MAX, KEY_MAX, LARGEST_REPLY, MARKS_MAX, OK, OPEN_MAX, PONG, SESSIONS_MAX, Store, VALUE_MAX, WRITES_MAX,
+    decode, frame, pairs, refusal)
+
+SECTORS = 262_144
+SLOWEST_REPLY = 5.0
+ENTRY = 144    # a written key or a mark: its vectors, and what the allocator adds to their two blocks
+RECORD = 1_024    # what is kept of one commit of the good client while a transaction is open that began before it
+KEYS = [b"%03d" % i + b"k" * (KEY_MAX - 3) for i in range(128)]
+VALUE = b"v" * VALUE_MAX
+LARGEST_RANGE = frame("RANGE", "0", "", "128")
+BEGIN, PING, ABORT, COMMIT = (frame(name) for name in ("BEGIN", "PING", "ABORT", "COMMIT"))
+FULL = refusal("FULL transactions")
+
+
+class Siege:
+    """A server, its good client, and how much is done to it."""
+
+    def __init__(self, server, is_long_one):
+        self.server, self.is_long = server, is_long_one
+        self.good = GoodClient(server.port)
+
+    def times(self, few, many):
+        return many if self.is_long else few
+
+    def connect(self, **options):
+        return Connection(self.server.port, **options)
+
+    def join(self, **options):
+        """A connection that is served. There may be no place until those that left have been taken out."""
+        end = time.monotonic() + SLOWEST_REPLY
+        while True:
+            client = self.connect(**options)
+            if client.ask(PING) == PONG:
+                return client
+            client.close()
+            expect(time.monotonic() < end, "no connection is served")
+            time.sleep(0.01)
+
+
+def fill(server):
+    """128 of the largest pairs, which one reply holds, and the good client's key above them."""
+    with Connection(server.port) as client:
+        for half in (KEYS[:64], KEYS[64:]):
+            client.send(BEGIN + b"".join(frame("SET", key, VALUE) for key in half) + COMMIT)
+            replies = [client.reply() for _ in range(66)]
+            expect(replies[:-1] == [OK] * 65 and replies[-1][:1] == b":", "filling was refused")
+        client.send(BEGIN + LARGEST_RANGE)
+        expect(client.reply() == OK and len(client.reply()) == LARGEST_REPLY, "the largest reply has another length")
+        client.send(frame("SET", GOOD_KEY, GOOD_VALUE) + COMMIT)
+        expect([client.reply(), client.reply()] == [OK, b":3\r\n"], "filling was refused")
+
+
+# Frames
+
+def half_a_frame(siege):
+    """Every proper beginning of a frame, silence, and then the rest, with a transaction and without."""
+    request, clients = frame("SET", "half", "a frame"), []
+    for cut in range(1, len(request)):
+        client = siege.join()
+        due = OK if cut % 2 else refusal("ERR none")
+        if cut % 2:
+            expect(client.ask(BEGIN) == OK, "BEGIN was refused")
+        client.send(request[:cut])
+        clients.append((client, cut, due))
+    time.sleep(siege.times(0.5, 5.0))
+    ready, _, _ = select.select([client.socket for client, _, _ in clients], [], [], 0)
+    expect(not ready, f"{len(ready)} of the half frames were answered, or their connections closed")
+    for client, cut, due in clients:
+        reply = client.ask(request[cut:])
+        expect(reply == due, f"the frame cut at {cut} was answered {reply!r}")
+        client.close()
+
+
+def one_byte_at_a_time(siege):
+    """A transaction whose bytes come one by one."""
+    with siege.join() as client:
+        for request, due in ((BEGIN, OK), (frame("SET", "slow", "1"), OK), (frame("GET", "slow"), b"$1\r\n1\r\n"), (ABORT, OK)):
+            for byte in request:
+                client.send(bytes([byte]))
+                time.sleep(0.001)
+            expect(client.reply() == due, "another reply")
+
+
+def urgent_bytes(siege):
+    """Requests with an urgent byte between them, at which a read ends early, all there before the server reads."""
+    for _ in range(siege.times(3, 20)):
+        with siege.join(timeout=SLOWEST_REPLY) as client:
+            siege.server.process.send_signal(signal.SIGSTOP)
+            client.send(PING)
+            client.socket.send(b"u", socket.MSG_OOB)
+            client.send(PING)
+            siege.server.process.send_signal(signal.SIGCONT)
+            expect([client.reply(), client.reply()] == [PONG, PONG], "another reply")
+
+
+BROKEN = (b"*0", b"*5", b"*11", b"*1\n", b"PING\r\n", b"*1\r\n$4097", b"*1\r\n$-1", b"*1\r\n$00", b"*1\r\n$2\r\nabc")
+
+
+def broken_frames(siege):
+    """Bytes that begin no request, whole and one by one, in a transaction: one reply, and the session ends."""
+    for data in (*BROKEN, *(PING + data for data in BROKEN)):
+        due = OK + PONG * data.startswith(PING) + BROKEN_FRAME
+        for size in (len(data), 1):
+            with siege.join() as client:
+                client.send(BEGIN)
+                for at in range(0, len(data), size):
+                    client.send(data[at:at + size])
+                came = client.rest()
+            expect(came == due, f"{data!r} in pieces of {size} was answered {came!r}")
+    all_transactions_are_free(siege)
+
+
+# Floods
+
+def flood(siege, request, due, times, fills_first):
+    """Connections that each send all at once, and read as replies come, or only once nothing more can be sent."""
+    clients = [siege.join() for _ in range(siege.times(4, 16))]
+    left = {client.socket: memoryview(request * times) for client in clients}
+    wanted, reads = memoryview(due * times), not fills_first
+    owed = {client.socket: wanted for client in clients}
+    for sock in left:
+        sock.setblocking(False)
+    while any(owed.values()):
+        readers = [sock for sock in owed if reads and owed[sock]]
+        ready, writable, _ = select.select(readers, [sock for sock in left if left[sock]], [], 1.0 if not reads else SLOWEST_REPLY)
+        if not ready and not writable:
+            expect(not reads, "the flood stands still")
+            reads = True
+        for sock in writable:
+            left[sock] = left[sock][sock.send(left[sock][:1 << 16]):]
+        for sock in ready:
+            piece = sock.recv(1 << 20)
+            expect(piece and piece == owed[sock][:len(piece)], f"the flood was answered {piece[:60]!r}")
+            owed[sock] = owed[sock][len(piece):]
+    close_all(clients)
+
+
+def flood_of_transactions(siege):
+    """Pipelined transactions, read as their replies come."""
+    request = BEGIN + frame("SET", "flood", "1") + frame("GET", "flood") + frame("RANGE", "flood", "floof", "5") + frame("FOO") + ABORT
+    due = OK + OK + b"$1\r\n1\r\n" + b"*2\r\n$5\r\nflood\r\n$1\r\n1\r\n" + refusal("ERR command") + OK
+    flood(siege, request, due, siege.times(300, 3_000), False)
+
+
+def flood_before_reading(siege):
+    """The largest replies, asked for until nothing moves any more, before the first of them is read."""
+    due = OK + pairs([(key, VALUE) for key in KEYS]) + OK
+    flood(siege, BEGIN + LARGEST_RANGE + ABORT, due, siege.times(12, 60), True)
+
+
+def flood_of_commits(siege):
+    """Pipelined commits, each of a key of the connection's own."""
+    clients = [siege.join() for _ in range(siege.times(2, 8))]
+    times = siege.times(50, 500)
+    for number, client in enumerate(clients):
+        client.send((BEGIN + frame("SET", f"commits {number}", "1") + COMMIT) * times)
+    for client in clients:
+        for _ in range(times):
+            replies = [client.reply(), client.reply(), client.reply() or b""]
+            expect(replies[:2] == [OK, OK] and replies[2][:1] == b":", f"a commit was answered {replies}")
+    close_all(clients)
+    with siege.join() as client:  # the map is to be as it was
+        deletes = b"".join(frame("DEL", f"commits {number}") for number in range(len(clients)))
+        client.send(BEGIN + deletes + COMMIT)
+        replies = [client.reply() for _ in range(len(clients) + 2)]
+        expect(replies[:-1] == [OK] * (len(clients) + 1) and replies[-1][:1] == b":", "a DEL was refused")
+
+
+# Peers that don't read, and peers that reset
+
+def never_reads(siege):
+    """As many peers as may have transactions, beside the good client's, ask for the largest ranges and read nothing."""
+    clients = [siege.join(receive_buffer=4_096) for _ in range(OPEN_MAX - 1)]
+    for client in clients:
+        client.send(BEGIN + LARGEST_RANGE * 50)
+    time.sleep(siege.times(2.0, 20.0))
+    close_all(clients)
+
+
+def resets(siege):
+    """Peers that ask for the largest ranges, read a piece, and reset the connection."""
+    for _ in range(siege.times(100, 2_000)):
+        client = siege.join(receive_buffer=4_096)
+        client.send(BEGIN + frame("SET", "reset", "1") + LARGEST_RANGE * 3)
+        expect(client.socket.recv(1_000).startswith(OK[:1]), "no reply")
+        client.reset()
+    all_transactions_are_free(siege)
+
+
+def take_every_place(siege):
+    """127 connections that are served, beside the good client's. Those that left before are waited for."""
+    return [siege.join() for _ in range(SESSIONS_MAX - 1)]
+
+
+def close_all(clients):
+    for client in clients:
+        client.close()
+
+
+def all_transactions_are_free(siege):
+    """64 transactions may begin, and no more. The good client, which has none open, waits meanwhile."""
+    clients = take_every_place(siege)
+    with siege.good.turn:
+        replies = [client.ask(BEGIN) for client in clients]
+        aborted = [client.ask(ABORT) for client in clients[:OPEN_MAX]]
+    close_all(clients)
+    expect(replies == [OK] * OPEN_MAX + [FULL] * (len(clients) - OPEN_MAX), f"{replies.count(OK)} transactions could begin")
+    expect(aborted == [OK] * OPEN_MAX, "an ABORT was refused")
+
+
+# Too many
+
+def two_hundred_connections(siege):
+    """128 sessions, the good client's among them, are served; the other connections are closed without a byte."""
+    clients = take_every_place(siege)
+    others = [siege.connect() for _ in range(200 - len(clients))]
+    replies = [client.ask(PING) for client in others]
+    expect(replies == [None] * len(others), f"{replies.count(PONG)} connections too many are served")
+    replies = [client.ask(PING) for client in clients]
+    expect(replies == [PONG] * len(clients), f"of the first {len(clients)} connections {replies.count(PONG)} are still served")
+    time.sleep(siege.times(0.5, 5.0))
+    close_all(clients + others)
+    all_transactions_are_free(siege)
+
+
+# Bytes that are no frames
+
+def random_request(chance):
+    """A request that changes nothing for good: a command with keys and values of its own, or something like one."""
+    key = b"random" + bytes(chance.randrange(256) for _ in range(chance.choice((0, 1, 4, 250, 251))))
+    value = bytes(chance.randrange(256) for _ in range(chance.choice((0, 1, 100, VALUE_MAX))))
+    return chance.choice((
+        [b"BEGIN"], [b"begin"], [b"PING"], [b"ABORT"], [b"GET", key], [b"GET", b""], [b"SET", key, value], [b"DEL", key],
+        [b"RANGE", key, b"randon", b"%d" % chance.randrange(140)], [b"RANGE", key, b"", b"5"], [value[:20] or b"FOO"], [b"", b"", b""]))
+
+
+def random_stream(chance):
+    """Requests, of which some are cut, changed in a byte, or followed by bytes of any kind."""
+    stream = bytearray(b"".join(frame(*random_request(chance)) for _ in range(chance.randrange(1, 8))))
+    kind = chance.randrange(5)
+    if kind == 0:
+        del stream[chance.randrange(len(stream)):]
+    elif kind == 1:
+        stream[chance.randrange(len(stream))] = chance.randrange(256)
+    elif kind == 2:
+        stream[chance.randrange(len(stream))] ^= 1 << chance.randrange(8)
+    elif kind == 3:
+        stream += bytes(chance.randrange(256) for _ in range(chance.randrange(1, 3_000)))
+    else:
+        stream[:] = bytes(chance.choice(b"*$0123456789\r\n\r\nABEGIN") for _ in range(chance.randrange(1, 200)))
+    return bytes(stream)
+
+
+def replies_due(stream, store):
+    """What the model answers to a stream of a session, and whether it goes on to the stream's end."""
+    out = b""
+    while True:
+        try:
+            found = decode(stream)
+        except Broken:
+            return out + BROKEN_FRAME, False
+        if found is None:
+            return out, True
+        parts, used = found
+        if parts[0].upper() == b"COMMIT":
+            return None, True
+        out, stream = out + store.request("random", parts), stream[used:]
+
+
+def random_bytes(siege):
+    """Streams of random bytes, each answered as the model does to the byte, in pieces of any size."""
+    chance = random.Random(20_081)
+    for number in range(siege.times(300, 10_000)):
+        store, stream = Store(), random_stream(chance)
+        store.contents = {**dict.fromkeys(KEYS, VALUE), GOOD_KEY: GOOD_VALUE}
+        due, goes_on = replies_due(stream, store)
+        if due is None:
+            continue
+        with siege.join() as client:
+            cut = chance.randrange(len(stream) + 1)
+            client.send(stream[:cut])
+            client.send(stream[cut:])
+            if goes_on and not client.is_closed:
+                client.socket.shutdown(socket.SHUT_WR)
+            came = client.rest()
+        expect(came == due, f"stream {number}, {stream[:200]!r}: {came[-200:]!r}, due is {due[-200:]!r}")
+
+
+# Memory
+
+def every_session_at_its_limits(siege):
+    """Each session has had the largest reply; as many as may have transactions then write and mark all they may, and read no more."""
+    clients = take_every_place(siege)
+    for client in clients:
+        client.send(BEGIN + LARGEST_RANGE + ABORT)
+        sizes = [len(client.reply() or b"") for _ in range(3)]
+        expect(sizes == [len(OK), LARGEST_REPLY, len(OK)], f"replies of {sizes} bytes")
+    for number, client in enumerate(clients[:OPEN_MAX - 1]):
+        writes = [frame("SET", b"%02d" % i + b"w" * (KEY_MAX - 2), b"%03d" % number + b"w" * (VALUE_MAX - 3)) for i in range(WRITES_MAX)]
+        expect(client.ask(BEGIN) == OK, "BEGIN was refused")
+        for write in writes:
+            expect(client.ask(write) == OK, "SET was refused")
+        for i in range(MARKS_MAX - 1):
+            lo = b"x%03d" % i + b"l" * (KEY_MAX - 4)
+            expect(client.ask(frame("RANGE", lo, lo[:-1] + b"m", "1")) == b"*0\r\n", "RANGE was refused")
+    for client in clients:
+        client.send(LARGEST_RANGE + frame("SET", b"w", b"w" * VALUE_MAX) * (INBOX_MAX // VALUE_MAX))
+    time.sleep(siege.times(1.0, 5.0))
+    close_all(clients)
+
+
+def memory_bound(idle, commits):
+    """What the limits let the process take, by part: bytes, and what each entry of a transaction and each kept record take besides."""
+    pair = KEY_MAX + VALUE_MAX
+    entries = OPEN_MAX * (WRITES_MAX + MARKS_MAX)
+    return {
+        "idle server": idle,
+        f"{SESSIONS_MAX} inboxes": SESSIONS_MAX * INBOX_MAX,
+        f"{SESSIONS_MAX} outputs of the largest reply": SESSIONS_MAX * LARGEST_REPLY,
+        f"keys and values of {OPEN_MAX} transactions": OPEN_MAX * (WRITES_MAX * pair + MARKS_MAX * 2 * KEY_MAX),
+        "the map": len(KEYS) * pair,
+        f"{entries} entries": entries * ENTRY,
+        f"records of {commits} commits beside open transactions": commits * RECORD,
+    }
+
+
+def judge_memory(tally, peak, idle, commits):
+    parts = memory_bound(idle, commits)
+    bound, by_limits = sum(parts.values()), sum(list(parts.values())[:5])
+    print("  memory, in bytes: " + "; ".join(f"{name} {size:,}" for name, size in parts.items()))
+    print(f"  memory: measured peak {peak:,}, bound {bound:,}, which is {100 * peak / bound:.1f} %; the first five parts alone are "
+          f"{by_limits:,}, which is {100 * peak / by_limits:.1f} %")
+    with tally.run("memory"):
+        expect(peak <= bound, f"the process had {peak:,} bytes, which is above the bound")
+
+
+SCENES = (
+    half_a_frame, one_byte_at_a_time, urgent_bytes, broken_frames, flood_of_transactions, flood_before_reading, flood_of_commits,
+    never_reads, resets, two_hundred_connections, random_bytes, every_session_at_its_limits)
+
+
+def play(tally, siege, scene):
+    """One scene, and how the good client fared in it."""
+    name, begun = scene.__name__.replace("_", " "), time.monotonic()
+    siege.good.since()
+    with tally.run(name):
+        scene(siege)
+    commits, full, slowest = siege.good.since()
+    with tally.run(f"the good client during {name}"):
+        expect(siege.server.is_alive(), "the server ended")
+        expect(siege.good.deviation is None, f"{siege.good.deviation}")
+        expect(commits + full > 0 and slowest < SLOWEST_REPLY, f"its slowest reply took {slowest:.2f} seconds")
+    print(f"  {name}: {time.monotonic() - begun:.1f} s; the good client: {commits} commits, {full} times full, slowest reply "
+          f"{1_000 * slowest:.1f} ms; peak {siege.server.memory('VmHWM'):,} bytes", flush=True)
+    return commits
+
+
+def main():
+    tally = Tally("hostile clients")
+    with folder() as place:
+        data = os.path.join(place, "data")
+        create(data, SECTORS)
+        with Server(data) as server:
+            idle = server.memory("VmHWM")
+            fill(server)
+            siege = Siege(server, is_long())
+            siege.good.start()
+            commits = [play(tally, siege, scene) for scene in SCENES][-1]
+            siege.good.end()
+            judge_memory(tally, server.memory("VmHWM"), idle, commits)
+            with tally.run("its error output"):
+                expect(server.error_text() == b"", f"it wrote {server.error_text()!r}")
+    return 0 if tally.end() else 1
+
+
+if __name__ == "__main__":
+    sys.exit(main())

@@ -1,0 +1,159 @@
+"""`serve` killed by SIGKILL in the middle of commits, again and again.
+
+Writers commit numbered sets of keys and note which were acknowledged. After each kill `check` must answer, and a new server's reader must
+find every acknowledged set whole, at most one more for each writer, also whole, and nothing else. The file then goes on into the next
+kill, until it is full. What is killed is the process, not the machine: what it had written stays with the system.
+
+`quick` kills 10 times, else it is 100 times.
+"""
+import os
+import random
+import sys
+import threading
+import time
+
+from client import Connection, Server, Tally, check, create, expect, folder, is_long
+from model import OK, frame
+
+WRITERS = 6
+SECTORS = 65_536
+ROOM_LEFT = 12_000
+LONGEST_LIFE = 0.4
+PAGE = 128
+
+
+def key_of(writer, number, part):
+    return b"%d.%06d.%d" % (writer, number, part)
+
+
+def value_of(writer, number, part):
+    """A value that tells its key, of a length from 10 to 4,096 bytes."""
+    length = (10, 300, 469, 2_000, 4_096)[(number + part) % 5]
+    return (b"<%d.%d.%d>" % (writer, number, part)).ljust(length, b"v")
+
+
+def set_of(writer, number):
+    """The keys and values that one commit writes: one to four."""
+    return [(key_of(writer, number, part), value_of(writer, number, part)) for part in range(1 + number % 4)]
+
+
+class Writer(threading.Thread):
+    """Commits its numbered sets one after another until the server is gone."""
+
+    def __init__(self, port, writer, number):
+        super().__init__(daemon=True)
+        self.connection, self.writer = Connection(port), writer
+        self.acknowledged, self.failure = number, None
+
+    def _commit(self, number):
+        """Was the commit acknowledged?"""
+        writes = set_of(self.writer, number)
+        self.connection.send(frame("BEGIN") + b"".join(frame("SET", k, v) for k, v in writes) + frame("COMMIT"))
+        replies = [self.connection.reply() for _ in range(len(writes) + 2)]
+        if None in replies:
+            return False
+        expect(replies[:-1] == [OK] * (len(writes) + 1) and replies[-1][:1] == b":", f"a commit was answered {replies}")
+        return True
+
+    def run(self):
+        try:
+            while self._commit(self.acknowledged + 1):
+                self.acknowledged += 1
+        except Exception as found:  # what went wrong is told by the harness
+            if "closed within a reply" not in str(found):
+                self.failure = found
+        self.connection.close()
+
+
+def read_all(port):
+    """All keys and values, page by page."""
+    found, lo = {}, b"0"
+    with Connection(port) as client:
+        expect(client.ask(frame("BEGIN")) == OK, "BEGIN was refused")
+        while True:
+            page = client.ask(frame("RANGE", lo, "", str(PAGE)))
+            parts = parts_of(page)
+            found.update(zip(parts[0::2], parts[1::2]))
+            if len(parts) < 2 * PAGE:
+                break
+            lo = parts[-2] + b"\0"
+        expect(client.ask(frame("COMMIT")) == b":1\r\n", "the reader's COMMIT was not the first")
+    return found
+
+
+def parts_of(reply):
+    """The bulks of an array."""
+    end = reply.index(b"\r\n") + 2
+    count, parts = int(reply[1:end - 2]), []
+    for _ in range(count):
+        start = reply.index(b"\r\n", end) + 2
+        length = int(reply[end + 1:start - 2])
+        parts.append(reply[start:start + length])
+        end = start + length + 2
+    return parts
+
+
+def judge(found, acknowledged):
+    """The number of each writer's last set, all of which are whole: as many as were acknowledged, or one more."""
+    last, due = [], {}
+    for writer, number in enumerate(acknowledged):
+        has_more = key_of(writer, number + 1, 0) in found
+        last.append(number + has_more)
+        for n in range(1, last[-1] + 1):
+            due.update(set_of(writer, n))
+    lost = sorted(set(due) - set(found))
+    expect(not lost, f"{len(lost)} keys are lost, the first {lost[:1]}")
+    expect(not set(found) - set(due), f"{len(found) - len(due)} keys are too many")
+    expect(found == due, "a value is another one")
+    return last
+
+
+class Store:
+    """A data file that lives through many kills."""
+
+    def __init__(self, place, name):
+        self.data, self.last, self.is_full = os.path.join(place, name), [0] * WRITERS, False
+        create(self.data, SECTORS)
+
+    def kill_once(self, life):
+        """Serves and writes for so long, kills, checks and reads. How many sets were acknowledged, and how many more were found?"""
+        with Server(self.data) as server:
+            expect(server.is_listening(), f"no server: {server.error_text()!r}")
+            writers = [Writer(server.port, i, number) for i, number in enumerate(self.last)]
+            for writer in writers:
+                writer.start()
+            time.sleep(life)
+            server.process.kill()
+            for writer in writers:
+                writer.join()
+        failures = [str(writer.failure) for writer in writers if writer.failure]
+        expect(not failures, f"a writer: {failures[:1]}")
+        acknowledged, before = [writer.acknowledged for writer in writers], sum(self.last)
+        records, keys, used, count = check(self.data)
+        with Server(self.data) as server:
+            expect(server.is_listening(), f"no server after the kill: {server.error_text()!r}")
+            found = read_all(server.port)
+        self.last = judge(found, acknowledged)
+        expect((records, keys, count) == (sum(self.last), len(found), SECTORS), f"check counts {records} records and {keys} keys")
+        self.is_full = used > SECTORS - ROOM_LEFT
+        return sum(acknowledged) - before, sum(self.last) - sum(acknowledged)
+
+
+def main():
+    kills, chance = 100 if is_long() else 10, random.Random(2_008)
+    tally, acknowledged, more, files, store = Tally("kill -9"), 0, 0, 0, None
+    with folder() as place:
+        for kill in range(kills):
+            if store is None or store.is_full:
+                files += 1
+                store = Store(place, f"data{files}")
+            current, store = store, None
+            with tally.run(f"kill {kill}"):
+                noted, unnoted = current.kill_once(chance.uniform(0.0, LONGEST_LIFE))
+                acknowledged, more, store = acknowledged + noted, more + unnoted, current
+    ends = f"{acknowledged} commits acknowledged and all found, {more} found that were not, over {files} files"
+    return 0 if tally.end("; " + ends) else 1
+
+
+if __name__ == "__main__":
+    sys.exit(main())

@@ -1,0 +1,112 @@
+"""Memory refused to the commands that end by themselves: `play` on the worked examples, `create` and `check`.
+
+Each command is run with its n-th allocation refused, n = 1, 2, 3 .. until a run meets no refusal; and again with all from the n-th on.
+A run ends with status 3 and `ssikvd: out of memory`, after a beginning of the right output, or as if nothing had been refused.
+"""
+import os
+import sys
+
+from client import ALL, MEMORY, OUT_OF_MEMORY, Refusals, Tally, check, create, expect, folder, run
+from model import log_image, sectors_used
+from rows import ROWS, model_agrees, script_of
+
+
+class Counts:
+    """How the runs ended."""
+
+    def __init__(self):
+        self.ended, self.went_on = 0, 0
+
+    def judge(self, found, due):
+        """Did the command end for want of memory, after a beginning of what is due? It may also have gone on."""
+        status, out, err = found
+        if (status, out, err) == (0, due, b""):
+            self.went_on += 1
+            return False
+        expect((status, err) == (3, OUT_OF_MEMORY), f"status {status}, error output {err!r}")
+        expect(due.startswith(out), f"wrote {out[-60:]!r}, which is no beginning of what is due")
+        self.ended += 1
+        return True
+
+
+def refuse_in_turn(tally, counts, name, is_lasting, words, stdin, due, before=None, after=None):
+    """Runs the command with the n-th allocation refused, for each n until none was."""
+    n, met = 0, True
+    while met:
+        n += 1
+        with folder() as place, tally.run(f"{name} at allocation {n}"):
+            refusals = Refusals(place)
+            refusals.of(MEMORY).fail(n, ALL if is_lasting else n)
+            arguments = words(place)
+            if before:
+                before(place)
+            found = run(arguments, stdin, refusals.environment())
+            met = refusals.of(MEMORY).failed > 0
+            if met:
+                has_ended = counts.judge(found, due)
+            else:
+                expect(found == (0, due, b""), f"with no refusal: {found}")
+                has_ended = False
+            if after:
+                after(place, has_ended)
+
+
+def play(tally, counts, is_lasting):
+    for name, row in ROWS.items():
+        script, due = script_of(row)
+        with tally.run(f"the model on {name}"):
+            expect(model_agrees(row), "the model gives another reply")
+        refuse_in_turn(tally, counts, f"play {name}", is_lasting, lambda _: ["play"], script, due)
+
+
+LOG = [[(b"a", b"1"), (b"b", bytes(2_000))], [(b"a", None)], [(b"%03d" % i, b"v" * i) for i in range(64)]]
+
+
+def check_command(tally, counts, is_lasting):
+    """`check` of a log of three records."""
+    image = log_image(LOG, 40)
+    due = f"records 3 keys 65 sectors {sectors_used(LOG)} of 40\n".encode()
+
+    def data(place):
+        return os.path.join(place, "data")
+
+    def before(place):
+        with open(data(place), "wb") as file:
+            file.write(image)
+
+    def after(place, _):
+        with open(data(place), "rb") as file:
+            expect(file.read() == image, "the data file was changed")
+
+    refuse_in_turn(tally, counts, "check", is_lasting, lambda place: ["check", "--data", data(place)], b"", due, before, after)
+
+
+def create_command(tally, counts, is_lasting):
+    """`create` of a file of 16 sectors, which where it is made is whole."""
+    def data(place):
+        return os.path.join(place, "data")
+
+    def after(place, has_ended):
+        if os.path.exists(data(place)):
+            expect(check(data(place)) == (0, 0, 2, 16), "the file that was made is not an empty log")
+        else:
+            expect(has_ended, "no file was made")
+            create(data(place), 16)
+
+    words = ["--sectors", "16"]
+    refuse_in_turn(tally, counts, "create", is_lasting, lambda place: ["create", "--data", data(place), *words], b"", b"", None, after)
+
+
+def main():
+    holds = True
+    for is_lasting, what in ((False, "the n-th allocation refused"), (True, "the n-th and all later ones refused")):
+        tally, counts = Tally(f"commands, {what}"), Counts()
+        play(tally, counts, is_lasting)
+        check_command(tally, counts, is_lasting)
+        create_command(tally, counts, is_lasting)
+        holds &= tally.end(f"; {counts.ended} ended with status 3, {counts.went_on} went on")
+    return 0 if holds else 1
+
+
+if __name__ == "__main__":
+    sys.exit(main())

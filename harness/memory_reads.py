@@ -1,0 +1,132 @@
+"""Reads while every request for memory is refused.
+
+A session reads keys and ranges, which marks them and makes its output large enough. Then all allocations are refused, and it reads them
+again: each reply is the model's, and none has asked for memory. What does need memory closes its connection, and no other.
+"""
+import os
+import sys
+
+from client import MEMORY, Connection, Refusals, Server, Tally, create, expect, folder
+from model import KEY_MAX, LARGEST_REPLY, Store, VALUE_MAX, frame
+
+SECTORS = 4_096
+KEYS = [b"%03d" % i + b"k" * (KEY_MAX - 3) for i in range(128)]
+VALUE = b"v" * VALUE_MAX
+ROUNDS = 3
+
+FIRST = [
+    [b"BEGIN"],
+    [b"SET", b"own", b"mine"],
+    [b"DEL", KEYS[0]],
+    [b"GET", b"absent"],
+    [b"GET", KEYS[1]],
+    [b"RANGE", b"0", b"1", b"128"],
+    [b"RANGE", b"001", b"", b"128"],
+    [b"RANGE", b"own", b"owo", b"1"],
+]
+
+AGAIN = [
+    [b"GET", b"own"],
+    [b"GET", KEYS[0]],
+    [b"GET", b"absent"],
+    [b"GET", KEYS[1]],
+    [b"RANGE", b"0", b"1", b"128"],
+    [b"RANGE", b"001", b"", b"128"],
+    [b"RANGE", b"001", b"", b"7"],
+    [b"RANGE", b"own", b"owo", b"1"],
+    [b"RANGE", b"b", b"a", b"5"],
+    [b"RANGE", b"b", b"b", b"5"],
+    [b"PING"],
+    [b"BEGIN"],
+    [b"GET", b""],
+    [b"GET"],
+    [b"FOO"],
+    [b"RANGE", b"a", b"b", b"129"],
+    [b"DEL", b"own", b"x"],
+]
+
+
+class Session:
+    """A connection beside the model."""
+
+    def __init__(self, server, store, name):
+        self.connection, self.store, self.name = Connection(server.port), store, name
+
+    def ask(self, parts):
+        reply = self.connection.ask(frame(*parts))
+        due = self.store.request(self.name, parts)
+        shown = b" ".join(part[:8] for part in parts)
+        expect(reply == due, f"{shown!r}: {(reply or b'closed')[:60]!r}, due is {due[:60]!r}")
+        return reply
+
+
+def fill(server, store):
+    """128 of the largest pairs, which one reply holds, by rising key."""
+    session = Session(server, store, "fill")
+    for half in (KEYS[:64], KEYS[64:]):
+        for parts in ([b"BEGIN"], *([b"SET", key, VALUE] for key in half), [b"COMMIT"]):
+            session.ask(parts)
+    session.ask([b"BEGIN"])
+    reply = session.ask([b"RANGE", b"0", b"", b"128"])
+    expect(len(reply) == LARGEST_REPLY, f"the largest reply has {len(reply)} bytes")
+    session.ask([b"ABORT"])
+    session.connection.close()
+
+
+def starve(server, allocations, store, tally):
+    """What needs memory closes its own connection, and what needs none is served."""
+    starved, open_reader, fresh = (Session(server, store, name) for name in ("starved", "reader", "fresh"))
+    for parts in ([b"BEGIN"], [b"SET", b"kept", b"1"]):
+        starved.ask(parts)
+        open_reader.ask(parts)
+    fresh.ask([b"PING"])
+    allocations.fail_all()
+    with tally.run("a SET that needs memory"):
+        expect(starved.connection.ask(frame("SET", "new", "2")) is None, "it was answered")
+        store.leave("starved")
+    with tally.run("a connection that needs memory"), Connection(server.port) as refused:
+        expect(refused.ask(frame("PING")) is None, "it was served")
+    with tally.run("an open session and one without a transaction"):
+        for parts in ([b"GET", b"kept"], [b"ABORT"], [b"GET", b"kept"]):
+            open_reader.ask(parts)
+        fresh.ask([b"PING"])
+    allocations.pass_on()
+    with tally.run("with memory again"):
+        for session in (open_reader, fresh, Session(server, store, "new")):
+            for parts in ([b"BEGIN"], [b"GET", b"kept"], [b"COMMIT"]):
+                session.ask(parts)
+
+
+def main():
+    tally, store = Tally("reads with all memory refused"), Store(SECTORS)
+    with folder() as place:
+        data = os.path.join(place, "data")
+        create(data, SECTORS)
+        refusals = Refusals(place)
+        allocations = refusals.of(MEMORY)
+        with Server(data, refusals.environment()) as server:
+            with tally.run("filling the map"):
+                fill(server, store)
+            reader = Session(server, store, "marked")
+            with tally.run("the first reads"):
+                for parts in FIRST:
+                    reader.ask(parts)
+            calls = allocations.made
+            allocations.fail_all()
+            for turn in range(ROUNDS):
+                for parts in AGAIN:
+                    with tally.run(f"{parts[:1]} in round {turn}"):
+                        reader.ask(parts)
+            with tally.run("ABORT"):
+                reader.ask([b"ABORT"])
+            with tally.run("the allocations that were asked for"):
+                expect(allocations.made == calls, f"{allocations.made - calls} allocations")
+            allocations.pass_on()
+            starve(server, allocations, store, tally)
+            with tally.run("the server"):
+                expect(server.is_alive() and server.error_text() == b"", "it ended, or wrote an error")
+    return 0 if tally.end() else 1
+
+
+if __name__ == "__main__":
+    sys.exit(main())

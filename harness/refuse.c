@@ -1,0 +1,114 @@
+/* Lets chosen calls of the C library fail, and passes on all others.
+ *
+ * Preloaded into a program. The file named by REFUSE_CONTROL is shared with whoever drives the test, who may read and write it at any
+ * moment. It holds, for each kind of call, five numbers of 64 bits: how many calls were made, how many failed, the first and the last call
+ * to fail, counted from 1, and the errno that they fail with, or 0 where they move one byte in place of all. Without that variable, and
+ * before the program's own code runs, all calls are passed on and none is counted.
+ */
+#define _GNU_SOURCE
+#include <errno.h>
+#include <fcntl.h>
+#include <stdint.h>
+#include <stdlib.h>
+#include <sys/mman.h>
+#include <sys/socket.h>
+#include <sys/syscall.h>
+#include <unistd.h>
+
+enum kind { MEMORY, DEVICE, RECEIVE, SEND, ACCEPT, KINDS };
+
+struct calls {
+    uint64_t made, failed, first, last, error;
+};
+
+static volatile struct calls *control;
+
+extern void *__libc_malloc(size_t size);
+extern void *__libc_calloc(size_t count, size_t size);
+extern void *__libc_realloc(void *block, size_t size);
+extern void *__libc_memalign(size_t alignment, size_t size);
+
+__attribute__((constructor)) static void open_control(void) {
+    const char *name = getenv("REFUSE_CONTROL");
+    int file = name ? open(name, O_RDWR | O_CLOEXEC) : -1;
+    if (file < 0)
+        return;
+    void *shared = mmap(NULL, KINDS * sizeof(struct calls), PROT_READ | PROT_WRITE, MAP_SHARED, file, 0);
+    close(file);
+    if (shared != MAP_FAILED)
+        control = shared;
+}
+
+static int is_chosen(enum kind kind) {
+    if (!control)
+        return 0;
+    volatile struct calls *calls = &control[kind];
+    uint64_t call = ++calls->made;
+    if (call < calls->first || call > calls->last)
+        return 0;
+    calls->failed++;
+    errno = (int)calls->error;
+    return 1;
+}
+
+/* How many of these bytes a call may move, or -1 where it fails. */
+static ssize_t allowed(enum kind kind, size_t size) {
+    if (!is_chosen(kind))
+        return (ssize_t)size;
+    return errno ? -1 : size > 0;
+}
+
+void *malloc(size_t size) {
+    return is_chosen(MEMORY) ? NULL : __libc_malloc(size);
+}
+
+void *calloc(size_t count, size_t size) {
+    return is_chosen(MEMORY) ? NULL : __libc_calloc(count, size);
+}
+
+void *realloc(void *block, size_t size) {
+    return is_chosen(MEMORY) ? NULL : __libc_realloc(block, size);
+}
+
+void *aligned_alloc(size_t alignment, size_t size) {
+    return is_chosen(MEMORY) ? NULL : __libc_memalign(alignment, size);
+}
+
+int posix_memalign(void **block, size_t alignment, size_t size) {
+    if (is_chosen(MEMORY))
+        return ENOMEM;
+    *block = __libc_memalign(alignment, size);
+    return *block ? 0 : ENOMEM;
+}
+
+ssize_t pread(int file, void *into, size_t size, off_t at) {
+    ssize_t most = allowed(DEVICE, size);
+    return most < 0 ? -1 : syscall(SYS_pread64, file, into, (size_t)most, at);
+}
+
+ssize_t pwrite(int file, const void *from, size_t size, off_t at) {
+    ssize_t most = allowed(DEVICE, size);
+    return most < 0 ? -1 : syscall(SYS_pwrite64, file, from, (size_t)most, at);
+}
+
+int fsync(int file) {
+    return allowed(DEVICE, 0) < 0 ? -1 : (int)syscall(SYS_fsync, file);
+}
+
+int fdatasync(int file) {
+    return allowed(DEVICE, 0) < 0 ? -1 : (int)syscall(SYS_fdatasync, file);
+}
+
+ssize_t recv(int file, void *into, size_t size, int flags) {
+    ssize_t most = allowed(RECEIVE, size);
+    return most < 0 ? -1 : syscall(SYS_recvfrom, file, into, (size_t)most, flags, NULL, NULL);
+}
+
+ssize_t send(int file, const void *from, size_t size, int flags) {
+    ssize_t most = allowed(SEND, size);
+    return most < 0 ? -1 : syscall(SYS_sendto, file, from, (size_t)most, flags, NULL, 0);
+}
+
+int accept4(int file, struct sockaddr *address, socklen_t *length, int flags) {
+    return allowed(ACCEPT, 0) < 0 ? -1 : (int)syscall(SYS_accept4, file, address, length, flags);
+}
