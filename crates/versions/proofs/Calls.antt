@@ -1,5 +1,5 @@
 -- What the calls answer, from where the search ended.
-use Rattle.std.proofs.Common.{◌≡◌, ℕ, zero, suc, ◌+◌, ◌<◌, ◌≤◌, Bool, true, false, T, not, cond, ◌&&◌, List, [], ◌∷◌, ◌++◌, length, take, get_or, set, Option, Some, None, refl, sym, ap, subst, ◌∙◌, arith}
+use Rattle.std.proofs.Common.{◌≡◌, ℕ, zero, suc, ◌+◌, ◌-◌, ◌<◌, ◌≤◌, Bool, true, false, T, not, cond, ◌&&◌, List, [], ◌∷◌, ◌++◌, length, take, get_or, set, Option, Some, None, refl, sym, ap, subst, ◌∙◌, arith}
 use Rattle.std.specs.Prelude.{option_map, nat_le, if◌then◌else◌}
 use Rattle.std.specs.List.{insert, AllByRecursion}
 use Rattle.std.proofs.Math.Seq.{take-append_seam}
@@ -10,14 +10,18 @@ use Rattle.std.specs.declared.cmp.Ordering.TheVariants.{Less, Equal, Greater}
 use Rattle.std.specs.Cmp.Lexicographic.{slice_cmp}
 use Rattle.std.specs.FinMap.Entries.{put, is_sorted, where_key, is_sorted-where_key}
 use Rattle.model.specs.Map.{Bytes, KeyMap, KeyWrite, IsMap, key_cmp, value_at, is_in_range, is_below, pairs_in_range}
-use Rattle.versions.specs.Chains.{Stamped, ChainValue, Chains, ChainsValue, find_chain, seen, seen_in, visible, IsKept, IsRoomier, IsRoomierChain, HasRoom, one_if_new, added, stamped, fresh_chain, longer_chain, IsReady, IsPrepared, new_keys, base_chains}
+use Rattle.versions.specs.Chains.{Stamped, ChainValue, Chains, ChainsValue, find_chain, seen, seen_in, visible, IsKept, IsRisingChain, IsRoomier, IsRoomierChain, HasRoom, one_if_new, added, stamped, fresh_chain, longer_chain, IsReady, new_keys, base_chains}
 use Rattle.versions.specs.StandsFor.{StandsFor}
 use Rattle.model.proofs.Lookups.{same_key_itself}
 use Rattle.model.specs.Entries.{IsAt, IsGap}
-use Rattle.versions.specs.Meaning.{newest_of, kept_of, kept_in, writes_of, IsInstalled}
+use Rattle.versions.specs.Listings.{Listed, GroupValue, AreSeenFrom, is_in, is_listed, IsListed, unwitnessed, followed}
+use Rattle.versions.specs.Meaning.{kept_in, writes_of, AreInstalled}
+use Rattle.std.proofs.lemmas.Bool.{or_right}
+use Rattle.std.proofs.lemmas.Bool.Decides.{nat_tests}
 use Rattle.model.proofs.Entries.{IsSorted, turned, parts}
-use Rattle.versions.proofs.Visibles.{value-visible, find_chain-put, sorted-put, visible-where, where_twice}
-use Rattle.versions.proofs.Stores.{roomier-set, find-roomier, RoomierFound, room-more, room-roomier, room_roomier, new_keys-roomier, new_keys-more, written_map, written_number, ready-apart, new_keys-apart, maps-step, newest-step, kept-step, ready-prepared, visible-base, newest-base}
+use Rattle.versions.proofs.Visibles.{value-visible, find_chain-put, visible-where, where_twice}
+use Rattle.versions.proofs.Stores.{roomier-set, find-roomier, RoomierFound, room-more, room-roomier, room_roomier, new_keys-roomier, new_keys-more, written_map, written_number, ready-apart, new_keys-apart, maps-step, newest-step, kept-step, ready-prepared, kept-put, rising_one, visible-base, newest-base}
+use Rattle.versions.proofs.Listings.{groups-found, listed-write}
 
 pub seen_at : (n : ℕ) (k : Bytes) (es : Chains) (i : ℕ) (e : Bytes × ChainValue) → IsSorted es → IsAt es k i → e ≡ get_or es i e → seen n e.1 ≡ value_at (visible n es) k
 seen_at n k es i e h at is = ap (λ (p : Bytes × ChainValue). seen n p.1) is ∙ sym (value-visible n k es h ∙ ap (seen_in n) (at.found e))
@@ -141,34 +145,47 @@ range_from n lo hi es fs gs below from =
 
 -- ---- an install
 
--- what is left of the writes can be added, and gives what all of them give
-pub record Installing (n : ℕ) (from v : ChainsValue) (all ws : List KeyWrite) : Type 0 where
-  pub last : v.last ≡ n
-  pub sorted : IsSorted v.chains
-  pub rising : T (is_sorted (slice_cmp nat_cmp) ws)
-  pub ready : AllByRecursion (λ w. IsReady n (find_chain w.0 v.chains)) ws
-  pub spare : new_keys v.chains ws ≤ v.spare
-  pub crowded_spare : length ws ≤ v.crowded_spare
-  pub maps : (m : ℕ) → written_map n m ws (visible m v.chains) ≡ written_map n m all (visible m from.chains)
-  pub newest : (k : Bytes) → written_number n ws k (newest_of v k) ≡ written_number n all k (newest_of from k)
-  pub kept : (k : Bytes) → kept_of v k + writes_of ws k ≡ kept_of from k + writes_of all k
+abbrev number_in : Bytes → Chains → Option ℕ
+number_in k es = option_map (λ (c : ChainValue). c.newest.number) (find_chain k es)
 
-pub installing-step : (n : ℕ) (from v u : ChainsValue) (all ls : List KeyWrite) (w : KeyWrite) (ws : List KeyWrite) (room : ℕ) → ls ≡ w ∷ ws → Installing n from v all ls
-    → u.chains ≡ put (slice_cmp nat_cmp) w.0 (added (find_chain w.0 v.chains) (stamped n w.1) room) v.chains → v.spare ≤ u.spare + one_if_new (find_chain w.0 v.chains) → v.crowded_spare ≤ u.crowded_spare + 1 → u.last ≡ v.last → Installing n from u all ws
-installing-step n from v u all ls w ws room next g is spare crowded_spare last =
-    let h = subst (λ l. Installing n from v all l) next g in
-    let c = added (find_chain w.0 v.chains) (stamped n w.1) room in
+-- what is left of the writes can be added, and gives what all of them give
+pub record Installing (n : ℕ) (from es : Chains) (free : ℕ) (ls : List Listed) (places : ℕ) (all ws : List KeyWrite) : Type 0 where
+  pub in_order : IsKept es n
+  pub rising : T (is_sorted (slice_cmp nat_cmp) ws)
+  pub ready : AllByRecursion (λ w. IsReady n (find_chain w.0 es)) ws
+  pub spare : new_keys es ws ≤ free
+  pub room : length ws ≤ places
+  pub maps : (m : ℕ) → written_map n m ws (visible m es) ≡ written_map n m all (visible m from)
+  pub newest : (k : Bytes) → written_number n ws k (number_in k es) ≡ written_number n all k (number_in k from)
+  pub kept : (k : Bytes) → kept_in (find_chain k es) + writes_of ws k ≡ kept_in (find_chain k from) + writes_of all k
+  pub listed : (gs : List GroupValue) → IsListed from gs → IsListed es (unwitnessed ls ∷ gs)
+  pub seen : AreSeenFrom (n - 1) ls
+
+followed_seen : (n : ℕ) (k : Bytes) (o : Option ChainValue) → IsReady n o → AreSeenFrom (n - 1) (followed o k n)
+followed_seen n k None r = tt
+followed_seen n k (Some c) r = ((let below = r.0 in grind (arith, nat_tests)), tt)
+
+seen-append : (n : ℕ) (us vs : List Listed) → AreSeenFrom n us → AreSeenFrom n vs → AreSeenFrom n (us ++ vs)
+seen-append n [] vs h g = g
+seen-append n (u ∷ us) vs h g = (h.0, seen-append n us vs h.1 g)
+
+pub installing-step : (n : ℕ) (from es fs : Chains) (spare spare' : ℕ) (ls us : List Listed) (room room' : ℕ) (all ws vs : List KeyWrite) (w : KeyWrite) (own : ℕ) → vs ≡ w ∷ ws → Installing n from es spare ls room all vs
+    → fs ≡ put (slice_cmp nat_cmp) w.0 (added (find_chain w.0 es) (stamped n w.1) own) es → spare ≤ spare' + one_if_new (find_chain w.0 es) → us ≡ ls ++ followed (find_chain w.0 es) w.0 n → room ≤ room' + 1 → Installing n from fs spare' us room' all ws
+installing-step n from es fs spare spare' ls us room room' all ws vs w own next g is more list more' =
+    let h = subst (λ l. Installing n from es spare ls room all l) next g in
+    let c = added (find_chain w.0 es) (stamped n w.1) own in
     let p = parts _ _ h.rising in
     record {
-      last = last ∙ h.last;
-      sorted = subst IsSorted (sym is) (sorted-put w.0 c v.chains h.sorted);
+      in_order = subst (λ (l : Chains). IsKept l n) (sym is) (kept-put w.0 c es n h.in_order (rising_one n n es w.0 w.1 own h.in_order h.ready.0 (omega arith)));
       rising = p.1;
-      ready = subst (λ (es : Chains). AllByRecursion (λ w. IsReady n (find_chain w.0 es)) ws) (sym is) (ready-apart n w.0 c v.chains ws p.0 h.ready.1);
-      spare = (let e : new_keys u.chains ws ≡ new_keys v.chains ws = ap (λ (es : Chains). new_keys es ws) is ∙ new_keys-apart w.0 c v.chains ws p.0 in let s = h.spare in omega arith);
-      crowded_spare = (let s = h.crowded_spare in omega arith);
-      maps = λ m. ap (λ (es : Chains). written_map n m ws (visible m es)) is ∙ maps-step n m w ws room v.chains h.sorted ∙ h.maps m;
-      newest = λ k. ap (λ (es : Chains). written_number n ws k (option_map (λ (c : ChainValue). c.newest.number) (find_chain k es))) is ∙ newest-step n k w ws room v.chains ∙ h.newest k;
-      kept = λ k. ap (λ (es : Chains). kept_in (find_chain k es) + writes_of ws k) is ∙ kept-step n k w ws room v.chains ∙ h.kept k;
+      ready = subst (λ (l : Chains). AllByRecursion (λ w. IsReady n (find_chain w.0 l)) ws) (sym is) (ready-apart n w.0 c es ws p.0 h.ready.1);
+      spare = (let e : new_keys fs ws ≡ new_keys es ws = ap (λ (l : Chains). new_keys l ws) is ∙ new_keys-apart w.0 c es ws p.0 in let s = h.spare in omega arith);
+      room = (let s = h.room in omega arith);
+      maps = λ m. ap (λ (l : Chains). written_map n m ws (visible m l)) is ∙ maps-step n m w ws own es h.in_order.sorted ∙ h.maps m;
+      newest = λ k. ap (λ (l : Chains). written_number n ws k (number_in k l)) is ∙ newest-step n k w ws own es ∙ h.newest k;
+      kept = λ k. ap (λ (l : Chains). kept_in (find_chain k l) + writes_of ws k) is ∙ kept-step n k w ws own es ∙ h.kept k;
+      listed = λ gs from_listed. subst (λ (l : List Listed). IsListed fs (unwitnessed l ∷ gs)) (sym list) (subst (λ (l : Chains). IsListed l (unwitnessed (ls ++ followed (find_chain w.0 es) w.0 n) ∷ gs)) (sym is) (listed-write w.0 n w.1 own es ls gs (h.listed gs from_listed)));
+      seen = subst (AreSeenFrom (n - 1)) (sym list) (seen-append (n - 1) ls (followed (find_chain w.0 es) w.0 n) h.seen (followed_seen n w.0 (find_chain w.0 es) h.ready.0));
     }
 
 same_either : {A : Type 0} (b : Bool) (x : A) → (if b then x else x) ≡ x
@@ -179,27 +196,34 @@ nothing : (ws : List KeyWrite) → length ws ≡ 0 → ws ≡ []
 nothing [] e = refl
 nothing (w ∷ ws) e = absurd (omega arith)
 
-pub installed-end : (n : ℕ) (from old v : ChainsValue) (all ws : List KeyWrite) → from.chains ≡ old.chains → length ws ≡ 0 → Installing n from v all ws → IsInstalled old v n all
-installed-end n from old v all ws same no_more h = let none = nothing ws no_more in record {
-  maps = λ m. sym (ap (λ l. written_map n m l (visible m v.chains)) none ∙ same_either (nat_le n m) (visible m v.chains)) ∙ h.maps m ∙ ap (λ es. written_map n m all (visible m es)) same;
-  newest = λ k. sym (ap (λ l. written_number n l k (newest_of v k)) none) ∙ h.newest k ∙ ap (λ es. written_number n all k (option_map (λ (c : ChainValue). c.newest.number) (find_chain k es))) same;
-  kept = λ k. (let e : kept_of v k + 0 ≡ kept_of old k + writes_of all k = sym (ap (λ l. kept_of v k + writes_of l k) none) ∙ h.kept k ∙ ap (λ es. kept_in (find_chain k es) + writes_of all k) same in omega arith);
-  last = h.last;
+pub installed-end : (n : ℕ) (from es : Chains) (spare : ℕ) (ls : List Listed) (room : ℕ) (all ws : List KeyWrite) → length ws ≡ 0 → Installing n from es spare ls room all ws → AreInstalled from es n all
+installed-end n from es spare ls room all ws no_more h = let none = nothing ws no_more in record {
+  maps = λ m. sym (ap (λ l. written_map n m l (visible m es)) none ∙ same_either (nat_le n m) (visible m es)) ∙ h.maps m;
+  newest = λ k. sym (ap (λ l. written_number n l k (number_in k es)) none) ∙ h.newest k;
+  kept = λ k. (let e : kept_in (find_chain k es) + 0 ≡ kept_in (find_chain k from) + writes_of all k = sym (ap (λ l. kept_in (find_chain k es) + writes_of l k) none) ∙ h.kept k in omega arith);
 }
 
+kept_later : (es : Chains) (last n : ℕ) → last ≤ n → IsKept es last → IsKept es n
+kept_later es last n le h = record { sorted = h.sorted; rising = each es h.rising }
+  where
+    each : (fs : Chains) → AllByRecursion (λ e. IsRisingChain last e.1) fs → AllByRecursion (λ e. IsRisingChain n e.1) fs
+    each [] g = tt
+    each (f ∷ fs) g = ((g.0.0, omega (arith, g.0.1)), each fs g.1)
+
 -- before the first of the writes
-pub installing-begun : (n : ℕ) (old from : ChainsValue) (ws us : List KeyWrite) → IsKept old.chains old.last → old.last < n → T (is_sorted (slice_cmp nat_cmp) ws) → IsPrepared old ws
-    → from.chains ≡ old.chains → from.spare ≡ old.spare → from.crowded_spare ≡ old.crowded_spare → from.last ≡ n → us ≡ ws → Installing n from from us us
-installing-begun n old from ws us kept lt rising p same spare crowded_spare last is = subst (λ l. Installing n from from l l) (sym is) (record {
-  last = last;
-  sorted = subst IsSorted (sym same) kept.sorted;
+pub installing-begun : (n last : ℕ) (es : Chains) (spare : ℕ) (ls : List Listed) (room : ℕ) (ws us : List KeyWrite) → IsKept es last → last < n → T (is_sorted (slice_cmp nat_cmp) ws)
+    → AllByRecursion (λ w. HasRoom (find_chain w.0 es)) ws → new_keys es ws ≤ spare → length ws ≤ room → ls ≡ [] → us ≡ ws → Installing n es es spare ls room us us
+installing-begun n last es spare ls room ws us kept lt rising rooms fits list none is = subst (λ l. Installing n es es spare ls room l l) (sym is) (record {
+  in_order = kept_later es last n (omega arith) kept;
   rising = rising;
-  ready = subst (λ (es : Chains). AllByRecursion (λ w. IsReady n (find_chain w.0 es)) ws) (sym same) (ready-prepared n old.last old.chains ws kept lt p.chains);
-  spare = (let e : new_keys from.chains ws ≡ new_keys old.chains ws = ap (λ (es : Chains). new_keys es ws) same in let s = p.spare in omega arith);
-  crowded_spare = (let s = p.crowded in omega arith);
+  ready = ready-prepared n last es ws kept lt rooms;
+  spare = fits;
+  room = list;
   maps = λ m. refl;
   newest = λ k. refl;
   kept = λ k. refl;
+  listed = λ gs h. groups-found es gs (unwitnessed ls ∷ gs) (λ k n high t. or_right (is_in ls k n high) (is_listed gs k n high) t) h;
+  seen = subst (AreSeenFrom (n - 1)) (sym none) tt;
 })
 
 -- ---- an opened map

@@ -1,8 +1,8 @@
 -- One chain: a version more, and what a reclaim leaves.
-use Rattle.std.proofs.Common.{◌≡◌, ℕ, zero, suc, ◌+◌, ◌-◌, ◌<◌, ◌≤◌, true, false, cond, ◌&&◌, List, [], ◌∷◌, ◌++◌, length, take, drop, get_or, Option, Some, None, refl, sym, ap, ◌∙◌, arith, inl, inr}
+use Rattle.std.proofs.Common.{◌≡◌, ℕ, zero, suc, ◌+◌, ◌-◌, ◌<◌, ◌≤◌, Bool, true, false, cond, ◌&&◌, List, [], ◌∷◌, ◌++◌, length, take, drop, get_or, Option, Some, None, refl, sym, ap, ◌∙◌, arith, inl, inr}
 use Rattle.std.specs.Prelude.{nat_le, nat_lt, if◌then◌else◌, ◌==◌}
-use Rattle.std.specs.List.{AllByRecursion, remove}
-use Rattle.std.proofs.lemmas.Bool.{cases_Bool, both_ways, or_cases, or_left, or_right, lt-ltb, lt-leb, le-leb}
+use Rattle.std.specs.List.{AllByRecursion, list_any, remove}
+use Rattle.std.proofs.lemmas.Bool.{cases_Bool, both_ways, or_cases, or_left, or_right, lt-leb, le-leb}
 use Rattle.std.proofs.lemmas.Bool.Decides.{nat_tests}
 use Rattle.versions.specs.Chains.{Stamped, ChainValue, last_at, version_at, value_of, seen, seen_in, added, first_number, is_between, seen_by, reclaimed, IsRisingTo, IsRisingChain}
 use Rattle.versions.specs.Meaning.{is_among, IsSeen, IsTightChain}
@@ -179,22 +179,21 @@ first_past n [] (suc i) le = refl
 first_past n (v ∷ vs) zero le = absurd (omega arith)
 first_past n (v ∷ vs) (suc i) le = first_past n vs i (omega arith)
 
--- ---- a chain without older versions, and a chain that was reclaimed before
+-- ---- a chain that was reclaimed before
 
-pub without_older : (bs : List ℕ) (vs : List Stamped) (w : Stamped) (room : ℕ) → nat_lt 0 (length vs) ≡ false
-    → reclaimed bs (record { older = vs; newest = w; room = room }) ≡ record { older = vs; newest = w; room = room }
-without_older bs [] w room e = let same : room + (0 - 0) ≡ room = omega arith in λ i. record { older = []; newest = w; room = same i }
-without_older bs (v ∷ vs) w room e = absurd (both_ways _ e (lt-ltb 0 (suc (length vs)) (omega arith)))
-
-between_more : (bs : List ℕ) (low high more : ℕ) → high ≤ more → is_between bs low high ≡ true → is_between bs low more ≡ true
-between_more [] low high more le t = t
-between_more (x ∷ bs) low high more le t = elim (or_cases (nat_le low x && nat_lt x high) (is_between bs low high) t) [
-  | inl e ↦ or_left (nat_le low x && nat_lt x more) (is_between bs low more) (grind (arith, nat_tests))
-  | inr g ↦ or_right (nat_le low x && nat_lt x more) (is_between bs low more) (between_more bs low high more le g)
+-- a test that lets more through
+pub any-weaker : {X : Type 0} (p q : X → Bool) (xs : List X) → ((x : X) → p x ≡ true → q x ≡ true) → list_any p xs ≡ true → list_any q xs ≡ true
+any-weaker p q [] h t = t
+any-weaker p q (x ∷ xs) h t = elim (or_cases (p x) (list_any p xs) t) [
+  | inl e ↦ or_left (q x) (list_any q xs) (h x e)
+  | inr e ↦ or_right (q x) (list_any q xs) (any-weaker p q xs h e)
 ]
 
+pub between-wider : (bs : List ℕ) (low high low' high' : ℕ) → low' ≤ low → high ≤ high' → is_between bs low high ≡ true → is_between bs low' high' ≡ true
+between-wider bs low high low' high' l h = any-weaker (λ b. nat_le low b && nat_lt b high) (λ b. nat_le low' b && nat_lt b high') bs (λ b t. grind (arith, nat_tests, t, l, h))
+
 -- what is left begins no lower
-first_rises : (bs : List ℕ) (n : ℕ) (vs : List Stamped) → IsRisingTo vs n → first_number vs n ≤ first_number (seen_by bs n vs) n
+pub first_rises : (bs : List ℕ) (n : ℕ) (vs : List Stamped) → IsRisingTo vs n → first_number vs n ≤ first_number (seen_by bs n vs) n
 first_rises bs n [] h = omega arith
 first_rises bs n (v ∷ vs) h = elim (is_between bs v.number (first_number vs n)) as (λ c. v.number ≤ first_number (if c then v ∷ seen_by bs n vs else seen_by bs n vs) n) [
   | true ↦ omega arith
@@ -210,7 +209,7 @@ seen_twice bs n [] h = refl
 seen_twice bs n (v ∷ vs) h =
     let us = seen_by bs n vs in
     elim (is_between bs v.number (first_number vs n)) as (λ c. is_between bs v.number (first_number vs n) ≡ c → seen_by bs n (if c then v ∷ us else us) ≡ (if c then v ∷ us else us)) [
-      | true ↦ λ e. ap (λ c. if c then v ∷ seen_by bs n us else seen_by bs n us) (between_more bs v.number (first_number vs n) (first_number us n) (first_rises bs n vs h.2) e) ∙ ap (λ l. v ∷ l) (seen_twice bs n vs h.2)
+      | true ↦ λ e. ap (λ c. if c then v ∷ seen_by bs n us else seen_by bs n us) (between-wider bs v.number (first_number vs n) v.number (first_number us n) (omega arith) (first_rises bs n vs h.2) e) ∙ ap (λ l. v ∷ l) (seen_twice bs n vs h.2)
       | false ↦ λ e. seen_twice bs n vs h.2
     ] refl
 

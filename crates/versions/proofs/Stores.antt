@@ -1,23 +1,19 @@
 -- All chains: what is made, what more room leaves, what an install adds and what a reclaim leaves.
 use Rattle.std.proofs.Common.{◌≡◌, ℕ, zero, suc, ◌+◌, ◌-◌, ◌<◌, ◌≤◌, Bool, true, false, T, cond, ◌&&◌, ◌||◌, List, [], ◌∷◌, ◌++◌, length, take, get_or, set, Option, Some, None, refl, sym, ap, subst, ◌∙◌, arith, inl, inr, length-append}
-use Rattle.std.specs.Prelude.{option_map, nat_lt, nat_le, if◌then◌else◌, IfSome, swap_remove, ◌⊎◌}
-use Rattle.std.proofs.Math.Seq.{take-length}
-use Rattle.std.proofs.lemmas.Grind.{common_steps}
-use Rattle.std.proofs.lemmas.List.Folds.{list_any_at, list_any_more, list_any-append}
-use Rattle.std.proofs.lemmas.List.Sorted.{list_any-IsPermutation, IsPermutation-swap_remove}
+use Rattle.std.specs.Prelude.{option_map, nat_le, if◌then◌else◌, IfSome, swap_remove}
 use Rattle.std.specs.List.{AllByRecursion}
 use Rattle.std.specs.declared.cmp.Ordering.{Ordering}
 use Rattle.std.specs.declared.cmp.Ordering.TheVariants.{Less, Equal, Greater}
 use Rattle.std.specs.Ordering.{is_eq, is_lt, nat_cmp}
 use Rattle.std.specs.Cmp.Lexicographic.{slice_cmp}
 use Rattle.std.specs.FinMap.Entries.{put, below_all, by_order}
-use Rattle.std.proofs.lemmas.Bool.{cases_Bool, both_ways, or_cases, or_left, or_right, le-leb, leb-true}
+use Rattle.std.proofs.lemmas.Bool.{cases_Bool, le-leb, leb-true}
 use Rattle.model.specs.Map.{Bytes, KeyMap, KeyWrite, IsMap, key_cmp, is_same_key, value_at, after_write, after_writes}
-use Rattle.model.proofs.Lookups.{same_key, same_key_comm, same_key_itself, same_map}
+use Rattle.model.proofs.Lookups.{same_key, same_key_comm, same_map}
 use Rattle.model.specs.Entries.{IsAt, IsGap}
-use Rattle.versions.specs.Chains.{Stamped, ChainValue, Chains, ChainsValue, find_chain, seen, seen_in, version_at, value_of, visible, with_value, added, stamped, fresh_chain, IsReady, HasRoom, IsPrepared, one_if_new, new_keys, reclaimed, has_older, is_listed, IsListed, IsReclaimedAt, base_chains, IsKept, IsRisingChain, IsRisingTo, IsRoomier, IsRoomierChain}
+use Rattle.versions.specs.Chains.{Stamped, ChainValue, Chains, ChainsValue, find_chain, seen, seen_in, version_at, value_of, visible, with_value, added, stamped, fresh_chain, IsReady, HasRoom, IsPrepared, one_if_new, new_keys, reclaimed, IsReclaimedAt, base_chains, IsKept, IsRisingChain, IsRisingTo, IsRoomier, IsRoomierChain}
 use Rattle.versions.specs.Meaning.{kept_in, is_written_by, is_among, IsSameMeaning, IsReclaimed, IsTightChain, writes_of}
-use Rattle.versions.proofs.ChainLaws.{seen-added, rising-added, version_at-reclaimed, version_at-newest, tight-reclaimed, rising-seen_by, without_older, reclaimed_twice}
+use Rattle.versions.proofs.ChainLaws.{seen-added, rising-added, version_at-reclaimed, version_at-newest, tight-reclaimed, rising-seen_by, reclaimed_twice}
 use Rattle.model.proofs.Entries.{IsSorted, IsBelowAll, parts}
 use Rattle.versions.proofs.Visibles.{IsMap-visible, value-visible, visible-put, visible-put_same, find_chain-put, sorted-put}
 
@@ -48,22 +44,6 @@ all-put P k c (f ∷ es) p h = elim (key_cmp k f.0) as (λ o. AllByRecursion (λ
 pub kept-put : (k : Bytes) (c : ChainValue) (es : Chains) (last : ℕ) → IsKept es last → IsRisingChain last c → IsKept (put (slice_cmp nat_cmp) k c es) last
 kept-put k c es last h p = record { sorted = sorted-put k c es h.sorted; rising = all-put (IsRisingChain last) k c es p h.rising }
 
--- ---- the keys with older versions
-
-pub listed-put : (k : Bytes) (c : ChainValue) (es : Chains) (ks us : List Bytes) → IsListed es ks → ((q : Bytes) → is_listed ks q ≡ true → is_listed us q ≡ true) → (has_older (Some c) ≡ true → is_listed us k ≡ true)
-    → IsListed (put (slice_cmp nat_cmp) k c es) us
-listed-put k c es ks us h more here q t =
-    elim (is_same_key q k) as (λ b. is_same_key q k ≡ b → has_older (cond b (Some c) (find_chain q es)) ≡ true → is_listed us q ≡ true) [
-      | true ↦ λ s o. ap (is_listed us) (same_key q k s) ∙ here o
-      | false ↦ λ s o. more q (h q o)
-    ] refl (ap has_older (sym (find_chain-put q k c es)) ∙ t)
-
-pub listed_first : (q : Bytes) (ks : List Bytes) (k : Bytes) → is_listed ks q ≡ true → is_listed (ks ++ k ∷ []) q ≡ true
-listed_first q ks k t = list_any-append (is_same_key q) ks (k ∷ []) ∙ or_left (is_listed ks q) (is_listed (k ∷ []) q) t
-
-pub listed_last : (q : Bytes) (ks : List Bytes) (k : Bytes) → k ≡ q → is_listed (ks ++ k ∷ []) q ≡ true
-listed_last q ks k e = list_any-append (is_same_key q) ks (k ∷ []) ∙ or_right (is_listed ks q) (is_listed (k ∷ []) q) (or_left (is_same_key q k) false (ap (is_same_key q) e ∙ same_key_itself q))
-
 -- ---- the chains of a map
 
 below_base : (k : Bytes) (m : KeyMap) → T (below_all (slice_cmp nat_cmp) k m) → IsBelowAll k (base_chains m)
@@ -80,13 +60,6 @@ rising_base (p ∷ ps) = ((tt, omega arith), rising_base ps)
 
 pub kept-base : (m : KeyMap) → IsMap m → IsKept (base_chains m) 0
 kept-base m h = record { sorted = sorted_base m h; rising = rising_base m }
-
-pub listed-base : (m : KeyMap) → IsListed (base_chains m) []
-listed-base [] k t = t
-listed-base (p ∷ ps) k t = elim (is_same_key k p.0) as (λ b. has_older (cond b (Some (fresh_chain (stamped 0 (Some p.1)) 0)) (find_chain k (base_chains ps))) ≡ true → false ≡ true) [
-  | true ↦ λ o. o
-  | false ↦ λ o. listed-base ps k o
-] t
 
 pub visible-base : (n : ℕ) (m : KeyMap) → visible n (base_chains m) ≡ m
 visible-base n [] = refl
@@ -166,15 +139,6 @@ room_roomier None None h r = tt
 room_roomier None (Some d) h r = absurd h
 room_roomier (Some c) None h r = absurd h
 room_roomier (Some c) (Some d) h r = omega (arith, h.room)
-
-older_roomier : (o p : Option ChainValue) → RoomierFound o p → has_older p ≡ has_older o
-older_roomier None None h = refl
-older_roomier None (Some d) h = absurd h
-older_roomier (Some c) None h = absurd h
-older_roomier (Some c) (Some d) h = ap (λ l. nat_lt 0 (length l)) h.older
-
-pub listed-roomier : (es fs : Chains) (ks : List Bytes) → IsRoomier es fs → IsListed es ks → IsListed fs ks
-listed-roomier es fs ks more h k t = h k (sym (older_roomier (find_chain k es) (find_chain k fs) (find-roomier k es fs more)) ∙ t)
 
 pub same-roomier : (old new : ChainsValue) → IsRoomier old.chains new.chains → new.last ≡ old.last → IsSameMeaning old new
 same-roomier old new h e = record {
@@ -314,29 +278,19 @@ kept-step n k w ws room es =
 
 -- ---- a reclaim
 
-untouched : (bs : List ℕ) (o : Option ChainValue) → has_older o ≡ false → o ≡ option_map (reclaimed bs) o
-untouched bs None e = refl
-untouched bs (Some c) e = ap Some (sym (without_older bs c.older c.newest c.room e))
-
-twice : (bs : List ℕ) (o : Option ChainValue) → IfSome o (λ c. IsRisingTo c.older c.newest.number) → option_map (reclaimed bs) (option_map (reclaimed bs) o) ≡ option_map (reclaimed bs) o
+pub twice : (bs : List ℕ) (o : Option ChainValue) → IfSome o (λ c. IsRisingTo c.older c.newest.number) → option_map (reclaimed bs) (option_map (reclaimed bs) o) ≡ option_map (reclaimed bs) o
 twice bs None h = refl
 twice bs (Some c) h = ap Some (reclaimed_twice bs c h)
 
-rising_found : (k : Bytes) (es : Chains) (last : ℕ) → IsKept es last → IfSome (find_chain k es) (λ c. IsRisingChain last c)
+pub rising_found : (k : Bytes) (es : Chains) (last : ℕ) → IsKept es last → IfSome (find_chain k es) (λ c. IsRisingChain last c)
 rising_found k es last h = elim (find_chain k es) as (λ o. find_chain k es ≡ o → IfSome o (λ c. IsRisingChain last c)) [
   | None ↦ λ e. tt
   | Some c ↦ λ e. all-find (IsRisingChain last) k c es h.rising e
 ] refl
 
-rising_older : (last : ℕ) (o : Option ChainValue) → IfSome o (λ c. IsRisingChain last c) → IfSome o (λ c. IsRisingTo c.older c.newest.number)
+pub rising_older : (last : ℕ) (o : Option ChainValue) → IfSome o (λ c. IsRisingChain last c) → IfSome o (λ c. IsRisingTo c.older c.newest.number)
 rising_older last None h = tt
 rising_older last (Some c) h = h.0
-
-length-swap_remove : {X : Type 0} (xs : List X) (i : ℕ) (d : X) → i < length xs → length (swap_remove xs i d) + 1 ≡ length xs
-length-swap_remove xs i d lt = grind (arith, common_steps)
-
-take-swap_remove : {X : Type 0} (xs : List X) (i : ℕ) (d : X) → i < length xs → take i (swap_remove xs i d) ≡ take i xs
-take-swap_remove xs i d lt = grind (arith, common_steps)
 
 -- which default is named makes no difference
 pub swap_remove-default : {X : Type 0} (xs : List X) (i : ℕ) (d e : X) → 0 < length xs → swap_remove xs i d ≡ swap_remove xs i e
@@ -346,89 +300,6 @@ swap_remove-default {X} xs i d e lt = let last : length xs - 1 < length xs = ome
     any_default [] j h = absurd (omega arith)
     any_default (y ∷ ys) zero h = refl
     any_default (y ∷ ys) (suc j) h = any_default ys j (omega arith)
-
--- the chains of the first of the keys are as they were, and all others are reclaimed
-pub record Reclaiming (bs : List ℕ) (old now : Chains) (ks : List Bytes) (left : ℕ) : Type 0 where
-  pub in_range : left ≤ length ks
-  pub kept : (last : ℕ) → IsKept old last → IsKept now last
-  pub listed : IsListed now ks
-  pub each : (k : Bytes) → (find_chain k now ≡ option_map (reclaimed bs) (find_chain k old)) ⊎ ((find_chain k now ≡ find_chain k old) × (is_listed (take left ks) k ≡ true))
-
-pub reclaiming-begun : (bs : List ℕ) (old : Chains) (ks : List Bytes) (left : ℕ) → left ≡ length ks → IsListed old ks → Reclaiming bs old old ks left
-reclaiming-begun bs old ks left all h = record {
-  in_range = omega arith;
-  kept = λ last g. g;
-  listed = h;
-  each = λ k. elim (cases_Bool (has_older (find_chain k old))) [
-    | inl t ↦ inr (refl, ap (λ l. is_listed l k) (ap (λ n. take n ks) all ∙ take-length ks) ∙ h k t)
-    | inr f ↦ inl (untouched bs (find_chain k old) f)
-  ];
-}
-
-module _ (bs : List ℕ) (old now new : Chains) (ks : List Bytes) (m left last : ℕ) (k : Bytes) (next : left ≡ m + 1) (at : k ≡ get_or ks m k) (ordered : IsKept old last) (r : Reclaiming bs old now ks left) (reclaims : IsReclaimedAt bs k now new) where
-  here : find_chain k new ≡ option_map (reclaimed bs) (find_chain k old)
-  here = reclaims.found k ∙ ap (λ b. if b then option_map (reclaimed bs) (find_chain k now) else find_chain k now) (same_key_itself k)
-      ∙ elim (r.each k) [
-        | inl done ↦ ap (option_map (reclaimed bs)) done ∙ twice bs (find_chain k old) (rising_older last (find_chain k old) (rising_found k old last ordered))
-        | inr same ↦ ap (option_map (reclaimed bs)) same.0
-      ]
-
-  elsewhere : (q : Bytes) → is_same_key q k ≡ false → find_chain q new ≡ find_chain q now
-  elsewhere q f = reclaims.found q ∙ ap (λ b. if b then option_map (reclaimed bs) (find_chain k now) else find_chain q now) f
-
-  within : m < length ks
-  within = let h = r.in_range in omega arith
-
-  each_next : (q : Bytes) → (find_chain q new ≡ option_map (reclaimed bs) (find_chain q old)) ⊎ ((find_chain q new ≡ find_chain q old) × (is_listed (take m ks) q ≡ true))
-  each_next q = elim (cases_Bool (is_same_key q k)) [
-    | inl t ↦ let same : q ≡ k = same_key q k t in inl (ap (λ (j : Bytes). find_chain j new) same ∙ here ∙ ap (λ (j : Bytes). option_map (reclaimed bs) (find_chain j old)) (sym same))
-    | inr f ↦ elim (r.each q) [
-      | inl done ↦ inl (elsewhere q f ∙ done)
-      | inr same ↦ inr (elsewhere q f ∙ same.0, earlier q f same.1)
-    ]
-  ]
-    where
-      earlier : (q : Bytes) → is_same_key q k ≡ false → is_listed (take left ks) q ≡ true → is_listed (take m ks) q ≡ true
-      earlier q f t = elim (or_cases (is_listed (take m ks) q) (is_same_key q (get_or ks m k)) (sym (list_any_more (is_same_key q) ks m k within) ∙ ap (λ n. is_listed (take n ks) q) (sym next) ∙ t)) [
-        | inl e ↦ e
-        | inr e ↦ absurd (both_ways _ f (ap (is_same_key q) at ∙ e))
-      ]
-
-  kept_next : (last : ℕ) → IsKept old last → IsKept new last
-  kept_next last g = reclaims.kept last (r.kept last g)
-
-  -- the key stays in the list
-  pub reclaiming-stays : has_older (find_chain k new) ≡ true → Reclaiming bs old new ks m
-  reclaiming-stays t = record {
-    in_range = let h = within in omega arith;
-    kept = kept_next;
-    listed = λ q o. elim (cases_Bool (is_same_key q k)) [
-      | inl s ↦ list_any_at (is_same_key q) ks m k within (ap (is_same_key q) (sym at) ∙ s)
-      | inr f ↦ r.listed q (ap has_older (sym (elsewhere q f)) ∙ o)
-    ];
-    each = each_next;
-  }
-
-  -- the key leaves the list
-  pub reclaiming-leaves : (us : List Bytes) → us ≡ swap_remove ks m k → has_older (find_chain k new) ≡ false → Reclaiming bs old new us m
-  reclaiming-leaves us is none = record {
-    in_range = let h = within in omega (arith, ap length is, length-swap_remove ks m k within);
-    kept = kept_next;
-    listed = λ q o. elim (cases_Bool (is_same_key q k)) [
-      | inl s ↦ absurd (both_ways _ none (ap (λ (j : Bytes). has_older (find_chain j new)) (sym (same_key q k s)) ∙ o))
-      | inr f ↦ ap (λ l. is_listed l q) is ∙ sym (ap (λ b. b || is_listed (swap_remove ks m k) q) f) ∙ sym (list_any-IsPermutation (is_same_key q) ks (k ∷ swap_remove ks m k) (IsPermutation-swap_remove ks m k within at)) ∙ r.listed q (ap has_older (sym (elsewhere q f)) ∙ o)
-    ];
-    each = λ q. elim (each_next q) [
-      | inl done ↦ inl done
-      | inr same ↦ inr (same.0, ap (λ l. is_listed l q) (ap (take m) is ∙ take-swap_remove ks m k within) ∙ same.1)
-    ];
-  }
-
-pub reclaiming-ended : (bs : List ℕ) (old now : Chains) (ks : List Bytes) (left : ℕ) → left ≡ 0 → Reclaiming bs old now ks left → (k : Bytes) → find_chain k now ≡ option_map (reclaimed bs) (find_chain k old)
-reclaiming-ended bs old now ks left e r k = elim (r.each k) [
-  | inl done ↦ done
-  | inr same ↦ absurd (both_ways false refl (ap (λ n. is_listed (take n ks) k) (sym e) ∙ same.1))
-]
 
 -- which numbers see what they saw
 sees_same : (bs : List ℕ) (last n : ℕ) (c : ChainValue) → c.newest.number ≤ last → (is_among bs n || nat_le last n) ≡ true → seen n (reclaimed bs c) ≡ seen n c

@@ -1,5 +1,5 @@
 -- Chains of versions by key, as contracts see them.
-use Rattle.std.specs.Prelude.{◌≡◌, ℕ, T, ◌+◌, ◌-◌, ◌<◌, ◌≤◌, Bool, false, List, [], ◌∷◌, ◌++◌, length, Option, Some, None, option_map, nat_le, nat_lt, ◌&&◌, if◌then◌else◌, IsTrue, ⊤}
+use Rattle.std.specs.Prelude.{◌≡◌, ℕ, T, ◌+◌, ◌-◌, ◌<◌, ◌≤◌, Bool, List, [], ◌∷◌, ◌++◌, length, Option, Some, None, option_map, nat_le, nat_lt, ◌&&◌, if◌then◌else◌, ⊤}
 use Rattle.std.specs.List.{AllByRecursion, list_any}
 use Rattle.std.specs.Ordering.{nat_cmp}
 use Rattle.std.specs.Cmp.Lexicographic.{slice_cmp}
@@ -25,9 +25,9 @@ Chains = List (Bytes × ChainValue)
 pub record ChainsValue : Type 0 where
   pub chains : Chains
   pub spare : ℕ
-  -- the keys that may have older versions, and how many more fit without memory
-  pub crowded : List Bytes
-  pub crowded_spare : ℕ
+  -- how many more older versions, and groups of them, are listed without memory
+  pub listed_spare : ℕ
+  pub groups_spare : ℕ
   pub last : ℕ
 
 -- the last version with a number of at most n, and d where there is none
@@ -101,7 +101,8 @@ new_keys es (w ∷ ws) = one_if_new (find_chain w.0 es) + new_keys es ws
 pub record IsPrepared (v : ChainsValue) (ws : List KeyWrite) : Type 0 where
   pub chains : AllByRecursion (λ w. HasRoom (find_chain w.0 v.chains)) ws
   pub spare : new_keys v.chains ws ≤ v.spare
-  pub crowded : length ws ≤ v.crowded_spare
+  pub listed : length ws ≤ v.listed_spare
+  pub groups : 1 ≤ v.groups_spare
 
 -- ---- what a reclaim leaves
 
@@ -135,19 +136,6 @@ IsRisingChain last c = IsRisingTo c.older c.newest.number × (c.newest.number �
 pub record IsKept (chains : Chains) (last : ℕ) : Type 0 where
   pub sorted : T (is_sorted (slice_cmp nat_cmp) chains)
   pub rising : AllByRecursion (λ e. IsRisingChain last e.1) chains
-
--- ---- which keys have older versions
-
-abbrev pub has_older : Option ChainValue → Bool
-has_older None = false
-has_older (Some c) = nat_lt 0 (length c.older)
-
-abbrev pub is_listed : List Bytes → Bytes → Bool
-is_listed ks k = list_any (is_same_key k) ks
-
--- each key with older versions is among these
-abbrev pub IsListed : Chains → List Bytes → Type 0
-IsListed chains ks = (k : Bytes) → IsTrue (has_older (find_chain k chains)) → IsTrue (is_listed ks k)
 
 -- the key's chain was reclaimed, and no other has changed
 pub record IsReclaimedAt (bs : List ℕ) (k : Bytes) (old new : Chains) : Type 0 where

@@ -1,4 +1,5 @@
 pub mod Chains
+pub mod Listings
 pub mod Meaning
 pub mod StandsFor
 pub mod Lent

@@ -2,7 +2,7 @@
 use Rattle.std.specs.Prelude.{◌≡◌, ℕ, ◌+◌, Bool, ◌||◌, ◌==◌, nat_le, IsTrue, List, [], ◌∷◌, length, Option, Some, None, option_map, if◌then◌else◌}
 use Rattle.std.specs.List.{AllByRecursion, list_any}
 use Rattle.model.specs.Map.{Bytes, KeyMap, KeyWrite, is_same_key, after_writes}
-use Rattle.versions.specs.Chains.{Stamped, ChainValue, ChainsValue, version_at, visible, find_chain, reclaimed}
+use Rattle.versions.specs.Chains.{Stamped, ChainValue, Chains, ChainsValue, version_at, visible, find_chain, reclaimed}
 
 -- the map that number n sees
 abbrev pub map_seen : ChainsValue → ℕ → KeyMap
@@ -37,6 +37,12 @@ writes_of (w ∷ ws) k = (if is_same_key k w.0 then 1 else 0) + writes_of ws k
 
 abbrev pub is_written_by : List KeyWrite → Bytes → Bool
 is_written_by ws k = list_any (λ w. is_same_key k w.0) ws
+
+-- the writes came into the chains with number n, and nothing else has changed
+pub record AreInstalled (old new : Chains) (n : ℕ) (ws : List KeyWrite) : Type 0 where
+  pub maps : (m : ℕ) → visible m new ≡ (if nat_le n m then after_writes (visible m old) ws else visible m old)
+  pub newest : (k : Bytes) → option_map (λ (c : ChainValue). c.newest.number) (find_chain k new) ≡ (if is_written_by ws k then Some n else option_map (λ (c : ChainValue). c.newest.number) (find_chain k old))
+  pub kept : (k : Bytes) → kept_in (find_chain k new) ≡ kept_in (find_chain k old) + writes_of ws k
 
 -- the writes came in with number n, and nothing else has changed
 pub record IsInstalled (old new : ChainsValue) (n : ℕ) (ws : List KeyWrite) : Type 0 where

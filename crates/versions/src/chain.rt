@@ -1,7 +1,8 @@
 //! The versions of one key.
 ghost use Rattle.std.specs.Prelude.{◌≡◌, ◌+◌, ◌<◌, ◌≤◌, length, IsOk, OnOk, option_copied};
 ghost use Rattle.model.specs.Map.{key_cmp};
-ghost use Rattle.versions.specs.Chains.{seen, longer_chain, fresh_chain, has_older, reclaimed, is_between};
+ghost use Rattle.versions.specs.Chains.{seen, longer_chain, fresh_chain, reclaimed, is_between};
+ghost use Rattle.versions.specs.Listings.{has_version};
 
 use model::{Key, KeyRef};
 use std::alloc::{AllocError, Global};
@@ -82,11 +83,11 @@ impl Chain {
         self.older.len() + 1
     }
 
-    // Is there a version before the newest?
-    pub(crate) fn has_older(&self) -> bool
-        ensures { result ≡ has_older (Some self.now.1) }
+    // Is there a version of this number before the newest?
+    pub(crate) fn has_version(&self, n: u64) -> bool
+        ensures { result ≡ has_version n (Some self.now.1) }
     {
-        !self.older.is_empty()
+        self.older.iter().any(|version| version.number == n)
     }
 
     // What number `n` sees. The walk starts at the newest, which most readers see.

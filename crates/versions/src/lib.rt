@@ -5,7 +5,9 @@
 #![tactic(auto)]
 
 mod chain;
+mod installing;
 mod laws;
+mod listing;
 mod pairs;
 mod reclaiming;
 mod searching;

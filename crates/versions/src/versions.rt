@@ -11,12 +11,15 @@ ghost use Rattle.versions.specs.Lent.{range_pairs};
 ghost use Rattle.versions.specs.StandsFor.{StandsFor};
 
 use crate::chain::{Chain, Version};
+use crate::installing::add_all;
+use crate::listing::{Group, OldVersion};
 use crate::pairs::Pairs;
-use crate::reclaiming::reclaim_crowded;
+use crate::reclaiming::{join_groups, reclaim_listed};
 use crate::searching::{search, split_place};
-use model::{Key, KeyRef, Map, Memory, RangeRef, Write};
+use model::{KeyRef, Map, Memory, RangeRef, Write};
 use std::alloc::{AllocError, Global};
 use std::marker::Model;
+use std::mem;
 
 /// The versions of all keys, found by binary search. A clause sees the map that each number sees (`map_seen`), the number of each
 /// key's newest version (`newest_of`), how many versions of it are kept (`kept_of`), and the histories that these stand for
@@ -25,22 +28,25 @@ use std::marker::Model;
 pub struct Versions {
     // by rising key
     chains: Vec<Chain>,
-    // the keys with older versions, so that a reclaim need not look at the others
-    crowded: Vec<Key>,
+    // the older versions, each under a number that sees it, so that a reclaim need not look at all keys
+    groups: Vec<Group>,
+    // empty, with room for the older versions that the next commit makes
+    listed: Vec<OldVersion>,
     // the greatest number that was installed
     last: u64,
 }
 
 impl Model for Versions {
-    ghost use Rattle.std.specs.Prelude.{◌-◌};
+    ghost use Rattle.std.specs.Prelude.{◌≡◌, ◌-◌, []};
     ghost use Rattle.std.specs.Vec.{vec_len, vec_capacity};
-    ghost use Rattle.versions.specs.Chains.{ChainsValue, IsKept, IsListed};
+    ghost use Rattle.versions.specs.Chains.{ChainsValue, IsKept};
+    ghost use Rattle.versions.specs.Listings.{IsListed};
 
     ghost Value = { ChainsValue };
 
-    ghost view = { λ v. record { chains = v.chains.items; spare = vec_capacity v.chains - vec_len v.chains; crowded = v.crowded.items; crowded_spare = vec_capacity v.crowded - vec_len v.crowded; last = v.last } };
+    ghost view = { λ v. record { chains = v.chains.items; spare = vec_capacity v.chains - vec_len v.chains; listed_spare = vec_capacity v.listed - vec_len v.listed; groups_spare = vec_capacity v.groups - vec_len v.groups; last = v.last } };
 
-    ghost invariant = { λ v. IsKept v.chains.items v.last × IsListed v.chains.items v.crowded.items };
+    ghost invariant = { λ v. IsKept v.chains.items v.last × IsListed v.chains.items v.groups.items × (v.listed.items ≡ []) };
 }
 
 impl Versions {
@@ -59,7 +65,8 @@ impl Versions {
         }
         Ok(Versions {
             chains,
-            crowded: Vec::new(alloc),
+            groups: Vec::new(alloc),
+            listed: Vec::new(alloc),
             last: 0,
         })
     }
@@ -120,8 +127,8 @@ impl Versions {
     fn make_room(&mut self, key: &[u8]) -> Result<usize, AllocError>
         ensures chains { IsRoomier self.old.chains self.new.chains }
         ensures spare { self.new.spare ≡ self.old.spare }
-        ensures crowded { self.new.crowded ≡ self.old.crowded }
-        ensures crowded_spare { self.new.crowded_spare ≡ self.old.crowded_spare }
+        ensures listed_spare { self.new.listed_spare ≡ self.old.listed_spare }
+        ensures groups_spare { self.new.groups_spare ≡ self.old.groups_spare }
         ensures last { self.new.last ≡ self.old.last }
         ensures room { OnOk result (HasRoom (find_chain key.now self.new.chains)) }
         ensures new { IfOk result (λ count. count ≡ one_if_new (find_chain key.now self.new.chains)) }
@@ -150,42 +157,9 @@ impl Versions {
             new_chains += self.make_room(write.lend_key().bytes())?;
         }
         self.chains.reserve(new_chains)?;
-        self.crowded.reserve(writes.len())?;
+        self.listed.reserve(writes.len())?;
+        self.groups.reserve(1)?;
         Ok(())
-    }
-
-    // Adds a version in the room that was made for it.
-    fn add(&mut self, n: u64, write: Write)
-        requires ready { IsReady n (find_chain write.0 self.old.chains) }
-        requires spare { one_if_new (find_chain write.0 self.old.chains) ≤ self.old.spare }
-        requires crowded_spare { 1 ≤ self.old.crowded_spare }
-        requires within { n ≤ self.old.last }
-        ensures chains { (room : ℕ) × (self.new.chains ≡ put (slice_cmp nat_cmp) write.0 (added (find_chain write.0 self.old.chains) (stamped n write.1) room) self.old.chains) }
-        ensures spare { self.old.spare ≤ self.new.spare + one_if_new (find_chain write.0 self.old.chains) }
-        ensures crowded_spare { self.old.crowded_spare ≤ self.new.crowded_spare + 1 }
-        ensures last { self.new.last ≡ self.old.last }
-    {
-        let (key, value) = write.into_parts();
-        let version = Version { number: n, value };
-        match search(&self.chains, key.lend().bytes()) {
-            Ok(i) => {
-                let is_listed = self.chains[i].has_older();
-                self.chains[i].add(version);
-                if !is_listed {
-                    match self.crowded.push(key) {
-                        Ok(()) => {}
-                        Err(_) => unreachable!(),
-                    }
-                }
-            }
-            Err(i) => {
-                let alloc = *self.chains.allocator();
-                match self.chains.insert(i, Chain::new(alloc, key, version)) {
-                    Ok(()) => {}
-                    Err(_) => unreachable!(),
-                }
-            }
-        }
     }
 
     /// Installs the writes of commit `n` in the room that `prepare` made for them. No number below `n` sees another map than before.
@@ -199,17 +173,26 @@ impl Versions {
         ensures stands { (held : ℕ → Bool) (base : KeyMap) (history : List Record) (r : Record) → StandsFor self.old held base history → length history + 1 ≡ n → r.commit ≡ n → r.writes ≡ writes.items → StandsFor self.new held base (history ++ r ∷ []) }
     {
         self.last = n;
-        for write in writes {
-            self.add(n, write);
+        let alloc = *self.listed.allocator();
+        let mut listed = mem::replace(&mut self.listed, Vec::new(alloc));
+        add_all(&mut self.chains, &mut listed, n, writes);
+        match self.groups.push(Group::new(n - 1, listed)) {
+            Ok(()) => {}
+            Err(_) => unreachable!(),
         }
     }
 
     /// Drops the versions that are neither the newest of their keys nor seen from one of the numbers; there may be no number. A
-    /// deletion that is the newest version of its key stays. Looks at the keys with older versions alone, and takes no memory.
+    /// deletion that is the newest version of its key stays.
+    ///
+    /// Each older version is listed under a number that sees it, and is looked at once that number is none of these, so the cost is
+    /// that of the versions that came in or lost their number since the last time, not of all that are kept. It takes no memory that
+    /// it needs: two lists are joined where memory for that is granted, and stay apart otherwise.
     pub fn reclaim(&mut self, begins: &[u64])
         ensures reclaimed { IsReclaimed self.old self.new begins.now }
         ensures stands { (held : ℕ → Bool) (base : KeyMap) (history : List Record) → StandsFor self.old held base history → StandsFor self.new (λ n. held n && is_among begins.now n) base history }
     {
-        reclaim_crowded(&mut self.chains, &mut self.crowded, begins);
+        reclaim_listed(&mut self.chains, &mut self.groups, begins);
+        join_groups(&mut self.groups);
     }
 }

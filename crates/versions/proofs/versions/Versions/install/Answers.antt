@@ -1,31 +1,27 @@
-use Rattle.std.proofs.Common.{ap, subst, refl, arith}
-use Rattle.versions.specs.Chains.{ChainsValue, IsKept}
-use Rattle.versions.specs.Meaning.{IsInstalled}
-use Rattle.versions.proofs.Calls.{installing-begun, installing-step, installed-end}
+use Rattle.std.proofs.Common.{◌≡◌, ℕ, List, [], ◌∷◌, ◌++◌, sym, subst, ap, ◌∙◌, refl}
+use Rattle.model.specs.Map.{KeyWrite}
+use Rattle.versions.specs.Chains.{ChainsValue}
+use Rattle.versions.specs.Listings.{GroupValue, IsListed, unwitnessed}
+use Rattle.versions.specs.Meaning.{AreInstalled, IsInstalled}
+use Rattle.versions.proofs.Listings.{groups-found, found-last}
 use Rattle.versions.proofs.Histories.{stands-installed}
 use Rattle.versions.proofs.versions.Versions.install.Goals as goal
 
-pub loop-write-init : goal.loop-write-init
-loop-write-init c =
-    let same = c.self.view_is in
-    installing-begun c.args.n c.args.self.now _ c.args.writes.items _
-    (subst (λ (v : ChainsValue). IsKept v.chains v.last) same c.self.invariant.0) c.requires.above c.requires.rising c.requires.prepared
-    (ap (λ (v : ChainsValue). v.chains) same) (ap (λ (v : ChainsValue). v.spare) same) (ap (λ (v : ChainsValue). v.crowded_spare) same) refl c.into_iter-write-iterator.ensures.into_iter_gives.0
+whole : (old inside new : ChainsValue) (n : ℕ) (ws : List KeyWrite) → inside ≡ old → AreInstalled inside.chains new.chains n ws → new.last ≡ n → IsInstalled old new n ws
+whole old inside new n ws same h last = subst (λ (v : ChainsValue). IsInstalled v new n ws) same (record { maps = h.maps; newest = h.newest; kept = h.kept; last = last })
 
-pub loop-write-preserved : goal.loop-write-preserved
-loop-write-preserved c =
-    let inv = c.loop-write.invariant in
-    installing-step c.args.n _ c.loop-write.self c.add.new.self _ _ c.in-Some.write _ c.add.ensures.chains.0 c.in-Some.ensures.steps.0 inv
-    c.add.ensures.chains.1 c.add.ensures.spare c.add.ensures.crowded_spare c.add.ensures.last
+pub invariant_of-self : goal.invariant_of-self
+invariant_of-self c =
+    let gs = c.self.inside.groups.items in
+    let ls = c.add_all.new.listed.items in (
+      c.add_all.ensures.kept,
+      subst (λ (l : List GroupValue). IsListed c.add_all.new.chains.items l) (sym c.in-Ok.ensures.items)
+          (groups-found c.add_all.new.chains.items (unwitnessed ls ∷ gs) (gs ++ c.new-2.result ∷ []) (found-last gs ls c.new-2.result c.new-2.ensures) (c.add_all.ensures.listed gs c.self.invariant.1)),
+      ap (λ v. v.items) c.replace-listed.ensures.after ∙ c.new.ensures.items,
+    )
 
 pub returns-clause-installed : goal.returns-clause-installed
-returns-clause-installed c =
-    subst (λ l. IsInstalled c.args.self.now c.loop-write.self c.args.n l) c.into_iter-write-iterator.ensures.into_iter_gives.0
-    (installed-end c.args.n _ c.args.self.now c.loop-write.self _ _ (ap (λ (v : ChainsValue). v.chains) c.self.view_is) (omega (arith, c.in-None.ensures.steps.0, c.loop-write.write-iterator.rest.ok.0)) c.loop-write.invariant)
+returns-clause-installed c = whole c.args.self.now _ _ c.args.n c.args.writes.items c.self.view_is c.add_all.ensures.installed refl
 
 pub returns-clause-stands : goal.returns-clause-stands
-returns-clause-stands c = λ held base history r s long commit is.
-    stands-installed c.args.self.now held base history c.loop-write.self c.args.n c.args.writes.items r
-    (subst (λ l. IsInstalled c.args.self.now c.loop-write.self c.args.n l) c.into_iter-write-iterator.ensures.into_iter_gives.0
-    (installed-end c.args.n _ c.args.self.now c.loop-write.self _ _ (ap (λ (v : ChainsValue). v.chains) c.self.view_is) (omega (arith, c.in-None.ensures.steps.0, c.loop-write.write-iterator.rest.ok.0)) c.loop-write.invariant))
-    c.requires.above long commit is s
+returns-clause-stands c = λ held base history r s long commit is. stands-installed c.args.self.now held base history _ c.args.n c.args.writes.items r (returns-clause-installed c) c.requires.above long commit is s

@@ -1,26 +1,28 @@
-use Rattle.std.proofs.Common.{◌≡◌, ℕ, sym, ap, subst, ◌∙◌, set, Some, refl, false}
+use Rattle.std.proofs.Common.{◌≡◌, ℕ, sym, ap, subst, ◌∙◌, set, List, [], Some, refl, false}
 use Rattle.std.proofs.lemmas.Bool.{both_ways}
 use Rattle.model.specs.Map.{Bytes}
 use Rattle.model.specs.Entries.{IsAt}
-use Rattle.versions.specs.Chains.{Chains, ChainsValue, ChainValue, IsKept, IsListed, IsRoomier, HasRoom, one_if_new, find_chain}
-use Rattle.versions.proofs.Stores.{kept-roomier, listed-roomier, roomier-refl}
+use Rattle.versions.specs.Chains.{Chains, ChainsValue, ChainValue, IsKept, IsRoomier, HasRoom, one_if_new, find_chain}
+use Rattle.versions.specs.Listings.{Listed, GroupValue, IsListed}
+use Rattle.versions.proofs.Stores.{kept-roomier, roomier-refl}
+use Rattle.versions.proofs.Listings.{listed-roomier}
 use Rattle.versions.proofs.Calls.{room_made}
 use Rattle.versions.proofs.versions.Versions.make_room.Goals as goal
 
-keeps : (es fs : Chains) (ks : _) (last : ℕ) → IsRoomier es fs → IsKept es last × IsListed es ks → IsKept fs last × IsListed fs ks
-keeps es fs ks last more h = (kept-roomier es fs last more h.0, listed-roomier es fs ks more h.1)
+keeps : (es fs : Chains) (gs : List GroupValue) (ls : List Listed) (last : ℕ) → IsRoomier es fs → IsKept es last × IsListed es gs × (ls ≡ []) → IsKept fs last × IsListed fs gs × (ls ≡ [])
+keeps es fs gs ls last more h = (kept-roomier es fs last more h.0, listed-roomier es fs gs more h.1, h.2)
 
 pub invariant_of-self : goal.invariant_of-self
 invariant_of-self c =
     let es = c.self.inside.chains.items in
     let made = room_made c.args.key.now es c.deref.result.now c.in-Ok.i c.index_mut.result.now c.reserve.new.self c.deref.ensures.value c.in-Ok.ensures.found c.index_mut.ensures.value c.reserve.ensures.key (record { older = c.reserve.ensures.older; newest = c.reserve.ensures.newest; room = c.reserve.ensures.room }) in
-    keeps es _ c.self.inside.crowded.items c.self.inside.last made.roomier c.self.invariant
+    keeps es _ c.self.inside.groups.items c.self.inside.listed.items c.self.inside.last made.roomier c.self.invariant
 
 pub invariant_of-self-in-Ok : goal.invariant_of-self-in-Ok
 invariant_of-self-in-Ok c =
     let es = c.self.inside.chains.items in
     let made = room_made c.args.key.now es c.deref.result.now c.in-Ok.i c.index_mut.result.now c.reserve.new.self c.deref.ensures.value c.in-Ok.ensures.found c.index_mut.ensures.value c.reserve.ensures.key (record { older = c.reserve.ensures.older; newest = c.reserve.ensures.newest; room = c.reserve.ensures.room }) in
-    keeps es _ c.self.inside.crowded.items c.self.inside.last made.roomier c.self.invariant
+    keeps es _ c.self.inside.groups.items c.self.inside.listed.items c.self.inside.last made.roomier c.self.invariant
 
 pub returns-in_err-reserve-in-Ok-clause-chains : goal.returns-in_err-reserve-in-Ok-clause-chains
 returns-in_err-reserve-in-Ok-clause-chains c =

@@ -12,7 +12,7 @@ reserved : (old now new : ChainsValue) → IsRoomier old.chains now.chains → n
 reserved old now new more last same last' = same-roomier old new (subst (λ (es : Chains). IsRoomier old.chains es) (sym same) more) (last' ∙ last)
 
 pub loop-write-init : goal.loop-write-init
-loop-write-init c = record { roomier = roomier-refl c.args.self.now.chains; last = refl; prepared = record { rooms = tt; counted = refl }; spare = refl; crowded_spare = refl; small = omega arith }
+loop-write-init c = record { roomier = roomier-refl c.args.self.now.chains; last = refl; prepared = record { rooms = tt; counted = refl }; spare = refl; listed_spare = refl; groups_spare = refl; small = omega arith }
 
 pub loop-write-preserved : goal.loop-write-preserved
 loop-write-preserved c = record {
@@ -21,7 +21,8 @@ loop-write-preserved c = record {
   prepared = preparing c.args.writes.now c.loop-write.write-index c.write-item.result c.bytes.result.now c.loop-write.self.chains c.make_room.new.self.chains c.loop-write.new_chains c.in_ok-new_chains.field-0
       (omega arith) c.write-item.is (c.bytes.ensures.bytes ∙ c.lend_key.ensures) c.make_room.ensures.chains c.loop-write.invariant.prepared c.in_ok-new_chains.ensures.room c.in_ok-new_chains.ensures.new;
   spare = c.make_room.ensures.spare ∙ c.loop-write.invariant.spare;
-  crowded_spare = c.make_room.ensures.crowded_spare ∙ c.loop-write.invariant.crowded_spare;
+  listed_spare = c.make_room.ensures.listed_spare ∙ c.loop-write.invariant.listed_spare;
+  groups_spare = c.make_room.ensures.groups_spare ∙ c.loop-write.invariant.groups_spare;
   small = one_more c.loop-write.new_chains c.in_ok-new_chains.field-0 c.loop-write.write-index c.bytes.result.now c.make_room.new.self.chains c.loop-write.invariant.small c.in_ok-new_chains.ensures.new;
 }
 
@@ -55,13 +56,19 @@ returns-in_err-reserve-clause-known c = λ p.
     let counted = has_spare c.args.writes.now c.loop-write.write-index c.loop-write.new_chains c.args.self.now.chains c.loop-write.self.chains c.loop-write-test.false c.loop-write.invariant.roomier c.loop-write.invariant.prepared in
     absurd (omega (arith, counted, p.spare, c.loop-write.invariant.spare, ap (λ (v : ChainsValue). v.spare) c.self.view_is, c.in_err-reserve.ensures.full, c.self.inside.chains.ok, c.self.inside.chains.small))
 
--- ---- the list of crowded keys was refused its own
+-- ---- the list, or the groups, were refused theirs
 
 pub returns-in_err-reserve-2-clause-same : goal.returns-in_err-reserve-2-clause-same
 returns-in_err-reserve-2-clause-same c = reserved c.args.self.now c.loop-write.self _ c.loop-write.invariant.roomier c.loop-write.invariant.last (c.reserve.ensures.items ∙ ap (λ (v : ChainsValue). v.chains) c.self.view_is) (ap (λ (v : ChainsValue). v.last) c.self.view_is)
 
 pub returns-in_err-reserve-2-clause-stands : goal.returns-in_err-reserve-2-clause-stands
 returns-in_err-reserve-2-clause-stands c = λ held base history s. stands-same c.args.self.now held base history _ (returns-in_err-reserve-2-clause-same c) s
+
+pub returns-in_err-reserve-3-clause-same : goal.returns-in_err-reserve-3-clause-same
+returns-in_err-reserve-3-clause-same c = reserved c.args.self.now c.loop-write.self _ c.loop-write.invariant.roomier c.loop-write.invariant.last (c.reserve.ensures.items ∙ ap (λ (v : ChainsValue). v.chains) c.self.view_is) (ap (λ (v : ChainsValue). v.last) c.self.view_is)
+
+pub returns-in_err-reserve-3-clause-stands : goal.returns-in_err-reserve-3-clause-stands
+returns-in_err-reserve-3-clause-stands c = λ held base history s. stands-same c.args.self.now held base history _ (returns-in_err-reserve-3-clause-same c) s
 
 -- ---- all room is there
 
@@ -78,4 +85,5 @@ returns-clause-prepared c =
     let q = subst (λ (es : Chains). Preparing es c.args.writes.now c.loop-write.new_chains) (sym is) p in
     let room = c.in_ok-reserve.ensures.ok in
     let listed = c.in_ok-reserve-2.ensures.ok in
-    record { chains = q.rooms; spare = omega (arith, q.counted, room); crowded = omega arith }
+    let groups = c.in_ok-reserve-3.ensures.ok in
+    record { chains = q.rooms; spare = omega (arith, q.counted, room); listed = omega arith; groups = omega arith }

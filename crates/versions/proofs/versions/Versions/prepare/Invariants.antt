@@ -10,6 +10,7 @@ invariant-loop-write l = record {
   last : l.self.last ≡ l.initial.self.last;
   prepared : Preparing l.self.chains (take l.write-index l.writes) l.new_chains;
   spare : l.self.spare ≡ l.initial.self.spare;
-  crowded_spare : l.self.crowded_spare ≡ l.initial.self.crowded_spare;
+  listed_spare : l.self.listed_spare ≡ l.initial.self.listed_spare;
+  groups_spare : l.self.groups_spare ≡ l.initial.self.groups_spare;
   small : l.new_chains ≤ l.write-index;
 }

@@ -1,0 +1,345 @@
+-- The loops over what is listed.
+use Rattle.std.proofs.Common.{◌≡◌, ℕ, zero, suc, ◌+◌, ◌-◌, ◌<◌, ◌≤◌, true, false, ◌&&◌, ◌||◌, List, [], ◌∷◌, ◌++◌, length, take, drop, get_or, set, Option, Some, None, refl, sym, ap, subst, ◌∙◌, arith, inl, inr}
+use Rattle.std.specs.Prelude.{option_map, nat_lt, nat_le, ◌==◌, not, ◌⊎◌, if◌then◌else◌, swap_remove, IfSome}
+use Rattle.std.proofs.lemmas.Grind.{common_steps}
+use Rattle.std.specs.List.{AllByRecursion, remove}
+use Rattle.std.proofs.lemmas.List.Folds.{list_any-append}
+use Rattle.std.proofs.lemmas.List.Sorted.{list_any-IsPermutation, IsPermutation-swap_remove}
+use Rattle.std.proofs.lemmas.Bool.{both_ways, or_cases, or_left, or_right}
+use Rattle.std.proofs.lemmas.Bool.Decides.{nat_tests}
+use Rattle.model.specs.Map.{Bytes, is_same_key}
+use Rattle.model.proofs.Lookups.{same_key, same_key_itself}
+use Rattle.versions.specs.Chains.{Stamped, ChainValue, Chains, find_chain, first_number, is_between, reclaimed, IsKept, IsReclaimedAt}
+use Rattle.versions.specs.Listings.{Listed, GroupValue, is_seen_from, is_seen_by, AreSeenFrom, is_of, is_in, is_listed, AreListed, IsListedChain, IsListed, AreFound, has_version, AreNeeded, IsNeededChain, IsSettled, IsPartReclaimed, AreKept}
+use Rattle.versions.specs.Meaning.{is_among}
+use Rattle.versions.proofs.Stores.{rising_found}
+use Rattle.versions.proofs.Calls.{take_all}
+use Rattle.versions.proofs.ChainLaws.{any-weaker, between-wider}
+use Rattle.versions.proofs.Listings.{needed-chain, reclaimed-needed, part-refl, part-at, part-trans, all-settled-part, left-part, listed-part}
+
+-- ---- a fact of each element
+
+all-set : {X : Type 0} (P : X → Type 0) (xs : List X) (i : ℕ) (y : X) → P y → AllByRecursion P xs → AllByRecursion P (set xs i y)
+all-set P [] i y p h = tt
+all-set P (x ∷ xs) zero y p h = (p, h.1)
+all-set P (x ∷ xs) (suc i) y p h = (h.0, all-set P xs i y p h.1)
+
+all-take : {X : Type 0} (P : X → Type 0) (xs : List X) (i : ℕ) → AllByRecursion P xs → AllByRecursion P (take i xs)
+all-take P [] zero h = tt
+all-take P [] (suc i) h = tt
+all-take P (x ∷ xs) zero h = tt
+all-take P (x ∷ xs) (suc i) h = (h.0, all-take P xs i h.1)
+
+all-get : {X : Type 0} (P : X → Type 0) (xs : List X) (i : ℕ) (d : X) → i < length xs → AllByRecursion P xs → P (get_or xs i d)
+all-get P [] i d lt h = absurd (omega arith)
+all-get P (x ∷ xs) zero d lt h = h.0
+all-get P (x ∷ xs) (suc i) d lt h = all-get P xs i d (omega arith) h.1
+
+all-swap_remove : {X : Type 0} (P : X → Type 0) (xs : List X) (i : ℕ) (d : X) → i < length xs → AllByRecursion P xs → AllByRecursion P (swap_remove xs i d)
+all-swap_remove P xs i d lt h = all-take P (set xs i (get_or xs (length xs - 1) d)) (length xs - 1) (all-set P xs i (get_or xs (length xs - 1) d) (all-get P xs (length xs - 1) d (omega arith) h) h)
+
+-- those behind the place that was filled from the end
+rest-filled : {X : Type 0} (P : X → Type 0) (xs : List X) (i n : ℕ) (d : X) → length xs ≡ suc n → i < length xs → AllByRecursion P (drop (suc i) xs) → AllByRecursion P (drop i (take n (set xs i (get_or xs n d))))
+rest-filled P [] i n d long lt h = absurd (omega arith)
+rest-filled P (x ∷ []) zero n d long lt h = subst (λ k. AllByRecursion P (take k (get_or (x ∷ []) k d ∷ []))) {x = 0} {y = n} (omega (arith, long)) tt
+rest-filled P (x ∷ y ∷ xs) zero zero d long lt h = absurd (omega arith)
+rest-filled P (x ∷ y ∷ xs) zero (suc n) d long lt h = (all-get P (y ∷ xs) n d (omega (arith, long)) h, all-take P (y ∷ xs) n h)
+rest-filled P (x ∷ xs) (suc i) zero d long lt h = absurd (omega arith)
+rest-filled P (x ∷ xs) (suc i) (suc n) d long lt h = rest-filled P xs i n d (omega (arith, long)) (omega arith) h
+
+rest-swap_remove : {X : Type 0} (P : X → Type 0) (xs : List X) (i : ℕ) (d : X) → i < length xs → AllByRecursion P (drop (suc i) xs) → AllByRecursion P (drop i (swap_remove xs i d))
+rest-swap_remove P xs i d lt h = rest-filled P xs i (length xs - 1) d (omega arith) lt h
+
+rest-more : {X : Type 0} (P : X → Type 0) (xs : List X) (i : ℕ) (x : X) → i < length xs → x ≡ get_or xs i x → P x → AllByRecursion P (drop (suc i) xs) → AllByRecursion P (drop i xs)
+rest-more P [] i x lt at p h = absurd (omega arith)
+rest-more P (y ∷ xs) zero x lt at p h = (subst P at p, h)
+rest-more P (y ∷ xs) (suc i) x lt at p h = rest-more P xs i x (omega arith) at p h
+
+length-swap_remove : {X : Type 0} (xs : List X) (i : ℕ) (d : X) → i < length xs → length (swap_remove xs i d) + 1 ≡ length xs
+length-swap_remove xs i d lt = grind (arith, common_steps)
+
+-- ---- one of the numbers sees the version
+
+among-between : (bs : List ℕ) (n : ℕ) (v : Listed) → is_among bs n ≡ true → is_seen_from n v ≡ true → is_between bs v.number v.next ≡ true
+among-between bs n v t s = any-weaker (λ b. b == n) (λ b. nat_le v.number b && nat_lt b v.next) bs (λ b e. grind (arith, nat_tests, e, s)) t
+
+next-between : (bs : List ℕ) (o : Option ℕ) (v : Listed) → IfSome o (λ n. is_among bs n ≡ true) → is_seen_by o v ≡ true → is_between bs v.number v.next ≡ true
+next-between bs None v a s = absurd (both_ways _ refl s)
+next-between bs (Some n) v a s = among-between bs n v a s
+
+pub all-between : (bs : List ℕ) (es : Chains) (n : ℕ) (vs : List Listed) → is_among bs n ≡ true → AreSeenFrom n vs → AllByRecursion (IsSettled bs es) vs
+all-between bs es n [] t h = tt
+all-between bs es n (v ∷ vs) t h = (inl (among-between bs n v t h.0), all-between bs es n vs t h.1)
+
+-- ---- the loop over a group's versions
+
+-- those from `left` on were looked after
+pub record Dropping (bs : List ℕ) (old now : Chains) (os vs : List Listed) (left : ℕ) : Type 0 where
+  pub in_range : left ≤ length vs
+  pub part : IsPartReclaimed bs old now
+  pub kept : (last : ℕ) → IsKept old last → IsKept now last
+  pub settled : AllByRecursion (IsSettled bs now) (drop left vs)
+  pub left_out : AreKept os vs now
+  pub seen : (n : ℕ) → AreSeenFrom n os → AreSeenFrom n vs
+
+pub dropping-begun : (bs : List ℕ) (es : Chains) (os : List Listed) (left : ℕ) → left ≡ length os → Dropping bs es es os os left
+dropping-begun bs es os left all = record {
+  in_range = omega arith;
+  part = part-refl bs es;
+  kept = λ last h. h;
+  settled = subst (λ l. AllByRecursion (IsSettled bs es) l) (sym (ap (λ n. drop n os) all ∙ drop-all os)) tt;
+  left_out = λ k n high t. or_left (is_in os k n high) (not (has_version n (find_chain k es))) t;
+  seen = λ n h. h;
+}
+  where
+    drop-all : (xs : List Listed) → drop (length xs) xs ≡ []
+    drop-all [] = refl
+    drop-all (x ∷ xs) = drop-all xs
+
+-- some number sees the version
+pub dropping-seen : (bs : List ℕ) (old now : Chains) (os vs : List Listed) (m left : ℕ) (v : Listed) (o : Option ℕ) → left ≡ m + 1 → v ≡ get_or vs m v → IfSome o (λ n. is_among bs n ≡ true) → is_seen_by o v ≡ true
+    → Dropping bs old now os vs left → Dropping bs old now os vs m
+dropping-seen bs old now os vs m left v o next at a s d = record {
+  in_range = (let h = d.in_range in omega arith);
+  part = d.part;
+  kept = d.kept;
+  settled = rest-more (IsSettled bs now) vs m v (let h = d.in_range in omega arith) at (inl (next-between bs o v a s)) (subst (λ n. AllByRecursion (IsSettled bs now) (drop n vs)) {x = left} {y = suc m} (omega arith) d.settled);
+  left_out = d.left_out;
+  seen = d.seen;
+}
+
+module _ (bs : List ℕ) (old now new : Chains) (os vs : List Listed) (m left last : ℕ) (v : Listed) (next : left ≡ m + 1) (at : v ≡ get_or vs m v) (ordered : IsKept old last) (r : IsReclaimedAt bs v.key now new) (d : Dropping bs old now os vs left) where
+  step : IsPartReclaimed bs now new
+  step = part-at bs v.key now new r
+
+  within : m < length vs
+  within = let h = d.in_range in omega arith
+
+  rest : AllByRecursion (IsSettled bs new) (drop (suc m) vs)
+  rest = all-settled-part bs now new step (drop (suc m) vs) (subst (λ n. AllByRecursion (IsSettled bs now) (drop n vs)) {x = left} {y = suc m} (omega arith) d.settled)
+
+  needed : IsNeededChain bs (find_chain v.key new)
+  needed = subst (IsNeededChain bs) (sym (r.found v.key ∙ ap (λ b. if b then option_map (reclaimed bs) (find_chain v.key now) else find_chain v.key now) (same_key_itself v.key))) (needed-chain bs (find_chain v.key now) last (rising_found v.key now last (d.kept last ordered)))
+
+  -- the version is still there
+  pub dropping-stays : Dropping bs old new os vs m
+  dropping-stays = record {
+    in_range = let h = within in omega arith;
+    part = part-trans bs old now new last ordered d.part step;
+    kept = λ n h. r.kept n (d.kept n h);
+    settled = rest-more (IsSettled bs new) vs m v within at (inr needed) rest;
+    left_out = left-part bs now new os vs step d.left_out;
+    seen = d.seen;
+  }
+
+  -- the version is gone
+  pub dropping-leaves : (us : List Listed) → us ≡ swap_remove vs m v → has_version v.number (find_chain v.key new) ≡ false → Dropping bs old new os us m
+  dropping-leaves us is gone = record {
+    in_range = let h = within in omega (arith, ap length is, length-swap_remove vs m v within);
+    part = part-trans bs old now new last ordered d.part step;
+    kept = λ n h. r.kept n (d.kept n h);
+    settled = subst (λ l. AllByRecursion (IsSettled bs new) (drop m l)) (sym is) (rest-swap_remove (IsSettled bs new) vs m v within rest);
+    left_out = λ k n high t. elim (or_cases (is_in vs k n high) (not (has_version n (find_chain k new))) (left-part bs now new os vs step d.left_out k n high t)) [
+      | inl e ↦ elim (or_cases (is_of k n high v) (is_in (swap_remove vs m v) k n high) (sym (list_any-IsPermutation (is_of k n high) vs (v ∷ swap_remove vs m v) (IsPermutation-swap_remove vs m v within at)) ∙ e)) [
+        | inl own ↦ or_right (is_in us k n high) (not (has_version n (find_chain k new))) (ap not (absent k n high own))
+        | inr other ↦ or_left (is_in us k n high) (not (has_version n (find_chain k new))) (ap (λ l. is_in l k n high) is ∙ other)
+      ]
+      | inr e ↦ or_right (is_in us k n high) (not (has_version n (find_chain k new))) e
+    ];
+    seen = λ n h. subst (AreSeenFrom n) (sym is) (all-swap_remove (λ x. is_seen_from n x ≡ true) vs m v within (d.seen n h));
+  }
+    where
+      absent : (k : Bytes) (n high : ℕ) → is_of k n high v ≡ true → has_version n (find_chain k new) ≡ false
+      absent k n high own =
+          let key : is_same_key k v.key ≡ true = grind (arith, own) in
+          let number : v.number ≡ n = grind (arith, nat_tests, own) in
+          ap (λ (j : Bytes). has_version n (find_chain j new)) (same_key k v.key key) ∙ ap (λ i. has_version i (find_chain v.key new)) (sym number) ∙ gone
+
+-- ---- the loop over groups
+
+-- what is in the groups before i was looked after
+pub record Settling (bs : List ℕ) (old now : Chains) (gs : List GroupValue) (i : ℕ) : Type 0 where
+  pub part : IsPartReclaimed bs old now
+  pub kept : (last : ℕ) → IsKept old last → IsKept now last
+  pub listed : IsListed now gs
+  pub settled : AllByRecursion (λ g. AllByRecursion (IsSettled bs now) g.versions) (take i gs)
+
+pub settling-begun : (bs : List ℕ) (es : Chains) (gs : List GroupValue) → IsListed es gs → Settling bs es es gs 0
+settling-begun bs es gs h = record { part = part-refl bs es; kept = λ last k. k; listed = h; settled = none gs }
+  where
+    none : (xs : List GroupValue) → AllByRecursion (λ g. AllByRecursion (IsSettled bs es) g.versions) (take 0 xs)
+    none [] = tt
+    none (x ∷ xs) = tt
+
+take-more : {X : Type 0} (P : X → Type 0) (xs : List X) (i : ℕ) (x : X) → i < length xs → x ≡ get_or xs i x → P x → AllByRecursion P (take i xs) → AllByRecursion P (take (suc i) xs)
+take-more P [] i x lt at p h = absurd (omega arith)
+take-more P (y ∷ xs) zero x lt at p h = (subst P at p, nothing xs)
+  where
+    nothing : (ys : List _) → AllByRecursion P (take 0 ys)
+    nothing [] = tt
+    nothing (z ∷ ys) = tt
+take-more P (y ∷ xs) (suc i) x lt at p h = (h.0, take-more P xs i x (omega arith) at p h.1)
+
+-- the witness is one of the numbers
+pub settling-held : (bs : List ℕ) (old now : Chains) (gs : List GroupValue) (i : ℕ) (g : GroupValue) → i < length gs → g ≡ get_or gs i g → is_among bs g.witness ≡ true → AreSeenFrom g.witness g.versions
+    → Settling bs old now gs i → Settling bs old now gs (i + 1)
+settling-held bs old now gs i g lt at held seen s = record {
+  part = s.part;
+  kept = s.kept;
+  listed = s.listed;
+  settled = subst (λ n. AllByRecursion (λ (g : GroupValue). AllByRecursion (IsSettled bs now) g.versions) (take n gs)) {x = suc i} {y = i + 1} (omega arith) (take-more (λ (g : GroupValue). AllByRecursion (IsSettled bs now) g.versions) gs i g lt at (all-between bs now g.witness g.versions held seen) s.settled);
+}
+
+take-set : {X : Type 0} (xs : List X) (i : ℕ) (y : X) → take i (set xs i y) ≡ take i xs
+take-set [] zero y = refl
+take-set [] (suc i) y = refl
+take-set (x ∷ xs) zero y = refl
+take-set (x ∷ xs) (suc i) y = ap (λ l. x ∷ l) (take-set xs i y)
+
+length-set : {X : Type 0} (xs : List X) (i : ℕ) (y : X) → length (set xs i y) ≡ length xs
+length-set [] i y = refl
+length-set (x ∷ xs) zero y = refl
+length-set (x ∷ xs) (suc i) y = ap suc (length-set xs i y)
+
+get-set : {X : Type 0} (xs : List X) (i : ℕ) (y d : X) → i < length xs → get_or (set xs i y) i d ≡ y
+get-set [] i y d lt = absurd (omega arith)
+get-set (x ∷ xs) zero y d lt = refl
+get-set (x ∷ xs) (suc i) y d lt = get-set xs i y d (omega arith)
+
+all-parts-settled : (bs : List ℕ) (now new : Chains) → IsPartReclaimed bs now new → (gs : List GroupValue) → AllByRecursion (λ g. AllByRecursion (IsSettled bs now) g.versions) gs → AllByRecursion (λ g. AllByRecursion (IsSettled bs new) g.versions) gs
+all-parts-settled bs now new p [] h = tt
+all-parts-settled bs now new p (g ∷ gs) h = (all-settled-part bs now new p g.versions h.0, all-parts-settled bs now new p gs h.1)
+
+-- what is listed with another group in a group's place
+listed-set : (gs : List GroupValue) (i : ℕ) (g h : GroupValue) (k : Bytes) (n high : ℕ) → i < length gs → g ≡ get_or gs i g → (is_in g.versions k n high ≡ true → is_in h.versions k n high ≡ true) → is_listed gs k n high ≡ true → is_listed (set gs i h) k n high ≡ true
+listed-set [] i g h k n high lt at more t = absurd (omega arith)
+listed-set (x ∷ gs) zero g h k n high lt at more t = elim (or_cases (is_in x.versions k n high) (is_listed gs k n high) t) [
+  | inl e ↦ or_left (is_in h.versions k n high) (is_listed gs k n high) (more (ap (λ (y : GroupValue). is_in y.versions k n high) at ∙ e))
+  | inr e ↦ or_right (is_in h.versions k n high) (is_listed gs k n high) e
+]
+listed-set (x ∷ gs) (suc i) g h k n high lt at more t = elim (or_cases (is_in x.versions k n high) (is_listed gs k n high) t) [
+  | inl e ↦ or_left (is_in x.versions k n high) (is_listed (set gs i h) k n high) e
+  | inr e ↦ or_right (is_in x.versions k n high) (is_listed (set gs i h) k n high) (listed-set gs i g h k n high (omega arith) at more e)
+]
+
+-- the group was looked after
+pub settling-settled : (bs : List ℕ) (old now new : Chains) (gs : List GroupValue) (i last : ℕ) (g h : GroupValue) → i < length gs → g ≡ get_or gs i g → IsKept old last → IsPartReclaimed bs now new → ((last : ℕ) → IsKept now last → IsKept new last)
+    → AllByRecursion (IsSettled bs new) h.versions → AreKept g.versions h.versions new → Settling bs old now gs i → Settling bs old new (set gs i h) (i + 1)
+settling-settled bs old now new gs i last g h lt at ordered p keeps settled left s = record {
+  part = part-trans bs old now new last ordered s.part p;
+  kept = λ n k. keeps n (s.kept n k);
+  listed = listed-part bs now new gs (set gs i h) last (s.kept last ordered) p (λ k n high there t. listed-set gs i g h k n high lt at (λ e. still k n high there e) t) s.listed;
+  settled = subst (λ n. AllByRecursion (λ (g : GroupValue). AllByRecursion (IsSettled bs new) g.versions) (take n (set gs i h))) {x = suc i} {y = i + 1} (omega arith) (take-more (λ (g : GroupValue). AllByRecursion (IsSettled bs new) g.versions) (set gs i h) i h (omega (arith, length-set gs i h)) (sym (get-set gs i h h lt)) settled
+      (subst (λ l. AllByRecursion (λ (g : GroupValue). AllByRecursion (IsSettled bs new) g.versions) l) (sym (take-set gs i h)) (all-parts-settled bs now new p (take i gs) s.settled)));
+}
+  where
+    still : (k : Bytes) (n high : ℕ) → has_version n (find_chain k new) ≡ true → is_in g.versions k n high ≡ true → is_in h.versions k n high ≡ true
+    still k n high there e = elim (or_cases (is_in h.versions k n high) (not (has_version n (find_chain k new))) (left k n high e)) [
+      | inl a ↦ a
+      | inr b ↦ absurd (both_ways false refl (sym (ap not there) ∙ b))
+    ]
+
+-- ---- the end of the loop
+
+listed-needed : (bs : List ℕ) (es : Chains) (k : Bytes) (n high : ℕ) (vs : List Listed) → AllByRecursion (IsSettled bs es) vs → is_in vs k n high ≡ true → (is_between bs n high ≡ true) ⊎ IsNeededChain bs (find_chain k es)
+listed-needed bs es k n high [] h t = absurd (both_ways _ refl t)
+listed-needed bs es k n high (v ∷ vs) h t = elim (or_cases (is_of k n high v) (is_in vs k n high) t) [
+  | inl own ↦ elim h.0 [
+    | inl b ↦ inl (between-wider bs v.number v.next n high (grind (arith, nat_tests, own)) (grind (arith, nat_tests, own)) b)
+    | inr c ↦ inr (subst (λ (j : Bytes). IsNeededChain bs (find_chain j es)) (sym (same_key k v.key (grind (arith, own)))) c)
+  ]
+  | inr e ↦ listed-needed bs es k n high vs h.1 e
+]
+
+group-needed : (bs : List ℕ) (es : Chains) (k : Bytes) (n high : ℕ) (gs : List GroupValue) → AllByRecursion (λ g. AllByRecursion (IsSettled bs es) g.versions) gs → is_listed gs k n high ≡ true → (is_between bs n high ≡ true) ⊎ IsNeededChain bs (find_chain k es)
+group-needed bs es k n high [] h t = absurd (both_ways _ refl t)
+group-needed bs es k n high (g ∷ gs) h t = elim (or_cases (is_in g.versions k n high) (is_listed gs k n high) t) [
+  | inl e ↦ listed-needed bs es k n high g.versions h.0 e
+  | inr e ↦ group-needed bs es k n high gs h.1 e
+]
+
+-- all versions of the chain are needed, or one of them tells so of the chain
+each-needed : (bs : List ℕ) (es : Chains) (k : Bytes) (next : ℕ) (gs : List GroupValue) (us : List Stamped) → AllByRecursion (λ g. AllByRecursion (IsSettled bs es) g.versions) gs → AreListed gs k next us → AreNeeded bs next us ⊎ IsNeededChain bs (find_chain k es)
+each-needed bs es k next gs [] h l = inl tt
+each-needed bs es k next gs (u ∷ us) h l = elim (group-needed bs es k u.number (first_number us next) gs h l.0) [
+  | inl b ↦ elim (each-needed bs es k next gs us h l.1) [ inl c ↦ inl (b, c) | inr c ↦ inr c ]
+  | inr c ↦ inr c
+]
+
+chain-needed : (bs : List ℕ) (es : Chains) (k : Bytes) (gs : List GroupValue) (o : Option ChainValue) → find_chain k es ≡ o → AllByRecursion (λ g. AllByRecursion (IsSettled bs es) g.versions) gs → IsListedChain gs k o → IsNeededChain bs o
+chain-needed bs es k gs None e h l = tt
+chain-needed bs es k gs (Some c) e h l = elim (each-needed bs es k c.newest.number gs c.older h l) [ inl x ↦ x | inr x ↦ subst (IsNeededChain bs) e x ]
+
+pub settling-ended : (bs : List ℕ) (old now : Chains) (gs : List GroupValue) (i : ℕ) → length gs ≤ i → Settling bs old now gs i → (k : Bytes) → find_chain k now ≡ option_map (reclaimed bs) (find_chain k old)
+settling-ended bs old now gs i all s k = elim (s.part k) [
+  | inl same ↦ sym (ap (option_map (reclaimed bs)) (sym same) ∙ reclaimed-needed bs (find_chain k now) (chain-needed bs now k gs (find_chain k now) refl (subst (λ l. AllByRecursion (λ (g : GroupValue). AllByRecursion (IsSettled bs now) g.versions) l) (take_all gs i all) s.settled) (s.listed k)))
+  | inr done ↦ done
+]
+
+-- ---- groups that are joined
+
+pub found-remove : (gs : List GroupValue) (i : ℕ) (g : GroupValue) → i < length gs → g ≡ get_or gs i g → g.versions ≡ [] → AreFound gs (remove gs i)
+found-remove [] i g lt at none k n high t = absurd (omega arith)
+found-remove (x ∷ gs) zero g lt at none k n high t = elim (or_cases (is_in x.versions k n high) (is_listed gs k n high) t) [
+  | inl e ↦ absurd (both_ways false refl (sym (ap (λ l. is_in l k n high) none) ∙ ap (λ (y : GroupValue). is_in y.versions k n high) at ∙ e))
+  | inr e ↦ e
+]
+found-remove (x ∷ gs) (suc i) g lt at none k n high t = elim (or_cases (is_in x.versions k n high) (is_listed gs k n high) t) [
+  | inl e ↦ or_left (is_in x.versions k n high) (is_listed (remove gs i) k n high) e
+  | inr e ↦ or_right (is_in x.versions k n high) (is_listed (remove gs i) k n high) (found-remove gs i g (omega arith) at none k n high e)
+]
+
+pub found-trans : (fs gs hs : List GroupValue) → AreFound fs gs → AreFound gs hs → AreFound fs hs
+found-trans fs gs hs a b k n high t = b k n high (a k n high t)
+
+-- a group's versions move to the one before it
+pub found-joined : (gs hs : List GroupValue) (i : ℕ) (a g j : GroupValue) → suc i < length gs → a ≡ get_or gs i a → g ≡ get_or gs (suc i) g → hs ≡ set (remove gs (suc i)) i j → j.versions ≡ a.versions ++ g.versions → AreFound gs hs
+found-joined gs hs i a g j lt first second is both k n high t = ap (λ l. is_listed l k n high) is ∙ at gs i lt first second t
+  where
+    inside : is_in j.versions k n high ≡ (is_in a.versions k n high || is_in g.versions k n high)
+    inside = ap (λ l. is_in l k n high) both ∙ list_any-append (is_of k n high) a.versions g.versions
+
+    at : (xs : List GroupValue) (m : ℕ) → suc m < length xs → a ≡ get_or xs m a → g ≡ get_or xs (suc m) g → is_listed xs k n high ≡ true → is_listed (set (remove xs (suc m)) m j) k n high ≡ true
+    at [] m lt first second t = absurd (omega arith)
+    at (x ∷ []) m lt first second t = absurd (omega arith)
+    at (x ∷ y ∷ xs) zero lt first second t =
+        let there = inside in
+        let one = ap (λ (z : GroupValue). is_in z.versions k n high) first in
+        let two = ap (λ (z : GroupValue). is_in z.versions k n high) second in
+        elim (or_cases (is_in x.versions k n high) (is_in y.versions k n high || is_listed xs k n high) t) [
+          | inl e ↦ or_left (is_in j.versions k n high) (is_listed xs k n high) (there ∙ or_left (is_in a.versions k n high) (is_in g.versions k n high) (one ∙ e))
+          | inr r ↦ elim (or_cases (is_in y.versions k n high) (is_listed xs k n high) r) [
+            | inl e ↦ or_left (is_in j.versions k n high) (is_listed xs k n high) (there ∙ or_right (is_in a.versions k n high) (is_in g.versions k n high) (two ∙ e))
+            | inr e ↦ or_right (is_in j.versions k n high) (is_listed xs k n high) e
+          ]
+        ]
+    at (x ∷ y ∷ xs) (suc m) lt first second t = elim (or_cases (is_in x.versions k n high) (is_listed (y ∷ xs) k n high) t) [
+      | inl e ↦ or_left (is_in x.versions k n high) (is_listed (set (remove (y ∷ xs) (suc m)) m j) k n high) e
+      | inr e ↦ or_right (is_in x.versions k n high) (is_listed (set (remove (y ∷ xs) (suc m)) m j) k n high) (at (y ∷ xs) m (omega arith) first second e)
+    ]
+
+get-other : {X : Type 0} (xs : List X) (i : ℕ) (y d : X) → get_or (set xs i y) (suc i) d ≡ get_or xs (suc i) d
+get-other [] i y d = refl
+get-other (x ∷ xs) zero y d = refl
+get-other (x ∷ xs) (suc i) y d = get-other xs i y d
+
+get-before : {X : Type 0} (xs : List X) (i : ℕ) (d : X) → suc i < length xs → get_or (remove xs (suc i)) i d ≡ get_or xs i d
+get-before [] i d lt = absurd (omega arith)
+get-before (x ∷ []) i d lt = absurd (omega arith)
+get-before (x ∷ y ∷ xs) zero d lt = refl
+get-before (x ∷ y ∷ xs) (suc i) d lt = get-before (y ∷ xs) i d (omega arith)
+
+join-at : (gs : List GroupValue) (i : ℕ) (x r a g j : GroupValue) → suc i < length gs → x ≡ get_or gs i x → r.versions ≡ x.versions → g ≡ get_or (set gs i r) (suc i) g → a ≡ get_or (remove (set gs i r) (suc i)) i a
+    → j.versions ≡ a.versions ++ g.versions → AreFound gs (set (remove (set gs i r) (suc i)) i j)
+join-at gs i x r a g j lt at same second first both =
+    let long : suc i < length (set gs i r) = omega (arith, length-set gs i r) in
+    found-trans gs (set gs i r) (set (remove (set gs i r) (suc i)) i j)
+    (λ k n high t. listed-set gs i x r k n high (omega arith) at (λ e. ap (λ l. is_in l k n high) same ∙ e) t)
+    (found-joined (set gs i r) (set (remove (set gs i r) (suc i)) i j) i a g j long (first ∙ get-before (set gs i r) i a long) second refl both)
+
+pub join-found : (gs hs : List GroupValue) (i m : ℕ) (x r a g j : GroupValue) → i ≡ suc m → i < length gs → x ≡ get_or gs m x → r.versions ≡ x.versions → g ≡ get_or (set gs m r) i g → hs ≡ remove (set gs m r) i → a ≡ get_or hs m a
+    → j.versions ≡ a.versions ++ g.versions → AreFound gs (set hs m j)
+join-found gs hs i m x r a g j e lt at same second less first both =
+    let is : hs ≡ remove (set gs m r) (suc m) = less ∙ ap (remove (set gs m r)) e in
+    subst (λ l. AreFound gs (set l m j)) (sym is)
+    (join-at gs m x r a g j (omega (arith, e)) at same (subst (λ (p : ℕ). g ≡ get_or (set gs m r) p g) e second) (first ∙ ap (λ l. get_or l m a) is) both)

@@ -1,0 +1,240 @@
+-- Each older version is listed: where chains are made, get more room, a version more, or are reclaimed.
+use Rattle.std.proofs.Common.{◌≡◌, ℕ, ◌+◌, ◌-◌, ◌≤◌, Bool, true, false, cond, ◌&&◌, List, [], ◌∷◌, ◌++◌, length, Option, Some, None, refl, sym, ap, subst, ◌∙◌, arith, inl, inr}
+use Rattle.std.specs.Prelude.{option_map, nat_le, if◌then◌else◌, ◌==◌, not, ◌⊎◌, IfSome}
+use Rattle.std.specs.List.{AllByRecursion, list_any}
+use Rattle.std.proofs.lemmas.List.Folds.{list_any-append}
+use Rattle.std.specs.Ordering.{nat_cmp}
+use Rattle.std.specs.Cmp.Lexicographic.{slice_cmp}
+use Rattle.std.specs.FinMap.Entries.{put}
+use Rattle.std.proofs.lemmas.Bool.{cases_Bool, both_ways, or_cases, or_left, or_right}
+use Rattle.std.proofs.lemmas.Bool.Decides.{nat_tests}
+use Rattle.model.specs.Map.{Bytes, KeyMap, is_same_key}
+use Rattle.model.proofs.Lookups.{same_key, same_key_itself}
+use Rattle.versions.specs.Chains.{Stamped, ChainValue, Chains, find_chain, added, fresh_chain, stamped, first_number, is_between, seen_by, reclaimed, base_chains, IsKept, IsRisingTo, IsRisingChain, IsReclaimedAt, IsRoomier}
+use Rattle.versions.specs.Listings.{Listed, GroupValue, is_of, is_in, is_listed, AreListed, IsListedChain, IsListed, AreFound, unwitnessed, followed, has_version, AreNeeded, IsNeededChain, IsSettled, IsPartReclaimed, AreKept}
+use Rattle.versions.proofs.ChainLaws.{any-weaker, between-wider, first_rises}
+use Rattle.versions.proofs.Stores.{RoomierFound, find-roomier, twice, rising_found, rising_older}
+use Rattle.versions.proofs.Visibles.{find_chain-put}
+
+-- ---- more groups
+
+listed-found : (gs hs : List GroupValue) → AreFound gs hs → (k : Bytes) (next : ℕ) (vs : List Stamped) → AreListed gs k next vs → AreListed hs k next vs
+listed-found gs hs more k next [] h = tt
+listed-found gs hs more k next (v ∷ vs) h = (more k v.number (first_number vs next) h.0, listed-found gs hs more k next vs h.1)
+
+chain-found : (gs hs : List GroupValue) → AreFound gs hs → (k : Bytes) (o : Option ChainValue) → IsListedChain gs k o → IsListedChain hs k o
+chain-found gs hs more k None h = tt
+chain-found gs hs more k (Some c) h = listed-found gs hs more k c.newest.number c.older h
+
+pub groups-found : (es : Chains) (gs hs : List GroupValue) → AreFound gs hs → IsListed es gs → IsListed es hs
+groups-found es gs hs more h k = chain-found gs hs more k (find_chain k es) (h k)
+
+-- ---- chains that are made, and more room
+
+pub listed-base : (m : KeyMap) (gs : List GroupValue) → IsListed (base_chains m) gs
+listed-base [] gs k = tt
+listed-base (p ∷ ps) gs k = elim (is_same_key k p.0) as (λ b. IsListedChain gs k (cond b (Some (fresh_chain (stamped 0 (Some p.1)) 0)) (find_chain k (base_chains ps)))) [
+  | true ↦ tt
+  | false ↦ listed-base ps gs k
+]
+
+chain-roomier : (gs : List GroupValue) (k : Bytes) (o p : Option ChainValue) → RoomierFound o p → IsListedChain gs k o → IsListedChain gs k p
+chain-roomier gs k None None r h = tt
+chain-roomier gs k None (Some d) r h = absurd r
+chain-roomier gs k (Some c) None r h = absurd r
+chain-roomier gs k (Some c) (Some d) r h = subst (λ (p : List Stamped × Stamped). AreListed gs k p.1.number p.0) {x = (c.older, c.newest)} {y = (d.older, d.newest)} (λ i. (sym r.older i, sym r.newest i)) h
+
+pub listed-roomier : (es fs : Chains) (gs : List GroupValue) → IsRoomier es fs → IsListed es gs → IsListed fs gs
+listed-roomier es fs gs more h k = chain-roomier gs k (find_chain k es) (find_chain k fs) (find-roomier k es fs more) (h k)
+
+-- ---- a version more
+
+listed-push : (gs hs : List GroupValue) → AreFound gs hs → (k : Bytes) (vs : List Stamped) (v : Stamped) (n : ℕ) → AreListed gs k v.number vs → is_listed hs k v.number n ≡ true → AreListed hs k n (vs ++ v ∷ [])
+listed-push gs hs more k [] v n h l = (l, tt)
+listed-push gs hs more k (u ∷ []) v n h l = (more k u.number v.number h.0, (l, tt))
+listed-push gs hs more k (u ∷ w ∷ vs) v n h l = (more k u.number w.number h.0, listed-push gs hs more k (w ∷ vs) v n h.1 l)
+
+listed-added : (gs hs : List GroupValue) → AreFound gs hs → (k : Bytes) (o : Option ChainValue) (v : Stamped) (room : ℕ) → IsListedChain gs k o → ((c : ChainValue) → o ≡ Some c → is_listed hs k c.newest.number v.number ≡ true)
+    → IsListedChain hs k (Some (added o v room))
+listed-added gs hs more k None v room h l = tt
+listed-added gs hs more k (Some c) v room h l = listed-push gs hs more k c.older c.newest v.number h (l c refl)
+
+listed-put : (k : Bytes) (v : Stamped) (room : ℕ) (es : Chains) (gs hs : List GroupValue) → AreFound gs hs → IsListed es gs → ((c : ChainValue) → find_chain k es ≡ Some c → is_listed hs k c.newest.number v.number ≡ true)
+    → IsListed (put (slice_cmp nat_cmp) k (added (find_chain k es) v room) es) hs
+listed-put k v room es gs hs more h l q =
+    let c = added (find_chain k es) v room in
+    subst (IsListedChain hs q) (sym (find_chain-put q k c es))
+    (elim (is_same_key q k) as (λ b. is_same_key q k ≡ b → IsListedChain hs q (cond b (Some c) (find_chain q es))) [
+      | true ↦ λ s. subst (λ (j : Bytes). IsListedChain hs j (Some c)) (sym (same_key q k s)) (listed-added gs hs more k (find_chain k es) v room (h k) l)
+      | false ↦ λ s. chain-found gs hs more q (find_chain q es) (h q)
+    ] refl)
+
+found-push : (ls us : List Listed) (gs : List GroupValue) → AreFound (unwitnessed ls ∷ gs) (unwitnessed (ls ++ us) ∷ gs)
+found-push ls us gs k n high t = elim (or_cases (is_in ls k n high) (is_listed gs k n high) t) [
+  | inl e ↦ or_left (is_in (ls ++ us) k n high) (is_listed gs k n high) (list_any-append (is_of k n high) ls us ∙ or_left (is_in ls k n high) (is_in us k n high) e)
+  | inr e ↦ or_right (is_in (ls ++ us) k n high) (is_listed gs k n high) e
+]
+
+is_itself : (k : Bytes) (n high : ℕ) → is_of k n high (record { key = k; number = n; next = high }) ≡ true
+is_itself k n high = ap (λ b. b && (n == n && nat_le high high)) (same_key_itself k) ∙ grind (arith, nat_tests)
+
+listed-followed : (ls : List Listed) (gs : List GroupValue) (k : Bytes) (n : ℕ) (o : Option ChainValue) (c : ChainValue) → o ≡ Some c → is_listed (unwitnessed (ls ++ followed o k n) ∷ gs) k c.newest.number n ≡ true
+listed-followed ls gs k n None c e = absurd (not_some e)
+  where
+    not_some : ◌≡◌ {A = Option ChainValue} None (Some c) → ⊥
+    not_some e = cc
+listed-followed ls gs k n (Some d) c e =
+    let same : d ≡ c = cc in
+    or_left (is_in (ls ++ followed (Some d) k n) k c.newest.number n) (is_listed gs k c.newest.number n)
+    (list_any-append (is_of k c.newest.number n) ls (followed (Some d) k n)
+    ∙ or_right (is_in ls k c.newest.number n) (is_in (followed (Some d) k n) k c.newest.number n)
+    (or_left (is_of k c.newest.number n (record { key = k; number = d.newest.number; next = n })) false
+    (ap (λ (x : ChainValue). is_of k c.newest.number n (record { key = k; number = x.newest.number; next = n })) same ∙ is_itself k c.newest.number n)))
+
+-- a write comes in
+pub listed-write : (k : Bytes) (n : ℕ) (value : Option Bytes) (room : ℕ) (es : Chains) (ls : List Listed) (gs : List GroupValue) → IsListed es (unwitnessed ls ∷ gs)
+    → IsListed (put (slice_cmp nat_cmp) k (added (find_chain k es) (stamped n value) room) es) (unwitnessed (ls ++ followed (find_chain k es) k n) ∷ gs)
+listed-write k n value room es ls gs h =
+    listed-put k (stamped n value) room es (unwitnessed ls ∷ gs) (unwitnessed (ls ++ followed (find_chain k es) k n) ∷ gs) (found-push ls (followed (find_chain k es) k n) gs) h
+    (λ c e. listed-followed ls gs k n (find_chain k es) c e)
+
+-- the list becomes the last of the groups
+pub found-last : (gs : List GroupValue) (vs : List Listed) (g : GroupValue) → g.versions ≡ vs → AreFound (unwitnessed vs ∷ gs) (gs ++ g ∷ [])
+found-last gs vs g e k n high t =
+    list_any-append (λ (g : GroupValue). is_in g.versions k n high) gs (g ∷ [])
+    ∙ elim (or_cases (is_in vs k n high) (is_listed gs k n high) t) [
+      | inl own ↦ or_right (is_listed gs k n high) (is_listed (g ∷ []) k n high) (or_left (is_in g.versions k n high) false (ap (λ l. is_in l k n high) e ∙ own))
+      | inr other ↦ or_left (is_listed gs k n high) (is_listed (g ∷ []) k n high) other
+    ]
+
+-- ---- a reclaim of one chain
+
+listed-later : (gs : List GroupValue) (k : Bytes) (n high high' : ℕ) → high ≤ high' → is_listed gs k n high ≡ true → is_listed gs k n high' ≡ true
+listed-later gs k n high high' le = any-weaker (λ (g : GroupValue). is_in g.versions k n high) (λ (g : GroupValue). is_in g.versions k n high') gs
+    (λ g. any-weaker (is_of k n high) (is_of k n high') g.versions (λ v t. grind (arith, nat_tests, t, le)))
+
+listed-seen : (gs : List GroupValue) (k : Bytes) (bs : List ℕ) (n : ℕ) (vs : List Stamped) → IsRisingTo vs n → AreListed gs k n vs → AreListed gs k n (seen_by bs n vs)
+listed-seen gs k bs n [] r h = tt
+listed-seen gs k bs n (v ∷ vs) r h =
+    elim (is_between bs v.number (first_number vs n)) as (λ b. AreListed gs k n (if b then v ∷ seen_by bs n vs else seen_by bs n vs)) [
+      | true ↦ (listed-later gs k v.number (first_number vs n) (first_number (seen_by bs n vs) n) (first_rises bs n vs r.2) h.0, listed-seen gs k bs n vs r.2 h.1)
+      | false ↦ listed-seen gs k bs n vs r.2 h.1
+    ]
+
+-- the versions that are kept are needed
+needed-seen : (bs : List ℕ) (n : ℕ) (vs : List Stamped) → IsRisingTo vs n → AreNeeded bs n (seen_by bs n vs)
+needed-seen bs n [] r = tt
+needed-seen bs n (v ∷ vs) r =
+    elim (is_between bs v.number (first_number vs n)) as (λ b. is_between bs v.number (first_number vs n) ≡ b → AreNeeded bs n (if b then v ∷ seen_by bs n vs else seen_by bs n vs)) [
+      | true ↦ λ t. (between-wider bs v.number (first_number vs n) v.number (first_number (seen_by bs n vs) n) (omega arith) (first_rises bs n vs r.2) t, needed-seen bs n vs r.2)
+      | false ↦ λ t. needed-seen bs n vs r.2
+    ] refl
+
+pub needed-chain : (bs : List ℕ) (o : Option ChainValue) (last : ℕ) → IfSome o (λ c. IsRisingChain last c) → IsNeededChain bs (option_map (reclaimed bs) o)
+needed-chain bs None last h = tt
+needed-chain bs (Some c) last h = needed-seen bs c.newest.number c.older h.0
+
+-- where all are needed, none goes
+needed-same : (bs : List ℕ) (n : ℕ) (vs : List Stamped) → AreNeeded bs n vs → seen_by bs n vs ≡ vs
+needed-same bs n [] h = refl
+needed-same bs n (v ∷ vs) h = ap (λ b. if b then v ∷ seen_by bs n vs else seen_by bs n vs) h.0 ∙ ap (λ l. v ∷ l) (needed-same bs n vs h.1)
+
+reclaimed-same : (bs : List ℕ) (c : ChainValue) (us : List Stamped) → us ≡ c.older → ◌≡◌ {A = ChainValue} (record { older = us; newest = c.newest; room = c.room + (length c.older - length us) }) c
+reclaimed-same bs c us e = ap (λ (l : List Stamped). record { older = l; newest = c.newest; room = c.room + (length c.older - length l) }) e
+    ∙ (let same : c.room + (length c.older - length c.older) ≡ c.room = omega arith in λ i. record { older = c.older; newest = c.newest; room = same i })
+
+pub reclaimed-needed : (bs : List ℕ) (o : Option ChainValue) → IsNeededChain bs o → option_map (reclaimed bs) o ≡ o
+reclaimed-needed bs None h = refl
+reclaimed-needed bs (Some c) h = ap Some (reclaimed-same bs c (seen_by bs c.newest.number c.older) (needed-same bs c.newest.number c.older h))
+
+any-seen : (p : Stamped → Bool) (bs : List ℕ) (n : ℕ) (vs : List Stamped) → list_any p (seen_by bs n vs) ≡ true → list_any p vs ≡ true
+any-seen p bs n [] t = t
+any-seen p bs n (v ∷ vs) t =
+    elim (is_between bs v.number (first_number vs n)) as (λ b. list_any p (if b then v ∷ seen_by bs n vs else seen_by bs n vs) ≡ true → list_any p (v ∷ vs) ≡ true) [
+      | true ↦ λ e. elim (or_cases (p v) (list_any p (seen_by bs n vs)) e) [ inl a ↦ or_left (p v) (list_any p vs) a | inr a ↦ or_right (p v) (list_any p vs) (any-seen p bs n vs a) ]
+      | false ↦ λ e. or_right (p v) (list_any p vs) (any-seen p bs n vs e)
+    ] t
+
+has_reclaimed : (bs : List ℕ) (n : ℕ) (o : Option ChainValue) → has_version n o ≡ false → has_version n (option_map (reclaimed bs) o) ≡ false
+has_reclaimed bs n None e = refl
+has_reclaimed bs n (Some c) e = elim (cases_Bool (has_version n (option_map (reclaimed bs) (Some c)))) [
+  | inl t ↦ absurd (both_ways _ e (any-seen (λ (v : Stamped). v.number == n) bs c.newest.number c.older t))
+  | inr f ↦ f
+]
+
+-- ---- chains that were reclaimed in part
+
+pub part-refl : (bs : List ℕ) (es : Chains) → IsPartReclaimed bs es es
+part-refl bs es k = inl refl
+
+pub part-at : (bs : List ℕ) (k : Bytes) (now new : Chains) → IsReclaimedAt bs k now new → IsPartReclaimed bs now new
+part-at bs k now new r q = elim (is_same_key q k) as (λ b. is_same_key q k ≡ b → (find_chain q new ≡ find_chain q now) ⊎ (find_chain q new ≡ option_map (reclaimed bs) (find_chain q now))) [
+  | true ↦ λ t. inr (r.found q ∙ ap (λ b. if b then option_map (reclaimed bs) (find_chain k now) else find_chain q now) t ∙ ap (λ (j : Bytes). option_map (reclaimed bs) (find_chain j now)) (sym (same_key q k t)))
+  | false ↦ λ f. inl (r.found q ∙ ap (λ b. if b then option_map (reclaimed bs) (find_chain k now) else find_chain q now) f)
+] refl
+
+pub part-trans : (bs : List ℕ) (old now new : Chains) (last : ℕ) → IsKept old last → IsPartReclaimed bs old now → IsPartReclaimed bs now new → IsPartReclaimed bs old new
+part-trans bs old now new last kept a b k = elim (a k) [
+  | inl x ↦ elim (b k) [ inl y ↦ inl (y ∙ x) | inr y ↦ inr (y ∙ ap (option_map (reclaimed bs)) x) ]
+  | inr x ↦ elim (b k) [
+    | inl y ↦ inr (y ∙ x)
+    | inr y ↦ inr (y ∙ ap (option_map (reclaimed bs)) x ∙ twice bs (find_chain k old) (rising_older last (find_chain k old) (rising_found k old last kept)))
+  ]
+]
+
+needed-part : (bs : List ℕ) (k : Bytes) (now new : Chains) → IsPartReclaimed bs now new → IsNeededChain bs (find_chain k now) → IsNeededChain bs (find_chain k new)
+needed-part bs k now new p h = elim (p k) [
+  | inl x ↦ subst (IsNeededChain bs) (sym x) h
+  | inr x ↦ subst (IsNeededChain bs) (sym (x ∙ reclaimed-needed bs (find_chain k now) h)) h
+]
+
+pub settled-part : (bs : List ℕ) (now new : Chains) → IsPartReclaimed bs now new → (v : Listed) → IsSettled bs now v → IsSettled bs new v
+settled-part bs now new p v h = elim h [
+  | inl t ↦ inl t
+  | inr n ↦ inr (needed-part bs v.key now new p n)
+]
+
+pub all-settled-part : (bs : List ℕ) (now new : Chains) → IsPartReclaimed bs now new → (vs : List Listed) → AllByRecursion (IsSettled bs now) vs → AllByRecursion (IsSettled bs new) vs
+all-settled-part bs now new p [] h = tt
+all-settled-part bs now new p (v ∷ vs) h = (settled-part bs now new p v h.0, all-settled-part bs now new p vs h.1)
+
+gone-part : (bs : List ℕ) (k : Bytes) (n : ℕ) (now new : Chains) → IsPartReclaimed bs now new → has_version n (find_chain k now) ≡ false → has_version n (find_chain k new) ≡ false
+gone-part bs k n now new p f = elim (p k) [
+  | inl x ↦ ap (has_version n) x ∙ f
+  | inr x ↦ ap (has_version n) x ∙ has_reclaimed bs n (find_chain k now) f
+]
+
+not_false : (b : Bool) → not b ≡ true → b ≡ false
+not_false true t = absurd (both_ways _ refl t)
+not_false false t = refl
+
+pub left-part : (bs : List ℕ) (now new : Chains) (os us : List Listed) → IsPartReclaimed bs now new → AreKept os us now → AreKept os us new
+left-part bs now new os us p h k n high t = elim (or_cases (is_in us k n high) (not (has_version n (find_chain k now))) (h k n high t)) [
+  | inl e ↦ or_left (is_in us k n high) (not (has_version n (find_chain k new))) e
+  | inr e ↦ or_right (is_in us k n high) (not (has_version n (find_chain k new))) (ap not (gone-part bs k n now new p (not_false (has_version n (find_chain k now)) e)))
+]
+
+-- ---- the listing after a reclaim
+
+listed-left : (gs hs : List GroupValue) (k : Bytes) (next : ℕ) (us : List Stamped) → ((n high : ℕ) → list_any (λ v. v.number == n) us ≡ true → is_listed gs k n high ≡ true → is_listed hs k n high ≡ true) → AreListed gs k next us → AreListed hs k next us
+listed-left gs hs k next [] more h = tt
+listed-left gs hs k next (u ∷ us) more h = (
+  more u.number (first_number us next) (or_left (u.number == u.number) (list_any (λ v. v.number == u.number) us) (grind (arith, nat_tests))) h.0,
+  listed-left gs hs k next us (λ n high t. more n high (or_right (u.number == n) (list_any (λ v. v.number == n) us) t)) h.1,
+)
+
+chain-left : (gs hs : List GroupValue) (k : Bytes) (o : Option ChainValue) → ((n high : ℕ) → has_version n o ≡ true → is_listed gs k n high ≡ true → is_listed hs k n high ≡ true) → IsListedChain gs k o → IsListedChain hs k o
+chain-left gs hs k None more h = tt
+chain-left gs hs k (Some c) more h = listed-left gs hs k c.newest.number c.older more h
+
+chain-reclaimed : (gs : List GroupValue) (k : Bytes) (bs : List ℕ) (o : Option ChainValue) (last : ℕ) → IfSome o (λ c. IsRisingChain last c) → IsListedChain gs k o → IsListedChain gs k (option_map (reclaimed bs) o)
+chain-reclaimed gs k bs None last r h = tt
+chain-reclaimed gs k bs (Some c) last r h = listed-seen gs k bs c.newest.number c.older r.0 h
+
+-- the groups may change where the versions that they list no more are gone
+pub listed-part : (bs : List ℕ) (now new : Chains) (gs hs : List GroupValue) (last : ℕ) → IsKept now last → IsPartReclaimed bs now new
+    → ((k : Bytes) (n high : ℕ) → has_version n (find_chain k new) ≡ true → is_listed gs k n high ≡ true → is_listed hs k n high ≡ true) → IsListed now gs → IsListed new hs
+listed-part bs now new gs hs last kept p more h k = chain-left gs hs k (find_chain k new) (more k) (elim (p k) [
+  | inl x ↦ subst (IsListedChain gs k) (sym x) (h k)
+  | inr x ↦ subst (IsListedChain gs k) (sym x) (chain-reclaimed gs k bs (find_chain k now) last (rising_found k now last kept) (h k))
+])

@@ -1,0 +1,8 @@
+use Rattle.std.proofs.Common.{◌-◌}
+use Rattle.std.specs.Vec.{vec_len, vec_capacity}
+use Rattle.std.specs.Vec.Iter.{into_iter_items}
+use Rattle.versions.proofs.Calls.{Installing}
+use Rattle.versions.proofs.installing.add_all.Given as goal
+
+abbrev pub invariant-loop-write : goal.invariant-loop-write
+invariant-loop-write l = Installing l.n l.initial.chains.items l.chains.items (vec_capacity l.chains - vec_len l.chains) l.listed.items (vec_capacity l.listed - vec_len l.listed) (into_iter_items l.initial.write-iterator) (into_iter_items l.write-iterator)

@@ -1,0 +1,6 @@
+use Rattle.versions.proofs.Groups.{Settling}
+use Rattle.versions.proofs.reclaiming.reclaim_listed.Given as goal
+
+-- the groups before i were looked after
+abbrev pub invariant-loop-i : goal.invariant-loop-i
+invariant-loop-i l = Settling l.begins l.initial.chains l.chains l.groups l.i

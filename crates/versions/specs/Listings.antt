@@ -1,0 +1,95 @@
+-- Which older versions are listed, so that a reclaim finds those that no number sees any more.
+use Rattle.std.specs.Prelude.{◌≡◌, ℕ, Bool, false, not, ◌||◌, ◌&&◌, ◌==◌, ◌⊎◌, nat_le, nat_lt, List, [], ◌∷◌, Option, Some, None, option_map, IsTrue, ⊤}
+use Rattle.std.specs.List.{AllByRecursion, list_any}
+use Rattle.model.specs.Map.{Bytes, is_same_key}
+use Rattle.versions.specs.Chains.{Stamped, ChainValue, Chains, find_chain, first_number, is_between, reclaimed}
+
+-- an older version: its key, its number, and the number of the version behind it, or a smaller one
+pub record Listed : Type 0 where
+  pub key : Bytes
+  pub number : ℕ
+  pub next : ℕ
+
+-- older versions that one number sees, and how many more fit without memory
+pub record GroupValue : Type 0 where
+  pub witness : ℕ
+  pub versions : List Listed
+  pub room : ℕ
+
+-- the number sees the version
+abbrev pub is_seen_from : ℕ → Listed → Bool
+is_seen_from n v = nat_le v.number n && nat_lt n v.next
+
+abbrev pub is_seen_by : Option ℕ → Listed → Bool
+is_seen_by None v = false
+is_seen_by (Some n) v = is_seen_from n v
+
+abbrev pub AreSeenFrom : ℕ → List Listed → Type 0
+AreSeenFrom n vs = AllByRecursion (λ v. IsTrue (is_seen_from n v)) vs
+
+-- ---- each older version is listed
+
+-- the key's version of this number, which is listed as seen below `high`
+abbrev pub is_of : Bytes → ℕ → ℕ → Listed → Bool
+is_of k n high v = is_same_key k v.key && (v.number == n && nat_le v.next high)
+
+abbrev pub is_in : List Listed → Bytes → ℕ → ℕ → Bool
+is_in vs k n high = list_any (is_of k n high) vs
+
+abbrev pub is_listed : List GroupValue → Bytes → ℕ → ℕ → Bool
+is_listed gs k n high = list_any (λ g. is_in g.versions k n high) gs
+
+abbrev pub AreListed : List GroupValue → Bytes → ℕ → List Stamped → Type 0
+AreListed gs k next [] = ⊤
+AreListed gs k next (v ∷ vs) = IsTrue (is_listed gs k v.number (first_number vs next)) × AreListed gs k next vs
+
+abbrev pub IsListedChain : List GroupValue → Bytes → Option ChainValue → Type 0
+IsListedChain gs k None = ⊤
+IsListedChain gs k (Some c) = AreListed gs k c.newest.number c.older
+
+-- each version of a key but its newest is in some group
+abbrev pub IsListed : Chains → List GroupValue → Type 0
+IsListed chains gs = (k : Bytes) → IsListedChain gs k (find_chain k chains)
+
+-- each of the groups' versions is in some of the others
+abbrev pub AreFound : List GroupValue → List GroupValue → Type 0
+AreFound gs hs = (k : Bytes) (n high : ℕ) → IsTrue (is_listed gs k n high) → IsTrue (is_listed hs k n high)
+
+-- ---- a version more
+
+-- a group of these versions, whatever its witness
+abbrev pub unwitnessed : List Listed → GroupValue
+unwitnessed vs = record { witness = 0; versions = vs; room = 0 }
+
+-- what is listed of a key when a version of number n follows its newest
+abbrev pub followed : Option ChainValue → Bytes → ℕ → List Listed
+followed None k n = []
+followed (Some c) k n = record { key = k; number = c.newest.number; next = n } ∷ []
+
+-- ---- what a reclaim leaves
+
+-- the chain has an older version of this number
+abbrev pub has_version : ℕ → Option ChainValue → Bool
+has_version n None = false
+has_version n (Some c) = list_any (λ v. v.number == n) c.older
+
+-- each of the versions is seen from some of the numbers
+abbrev pub AreNeeded : List ℕ → ℕ → List Stamped → Type 0
+AreNeeded bs next [] = ⊤
+AreNeeded bs next (v ∷ vs) = IsTrue (is_between bs v.number (first_number vs next)) × AreNeeded bs next vs
+
+abbrev pub IsNeededChain : List ℕ → Option ChainValue → Type 0
+IsNeededChain bs None = ⊤
+IsNeededChain bs (Some c) = AreNeeded bs c.newest.number c.older
+
+-- some of the numbers sees the listed version, or its chain holds none that they don't see
+abbrev pub IsSettled : List ℕ → Chains → Listed → Type 0
+IsSettled bs chains v = IsTrue (is_between bs v.number v.next) ⊎ IsNeededChain bs (find_chain v.key chains)
+
+-- each chain is as it was, or was reclaimed
+abbrev pub IsPartReclaimed : List ℕ → Chains → Chains → Type 0
+IsPartReclaimed bs old new = (k : Bytes) → (find_chain k new ≡ find_chain k old) ⊎ (find_chain k new ≡ option_map (reclaimed bs) (find_chain k old))
+
+-- a version that is listed no more is in its chain no more
+abbrev pub AreKept : List Listed → List Listed → Chains → Type 0
+AreKept old new chains = (k : Bytes) (n high : ℕ) → IsTrue (is_in old k n high) → IsTrue (is_in new k n high || not (has_version n (find_chain k chains)))
