@@ -5,6 +5,7 @@ ghost use Rattle.event_loop.specs.Numbers.{AreBelow};
 
 use crate::connections::{Backlog, accept_some, any_ready, make_polled_ready, take_gone_out};
 use crate::socket::Socket;
+use crate::waiting::longest_wait;
 use mio::net::TcpListener;
 use mio::{Events, Interest, Poll, Token};
 use sector::Sectors;
@@ -74,26 +75,22 @@ impl<D: Sectors> EventLoop<D> {
         self.hub.stopped()
     }
 
-    /// One turn: polls, accepts at most 128 connections, drives each session that is ready once, and closes the connections of those
-    /// that have left.
+    /// One turn: polls, drives each session that is ready once, closes the connections of those that have left, and accepts at most 128
+    /// connections, which the next turn drives.
     ///
     /// It waits for no more than `timeout`, without end where none is given, and not at all where a session is still ready or 128
-    /// connections were accepted last time. After an accept that fails, the next turn accepts again. A connection beyond 128 sessions,
-    /// or for which memory or registration is refused, is closed without a byte.
+    /// connections were accepted last time. After an accept that fails, the next turn waits for no more than `RETRY_AFTER_MILLIS` and
+    /// accepts again. A connection beyond 128 sessions, or for which memory or registration is refused, is closed without a byte.
     ///
     /// It answers a fault exactly where the poll failed; nothing else was done then. It may grow the table, and what the sessions'
     /// requests grow.
     pub fn turn(&mut self, timeout: Option<Duration>) -> io::Result<()> {
-        let wait = if self.backlog == Backlog::Full || any_ready(&self.table) {
-            Some(Duration::from_millis(0))
-        } else {
-            timeout
-        };
+        let wait = longest_wait(self.backlog, any_ready(&self.table), timeout);
         self.poll.poll(&mut self.events, wait)?;
+        self.drive();
         if self.backlog != Backlog::Empty || self.is_called() {
             self.accept();
         }
-        self.drive();
         Ok(())
     }
 
