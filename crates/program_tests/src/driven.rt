@@ -12,7 +12,7 @@ use stream_driver::{Progress, drive};
 /// A hub that stands for some state: the driver wants its session to be present in one.
 #[derive(Drop)]
 pub(crate) struct Driven {
-    hub: Hub<MemSectors>,
+    pub(crate) hub: Hub<MemSectors>,
     ghost stands: { Stands hub },
 }
 

@@ -2,6 +2,8 @@
 #![tactic(auto)]
 
 #[cfg(test)]
+mod created;
+#[cfg(test)]
 mod driven;
 #[cfg(test)]
 mod events;
@@ -16,5 +18,7 @@ mod script;
 mod streams;
 #[cfg(test)]
 mod tables;
+#[cfg(test)]
+mod turns;
 
 pub use script::{Script, Trouble};

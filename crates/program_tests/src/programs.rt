@@ -129,6 +129,16 @@ fn command_lines(rt: HostRuntime) -> Result<(), Fail> {
             REFUSED,
             Due::Begins(b"error: unrecognized subcommand"),
         ),
+    ];
+    for case in cases {
+        assert!(rt; is_met(&rt, rt.alloc(), case));
+    }
+    Ok(())
+}
+
+#[test]
+fn faults_and_help(rt: HostRuntime) -> Result<(), Fail> {
+    let cases = [
         refused(
             &["ssikvd", "serve", "--data", "none", "--listen", "localhost"],
             FAULT,

@@ -15,7 +15,7 @@ pub enum Trouble {
 }
 
 /// A peer in memory: it gives its bytes and then ends, keeps what it takes, and meets trouble at one of its calls.
-#[derive(Drop)]
+#[derive(PartialEq, Drop)]
 pub struct Script {
     input: Vec<u8>,
     at: usize,

@@ -1,69 +1,64 @@
 //! The worked rows, over the hub in pieces of several sizes, and as scripts of the program.
+ghost use Rattle.std.specs.Prelude.{◌≤◌};
+
 use crate::hubs::{Pieces, new_hub};
 use commands::play;
-use rows::worked::{self, Line};
-use rows::{Store, first_difference};
+use rows::worked::{
+    COMMITTED_WRITE_IS_SEEN, Counted, DELETED_KEY, FIRST_COMMITTER_WINS,
+    LEAST_OVERWRITTEN_KEY_IS_NAMED, LOG_FULL, LOG_FULL_SECTORS, Line, OLD_VERSION_IS_KEPT,
+    ONE_AFTER_THE_OTHER, OWN_WRITE_IS_PRIVATE, PHANTOM_SKEW,
+    PIVOT_AFTER_ITS_NEIGHBOUR_WAS_FORGOTTEN, RANGE_BOUNDS_AND_LIMITS, RANGE_OVER_OWN_WRITES,
+    READ_ONLY_ANOMALY, READER_FINDS_A_COMMITTED_PIVOT, REFUSALS_OUTSIDE_A_TRANSACTION, SECTORS,
+    SERIAL_ORDER_IS_NOT_COMMIT_ORDER, SIXTY_FOUR_TRANSACTIONS, SIXTY_FOUR_WRITES, SNAPSHOT_IS_KEPT,
+    TWO_HUNDRED_FIFTY_SIX_MARKS, WRITE_SKEW, WRITER_FINDS_A_COMMITTED_PIVOT,
+};
+use rows::{Store, first_difference, with_number};
 use std::alloc::Global;
 use std::io::Write;
 use std::test::Fail;
 
-/// The row of this place with its name and its device's sectors.
-fn row(place: usize) -> Option<(&'static str, u64, &'static [Line])> {
+/// How many rows there are over a device with room for all.
+const ROWS: usize = 18;
+
+/// The row of this place with its name.
+fn row(place: usize) -> Option<(&'static str, &'static [Line])> {
     Some(match place {
-        0 => (
-            "committed write is seen",
-            4096,
-            &worked::COMMITTED_WRITE_IS_SEEN,
-        ),
-        1 => ("snapshot is kept", 4096, &worked::SNAPSHOT_IS_KEPT),
-        2 => ("own write is private", 4096, &worked::OWN_WRITE_IS_PRIVATE),
-        3 => ("first committer wins", 4096, &worked::FIRST_COMMITTER_WINS),
+        0 => ("committed write is seen", &COMMITTED_WRITE_IS_SEEN),
+        1 => ("snapshot is kept", &SNAPSHOT_IS_KEPT),
+        2 => ("own write is private", &OWN_WRITE_IS_PRIVATE),
+        3 => ("first committer wins", &FIRST_COMMITTER_WINS),
         4 => (
             "least overwritten key is named",
-            4096,
-            &worked::LEAST_OVERWRITTEN_KEY_IS_NAMED,
+            &LEAST_OVERWRITTEN_KEY_IS_NAMED,
         ),
-        5 => ("write skew", 4096, &worked::WRITE_SKEW),
-        6 => ("phantom skew", 4096, &worked::PHANTOM_SKEW),
-        7 => ("read-only anomaly", 4096, &worked::READ_ONLY_ANOMALY),
+        5 => ("write skew", &WRITE_SKEW),
+        6 => ("phantom skew", &PHANTOM_SKEW),
+        7 => ("read-only anomaly", &READ_ONLY_ANOMALY),
         8 => (
             "reader finds a committed pivot",
-            4096,
-            &worked::READER_FINDS_A_COMMITTED_PIVOT,
+            &READER_FINDS_A_COMMITTED_PIVOT,
         ),
         9 => (
             "writer finds a committed pivot",
-            4096,
-            &worked::WRITER_FINDS_A_COMMITTED_PIVOT,
+            &WRITER_FINDS_A_COMMITTED_PIVOT,
         ),
-        10 => ("one after the other", 4096, &worked::ONE_AFTER_THE_OTHER),
+        10 => ("one after the other", &ONE_AFTER_THE_OTHER),
         11 => (
             "pivot after its neighbour was forgotten",
-            4096,
-            &worked::PIVOT_AFTER_ITS_NEIGHBOUR_WAS_FORGOTTEN,
+            &PIVOT_AFTER_ITS_NEIGHBOUR_WAS_FORGOTTEN,
         ),
-        12 => (
-            "range bounds and limits",
-            4096,
-            &worked::RANGE_BOUNDS_AND_LIMITS,
-        ),
-        13 => ("log full", worked::LOG_FULL_SECTORS, &worked::LOG_FULL),
-        14 => (
+        12 => ("range bounds and limits", &RANGE_BOUNDS_AND_LIMITS),
+        13 => (
             "refusals outside a transaction",
-            4096,
-            &worked::REFUSALS_OUTSIDE_A_TRANSACTION,
+            &REFUSALS_OUTSIDE_A_TRANSACTION,
         ),
-        15 => ("deleted key", 4096, &worked::DELETED_KEY),
-        16 => (
+        14 => ("deleted key", &DELETED_KEY),
+        15 => (
             "serial order is not commit order",
-            4096,
-            &worked::SERIAL_ORDER_IS_NOT_COMMIT_ORDER,
+            &SERIAL_ORDER_IS_NOT_COMMIT_ORDER,
         ),
-        17 => (
-            "range over own writes",
-            4096,
-            &worked::RANGE_OVER_OWN_WRITES,
-        ),
+        16 => ("range over own writes", &RANGE_OVER_OWN_WRITES),
+        17 => ("old version is kept", &OLD_VERSION_IS_KEPT),
         _ => return None,
     })
 }
@@ -80,14 +75,22 @@ fn expect_row<S: Store>(
     }
 }
 
+/// Runs a row over a hub, with its bytes in pieces of each size.
+fn over_the_hub(alloc: Global, name: &str, sectors: u64, lines: &[Line]) -> Result<(), Fail>
+    requires { sectors ≤ 4096 }
+{
+    for size in [1usize, 2, 3, 7, 16_424] {
+        let hub = new_hub(alloc, sectors)?;
+        expect_row(alloc, name, &mut Pieces::new(hub, size), lines)?;
+    }
+    Ok(())
+}
+
 #[test]
 fn rows_over_the_hub(rt: HostRuntime) -> Result<(), Fail> {
-    for size in [1usize, 2, 3, 7, 16_424] {
-        for place in 0..18usize {
-            if let Some((name, sectors, lines)) = row(place) {
-                let hub = new_hub(rt.alloc(), sectors.min(4096))?;
-                expect_row(rt.alloc(), name, &mut Pieces::new(hub, size), lines)?;
-            }
+    for place in 0..ROWS {
+        if let Some((name, lines)) = row(place) {
+            over_the_hub(rt.alloc(), name, SECTORS, lines)?;
         }
     }
     Ok(())
@@ -96,6 +99,7 @@ fn rows_over_the_hub(rt: HostRuntime) -> Result<(), Fail> {
 /// A script, and what the program prints for it.
 #[derive(Drop)]
 struct Expected {
+    alloc: Global,
     script: Vec<u8>,
     prints: Vec<u8>,
 }
@@ -103,6 +107,7 @@ struct Expected {
 impl Expected {
     fn new(alloc: Global) -> Expected {
         Expected {
+            alloc,
             script: Vec::new(alloc),
             prints: Vec::new(alloc),
         }
@@ -115,56 +120,81 @@ impl Expected {
         Ok(())
     }
 
-    fn plays(&self, alloc: Global, name: &str, sectors: u64) -> Result<(), Fail> {
-        let mut out = Vec::new(alloc);
-        let played = play(alloc, sectors.min(4096), self.script.as_slice(), &mut out);
+    fn add_counted(&mut self, counted: &Counted) -> Result<(), Fail> {
+        let (from, to, (asked, due)) = *counted;
+        for number in from..to {
+            let line = with_number(self.alloc, asked, number)?;
+            self.add(&line, due)?;
+        }
+        Ok(())
+    }
+
+    fn plays(&self, name: &str, sectors: u64) -> Result<(), Fail>
+        requires { sectors ≤ 4096 }
+    {
+        let mut out = Vec::new(self.alloc);
+        let played = play(self.alloc, sectors, self.script.as_slice(), &mut out);
         if played.is_err() || out.as_slice() != self.prints.as_slice() {
-            Err(format!(in alloc; "{name}: {out:?}")?)?;
+            Err(format!(in self.alloc; "{name}: {out:?}")?)?;
         }
         Ok(())
     }
 }
 
+/// Runs a row as a script of the program.
+fn by_play(alloc: Global, name: &str, sectors: u64, lines: &[Line]) -> Result<(), Fail>
+    requires { sectors ≤ 4096 }
+{
+    let mut expected = Expected::new(alloc);
+    for (asked, due) in lines {
+        expected.add(asked, due)?;
+    }
+    expected.plays(name, sectors)
+}
+
 #[test]
 fn rows_by_play(rt: HostRuntime) -> Result<(), Fail> {
-    for place in 0..18usize {
-        if let Some((name, sectors, lines)) = row(place) {
-            let mut expected = Expected::new(rt.alloc());
-            for (asked, due) in lines {
-                expected.add(asked, due)?;
-            }
-            expected.plays(rt.alloc(), name, sectors)?;
+    for place in 0..ROWS {
+        if let Some((name, lines)) = row(place) {
+            by_play(rt.alloc(), name, SECTORS, lines)?;
         }
     }
     Ok(())
 }
 
-// One transaction asks the same of many keys.
-fn many(alloc: Global, verb: &str, count: u32, due: &str) -> Result<Expected, Fail> {
+#[test]
+fn log_full(rt: HostRuntime) -> Result<(), Fail> {
+    over_the_hub(rt.alloc(), "log full", LOG_FULL_SECTORS, &LOG_FULL)?;
+    by_play(rt.alloc(), "log full", LOG_FULL_SECTORS, &LOG_FULL)
+}
+
+fn counted_by_play(alloc: Global, name: &str, row: &[Counted]) -> Result<(), Fail> {
     let mut expected = Expected::new(alloc);
-    expected.add("1 BEGIN", "+OK")?;
-    expected.add("1 SET z 1", "+OK")?;
-    for i in 0..count {
-        let asked = format!(in alloc; "1 {verb} k{i}{}", if verb == "SET" { " v" } else { "" })?;
-        expected.add(&asked, due)?;
+    for counted in row {
+        expected.add_counted(counted)?;
     }
-    Ok(expected)
+    expected.plays(name, SECTORS)
 }
 
 #[test]
 fn sixty_four_writes(rt: HostRuntime) -> Result<(), Fail> {
-    let mut expected = many(rt.alloc(), "SET", 63, "+OK")?;
-    expected.add("1 SET y 1", "-FULL writes")?;
-    expected.add("1 SET k7 w", "+OK")?;
-    expected.plays(rt.alloc(), "sixty-four writes", 4096)
+    counted_by_play(rt.alloc(), "sixty-four writes", &SIXTY_FOUR_WRITES)
+}
+
+#[test]
+fn sixty_four_transactions(rt: HostRuntime) -> Result<(), Fail> {
+    counted_by_play(
+        rt.alloc(),
+        "sixty-four transactions",
+        &SIXTY_FOUR_TRANSACTIONS,
+    )
 }
 
 #[test]
 fn two_hundred_fifty_six_marks(rt: HostRuntime) -> Result<(), Fail> {
-    let mut expected = many(rt.alloc(), "GET", 256, "$-1")?;
-    expected.add("1 GET k256", "-FULL marks")?;
-    expected.add("1 GET k7", "$-1")?;
-    expected.add("1 GET z", "$1 1")?;
-    expected.add("1 RANGE a b 1", "-FULL marks")?;
-    expected.plays(rt.alloc(), "two hundred and fifty-six marks", 4096)
+    counted_by_play(
+        rt.alloc(),
+        "two hundred and fifty-six marks",
+        &TWO_HUNDRED_FIFTY_SIX_MARKS,
+    )
 }

@@ -1,14 +1,17 @@
 //! Three commits of one key each on 16 sectors, with a crash and a failure at each device call of theirs.
 ghost use Rattle.std.specs.Prelude.{◌≤◌};
 
+use crate::hub_store::HubStore;
 use crate::side_by_side::{OPENING, empty_log, opened};
 use crate::stopping::Stopping;
-use crate::stores::{Store, first_difference, reply_to};
+use crate::stored::EngineStore;
+use crate::stores::{Decoding, Store, first_difference, reply_to};
 use crate::worked::Line;
 use commit_log::LogFault;
 use engine::Engine;
 use model::Memory;
-use sector::{MemSectors, Sector};
+use sector::{MemSectors, Sector, Sectors};
+use sessions::Hub;
 use std::alloc::Global;
 use std::process::Abort;
 use std::test::Fail;
@@ -117,41 +120,95 @@ fn found(alloc: Global, device: MemSectors, fill: Fill) -> Result<usize, Fail> {
     found_by(alloc, &mut store)
 }
 
+/// A store over what a device holds, which gives the device back.
+trait OverDevice<D: Sectors>: Store + Sized {
+    fn over(alloc: Global, device: D) -> Result<Self, LogFault>;
+
+    fn into_device(self) -> D;
+}
+
+impl<D: Sectors> OverDevice<D> for Decoding<EngineStore<D>> {
+    fn over(alloc: Global, device: D) -> Result<Self, LogFault> {
+        opened(alloc, device, true)
+    }
+
+    fn into_device(self) -> D {
+        self.store.engine.into_device()
+    }
+}
+
+impl<D: Sectors> OverDevice<D> for HubStore<D> {
+    fn over(alloc: Global, device: D) -> Result<Self, LogFault> {
+        let engine = Engine::open(alloc, device)?;
+        Ok(HubStore::new(Hub::new(alloc, engine)))
+    }
+
+    fn into_device(self) -> D {
+        self.hub.into_engine().into_device()
+    }
+}
+
 /// How many commits are acknowledged, and how many are found, where the device stops after so many calls.
-fn stopped_after(alloc: Global, calls: u8, fill: Fill) -> Result<(usize, usize), Fail> {
+fn stopped_after<S: OverDevice<Stopping>>(
+    alloc: Global,
+    calls: u8,
+    fill: Fill,
+) -> Result<(usize, usize), Fail> {
     let device = Stopping::new(empty_log(alloc, SECTORS)?, OPENING + u64::from(calls));
-    let mut store = opened(alloc, device, true)?;
+    let mut store = S::over(alloc, device)?;
     let outcome = commit_all(alloc, &mut store);
-    let device = store.store.engine.into_device().device;
+    let device = store.into_device().device;
     let (count, _) = outcome?;
     Ok((count, found(alloc, device, fill)?))
 }
 
 /// The same where this device call fails, and a crash comes once the store has told so.
-fn failed_at(alloc: Global, call: u8, fill: Fill) -> Result<(usize, usize), Fail> {
+fn failed_at<S: OverDevice<MemSectors>>(
+    alloc: Global,
+    call: u8,
+    fill: Fill,
+) -> Result<(usize, usize), Fail> {
     let mut device = empty_log(alloc, SECTORS)?;
     device.fail_call(OPENING + u64::from(call));
-    let mut store = opened(alloc, device, true)?;
+    let mut store = S::over(alloc, device)?;
     let outcome = commit_to_fault(alloc, &mut store);
-    let device = store.store.engine.into_device();
+    let device = store.into_device();
     let count = outcome?.ok_or("no stop by a fault")?;
     Ok((count, found(alloc, device, fill)?))
 }
 
-/// Runs a crash after so many device calls, or within the next one, which fails.
-fn expect_at(rt: &impl Abort, alloc: Global, ended: u8, within_next: bool) -> Result<(), Fail> {
+/// What is due of a crash after so many device calls, or within the next one: how many commits are acknowledged, and how many are found.
+fn due_at(ended: u8, within_next: bool, fill: Fill) -> (usize, usize) {
+    let count = usize::from(ended / CALLS);
+    let more = usize::from(is_found(ended % CALLS, within_next, fill));
+    (count, count.saturating_add(more))
+}
+
+/// Runs a crash after so many device calls.
+fn expect_after<S: OverDevice<Stopping>>(
+    rt: &impl Abort,
+    alloc: Global,
+    ended: u8,
+) -> Result<(), Fail> {
     for fill in FILLS {
-        let run = if within_next {
-            failed_at(alloc, ended.saturating_add(1), fill)?
-        } else {
-            stopped_after(alloc, ended, fill)?
-        };
-        let count = usize::from(ended / CALLS);
-        let more = usize::from(is_found(ended % CALLS, within_next, fill));
+        let run = stopped_after::<S>(alloc, ended, fill)?;
+        assert_eq!(rt; run, due_at(ended, false, fill), "after {ended} {fill:?}");
+    }
+    Ok(())
+}
+
+/// Runs a crash within the next device call, which fails.
+fn expect_within<S: OverDevice<MemSectors>>(
+    rt: &impl Abort,
+    alloc: Global,
+    ended: u8,
+) -> Result<(), Fail> {
+    for fill in FILLS {
+        let run = failed_at::<S>(alloc, ended.saturating_add(1), fill)?;
         assert_eq!(rt;
             run,
-            (count, count.saturating_add(more)),
-            "after {ended} {fill:?}"
+            due_at(ended, true, fill),
+            "within the next after {ended} {fill:?}"
         );
     }
     Ok(())
@@ -160,7 +217,15 @@ fn expect_at(rt: &impl Abort, alloc: Global, ended: u8, within_next: bool) -> Re
 #[test]
 fn crash_after_each_device_call(rt: HostRuntime) -> Result<(), Fail> {
     for ended in 0..16 {
-        expect_at(&rt, rt.alloc(), ended, false)?;
+        expect_after::<Decoding<EngineStore<Stopping>>>(&rt, rt.alloc(), ended)?;
+    }
+    Ok(())
+}
+
+#[test]
+fn crash_of_a_hub_after_each_device_call(rt: HostRuntime) -> Result<(), Fail> {
+    for ended in 0..16 {
+        expect_after::<HubStore<Stopping>>(&rt, rt.alloc(), ended)?;
     }
     Ok(())
 }
@@ -168,7 +233,15 @@ fn crash_after_each_device_call(rt: HostRuntime) -> Result<(), Fail> {
 #[test]
 fn failure_of_each_device_call(rt: HostRuntime) -> Result<(), Fail> {
     for ended in 0..15 {
-        expect_at(&rt, rt.alloc(), ended, true)?;
+        expect_within::<Decoding<EngineStore<MemSectors>>>(&rt, rt.alloc(), ended)?;
+    }
+    Ok(())
+}
+
+#[test]
+fn failure_of_each_device_call_of_a_hub(rt: HostRuntime) -> Result<(), Fail> {
+    for ended in 0..15 {
+        expect_within::<HubStore<MemSectors>>(&rt, rt.alloc(), ended)?;
     }
     Ok(())
 }

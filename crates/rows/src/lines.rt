@@ -1,6 +1,6 @@
 //! A line is a session's label and the words of one request, parted by spaces. The word `""` stands for the empty part.
 use model::Memory;
-use std::alloc::Global;
+use std::alloc::{AllocError, Global};
 
 /// The session of a line, 0 where the label is no number, and the frame of its request. `Memory` where it is refused.
 pub fn frame_of(alloc: Global, line: &str) -> Result<(u64, Vec<u8>), Memory> {
@@ -11,6 +11,14 @@ pub fn frame_of(alloc: Global, line: &str) -> Result<(u64, Vec<u8>), Memory> {
         append_part(alloc, &mut frame, part)?;
     }
     Ok((label.parse::<u64>().unwrap_or(0), frame))
+}
+
+/// The line with the number in the place of its `#`, if it has one. `AllocError` where memory is refused.
+pub fn with_number(alloc: Global, line: &str, number: u16) -> Result<String, AllocError> {
+    match line.split_once('#') {
+        Some((front, back)) => format!(in alloc; "{front}{number}{back}"),
+        None => String::from_str(alloc, line),
+    }
 }
 
 fn append_part(alloc: Global, frame: &mut Vec<u8>, part: &str) -> Result<(), Memory> {

@@ -1,11 +1,12 @@
 //! Each row over each store.
+use crate::lines::with_number;
 use crate::side_by_side::{SideBySide, engine_store};
 use crate::stored::EngineStore;
 use crate::stores::{Decoding, Store, first_difference, reply_to};
 use crate::worked::{self, Counted, Line};
 use model::KeyRef;
 use sector::Sectors;
-use std::alloc::{AllocError, Global};
+use std::alloc::Global;
 use std::test::Fail;
 
 const SECTORS: u64 = worked::SECTORS;
@@ -50,13 +51,6 @@ fn expect_counted<S: Store>(alloc: Global, store: &mut S, counted: &Counted) -> 
         }
     }
     Ok(())
-}
-
-fn with_number(alloc: Global, line: &str, number: u16) -> Result<String, AllocError> {
-    match line.split_once('#') {
-        Some((front, back)) => format!(in alloc; "{front}{number}{back}"),
-        None => String::from_str(alloc, line),
-    }
 }
 
 /// Ends a transaction by bytes that spell no request.
