@@ -10,6 +10,7 @@ use error::BenchError;
 use load::{Load, commit, transaction};
 use model::Map;
 use pivot_check::{Committed, Verdict};
+use snapshot::Transaction;
 use std::alloc::Global;
 use std::rt::Runtime;
 use std::time::{Duration, Instant};
@@ -23,26 +24,59 @@ struct Times {
     own: Duration,
 }
 
+// Commits a transaction as the next number, and forgets what no transaction needs: the verdict, and how long that took.
+fn timed(
+    rt: &impl Runtime,
+    committed: &mut Committed,
+    tx: &Transaction,
+) -> Result<(Verdict, Duration), BenchError> {
+    let start = Instant::now(rt)?;
+    let verdict = commit(committed, tx)?;
+    committed.forget(0);
+    Ok((verdict, start.elapsed(rt)?))
+}
+
+// Commits one more transaction of the load beside an old one: how long that took.
+fn one_beside(
+    rt: &impl Runtime,
+    alloc: Global,
+    versions: &Versions,
+    committed: &mut Committed,
+    number: u64,
+    load: Load,
+) -> Result<Duration, BenchError> {
+    let tx = transaction(alloc, versions, number, number, load)?;
+    match timed(rt, committed, &tx)? {
+        (Verdict::Clear, took) => Ok(took),
+        _ => Err(BenchError::Refused),
+    }
+}
+
+// Commits transactions of the load beside an old one: how long that took.
+fn all_beside(
+    rt: &impl Runtime,
+    alloc: Global,
+    versions: &Versions,
+    committed: &mut Committed,
+    commits: u64,
+    load: Load,
+) -> Result<Duration, BenchError> {
+    let mut beside = Duration::ZERO;
+    for number in 0..commits {
+        let took = one_beside(rt, alloc, versions, committed, number, load)?;
+        beside = beside.saturating_add(took);
+    }
+    Ok(beside)
+}
+
 // Commits `commits` transactions of the load beside one that began before them, and then that one.
 fn run(rt: &impl Runtime, alloc: Global, commits: u64, load: Load) -> Result<Times, BenchError> {
     let versions = Versions::from_map(alloc, Map::new(alloc))?;
-    let mut committed = Committed::new(alloc);
     let old = transaction(alloc, &versions, 0, commits, load)?;
-    let mut beside = Duration::ZERO;
-    for number in 0..commits {
-        let tx = transaction(alloc, &versions, number, number, load)?;
-        let start = Instant::now(rt)?;
-        let verdict = commit(&mut committed, &tx)?;
-        committed.forget(0);
-        beside = beside.saturating_add(start.elapsed(rt)?);
-        if verdict != Verdict::Clear {
-            return Err(BenchError::Refused);
-        }
-    }
+    let mut committed = Committed::new(alloc);
+    let beside = all_beside(rt, alloc, &versions, &mut committed, commits, load)?;
     let kept = committed.kept();
-    let start = Instant::now(rt)?;
-    let verdict = commit(&mut committed, &old)?;
-    let own = start.elapsed(rt)?;
+    let (verdict, own) = timed(rt, &mut committed, &old)?;
     println!(rt;
         "{commits} commits of {} marks and {} writes: {kept} records kept, the old transaction's own commit is {verdict:?}",
         load.marks, load.writes
