@@ -11,7 +11,7 @@ use std::rt::Files;
 
 /// Makes a data file of so many sectors, 2 to 4,194,304, and formats it. The name must be free. Prints nothing.
 ///
-/// A fault is `File` or `Device`; a file that was made stays. Takes no memory.
+/// A fault is `File`, after which no file is there that it made, or `Device`, after which the file stays. Takes no memory.
 pub fn create<R: Files<File = File>>(rt: &R, data: &str, sectors: u64) -> Result<(), Fault>
     requires { sectors ≤ 4194304 }
 {
