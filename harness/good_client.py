@@ -53,6 +53,12 @@ class GoodClient(threading.Thread):
             self.commits, self.full, self.slowest = 0, 0, 0.0
         return found
 
+    def wait_for_one(self, seconds):
+        """Waits so long for the first transaction since it was asked last, where there was none yet."""
+        end = time.monotonic() + seconds
+        while not self.commits + self.full and not self.deviation and time.monotonic() < end:
+            time.sleep(PAUSE)
+
     def end(self):
         self.is_done = True
         self.join()

@@ -364,6 +364,7 @@ def play(tally, siege, scene):
     siege.good.since()
     with tally.run(name):
         scene(siege)
+    siege.good.wait_for_one(SLOWEST_REPLY)
     commits, full, slowest = siege.good.since()
     with tally.run(f"the good client during {name}"):
         expect(siege.server.is_alive(), "the server ended")

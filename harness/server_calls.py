@@ -63,11 +63,11 @@ class Counts:
     """How the runs ended."""
 
     def __init__(self):
-        self.before, self.closed, self.stopped, self.waited, self.went_on = 0, 0, 0, 0, 0
+        self.before, self.closed, self.stopped, self.went_on = 0, 0, 0, 0
 
     def text(self):
         return (f"{self.before} ended before listening, {self.closed} connections closed, {self.stopped} stores stopped, "
-                f"{self.waited} connections waited for another's, {self.went_on} went on")
+                f"{self.went_on} went on")
 
 
 class Clients:
@@ -75,7 +75,7 @@ class Clients:
 
     def __init__(self, server, failure, calls):
         self.server, self.failure, self.calls, self.store = server, failure, calls, Store(SECTORS)
-        self.connections, self.closed, self.waited, self.failed_before = {}, 0, 0, 0
+        self.connections, self.closed, self.failed_before = {}, 0, 0
 
     def _was_closed(self, label):
         """A connection was closed, which only a call that failed since the reply before explains."""
@@ -100,14 +100,11 @@ class Clients:
         if reply is None or self.failure.kind != RECEIVE:  # a read may also have failed behind the reply
             self.failed_before = self.calls.failed
 
-    def _wait_for_place(self, label):
-        """A connection whose accept failed waits until another client comes."""
+    def _is_let_in(self, label):
+        """A connection whose accept failed is let in soon, though no other client comes."""
         connection = self.connections[label]
         connection.send(frame("PING"))
-        if not select.select([connection.socket], [], [], WAIT)[0]:
-            expect(self.calls.failed > self.waited, f"{label} waits although no accept failed")
-            self.waited += 1
-            Connection(self.server.port).close()
+        expect(select.select([connection.socket], [], [], WAIT)[0], f"{label} is not let in")
         expect(connection.reply() == PONG, f"{label} is not served")
 
     def play(self, line):
@@ -116,7 +113,7 @@ class Clients:
         if label not in self.connections:
             self.connections[label] = Connection(self.server.port)
             if self.failure.kind == ACCEPT:
-                self._wait_for_place(label)
+                self._is_let_in(label)
             self.ask(label, [b"PING"])
         if self.connections[label]:
             self.ask(label, parts)
@@ -183,9 +180,8 @@ def one_run(row, n, failure, counts):
             clients.close()
         expect_file(data, clients.store)
     counts.closed += clients.closed
-    counts.waited += clients.waited
     counts.stopped += clients.store.is_stopped
-    counts.went_on += has_met and not (clients.closed or clients.waited or clients.store.is_stopped)
+    counts.went_on += has_met and not (clients.closed or clients.store.is_stopped)
     return has_met
 
 

@@ -1,6 +1,7 @@
 """`serve` where the system gives it little: few descriptors, and little memory, which an old transaction uses up.
 
-With few descriptors, connections beyond them wait and are served once descriptors are free; the server doesn't end and doesn't spin.
+With few descriptors, connections beyond them wait, and each is served soon after a descriptor is free, though no other client sends anything;
+the server doesn't end and doesn't spin.
 
 While a transaction is open, what the transactions that commit beside it have read is kept, and nothing bounds how many they are: this is
 outside the memory bound of the other harness. The address space is bounded here, so that memory is refused: the connection that met it
@@ -16,6 +17,7 @@ from client import Connection, Server, Tally, create, expect, folder, is_long
 from model import KEY_MAX, MARKS_MAX, OK, PONG, frame
 
 DESCRIPTORS, CONNECTIONS = 24, 40
+SOON = 0.5
 BEGIN, PING, ABORT, COMMIT = (frame(name) for name in ("BEGIN", "PING", "ABORT", "COMMIT"))
 MIB = 1 << 20
 
@@ -43,35 +45,51 @@ def asking(server):
     return client
 
 
-def does_not_spin(server):
+def spent_while_waiting(server):
+    """The processor time that the server takes for a second in which nothing comes."""
     before = server.processor_seconds()
     time.sleep(1.0)
     spent = server.processor_seconds() - before
-    expect(spent < 0.2, f"it spent {spent:.2f} seconds of a second in which nothing came")
+    expect(spent < 0.1, f"it spent {spent:.2f} seconds of a second in which nothing came")
+    return spent
+
+
+def soon_served(clients):
+    """The first of the clients to be served, none of which sends anything more, and after how many seconds."""
+    began = time.monotonic()
+    ready, _, _ = select.select([client.socket for client in clients], [], [], SOON)
+    expect(ready, f"no connection that waits is served within {SOON} seconds")
+    seconds = time.monotonic() - began
+    found = [client for client in clients if client.socket in ready]
+    expect(all(client.reply() == PONG for client in found), "a connection that waited was closed")
+    return found, seconds
+
+
+def one_after_another(waiting, open_clients):
+    """Open connections close, one at a time, and each lets in one that waits; the longest that one of these waited."""
+    longest = 0.0
+    while waiting:
+        open_clients.pop(0).close()
+        found, seconds = soon_served(waiting)
+        expect(len(found) == 1, f"after one had closed {len(found)} more are served")
+        waiting.remove(found[0])
+        open_clients.append(found[0])
+        longest = max(longest, seconds)
+    return longest
 
 
 def few_descriptors(server):
     clients = [asking(server) for _ in range(CONNECTIONS)]
     first = served(clients)
     expect(0 < len(first) < CONNECTIONS, f"{len(first)} of {CONNECTIONS} connections are served")
-    does_not_spin(server)
+    spent = spent_while_waiting(server)
     waiting = [client for client in clients if client not in first]
-    first.pop().close()
-    at_once = served(waiting)
-    expect(first[0].ask(PING) == PONG, "an open session is not served")
-    later = at_once or served(waiting)
-    expect(len(later) == 1, f"after one had closed {len(later)} more are served")
+    longest = one_after_another(waiting, list(first))
     for client in clients:
         client.close()
-    time.sleep(0.5)
-    fresh = [asking(server)]
-    fresh_at_once = served(fresh)
-    if not fresh_at_once:
-        fresh.append(asking(server))
-        expect(len(served(fresh)) == 2, "new connections are not served")
-    when = {True: "at once", False: "only once another client sent something"}
-    return (f"{len(first) + 1} of {CONNECTIONS} served; after one had closed, the next was served {when[bool(at_once)]}; "
-            f"after all had closed, a new one was served {when[bool(fresh_at_once)]}")
+    _, fresh = soon_served([asking(server)])
+    return (f"{len(first)} of {CONNECTIONS} served at once, {spent:.2f} seconds of processor time in a second in which nothing came; "
+            f"each time one had closed, one more was served within {longest:.3f} seconds; after all had closed, a new one within {fresh:.3f}")
 
 
 # An old transaction
