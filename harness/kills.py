@@ -2,7 +2,8 @@
 
 Writers commit numbered sets of keys and note which were acknowledged. After each kill `check` must answer, and a new server's reader must
 find every acknowledged set whole, at most one more for each writer, also whole, and nothing else. The file then goes on into the next
-kill, until it is full. What is killed is the process, not the machine: what it had written stays with the system.
+kill, until little room is left in it. A commit may be refused for a full log, where that is what the log is: then it isn't found. What is
+killed is the process, not the machine: what it had written stays with the system.
 
 `quick` kills 10 times, else it is 100 times.
 """
@@ -13,13 +14,14 @@ import threading
 import time
 
 from client import Connection, Server, Tally, check, create, expect, folder, is_long
-from model import OK, frame
+from model import OK, body_sectors, frame, payload, refusal
 
 WRITERS = 6
-SECTORS = 65_536
-ROOM_LEFT = 12_000
+SECTORS = 131_072
+ROOM_LEFT = 40_000
 LONGEST_LIFE = 0.4
 PAGE = 128
+FULL = refusal("FULL log")
 
 
 def key_of(writer, number, part):
@@ -37,13 +39,16 @@ def set_of(writer, number):
     return [(key_of(writer, number, part), value_of(writer, number, part)) for part in range(1 + number % 4)]
 
 
+LARGEST_BODY = max(body_sectors(payload(set_of(0, number))) for number in range(20))
+
+
 class Writer(threading.Thread):
-    """Commits its numbered sets one after another until the server is gone."""
+    """Commits its numbered sets one after another until the server is gone, or the log is full."""
 
     def __init__(self, port, writer, number):
         super().__init__(daemon=True)
         self.connection, self.writer = Connection(port), writer
-        self.acknowledged, self.failure = number, None
+        self.acknowledged, self.is_refused, self.failure = number, False, None
 
     def _commit(self, number):
         """Was the commit acknowledged?"""
@@ -52,8 +57,10 @@ class Writer(threading.Thread):
         replies = [self.connection.reply() for _ in range(len(writes) + 2)]
         if None in replies:
             return False
-        expect(replies[:-1] == [OK] * (len(writes) + 1) and replies[-1][:1] == b":", f"a commit was answered {replies}")
-        return True
+        self.is_refused = replies[-1] == FULL
+        done = self.is_refused or replies[-1][:1] == b":"
+        expect(replies[:-1] == [OK] * (len(writes) + 1) and done, f"a commit was answered {replies}")
+        return not self.is_refused
 
     def run(self):
         try:
@@ -93,14 +100,14 @@ def parts_of(reply):
     return parts
 
 
-def judge(found, acknowledged):
-    """The number of each writer's last set, all of which are whole: as many as were acknowledged, or one more."""
+def judge(found, writers):
+    """The number of each writer's last set, all of which are whole: as many as were acknowledged, or one more that wasn't refused."""
     last, due = [], {}
-    for writer, number in enumerate(acknowledged):
-        has_more = key_of(writer, number + 1, 0) in found
-        last.append(number + has_more)
+    for writer in writers:
+        has_more = not writer.is_refused and key_of(writer.writer, writer.acknowledged + 1, 0) in found
+        last.append(writer.acknowledged + has_more)
         for n in range(1, last[-1] + 1):
-            due.update(set_of(writer, n))
+            due.update(set_of(writer.writer, n))
     lost = sorted(set(due) - set(found))
     expect(not lost, f"{len(lost)} keys are lost, the first {lost[:1]}")
     expect(not set(found) - set(due), f"{len(found) - len(due)} keys are too many")
@@ -128,15 +135,17 @@ class Store:
                 writer.join()
         failures = [str(writer.failure) for writer in writers if writer.failure]
         expect(not failures, f"a writer: {failures[:1]}")
-        acknowledged, before = [writer.acknowledged for writer in writers], sum(self.last)
+        acknowledged, before = sum(writer.acknowledged for writer in writers), sum(self.last)
         records, keys, used, count = check(self.data)
         with Server(self.data) as server:
             expect(server.is_listening(), f"no server after the kill: {server.error_text()!r}")
             found = read_all(server.port)
-        self.last = judge(found, acknowledged)
+        self.last = judge(found, writers)
         expect((records, keys, count) == (sum(self.last), len(found), SECTORS), f"check counts {records} records and {keys} keys")
+        is_refused = any(writer.is_refused for writer in writers)
+        expect(not is_refused or used + LARGEST_BODY >= SECTORS, f"a commit was refused for a full log, which uses {used} sectors")
         self.is_full = used > SECTORS - ROOM_LEFT
-        return sum(acknowledged) - before, sum(self.last) - sum(acknowledged)
+        return acknowledged - before, sum(self.last) - acknowledged
 
 
 def main():
