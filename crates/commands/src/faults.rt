@@ -3,6 +3,7 @@
 use crate::{BAD_LINE, FAULT};
 use commit_log::LogFault;
 use model::Memory;
+use scripts::ScriptFault;
 use std::alloc::{AllocError, AllocFailed};
 use std::fmt::{Display, Formatter};
 use std::io::{ErrorKind, Write};
@@ -76,6 +77,18 @@ impl From<LogFault> for Fault {
             LogFault::Full => Fault::LogFull,
             LogFault::Device | LogFault::Stopped => Fault::Device,
             LogFault::Memory => Fault::Memory,
+        }
+    }
+}
+
+impl From<ScriptFault> for Fault {
+    fn from(fault: ScriptFault) -> Fault {
+        match fault {
+            ScriptFault::BadLine(number) => Fault::BadLine(number),
+            ScriptFault::Crowded(number) => Fault::Crowded(number),
+            ScriptFault::File => Fault::File,
+            ScriptFault::Log(fault) => Fault::from(fault),
+            ScriptFault::Memory => Fault::Memory,
         }
     }
 }

@@ -3,15 +3,12 @@
 
 mod data;
 mod faults;
-mod lines;
 mod running;
-mod scripts;
 mod serving;
 
 pub use data::{check, create};
 pub use faults::{Fault, report};
 pub use running::run;
-pub use scripts::play;
 pub use serving::serve;
 
 /// The status of a command that was done, or of help that was asked for.

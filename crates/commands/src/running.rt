@@ -2,12 +2,12 @@
 
 use crate::data::{check, create};
 use crate::faults::{Fault, report};
-use crate::scripts::play;
 use crate::serving::serve;
 use crate::{DONE, REFUSED};
 use clap::Error;
 use clap::error::ErrorKind;
 use command_line::{Asked, parse};
+use scripts::play;
 use std::alloc::Global;
 use std::fs::File;
 use std::io::{Read, Write};
@@ -31,7 +31,7 @@ pub fn run<R: Files<File = File> + Net + Wait, I: Read + Drop, O: Write, E: Writ
         Ok(Asked::Create { data, sectors }) => create(rt, data, sectors),
         Ok(Asked::Serve { data, listen }) => serve(rt, alloc, data, listen, out, err),
         Ok(Asked::Check { data }) => check(rt, alloc, data, out),
-        Ok(Asked::Play { sectors }) => play(alloc, sectors, reader, out),
+        Ok(Asked::Play { sectors }) => play(alloc, sectors, reader, out).map_err(Fault::from),
         Err(error) => return refuse(&error, out, err),
     };
     match done {

@@ -1,5 +1,6 @@
 //! The program's commands: their texts and statuses.
-use commands::{BAD_LINE, DONE, FAULT, Fault, REFUSED, play, report, run};
+use commands::{BAD_LINE, DONE, FAULT, Fault, REFUSED, report, run};
+use scripts::{ScriptFault, play};
 use std::alloc::Global;
 use std::fs::File;
 use std::io::{self, Read, Write};
@@ -200,7 +201,7 @@ fn long_scripts(rt: HostRuntime) -> Result<(), Fail> {
     }
     let mut out = Vec::new(rt.alloc());
     let ended = play(rt.alloc(), 16, many.as_slice(), &mut out);
-    assert!(rt; ended == Err(Fault::Crowded(129)));
+    assert!(rt; ended == Err(ScriptFault::Crowded(129)));
     for len in [4_097u32, 40_000] {
         let mut lines = b"1 SET a ".to_vec(rt.alloc())?;
         for _ in 0..len {
@@ -258,6 +259,6 @@ fn failing_input_and_output(rt: HostRuntime) -> Result<(), Fail> {
     let mut out = Vec::new(rt.alloc());
     let input = play(rt.alloc(), 16, Broken, &mut out);
     let output = play(rt.alloc(), 16, b"1 PING".as_slice(), &mut Broken);
-    assert!(rt; input == Err(Fault::File) && output == Err(Fault::File));
+    assert!(rt; input == Err(ScriptFault::File) && output == Err(ScriptFault::File));
     Ok(())
 }

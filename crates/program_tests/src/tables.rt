@@ -2,7 +2,6 @@
 ghost use Rattle.std.specs.Prelude.{◌≤◌};
 
 use crate::hubs::{Pieces, new_hub};
-use commands::play;
 use rows::worked::{
     COMMITTED_WRITE_IS_SEEN, Counted, DELETED_KEY, FIRST_COMMITTER_WINS,
     LEAST_OVERWRITTEN_KEY_IS_NAMED, LOG_FULL, LOG_FULL_SECTORS, Line, OLD_VERSION_IS_KEPT,
@@ -13,6 +12,7 @@ use rows::worked::{
     TWO_HUNDRED_FIFTY_SIX_MARKS, WRITE_SKEW, WRITER_FINDS_A_COMMITTED_PIVOT,
 };
 use rows::{Store, first_difference, with_number};
+use scripts::play;
 use std::alloc::Global;
 use std::io::Write;
 use std::test::Fail;

@@ -5,5 +5,6 @@ pub mod Requests
 pub mod Exactly
 pub mod Appending
 pub mod GivenPairs
+pub mod GivenParts
 pub mod Lent
 pub mod Limits

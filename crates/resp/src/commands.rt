@@ -6,7 +6,7 @@ ghost use Rattle.model.specs.Operations.{operation_of, IsFit};
 ghost use Rattle.resp.specs.Meaning.{Means};
 ghost use Rattle.model.specs.CommandTable.{arity, key_in, end_in, limit_in, alone_in, get_in, set_in, del_in, range_in, command_in};
 
-use crate::decoding::number;
+use crate::decoding::read_decimal;
 use crate::parts::Request;
 use model::{Command, KeyRef, RangeRef, Refusal};
 
@@ -51,7 +51,7 @@ fn limit_of(digits: &[u8]) -> Result<u8, Refusal>
     ensures meant { Means (λ n. n) result (limit_in digits.now) }
     ensures range { IfOk result (λ n. (1 ≤ n) × (n ≤ 128)) }
 {
-    let Some(limit) = number(digits, 128) else {
+    let Some(limit) = read_decimal(digits, 128) else {
         return Err(Refusal::BadLimit);
     };
     if limit == 0 {

@@ -28,8 +28,8 @@ pub(crate) enum Stop {
     Bad,
 }
 
-// The number that these bytes are the decimal of, if it is at most `max`.
-pub(crate) fn number(digits: &[u8], max: usize) -> Option<usize>
+/// The number from 0 to `max` that these bytes are the decimal of, with no leading zero; None where they are of none. Takes no memory.
+pub fn read_decimal(digits: &[u8], max: usize) -> Option<usize>
     requires { max < 2 ^ 32 }
     ensures { MatchOption result ((n : ℕ) → n ≤ max → digits.now ≡ decimal n → ⊥) (λ n. (n ≤ max) × (digits.now ≡ decimal n)) }
 {
@@ -96,7 +96,7 @@ fn length_line(bytes: &[u8]) -> Result<(usize, &[u8]), Stop>
         return Err(Stop::More);
     }
     let (digits, rest) = bytes.split_at(digits_at(bytes));
-    let Some(len) = number(digits, VALUE_MAX) else {
+    let Some(len) = read_decimal(digits, VALUE_MAX) else {
         return Err(Stop::Bad);
     };
     let rest = after_line_end(rest)?;

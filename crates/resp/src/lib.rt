@@ -7,6 +7,6 @@ mod parts;
 mod writing;
 
 pub use commands::command;
-pub use decoding::{Decoded, decode, one_spelling};
+pub use decoding::{Decoded, decode, one_spelling, read_decimal};
 pub use parts::Request;
-pub use writing::{BRIEF_MAX, write_pairs, write_reply};
+pub use writing::{BRIEF_MAX, write_pairs, write_reply, write_request};

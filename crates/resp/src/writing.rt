@@ -3,7 +3,7 @@ ghost use Rattle.std.specs.Prelude.{◌≡◌, ◌≤◌, ◌<◌, ◌+◌, ◌*
 ghost use Rattle.std.specs.List.{flat_map};
 ghost use Rattle.std.specs.Iterator.{IsFinite};
 ghost use Rattle.std.specs.Fmt.{decimal};
-ghost use Rattle.model.specs.Grammar.{bulk, crlf};
+ghost use Rattle.model.specs.Grammar.{array_of_bulks, bulk, crlf};
 ghost use Rattle.model.specs.Key.{IsKey};
 ghost use Rattle.model.specs.Operations.{response_of};
 ghost use Rattle.model.specs.Operations.Response.{Pairs, Refused};
@@ -183,6 +183,22 @@ pub fn write_pairs<'a, I: Iterator<Item = (KeyRef<'a>, &'a [u8])> + Drop>(
     for (key, value) in pairs {
         if append_pair(out, key.bytes(), value).is_err() {
             out.truncate(len);
+            return Err(Memory);
+        }
+    }
+    Ok(())
+}
+
+/// Writes the request of these parts, as one frame, behind what `out` holds. It takes no memory where `out` has the room; where memory
+/// is refused, `out` holds what it held.
+pub fn write_request(out: &mut Vec<u8>, parts: &[&[u8]]) -> Result<(), Memory>
+    ensures { Appends out.old out.new (array_of_bulks (map (λ part. part.now) parts.now)) result }
+{
+    let before = out.len();
+    append_number(out, b"*", parts.len() as u64, b"\r\n")?;
+    for part in parts {
+        if append_bulk(out, part).is_err() {
+            out.truncate(before);
             return Err(Memory);
         }
     }

@@ -1,0 +1,37 @@
+use Rattle.std.proofs.Common.{◌≡◌, refl, sym, ap, subst, ◌∙◌, length, false, ◌++◌}
+use Rattle.std.specs.Io.KnownBytes.{Appends}
+use Rattle.model.specs.Map.{Bytes}
+use Rattle.sessions.specs.declared.events.Status.TheVariants.{Open}
+use Rattle.sessions.specs.SessionStreams.{HubState, Serves, Sends, More, hub_step, stream_of}
+use Rattle.sessions.specs.StandsFor.{StandsFor, status_in}
+use Rattle.scripts.specs.Lines.{frame_of, printed_line}
+use Rattle.scripts.specs.Transcript.{granted, after, received, PrintsIn}
+use Rattle.scripts.specs.Calls.{Served}
+use Rattle.scripts.proofs.Steps.{sends_alike}
+use Rattle.scripts.proofs.playing.Script.answer.Goals as goal
+
+pub returns : goal.returns
+returns g c here is_at =
+    let s = c.args.session in
+    let line = c.args.line.now in
+    let opened : status_in (stream_of here.hub s) ≡ Open = sym (c.status.ensures here.hub is_at.hub) ∙ c.in-Open.is in
+    let frame : c.deref.result.now ≡ frame_of line.words = c.deref.ensures.value ∙ c.in_ok-write_frame.ensures.ok ∙ ap (λ xs. xs ++ frame_of line.words) c.clear.ensures.items in
+    let came : HubState = received here.hub s (frame_of line.words) in
+    let served : Served c.serve.new.hub came s = subst (λ bytes. Served c.serve.new.hub (received here.hub s bytes) s) frame (c.in_ok-serve.ensures here.hub is_at.hub) in
+    let done : HubState = (hub_step came (Serves s) (granted served.front served.failed)).0 in
+    let reply : Bytes = c.pending-pending.result.now in
+    let printed : c.deref-2.result.now ≡ printed_line line.label reply =
+    c.deref-2.ensures.value ∙ c.in_ok-write_reply.ensures ∙ ap (λ xs. xs ++ printed_line c.label.result reply) c.clear-2.ensures.items ∙ ap (λ n. printed_line n reply) c.label.ensures in
+    let leads = c.step.ensures.step in
+    record {
+      scene = record { hub = after done (Sends s (length reply)); labels = here.labels };
+      printed = printed_line line.label reply;
+      at = record { hub = subst (λ k. StandsFor c.step.new.self k) (ap (λ r. r.0) (sends_alike done s (length reply) leads.0 (granted More false))) (leads.3 done served.stands).stands; labels = is_at.labels };
+      prints = subst (λ st. PrintsIn st here s line (record { hub = after done (Sends s (length reply)); labels = here.labels }) (printed_line line.label reply)) (sym opened) (
+        reply,
+        record { front = served.front; failed = served.failed; possible = served.possible; reply_is = c.pending-pending.ensures done served.stands; new_is = refl },
+        refl,
+        refl,
+      );
+      appends = subst (λ bytes. Appends (g.O.Write.contents c.args.out.now) (g.O.Write.contents c.write_all.new.self) bytes) printed c.in_ok-write_all.ensures.bytes;
+    }

@@ -1,0 +1,10 @@
+use Rattle.std.specs.Prelude.{IfSome}
+use Rattle.scripts.specs.Lines.{lines_of}
+use Rattle.scripts.specs.Transcript.{Scene}
+use Rattle.scripts.specs.Calls.{IsAt, RunSoFar}
+use Rattle.scripts.proofs.playing.Script.play_lines.Given as goal
+
+-- the lines so far were run
+abbrev pub invariant-loop-number : goal.invariant-loop-number
+invariant-loop-number g l = (first : Scene) → IsAt l.fn.self first → IfSome (g.R.Read.remaining l.fn.reader) (λ script.
+    RunSoFar first (lines_of script) l.number l.self (g.R.Read.remaining l.reader) (g.O.Write.contents l.fn.out) (g.O.Write.contents l.out))

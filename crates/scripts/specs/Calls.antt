@@ -1,0 +1,64 @@
+-- What the calls of a script do.
+use Rattle.std.specs.Prelude.{◌≡◌, ◌≢◌, ℕ, ◌+◌, Bool, true, false, List, [], ◌++◌, length, Option, Some, None, Result, Ok, Err, ⊤}
+use Rattle.std.specs.Io.BufRead.{first_piece, drop_through}
+use Rattle.std.specs.Io.KnownBytes.{Appends}
+use Rattle.sector.specs.declared.device.Sectors.{Ghosts}
+use Rattle.model.specs.Map.{Bytes}
+use Rattle.sessions.specs.declared.hub.Hub.{Hub}
+use Rattle.sessions.specs.SessionStreams.{HubState, Serves, Front, IsPossible, hub_step}
+use Rattle.sessions.specs.StandsFor.{StandsFor}
+use Rattle.scripts.specs.declared.faults.ScriptFault.{ScriptFault}
+use Rattle.scripts.specs.declared.faults.ScriptFault.TheVariants.{BadLine, Crowded}
+use Rattle.scripts.specs.declared.playing.Script.{Script}
+use Rattle.scripts.specs.Lines.{lines_of}
+use Rattle.scripts.specs.Transcript.{Scene, granted, session_of, with_label, IsCrowded, TextPrints, Transcript, IsBad, NamesOneTooMany}
+
+-- the code's script is at this scene
+pub record IsAt {D : Type 0} {g : Ghosts D} (script : Script D g) (scene : Scene) : Type 0 where
+  pub hub : StandsFor script.hub scene.hub
+  pub labels : script.labels.items ≡ scene.labels
+
+-- the first line was read without its end, and what is behind it is left; or there was none
+abbrev pub ReadsLine : Bytes → Bool → Bytes → Option Bytes → Type 0
+ReadsLine script true text left = (script ≢ []) × (text ≡ first_piece 10 script) × (left ≡ Some (drop_through 10 script))
+ReadsLine script false text left = script ≡ []
+
+-- the session of a label was found, or there is no place for one more
+abbrev pub Finds : {D : Type 0} {g : Ghosts D} → Scene → ℕ → Option ℕ → Script D g → Type 0
+Finds old label (Some s) script = (s ≡ session_of old.labels label) × (IsCrowded old label → ⊥) × IsAt script (with_label old label)
+Finds old label None script = IsCrowded old label × IsAt script old
+
+-- a request of the session was served, where memory was granted
+pub record Served {D : Type 0} {g : Ghosts D} (hub : Hub D g) (old : HubState) (s : ℕ) : Type 0 where
+  pub front : Front
+  pub failed : Bool
+  pub possible : IsPossible old (Serves s) (granted front failed)
+  pub stands : StandsFor hub (hub_step old (Serves s) (granted front failed)).0
+
+-- a line, and what it printed behind what the writer held
+pub record Answers {D : Type 0} {g : Ghosts D} (script : Script D g) (before after : Option Bytes) (Prints : Scene → Bytes → Type 0) : Type 0 where
+  pub scene : Scene
+  pub printed : Bytes
+  pub at : IsAt script scene
+  pub prints : Prints scene printed
+  pub appends : Appends before after printed
+
+-- the text of a line of this number was run, or why it was not
+abbrev pub Runs : {D : Type 0} {g : Ghosts D} → Scene → ℕ → Bytes → Result (Unit {0}) ScriptFault → Script D g → Option Bytes → Option Bytes → Type 0
+Runs old number text (Ok done) script before after = Answers script before after (TextPrints old text)
+Runs old number text (Err (BadLine n)) script before after = (n ≡ number) × IsBad old text × (after ≡ before)
+Runs old number text (Err (Crowded n)) script before after = (n ≡ number) × NamesOneTooMany old text × (after ≡ before)
+Runs old number text (Err other) script before after = ⊤
+
+-- some lines were run, and the others are still to be read
+pub record RunSoFar {D : Type 0} {g : Ghosts D} (first : Scene) (texts : List Bytes) (number : ℕ) (script : Script D g) (left : Option Bytes) (before after : Option Bytes) : Type 0 where
+  pub done : List Bytes
+  pub rest : Bytes
+  pub left_is : left ≡ Some rest
+  pub texts_are : texts ≡ done ++ lines_of rest
+  pub number_is : number ≡ length done + 1
+  pub scene : Scene
+  pub printed : Bytes
+  pub at : IsAt script scene
+  pub so_far : Transcript first done scene printed
+  pub appends : Appends before after printed

@@ -1,0 +1,77 @@
+//! Why a script ends early.
+
+use commit_log::LogFault;
+use model::Memory;
+use std::alloc::{AllocError, AllocFailed};
+use std::io;
+use std::io::ErrorKind;
+
+/// Why a script ends early.
+#[derive(Clone, Copy, PartialEq, Eq, Debug)]
+pub enum ScriptFault {
+    /// The line of this number, 1 for the first, isn't a line of a script.
+    BadLine(u64),
+    /// The line of this number names one session too many.
+    Crowded(u64),
+    /// The reader or the writer failed.
+    File,
+    /// The log could not be made or opened.
+    Log(LogFault),
+    /// Memory was refused.
+    Memory,
+}
+
+impl From<Memory> for ScriptFault {
+    ghost use Rattle.scripts.specs.Faults.{IsPlain};
+
+    ghost from_gives = { λ _ e. IsPlain e };
+
+    fn from(_refused: Memory) -> ScriptFault {
+        ScriptFault::Memory
+    }
+}
+
+impl From<AllocError> for ScriptFault {
+    ghost use Rattle.scripts.specs.Faults.{IsPlain};
+
+    ghost from_gives = { λ _ e. IsPlain e };
+
+    fn from(_refused: AllocError) -> ScriptFault {
+        ScriptFault::Memory
+    }
+}
+
+impl<T: Drop> From<AllocFailed<T>> for ScriptFault {
+    ghost use Rattle.scripts.specs.Faults.{IsPlain};
+
+    ghost from_gives = { λ _ e. IsPlain e };
+
+    fn from(_refused: AllocFailed<T>) -> ScriptFault {
+        ScriptFault::Memory
+    }
+}
+
+impl From<LogFault> for ScriptFault {
+    ghost use Rattle.scripts.specs.Faults.{IsPlain};
+
+    ghost from_gives = { λ _ e. IsPlain e };
+
+    fn from(fault: LogFault) -> ScriptFault {
+        ScriptFault::Log(fault)
+    }
+}
+
+/// An error of the reader or the writer, among which a want of memory is told by its kind.
+impl From<io::Error> for ScriptFault {
+    ghost use Rattle.scripts.specs.Faults.{IsPlain};
+
+    ghost from_gives = { λ _ e. IsPlain e };
+
+    fn from(error: io::Error) -> ScriptFault {
+        if error.kind() == ErrorKind::OutOfMemory {
+            ScriptFault::Memory
+        } else {
+            ScriptFault::File
+        }
+    }
+}

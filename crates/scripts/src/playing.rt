@@ -1,0 +1,185 @@
+//! A script over a device in memory.
+ghost use Rattle.std.specs.Prelude.{◌≡◌, ◌≤◌, IfSome, IfOk, IfErr, MatchResult};
+ghost use Rattle.sessions.specs.SessionStreams.{HubState, stream_of};
+ghost use Rattle.sessions.specs.StandsFor.{StandsFor, status_in};
+ghost use Rattle.scripts.specs.Lines.{lines_of};
+ghost use Rattle.scripts.specs.Faults.{IsPlain};
+ghost use Rattle.scripts.specs.Transcript.{Scene, opening, place_of, received, PrintsIn, Plays};
+ghost use Rattle.scripts.specs.Calls.{IsAt, Finds, ReadsLine, Served, Answers, Runs};
+
+use crate::faults::ScriptFault;
+use crate::lines::{Line, write_reply};
+use commit_log::format;
+use engine::Engine;
+use sector::{MemSectors, Sectors};
+use sessions::{Event, Hub, Outcome, SESSIONS_MAX, Status};
+use std::alloc::Global;
+use std::io::{BufRead, BufReader, Read, Write};
+
+/// Runs the lines of a reader over a formatted device in memory, which has so many sectors, and prints each reply.
+///
+/// A line is a label, a decimal from 0 to 999999, and one to four words, parted by spaces. It is one request of the label's session,
+/// which joins at its first line. An empty line is skipped, and one of a session that is `Ending` prints nothing. The replies before a
+/// fault are printed.
+///
+/// A fault is `BadLine`, `Crowded` for the 129th label, `File` where the reader or the writer fails, `Memory`, or `Log` where the
+/// device has no room for a log. It takes the memory of the device, of one line and its frame, and of the sessions and their requests.
+pub fn play<R: Read + Drop, O: Write>(
+    alloc: Global,
+    sectors: u64,
+    reader: R,
+    out: &mut O,
+) -> Result<(), ScriptFault>
+    requires { sectors ≤ 65536 }
+    ensures { IfSome (R.remaining reader) (λ script. Plays (opening sectors) (lines_of script) result (O.contents out.old) (O.contents out.new)) }
+{
+    let mut script = open(alloc, sectors)?;
+    let mut lines = BufReader::new(alloc, reader)?;
+    script.play_lines(alloc, &mut lines, out)
+}
+
+// A script over an empty log.
+fn open(alloc: Global, sectors: u64) -> Result<Script<MemSectors>, ScriptFault>
+    ensures at { IfOk result (λ script. IsAt script (opening sectors)) }
+    ensures plain { IfErr result IsPlain }
+{
+    let mut device = MemSectors::new(alloc, sectors)?;
+    format(&mut device)?;
+    let engine = Engine::open(alloc, device)?;
+    Ok(Script {
+        hub: Hub::new(alloc, engine),
+        labels: Vec::new(alloc),
+        frame: Vec::new(alloc),
+        reply: Vec::new(alloc),
+    })
+}
+
+// The sessions of a script. The n-th label that comes names the session n.
+#[derive(Drop)]
+struct Script<D: Sectors> {
+    hub: Hub<D>,
+    labels: Vec<usize>,
+    frame: Vec<u8>,
+    reply: Vec<u8>,
+}
+
+impl<D: Sectors> Script<D> {
+    // Runs the lines of a reader, to its end.
+    fn play_lines<R: BufRead, O: Write>(
+        &mut self,
+        alloc: Global,
+        reader: &mut R,
+        out: &mut O,
+    ) -> Result<(), ScriptFault>
+        ensures { (scene : Scene) → IsAt self.old scene → IfSome (R.remaining reader.old) (λ script. Plays scene (lines_of script) result (O.contents out.old) (O.contents out.new)) }
+    {
+        let mut text = Vec::new(alloc);
+        for number in 1..u64::MAX {
+            if !next_line(reader, &mut text)? {
+                self.hub.is_lawful();
+                return Ok(());
+            }
+            self.play_text(number, &text, out)?;
+        }
+        Err(ScriptFault::File)
+    }
+
+    // Runs the text of a line, without its end.
+    fn play_text<O: Write>(
+        &mut self,
+        number: u64,
+        text: &[u8],
+        out: &mut O,
+    ) -> Result<(), ScriptFault>
+        ensures { (scene : Scene) → IsAt self.old scene → Runs scene number text.now result self.new (O.contents out.old) (O.contents out.new) }
+    {
+        if text.is_empty() {
+            return Ok(());
+        }
+        let Some(line) = Line::read(text) else {
+            return Err(ScriptFault::BadLine(number));
+        };
+        let Some(session) = self.session(line.label())? else {
+            return Err(ScriptFault::Crowded(number));
+        };
+        self.answer(session, &line, out)
+    }
+
+    // The session of a label, which joins where the label is new. None where it is one too many.
+    fn session(&mut self, label: usize) -> Result<Option<u64>, ScriptFault>
+        ensures { (scene : Scene) → IsAt self.old scene → MatchResult result (λ found. Finds scene label found self.new) IsPlain }
+    {
+        if let Some(place) = place_of(&self.labels, label) {
+            return Ok(Some(place as u64));
+        }
+        if self.labels.len() >= SESSIONS_MAX {
+            return Ok(None);
+        }
+        let session = self.labels.len() as u64;
+        self.labels.push(label)?;
+        match self.hub.step(&Event::Joined(session)) {
+            Outcome::Done => Ok(Some(session)),
+            _ => Err(ScriptFault::Memory),
+        }
+    }
+
+    // One request, and its reply, unless the session is no longer open.
+    fn answer<O: Write>(
+        &mut self,
+        session: u64,
+        line: &Line<'_>,
+        out: &mut O,
+    ) -> Result<(), ScriptFault>
+        ensures { (here : Scene) → IsAt self.old here → MatchResult result
+            (λ _. Answers self.new (O.contents out.old) (O.contents out.new) (PrintsIn (status_in (stream_of here.hub session)) here session line.now)) IsPlain }
+    {
+        match self.hub.status(session) {
+            Status::Open => {}
+            _ => return Ok(()),
+        }
+        self.frame.clear();
+        line.write_frame(&mut self.frame)?;
+        serve(&mut self.hub, session, &self.frame)?;
+        self.reply.clear();
+        let pending = self.hub.pending(session);
+        let sent = pending.len();
+        write_reply(line.label(), pending, &mut self.reply)?;
+        out.write_all(&self.reply)?;
+        let _ = self.hub.step(&Event::Sent(session, sent));
+        Ok(())
+    }
+}
+
+// Reads the next line, without its end. False where none is left.
+fn next_line<R: BufRead>(reader: &mut R, text: &mut Vec<u8>) -> Result<bool, ScriptFault>
+    ensures read { IfSome (R.remaining reader.old) (λ script. IfOk result (λ some. ReadsLine script some text.new.items (R.remaining reader.new))) }
+    ensures plain { IfErr result IsPlain }
+{
+    text.clear();
+    if reader.read_until(b'\n', text)? == 0 {
+        return Ok(false);
+    }
+    if text.ends_with(b"\n") {
+        text.pop();
+    }
+    Ok(true)
+}
+
+// The place of a label among these.
+fn place_of(labels: &[usize], label: usize) -> Option<usize>
+    ensures { result ≡ place_of labels.now label }
+{
+    labels.iter().position(|known| *known == label)
+}
+
+// A frame comes in, as far as the inbox takes it, and is served.
+fn serve<D: Sectors>(hub: &mut Hub<D>, session: u64, frame: &[u8]) -> Result<(), ScriptFault>
+    ensures { (h : HubState) → StandsFor hub.old h → MatchResult result (λ _. Served hub.new (received h session frame.now) session) IsPlain }
+{
+    let given = hub.room(session).min(frame.len());
+    let _ = hub.step(&Event::Bytes(session, &frame[..given]));
+    match hub.step(&Event::Serve(session)) {
+        Outcome::Memory => Err(ScriptFault::Memory),
+        _ => Ok(()),
+    }
+}
