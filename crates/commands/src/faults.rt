@@ -1,10 +1,10 @@
 //! Why a command ends early.
+ghost use Rattle.std.specs.Prelude.{◌≡◌, ◌⊎◌};
+ghost use Rattle.commands.specs.Faults.{status_of};
 
 use crate::{BAD_LINE, FAULT};
 use commit_log::LogFault;
-use model::Memory;
 use scripts::ScriptFault;
-use std::alloc::{AllocError, AllocFailed};
 use std::fmt::{Display, Formatter};
 use std::io::{ErrorKind, Write};
 use std::{fmt, io};
@@ -51,25 +51,12 @@ impl Display for Fault {
     }
 }
 
-impl From<Memory> for Fault {
-    fn from(_refused: Memory) -> Fault {
-        Fault::Memory
-    }
-}
-
-impl From<AllocError> for Fault {
-    fn from(_refused: AllocError) -> Fault {
-        Fault::Memory
-    }
-}
-
-impl<T: Drop> From<AllocFailed<T>> for Fault {
-    fn from(_refused: AllocFailed<T>) -> Fault {
-        Fault::Memory
-    }
-}
-
 impl From<LogFault> for Fault {
+    ghost use Rattle.std.specs.Prelude.{◌≡◌};
+    ghost use Rattle.commands.specs.Faults.{of_log};
+
+    ghost from_gives = { λ f e. e ≡ of_log f };
+
     fn from(fault: LogFault) -> Fault {
         match fault {
             LogFault::NotALog => Fault::NotALog,
@@ -95,13 +82,19 @@ impl From<ScriptFault> for Fault {
 
 /// An error of a file, the input or the output, among which a want of memory is told by its kind.
 impl From<io::Error> for Fault {
+    ghost use Rattle.commands.specs.Faults.{IsFromOutside};
+
+    ghost from_gives = { λ _ e. IsFromOutside e };
+
     fn from(error: io::Error) -> Fault {
         or_memory(&error, Fault::File)
     }
 }
 
 /// The fault, unless the error is a want of memory.
-pub(crate) fn or_memory(error: &io::Error, fault: Fault) -> Fault {
+pub(crate) fn or_memory(error: &io::Error, fault: Fault) -> Fault
+    ensures { (result ≡ Fault.Memory) ⊎ (result ≡ fault) }
+{
     if error.kind() == ErrorKind::OutOfMemory {
         Fault::Memory
     } else {
@@ -110,7 +103,9 @@ pub(crate) fn or_memory(error: &io::Error, fault: Fault) -> Fault {
 }
 
 /// Writes the text of a fault on its own line, and answers the exit status. Where the text can't be written, nothing more is done.
-pub fn report<E: Write>(fault: Fault, err: &mut E) -> u8 {
+pub fn report<E: Write>(fault: Fault, err: &mut E) -> u8
+    ensures { result ≡ status_of fault }
+{
     let _ = writeln!(err, "{fault}");
     match fault {
         Fault::BadLine(_) | Fault::Crowded(_) => BAD_LINE,

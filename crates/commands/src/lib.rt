@@ -6,7 +6,7 @@ mod faults;
 mod running;
 mod serving;
 
-pub use data::{check, create};
+pub use data::{check, check_device, create};
 pub use faults::{Fault, report};
 pub use running::run;
 pub use serving::serve;

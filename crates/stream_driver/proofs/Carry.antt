@@ -1,12 +1,15 @@
 -- Parts of a run follow one another.
-use Rattle.std.proofs.Common.{◌≡◌, ℕ, Bool, IsTrue, List, [], ◌∷◌, ◌++◌, Some, refl, sym, ap, subst, ◌∙◌, arith, append_assoc}
+use Rattle.std.proofs.Common.{◌≡◌, ◌⊎◌, inl, inr, ℕ, ◌+◌, ◌≤◌, Bool, true, false, if◌then◌else◌, IsTrue, List, [], ◌∷◌, ◌++◌, Some, refl, sym, ap, subst, ◌∙◌, arith, append_assoc}
 use Rattle.std.specs.List.{flat_map, AllByRecursion}
+use Rattle.std.proofs.lemmas.Bool.Decides.{nat_tests}
 use Rattle.std.proofs.lemmas.List.{append-nil}
 use Rattle.std.proofs.lemmas.List.Concat.{flat_map-append}
 use Rattle.model.specs.ReplyText.{reply_text}
 use Rattle.sessions.specs.SessionStreams.{HubState, SessionStream, HubEvent, Choice, ArePossible, run, hub_step}
 use Rattle.stream_driver.specs.Traffic.{Traffic}
-use Rattle.stream_driver.specs.Sessions.{GoesOn, Runs, session_of, IsPresentIn}
+use Rattle.sessions.specs.Laws.{failures_in}
+use Rattle.engine.specs.Meaning.{has_risen}
+use Rattle.stream_driver.specs.Sessions.{GoesOn, Point, Runs, session_of, IsPresentIn}
 use Rattle.stream_driver.specs.Drives.{Carried, NoneFell}
 use Rattle.stream_driver.proofs.Events.{no_events}
 
@@ -46,15 +49,36 @@ pub possible_then : (h : HubState) (xs ys : List (HubEvent × Choice)) → ArePo
 possible_then h [] ys a b = b
 possible_then h (x ∷ xs) ys a b = (a.0, possible_then (hub_step h x.0 x.1).0 xs ys a.1 b)
 
+-- the device failed in an event of the first part or of the second
+failed_then : (xs ys : List (HubEvent × Choice)) → 1 ≤ failures_in (xs ++ ys) → (1 ≤ failures_in xs) ⊎ (1 ≤ failures_in ys)
+failed_then [] ys some = inr some
+failed_then (x ∷ xs) ys some =
+    elim x.1.failed as (λ b. 1 ≤ (if b then failures_in (xs ++ ys) + 1 else failures_in (xs ++ ys)) → (1 ≤ (if b then failures_in xs + 1 else failures_in xs)) ⊎ (1 ≤ failures_in ys)) [
+      | true ↦ λ _. inl (omega arith)
+      | false ↦ λ more. failed_then xs ys more
+    ] some
+
+risen_first : (a b c : ℕ) → a ≤ b → b ≤ c → has_risen a b ≡ true → has_risen a c ≡ true
+risen_first a b c ab bc risen = grind (arith, nat_tests)
+
+risen_second : (a b c : ℕ) → a ≤ b → b ≤ c → has_risen b c ≡ true → has_risen a c ≡ true
+risen_second a b c ab bc risen = grind (arith, nat_tests)
+
+pub risen_either : (xs ys : List (HubEvent × Choice)) (a b c : ℕ) → a ≤ b → b ≤ c → (1 ≤ failures_in xs → has_risen a b ≡ true) → (1 ≤ failures_in ys → has_risen b c ≡ true)
+    → 1 ≤ failures_in (xs ++ ys) → has_risen a c ≡ true
+risen_either xs ys a b c ab bc f g some = elim (failed_then xs ys some) [ inl first ↦ risen_first a b c ab bc (f first) | inr second ↦ risen_second a b c ab bc (g second) ]
+
 pub one_history : (x y : SessionStream) → Some x ≡ Some y → x ≡ y
 one_history x y e = cc
 
-abbrev pub runs_then : (s : ℕ) (a b c : HubState) → Runs s a b → Runs s b c → Runs s a c
+abbrev pub runs_then : (s : ℕ) (a b c : Point) → Runs s a b → Runs s b c → Runs s a c
 runs_then s a b c p q = record {
   events = p.events ++ q.events;
   own = all_then (λ e. session_of e.0 ≡ s) p.events q.events p.own q.own;
-  possible = possible_then a p.events q.events p.possible (subst (λ v. ArePossible v q.events) p.run_is q.possible);
-  run_is = q.run_is ∙ ap (λ v. run v q.events) p.run_is ∙ sym (run_then a p.events q.events);
+  possible = possible_then a.hub p.events q.events p.possible (subst (λ v. ArePossible v q.events) p.run_is q.possible);
+  run_is = q.run_is ∙ ap (λ v. run v q.events) p.run_is ∙ sym (run_then a.hub p.events q.events);
+  counted = (let first = p.counted in let second = q.counted in omega arith);
+  risen_then = λ some. risen_either p.events q.events a.failures b.failures c.failures p.counted q.counted p.risen_then q.risen_then some;
   first = p.first;
   last = q.last;
   first_is = p.first_is;
@@ -78,7 +102,7 @@ none_fell a b c p q = record {
 
 module _ (s : ℕ) (tells : Bool) where
   -- nothing has happened
-  abbrev pub nothing : (h : HubState) (t : Traffic) → IsPresentIn h s → Carried s tells h t h t
+  abbrev pub nothing : (h : Point) (t : Traffic) → IsPresentIn h.hub s → Carried s tells h t h t
   nothing h t present = record {
     runs = no_events s h present;
     given = λ _. sym (append-nil t.given);
@@ -87,12 +111,12 @@ module _ (s : ℕ) (tells : Bool) where
   }
 
   -- the stream answered, and the hub stayed
-  abbrev pub answered : (h : HubState) (before after : Traffic) → IsPresentIn h s → (IsTrue tells → after.given ≡ before.given ++ []) → (IsTrue tells → after.taken ≡ before.taken ++ []) → NoneFell before after
+  abbrev pub answered : (h : Point) (before after : Traffic) → IsPresentIn h.hub s → (IsTrue tells → after.given ≡ before.given ++ []) → (IsTrue tells → after.taken ≡ before.taken ++ []) → NoneFell before after
       → Carried s tells h before h after
   answered h before after present given taken counts = record { runs = no_events s h present; given = given; taken = taken; counts = counts }
 
   -- the stream stayed, and the hub ran
-  abbrev pub alone : (h k : HubState) (t : Traffic) (r : Runs s h k) → [] ≡ r.history.received → [] ≡ r.history.sent → Carried s tells h t k t
+  abbrev pub alone : (h k : Point) (t : Traffic) (r : Runs s h k) → [] ≡ r.history.received → [] ≡ r.history.sent → Carried s tells h t k t
   alone h k t r received sent = record {
     runs = r;
     given = λ _. sym (append-nil t.given) ∙ ap (λ l. t.given ++ l) received;
@@ -101,7 +125,7 @@ module _ (s : ℕ) (tells : Bool) where
   }
 
   -- one part after another
-  abbrev pub and_then : (old : HubState) (before : Traffic) (mid : HubState) (between : Traffic) (new : HubState) (after : Traffic) → Carried s tells old before mid between → Carried s tells mid between new after
+  abbrev pub and_then : (old : Point) (before : Traffic) (mid : Point) (between : Traffic) (new : Point) (after : Traffic) → Carried s tells old before mid between → Carried s tells mid between new after
       → Carried s tells old before new after
   and_then old before mid between new after p q = record {
     runs = runs_then s old mid new p.runs q.runs;

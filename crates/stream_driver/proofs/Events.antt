@@ -1,5 +1,5 @@
 -- What one event does to the history of its session.
-use Rattle.std.proofs.Common.{◌≡◌, ◌≢◌, ℕ, ◌≤◌, nat_le, nat_lt, true, false, if◌then◌else◌, [], ◌∷◌, ◌++◌, length, take, drop, Option, Some, None, refl, sym, ap, subst, ◌∙◌, arith}
+use Rattle.std.proofs.Common.{◌≡◌, ◌≢◌, ℕ, ◌+◌, ◌≤◌, Bool, nat_le, nat_lt, true, false, if◌then◌else◌, [], ◌∷◌, ◌++◌, length, take, drop, Option, Some, None, refl, sym, ap, subst, ◌∙◌, arith}
 use Rattle.std.specs.List.{flat_map}
 use Rattle.std.specs.Map.{lookup, set_value}
 use Rattle.std.proofs.lemmas.Bool.Decides.{nat_tests}
@@ -12,7 +12,9 @@ use Rattle.sessions.specs.declared.events.Status.TheVariants.{Absent, Open, Endi
 use Rattle.sessions.specs.declared.events.Outcome.TheVariants.{Done, Memory, Idle}
 use Rattle.sessions.specs.SessionStreams.{HubState, IsServed, SessionState, SessionStream, HubEvent, Joins, Receives, Serves, Sends, Leaves, Front, Whole, More, Bad, IsFront, Choice, Effect, IsPossible, IsServePossible, hub_step, stream_of, with_stream, with_effect, is_open, may_serve, serve_front, out_of_memory, served_with, no_effect, broken_frame, asks, room}
 use Rattle.sessions.specs.StandsFor.{status_in}
-use Rattle.stream_driver.specs.Sessions.{GoesOn, Runs, session_of, status_at, IsPresentIn}
+use Rattle.sessions.specs.Laws.{failures_in}
+use Rattle.engine.specs.Meaning.{has_risen}
+use Rattle.stream_driver.specs.Sessions.{GoesOn, Point, Runs, session_of, status_at, IsPresentIn}
 use Rattle.stream_driver.proofs.Lookups.{test, set-same, set-other, remove-other}
 
 pub found : (o : Option SessionStream) → status_in o ≢ Absent → (st : SessionStream) × (o ≡ Some st)
@@ -36,36 +38,52 @@ same_history st = record {
   texts = sym (append-nil st.now.pending);
 }
 
-abbrev pub no_events : (s : ℕ) (h : HubState) → IsPresentIn h s → Runs s h h
-no_events s h present = record {
+abbrev pub no_events : (s : ℕ) (p : Point) → IsPresentIn p.hub s → Runs s p p
+no_events s p present = record {
   events = [];
   own = tt;
   possible = tt;
   run_is = refl;
-  first = (found (stream_of h s) present).0;
-  last = (found (stream_of h s) present).0;
-  first_is = (found (stream_of h s) present).1;
-  last_is = (found (stream_of h s) present).1;
-  history = same_history (found (stream_of h s) present).0;
+  counted = omega arith;
+  risen_then = λ some. absurd (omega (arith, some));
+  first = (found (stream_of p.hub s) present).0;
+  last = (found (stream_of p.hub s) present).0;
+  first_is = (found (stream_of p.hub s) present).1;
+  last_is = (found (stream_of p.hub s) present).1;
+  history = same_history (found (stream_of p.hub s) present).0;
   present = present;
   others = λ t apart. refl;
 }
 
+-- an event that may happen so, after which so many calls of the device have failed
+pub record Happens (p : Point) (e : HubEvent) (c : Choice) (count : ℕ) : Type 0 where
+  pub possible : IsPossible p.hub e c
+  pub counted : p.failures ≤ count
+  pub failed : c.failed ≡ has_risen p.failures count
+
+abbrev pub point_after : Point → HubEvent → Choice → ℕ → Point
+point_after p e c count = record { hub = (hub_step p.hub e c).0; failures = count }
+
+pub fails_then : (e : HubEvent) (c : Choice) (risen : Bool) → c.failed ≡ risen → 1 ≤ failures_in ((e, c) ∷ []) → risen ≡ true
+fails_then e c risen same some = elim c.failed as (λ b. b ≡ risen → 1 ≤ (if b then 0 + 1 else 0) → risen ≡ true) [ true ↦ λ is _. sym is | false ↦ λ _ none. absurd (omega (arith, none)) ] same some
+
 -- one event that changes its session's history alone
-abbrev pub one_event : (s : ℕ) (h : HubState) (e : HubEvent) (c : Choice) (first last : SessionStream) → session_of e ≡ s → IsPossible h e c → stream_of h s ≡ Some first
-    → (hub_step h e c).0.present ≡ set_value (test s) h.present last → GoesOn first last → last.now.status ≢ Absent → Runs s h (hub_step h e c).0
-one_event s h e c first last own possible is changes history present = record {
+abbrev pub one_event : (s : ℕ) (p : Point) (e : HubEvent) (c : Choice) (count : ℕ) (first last : SessionStream) → session_of e ≡ s → Happens p e c count → stream_of p.hub s ≡ Some first
+    → (hub_step p.hub e c).0.present ≡ set_value (test s) p.hub.present last → GoesOn first last → last.now.status ≢ Absent → Runs s p (point_after p e c count)
+one_event s p e c count first last own happens is changes history present = record {
   events = (e, c) ∷ [];
   own = (own, tt);
-  possible = (possible, tt);
+  possible = (happens.possible, tt);
   run_is = refl;
+  counted = happens.counted;
+  risen_then = λ some. fails_then e c (has_risen p.failures count) happens.failed some;
   first = first;
   last = last;
   first_is = is;
-  last_is = ap (lookup (test s)) changes ∙ set-same s last h.present first is;
+  last_is = ap (lookup (test s)) changes ∙ set-same s last p.hub.present first is;
   history = history;
-  present = λ gone. present (sym (ap status_in (ap (lookup (test s)) changes ∙ set-same s last h.present first is)) ∙ gone);
-  others = λ t apart. ap (lookup (test t)) changes ∙ set-other s last h.present t apart;
+  present = λ gone. present (sym (ap status_in (ap (lookup (test s)) changes ∙ set-same s last p.hub.present first is)) ∙ gone);
+  others = λ t apart. ap (lookup (test t)) changes ∙ set-other s last p.hub.present t apart;
 }
 
 -- ---- bytes come in
@@ -165,7 +183,10 @@ comes More c m s n is = Awaits refl refl refl is
 comes Bad c m s n is = IsBroken refl refl
 
 -- the event of a Serve
-module _ (s : ℕ) (h : HubState) (c : Choice) (st : SessionStream) (is : stream_of h s ≡ Some st) (opened : st.now.status ≡ Open) (nothing : st.now.pending ≡ []) (possible : IsPossible h (Serves s) c) where
+module _ (s : ℕ) (p : Point) (c : Choice) (count : ℕ) (st : SessionStream) (is : stream_of p.hub s ≡ Some st) (opened : st.now.status ≡ Open) (nothing : st.now.pending ≡ []) (happens : Happens p (Serves s) c count) where
+  abbrev h : HubState
+  h = p.hub
+
   abbrev pub effect : Effect
   effect = serve_front c.front c h.machine s st.now
 
@@ -174,7 +195,7 @@ module _ (s : ℕ) (h : HubState) (c : Choice) (st : SessionStream) (is : stream
 
   pub front_is : IsServed st.now.inbox c
   front_is =
-      let here : IsServePossible (Some st) c = subst (λ o. IsServePossible o c) is possible in
+      let here : IsServePossible (Some st) c = subst (λ o. IsServePossible o c) is happens.possible in
       let may : may_serve st.now ≡ true = rw (opened, nothing) refl in
       here may
 
@@ -189,8 +210,8 @@ module _ (s : ℕ) (h : HubState) (c : Choice) (st : SessionStream) (is : stream
     | Awaits o same none begins ↦ λ gone. (let bad : Open ≡ Absent = sym opened ∙ sym (ap (λ n. n.status) same) ∙ gone in cc)
   ]
 
-  abbrev pub served_event : Runs s h (hub_step h (Serves s) c).0
-  served_event = one_event s h (Serves s) c st (after_effect st effect) refl possible is (ap (λ r. r.0.present) serves_is) (was_served st effect nothing (effect_texts c.front c h.machine s st.now nothing)) status_kept
+  abbrev pub served_event : Runs s p (point_after p (Serves s) c count)
+  served_event = one_event s p (Serves s) c count st (after_effect st effect) refl happens is (ap (λ r. r.0.present) serves_is) (was_served st effect nothing (effect_texts c.front c h.machine s st.now nothing)) status_kept
 
 -- ---- a session leaves
 

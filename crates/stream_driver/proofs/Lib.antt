@@ -1,7 +1,7 @@
 pub mod Lookups
 pub mod Inboxes
-pub mod States
 pub mod Events
+pub mod States
 pub mod Carry
 pub mod Parts
 pub mod Loops

@@ -6,10 +6,10 @@ use Rattle.sessions.specs.declared.events.Status.{Status}
 use Rattle.sessions.specs.declared.events.Status.TheVariants.{Absent, Open, Ending, Refused}
 use Rattle.sessions.specs.declared.events.Outcome.{Outcome}
 use Rattle.sessions.specs.declared.events.Outcome.TheVariants.{Done, Memory, Idle}
-use Rattle.sessions.specs.SessionStreams.{HubState, SessionStream, Serves, Choice, IsPossible, hub_step}
+use Rattle.sessions.specs.SessionStreams.{SessionStream, Serves, Choice, hub_step}
 use Rattle.sector.specs.declared.device.Sectors.{Ghosts}
 use Rattle.sessions.specs.declared.hub.Hub.{Hub}
-use Rattle.sessions.specs.StandsFor.{HubLeads, status_in, pending_in, room_in}
+use Rattle.sessions.specs.StandsFor.{HubLeads, status_in, pending_in, room_in, failures}
 use Rattle.stream_driver.specs.declared.answers.ReadAnswer.TheVariants.{Moved, Blocked, Failed, Ended}
 use Rattle.stream_driver.specs.declared.answers.WriteAnswer.TheVariants.{Moved as Wrote, Blocked as WriteBlocked, Failed as WriteFailed}
 use Rattle.stream_driver.specs.declared.answers.Progress.TheVariants.{Waiting, Again, Gone}
@@ -17,12 +17,12 @@ use Rattle.stream_driver.specs.declared.driving.Flush.TheVariants.{Empty, Blocke
 use Rattle.stream_driver.specs.declared.driving.Exchange.{Exchange}
 use Rattle.stream_driver.specs.declared.driving.Exchange.TheVariants.{Served, Broke as ExchangeBroke, Starved as ExchangeStarved, Blocked as ExchangeBlocked, Failed as ExchangeFailed, Ended as ExchangeEnded}
 use Rattle.stream_driver.specs.Traffic.{Traffic, Rose}
-use Rattle.stream_driver.specs.Sessions.{Leads, Runs, AwaitsMore, status_at, pending_at, room_at, inbox_at, inbox_in, IsPresentIn}
+use Rattle.stream_driver.specs.Sessions.{Point, Leads, Runs, AwaitsMore, status_at, pending_at, room_at, inbox_at, inbox_in, IsPresentIn}
 use Rattle.stream_driver.specs.Drives.{Carried, Drove, Parts}
 use Rattle.stream_driver.specs.Calls.{Moves, WritesSome, ReadsSome, Flushes, Exchanges, WrittenSoFar, ReadSoFar, DrivenSoFar, served_in}
 use Rattle.stream_driver.proofs.States.{leads_step}
 use Rattle.stream_driver.proofs.Inboxes.{beginning_short}
-use Rattle.stream_driver.proofs.Events.{Comes, Answered, IsBroken, IsStarved, Awaits, comes_to, serves_is, served_event, effect, open_present}
+use Rattle.stream_driver.proofs.Events.{Happens, point_after, Comes, Answered, IsBroken, IsStarved, Awaits, comes_to, serves_is, served_event, effect, open_present}
 use Rattle.stream_driver.proofs.Carry.{nothing, alone, and_then}
 
 -- a status that is neither absent nor open
@@ -39,21 +39,21 @@ some_more : (xs : List ℕ) (n : ℕ) → n ≡ length xs → 0 < n → xs ≢ [
 some_more xs n e some = λ none. let long : length xs ≡ 0 = ap length none in omega arith
 
 module _ (s : ℕ) (tells : Bool) where
-  pub written_none : (h : HubState) (t : Traffic) (owed : ℕ) → IsPresentIn h s → owed ≡ length (pending_at h s) → WrittenSoFar s tells h t h t owed
+  pub written_none : (h : Point) (t : Traffic) (owed : ℕ) → IsPresentIn h.hub s → owed ≡ length (pending_at h.hub s) → WrittenSoFar s tells h t h t owed
   written_none h t owed present is = record { moves = record { carried = nothing s tells h t present; none_served = refl; status = refl }; owed_is = is }
 
-  pub read_nothing : (h : HubState) (t : Traffic) (room : ℕ) → status_at h s ≡ Open → pending_at h s ≡ [] → room ≡ room_at h s → ReadSoFar s tells h t h t room
+  pub read_nothing : (h : Point) (t : Traffic) (room : ℕ) → status_at h.hub s ≡ Open → pending_at h.hub s ≡ [] → room ≡ room_at h.hub s → ReadSoFar s tells h t h t room
   read_nothing h t room is_open none is = record {
-    moves = record { carried = nothing s tells h t (open_present h s is_open); none_served = refl; status = refl };
+    moves = record { carried = nothing s tells h t (open_present h.hub s is_open); none_served = refl; status = refl };
     is_open = is_open;
     nothing = none;
     room_is = is;
   }
 
-  pub driven_none : (h : HubState) (t : Traffic) → IsPresentIn h s → DrivenSoFar s tells h t h t 0
+  pub driven_none : (h : Point) (t : Traffic) → IsPresentIn h.hub s → DrivenSoFar s tells h t h t 0
   driven_none h t present = record { carried = nothing s tells h t present; served_is = λ _. refl }
 
-  module _ (old : HubState) (before : Traffic) (mid : HubState) (between : Traffic) (new : HubState) (after : Traffic) where
+  module _ (old : Point) (before : Traffic) (mid : Point) (between : Traffic) (new : Point) (after : Traffic) where
     abbrev pub moves_then : Moves s tells old before mid between → Moves s tells mid between new after → Moves s tells old before new after
     moves_then p q = record {
       carried = and_then s tells old before mid between new after p.carried q.carried;
@@ -74,7 +74,7 @@ module _ (s : ℕ) (tells : Bool) where
         why =
             let below : before.write_blocked ≤ between.write_blocked = p.moves.carried.counts.write_blocked in
             let rose : Rose between.write_blocked after.write_blocked = q.why.0 in
-            (omega arith, λ none. some_more (pending_at mid s) owed p.owed_is some (sym q.why.1 ∙ none));
+            (omega arith, λ none. some_more (pending_at mid.hub s) owed p.owed_is some (sym q.why.1 ∙ none));
       }
 
       pub written_failed : WritesSome s tells mid between WriteFailed new after → Flushes s tells old before FlushFailed new after
@@ -101,7 +101,7 @@ module _ (s : ℕ) (tells : Bool) where
       abbrev so_far : Carried s tells mid between new after → Carried s tells old before new after
       so_far q = and_then s tells old before mid between new after p.moves.carried q
 
-      pub read_blocked : AwaitsMore mid s → ReadsSome s tells mid between Blocked new after → Exchanges s tells old before ExchangeBlocked new after
+      pub read_blocked : AwaitsMore mid.hub s → ReadsSome s tells mid between Blocked new after → Exchanges s tells old before ExchangeBlocked new after
       read_blocked more q = record {
         carried = so_far q.moves.carried;
         why =
@@ -119,7 +119,7 @@ module _ (s : ℕ) (tells : Bool) where
             omega arith;
       }
 
-      pub read_ended : AwaitsMore mid s → ReadsSome s tells mid between Ended new after → Exchanges s tells old before ExchangeEnded new after
+      pub read_ended : AwaitsMore mid.hub s → ReadsSome s tells mid between Ended new after → Exchanges s tells old before ExchangeEnded new after
       read_ended more q = record {
         carried = so_far q.moves.carried;
         why =
@@ -128,13 +128,13 @@ module _ (s : ℕ) (tells : Bool) where
             (omega arith, subst (λ v. AwaitsMore v s) (sym q.why.1) more);
       }
 
-  pub written_all : (old : HubState) (before : Traffic) (new : HubState) (after : Traffic) (owed : ℕ) → WrittenSoFar s tells old before new after owed → owed ≡ 0 → Flushes s tells old before Empty new after
-  written_all old before new after owed p none = record { moves = p.moves; why = no_more (pending_at new s) (sym none ∙ p.owed_is) }
+  pub written_all : (old : Point) (before : Traffic) (new : Point) (after : Traffic) (owed : ℕ) → WrittenSoFar s tells old before new after owed → owed ≡ 0 → Flushes s tells old before Empty new after
+  written_all old before new after owed p none = record { moves = p.moves; why = no_more (pending_at new.hub s) (sym none ∙ p.owed_is) }
 
   -- ---- a request is looked for
 
-  module _ (old : HubState) (before : Traffic) (mid : HubState) (between : Traffic) (room : ℕ) (p : ReadSoFar s tells old before mid between room) (c : Choice) (possible : IsPossible mid (Serves s) c) (outcome : Outcome)
-      (outcome_is : outcome ≡ (hub_step mid (Serves s) c).1) where
+  module _ (old : Point) (before : Traffic) (mid : Point) (between : Traffic) (room : ℕ) (p : ReadSoFar s tells old before mid between room) (c : Choice) (count : ℕ) (happens : Happens mid (Serves s) c count)
+      (outcome : Outcome) (outcome_is : outcome ≡ (hub_step mid.hub (Serves s) c).1) where
     abbrev st : SessionStream
     st = p.moves.carried.runs.last
 
@@ -144,22 +144,22 @@ module _ (s : ℕ) (tells : Bool) where
     none : st.now.pending ≡ []
     none = sym (ap pending_in p.moves.carried.runs.last_is) ∙ p.nothing
 
-    abbrev new : HubState
-    new = (hub_step mid (Serves s) c).0
+    abbrev new : Point
+    new = point_after mid (Serves s) c count
 
     abbrev served : Runs s mid new
-    served = served_event s mid c st p.moves.carried.runs.last_is opened none possible
+    served = served_event s mid c count st p.moves.carried.runs.last_is opened none happens
 
     abbrev done : Carried s tells old before new between
     done = and_then s tells old before mid between new between p.moves.carried (alone s tells mid new between served refl refl)
 
-    what : Comes st.now (effect s mid c st p.moves.carried.runs.last_is opened none possible)
-    what = comes_to s mid c st p.moves.carried.runs.last_is opened none possible
+    what : Comes st.now (effect s mid c count st p.moves.carried.runs.last_is opened none happens)
+    what = comes_to s mid c count st p.moves.carried.runs.last_is opened none happens
 
-    effect_outcome : outcome ≡ (effect s mid c st p.moves.carried.runs.last_is opened none possible).outcome
-    effect_outcome = outcome_is ∙ ap (λ r. r.1) (serves_is s mid c st p.moves.carried.runs.last_is opened none possible)
+    effect_outcome : outcome ≡ (effect s mid c count st p.moves.carried.runs.last_is opened none happens).outcome
+    effect_outcome = outcome_is ∙ ap (λ r. r.1) (serves_is s mid c count st p.moves.carried.runs.last_is opened none happens)
 
-    status_is : status_at new s ≡ (effect s mid c st p.moves.carried.runs.last_is opened none possible).now.status
+    status_is : status_at new.hub s ≡ (effect s mid c count st p.moves.carried.runs.last_is opened none happens).now.status
     status_is = ap status_in served.last_is
 
     how_many : length (p.moves.carried.runs.history.served ++ served.history.served) ≡ length served.history.served
@@ -173,7 +173,7 @@ module _ (s : ℕ) (tells : Bool) where
       | Awaits o same unserved begins ↦ absurd (let bad : Idle ≡ Memory = sym o ∙ sym effect_outcome ∙ e in cc)
     ]
 
-    pub serve_open : outcome ≡ Done → status_at new s ≡ Open → Exchanges s tells old before Served new between
+    pub serve_open : outcome ≡ Done → status_at new.hub s ≡ Open → Exchanges s tells old before Served new between
     serve_open e is_open = elim what [
       | Answered o status len ↦ record { carried = done; why = (is_open, how_many ∙ len) }
       | IsBroken o status ↦ absurd (let bad : Ending ≡ Open = sym status ∙ sym status_is ∙ is_open in cc)
@@ -181,7 +181,7 @@ module _ (s : ℕ) (tells : Bool) where
       | Awaits o same unserved begins ↦ absurd (let bad : Idle ≡ Done = sym o ∙ sym effect_outcome ∙ e in cc)
     ]
 
-    pub serve_closed : outcome ≡ Done → status_at new s ≢ Open → Exchanges s tells old before ExchangeBroke new between
+    pub serve_closed : outcome ≡ Done → status_at new.hub s ≢ Open → Exchanges s tells old before ExchangeBroke new between
     serve_closed e is_closed = elim what [
       | Answered o status len ↦ absurd (is_closed (status_is ∙ status))
       | IsBroken o status ↦ record { carried = done; why = status_is ∙ status }
@@ -190,16 +190,16 @@ module _ (s : ℕ) (tells : Bool) where
     ]
 
     -- the inbox holds the beginning of a request, and has room for more
-    pub serve_awaits : outcome ≢ Done → outcome ≢ Memory → ReadSoFar s tells old before new between room × AwaitsMore new s × (0 < room)
+    pub serve_awaits : outcome ≢ Done → outcome ≢ Memory → ReadSoFar s tells old before new between room × AwaitsMore new.hub s × (0 < room)
     serve_awaits not_done not_memory = elim what [
       | Answered o status len ↦ absurd (not_done (effect_outcome ∙ o))
       | IsBroken o status ↦ absurd (not_done (effect_outcome ∙ o))
       | IsStarved o status ↦ absurd (not_memory (effect_outcome ∙ o))
       | Awaits o same unserved begins ↦
-          let inbox_now : inbox_at new s ≡ st.now.inbox = ap inbox_in served.last_is ∙ ap (λ n. n.inbox) same in
-          let pending_now : pending_at new s ≡ [] = ap pending_in served.last_is ∙ ap (λ n. n.pending) same ∙ none in
-          let status_now : status_at new s ≡ Open = status_is ∙ ap (λ n. n.status) same ∙ opened in
-          let room_now : room_at new s ≡ room_at mid s = ap room_in served.last_is ∙ ap (λ n. 32768 - length n.inbox) same ∙ sym (ap room_in p.moves.carried.runs.last_is) in
+          let inbox_now : inbox_at new.hub s ≡ st.now.inbox = ap inbox_in served.last_is ∙ ap (λ n. n.inbox) same in
+          let pending_now : pending_at new.hub s ≡ [] = ap pending_in served.last_is ∙ ap (λ n. n.pending) same ∙ none in
+          let status_now : status_at new.hub s ≡ Open = status_is ∙ ap (λ n. n.status) same ∙ opened in
+          let room_now : room_at new.hub s ≡ room_at mid.hub s = ap room_in served.last_is ∙ ap (λ n. 32768 - length n.inbox) same ∙ sym (ap room_in p.moves.carried.runs.last_is) in
           let short : length st.now.inbox < 32768 = beginning_short st.now.inbox begins in
           let room_was : room ≡ 32768 - length st.now.inbox = p.room_is ∙ ap room_in p.moves.carried.runs.last_is in (
             record {
@@ -215,7 +215,7 @@ module _ (s : ℕ) (tells : Bool) where
 
   -- ---- between two requests
 
-  module _ (old : HubState) (before : Traffic) (mid : HubState) (between : Traffic) (new : HubState) (after : Traffic) (count : ℕ) (p : DrivenSoFar s tells old before mid between count) where
+  module _ (old : Point) (before : Traffic) (mid : Point) (between : Traffic) (new : Point) (after : Traffic) (count : ℕ) (p : DrivenSoFar s tells old before mid between count) where
     abbrev further : Carried s tells mid between new after → Carried s tells old before new after
     further q = and_then s tells old before mid between new after p.carried q
 
@@ -233,7 +233,7 @@ module _ (s : ℕ) (tells : Bool) where
           all ∙ omega arith;
     }
 
-    pub driven_served : status_at mid s ≡ Open → Exchanges s tells mid between Served new after → DrivenSoFar s tells old before new after (count + 1)
+    pub driven_served : status_at mid.hub s ≡ Open → Exchanges s tells mid between Served new after → DrivenSoFar s tells old before new after (count + 1)
     driven_served was_open q = record {
       carried = further q.carried;
       served_is = λ _.
@@ -271,7 +271,7 @@ module _ (s : ℕ) (tells : Bool) where
           inr (omega arith, q.why.1);
     }
 
-    module _ (gone : HubState) (parts : Parts s new gone) where
+    module _ (gone : Point) (parts : Parts s new gone) where
       pub gone_writing : Flushes s tells mid between FlushFailed new after → Drove s tells old before Gone gone after
       gone_writing q = record {
         last = new;
@@ -318,23 +318,23 @@ module _ (s : ℕ) (tells : Bool) where
       gone_serving ExchangeEnded a b c q = gone_at_end q
 
       -- nothing is pending, and the session is no longer open
-      pub gone_closed : Flushes s tells mid between Empty new after → status_at new s ≢ Open → Drove s tells old before Gone gone after
+      pub gone_closed : Flushes s tells mid between Empty new after → status_at new.hub s ≢ Open → Drove s tells old before Gone gone after
       gone_closed q is_closed = record {
         last = new;
         carried = further q.moves.carried;
         ends = parts;
-        why = inr (inr (inr (closed_kinds (status_at new s) q.moves.carried.runs.present is_closed q.why)));
+        why = inr (inr (inr (closed_kinds (status_at new.hub s) q.moves.carried.runs.present is_closed q.why)));
       }
 
-    pub again : Flushes s tells mid between Empty new after → count ≡ 64 → status_at new s ≡ Open → Drove s tells old before Again new after
+    pub again : Flushes s tells mid between Empty new after → count ≡ 64 → status_at new.hub s ≡ Open → Drove s tells old before Again new after
     again q all is_open = record { last = new; carried = further q.moves.carried; ends = refl; why = ((driven_flushed q.moves).served_is is_open ∙ all, q.why) }
 
 -- a request was looked for, and there is only the beginning of one
-abbrev pub HasRead : ℕ → Bool → Traffic → Traffic → ℕ → HubState → HubState → Type 0
-HasRead s tells before between room h k = ReadSoFar s tells h before k between room × AwaitsMore k s × (0 < room)
+abbrev pub HasRead : ℕ → Bool → Traffic → Traffic → ℕ → Point → Point → Type 0
+HasRead s tells before between room h k = ReadSoFar s tells h before k between room × AwaitsMore k.hub s × (0 < room)
 
 pub waits : {D : Type 0} {g : Ghosts D} (a b c : Hub D g) (s : ℕ) (tells : Bool) (before between : Traffic) (room : ℕ) (outcome : Outcome) → Leads a b (λ h k. ReadSoFar s tells h before k between room)
-    → HubLeads b c (Serves s) outcome → outcome ≢ Done → outcome ≢ Memory → Leads a c (HasRead s tells before between room)
-waits a b c s tells before between room outcome p q not_done not_memory =
-    leads_step a b c (λ h k. ReadSoFar s tells h before k between room) (HasRead s tells before between room) (Serves s) outcome p q
-    (λ h k choice possible is stands r. serve_awaits s tells h before k between room r choice possible outcome is not_done not_memory)
+    → HubLeads b c (Serves s) outcome → failures b ≤ failures c → outcome ≢ Done → outcome ≢ Memory → Leads a c (HasRead s tells before between room)
+waits a b c s tells before between room outcome p q counted not_done not_memory =
+    leads_step a b c (λ h k. ReadSoFar s tells h before k between room) (HasRead s tells before between room) (Serves s) outcome p q counted
+    (λ h k choice happens is stands r. serve_awaits s tells h before k between room r choice (failures c) happens outcome is not_done not_memory)

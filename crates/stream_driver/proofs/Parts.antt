@@ -7,7 +7,7 @@ use Rattle.sessions.specs.declared.events.Outcome.TheVariants.{Done}
 use Rattle.sector.specs.declared.device.Sectors.{Ghosts}
 use Rattle.sessions.specs.declared.hub.Hub.{Hub}
 use Rattle.sessions.specs.SessionStreams.{HubState, Receives, Sends, hub_step, with_stream, stream_of}
-use Rattle.sessions.specs.StandsFor.{StandsFor, HubLeads, status_in, pending_in, room_in}
+use Rattle.sessions.specs.StandsFor.{StandsFor, HubLeads, status_in, pending_in, room_in, failures}
 use Rattle.stream_driver.specs.declared.answers.ReadAnswer.{ReadAnswer}
 use Rattle.stream_driver.specs.declared.answers.ReadAnswer.TheVariants.{Moved, Blocked, Failed, Ended}
 use Rattle.stream_driver.specs.declared.answers.WriteAnswer.{WriteAnswer}
@@ -16,8 +16,9 @@ use Rattle.stream_driver.specs.Traffic.{Traffic, after_read, after_write, SameCo
 use Rattle.stream_driver.specs.Sessions.{Leads, Runs, status_at, pending_at, room_at, IsPresentIn}
 use Rattle.stream_driver.specs.Drives.{NoneFell}
 use Rattle.stream_driver.specs.Calls.{WritesSome, ReadsSome}
-use Rattle.stream_driver.proofs.Events.{found, one_event, received_by, receives, bytes_came, sent_from, sends, bytes_went, open_present}
+use Rattle.stream_driver.proofs.Events.{found, Happens, point_after, one_event, received_by, receives, bytes_came, sent_from, sends, bytes_went, open_present}
 use Rattle.stream_driver.proofs.Carry.{answered}
+use Rattle.stream_driver.proofs.States.{happens_at}
 
 -- the counts after an answer don't fall
 write_none_fell : (answer : WriteAnswer) (b a : Traffic) → SameCounts a (after_write answer b) → NoneFell b a
@@ -32,61 +33,63 @@ read_none_fell Failed b a (p, q, r, t, u) = record { read_blocked = omega arith;
 read_none_fell Ended b a (p, q, r, t, u) = record { read_blocked = omega arith; read_failed = omega arith; read_ended = omega arith; write_blocked = omega arith; write_failed = omega arith }
 
 module _ {D : Type 0} {g : Ghosts D} (hub new : Hub D g) (s : ℕ) (tells : Bool) (b a : Traffic) where
-  pub wrote_moved : (n : ℕ) → 0 < n → (outcome : Rattle.sessions.specs.declared.events.Outcome.Outcome) → HubLeads hub new (Sends s n) outcome
+  pub wrote_moved : (n : ℕ) → 0 < n → (outcome : Rattle.sessions.specs.declared.events.Outcome.Outcome) → HubLeads hub new (Sends s n) outcome → failures hub ≤ failures new
       → ((h : HubState) → StandsFor hub h → IsPresentIn h s × (n ≤ length (pending_at h s)))
       → ((h : HubState) → StandsFor hub h → IsTrue tells → a.taken ≡ b.taken ++ take n (pending_at h s)) → (IsTrue tells → a.given ≡ b.given) → SameCounts a (after_write (Wrote n) b)
       → Leads hub new (λ h k. WritesSome s tells h b (Wrote n) k a)
-  wrote_moved n some outcome leads here taken given counts = λ h stands.
+  wrote_moved n some outcome leads counted here taken given counts = λ h stands.
       let c = leads.0 in
-      let there = leads.3 h stands in
-      let st = found (stream_of h s) (here h stands).0 in
-      let is : stream_of h s ≡ Some st.0 = st.1 in
-      let pending : pending_at h s ≡ st.0.now.pending = ap pending_in is in
-      let fits : n ≤ length st.0.now.pending = subst (λ l. n ≤ length l) pending (here h stands).1 in
-      let stays : st.0.now.status ≢ Absent = λ gone. (here h stands).0 (ap status_in is ∙ gone) in
-      let step : hub_step h (Sends s n) c ≡ (with_stream h s (sent_from st.0 n), Done) = sends h s n c st.0 is fits in
-      let runs : Runs s h (hub_step h (Sends s n) c).0 = one_event s h (Sends s n) c st.0 (sent_from st.0 n) refl tt is (ap (λ r. r.0.present) step) (bytes_went st.0 n) stays in (
-        (hub_step h (Sends s n) c).0,
-        there.stands,
+      let there = leads.3 h.hub stands.state in
+      let happens : Happens h (Sends s n) c (failures new) = happens_at hub new (Sends s n) outcome leads counted h stands in
+      let st = found (stream_of h.hub s) (here h.hub stands.state).0 in
+      let is : stream_of h.hub s ≡ Some st.0 = st.1 in
+      let pending : pending_at h.hub s ≡ st.0.now.pending = ap pending_in is in
+      let fits : n ≤ length st.0.now.pending = subst (λ l. n ≤ length l) pending (here h.hub stands.state).1 in
+      let stays : st.0.now.status ≢ Absent = λ gone. (here h.hub stands.state).0 (ap status_in is ∙ gone) in
+      let step : hub_step h.hub (Sends s n) c ≡ (with_stream h.hub s (sent_from st.0 n), Done) = sends h.hub s n c st.0 is fits in
+      let runs : Runs s h (point_after h (Sends s n) c (failures new)) = one_event s h (Sends s n) c (failures new) st.0 (sent_from st.0 n) refl happens is (ap (λ r. r.0.present) step) (bytes_went st.0 n) stays in (
+        point_after h (Sends s n) c (failures new),
+        record { state = there.stands; count = refl },
         record {
           moves = record {
             carried = record {
-              runs = one_event s h (Sends s n) c st.0 (sent_from st.0 n) refl tt is (ap (λ r. r.0.present) step) (bytes_went st.0 n) stays;
+              runs = one_event s h (Sends s n) c (failures new) st.0 (sent_from st.0 n) refl happens is (ap (λ r. r.0.present) step) (bytes_went st.0 n) stays;
               given = λ t. given t ∙ sym (append-nil b.given);
-              taken = λ t. taken h stands t ∙ ap (λ l. b.taken ++ take n l) pending;
+              taken = λ t. taken h.hub stands.state t ∙ ap (λ l. b.taken ++ take n l) pending;
               counts = write_none_fell (Wrote n) b a counts;
             };
             none_served = refl;
             status = ap status_in runs.last_is ∙ sym (ap status_in is);
           };
           why =
-              let left : length (pending_at (hub_step h (Sends s n) c).0 s) ≡ length (drop n st.0.now.pending) = ap (λ o. length (pending_in o)) runs.last_is in
+              let left : length (pending_at (hub_step h.hub (Sends s n) c).0 s) ≡ length (drop n st.0.now.pending) = ap (λ o. length (pending_in o)) runs.last_is in
               let rest : length (drop n st.0.now.pending) ≡ length st.0.now.pending - n = length-drop n st.0.now.pending in
-              let all : length (pending_at h s) ≡ length st.0.now.pending = ap length pending in
+              let all : length (pending_at h.hub s) ≡ length st.0.now.pending = ap length pending in
               (some, omega arith);
         },
       )
 
-  pub read_moved : (n : ℕ) → 0 < n → (piece : Bytes) (outcome : Rattle.sessions.specs.declared.events.Outcome.Outcome) → HubLeads hub new (Receives s piece) outcome
+  pub read_moved : (n : ℕ) → 0 < n → (piece : Bytes) (outcome : Rattle.sessions.specs.declared.events.Outcome.Outcome) → HubLeads hub new (Receives s piece) outcome → failures hub ≤ failures new
       → ((h : HubState) → StandsFor hub h → (status_at h s ≡ Open) × (length piece ≤ room_at h s)) → length piece ≡ n
       → (IsTrue tells → a.given ≡ b.given ++ piece) → (IsTrue tells → a.taken ≡ b.taken) → SameCounts a (after_read (Moved n) b)
       → Leads hub new (λ h k. ReadsSome s tells h b (Moved n) k a)
-  read_moved n some piece outcome leads here long given taken counts = λ h stands.
+  read_moved n some piece outcome leads counted here long given taken counts = λ h stands.
       let c = leads.0 in
-      let there = leads.3 h stands in
-      let st = found (stream_of h s) (open_present h s (here h stands).0) in
-      let is : stream_of h s ≡ Some st.0 = st.1 in
-      let opened : st.0.now.status ≡ Open = sym (ap status_in is) ∙ (here h stands).0 in
-      let fits : length piece ≤ 32768 - length st.0.now.inbox = subst (λ r. length piece ≤ r) (ap room_in is) (here h stands).1 in
-      let step : hub_step h (Receives s piece) c ≡ (with_stream h s (received_by st.0 piece), Done) = receives h s piece c st.0 is opened fits in
+      let there = leads.3 h.hub stands.state in
+      let happens : Happens h (Receives s piece) c (failures new) = happens_at hub new (Receives s piece) outcome leads counted h stands in
+      let st = found (stream_of h.hub s) (open_present h.hub s (here h.hub stands.state).0) in
+      let is : stream_of h.hub s ≡ Some st.0 = st.1 in
+      let opened : st.0.now.status ≡ Open = sym (ap status_in is) ∙ (here h.hub stands.state).0 in
+      let fits : length piece ≤ 32768 - length st.0.now.inbox = subst (λ r. length piece ≤ r) (ap room_in is) (here h.hub stands.state).1 in
+      let step : hub_step h.hub (Receives s piece) c ≡ (with_stream h.hub s (received_by st.0 piece), Done) = receives h.hub s piece c st.0 is opened fits in
       let stays : st.0.now.status ≢ Absent = λ gone. (let bad : Open ≡ Absent = sym opened ∙ gone in cc) in
-      let runs : Runs s h (hub_step h (Receives s piece) c).0 = one_event s h (Receives s piece) c st.0 (received_by st.0 piece) refl tt is (ap (λ r. r.0.present) step) (bytes_came st.0 piece) stays in (
-        (hub_step h (Receives s piece) c).0,
-        there.stands,
+      let runs : Runs s h (point_after h (Receives s piece) c (failures new)) = one_event s h (Receives s piece) c (failures new) st.0 (received_by st.0 piece) refl happens is (ap (λ r. r.0.present) step) (bytes_came st.0 piece) stays in (
+        point_after h (Receives s piece) c (failures new),
+        record { state = there.stands; count = refl },
         record {
           moves = record {
             carried = record {
-              runs = one_event s h (Receives s piece) c st.0 (received_by st.0 piece) refl tt is (ap (λ r. r.0.present) step) (bytes_came st.0 piece) stays;
+              runs = one_event s h (Receives s piece) c (failures new) st.0 (received_by st.0 piece) refl happens is (ap (λ r. r.0.present) step) (bytes_came st.0 piece) stays;
               given = given;
               taken = λ t. taken t ∙ sym (append-nil b.taken);
               counts = read_none_fell (Moved n) b a counts;
@@ -96,8 +99,8 @@ module _ {D : Type 0} {g : Ghosts D} (hub new : Hub D g) (s : ℕ) (tells : Bool
           };
           pending = ap pending_in runs.last_is ∙ sym (ap pending_in is);
           why =
-              let after : room_at (hub_step h (Receives s piece) c).0 s ≡ 32768 - length (st.0.now.inbox ++ piece) = ap room_in runs.last_is in
-              let before : room_at h s ≡ 32768 - length st.0.now.inbox = ap room_in is in
+              let after : room_at (hub_step h.hub (Receives s piece) c).0 s ≡ 32768 - length (st.0.now.inbox ++ piece) = ap room_in runs.last_is in
+              let before : room_at h.hub s ≡ 32768 - length st.0.now.inbox = ap room_in is in
               let joined : length (st.0.now.inbox ++ piece) ≡ length st.0.now.inbox + length piece = length-append st.0.now.inbox piece in
               (some, omega arith);
         },
@@ -114,7 +117,7 @@ module _ {D : Type 0} {g : Ghosts D} (hub : Hub D g) (s : ℕ) (tells : Bool) (b
     stands,
     record {
       moves = record {
-        carried = answered s tells h b a (here h stands) (λ t. given t ∙ sym (append-nil b.given)) taken (write_none_fell WriteBlocked b a counts);
+        carried = answered s tells h b a (here h.hub stands.state) (λ t. given t ∙ sym (append-nil b.given)) taken (write_none_fell WriteBlocked b a counts);
         none_served = refl;
         status = refl;
       };
@@ -126,7 +129,7 @@ module _ {D : Type 0} {g : Ghosts D} (hub : Hub D g) (s : ℕ) (tells : Bool) (b
     stands,
     record {
       moves = record {
-        carried = answered s tells h b a (here h stands) (λ t. given t ∙ sym (append-nil b.given)) taken (write_none_fell WriteFailed b a counts);
+        carried = answered s tells h b a (here h.hub stands.state) (λ t. given t ∙ sym (append-nil b.given)) taken (write_none_fell WriteFailed b a counts);
         none_served = refl;
         status = refl;
       };
@@ -142,7 +145,7 @@ module _ {D : Type 0} {g : Ghosts D} (hub : Hub D g) (s : ℕ) (tells : Bool) (b
       h,
       stands,
       record {
-        moves = record { carried = answered s tells h b a (open_present h s (here h stands)) given (λ t. taken t ∙ sym (append-nil b.taken)) (read_none_fell Blocked b a counts); none_served = refl; status = refl };
+        moves = record { carried = answered s tells h b a (open_present h.hub s (here h.hub stands.state)) given (λ t. taken t ∙ sym (append-nil b.taken)) (read_none_fell Blocked b a counts); none_served = refl; status = refl };
         pending = refl;
         why = (omega (arith, counts.0), refl);
       },
@@ -151,7 +154,7 @@ module _ {D : Type 0} {g : Ghosts D} (hub : Hub D g) (s : ℕ) (tells : Bool) (b
       h,
       stands,
       record {
-        moves = record { carried = answered s tells h b a (open_present h s (here h stands)) given (λ t. taken t ∙ sym (append-nil b.taken)) (read_none_fell Failed b a counts); none_served = refl; status = refl };
+        moves = record { carried = answered s tells h b a (open_present h.hub s (here h.hub stands.state)) given (λ t. taken t ∙ sym (append-nil b.taken)) (read_none_fell Failed b a counts); none_served = refl; status = refl };
         pending = refl;
         why = omega (arith, counts.1);
       },
@@ -160,7 +163,7 @@ module _ {D : Type 0} {g : Ghosts D} (hub : Hub D g) (s : ℕ) (tells : Bool) (b
       h,
       stands,
       record {
-        moves = record { carried = answered s tells h b a (open_present h s (here h stands)) given (λ t. taken t ∙ sym (append-nil b.taken)) (read_none_fell Ended b a counts); none_served = refl; status = refl };
+        moves = record { carried = answered s tells h b a (open_present h.hub s (here h.hub stands.state)) given (λ t. taken t ∙ sym (append-nil b.taken)) (read_none_fell Ended b a counts); none_served = refl; status = refl };
         pending = refl;
         why = (omega (arith, counts.2), refl);
       },

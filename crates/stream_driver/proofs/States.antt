@@ -1,16 +1,18 @@
 -- The states that one hub stands for agree on what its sessions have at hand.
-use Rattle.std.proofs.Common.{◌≡◌, ℕ, ◌-◌, ◌≤◌, subst, List, [], ◌∷◌, length, Option, Some, None, option_map, refl, sym, ap, ◌∙◌}
+use Rattle.std.proofs.Common.{◌≡◌, ℕ, ◌-◌, ◌≤◌, arith, subst, List, [], ◌∷◌, length, Option, Some, None, option_map, refl, sym, ap, ◌∙◌}
 use Rattle.std.specs.Map.{lookup}
 use Rattle.std.proofs.Math.Logic.{∥∥₁_elim, ∥∥₁_map}
 use Rattle.std.proofs.Math.Bridge.{le_prop}
 use Rattle.sessions.specs.declared.events.Status.{Status}
 use Rattle.sessions.specs.declared.events.Status.TheVariants.{Absent, Open, Ending, Refused}
 use Rattle.sessions.specs.declared.events.Outcome.{Outcome}
+use Rattle.engine.specs.Meaning.{has_risen}
 use Rattle.sector.specs.declared.device.Sectors.{Ghosts}
 use Rattle.sessions.specs.declared.hub.Hub.{Hub}
-use Rattle.sessions.specs.SessionStreams.{HubState, SessionState, HubEvent, Choice, IsPossible, hub_step, SessionStream, stream_of}
-use Rattle.sessions.specs.StandsFor.{StandsFor, HubLeads, status_in, room_in, pending_in}
-use Rattle.stream_driver.specs.Sessions.{InSomeState, Leads, IsPresentIn, status_at, pending_at, room_at}
+use Rattle.sessions.specs.SessionStreams.{HubState, SessionState, HubEvent, Choice, hub_step, SessionStream, stream_of}
+use Rattle.sessions.specs.StandsFor.{StandsFor, HubLeads, status_in, room_in, pending_in, failures}
+use Rattle.stream_driver.specs.Sessions.{InSomeState, Point, StandsAt, Leads, IsPresentIn, status_at, pending_at, room_at}
+use Rattle.stream_driver.proofs.Events.{Happens, point_after}
 use Rattle.stream_driver.proofs.Lookups.{test, lookup-at_hand}
 
 alike : {D : Type 0} {g : Ghosts D} (hub : Hub D g) (h k : HubState) (s : ℕ) → StandsFor hub h → StandsFor hub k → option_map (λ st. st.now) (stream_of h s) ≡ option_map (λ st. st.now) (stream_of k s)
@@ -66,27 +68,44 @@ module _ {D : Type 0} {g : Ghosts D} (hub : Hub D g) (s : ℕ) (h : HubState) (s
 
 -- ---- from hub to hub
 
-pub leads_map : {D : Type 0} {g : Ghosts D} (a b : Hub D g) (P Q : HubState → HubState → Type 0) → Leads a b P → ((h k : HubState) → StandsFor b k → P h k → Q h k) → Leads a b Q
-leads_map a b P Q p f = λ h stands. let k = p h stands in (k.0, k.1, f h k.0 k.1 k.2)
+abbrev point_of : {D : Type 0} {g : Ghosts D} → Hub D g → HubState → Point
+point_of hub h = record { hub = h; failures = failures hub }
 
-pub leads_then : {D : Type 0} {g : Ghosts D} (a b c : Hub D g) (P Q R : HubState → HubState → Type 0) → Leads a b P → Leads b c Q → ((h k l : HubState) → StandsFor c l → P h k → Q k l → R h l) → Leads a c R
-leads_then a b c P Q R p q f = λ h stands. let k = p h stands in let l = q k.0 k.1 in (l.0, l.1, f h k.0 l.0 l.1 k.2 l.2)
+at_point : {D : Type 0} {g : Ghosts D} (hub : Hub D g) (h : HubState) → StandsFor hub h → StandsAt hub (point_of hub h)
+at_point hub h stands = record { state = stands; count = refl }
 
-pub leads_step : {D : Type 0} {g : Ghosts D} (a b c : Hub D g) (P R : HubState → HubState → Type 0) (e : HubEvent) (outcome : Outcome) → Leads a b P → HubLeads b c e outcome
-    → ((h k : HubState) (choice : Choice) → IsPossible k e choice → outcome ≡ (hub_step k e choice).1 → StandsFor c (hub_step k e choice).0 → P h k → R h (hub_step k e choice).0) → Leads a c R
-leads_step a b c P R e outcome p q f = λ h stands. let k = p h stands in let there = q.3 k.0 k.1 in ((hub_step k.0 e q.0).0, there.stands, f h k.0 q.0 there.possible there.outcome_is there.stands k.2)
+pub leads_map : {D : Type 0} {g : Ghosts D} (a b : Hub D g) (P Q : Point → Point → Type 0) → Leads a b P → ((h k : Point) → StandsFor b k.hub → P h k → Q h k) → Leads a b Q
+leads_map a b P Q p f = λ h stands. let k = p h stands in (k.0, k.1, f h k.0 k.1.state k.2)
 
-pub some_after : {D : Type 0} {g : Ghosts D} (a b : Hub D g) (P : HubState → Type 0) (Q : HubState → HubState → Type 0) (R : HubState → Type 0) → InSomeState a P → Leads a b Q → ((h k : HubState) → P h → Q h k → R k) → InSomeState b R
-some_after a b P Q R some q f = ∥∥₁_map some (λ w. let k = q w.0 w.1 in (k.0, k.1, f w.0 k.0 w.2 k.2))
+pub leads_then : {D : Type 0} {g : Ghosts D} (a b c : Hub D g) (P Q R : Point → Point → Type 0) → Leads a b P → Leads b c Q → ((h k l : Point) → StandsFor c l.hub → P h k → Q k l → R h l) → Leads a c R
+leads_then a b c P Q R p q f = λ h stands. let k = p h stands in let l = q k.0 k.1 in (l.0, l.1, f h k.0 l.0 l.1.state k.2 l.2)
+
+-- an event of the hub, from a point of it
+pub happens_at : {D : Type 0} {g : Ghosts D} (b c : Hub D g) (e : HubEvent) (outcome : Outcome) (q : HubLeads b c e outcome) → failures b ≤ failures c → (p : Point) → StandsAt b p → Happens p e q.0 (failures c)
+happens_at b c e outcome q counted p at = record {
+  possible = (q.3 p.hub at.state).possible;
+  counted = (let same = at.count in omega arith);
+  failed = q.2 ∙ ap (λ n. has_risen n (failures c)) (sym at.count);
+}
+
+pub leads_step : {D : Type 0} {g : Ghosts D} (a b c : Hub D g) (P R : Point → Point → Type 0) (e : HubEvent) (outcome : Outcome) → Leads a b P → HubLeads b c e outcome → failures b ≤ failures c
+    → ((h k : Point) (choice : Choice) → Happens k e choice (failures c) → outcome ≡ (hub_step k.hub e choice).1 → StandsFor c (hub_step k.hub e choice).0 → P h k → R h (point_after k e choice (failures c))) → Leads a c R
+leads_step a b c P R e outcome p q counted f = λ h stands.
+    let k = p h stands in
+    let there = q.3 k.0.hub k.1.state in
+    (point_after k.0 e q.0 (failures c), record { state = there.stands; count = refl }, f h k.0 q.0 (happens_at b c e outcome q counted k.0 k.1) there.outcome_is there.stands k.2)
+
+pub some_after : {D : Type 0} {g : Ghosts D} (a b : Hub D g) (P : HubState → Type 0) (Q : Point → Point → Type 0) (R : HubState → Type 0) → InSomeState a P → Leads a b Q → ((h k : Point) → P h.hub → Q h k → R k.hub) → InSomeState b R
+some_after a b P Q R some q f = ∥∥₁_map some (λ w. let h = point_of a w.0 in let k = q h (at_point a w.0 w.1) in (k.0.hub, k.1.state, f h k.0 w.2 k.2))
 
 -- what holds of numbers in some state holds
-pub le_after : {D : Type 0} {g : Ghosts D} (a b : Hub D g) (P : HubState → Type 0) (Q : HubState → HubState → Type 0) (m n : ℕ) → InSomeState a P → Leads a b Q → ((h k : HubState) → Q h k → m ≤ n) → m ≤ n
-le_after a b P Q m n some q f = ∥∥₁_elim some le_prop (λ w. let k = q w.0 w.1 in f w.0 k.0 k.2)
+pub le_after : {D : Type 0} {g : Ghosts D} (a b : Hub D g) (P : HubState → Type 0) (Q : Point → Point → Type 0) (m n : ℕ) → InSomeState a P → Leads a b Q → ((h k : Point) → Q h k → m ≤ n) → m ≤ n
+le_after a b P Q m n some q f = ∥∥₁_elim some le_prop (λ w. let h = point_of a w.0 in let k = q h (at_point a w.0 w.1) in f h k.0 k.2)
 
-pub leads_three : {D : Type 0} {g : Ghosts D} (a b c d : Hub D g) (P Q R S : HubState → HubState → Type 0) → Leads a b P → Leads b c Q → Leads c d R
-    → ((h k l m : HubState) → StandsFor c l → P h k → Q k l → R l m → S h m) → Leads a d S
-leads_three a b c d P Q R S p q r f = λ h stands. let k = p h stands in let l = q k.0 k.1 in let m = r l.0 l.1 in (m.0, m.1, f h k.0 l.0 m.0 l.1 k.2 l.2 m.2)
+pub leads_three : {D : Type 0} {g : Ghosts D} (a b c d : Hub D g) (P Q R S : Point → Point → Type 0) → Leads a b P → Leads b c Q → Leads c d R
+    → ((h k l m : Point) → StandsFor c l.hub → P h k → Q k l → R l m → S h m) → Leads a d S
+leads_three a b c d P Q R S p q r f = λ h stands. let k = p h stands in let l = q k.0 k.1 in let m = r l.0 l.1 in (m.0, m.1, f h k.0 l.0 m.0 l.1.state k.2 l.2 m.2)
 
-pub leads_four : {D : Type 0} {g : Ghosts D} (a b c d e : Hub D g) (P Q R S T : HubState → HubState → Type 0) → Leads a b P → Leads b c Q → Leads c d R → Leads d e S
-    → ((h k l m n : HubState) → P h k → Q k l → R l m → S m n → T h n) → Leads a e T
+pub leads_four : {D : Type 0} {g : Ghosts D} (a b c d e : Hub D g) (P Q R S T : Point → Point → Type 0) → Leads a b P → Leads b c Q → Leads c d R → Leads d e S
+    → ((h k l m n : Point) → P h k → Q k l → R l m → S m n → T h n) → Leads a e T
 leads_four a b c d e P Q R S T p q r s f = λ h stands. let k = p h stands in let l = q k.0 k.1 in let m = r l.0 l.1 in let n = s m.0 m.1 in (n.0, n.1, f h k.0 l.0 m.0 n.0 k.2 l.2 m.2 n.2)

@@ -5,60 +5,60 @@ use Rattle.std.proofs.lemmas.List.{take_all, take_more, take_more_set, get_or-dr
 use Rattle.std.proofs.Math.ListN.{get_or-eq_default}
 use Rattle.sector.specs.declared.device.Sectors.{Ghosts}
 use Rattle.sessions.specs.declared.hub.Hub.{Hub}
-use Rattle.sessions.specs.SessionStreams.{HubState, stream_of}
-use Rattle.sessions.specs.StandsFor.{status_in}
+use Rattle.sessions.specs.SessionStreams.{stream_of}
+use Rattle.sessions.specs.StandsFor.{status_in, failures}
 use Rattle.stream_driver.specs.declared.answers.Progress.{Progress}
 use Rattle.stream_driver.specs.declared.answers.Progress.TheVariants.{Waiting, Again, Gone}
 use Rattle.stream_driver.specs.declared.entries.EntryState.{EntryState}
 use Rattle.stream_driver.specs.declared.entries.EntryState.TheVariants.{Idle, Ready, Gone as EntryGone}
 use Rattle.stream_driver.specs.declared.entries.Entry.{Entry}
 use Rattle.stream_driver.specs.Traffic.{Traffic}
-use Rattle.stream_driver.specs.Sessions.{Leads, IsPresent, IsPresentIn}
+use Rattle.stream_driver.specs.Sessions.{Point, Leads, IsPresent, IsPresentIn}
 use Rattle.stream_driver.specs.Drives.{EndsAs}
 use Rattle.stream_driver.specs.Entries.{HaveSessions, DrivenEntry, DrivenIn, DrivenSlot, DrivenAll, EntriesSoFar, state_after}
 use Rattle.stream_driver.proofs.Events.{leaves_others}
 use Rattle.stream_driver.proofs.States.{leads_then, leads_map, some_after}
 
-ends_other : (s : ℕ) (last new : HubState) (answer : Progress) (t : ℕ) → t ≢ s → EndsAs s last new answer → stream_of new t ≡ stream_of last t
-ends_other s last new Waiting t d e = ap (λ h. stream_of h t) e
-ends_other s last new Again t d e = ap (λ h. stream_of h t) e
-ends_other s last new Gone t d e = ap (λ h. stream_of h t) e.1 ∙ leaves_others last s e.0 t d
+ends_other : (s : ℕ) (last new : Point) (answer : Progress) (t : ℕ) → t ≢ s → EndsAs s last new answer → stream_of new.hub t ≡ stream_of last.hub t
+ends_other s last new Waiting t d e = ap (λ p. stream_of p.hub t) e
+ends_other s last new Again t d e = ap (λ p. stream_of p.hub t) e
+ends_other s last new Gone t d e = ap (λ h. stream_of h t) e.leaves ∙ leaves_others last.hub s e.choice t d
 
-ends_present : (s : ℕ) (last new : HubState) (answer : Progress) → answer ≢ Gone → EndsAs s last new answer → IsPresentIn last s → IsPresentIn new s
-ends_present s last new Waiting d e p = subst (λ h. IsPresentIn h s) (sym e) p
-ends_present s last new Again d e p = subst (λ h. IsPresentIn h s) (sym e) p
+ends_present : (s : ℕ) (last new : Point) (answer : Progress) → answer ≢ Gone → EndsAs s last new answer → IsPresentIn last.hub s → IsPresentIn new.hub s
+ends_present s last new Waiting d e p = subst (λ v. IsPresentIn v.hub s) (sym e) p
+ends_present s last new Again d e p = subst (λ v. IsPresentIn v.hub s) (sym e) p
 ends_present s last new Gone d e p = absurd (d refl)
 
 module _ {T : Type 0} (tells : Bool) (traffic : T → Traffic) where
   -- the session that an entry holds is the one that it held, and it was not gone
-  entry_session : (state : EntryState) (hub : HubState) (old : Entry T) (later : HubState) (new : Entry T) → old.state ≡ state → DrivenIn tells traffic state hub old later new → new.state ≢ EntryGone
+  entry_session : (state : EntryState) (earlier : Point) (old : Entry T) (later : Point) (new : Entry T) → old.state ≡ state → DrivenIn tells traffic state earlier old later new → new.state ≢ EntryGone
       → (new.session ≡ old.session) × (old.state ≢ EntryGone)
-  entry_session Ready hub old later new is d alive = (d.session, λ gone. (let bad : Ready ≡ EntryGone = sym is ∙ gone in cc))
-  entry_session Idle hub old later new is d alive = (rw d.0 refl, λ gone. (let bad : Idle ≡ EntryGone = sym is ∙ gone in cc))
-  entry_session EntryGone hub old later new is d alive = absurd (alive (rw d.0 is))
+  entry_session Ready earlier old later new is d alive = (d.session, λ gone. (let bad : Ready ≡ EntryGone = sym is ∙ gone in cc))
+  entry_session Idle earlier old later new is d alive = (rw d.0 refl, λ gone. (let bad : Idle ≡ EntryGone = sym is ∙ gone in cc))
+  entry_session EntryGone earlier old later new is d alive = absurd (alive (rw d.0 is))
 
-  entry_present : (state : EntryState) (hub : HubState) (old : Entry T) (later : HubState) (new : Entry T) → old.state ≡ state → DrivenIn tells traffic state hub old later new → new.state ≢ EntryGone
-      → IsPresentIn hub old.session → IsPresentIn later new.session
-  entry_present Ready hub old later new is d alive p =
+  entry_present : (state : EntryState) (earlier : Point) (old : Entry T) (later : Point) (new : Entry T) → old.state ≡ state → DrivenIn tells traffic state earlier old later new → new.state ≢ EntryGone
+      → IsPresentIn earlier.hub old.session → IsPresentIn later.hub new.session
+  entry_present Ready earlier old later new is d alive p =
       let going : d.answer ≢ Gone = λ gone. alive (d.state ∙ ap state_after gone) in
       rw d.session (ends_present old.session d.drove.last later d.answer going d.drove.ends d.drove.carried.runs.present)
-  entry_present Idle hub old later new is d alive p = rw (d.0, d.1) p
-  entry_present EntryGone hub old later new is d alive p = absurd (alive (rw d.0 is))
+  entry_present Idle earlier old later new is d alive p = rw (d.0, d.1) p
+  entry_present EntryGone earlier old later new is d alive p = absurd (alive (rw d.0 is))
 
-  -- the hub is as it was for each other session
-  entry_other : (state : EntryState) (hub : HubState) (old : Entry T) (later : HubState) (new : Entry T) → old.state ≡ state → DrivenIn tells traffic state hub old later new
-      → (t : ℕ) → (old.state ≢ EntryGone → t ≢ old.session) → stream_of later t ≡ stream_of hub t
-  entry_other Ready hub old later new is d t differs =
+  -- each other session is as it was
+  entry_other : (state : EntryState) (earlier : Point) (old : Entry T) (later : Point) (new : Entry T) → old.state ≡ state → DrivenIn tells traffic state earlier old later new
+      → (t : ℕ) → (old.state ≢ EntryGone → t ≢ old.session) → stream_of later.hub t ≡ stream_of earlier.hub t
+  entry_other Ready earlier old later new is d t differs =
       let apart : t ≢ old.session = differs (λ gone. (let bad : Ready ≡ EntryGone = sym is ∙ gone in cc)) in
       ends_other old.session d.drove.last later d.answer t apart d.drove.ends ∙ d.drove.carried.runs.others t apart
-  entry_other Idle hub old later new is d t differs = rw d.1 refl
-  entry_other EntryGone hub old later new is d t differs = rw d.1 refl
+  entry_other Idle earlier old later new is d t differs = rw d.1 refl
+  entry_other EntryGone earlier old later new is d t differs = rw d.1 refl
 
-  pub driven_more : (hub : HubState) (xs : List (Option (Entry T))) (mid : HubState) (ys : List (Option (Entry T))) (x : Option (Entry T)) (later : HubState) (y : Option (Entry T))
-      → DrivenAll tells traffic hub xs mid ys → DrivenSlot tells traffic mid x later y → DrivenAll tells traffic hub (xs ++ x ∷ []) later (ys ++ y ∷ [])
-  driven_more hub [] mid ys x later y (e, same) d =
-      (y, later, [], ap (λ (l : List (Option (Entry T))). l ++ y ∷ []) e, subst (λ (v : HubState). DrivenSlot tells traffic v x later y) same d, (refl, refl))
-  driven_more hub (z ∷ zs) mid ys x later y (first, m, others, e, dz, rest) d =
+  pub driven_more : (earlier : Point) (xs : List (Option (Entry T))) (mid : Point) (ys : List (Option (Entry T))) (x : Option (Entry T)) (later : Point) (y : Option (Entry T))
+      → DrivenAll tells traffic earlier xs mid ys → DrivenSlot tells traffic mid x later y → DrivenAll tells traffic earlier (xs ++ x ∷ []) later (ys ++ y ∷ [])
+  driven_more earlier [] mid ys x later y (e, same) d =
+      (y, later, [], ap (λ (l : List (Option (Entry T))). l ++ y ∷ []) e, subst (λ (v : Point). DrivenSlot tells traffic v x later y) same d, (refl, refl))
+  driven_more earlier (z ∷ zs) mid ys x later y (first, m, others, e, dz, rest) d =
       (first, m, others ++ y ∷ [], ap (λ (l : List (Option (Entry T))). l ++ y ∷ []) e, dz, driven_more m zs mid others x later y rest d)
 
   some_inj : {a b : Entry T} → Some a ≡ Some b → a ≡ b
@@ -121,9 +121,9 @@ module _ {T : Type 0} (tells : Bool) (traffic : T → Traffic) where
   drop_next key slots new e = sym (drop-drop 1 key new) ∙ ap (λ (l : List (Option (Entry T))). drop 1 l) e ∙ drop-drop 1 key slots
 
   pub entries_none : {D : Type 0} {g : Ghosts D} (hub : Hub D g) (slots : List (Option (Entry T))) → HaveSessions hub slots → EntriesSoFar tells traffic 0 hub slots hub slots
-  entries_none hub slots has = record { driven = λ h stands. (h, stands, (refl, refl)); rest = refl; len = refl; sessions = has; numbers = λ key entry e. (entry, e, refl) }
+  entries_none hub slots has = record { counted = omega arith; driven = λ h stands. (h, stands, (refl, refl)); rest = refl; len = refl; sessions = has; numbers = λ key entry e. (entry, e, refl) }
 
-  one_vacant : (key : ℕ) (slots new : List (Option (Entry T))) → length new ≡ length slots → drop key new ≡ drop key slots → get_or new key None ≡ None → (h k : HubState) → DrivenAll tells traffic h (take key slots) k (take key new)
+  one_vacant : (key : ℕ) (slots new : List (Option (Entry T))) → length new ≡ length slots → drop key new ≡ drop key slots → get_or new key None ≡ None → (h k : Point) → DrivenAll tells traffic h (take key slots) k (take key new)
       → DrivenAll tells traffic h (take (key + 1) slots) k (take (key + 1) new)
   one_vacant key slots new len rest none h k now = elim (cases_lt key (length slots)) [
     | inl lt ↦
@@ -135,6 +135,7 @@ module _ {T : Type 0} (tells : Bool) (traffic : T → Traffic) where
   pub entries_vacant : {D : Type 0} {g : Ghosts D} (key : ℕ) (hub : Hub D g) (slots : List (Option (Entry T))) (later : Hub D g) (new : List (Option (Entry T))) → EntriesSoFar tells traffic key hub slots later new
       → get_or new key None ≡ None → EntriesSoFar tells traffic (key + 1) hub slots later new
   entries_vacant key hub slots later new p none = record {
+    counted = p.counted;
     driven =
         leads_map hub later (λ h k. DrivenAll tells traffic h (take key slots) k (take key new)) (λ h k. DrivenAll tells traffic h (take (key + 1) slots) k (take (key + 1) new)) p.driven
         (λ h k stands now. one_vacant key slots new p.len p.rest none h k now);
@@ -144,7 +145,7 @@ module _ {T : Type 0} (tells : Bool) (traffic : T → Traffic) where
     numbers = p.numbers;
   }
 
-  one_driven : (key : ℕ) (slots new : List (Option (Entry T))) (old entry : Entry T) → length new ≡ length slots → drop key new ≡ drop key slots → get_or new key None ≡ Some old → (h k l : HubState)
+  one_driven : (key : ℕ) (slots new : List (Option (Entry T))) (old entry : Entry T) → length new ≡ length slots → drop key new ≡ drop key slots → get_or new key None ≡ Some old → (h k l : Point)
       → DrivenAll tells traffic h (take key slots) k (take key new) → DrivenEntry tells traffic k old l entry → DrivenAll tells traffic h (take (key + 1) slots) l (take (key + 1) (set new key (Some entry)))
   one_driven key slots new old entry len rest is h k l now d =
       let lt_new : key < length new = below new key old is in
@@ -154,8 +155,9 @@ module _ {T : Type 0} (tells : Bool) (traffic : T → Traffic) where
 
   pub entries_driven : {D : Type 0} {g : Ghosts D} (key : ℕ) (hub : Hub D g) (slots : List (Option (Entry T))) (mid : Hub D g) (new : List (Option (Entry T))) (old : Entry T) (later : Hub D g) (entry : Entry T)
       → EntriesSoFar tells traffic key hub slots mid new → get_or new key None ≡ Some old → entry.session ≡ old.session → (old.state ≡ EntryGone → entry.state ≡ EntryGone)
-      → Leads mid later (λ h k. DrivenEntry tells traffic h old k entry) → EntriesSoFar tells traffic (key + 1) hub slots later (set new key (Some entry))
-  entries_driven key hub slots mid new old later entry p is same stays leads = record {
+      → failures mid ≤ failures later → Leads mid later (λ h k. DrivenEntry tells traffic h old k entry) → EntriesSoFar tells traffic (key + 1) hub slots later (set new key (Some entry))
+  entries_driven key hub slots mid new old later entry p is same stays counted leads = record {
+    counted = (let so_far = p.counted in omega arith);
     driven =
         leads_then hub mid later (λ h k. DrivenAll tells traffic h (take key slots) k (take key new)) (λ h k. DrivenEntry tells traffic h old k entry)
         (λ h k. DrivenAll tells traffic h (take (key + 1) slots) k (take (key + 1) (set new key (Some entry)))) p.driven leads

@@ -11,18 +11,18 @@ use Rattle.stream_driver.specs.declared.driving.Flush.TheVariants.{Empty, Blocke
 use Rattle.stream_driver.specs.declared.driving.Exchange.{Exchange}
 use Rattle.stream_driver.specs.declared.driving.Exchange.TheVariants.{Served, Broke, Starved, Blocked as ExchangeBlocked, Failed as ExchangeFailed, Ended as ExchangeEnded}
 use Rattle.stream_driver.specs.Traffic.{Traffic, Rose}
-use Rattle.stream_driver.specs.Sessions.{status_at, room_at, pending_at, AwaitsMore}
+use Rattle.stream_driver.specs.Sessions.{Point, status_at, room_at, pending_at, AwaitsMore}
 use Rattle.stream_driver.specs.Drives.{Carried}
 
 -- how many requests were served
-abbrev pub served_in : {s : ℕ} {tells : Bool} {old : HubState} {before : Traffic} {new : HubState} {after : Traffic} → Carried s tells old before new after → ℕ
+abbrev pub served_in : {s : ℕ} {tells : Bool} {old : Point} {before : Traffic} {new : Point} {after : Traffic} → Carried s tells old before new after → ℕ
 served_in c = length c.runs.history.served
 
 -- nothing was served, and the session stands as it stood
-pub record Moves (s : ℕ) (tells : Bool) (old : HubState) (before : Traffic) (new : HubState) (after : Traffic) : Type 0 where
+pub record Moves (s : ℕ) (tells : Bool) (old : Point) (before : Traffic) (new : Point) (after : Traffic) : Type 0 where
   pub carried : Carried s tells old before new after
   pub none_served : served_in carried ≡ 0
-  pub status : status_at new s ≡ status_at old s
+  pub status : status_at new.hub s ≡ status_at old.hub s
 
 -- one write
 abbrev pub WhyWrote : ℕ → HubState → HubState → Traffic → Traffic → WriteAnswer → Type 0
@@ -30,9 +30,9 @@ WhyWrote s old new before after (Wrote n) = (0 < n) × (length (pending_at new s
 WhyWrote s old new before after WriteBlocked = Rose before.write_blocked after.write_blocked × (pending_at new s ≡ pending_at old s)
 WhyWrote s old new before after WriteFailed = Rose before.write_failed after.write_failed
 
-pub record WritesSome (s : ℕ) (tells : Bool) (old : HubState) (before : Traffic) (answer : WriteAnswer) (new : HubState) (after : Traffic) : Type 0 where
+pub record WritesSome (s : ℕ) (tells : Bool) (old : Point) (before : Traffic) (answer : WriteAnswer) (new : Point) (after : Traffic) : Type 0 where
   pub moves : Moves s tells old before new after
-  pub why : WhyWrote s old new before after answer
+  pub why : WhyWrote s old.hub new.hub before after answer
 
 -- why the writing stopped
 abbrev pub WhyFlushed : ℕ → HubState → Traffic → Traffic → Flush → Type 0
@@ -40,9 +40,9 @@ WhyFlushed s new before after Empty = pending_at new s ≡ []
 WhyFlushed s new before after FlushBlocked = Rose before.write_blocked after.write_blocked × (pending_at new s ≢ [])
 WhyFlushed s new before after FlushFailed = Rose before.write_failed after.write_failed
 
-pub record Flushes (s : ℕ) (tells : Bool) (old : HubState) (before : Traffic) (answer : Flush) (new : HubState) (after : Traffic) : Type 0 where
+pub record Flushes (s : ℕ) (tells : Bool) (old : Point) (before : Traffic) (answer : Flush) (new : Point) (after : Traffic) : Type 0 where
   pub moves : Moves s tells old before new after
-  pub why : WhyFlushed s new before after answer
+  pub why : WhyFlushed s new.hub before after answer
 
 -- one read
 abbrev pub WhyRead : ℕ → HubState → HubState → Traffic → Traffic → ReadAnswer → Type 0
@@ -51,10 +51,10 @@ WhyRead s old new before after Blocked = Rose before.read_blocked after.read_blo
 WhyRead s old new before after Failed = Rose before.read_failed after.read_failed
 WhyRead s old new before after Ended = Rose before.read_ended after.read_ended × (new ≡ old)
 
-pub record ReadsSome (s : ℕ) (tells : Bool) (old : HubState) (before : Traffic) (answer : ReadAnswer) (new : HubState) (after : Traffic) : Type 0 where
+pub record ReadsSome (s : ℕ) (tells : Bool) (old : Point) (before : Traffic) (answer : ReadAnswer) (new : Point) (after : Traffic) : Type 0 where
   pub moves : Moves s tells old before new after
-  pub pending : pending_at new s ≡ pending_at old s
-  pub why : WhyRead s old new before after answer
+  pub pending : pending_at new.hub s ≡ pending_at old.hub s
+  pub why : WhyRead s old.hub new.hub before after answer
 
 -- one request: it was executed, or no request began there, or memory was refused, or the stream stopped at a beginning of one
 abbrev pub WhyExchanged : ℕ → HubState → Traffic → Traffic → ℕ → Exchange → Type 0
@@ -65,23 +65,23 @@ WhyExchanged s new before after served ExchangeBlocked = Rose before.read_blocke
 WhyExchanged s new before after served ExchangeFailed = Rose before.read_failed after.read_failed
 WhyExchanged s new before after served ExchangeEnded = Rose before.read_ended after.read_ended × AwaitsMore new s
 
-pub record Exchanges (s : ℕ) (tells : Bool) (old : HubState) (before : Traffic) (answer : Exchange) (new : HubState) (after : Traffic) : Type 0 where
+pub record Exchanges (s : ℕ) (tells : Bool) (old : Point) (before : Traffic) (answer : Exchange) (new : Point) (after : Traffic) : Type 0 where
   pub carried : Carried s tells old before new after
-  pub why : WhyExchanged s new before after (served_in carried) answer
+  pub why : WhyExchanged s new.hub before after (served_in carried) answer
 
 -- between two writes: so much is pending
-pub record WrittenSoFar (s : ℕ) (tells : Bool) (old : HubState) (before : Traffic) (new : HubState) (after : Traffic) (owed : ℕ) : Type 0 where
+pub record WrittenSoFar (s : ℕ) (tells : Bool) (old : Point) (before : Traffic) (new : Point) (after : Traffic) (owed : ℕ) : Type 0 where
   pub moves : Moves s tells old before new after
-  pub owed_is : owed ≡ length (pending_at new s)
+  pub owed_is : owed ≡ length (pending_at new.hub s)
 
 -- between two reads: so much room is left
-pub record ReadSoFar (s : ℕ) (tells : Bool) (old : HubState) (before : Traffic) (new : HubState) (after : Traffic) (room : ℕ) : Type 0 where
+pub record ReadSoFar (s : ℕ) (tells : Bool) (old : Point) (before : Traffic) (new : Point) (after : Traffic) (room : ℕ) : Type 0 where
   pub moves : Moves s tells old before new after
-  pub is_open : status_at new s ≡ Open
-  pub nothing : pending_at new s ≡ []
-  pub room_is : room ≡ room_at new s
+  pub is_open : status_at new.hub s ≡ Open
+  pub nothing : pending_at new.hub s ≡ []
+  pub room_is : room ≡ room_at new.hub s
 
 -- between two requests
-pub record DrivenSoFar (s : ℕ) (tells : Bool) (old : HubState) (before : Traffic) (new : HubState) (after : Traffic) (served : ℕ) : Type 0 where
+pub record DrivenSoFar (s : ℕ) (tells : Bool) (old : Point) (before : Traffic) (new : Point) (after : Traffic) (served : ℕ) : Type 0 where
   pub carried : Carried s tells old before new after
-  pub served_is : status_at new s ≡ Open → served_in carried ≡ served
+  pub served_is : status_at new.hub s ≡ Open → served_in carried ≡ served

@@ -1,11 +1,12 @@
 -- What a drive does to the hub and to the stream.
 use Rattle.std.specs.Prelude.{◌≡◌, ◌≢◌, ◌⊎◌, ℕ, ◌≤◌, Bool, IsTrue, [], ◌++◌, length}
 use Rattle.sessions.specs.declared.events.Status.TheVariants.{Ending, Refused}
+use Rattle.engine.specs.Meaning.{has_risen}
 use Rattle.sessions.specs.SessionStreams.{HubState, Leaves, Choice, hub_step}
 use Rattle.stream_driver.specs.declared.answers.Progress.{Progress}
 use Rattle.stream_driver.specs.declared.answers.Progress.TheVariants.{Waiting, Again, Gone}
 use Rattle.stream_driver.specs.Traffic.{Traffic, Rose}
-use Rattle.stream_driver.specs.Sessions.{Runs, AwaitsMore, status_at, pending_at}
+use Rattle.stream_driver.specs.Sessions.{Point, Runs, AwaitsMore, status_at, pending_at}
 
 -- no count of a stream falls
 pub record NoneFell (old new : Traffic) : Type 0 where
@@ -16,7 +17,7 @@ pub record NoneFell (old new : Traffic) : Type 0 where
   pub write_failed : old.write_failed ≤ new.write_failed
 
 -- a run of one session over a stream: what the stream gave received in, and what was sent the stream took
-pub record Carried (s : ℕ) (tells : Bool) (old : HubState) (before : Traffic) (new : HubState) (after : Traffic) : Type 0 where
+pub record Carried (s : ℕ) (tells : Bool) (old : Point) (before : Traffic) (new : Point) (after : Traffic) : Type 0 where
   pub runs : Runs s old new
   pub given : IsTrue tells → after.given ≡ before.given ++ runs.history.received
   pub taken : IsTrue tells → after.taken ≡ before.taken ++ runs.history.sent
@@ -36,18 +37,21 @@ Why s last before after served Gone =
     ⊎ ((status_at last s ≡ Ending) × (pending_at last s ≡ [])))))
 
 -- the session leaves
-abbrev pub Parts : ℕ → HubState → HubState → Type 0
-Parts s last new = (c : Choice) × (new ≡ (hub_step last (Leaves s) c).0)
+pub record Parts (s : ℕ) (last new : Point) : Type 0 where
+  pub choice : Choice
+  pub leaves : new.hub ≡ (hub_step last.hub (Leaves s) choice).0
+  pub counted : last.failures ≤ new.failures
+  pub failed : choice.failed ≡ has_risen last.failures new.failures
 
 -- a session that is gone has left at the end
-abbrev pub EndsAs : ℕ → HubState → HubState → Progress → Type 0
+abbrev pub EndsAs : ℕ → Point → Point → Progress → Type 0
 EndsAs s last new Waiting = new ≡ last
 EndsAs s last new Again = new ≡ last
 EndsAs s last new Gone = Parts s last new
 
 -- one drive
-pub record Drove (s : ℕ) (tells : Bool) (old : HubState) (before : Traffic) (answer : Progress) (new : HubState) (after : Traffic) : Type 0 where
-  pub last : HubState
+pub record Drove (s : ℕ) (tells : Bool) (old : Point) (before : Traffic) (answer : Progress) (new : Point) (after : Traffic) : Type 0 where
+  pub last : Point
   pub carried : Carried s tells old before last after
   pub ends : EndsAs s last new answer
-  pub why : Why s last before after (length carried.runs.history.served) answer
+  pub why : Why s last.hub before after (length carried.runs.history.served) answer

@@ -1,15 +1,15 @@
 -- What a turn over the table of connections does.
-use Rattle.std.specs.Prelude.{◌≡◌, ◌≢◌, ℕ, Bool, List, [], ◌∷◌, Option, Some, None, slice_index_or, take, drop, length}
+use Rattle.std.specs.Prelude.{◌≡◌, ◌≢◌, ℕ, ◌≤◌, Bool, List, [], ◌∷◌, Option, Some, None, slice_index_or, take, drop, length}
 use Rattle.sector.specs.declared.device.Sectors.{Ghosts}
 use Rattle.sessions.specs.declared.hub.Hub.{Hub}
-use Rattle.sessions.specs.SessionStreams.{HubState}
+use Rattle.sessions.specs.StandsFor.{failures}
 use Rattle.stream_driver.specs.declared.answers.Progress.{Progress}
 use Rattle.stream_driver.specs.declared.answers.Progress.TheVariants.{Waiting, Again, Gone}
 use Rattle.stream_driver.specs.declared.entries.EntryState.{EntryState}
 use Rattle.stream_driver.specs.declared.entries.EntryState.TheVariants.{Idle, Ready, Gone as EntryGone}
 use Rattle.stream_driver.specs.declared.entries.Entry.{Entry}
 use Rattle.stream_driver.specs.Traffic.{Traffic}
-use Rattle.stream_driver.specs.Sessions.{IsPresent, Leads}
+use Rattle.stream_driver.specs.Sessions.{IsPresent, Point, Leads}
 use Rattle.stream_driver.specs.Drives.{Drove}
 
 -- what an entry is after its drive
@@ -30,33 +30,34 @@ KeepSessions {T} old new = (key : ℕ) (entry : Entry T) → slice_index_or new 
 
 module _ {T : Type 0} (tells : Bool) (traffic : T → Traffic) where
   -- one drive left the entry so
-  pub record DrivenOnce (hub : HubState) (old : Entry T) (later : HubState) (new : Entry T) : Type 0 where
+  pub record DrivenOnce (earlier : Point) (old : Entry T) (later : Point) (new : Entry T) : Type 0 where
     pub answer : Progress
-    pub drove : Drove old.session tells hub (traffic old.stream) answer later (traffic new.stream)
+    pub drove : Drove old.session tells earlier (traffic old.stream) answer later (traffic new.stream)
     pub session : new.session ≡ old.session
     pub state : new.state ≡ state_after answer
 
   -- an entry that is ready was driven once, and another is unchanged
-  abbrev pub DrivenIn : EntryState → HubState → Entry T → HubState → Entry T → Type 0
-  DrivenIn Ready hub old later new = DrivenOnce hub old later new
-  DrivenIn Idle hub old later new = (new ≡ old) × (later ≡ hub)
-  DrivenIn EntryGone hub old later new = (new ≡ old) × (later ≡ hub)
+  abbrev pub DrivenIn : EntryState → Point → Entry T → Point → Entry T → Type 0
+  DrivenIn Ready earlier old later new = DrivenOnce earlier old later new
+  DrivenIn Idle earlier old later new = (new ≡ old) × (later ≡ earlier)
+  DrivenIn EntryGone earlier old later new = (new ≡ old) × (later ≡ earlier)
 
-  abbrev pub DrivenEntry : HubState → Entry T → HubState → Entry T → Type 0
-  DrivenEntry hub old later new = DrivenIn old.state hub old later new
+  abbrev pub DrivenEntry : Point → Entry T → Point → Entry T → Type 0
+  DrivenEntry earlier old later new = DrivenIn old.state earlier old later new
 
-  abbrev pub DrivenSlot : HubState → Option (Entry T) → HubState → Option (Entry T) → Type 0
-  DrivenSlot hub None later slot = (slot ≡ None) × (later ≡ hub)
-  DrivenSlot hub (Some old) later slot = (new : Entry T) × (slot ≡ Some new) × DrivenEntry hub old later new
+  abbrev pub DrivenSlot : Point → Option (Entry T) → Point → Option (Entry T) → Type 0
+  DrivenSlot earlier None later slot = (slot ≡ None) × (later ≡ earlier)
+  DrivenSlot earlier (Some old) later slot = (new : Entry T) × (slot ≡ Some new) × DrivenEntry earlier old later new
 
   -- the slots one after another, by rising key
-  abbrev pub DrivenAll : HubState → List (Option (Entry T)) → HubState → List (Option (Entry T)) → Type 0
-  DrivenAll hub [] later new = (new ≡ []) × (later ≡ hub)
-  DrivenAll hub (slot ∷ slots) later new =
-      (first : Option (Entry T)) × (mid : HubState) × (others : List (Option (Entry T))) × (new ≡ first ∷ others) × DrivenSlot hub slot mid first × DrivenAll mid slots later others
+  abbrev pub DrivenAll : Point → List (Option (Entry T)) → Point → List (Option (Entry T)) → Type 0
+  DrivenAll earlier [] later new = (new ≡ []) × (later ≡ earlier)
+  DrivenAll earlier (slot ∷ slots) later new =
+      (first : Option (Entry T)) × (mid : Point) × (others : List (Option (Entry T))) × (new ≡ first ∷ others) × DrivenSlot earlier slot mid first × DrivenAll mid slots later others
 
   -- the slots below a key were driven, and the others stand as they were
   pub record EntriesSoFar {D : Type 0} {g : Ghosts D} (key : ℕ) (hub : Hub D g) (slots : List (Option (Entry T))) (later : Hub D g) (new : List (Option (Entry T))) : Type 0 where
+    pub counted : failures hub ≤ failures later
     pub driven : Leads hub later (λ h k. DrivenAll h (take key slots) k (take key new))
     pub rest : drop key new ≡ drop key slots
     pub len : length new ≡ length slots

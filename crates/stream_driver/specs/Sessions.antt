@@ -1,5 +1,5 @@
 -- One session of a hub, and what a run of its events adds to its history.
-use Rattle.std.specs.Prelude.{◌≡◌, ◌≢◌, ℕ, List, [], ◌++◌, Option, Some, None}
+use Rattle.std.specs.Prelude.{◌≡◌, ◌≢◌, ℕ, ◌≤◌, true, List, [], ◌++◌, Option, Some, None}
 use Rattle.std.specs.List.{flat_map, AllByRecursion}
 use Rattle.model.specs.Map.{Bytes}
 use Rattle.model.specs.Operations.{Response}
@@ -8,9 +8,11 @@ use Rattle.model.specs.ReplyText.{reply_text}
 use Rattle.sessions.specs.declared.events.Status.{Status}
 use Rattle.sessions.specs.declared.events.Status.TheVariants.{Absent}
 use Rattle.sector.specs.declared.device.Sectors.{Ghosts}
+use Rattle.engine.specs.Meaning.{has_risen}
 use Rattle.sessions.specs.declared.hub.Hub.{Hub}
 use Rattle.sessions.specs.SessionStreams.{HubState, SessionStream, HubEvent, Joins, Receives, Serves, Sends, Leaves, Choice, ArePossible, run, stream_of}
-use Rattle.sessions.specs.StandsFor.{StandsFor, status_in, room_in, pending_in}
+use Rattle.sessions.specs.StandsFor.{StandsFor, status_in, room_in, pending_in, failures}
+use Rattle.sessions.specs.Laws.{failures_in}
 
 abbrev pub inbox_in : Option SessionStream → Bytes
 inbox_in None = []
@@ -47,9 +49,19 @@ Stands hub = InSomeState hub (λ h. Unit {0})
 abbrev pub IsPresent : {D : Type 0} {g : Ghosts D} → Hub D g → ℕ → Type 0
 IsPresent hub s = InSomeState hub (λ h. IsPresentIn h s)
 
--- from every state that the old hub stands for to one that the new hub stands for and that is so related to it
-abbrev pub Leads : {D : Type 0} {g : Ghosts D} → Hub D g → Hub D g → (HubState → HubState → Type 0) → Type 0
-Leads old new P = (h : HubState) → StandsFor old h → (k : HubState) × StandsFor new k × P h k
+-- a state, and how many calls of the device have failed by then
+pub record Point : Type 0 where
+  pub hub : HubState
+  pub failures : ℕ
+
+-- the hub stands for this state, and so many calls of its device have failed
+pub record StandsAt {D : Type 0} {g : Ghosts D} (hub : Hub D g) (p : Point) : Type 0 where
+  pub state : StandsFor hub p.hub
+  pub count : p.failures ≡ failures hub
+
+-- from every point at which the old hub stands to one at which the new hub stands and that is so related to it
+abbrev pub Leads : {D : Type 0} {g : Ghosts D} → Hub D g → Hub D g → (Point → Point → Type 0) → Type 0
+Leads old new P = (h : Point) → StandsAt old h → (k : Point) × StandsAt new k × P h k
 
 -- whose event it is
 abbrev pub session_of : HubEvent → ℕ
@@ -72,16 +84,19 @@ pub record GoesOn (first last : SessionStream) : Type 0 where
   pub sent_is : last.sent ≡ first.sent ++ sent
   pub texts : sent ++ last.now.pending ≡ first.now.pending ++ flat_map reply_text replies
 
--- a run of events of one session, which stays present; the others are unchanged
-pub record Runs (s : ℕ) (old new : HubState) : Type 0 where
+-- A run of events of one session, which stays present; the others are unchanged. The device fails in none of the events where
+-- the count of its failures did not rise.
+pub record Runs (s : ℕ) (old new : Point) : Type 0 where
   pub events : List (HubEvent × Choice)
   pub own : AllByRecursion (λ e. session_of e.0 ≡ s) events
-  pub possible : ArePossible old events
-  pub run_is : new ≡ run old events
+  pub possible : ArePossible old.hub events
+  pub run_is : new.hub ≡ run old.hub events
+  pub counted : old.failures ≤ new.failures
+  pub risen_then : 1 ≤ failures_in events → has_risen old.failures new.failures ≡ true
   pub first : SessionStream
   pub last : SessionStream
-  pub first_is : stream_of old s ≡ Some first
-  pub last_is : stream_of new s ≡ Some last
+  pub first_is : stream_of old.hub s ≡ Some first
+  pub last_is : stream_of new.hub s ≡ Some last
   pub history : GoesOn first last
-  pub present : IsPresentIn new s
-  pub others : (t : ℕ) → t ≢ s → stream_of new t ≡ stream_of old t
+  pub present : IsPresentIn new.hub s
+  pub others : (t : ℕ) → t ≢ s → stream_of new.hub t ≡ stream_of old.hub t

@@ -1,6 +1,7 @@
 //! One drive.
-ghost use Rattle.std.specs.Prelude.{◌≡◌, ◌<◌, length, []};
+ghost use Rattle.std.specs.Prelude.{◌≡◌, ◌<◌, ◌≤◌, length, []};
 ghost use Rattle.sessions.specs.declared.events.Status.TheVariants.{Open};
+ghost use Rattle.sessions.specs.StandsFor.{failures};
 ghost use Rattle.stream_driver.specs.Sessions.{InSomeState, IsPresent, IsPresentIn, Leads, pending_at, status_at, room_at};
 ghost use Rattle.stream_driver.specs.Drives.{Drove, Parts};
 ghost use Rattle.stream_driver.specs.Calls.{WritesSome, Flushes, ReadsSome, Exchanges};
@@ -38,7 +39,8 @@ enum Exchange {
 // One write of what is pending.
 fn write_some<D: Sectors, S: Stream>(hub: &mut Hub<D>, s: u64, stream: &mut S) -> WriteAnswer
     requires { InSomeState hub.old (λ h. IsPresentIn h s × (0 < length (pending_at h s))) }
-    ensures { Leads hub.old hub.new (λ h k. WritesSome s S.tells h (S.traffic stream.old) result k (S.traffic stream.new)) }
+    ensures device { failures hub.old ≤ failures hub.new }
+    ensures written { Leads hub.old hub.new (λ h k. WritesSome s S.tells h (S.traffic stream.old) result k (S.traffic stream.new)) }
 {
     let answer = stream.write(hub.pending(s));
     if let WriteAnswer::Moved(n) = answer {
@@ -50,7 +52,8 @@ fn write_some<D: Sectors, S: Stream>(hub: &mut Hub<D>, s: u64, stream: &mut S) -
 // Writes what is pending, as far as the stream takes it.
 fn write_out<D: Sectors, S: Stream>(hub: &mut Hub<D>, s: u64, stream: &mut S) -> Flush
     requires { IsPresent hub.old s }
-    ensures { Leads hub.old hub.new (λ h k. Flushes s S.tells h (S.traffic stream.old) result k (S.traffic stream.new)) }
+    ensures device { failures hub.old ≤ failures hub.new }
+    ensures written { Leads hub.old hub.new (λ h k. Flushes s S.tells h (S.traffic stream.old) result k (S.traffic stream.new)) }
 {
     let mut owed = hub.pending(s).len();
     while owed > 0 {
@@ -72,7 +75,8 @@ fn read_some<D: Sectors, S: Stream>(
 ) -> ReadAnswer
     requires some { 0 < room }
     requires opened { InSomeState hub.old (λ h. (status_at h s ≡ Open) × (room ≡ room_at h s)) }
-    ensures { Leads hub.old hub.new (λ h k. ReadsSome s S.tells h (S.traffic stream.old) result k (S.traffic stream.new)) }
+    ensures device { failures hub.old ≤ failures hub.new }
+    ensures read { Leads hub.old hub.new (λ h k. ReadsSome s S.tells h (S.traffic stream.old) result k (S.traffic stream.new)) }
 {
     let mut buffer = [0u8; READ_MAX];
     let most = room.min(READ_MAX);
@@ -87,7 +91,8 @@ fn read_some<D: Sectors, S: Stream>(
 // Reads until one request can be served, and serves it.
 fn serve_one<D: Sectors, S: Stream>(hub: &mut Hub<D>, s: u64, stream: &mut S) -> Exchange
     requires { InSomeState hub.old (λ h. (status_at h s ≡ Open) × (pending_at h s ≡ [])) }
-    ensures { Leads hub.old hub.new (λ h k. Exchanges s S.tells h (S.traffic stream.old) result k (S.traffic stream.new)) }
+    ensures device { failures hub.old ≤ failures hub.new }
+    ensures served { Leads hub.old hub.new (λ h k. Exchanges s S.tells h (S.traffic stream.old) result k (S.traffic stream.new)) }
 {
     let mut room = hub.room(s);
     loop {
@@ -113,6 +118,7 @@ fn serve_one<D: Sectors, S: Stream>(hub: &mut Hub<D>, s: u64, stream: &mut S) ->
 // The session leaves.
 fn part<D: Sectors>(hub: &mut Hub<D>, s: u64) -> Progress
     ensures answer { result ≡ Progress.Gone }
+    ensures device { failures hub.old ≤ failures hub.new }
     ensures left { Leads hub.old hub.new (λ h k. Parts s h k) }
 {
     let _ = hub.step(&Event::Left(s));
@@ -127,10 +133,13 @@ fn part<D: Sectors>(hub: &mut Hub<D>, s: u64) -> Progress
 /// request is dropped), a broken frame once its reply was written, and a request that was refused memory make the session leave, which
 /// aborts its transaction. Other sessions are unchanged.
 ///
+/// The device failed in none of these requests where its count of failures did not rise.
+///
 /// It may grow what the requests grow, and the output of the session.
 pub fn drive<D: Sectors, S: Stream>(hub: &mut Hub<D>, s: u64, stream: &mut S) -> Progress
     requires { IsPresent hub.old s }
-    ensures { Leads hub.old hub.new (λ h k. Drove s S.tells h (S.traffic stream.old) result k (S.traffic stream.new)) }
+    ensures device { failures hub.old ≤ failures hub.new }
+    ensures driven { Leads hub.old hub.new (λ h k. Drove s S.tells h (S.traffic stream.old) result k (S.traffic stream.new)) }
 {
     'requests: for _served in 0..REQUESTS_MAX {
         match write_out(hub, s, stream) {

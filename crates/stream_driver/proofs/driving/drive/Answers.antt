@@ -6,87 +6,127 @@ use Rattle.stream_driver.proofs.Loops.{driven_none, driven_flushed, driven_serve
 use Rattle.stream_driver.proofs.driving.drive.Goals as goal
 
 pub requests-init : goal.requests-init
-requests-init g c = λ h stands. (h, stands, driven_none c.args.s g.S.Stream.tells h (g.S.Stream.traffic c.args.stream.now) (present_at c.args.hub.now c.args.s h stands _ c.requires (λ k p. p)))
+requests-init g c =
+    (omega arith, λ h stands. (h, stands, driven_none c.args.s g.S.Stream.tells h (g.S.Stream.traffic c.args.stream.now) (present_at c.args.hub.now c.args.s h.hub stands.state _ c.requires (λ k p. p))))
 
 pub write_out-requires : goal.write_out-requires
-write_out-requires g c = some_after c.args.hub.now c.requests.hub _ _ _ c.requires c.requests.invariant (λ h k before p. p.carried.runs.present)
+write_out-requires g c = some_after c.args.hub.now c.requests.hub _ _ _ c.requires c.requests.invariant.1 (λ h k before p. p.carried.runs.present)
 
 pub returns-in-Blocked : goal.returns-in-Blocked
 returns-in-Blocked g c =
-    leads_then c.args.hub.now c.requests.hub c.write_out.new.hub _ _ _ c.requests.invariant c.in-Blocked.ensures
-    (λ h k l stands p q. waits_to_write c.args.s g.S.Stream.tells h (g.S.Stream.traffic c.args.stream.now) k (g.S.Stream.traffic c.requests.stream) l (g.S.Stream.traffic c.write_out.new.stream) c.requests._served p q)
+    record {
+      device = omega (arith, c.requests.invariant.0, c.write_out.ensures.device);
+      driven =
+          leads_then c.args.hub.now c.requests.hub c.write_out.new.hub _ _ _ c.requests.invariant.1 c.in-Blocked.ensures.written
+          (λ h k l stands p q. waits_to_write c.args.s g.S.Stream.tells h (g.S.Stream.traffic c.args.stream.now) k (g.S.Stream.traffic c.requests.stream) l (g.S.Stream.traffic c.write_out.new.stream) c.requests._served p q);
+    }
 
 pub returns-in-Failed : goal.returns-in-Failed
 returns-in-Failed g c =
-    rw c.part.ensures.answer
-    (leads_three c.args.hub.now c.requests.hub c.write_out.new.hub c.part.new.hub _ _ _ _ c.requests.invariant c.in-Failed.ensures c.part.ensures.left
-    (λ h k l m stands p q r. gone_writing c.args.s g.S.Stream.tells h (g.S.Stream.traffic c.args.stream.now) k (g.S.Stream.traffic c.requests.stream) l (g.S.Stream.traffic c.write_out.new.stream) c.requests._served p m r q))
+    record {
+      device = omega (arith, c.requests.invariant.0, c.write_out.ensures.device, c.part.ensures.device);
+      driven =
+          rw c.part.ensures.answer
+          (leads_three c.args.hub.now c.requests.hub c.write_out.new.hub c.part.new.hub _ _ _ _ c.requests.invariant.1 c.in-Failed.ensures.written c.part.ensures.left
+          (λ h k l m stands p q r. gone_writing c.args.s g.S.Stream.tells h (g.S.Stream.traffic c.args.stream.now) k (g.S.Stream.traffic c.requests.stream) l (g.S.Stream.traffic c.write_out.new.stream) c.requests._served p m r q));
+    }
 
 pub returns-in_default : goal.returns-in_default
 returns-in_default g c =
-    rw c.part-in_default.ensures.answer
-    (leads_three c.args.hub.now c.requests.hub c.write_out.new.hub c.part-in_default.new.hub _ _ _ _ c.requests.invariant c.in-Empty.ensures c.part-in_default.ensures.left
-    (λ h k l m stands p q r. gone_closed c.args.s g.S.Stream.tells h (g.S.Stream.traffic c.args.stream.now) k (g.S.Stream.traffic c.requests.stream) l (g.S.Stream.traffic c.write_out.new.stream) c.requests._served p m r q (λ e. c.in_default.not-Open (c.status.ensures l stands ∙ e))))
+    record {
+      device = omega (arith, c.requests.invariant.0, c.write_out.ensures.device, c.part-in_default.ensures.device);
+      driven =
+          rw c.part-in_default.ensures.answer
+          (leads_three c.args.hub.now c.requests.hub c.write_out.new.hub c.part-in_default.new.hub _ _ _ _ c.requests.invariant.1 c.in-Empty.ensures.written c.part-in_default.ensures.left
+          (λ h k l m stands p q r. gone_closed c.args.s g.S.Stream.tells h (g.S.Stream.traffic c.args.stream.now) k (g.S.Stream.traffic c.requests.stream) l (g.S.Stream.traffic c.write_out.new.stream) c.requests._served p m r q (λ e. c.in_default.not-Open (c.status.ensures l.hub stands ∙ e))));
+    }
 
 pub serve_one-requires : goal.serve_one-requires
 serve_one-requires g c =
     some_after c.args.hub.now c.write_out.new.hub _ _ _ c.requires
-    (leads_then c.args.hub.now c.requests.hub c.write_out.new.hub _ _ (λ h l. (status_at l c.args.s ≡ Open) × (pending_at l c.args.s ≡ [])) c.requests.invariant c.in-Empty.ensures
-    (λ h k l stands p q. (sym (c.in-Open.ensures l stands), q.why)))
+    (leads_then c.args.hub.now c.requests.hub c.write_out.new.hub _ _ (λ h l. (status_at l.hub c.args.s ≡ Open) × (pending_at l.hub c.args.s ≡ [])) c.requests.invariant.1 c.in-Empty.ensures.written
+    (λ h k l stands p q. (sym (c.in-Open.ensures l.hub stands), q.why)))
     (λ h l before r. r)
 
 pub returns-in-Blocked-serve_one : goal.returns-in-Blocked-serve_one
 returns-in-Blocked-serve_one g c =
-    leads_three c.args.hub.now c.requests.hub c.write_out.new.hub c.serve_one.new.hub _ _ _ _ c.requests.invariant c.in-Empty.ensures c.in-Blocked-serve_one.ensures
-    (λ h k l m stands p q r.
-    waits_to_read c.args.s g.S.Stream.tells h (g.S.Stream.traffic c.args.stream.now) l (g.S.Stream.traffic c.write_out.new.stream) m (g.S.Stream.traffic c.serve_one.new.stream) c.requests._served
-    (driven_flushed c.args.s g.S.Stream.tells h (g.S.Stream.traffic c.args.stream.now) k (g.S.Stream.traffic c.requests.stream) l (g.S.Stream.traffic c.write_out.new.stream) c.requests._served p q.moves) r)
+    record {
+      device = omega (arith, c.requests.invariant.0, c.write_out.ensures.device, c.serve_one.ensures.device);
+      driven =
+          leads_three c.args.hub.now c.requests.hub c.write_out.new.hub c.serve_one.new.hub _ _ _ _ c.requests.invariant.1 c.in-Empty.ensures.written c.in-Blocked-serve_one.ensures.served
+          (λ h k l m stands p q r.
+          waits_to_read c.args.s g.S.Stream.tells h (g.S.Stream.traffic c.args.stream.now) l (g.S.Stream.traffic c.write_out.new.stream) m (g.S.Stream.traffic c.serve_one.new.stream) c.requests._served
+          (driven_flushed c.args.s g.S.Stream.tells h (g.S.Stream.traffic c.args.stream.now) k (g.S.Stream.traffic c.requests.stream) l (g.S.Stream.traffic c.write_out.new.stream) c.requests._served p q.moves) r);
+    }
 
 pub returns-in_default-serve_one : goal.returns-in_default-serve_one
 returns-in_default-serve_one g c =
-    rw c.part-in_default-serve_one.ensures.answer
-    (leads_four c.args.hub.now c.requests.hub c.write_out.new.hub c.serve_one.new.hub c.part-in_default-serve_one.new.hub _ _ _ _ _ c.requests.invariant c.in-Empty.ensures c.serve_one.ensures c.part-in_default-serve_one.ensures.left
-    (λ h k l m n p q r t.
-    gone_serving c.args.s g.S.Stream.tells h (g.S.Stream.traffic c.args.stream.now) l (g.S.Stream.traffic c.write_out.new.stream) m (g.S.Stream.traffic c.serve_one.new.stream) c.requests._served
-    (driven_flushed c.args.s g.S.Stream.tells h (g.S.Stream.traffic c.args.stream.now) k (g.S.Stream.traffic c.requests.stream) l (g.S.Stream.traffic c.write_out.new.stream) c.requests._served p q.moves) n t c.serve_one.result
-    c.in_default-serve_one.not-Served c.in_default-serve_one.not-Broke c.in_default-serve_one.not-Blocked r))
+    record {
+      device = omega (arith, c.requests.invariant.0, c.write_out.ensures.device, c.serve_one.ensures.device, c.part-in_default-serve_one.ensures.device);
+      driven =
+          rw c.part-in_default-serve_one.ensures.answer
+          (leads_four c.args.hub.now c.requests.hub c.write_out.new.hub c.serve_one.new.hub c.part-in_default-serve_one.new.hub _ _ _ _ _ c.requests.invariant.1 c.in-Empty.ensures.written c.serve_one.ensures.served c.part-in_default-serve_one.ensures.left
+          (λ h k l m n p q r t.
+          gone_serving c.args.s g.S.Stream.tells h (g.S.Stream.traffic c.args.stream.now) l (g.S.Stream.traffic c.write_out.new.stream) m (g.S.Stream.traffic c.serve_one.new.stream) c.requests._served
+          (driven_flushed c.args.s g.S.Stream.tells h (g.S.Stream.traffic c.args.stream.now) k (g.S.Stream.traffic c.requests.stream) l (g.S.Stream.traffic c.write_out.new.stream) c.requests._served p q.moves) n t c.serve_one.result
+          c.in_default-serve_one.not-Served c.in_default-serve_one.not-Broke c.in_default-serve_one.not-Blocked r));
+    }
 
 pub requests-preserved : goal.requests-preserved
-requests-preserved g c = elim c.in-Served.is [
-  | inl e ↦
-      leads_three c.args.hub.now c.requests.hub c.write_out.new.hub c.serve_one.new.hub _ _ _ _ c.requests.invariant c.in-Empty.ensures (rw e at c.serve_one.ensures)
-      (λ h k l m stands p q r.
-      driven_served c.args.s g.S.Stream.tells h (g.S.Stream.traffic c.args.stream.now) l (g.S.Stream.traffic c.write_out.new.stream) m (g.S.Stream.traffic c.serve_one.new.stream) c.requests._served
-      (driven_flushed c.args.s g.S.Stream.tells h (g.S.Stream.traffic c.args.stream.now) k (g.S.Stream.traffic c.requests.stream) l (g.S.Stream.traffic c.write_out.new.stream) c.requests._served p q.moves) (sym (c.in-Open.ensures l stands)) r)
-  | inr e ↦
-      leads_three c.args.hub.now c.requests.hub c.write_out.new.hub c.serve_one.new.hub _ _ _ _ c.requests.invariant c.in-Empty.ensures (rw e at c.serve_one.ensures)
-      (λ h k l m stands p q r.
-      driven_broke c.args.s g.S.Stream.tells h (g.S.Stream.traffic c.args.stream.now) l (g.S.Stream.traffic c.write_out.new.stream) m (g.S.Stream.traffic c.serve_one.new.stream) c.requests._served
-      (driven_flushed c.args.s g.S.Stream.tells h (g.S.Stream.traffic c.args.stream.now) k (g.S.Stream.traffic c.requests.stream) l (g.S.Stream.traffic c.write_out.new.stream) c.requests._served p q.moves) r)
-]
+requests-preserved g c = (
+  omega (arith, c.requests.invariant.0, c.write_out.ensures.device, c.serve_one.ensures.device),
+  elim c.in-Served.is [
+    | inl e ↦
+        leads_three c.args.hub.now c.requests.hub c.write_out.new.hub c.serve_one.new.hub _ _ _ _ c.requests.invariant.1 c.in-Empty.ensures.written (rw e at c.serve_one.ensures.served)
+        (λ h k l m stands p q r.
+        driven_served c.args.s g.S.Stream.tells h (g.S.Stream.traffic c.args.stream.now) l (g.S.Stream.traffic c.write_out.new.stream) m (g.S.Stream.traffic c.serve_one.new.stream) c.requests._served
+        (driven_flushed c.args.s g.S.Stream.tells h (g.S.Stream.traffic c.args.stream.now) k (g.S.Stream.traffic c.requests.stream) l (g.S.Stream.traffic c.write_out.new.stream) c.requests._served p q.moves) (sym (c.in-Open.ensures l.hub stands)) r)
+    | inr e ↦
+        leads_three c.args.hub.now c.requests.hub c.write_out.new.hub c.serve_one.new.hub _ _ _ _ c.requests.invariant.1 c.in-Empty.ensures.written (rw e at c.serve_one.ensures.served)
+        (λ h k l m stands p q r.
+        driven_broke c.args.s g.S.Stream.tells h (g.S.Stream.traffic c.args.stream.now) l (g.S.Stream.traffic c.write_out.new.stream) m (g.S.Stream.traffic c.serve_one.new.stream) c.requests._served
+        (driven_flushed c.args.s g.S.Stream.tells h (g.S.Stream.traffic c.args.stream.now) k (g.S.Stream.traffic c.requests.stream) l (g.S.Stream.traffic c.write_out.new.stream) c.requests._served p q.moves) r)
+  ],
+)
 
 pub write_out-requires-2 : goal.write_out-requires-2
-write_out-requires-2 g c = some_after c.args.hub.now c.requests.hub _ _ _ c.requires c.requests.invariant (λ h k before p. p.carried.runs.present)
+write_out-requires-2 g c = some_after c.args.hub.now c.requests.hub _ _ _ c.requires c.requests.invariant.1 (λ h k before p. p.carried.runs.present)
 
 pub returns-in-Blocked-write_out : goal.returns-in-Blocked-write_out
 returns-in-Blocked-write_out g c =
-    leads_then c.args.hub.now c.requests.hub c.write_out-2.new.hub _ _ _ c.requests.invariant c.in-Blocked-write_out.ensures
-    (λ h k l stands p q. waits_to_write c.args.s g.S.Stream.tells h (g.S.Stream.traffic c.args.stream.now) k (g.S.Stream.traffic c.requests.stream) l (g.S.Stream.traffic c.write_out-2.new.stream) c.requests._served p q)
+    record {
+      device = omega (arith, c.requests.invariant.0, c.write_out-2.ensures.device);
+      driven =
+          leads_then c.args.hub.now c.requests.hub c.write_out-2.new.hub _ _ _ c.requests.invariant.1 c.in-Blocked-write_out.ensures.written
+          (λ h k l stands p q. waits_to_write c.args.s g.S.Stream.tells h (g.S.Stream.traffic c.args.stream.now) k (g.S.Stream.traffic c.requests.stream) l (g.S.Stream.traffic c.write_out-2.new.stream) c.requests._served p q);
+    }
 
 pub returns-in-Failed-write_out : goal.returns-in-Failed-write_out
 returns-in-Failed-write_out g c =
-    rw c.part-in-Failed-write_out.ensures.answer
-    (leads_three c.args.hub.now c.requests.hub c.write_out-2.new.hub c.part-in-Failed-write_out.new.hub _ _ _ _ c.requests.invariant c.in-Failed-write_out.ensures c.part-in-Failed-write_out.ensures.left
-    (λ h k l m stands p q r. gone_writing c.args.s g.S.Stream.tells h (g.S.Stream.traffic c.args.stream.now) k (g.S.Stream.traffic c.requests.stream) l (g.S.Stream.traffic c.write_out-2.new.stream) c.requests._served p m r q))
+    record {
+      device = omega (arith, c.requests.invariant.0, c.write_out-2.ensures.device, c.part-in-Failed-write_out.ensures.device);
+      driven =
+          rw c.part-in-Failed-write_out.ensures.answer
+          (leads_three c.args.hub.now c.requests.hub c.write_out-2.new.hub c.part-in-Failed-write_out.new.hub _ _ _ _ c.requests.invariant.1 c.in-Failed-write_out.ensures.written c.part-in-Failed-write_out.ensures.left
+          (λ h k l m stands p q r. gone_writing c.args.s g.S.Stream.tells h (g.S.Stream.traffic c.args.stream.now) k (g.S.Stream.traffic c.requests.stream) l (g.S.Stream.traffic c.write_out-2.new.stream) c.requests._served p m r q));
+    }
 
 pub returns-in-Open-status : goal.returns-in-Open-status
 returns-in-Open-status g c =
-    let all : c.requests._served ≡ 64 = omega arith in
-    leads_then c.args.hub.now c.requests.hub c.write_out-2.new.hub _ _ _ c.requests.invariant c.in-Empty-write_out.ensures
-    (λ h k l stands p q. again c.args.s g.S.Stream.tells h (g.S.Stream.traffic c.args.stream.now) k (g.S.Stream.traffic c.requests.stream) l (g.S.Stream.traffic c.write_out-2.new.stream) c.requests._served p q all (sym (c.in-Open-status.ensures l stands)))
+    record {
+      device = omega (arith, c.requests.invariant.0, c.write_out-2.ensures.device);
+      driven =
+          let all : c.requests._served ≡ 64 = omega arith in
+          leads_then c.args.hub.now c.requests.hub c.write_out-2.new.hub _ _ _ c.requests.invariant.1 c.in-Empty-write_out.ensures.written
+          (λ h k l stands p q. again c.args.s g.S.Stream.tells h (g.S.Stream.traffic c.args.stream.now) k (g.S.Stream.traffic c.requests.stream) l (g.S.Stream.traffic c.write_out-2.new.stream) c.requests._served p q all (sym (c.in-Open-status.ensures l.hub stands)));
+    }
 
 pub returns-in_default-status : goal.returns-in_default-status
 returns-in_default-status g c =
-    rw c.part-in_default-status.ensures.answer
-    (leads_three c.args.hub.now c.requests.hub c.write_out-2.new.hub c.part-in_default-status.new.hub _ _ _ _ c.requests.invariant c.in-Empty-write_out.ensures c.part-in_default-status.ensures.left
-    (λ h k l m stands p q r. gone_closed c.args.s g.S.Stream.tells h (g.S.Stream.traffic c.args.stream.now) k (g.S.Stream.traffic c.requests.stream) l (g.S.Stream.traffic c.write_out-2.new.stream) c.requests._served p m r q (λ e. c.in_default-status.not-Open (c.status-2.ensures l stands ∙ e))))
+    record {
+      device = omega (arith, c.requests.invariant.0, c.write_out-2.ensures.device, c.part-in_default-status.ensures.device);
+      driven =
+          rw c.part-in_default-status.ensures.answer
+          (leads_three c.args.hub.now c.requests.hub c.write_out-2.new.hub c.part-in_default-status.new.hub _ _ _ _ c.requests.invariant.1 c.in-Empty-write_out.ensures.written c.part-in_default-status.ensures.left
+          (λ h k l m stands p q r. gone_closed c.args.s g.S.Stream.tells h (g.S.Stream.traffic c.args.stream.now) k (g.S.Stream.traffic c.requests.stream) l (g.S.Stream.traffic c.write_out-2.new.stream) c.requests._served p m r q (λ e. c.in_default-status.not-Open (c.status-2.ensures l.hub stands ∙ e))));
+    }

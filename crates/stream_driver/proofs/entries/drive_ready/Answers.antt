@@ -11,7 +11,7 @@ loop-key-preserved g c = elim c.match-get_mut.branch [
   | in-Some w ↦
       rw (w.hub-is, w.table-is)
       (entries_driven g.S.Stream.tells g.S.Stream.traffic c.loop-key.key c.args.hub.now c.args.table.now.slots c.loop-key.hub c.loop-key.table.slots w.in-Some.entry.now w.drive_entry.new.hub w.drive_entry.new.entry
-      c.loop-key.invariant (sym w.in-Some.ensures.value) w.drive_entry.ensures.session w.drive_entry.ensures.gone w.drive_entry.ensures.driven)
+      c.loop-key.invariant (sym w.in-Some.ensures.value) w.drive_entry.ensures.session w.drive_entry.ensures.gone w.drive_entry.ensures.device w.drive_entry.ensures.driven)
   | in_default w ↦
       rw (w.hub-is, w.table-is)
       (entries_vacant g.S.Stream.tells g.S.Stream.traffic c.loop-key.key c.args.hub.now c.args.table.now.slots c.loop-key.hub c.loop-key.table.slots c.loop-key.invariant (sym w.in_default.ensures.value))

@@ -1,5 +1,6 @@
 use Rattle.std.proofs.Common.{◌≡◌, ◌∙◌, true, false}
 use Rattle.std.proofs.Math.Logic.{∥∥₁_map}
+use Rattle.event_loop.proofs.Tables.{stands_after}
 use Rattle.program_tests.proofs.driven.Driven.drive.Goals as goal
 
 pub drive-requires : goal.drive-requires
@@ -15,5 +16,5 @@ drive-requires c = ∥∥₁_map c.args.self.now.stands (λ w. (
 
 pub invariant_of-self : goal.invariant_of-self
 invariant_of-self c = record {
-  stands = ∥∥₁_map c.args.self.now.stands (λ w. (let k = c.drive.ensures w.0 w.1 in (k.0, k.1, tt)));
+  stands = stands_after c.args.self.now.hub c.drive.new.hub _ c.args.self.now.stands c.drive.ensures.driven;
 }
