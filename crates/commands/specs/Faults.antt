@@ -1,9 +1,12 @@
 -- The faults of commands.
-use Rattle.std.specs.Prelude.{ℕ}
+use Rattle.std.specs.Prelude.{ℕ, List, ◌++◌, codes}
+use Rattle.std.specs.Fmt.{decimal}
 use Rattle.commit_log.specs.declared.faults.LogFault.{LogFault}
 use Rattle.commit_log.specs.declared.faults.LogFault.TheVariants as logs
+use Rattle.scripts.specs.declared.faults.ScriptFault.{ScriptFault}
+use Rattle.scripts.specs.declared.faults.ScriptFault.TheVariants as scripts
 use Rattle.commands.specs.declared.faults.Fault.{Fault}
-use Rattle.commands.specs.declared.faults.Fault.TheVariants.{NotALog, Damaged, LogFull, Device, File, Memory, BadLine, Crowded}
+use Rattle.commands.specs.declared.faults.Fault.TheVariants.{NotALog, Damaged, LogFull, Device, File, Listen, Poll, Memory, BadLine, Crowded}
 
 -- what a fault of the log is for a command
 abbrev pub of_log : LogFault → Fault
@@ -14,12 +17,33 @@ of_log logs.Device = Device
 of_log logs.Stopped = Device
 of_log logs.Memory = Memory
 
+-- what a fault of a script is for a command
+abbrev pub of_script : ScriptFault → Fault
+of_script (scripts.BadLine number) = BadLine number
+of_script (scripts.Crowded number) = Crowded number
+of_script scripts.File = File
+of_script (scripts.Log fault) = of_log fault
+of_script scripts.Memory = Memory
+
 -- a file or the device failed, or memory was refused
 abbrev pub IsFromOutside : Fault → Type 0
 IsFromOutside Device = Unit {0}
 IsFromOutside File = Unit {0}
 IsFromOutside Memory = Unit {0}
 IsFromOutside other = ⊥
+
+-- the text of a fault
+abbrev pub text_of : Fault → List ℕ
+text_of NotALog = codes "ssikvd: not a log"
+text_of (Damaged index) = codes "ssikvd: damaged record " ++ decimal index
+text_of LogFull = codes "ssikvd: log full"
+text_of Device = codes "ssikvd: device fault"
+text_of File = codes "ssikvd: file fault"
+text_of Listen = codes "ssikvd: listen fault"
+text_of Poll = codes "ssikvd: poll fault"
+text_of Memory = codes "ssikvd: out of memory"
+text_of (BadLine number) = codes "line " ++ decimal number ++ codes ": bad line"
+text_of (Crowded number) = codes "line " ++ decimal number ++ codes ": crowded"
 
 -- the exit status that tells a fault
 abbrev pub status_of : Fault → ℕ

@@ -1,5 +1,6 @@
 //! Why a command ends early.
-ghost use Rattle.std.specs.Prelude.{◌≡◌, ◌⊎◌};
+ghost use Rattle.std.specs.Prelude.{◌≡◌, ◌≢◌, ◌⊎◌};
+ghost use Rattle.std.specs.IoError.{error_kind};
 ghost use Rattle.commands.specs.Faults.{status_of};
 
 use crate::{BAD_LINE, FAULT};
@@ -35,6 +36,11 @@ pub enum Fault {
 }
 
 impl Display for Fault {
+    ghost use Rattle.std.specs.Prelude.{Some};
+    ghost use Rattle.commands.specs.Faults.{text_of};
+
+    ghost output = { λ fault. Some (text_of fault) };
+
     fn fmt<W: fmt::Write>(&self, f: &mut Formatter<W>) -> fmt::Result {
         match self {
             Fault::NotALog => f.write_str("ssikvd: not a log"),
@@ -69,6 +75,11 @@ impl From<LogFault> for Fault {
 }
 
 impl From<ScriptFault> for Fault {
+    ghost use Rattle.std.specs.Prelude.{◌≡◌};
+    ghost use Rattle.commands.specs.Faults.{of_script};
+
+    ghost from_gives = { λ f e. e ≡ of_script f };
+
     fn from(fault: ScriptFault) -> Fault {
         match fault {
             ScriptFault::BadLine(number) => Fault::BadLine(number),
@@ -82,9 +93,12 @@ impl From<ScriptFault> for Fault {
 
 /// An error of a file, the input or the output, among which a want of memory is told by its kind.
 impl From<io::Error> for Fault {
-    ghost use Rattle.commands.specs.Faults.{IsFromOutside};
+    ghost use Rattle.std.specs.Prelude.{◌≡◌, ◌≢◌, ◌⊎◌};
+    ghost use Rattle.std.specs.IoError.{error_kind};
+    ghost use Rattle.std.specs.declared.io.ErrorKind.TheVariants.{OutOfMemory};
+    ghost use Rattle.commands.specs.declared.faults.Fault.TheVariants.{File, Memory};
 
-    ghost from_gives = { λ _ e. IsFromOutside e };
+    ghost from_gives = { λ error fault. ((error_kind error ≡ OutOfMemory) × (fault ≡ Memory)) ⊎ ((error_kind error ≢ OutOfMemory) × (fault ≡ File)) };
 
     fn from(error: io::Error) -> Fault {
         or_memory(&error, Fault::File)
@@ -93,12 +107,11 @@ impl From<io::Error> for Fault {
 
 /// The fault, unless the error is a want of memory.
 pub(crate) fn or_memory(error: &io::Error, fault: Fault) -> Fault
-    ensures { (result ≡ Fault.Memory) ⊎ (result ≡ fault) }
+    ensures { ((error_kind error.now ≡ ErrorKind.OutOfMemory) × (result ≡ Fault.Memory)) ⊎ ((error_kind error.now ≢ ErrorKind.OutOfMemory) × (result ≡ fault)) }
 {
-    if error.kind() == ErrorKind::OutOfMemory {
-        Fault::Memory
-    } else {
-        fault
+    match error.kind() {
+        ErrorKind::OutOfMemory => Fault::Memory,
+        _ => fault,
     }
 }
 

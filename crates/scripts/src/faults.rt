@@ -22,9 +22,10 @@ pub enum ScriptFault {
 }
 
 impl From<Memory> for ScriptFault {
-    ghost use Rattle.scripts.specs.Faults.{IsPlain};
+    ghost use Rattle.std.specs.Prelude.{◌≡◌};
+    ghost use Rattle.scripts.specs.declared.faults.ScriptFault.TheVariants.{Memory};
 
-    ghost from_gives = { λ _ e. IsPlain e };
+    ghost from_gives = { λ _ e. e ≡ Memory };
 
     fn from(_refused: Memory) -> ScriptFault {
         ScriptFault::Memory
@@ -32,9 +33,10 @@ impl From<Memory> for ScriptFault {
 }
 
 impl From<AllocError> for ScriptFault {
-    ghost use Rattle.scripts.specs.Faults.{IsPlain};
+    ghost use Rattle.std.specs.Prelude.{◌≡◌};
+    ghost use Rattle.scripts.specs.declared.faults.ScriptFault.TheVariants.{Memory};
 
-    ghost from_gives = { λ _ e. IsPlain e };
+    ghost from_gives = { λ _ e. e ≡ Memory };
 
     fn from(_refused: AllocError) -> ScriptFault {
         ScriptFault::Memory
@@ -42,9 +44,10 @@ impl From<AllocError> for ScriptFault {
 }
 
 impl<T: Drop> From<AllocFailed<T>> for ScriptFault {
-    ghost use Rattle.scripts.specs.Faults.{IsPlain};
+    ghost use Rattle.std.specs.Prelude.{◌≡◌};
+    ghost use Rattle.scripts.specs.declared.faults.ScriptFault.TheVariants.{Memory};
 
-    ghost from_gives = { λ _ e. IsPlain e };
+    ghost from_gives = { λ _ e. e ≡ Memory };
 
     fn from(_refused: AllocFailed<T>) -> ScriptFault {
         ScriptFault::Memory
@@ -52,9 +55,10 @@ impl<T: Drop> From<AllocFailed<T>> for ScriptFault {
 }
 
 impl From<LogFault> for ScriptFault {
-    ghost use Rattle.scripts.specs.Faults.{IsPlain};
+    ghost use Rattle.std.specs.Prelude.{◌≡◌};
+    ghost use Rattle.scripts.specs.declared.faults.ScriptFault.TheVariants.{Log};
 
-    ghost from_gives = { λ _ e. IsPlain e };
+    ghost from_gives = { λ f e. e ≡ Log f };
 
     fn from(fault: LogFault) -> ScriptFault {
         ScriptFault::Log(fault)
@@ -63,15 +67,17 @@ impl From<LogFault> for ScriptFault {
 
 /// An error of the reader or the writer, among which a want of memory is told by its kind.
 impl From<io::Error> for ScriptFault {
-    ghost use Rattle.scripts.specs.Faults.{IsPlain};
+    ghost use Rattle.std.specs.Prelude.{◌≡◌, ◌≢◌, ◌⊎◌};
+    ghost use Rattle.std.specs.IoError.{error_kind};
+    ghost use Rattle.std.specs.declared.io.ErrorKind.TheVariants.{OutOfMemory};
+    ghost use Rattle.scripts.specs.declared.faults.ScriptFault.TheVariants.{File, Memory};
 
-    ghost from_gives = { λ _ e. IsPlain e };
+    ghost from_gives = { λ error fault. ((error_kind error ≡ OutOfMemory) × (fault ≡ Memory)) ⊎ ((error_kind error ≢ OutOfMemory) × (fault ≡ File)) };
 
     fn from(error: io::Error) -> ScriptFault {
-        if error.kind() == ErrorKind::OutOfMemory {
-            ScriptFault::Memory
-        } else {
-            ScriptFault::File
+        match error.kind() {
+            ErrorKind::OutOfMemory => ScriptFault::Memory,
+            _ => ScriptFault::File,
         }
     }
 }
