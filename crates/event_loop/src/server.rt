@@ -37,6 +37,11 @@ pub struct EventLoop<D: Sectors> {
 }
 
 impl<D: Sectors> EventLoop<D> {
+    ghost use Rattle.std.specs.Prelude.{◌≡◌, IfOk};
+    ghost use Rattle.sessions.specs.SessionStreams.{HubState};
+    ghost use Rattle.sessions.specs.StandsFor.{StandsFor};
+    ghost use Rattle.event_loop.specs.Loops.{hub_of};
+
     /// Listens at an address for the sessions of a hub that none has joined, over an engine that was opened. Port 0 stands for one that
     /// the system picks.
     ///
@@ -48,6 +53,7 @@ impl<D: Sectors> EventLoop<D> {
         hub: Hub<D>,
     ) -> io::Result<EventLoop<D>>
         requires { Stands hub }
+        ensures { IfOk result (λ events. hub_of events ≡ hub) }
     {
         let poll = Poll::new(rt)?;
         let mut listener = TcpListener::bind(rt, address)?;
@@ -71,7 +77,9 @@ impl<D: Sectors> EventLoop<D> {
     }
 
     /// Has the store stopped? Takes no memory.
-    pub fn stopped(&self) -> bool {
+    pub fn stopped(&self) -> bool
+        ensures { (h : HubState) → StandsFor (hub_of self.now) h → result ≡ h.machine.stopped }
+    {
         self.hub.stopped()
     }
 
