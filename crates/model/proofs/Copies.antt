@@ -1,5 +1,5 @@
 -- One transaction on private copies of two maps that agree on what it reads: the same replies, marks and writes.
-use Rattle.std.proofs.Common.{◌≡◌, true, false, cond, List, [], ◌∷◌, ◌++◌, Option, Some, None, refl, sym, ap, ◌∙◌, length, inl, inr, take}
+use Rattle.std.proofs.Common.{◌≡◌, Bool, subst, true, false, cond, List, [], ◌∷◌, ◌++◌, Option, Some, None, refl, sym, ap, ◌∙◌, length, inl, inr, take}
 use Rattle.std.specs.Prelude.{nat_lt}
 use Rattle.std.specs.List.{list_any, AllByRecursion}
 use Rattle.std.specs.Ordering.{nat_cmp}
@@ -11,9 +11,10 @@ use Rattle.model.specs.Map.{Bytes, KeyMap, IsMap, value_at, is_same_key, after_w
 use Rattle.model.specs.Operations.{Operation, Response}
 use Rattle.model.specs.Operations.Operation.{Begin, Get, Set, Del, Range, Commit, Abort, Ping, Faulty}
 use Rattle.model.specs.Operations.Response.{Done, Pong, Value, Pairs, Refused}
-use Rattle.model.specs.PrivateCopy.{Mark, covers, is_covered, is_same_end, is_same_mark, PrivateCopy, copy_of, after_read, after_put, respond, copy_after, responses, reads, writes, values_at}
-use Rattle.model.specs.PrivateCopy.Mark.{OfKey, OfRange}
-use Rattle.model.proofs.Lookups.{same_key, same_key_itself, apart_keys, any-insert_key, value_after_write, IsMap-after_write, IsMap-after_writes, value_after_values, same_map, same_pairs}
+use Rattle.model.specs.PrivateCopy.{Mark, mark_of_reply, covers, is_covered, is_same_end, is_same_mark, PrivateCopy, copy_of, after_read, after_put, respond, copy_after, responses, reads, writes, values_at}
+use Rattle.model.specs.PrivateCopy.Mark.{OfKey, OfRange, OfClosedRange}
+use Rattle.model.proofs.ClosedRanges.{same_taken}
+use Rattle.model.proofs.Lookups.{same_key, same_key_itself, apart_keys, any-insert_key, value_after_write, IsMap-after_write, IsMap-after_writes, value_after_values, same_map}
 
 -- ---- marks
 
@@ -27,6 +28,13 @@ same_mark : (a b : Mark) → is_same_mark a b ≡ true → a ≡ b
 same_mark (OfKey j) (OfKey k) e = ap (λ x. OfKey x) (same_key j k e)
 same_mark (OfKey j) (OfRange lo hi) e = cc
 same_mark (OfRange lo hi) (OfKey k) e = cc
+same_mark (OfKey j) (OfClosedRange lo last) e = cc
+same_mark (OfRange lo hi) (OfClosedRange lo' last) e = cc
+same_mark (OfClosedRange lo last) (OfKey k) e = cc
+same_mark (OfClosedRange lo last) (OfRange lo' hi) e = cc
+same_mark (OfClosedRange lo last) (OfClosedRange lo' last') e =
+    let p = and_parts (is_same_key lo lo') (is_same_key last last') e in
+    let l = same_key lo lo' p.0 in let h = same_key last last' p.1 in λ i. OfClosedRange (l i) (h i)
 same_mark (OfRange lo hi) (OfRange lo' hi') e =
     let p = and_parts (is_same_key lo lo') (is_same_end hi hi') e in
     let l = same_key lo lo' p.0 in let h = same_end hi hi' p.1 in λ i. OfRange (l i) (h i)
@@ -66,8 +74,8 @@ record Alike (m n c d : KeyMap) (ws : List Bytes) : Type 0 where
 abbrev AgreeOn : KeyMap → KeyMap → List Mark → Type 0
 AgreeOn m n marks = (k : Bytes) → is_covered marks k ≡ true → value_at m k ≡ value_at n k
 
--- what one request leaves of two copies that hold these marks
-record Stepped (m n : KeyMap) (marks : List Mark) (x y : Response × PrivateCopy) : Type 0 where
+-- what one request leaves of two copies: the same written keys and marks, and the same response
+record Stepped (m n : KeyMap) (x y : Response × PrivateCopy) : Type 0 where
   left : KeyMap
   right : KeyMap
   ws : List Bytes
@@ -75,40 +83,100 @@ record Stepped (m n : KeyMap) (marks : List Mark) (x y : Response × PrivateCopy
   left_is : x.1 ≡ copy left ws held
   right_is : y.1 ≡ copy right ws held
   alike : Alike m n left right ws
-  same : AgreeOn m n held → x.0 ≡ y.0
-  grows : (k : Bytes) → is_covered marks k ≡ true → is_covered held k ≡ true
+  same : x.0 ≡ y.0
+
+-- ---- marks only join
+
+read_grows : (c : PrivateCopy) (mark : Mark) (r : Response) (k : Bytes) → is_covered c.marks k ≡ true → is_covered (after_read c mark r).1.marks k ≡ true
+read_grows c mark r k h =
+    elim (list_any (is_same_mark mark) c.marks) as (λ b. is_covered (cond {A = Response × PrivateCopy} b (r, c) (cond (nat_lt (length c.marks) 256) (r, record c { marks = c.marks ++ mark ∷ [] }) (Refused FullMarks, c))).1.marks k ≡ true) [
+      | true ↦ h
+      | false ↦ elim (nat_lt (length c.marks) 256) as (λ b. is_covered (cond {A = Response × PrivateCopy} b (r, record c { marks = c.marks ++ mark ∷ [] }) (Refused FullMarks, c)).1.marks k ≡ true) [
+        | true ↦ covered_before mark c.marks k h
+        | false ↦ h
+      ]
+    ]
+
+put_grows : (c : PrivateCopy) (j : Bytes) (v : Option Bytes) (k : Bytes) → is_covered c.marks k ≡ true → is_covered (after_put c j v).1.marks k ≡ true
+put_grows c j v k h =
+    elim (list_any (is_same_key j) c.written) as (λ b. is_covered (cond {A = Response × PrivateCopy} b (Done, record c { contents = after_write c.contents j v }) (cond (nat_lt (length c.written) 64) (Done, record c { contents = after_write c.contents j v; written = insert_key (slice_cmp nat_cmp) c.written j }) (Refused FullWrites, c))).1.marks k ≡ true) [
+      | true ↦ h
+      | false ↦ elim (nat_lt (length c.written) 64) as (λ b. is_covered (cond {A = Response × PrivateCopy} b (Done, record c { contents = after_write c.contents j v; written = insert_key (slice_cmp nat_cmp) c.written j }) (Refused FullWrites, c)).1.marks k ≡ true) [ true ↦ h | false ↦ h ]
+    ]
+
+grows : (c : PrivateCopy) (q : Operation) (k : Bytes) → is_covered c.marks k ≡ true → is_covered (respond c q).1.marks k ≡ true
+grows c (Get j) k h =
+    elim (list_any (is_same_key j) c.written) as (λ b. is_covered (cond {A = Response × PrivateCopy} b (Value (value_at c.contents j), c) (after_read c (OfKey j) (Value (value_at c.contents j)))).1.marks k ≡ true) [
+      | true ↦ h
+      | false ↦ read_grows c (OfKey j) (Value (value_at c.contents j)) k h
+    ]
+grows c (Range lo hi limit) k h =
+    let pairs = take limit (pairs_in_range c.contents lo hi) in
+    elim (is_empty_range lo hi) as (λ b. is_covered (cond {A = Response × PrivateCopy} b (Pairs [], c) (after_read c (mark_of_reply lo hi limit pairs) (Pairs pairs))).1.marks k ≡ true) [
+      | true ↦ h
+      | false ↦ read_grows c (mark_of_reply lo hi limit pairs) (Pairs pairs) k h
+    ]
+grows c (Set j v) k h = put_grows c j (Some v) k h
+grows c (Del j) k h = put_grows c j None k h
+grows c Begin k h = h
+grows c Ping k h = h
+grows c (Faulty refusal) k h = h
+grows c Commit k h = h
+grows c Abort k h = h
+
+all_grow : (c : PrivateCopy) (qs : List Operation) (k : Bytes) → is_covered c.marks k ≡ true → is_covered (copy_after c qs).marks k ≡ true
+all_grow c [] k h = h
+all_grow c (q ∷ qs) k h = all_grow (respond c q).1 qs k (grows c q k h)
+
+-- ---- a read
+
+read_held : (c : PrivateCopy) (mark : Mark) (r : Response) → list_any (is_same_mark mark) c.marks ≡ true → after_read c mark r ≡ (r, c)
+read_held c mark r h = ap (λ b. cond {A = Response × PrivateCopy} b (r, c) (cond (nat_lt (length c.marks) 256) (r, record c { marks = c.marks ++ mark ∷ [] }) (Refused FullMarks, c))) h
+
+read_new : (c : PrivateCopy) (mark : Mark) (r : Response) (b : Bool) → list_any (is_same_mark mark) c.marks ≡ false → nat_lt (length c.marks) 256 ≡ b →
+    after_read c mark r ≡ cond b (r, record c { marks = c.marks ++ mark ∷ [] }) (Refused FullMarks, c)
+read_new c mark r b h g = ap (λ a. cond {A = Response × PrivateCopy} a (r, c) (cond (nat_lt (length c.marks) 256) (r, record c { marks = c.marks ++ mark ∷ [] }) (Refused FullMarks, c))) h
+    ∙ ap (λ a. cond {A = Response × PrivateCopy} a (r, record c { marks = c.marks ++ mark ∷ [] }) (Refused FullMarks, c)) g
 
 module _ (m n : KeyMap) where
   -- a request that changes nothing
-  stays : (c d : KeyMap) (ws : List Bytes) (marks : List Mark) → Alike m n c d ws → (r s : Response) → (AgreeOn m n marks → r ≡ s) →
-      Stepped m n marks (r, copy c ws marks) (s, copy d ws marks)
-  stays c d ws marks a r s e = record { left = c; right = d; ws = ws; held = marks; left_is = refl; right_is = refl; alike = a; same = e; grows = λ k h. h }
+  stays : (c d : KeyMap) (ws : List Bytes) (marks : List Mark) → Alike m n c d ws → (r s : Response) → r ≡ s →
+      Stepped m n (r, copy c ws marks) (s, copy d ws marks)
+  stays c d ws marks a r s e = record { left = c; right = d; ws = ws; held = marks; left_is = refl; right_is = refl; alike = a; same = e }
 
-  read_step : (c d : KeyMap) (ws : List Bytes) (marks : List Mark) → Alike m n c d ws → (mark : Mark) (r s : Response) →
-      (((k : Bytes) → covers mark k ≡ true → value_at m k ≡ value_at n k) → r ≡ s) →
-      Stepped m n marks (after_read (copy c ws marks) mark r) (after_read (copy d ws marks) mark s)
-  read_step c d ws marks a mark r s e =
-      elim (list_any (is_same_mark mark) marks) as (λ b. list_any (is_same_mark mark) marks ≡ b →
-      Stepped m n marks
-      (cond b (r, copy c ws marks) (cond (nat_lt (length marks) 256) (r, copy c ws (marks ++ mark ∷ [])) (Refused FullMarks, copy c ws marks)))
-      (cond b (s, copy d ws marks) (cond (nat_lt (length marks) 256) (s, copy d ws (marks ++ mark ∷ [])) (Refused FullMarks, copy d ws marks)))) [
-        | true ↦ λ h. stays c d ws marks a r s (λ agree. e (λ k t. agree k (covered_by_held mark marks k h t)))
-        | false ↦ λ h. elim (nat_lt (length marks) 256) as (λ b.
-            Stepped m n marks (cond b (r, copy c ws (marks ++ mark ∷ [])) (Refused FullMarks, copy c ws marks)) (cond b (s, copy d ws (marks ++ mark ∷ [])) (Refused FullMarks, copy d ws marks))) [
-              | true ↦ record {
-                left = c;
-                right = d;
-                ws = ws;
-                held = marks ++ mark ∷ [];
-                left_is = refl;
-                right_is = refl;
-                alike = a;
-                same = λ agree. e (λ k t. agree k (covered_new mark marks k t));
-                grows = λ k t. covered_before mark marks k t;
-              }
-              | false ↦ stays c d ws marks a (Refused FullMarks) (Refused FullMarks) (λ _. refl)
-            ]
-      ] refl
+  -- the marks that the two copies ask for are one where the maps agree on either
+  read_step : (c d : KeyMap) (ws : List Bytes) (marks : List Mark) → Alike m n c d ws → (mark other : Mark) (r s : Response) →
+      (((k : Bytes) → covers mark k ≡ true → value_at m k ≡ value_at n k) → (mark ≡ other) × (r ≡ s)) →
+      (((k : Bytes) → covers other k ≡ true → value_at m k ≡ value_at n k) → mark ≡ other) →
+      AgreeOn m n (after_read (copy c ws marks) mark r).1.marks →
+      Stepped m n (after_read (copy c ws marks) mark r) (after_read (copy d ws marks) other s)
+  read_step c d ws marks a mark other r s first second agree =
+      elim (cases_Bool (list_any (is_same_mark mark) marks)) [
+        | inl h ↦
+            let left = read_held (copy c ws marks) mark r h in
+            let on : AgreeOn m n marks = λ k t. agree k (ap (λ (x : Response × PrivateCopy). is_covered x.1.marks k) left ∙ t) in
+            let e = first (λ k t. on k (covered_by_held mark marks k h t)) in
+            let right = read_held (copy d ws marks) other s (ap (λ x. list_any (is_same_mark x) marks) (sym e.0) ∙ h) in
+            both_are left right (stays c d ws marks a r s e.1)
+        | inr h ↦ elim (cases_Bool (nat_lt (length marks) 256)) [
+          | inl g ↦
+              let left = read_new (copy c ws marks) mark r true h g in
+              let on : AgreeOn m n (marks ++ mark ∷ []) = λ k t. agree k (ap (λ (x : Response × PrivateCopy). is_covered x.1.marks k) left ∙ t) in
+              let e = first (λ k t. on k (covered_new mark marks k t)) in
+              let right = read_new (copy d ws marks) other s true (ap (λ x. list_any (is_same_mark x) marks) (sym e.0) ∙ h) g in
+              both_are left (right ∙ (λ i. (s, copy d ws (marks ++ sym e.0 i ∷ [])))) (stays c d ws (marks ++ mark ∷ []) a r s e.1)
+          | inr g ↦
+              let left = read_new (copy c ws marks) mark r false h g in
+              let on : AgreeOn m n marks = λ k t. agree k (ap (λ (x : Response × PrivateCopy). is_covered x.1.marks k) left ∙ t) in
+              elim (cases_Bool (list_any (is_same_mark other) marks)) [
+                | inl t ↦ absurd (both_ways _ h (ap (λ x. list_any (is_same_mark x) marks) (second (λ k u. on k (covered_by_held other marks k t u))) ∙ t))
+                | inr t ↦ both_are left (read_new (copy d ws marks) other s false t g) (stays c d ws marks a (Refused FullMarks) (Refused FullMarks) refl)
+              ]
+        ]
+      ]
+    where
+      both_are : {x x' y y' : Response × PrivateCopy} → x ≡ x' → y ≡ y' → Stepped m n x' y' → Stepped m n x y
+      both_are {x} {x'} {y} {y'} e f st = subst (λ z. Stepped m n z y) (sym e) (subst (λ z. Stepped m n x' z) (sym f) st)
 
   put_alike : (c d : KeyMap) (ws vs : List Bytes) (k : Bytes) (v : Option Bytes) → Alike m n c d ws →
       ((q : Bytes) → list_any (is_same_key q) vs ≡ true → is_same_key q k ≡ false → list_any (is_same_key q) ws ≡ true) →
@@ -129,21 +197,21 @@ module _ (m n : KeyMap) where
       ] refl
 
   put_step : (c d : KeyMap) (ws : List Bytes) (marks : List Mark) → Alike m n c d ws → (k : Bytes) (v : Option Bytes) →
-      Stepped m n marks (after_put (copy c ws marks) k v) (after_put (copy d ws marks) k v)
+      Stepped m n (after_put (copy c ws marks) k v) (after_put (copy d ws marks) k v)
   put_step c d ws marks a k v =
       elim (list_any (is_same_key k) ws) as (λ b. list_any (is_same_key k) ws ≡ b →
-      Stepped m n marks
+      Stepped m n
       (cond b (Done, copy (after_write c k v) ws marks) (cond (nat_lt (length ws) 64) (Done, copy (after_write c k v) (insert_key (slice_cmp nat_cmp) ws k) marks) (Refused FullWrites, copy c ws marks)))
       (cond b (Done, copy (after_write d k v) ws marks) (cond (nat_lt (length ws) 64) (Done, copy (after_write d k v) (insert_key (slice_cmp nat_cmp) ws k) marks) (Refused FullWrites, copy d ws marks)))) [
-        | true ↦ λ h. stays (after_write c k v) (after_write d k v) ws marks (put_alike c d ws ws k v a (λ q t e. t) (λ q f. (apart_keys q k ws f h, f))) Done Done (λ _. refl)
+        | true ↦ λ h. stays (after_write c k v) (after_write d k v) ws marks (put_alike c d ws ws k v a (λ q t e. t) (λ q f. (apart_keys q k ws f h, f))) Done Done refl
         | false ↦ λ h. elim (nat_lt (length ws) 64) as (λ b.
-            Stepped m n marks (cond b (Done, copy (after_write c k v) (insert_key (slice_cmp nat_cmp) ws k) marks) (Refused FullWrites, copy c ws marks)) (cond b (Done, copy (after_write d k v) (insert_key (slice_cmp nat_cmp) ws k) marks) (Refused FullWrites, copy d ws marks))) [
+            Stepped m n (cond b (Done, copy (after_write c k v) (insert_key (slice_cmp nat_cmp) ws k) marks) (Refused FullWrites, copy c ws marks)) (cond b (Done, copy (after_write d k v) (insert_key (slice_cmp nat_cmp) ws k) marks) (Refused FullWrites, copy d ws marks))) [
               | true ↦ stays (after_write c k v) (after_write d k v) (insert_key (slice_cmp nat_cmp) ws k) marks
                   (put_alike c d ws (insert_key (slice_cmp nat_cmp) ws k) k v a
                   (λ q t e. elim (or_cases (is_same_key q k) (list_any (is_same_key q) ws) (sym (any-insert_key q k ws) ∙ t)) [ inl s ↦ absurd (both_ways _ e s) | inr s ↦ s ])
                   (λ q f. or_parts (is_same_key q k) (list_any (is_same_key q) ws) (sym (any-insert_key q k ws) ∙ f)))
-                  Done Done (λ _. refl)
-              | false ↦ stays c d ws marks a (Refused FullWrites) (Refused FullWrites) (λ _. refl)
+                  Done Done refl
+              | false ↦ stays c d ws marks a (Refused FullWrites) (Refused FullWrites) refl
             ]
       ] refl
 
@@ -154,36 +222,42 @@ module _ (m n : KeyMap) where
     | inr h ↦ a.kept_left q h ∙ e ∙ sym (a.kept_right q h)
   ]
 
-  stepped : (c d : KeyMap) (ws : List Bytes) (marks : List Mark) → Alike m n c d ws → (q : Operation) →
-      Stepped m n marks (respond (copy c ws marks) q) (respond (copy d ws marks) q)
-  stepped c d ws marks a (Get k) =
+  stepped : (c d : KeyMap) (ws : List Bytes) (marks : List Mark) → Alike m n c d ws → (q : Operation) → AgreeOn m n (respond (copy c ws marks) q).1.marks →
+      Stepped m n (respond (copy c ws marks) q) (respond (copy d ws marks) q)
+  stepped c d ws marks a (Get k) agree =
       elim (list_any (is_same_key k) ws) as (λ b. list_any (is_same_key k) ws ≡ b →
-      Stepped m n marks
+      AgreeOn m n (cond {A = Response × PrivateCopy} b (Value (value_at c k), copy c ws marks) (after_read (copy c ws marks) (OfKey k) (Value (value_at c k)))).1.marks →
+      Stepped m n
       (cond b (Value (value_at c k), copy c ws marks) (after_read (copy c ws marks) (OfKey k) (Value (value_at c k))))
       (cond b (Value (value_at d k), copy d ws marks) (after_read (copy d ws marks) (OfKey k) (Value (value_at d k))))) [
-        | true ↦ λ h. stays c d ws marks a (Value (value_at c k)) (Value (value_at d k)) (λ _. ap (λ o. Value o) (a.written k h))
-        | false ↦ λ h. read_step c d ws marks a (OfKey k) (Value (value_at c k)) (Value (value_at d k)) (λ agree. ap (λ o. Value o) (same_value c d ws a k (agree k (same_key_itself k))))
-      ] refl
-  stepped c d ws marks a (Range lo hi limit) =
+        | true ↦ λ h on. stays c d ws marks a (Value (value_at c k)) (Value (value_at d k)) (ap (λ o. Value o) (a.written k h))
+        | false ↦ λ h on. read_step c d ws marks a (OfKey k) (OfKey k) (Value (value_at c k)) (Value (value_at d k))
+            (λ e. (refl, ap (λ o. Value o) (same_value c d ws a k (e k (same_key_itself k))))) (λ _. refl) on
+      ] refl agree
+  stepped c d ws marks a (Range lo hi limit) agree =
       elim (is_empty_range lo hi) as (λ b.
-      Stepped m n marks
-      (cond b (Pairs [], copy c ws marks) (after_read (copy c ws marks) (OfRange lo hi) (Pairs (take limit (pairs_in_range c lo hi)))))
-      (cond b (Pairs [], copy d ws marks) (after_read (copy d ws marks) (OfRange lo hi) (Pairs (take limit (pairs_in_range d lo hi)))))) [
-        | true ↦ stays c d ws marks a (Pairs []) (Pairs []) (λ _. refl)
-        | false ↦ read_step c d ws marks a (OfRange lo hi) (Pairs (take limit (pairs_in_range c lo hi))) (Pairs (take limit (pairs_in_range d lo hi)))
-            (λ agree. ap (λ es. Pairs (take limit es)) (same_pairs c d lo hi a.is_map_left a.is_map_right (λ q t. same_value c d ws a q (agree q t))))
-      ]
-  stepped c d ws marks a (Set k v) = put_step c d ws marks a k (Some v)
-  stepped c d ws marks a (Del k) = put_step c d ws marks a k None
-  stepped c d ws marks a Begin = stays c d ws marks a (Refused AlreadyOpen) (Refused AlreadyOpen) (λ _. refl)
-  stepped c d ws marks a Ping = stays c d ws marks a Pong Pong (λ _. refl)
-  stepped c d ws marks a (Faulty refusal) = stays c d ws marks a (Refused refusal) (Refused refusal) (λ _. refl)
-  stepped c d ws marks a Commit = stays c d ws marks a (Refused NotOpen) (Refused NotOpen) (λ _. refl)
-  stepped c d ws marks a Abort = stays c d ws marks a (Refused NotOpen) (Refused NotOpen) (λ _. refl)
+      AgreeOn m n (cond {A = Response × PrivateCopy} b (Pairs [], copy c ws marks) (after_read (copy c ws marks) (mark_of_reply lo hi limit (take limit (pairs_in_range c lo hi))) (Pairs (take limit (pairs_in_range c lo hi))))).1.marks →
+      Stepped m n
+      (cond b (Pairs [], copy c ws marks) (after_read (copy c ws marks) (mark_of_reply lo hi limit (take limit (pairs_in_range c lo hi))) (Pairs (take limit (pairs_in_range c lo hi)))))
+      (cond b (Pairs [], copy d ws marks) (after_read (copy d ws marks) (mark_of_reply lo hi limit (take limit (pairs_in_range d lo hi))) (Pairs (take limit (pairs_in_range d lo hi)))))) [
+        | true ↦ λ on. stays c d ws marks a (Pairs []) (Pairs []) refl
+        | false ↦ λ on. read_step c d ws marks a (mark_of_reply lo hi limit (take limit (pairs_in_range c lo hi))) (mark_of_reply lo hi limit (take limit (pairs_in_range d lo hi)))
+            (Pairs (take limit (pairs_in_range c lo hi))) (Pairs (take limit (pairs_in_range d lo hi)))
+            (λ e. let same = same_taken c d lo hi limit a.is_map_left a.is_map_right (λ k t. same_value c d ws a k (e k t)) in (ap (mark_of_reply lo hi limit) same, ap (λ es. Pairs es) same))
+            (λ e. let same = same_taken d c lo hi limit a.is_map_right a.is_map_left (λ k t. sym (same_value c d ws a k (e k t))) in ap (mark_of_reply lo hi limit) (sym same))
+            on
+      ] agree
+  stepped c d ws marks a (Set k v) agree = put_step c d ws marks a k (Some v)
+  stepped c d ws marks a (Del k) agree = put_step c d ws marks a k None
+  stepped c d ws marks a Begin agree = stays c d ws marks a (Refused AlreadyOpen) (Refused AlreadyOpen) refl
+  stepped c d ws marks a Ping agree = stays c d ws marks a Pong Pong refl
+  stepped c d ws marks a (Faulty refusal) agree = stays c d ws marks a (Refused refusal) (Refused refusal) refl
+  stepped c d ws marks a Commit agree = stays c d ws marks a (Refused NotOpen) (Refused NotOpen) refl
+  stepped c d ws marks a Abort agree = stays c d ws marks a (Refused NotOpen) (Refused NotOpen) refl
 
   -- ---- a whole transaction
 
-  record Run (marks : List Mark) (x y : PrivateCopy) (rs ss : List Response) : Type 0 where
+  record Run (x y : PrivateCopy) (rs ss : List Response) : Type 0 where
     left : KeyMap
     right : KeyMap
     ws : List Bytes
@@ -191,15 +265,14 @@ module _ (m n : KeyMap) where
     left_is : x ≡ copy left ws held
     right_is : y ≡ copy right ws held
     alike : Alike m n left right ws
-    same : AgreeOn m n held → rs ≡ ss
-    grows : (k : Bytes) → is_covered marks k ≡ true → is_covered held k ≡ true
+    same : rs ≡ ss
 
-  run : (c d : KeyMap) (ws : List Bytes) (marks : List Mark) → Alike m n c d ws → (qs : List Operation) →
-      Run marks (copy_after (copy c ws marks) qs) (copy_after (copy d ws marks) qs) (responses (copy c ws marks) qs) (responses (copy d ws marks) qs)
-  run c d ws marks a [] = record { left = c; right = d; ws = ws; held = marks; left_is = refl; right_is = refl; alike = a; same = λ _. refl; grows = λ k h. h }
-  run c d ws marks a (q ∷ qs) =
-      let s = stepped c d ws marks a q in
-      let rest = run s.left s.right s.ws s.held s.alike qs in
+  run : (c d : KeyMap) (ws : List Bytes) (marks : List Mark) → Alike m n c d ws → (qs : List Operation) → AgreeOn m n (copy_after (copy c ws marks) qs).marks →
+      Run (copy_after (copy c ws marks) qs) (copy_after (copy d ws marks) qs) (responses (copy c ws marks) qs) (responses (copy d ws marks) qs)
+  run c d ws marks a [] agree = record { left = c; right = d; ws = ws; held = marks; left_is = refl; right_is = refl; alike = a; same = refl }
+  run c d ws marks a (q ∷ qs) agree =
+      let s = stepped c d ws marks a q (λ k h. agree k (all_grow (respond (copy c ws marks) q).1 qs k h)) in
+      let rest = run s.left s.right s.ws s.held s.alike qs (λ k h. agree k (ap (λ x. is_covered (copy_after x qs).marks k) s.left_is ∙ h)) in
       record {
         left = rest.left;
         right = rest.right;
@@ -208,28 +281,27 @@ module _ (m n : KeyMap) where
         left_is = ap (λ x. copy_after x qs) s.left_is ∙ rest.left_is;
         right_is = ap (λ x. copy_after x qs) s.right_is ∙ rest.right_is;
         alike = rest.alike;
-        same = λ agree.
-            let head = s.same (λ k h. agree k (rest.grows k h)) in
-            let tail : responses (respond (copy c ws marks) q).1 qs ≡ responses (respond (copy d ws marks) q).1 qs = ap (λ x. responses x qs) s.left_is ∙ rest.same agree ∙ ap (λ x. responses x qs) (sym s.right_is) in
+        same =
+            let head = s.same in
+            let tail : responses (respond (copy c ws marks) q).1 qs ≡ responses (respond (copy d ws marks) q).1 qs = ap (λ x. responses x qs) s.left_is ∙ rest.same ∙ ap (λ x. responses x qs) (sym s.right_is) in
             λ i. head i ∷ tail i;
-        grows = λ k h. rest.grows k (s.grows k h);
       }
 
 values_alike : (c d : KeyMap) (ks : List Bytes) → AllByRecursion (λ k. value_at c k ≡ value_at d k) ks → values_at c ks ≡ values_at d ks
 values_alike c d [] h = refl
 values_alike c d (k ∷ ks) h = let rest = values_alike c d ks h.1 in λ i. (k, h.0 i) ∷ rest i
 
--- what the replay of the transaction on n gives, where its record says what it did on m
+-- what the replay of the transaction on n gives, where its record says what it did on m and the maps agree on what it read
 pub record Replayed (m n : KeyMap) (qs : List Operation) : Type 0 where
-  pub replies : ((k : Bytes) → is_covered (reads m qs) k ≡ true → value_at m k ≡ value_at n k) → responses (copy_of m) qs ≡ responses (copy_of n) qs
+  pub replies : responses (copy_of m) qs ≡ responses (copy_of n) qs
   pub contents : (copy_after (copy_of n) qs).contents ≡ after_writes n (writes m qs)
 
-pub replayed : (m n : KeyMap) (qs : List Operation) → IsMap m → IsMap n → Replayed m n qs
-replayed m n qs m_is n_is = from (run m n m n [] [] (record { is_map_left = m_is; is_map_right = n_is; written = λ q h. cc; kept_left = λ q h. refl; kept_right = λ q h. refl }) qs)
+pub replayed : (m n : KeyMap) (qs : List Operation) → IsMap m → IsMap n → ((k : Bytes) → is_covered (reads m qs) k ≡ true → value_at m k ≡ value_at n k) → Replayed m n qs
+replayed m n qs m_is n_is agree = from (run m n m n [] [] (record { is_map_left = m_is; is_map_right = n_is; written = λ q h. cc; kept_left = λ q h. refl; kept_right = λ q h. refl }) qs agree)
   where
-    from : Run m n [] (copy_after (copy_of m) qs) (copy_after (copy_of n) qs) (responses (copy_of m) qs) (responses (copy_of n) qs) → Replayed m n qs
+    from : Run m n (copy_after (copy_of m) qs) (copy_after (copy_of n) qs) (responses (copy_of m) qs) (responses (copy_of n) qs) → Replayed m n qs
     from r = record {
-      replies = λ agree. r.same (λ k h. agree k (ap (λ (x : PrivateCopy). is_covered x.marks k) r.left_is ∙ h));
+      replies = r.same;
       contents = ap (λ (x : PrivateCopy). x.contents) r.right_is ∙ maps ∙ ap (after_writes n) (sym (ap (λ (x : PrivateCopy). values_at x.contents x.written) r.left_is ∙ refl));
     }
       where

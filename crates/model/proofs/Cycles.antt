@@ -1,12 +1,13 @@
--- Each cycle of dependencies has a pivot, if no two concurrent transactions write one key.
+-- Each cycle of dependencies has a pivot, and a dangerous one, if no two concurrent transactions write one key.
 use Rattle.std.proofs.Common.{◌≡◌, ◌≢◌, ◌⊎◌, ◌<◌, ◌≤◌, ◌||◌, List, [], ◌∷◌, ◌++◌, refl, sym, ap, subst, ◌∙◌, length, length-append, arith, inl, inr}
-use Rattle.std.specs.Prelude.{IsTrue, All, Contains, ⊤, take}
-use Rattle.std.specs.List.{AllByRecursion}
-use Rattle.std.proofs.lemmas.Bool.{ltb-true, leb-true, lt-ltb, or_cases, and_parts, and_from, cases_lt}
+use Rattle.std.specs.Prelude.{IsTrue, All, Contains, ⊤, take, ◌==◌}
+use Rattle.std.specs.List.{AllByRecursion, list_any}
+use Rattle.std.proofs.lemmas.Bool.{ltb-true, leb-true, eqb-false, not-true, le-leb, lt-ltb, or_cases, and_parts, and_from, cases_lt}
 use Rattle.std.proofs.lemmas.List.Elements.{All-contains, All-contains_itself, recursion_from_All, All-from_recursion}
 use Rattle.model.specs.History.{Record}
-use Rattle.model.specs.Dependency.{is_concurrent, write_alike, reads_from, write_write_dependency, write_read_dependency, read_write_dependency, dependency, concurrent_read_write, NoConcurrentWriters}
-use Rattle.model.specs.Cycle.{IsPath, IsCycle, PivotInCycle, CycleLaw}
+use Rattle.model.specs.Dependency.{is_concurrent, write_alike, reads_from, write_write_dependency, write_read_dependency, read_write_dependency, dependency, concurrent_read_write, makes_pivot, is_pivot, makes_dangerous_pivot, is_dangerous_pivot, NoConcurrentWriters}
+use Rattle.model.specs.Cycle.{IsPath, IsCycle, PivotInCycle, CycleLaw, DangerousPivotLaw, DangerousCycleLaw}
+use Rattle.model.proofs.Members.{In, in_from_Contains, any_from_in, Witness, any_witness}
 
 -- ---- what the tests say
 
@@ -37,6 +38,9 @@ dependency_cases a b h =
       | inl h' ↦ elim (or_cases (write_write_dependency a b) (write_read_dependency a b) h') [ inl g ↦ inl (write_write_parts a b g) | inr g ↦ inr (inl (write_read_parts a b g)) ]
       | inr g ↦ inr (inr g)
     ]
+
+pub read_write_differs : (a b : Record) → IsTrue (read_write_dependency a b) → a.commit ≢ b.commit
+read_write_differs a b h = eqb-false a.commit b.commit (not-true (a.commit == b.commit) (and_parts _ _ h).1)
 
 -- ---- the dependencies next to the one that commits first
 
@@ -152,9 +156,9 @@ AllByRecursion-parts P (x ∷ xs) ys h = let p = AllByRecursion-parts P xs ys h.
 
 -- ---- the law
 
-in_cycle : (history cycle : List Record) → All (λ r. r.begin < r.commit) history → NoConcurrentWriters history → All (Contains history) cycle →
-    (f : First (Contains cycle) (cycle ++ take 2 cycle) cycle) → PivotInCycle cycle
-in_cycle history cycle begins apart are f =
+pivot_of : (history cycle : List Record) → All (λ r. r.begin < r.commit) history → NoConcurrentWriters history → All (Contains history) cycle →
+    (f : First (Contains cycle) (cycle ++ take 2 cycle) cycle) → IsTrue (makes_pivot f.before f.pivot f.after)
+pivot_of history cycle begins apart are f =
     let first : All (λ r. f.after.commit ≤ r.commit) cycle = All-from_recursion (λ r. f.after.commit ≤ r.commit) cycle f.first in
     let x_is : Contains history f.before = All-contains (Contains history) cycle f.before are f.before_is in
     let p_is : Contains history f.pivot = All-contains (Contains history) cycle f.pivot are f.pivot_is in
@@ -165,14 +169,49 @@ in_cycle history cycle begins apart are f =
     let y_before_x : f.after.commit ≤ f.before.commit = All-contains (λ r. f.after.commit ≤ r.commit) cycle f.before first f.before_is in
     let out : IsTrue (concurrent_read_write f.pivot f.after) = dependency_out f.pivot f.after y_begins y_first f.out in
     let since : f.pivot.begin < f.after.commit = read_write_begins f.pivot f.after (and_parts _ _ out).0 in
-    record {
-      before = f.before;
-      pivot = f.pivot;
-      after = f.after;
-      in_row = (f.front, f.back, f.stand);
-      makes = and_from _ _ (dependency_in f.before f.pivot x_begins (omega arith) (apart f.before f.pivot x_is p_is) f.into) out;
-      first = first;
-    }
+    and_from _ _ (dependency_in f.before f.pivot x_begins (omega arith) (apart f.before f.pivot x_is p_is) f.into) out
+
+in_cycle : (history cycle : List Record) → All (λ r. r.begin < r.commit) history → NoConcurrentWriters history → All (Contains history) cycle →
+    (f : First (Contains cycle) (cycle ++ take 2 cycle) cycle) → PivotInCycle cycle
+in_cycle history cycle begins apart are f = record {
+  before = f.before;
+  pivot = f.pivot;
+  after = f.after;
+  in_row = (f.front, f.back, f.stand);
+  makes = pivot_of history cycle begins apart are f;
+  first = All-from_recursion (λ r. f.after.commit ≤ r.commit) cycle f.first;
+}
+
+dangerous_in_cycle : (history cycle : List Record) → All (λ r. r.begin < r.commit) history → NoConcurrentWriters history → All (Contains history) cycle →
+    First (Contains cycle) (cycle ++ take 2 cycle) cycle → (p : Record) × Contains cycle p × IsTrue (is_dangerous_pivot history p)
+dangerous_in_cycle history cycle begins apart are f = (f.pivot, f.pivot_is, dangerous)
+  where
+    first : All (λ r. f.after.commit ≤ r.commit) cycle
+    first = All-from_recursion (λ r. f.after.commit ≤ r.commit) cycle f.first
+
+    makes : IsTrue (makes_pivot f.before f.pivot f.after)
+    makes = pivot_of history cycle begins apart are f
+
+    before_pivot : f.after.commit < f.pivot.commit
+    before_pivot =
+        let le : f.after.commit ≤ f.pivot.commit = All-contains (λ r. f.after.commit ≤ r.commit) cycle f.pivot first f.pivot_is in
+        let out : IsTrue (concurrent_read_write f.pivot f.after) = (and_parts (concurrent_read_write f.before f.pivot) (concurrent_read_write f.pivot f.after) makes).1 in
+        let apart : f.pivot.commit ≢ f.after.commit = read_write_differs f.pivot f.after (and_parts (read_write_dependency f.pivot f.after) (is_concurrent f.pivot f.after) out).0 in
+        omega arith
+
+    up_to_source : f.after.commit ≤ f.before.commit
+    up_to_source = All-contains (λ r. f.after.commit ≤ r.commit) cycle f.before first f.before_is
+
+    x_in : In f.before history
+    x_in = in_from_Contains history f.before (All-contains (Contains history) cycle f.before are f.before_is)
+
+    y_in : In f.after history
+    y_in = in_from_Contains history f.after (All-contains (Contains history) cycle f.after are f.after_is)
+
+    dangerous : IsTrue (is_dangerous_pivot history f.pivot)
+    dangerous = any_from_in (λ x. list_any (λ y. makes_dangerous_pivot x f.pivot y) history) history f.before x_in
+        (any_from_in (λ y. makes_dangerous_pivot f.before f.pivot y) history f.after y_in
+        (and_from _ _ makes (and_from _ _ (lt-ltb f.after.commit f.pivot.commit before_pivot) (le-leb f.after.commit f.before.commit up_to_source))))
 
 -- the cycle's records in the row that goes round once and on to the second
 round : (a b : Record) (rs : List Record) → IsCycle (a ∷ b ∷ rs) → First (Contains (a ∷ b ∷ rs)) (a ∷ b ∷ (rs ++ a ∷ b ∷ [])) (a ∷ b ∷ rs)
@@ -214,3 +253,15 @@ pub cycle_law : CycleLaw
 cycle_law history [] rise begins apart are cyclic = absurd cyclic
 cycle_law history (a ∷ []) rise begins apart are cyclic = absurd cyclic
 cycle_law history (a ∷ b ∷ rs) rise begins apart are cyclic = in_cycle history (a ∷ b ∷ rs) begins apart are (round a b rs cyclic)
+
+pub dangerous_cycle_law : DangerousCycleLaw
+dangerous_cycle_law history [] rise begins apart are cyclic = absurd cyclic
+dangerous_cycle_law history (a ∷ []) rise begins apart are cyclic = absurd cyclic
+dangerous_cycle_law history (a ∷ b ∷ rs) rise begins apart are cyclic = dangerous_in_cycle history (a ∷ b ∷ rs) begins apart are (round a b rs cyclic)
+
+pub dangerous_pivot_law : DangerousPivotLaw
+dangerous_pivot_law history p h =
+    let x = any_witness (λ x. list_any (λ y. makes_dangerous_pivot x p y) history) history h in
+    let y = any_witness (λ y. makes_dangerous_pivot x.at p y) history x.passes in
+    any_from_in (λ x. list_any (λ y. makes_pivot x p y) history) history x.at x.member
+    (any_from_in (λ y. makes_pivot x.at p y) history y.at y.member (and_parts (makes_pivot x.at p y.at) _ y.passes).0)

@@ -1,11 +1,11 @@
--- The machine keeps its history faithful, without pivots and without concurrent writers of one key.
+-- The machine keeps its history faithful, without dangerous pivots and without concurrent writers of one key.
 use Rattle.std.proofs.Common.{◌≡◌, ◌⊎◌, ℕ, suc, ◌+◌, ◌-◌, ◌^◌, ◌<◌, ◌≤◌, Bool, true, false, cond, ◌&&◌, List, [], ◌∷◌, ◌++◌, Option, Some, None, refl, sym, ap, subst, ◌∙◌, length, length-append, arith, inl, inr}
 use Rattle.std.specs.Prelude.{not, IsTrue, nat_lt, nat_le, ◌==◌, find}
 use Rattle.std.specs.declared.cmp.Ordering.TheVariants.{Less, Equal, Greater}
 use Rattle.std.specs.Ordering.{nat_cmp, eq_by_cmp}
-use Rattle.std.specs.List.{list_any, AllByRecursion}
+use Rattle.std.specs.List.{AllByRecursion}
 use Rattle.std.specs.FinMap.Entries.{find as value_of, put, where_key, by_order}
-use Rattle.std.proofs.lemmas.Bool.{or_cases, and_parts, and_from, lt-leb, false_from_ne_true}
+use Rattle.std.proofs.lemmas.Bool.{and_parts, and_from, lt-leb, false_from_ne_true}
 use Rattle.std.proofs.lemmas.List.Elements.{All-contains, All-from_recursion}
 use Rattle.model.specs.declared.refusals.Refusal.{Refusal}
 use Rattle.model.specs.declared.refusals.Refusal.TheVariants.{PivotSelf, FullLog, StoreFault, StoreStopped, FullNumbers, FullTransactions}
@@ -15,13 +15,14 @@ use Rattle.model.specs.Operations.Operation.{Begin, Get, Set, Del, Range, Commit
 use Rattle.model.specs.Operations.Response.{Done, Refused}
 use Rattle.model.specs.PrivateCopy.{PrivateCopy, copy_of, copy_after, respond, responses, reads, writes}
 use Rattle.model.specs.History.{Record, record_of, map_at, IsNumberedFrom, IsFaithful, IsTrueRecord}
-use Rattle.model.specs.Dependency.{is_concurrent, writes_key, write_alike, is_pivot, NoConcurrentWriters}
-use Rattle.model.specs.Verdict.{verdict, is_overwritten, conflict_of, pivot_refusal, HasNoPivot}
+use Rattle.model.specs.Dependency.{is_concurrent, writes_key, write_alike, is_dangerous_pivot, NoConcurrentWriters}
+use Rattle.model.specs.Verdict.{verdict, is_overwritten, conflict_of, pivot_refusal, HasNoDangerousPivot}
 use Rattle.model.specs.Machine.{Running, State, Input, opened, last, snapshot, running_of, with_running, leave, record_to_commit, refuse, join_history, store, store_unless, body_sectors, commit, step_outside, own_step, step_inside, step_of, step, next, state_after}
 use Rattle.model.specs.Machine.Input.{Asks, Leaves}
 use Rattle.model.specs.Laws.{IsIsolated, IsSerializable, MachineLaw}
 use Rattle.model.proofs.Lookups.{same_key_comm}
-use Rattle.model.proofs.Members.{In, in_from_Contains, Contains-from_in, at_in, each_in, any_from_in, none_found}
+use Rattle.model.proofs.Members.{In, in_from_Contains, Contains-from_in, at_in, each_in, any_from_in, any_witness, none_found}
+use Rattle.model.proofs.Places.{places_rise}
 use Rattle.model.proofs.SerialOrders.{replay_law}
 
 -- ---- lists
@@ -31,19 +32,6 @@ in_append_cases [] y x h = elim h [ inl e ↦ inr e | inr g ↦ absurd g ]
 in_append_cases (z ∷ xs) y x h = elim h [
   | inl e ↦ inl (inl e)
   | inr g ↦ elim (in_append_cases xs y x g) [ inl g' ↦ inl (inr g') | inr e ↦ inr e ]
-]
-
--- an element that passes a test
-record Witness {X : Type 0} (p : X → Bool) (xs : List X) : Type 0 where
-  at : X
-  member : In at xs
-  passes : p at ≡ true
-
-any_witness : {X : Type 0} (p : X → Bool) (xs : List X) → list_any p xs ≡ true → Witness p xs
-any_witness p [] h = cc
-any_witness p (x ∷ xs) h = elim (or_cases (p x) (list_any p xs) h) [
-  | inl e ↦ record { at = x; member = inl refl; passes = e }
-  | inr g ↦ let w = any_witness p xs g in record { at = w.at; member = inr w.member; passes = w.passes }
 ]
 
 write_alike_comm : (a b : Record) → write_alike a b ≡ true → write_alike b a ≡ true
@@ -102,7 +90,7 @@ pub record IsTrueRunning (base : KeyMap) (history : List Record) (t : Running) :
 
 pub record Kept (base : KeyMap) (history : List Record) (running : List (ℕ × Running)) : Type 0 where
   pub faithful : IsFaithful base history
-  pub no_pivot : HasNoPivot history
+  pub no_pivot : HasNoDangerousPivot history
   pub apart : NoConcurrentWriters history
   pub open_true : AllByRecursion (λ e. IsTrueRunning base history e.1) running
 
@@ -110,22 +98,22 @@ pub record Kept (base : KeyMap) (history : List Record) (running : List (ℕ × 
 
 pub record IsClear (history : List Record) (r : Record) : Type 0 where
   pub not_overwritten : (w : KeyWrite) → In w r.writes → is_overwritten history r w.0 ≡ true → ⊥
-  pub self : is_pivot (history ++ r ∷ []) r ≡ false
-  pub others : (p : Record) → In p history → is_pivot (history ++ r ∷ []) p ≡ true → ⊥
+  pub self : is_dangerous_pivot (history ++ r ∷ []) r ≡ false
+  pub others : (p : Record) → In p history → is_dangerous_pivot (history ++ r ∷ []) p ≡ true → ⊥
 
 pub clear_from : (history : List Record) (r : Record) → verdict history r ≡ None → IsClear history r
 unfolding verdict
 clear_from history r e = by (find (λ w. is_overwritten history r w.0) r.writes) refl e
   where
-    with_pivots : ((w : KeyWrite) → In w r.writes → is_overwritten history r w.0 ≡ true → ⊥) → (b : Bool) → is_pivot (history ++ r ∷ []) r ≡ b →
-        (o : Option Record) → find (is_pivot (history ++ r ∷ [])) history ≡ o → cond b (Some PivotSelf) (pivot_refusal o) ≡ None → IsClear history r
+    with_pivots : ((w : KeyWrite) → In w r.writes → is_overwritten history r w.0 ≡ true → ⊥) → (b : Bool) → is_dangerous_pivot (history ++ r ∷ []) r ≡ b →
+        (o : Option Record) → find (is_dangerous_pivot (history ++ r ∷ [])) history ≡ o → cond b (Some PivotSelf) (pivot_refusal o) ≡ None → IsClear history r
     with_pivots free true is o f h = cc
     with_pivots free false is (Some p) f h = cc
-    with_pivots free false is None f h = record { not_overwritten = free; self = is; others = none_found (is_pivot (history ++ r ∷ [])) history f }
+    with_pivots free false is None f h = record { not_overwritten = free; self = is; others = none_found (is_dangerous_pivot (history ++ r ∷ [])) history f }
 
-    by : (o : Option KeyWrite) → find (λ w. is_overwritten history r w.0) r.writes ≡ o → conflict_of o (cond (is_pivot (history ++ r ∷ []) r) (Some PivotSelf) (pivot_refusal (find (is_pivot (history ++ r ∷ [])) history))) ≡ None → IsClear history r
+    by : (o : Option KeyWrite) → find (λ w. is_overwritten history r w.0) r.writes ≡ o → conflict_of o (cond (is_dangerous_pivot (history ++ r ∷ []) r) (Some PivotSelf) (pivot_refusal (find (is_dangerous_pivot (history ++ r ∷ [])) history))) ≡ None → IsClear history r
     by (Some w) f h = cc
-    by None f h = with_pivots (none_found (λ w. is_overwritten history r w.0) r.writes f) (is_pivot (history ++ r ∷ []) r) refl (find (is_pivot (history ++ r ∷ [])) history) refl h
+    by None f h = with_pivots (none_found (λ w. is_overwritten history r w.0) r.writes f) (is_dangerous_pivot (history ++ r ∷ []) r) refl (find (is_dangerous_pivot (history ++ r ∷ [])) history) refl h
 
 module _ (base : KeyMap) (history : List Record) where
   true_after : (r : Record) → r.commit ≡ suc (length history) → (s : Record) → s.begin ≤ length history → IsTrueRecord base history s → IsTrueRecord base (history ++ r ∷ []) s
@@ -169,10 +157,10 @@ module _ (base : KeyMap) (history : List Record) where
     }
 
     module _ (clear : IsClear history joining) where
-      joined_no_pivot : HasNoPivot (history ++ joining ∷ [])
+      joined_no_pivot : HasNoDangerousPivot (history ++ joining ∷ [])
       joined_no_pivot p p_in = elim (in_append_cases history joining p (in_from_Contains (history ++ joining ∷ []) p p_in)) [
         | inl g ↦ false_from_ne_true _ (clear.others p g)
-        | inr e ↦ ap (is_pivot (history ++ joining ∷ [])) e ∙ clear.self
+        | inr e ↦ ap (is_dangerous_pivot (history ++ joining ∷ [])) e ∙ clear.self
       ]
 
       -- one that is concurrent with the new transaction has written none of its keys
@@ -303,5 +291,5 @@ machine_law st reached = from st (subst Sound (sym reached.is) (state_kept (open
         let law = replay_law st.base st.history k.faithful k.no_pivot k.apart in (
           All-from_recursion (λ e. e.1.replies ≡ responses (copy_of (snapshot st e.1)) e.1.requests) st.running
               (each_in (λ e. e.1.replies ≡ responses (copy_of (snapshot st e.1)) e.1.requests) st.running (λ e e_in. let is = at_in (λ f. IsTrueRunning st.base st.history f.1) st.running e k.open_true e_in in is.replies)),
-          record { faithful = k.faithful; no_pivot = k.no_pivot; apart = k.apart; replies = law.0; final_map = law.1 },
+          record { faithful = k.faithful; no_pivot = k.no_pivot; apart = k.apart; dependencies = places_rise st.base st.history k.faithful k.no_pivot k.apart; replies = law.0; final_map = law.1 },
         )

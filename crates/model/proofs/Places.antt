@@ -2,13 +2,13 @@
 use Rattle.std.proofs.Common.{◌≡◌, ◌≢◌, ◌⊎◌, ◌<◌, ◌≤◌, false, ◌&&◌, List, Option, Some, None, refl, ap, arith, inl, inr}
 use Rattle.std.specs.Prelude.{IsTrue, nat_lt, ◌==◌}
 use Rattle.std.specs.List.{list_any}
-use Rattle.std.proofs.lemmas.Bool.{ltb-true, eqb-false, eq-eqb, lt-ltb, or_left, or_right, and_parts, and_from, cases_lt, cases_Bool, cases_order, both_ways, not-true}
+use Rattle.std.proofs.lemmas.Bool.{le-leb, ltb-true, eq-eqb, lt-ltb, or_left, or_right, and_parts, and_from, cases_lt, cases_Bool, cases_order, both_ways}
 use Rattle.std.proofs.lemmas.List.Elements.{All-contains}
 use Rattle.model.specs.History.{Record, IsTrueRecord}
-use Rattle.model.specs.Dependency.{makes_pivot, is_concurrent, read_write_dependency, concurrent_read_write, is_pivot}
+use Rattle.model.specs.Dependency.{makes_dangerous_pivot, is_concurrent, read_write_dependency, concurrent_read_write, is_dangerous_pivot}
 use Rattle.model.specs.SerialOrder.{Place, is_before, place, place_before, first_overwriter}
 use Rattle.model.specs.Laws.{PlacesRise}
-use Rattle.model.proofs.Cycles.{concurrent_from, read_write_begins, dependency_cases}
+use Rattle.model.proofs.Cycles.{concurrent_from, read_write_begins, read_write_differs, dependency_cases}
 use Rattle.model.proofs.Members.{In, in_from_Contains, any_from_in, found, none_found, first_is_least, IsRising, rising_from_numbered}
 
 -- ---- where a transaction stands
@@ -82,14 +82,17 @@ over_from a b f since = elim (cases_lt b.begin a.commit) [
   | inr h ↦ h
 ]
 
-read_write_differs : (a b : Record) → IsTrue (read_write_dependency a b) → a.commit ≢ b.commit
-read_write_differs a b h = eqb-false a.commit b.commit (not-true (a.commit == b.commit) (and_parts _ _ h).1)
-
-concurrent_rise : (history : List Record) → IsRising history → (a b : Record) → In a history → In b history → is_pivot history b ≡ false →
+concurrent_rise : (history : List Record) → IsRising history → (a b : Record) → In a history → In b history → is_dangerous_pivot history b ≡ false →
     IsTrue (read_write_dependency a b) → IsTrue (is_concurrent a b) → IsTrue (is_before (place history a) (place history b))
 concurrent_rise history rise a b a_in b_in no_pivot rw' conc =
     elim (stand_of history rise b) [
-      | inl s ↦ absurd (both_ways _ no_pivot (any_from_in (λ x. list_any (λ y. makes_pivot x b y) history) history a a_in (any_from_in (λ y. makes_pivot a b y) history s.other s.member (and_from _ _ dependency_in s.dependency))))
+      | inl s ↦ elim (cases_lt a.commit s.other.commit) [
+        | inl less ↦
+            let first : (place history b).first ≡ s.other.commit = ap (λ (p : Place). p.first) (place_of_before history b s) in
+            let low = first_le_commit history rise a in before_by_first (place history a) (place history b) (omega arith)
+        | inr le ↦ absurd (both_ways _ no_pivot (any_from_in (λ x. list_any (λ y. makes_dangerous_pivot x b y) history) history a a_in (any_from_in (λ y. makes_dangerous_pivot a b y) history s.other s.member
+            (and_from _ _ (and_from _ _ dependency_in s.dependency) (and_from _ _ (lt-ltb s.other.commit b.commit s.earlier) (le-leb s.other.commit a.commit le))))))
+      ]
       | inr s ↦
           let first : (place history b).first ≡ b.commit = ap (λ (p : Place). p.first) (place_at_commit history b s) in
           let second : (place history b).second ≡ 1 = ap (λ (p : Place). p.second) (place_at_commit history b s) in

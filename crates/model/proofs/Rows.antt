@@ -3,3 +3,4 @@ pub mod Words
 pub mod Snapshots
 pub mod Conflicts
 pub mod Limits
+pub mod Ranges

@@ -9,7 +9,7 @@ use Rattle.model.specs.Map.{Bytes, KeyMap, IsMap, value_at, after_writes}
 use Rattle.model.specs.PrivateCopy.{copy_of, copy_after, is_covered}
 use Rattle.model.specs.History.{Record, map_at, IsNumberedFrom, IsFaithful, IsTrueRecord}
 use Rattle.model.specs.Dependency.{writes_key, reads_key, write_alike, reads_from, write_write_dependency, write_read_dependency, read_write_dependency, dependency, NoConcurrentWriters}
-use Rattle.model.specs.Verdict.{HasNoPivot}
+use Rattle.model.specs.Verdict.{HasNoDangerousPivot}
 use Rattle.model.specs.SerialOrder.{Place, is_before, place, placed, by_place, serial_order, replay, ReplaysReplies}
 use Rattle.model.specs.Laws.{ReplayLaw}
 use Rattle.model.proofs.Members.{In, Contains-from_in, at_in, each_in, in_append_right, IsRising, rising_from_numbered}
@@ -191,7 +191,7 @@ numbered_below : (n m : ℕ) (rs : List Record) → IsNumberedFrom n rs → m �
 numbered_below n m [] h e = tt
 numbered_below n m (r ∷ rs) h e = (le-leb r.commit m (let c = h.0 in omega arith), numbered_below (suc n) m rs h.1 (omega arith))
 
-module _ (base : KeyMap) (history : List Record) (faithful : IsFaithful base history) (no_pivot : HasNoPivot history) (apart : NoConcurrentWriters history) where
+module _ (base : KeyMap) (history : List Record) (faithful : IsFaithful base history) (no_pivot : HasNoDangerousPivot history) (apart : NoConcurrentWriters history) where
   rising : IsRising history
   rising = rising_from_numbered 0 history faithful.numbered
 
@@ -306,8 +306,8 @@ module _ (base : KeyMap) (history : List Record) (faithful : IsFaithful base his
   walk front (t ∷ rest) split =
       let t_in : In t history = (AllByRecursion-parts (λ u. In u history) front (t ∷ rest) (subst (AllByRecursion (λ u. In u history)) split in_order)).1.0 in
       let is = true_record t t_in in
-      let here = replayed (map_at base history t.begin) (after_all base front) t.requests (IsMap-map_at t.begin) (IsMap-after_all base front faithful.is_map) in
-      let same = here.replies (λ k h. agrees front t rest split k (ap (λ ms. is_covered ms k) is.reads ∙ h)) in
+      let here = replayed (map_at base history t.begin) (after_all base front) t.requests (IsMap-map_at t.begin) (IsMap-after_all base front faithful.is_map) (λ k h. agrees front t rest split k (ap (λ ms. is_covered ms k) is.reads ∙ h)) in
+      let same = here.replies in
       let left : (copy_after (copy_of (after_all base front)) t.requests).contents ≡ after_all base (front ++ t ∷ []) =
       here.contents ∙ ap (after_writes (after_all base front)) (sym is.writes) ∙ sym (after_all-append base front (t ∷ [])) in
       let next = walk (front ++ t ∷ []) rest (split ∙ sym (append_assoc front (t ∷ []) rest)) in (

@@ -2,7 +2,7 @@
 -- (2005), here for this project's dependencies.
 use Rattle.std.specs.Prelude.{◌≡◌, ◌≤◌, ◌<◌, ◌++◌, ◌∷◌, [], List, IsTrue, All, AllPairs, Contains, take}
 use Rattle.model.specs.History.{Record}
-use Rattle.model.specs.Dependency.{dependency, makes_pivot, NoConcurrentWriters}
+use Rattle.model.specs.Dependency.{dependency, makes_pivot, is_pivot, is_dangerous_pivot, NoConcurrentWriters}
 
 -- a dependency from a to the first of rs, from each of rs to the next, and from the last to z
 abbrev pub IsPath : Record → List Record → Record → Type 0
@@ -33,3 +33,14 @@ abbrev pub CycleLaw : Type 0
 CycleLaw = (history cycle : List Record) →
     AllPairs (λ a b. a.commit < b.commit) history → All (λ r. r.begin < r.commit) history → NoConcurrentWriters history →
     All (Contains history) cycle → IsCycle cycle → PivotInCycle cycle
+
+-- a dangerous pivot is a pivot
+abbrev pub DangerousPivotLaw : Type 0
+DangerousPivotLaw = (history : List Record) (p : Record) → IsTrue (is_dangerous_pivot history p) → IsTrue (is_pivot history p)
+
+-- without concurrent writers of one key each cycle has a dangerous pivot
+abbrev pub DangerousCycleLaw : Type 0
+DangerousCycleLaw = (history cycle : List Record) →
+    AllPairs (λ a b. a.commit < b.commit) history → All (λ r. r.begin < r.commit) history → NoConcurrentWriters history →
+    All (Contains history) cycle → IsCycle cycle →
+    (p : Record) × Contains cycle p × IsTrue (is_dangerous_pivot history p)

@@ -1,6 +1,7 @@
 -- Which committed transactions are concurrent, and which depend on which. The three kinds of dependency are Adya's (1999); which pairs
 -- count is this project's profile. Concurrency is that of Fekete et al. (2005). The pivot is theirs, and that of Cahill, Röhm, Fekete
--- (2008): the middle of a dangerous structure.
+-- (2008): the middle of a dangerous structure. That a structure is dangerous only where its target committed first is the test of commit order
+-- of Ports and Grittner (2012).
 use Rattle.std.specs.Prelude.{◌≢◌, Bool, ◌&&◌, ◌||◌, not, List, Contains, nat_lt, nat_le, ◌==◌, IsTrue}
 use Rattle.std.specs.List.{list_any}
 use Rattle.model.specs.Map.{Bytes, is_same_key}
@@ -51,6 +52,14 @@ makes_pivot x p y = concurrent_read_write x p && concurrent_read_write p y
 -- whether some x and y of the history make p a pivot
 abbrev pub is_pivot : List Record → Record → Bool
 is_pivot history p = list_any (λ x. list_any (λ y. makes_pivot x p y) history) history
+
+-- a pivot whose target y committed before it, and not after x
+abbrev pub makes_dangerous_pivot : Record → Record → Record → Bool
+makes_dangerous_pivot x p y = makes_pivot x p y && (nat_lt y.commit p.commit && nat_le y.commit x.commit)
+
+-- whether some x and y of the history make p a dangerous pivot
+abbrev pub is_dangerous_pivot : List Record → Record → Bool
+is_dangerous_pivot history p = list_any (λ x. list_any (λ y. makes_dangerous_pivot x p y) history) history
 
 -- no two concurrent transactions write one key
 abbrev pub NoConcurrentWriters : List Record → Type 0

@@ -4,29 +4,30 @@ use Rattle.model.specs.Map.{KeyMap}
 use Rattle.model.specs.PrivateCopy.{copy_of, responses}
 use Rattle.model.specs.History.{Record, IsFaithful, map_at}
 use Rattle.model.specs.Dependency.{dependency, NoConcurrentWriters}
-use Rattle.model.specs.Verdict.{HasNoPivot}
+use Rattle.model.specs.Verdict.{HasNoDangerousPivot}
 use Rattle.model.specs.Machine.{State, IsReached, last, snapshot}
 use Rattle.model.specs.SerialOrder.{place, is_before, serial_order, replay, ReplaysReplies}
 
--- without pivots and concurrent writers of one key each dependency leads to a later place
+-- without dangerous pivots and concurrent writers of one key each dependency leads to a later place
 abbrev pub PlacesRise : Type 0
 PlacesRise = (base : KeyMap) (history : List Record) →
-    IsFaithful base history → HasNoPivot history → NoConcurrentWriters history →
+    IsFaithful base history → HasNoDangerousPivot history → NoConcurrentWriters history →
     (a b : Record) → Contains history a → Contains history b → IsTrue (dependency a b) →
     IsTrue (is_before (place history a) (place history b))
 
 -- then the transactions, run one at a time by their places, give the same replies and the same final map
 abbrev pub ReplayLaw : Type 0
 ReplayLaw = (base : KeyMap) (history : List Record) →
-    IsFaithful base history → HasNoPivot history → NoConcurrentWriters history →
+    IsFaithful base history → HasNoDangerousPivot history → NoConcurrentWriters history →
     ReplaysReplies base (serial_order history) × (replay base (serial_order history) ≡ map_at base history (length history))
 
--- the history is faithful, has no pivot and no concurrent writers of one key, and the committed transactions, run one at a time
--- in one order, give the same replies and the same final map
+-- the history is faithful, has no dangerous pivot and no concurrent writers of one key, each dependency leads to a later place, and the
+-- committed transactions, run one at a time by their places, give the same replies and the same final map
 pub record IsSerializable (st : State) : Type 0 where
   pub faithful : IsFaithful st.base st.history
-  pub no_pivot : HasNoPivot st.history
+  pub no_pivot : HasNoDangerousPivot st.history
   pub apart : NoConcurrentWriters st.history
+  pub dependencies : (a b : Record) → Contains st.history a → Contains st.history b → IsTrue (dependency a b) → IsTrue (is_before (place st.history a) (place st.history b))
   pub replies : ReplaysReplies st.base (serial_order st.history)
   pub final_map : replay st.base (serial_order st.history) ≡ map_at st.base st.history (last st)
 

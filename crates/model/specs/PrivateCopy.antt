@@ -1,24 +1,27 @@
 -- A transaction alone: its private copy of a map, as in snapshot isolation (Fekete et al. 2005), the keys that it has written, and
--- the marks of what it has read. The marks are this project's profile: a range marks all its keys, present or not.
-use Rattle.std.specs.Prelude.{◌∷◌, [], ◌++◌, List, Bool, true, false, ◌&&◌, length, take, Option, Some, None, nat_lt, if◌then◌else◌}
+-- the marks of what it has read. The marks are this project's profile: a range marks all its keys, present or not, up to the last key of a
+-- reply that reached its limit.
+use Rattle.std.specs.Prelude.{ℕ, ◌∷◌, [], ◌++◌, List, Bool, true, false, ◌&&◌, length, take, Option, Some, None, nat_lt, ◌==◌, if◌then◌else◌}
 use Rattle.std.specs.List.{list_any}
 use Rattle.std.specs.BTreeSet.{insert_key}
-use Rattle.std.specs.Ordering.{nat_cmp}
+use Rattle.std.specs.Ordering.{is_le, nat_cmp}
 use Rattle.std.specs.Cmp.Lexicographic.{slice_cmp}
 use Rattle.model.specs.declared.refusals.Refusal.TheVariants.{AlreadyOpen, NotOpen, FullWrites, FullMarks}
-use Rattle.model.specs.Map.{Bytes, is_same_key, KeyMap, KeyWrite, value_at, after_write, is_in_range, is_empty_range, pairs_in_range}
+use Rattle.model.specs.Map.{Bytes, key_cmp, is_same_key, KeyMap, KeyWrite, value_at, after_write, is_in_range, is_empty_range, pairs_in_range}
 use Rattle.model.specs.Operations.{Operation, Response}
 use Rattle.model.specs.Operations.Operation.{Begin, Get, Set, Del, Range, Commit, Abort, Ping, Faulty}
 use Rattle.model.specs.Operations.Response.{Done, Pong, Value, Pairs, Refused}
 
--- what a read marks: a key, or all keys of a range
+-- what a read marks: a key, all keys of a range, or those from a first to a last key, both included
 pub data Mark : Type 0 where
   OfKey : Bytes → Mark
   OfRange : Bytes → Option Bytes → Mark
+  OfClosedRange : Bytes → Bytes → Mark
 
 abbrev pub covers : Mark → Bytes → Bool
 covers (OfKey k) q = is_same_key k q
 covers (OfRange lo hi) q = is_in_range lo hi q
+covers (OfClosedRange lo last) q = is_le (key_cmp lo q) && is_le (key_cmp q last)
 
 -- whether some mark covers the key
 abbrev pub is_covered : List Mark → Bytes → Bool
@@ -29,10 +32,37 @@ is_same_end None None = true
 is_same_end (Some j) (Some k) = is_same_key j k
 is_same_end _ _ = false
 
+-- marks of two kinds are never the same
 abbrev pub is_same_mark : Mark → Mark → Bool
 is_same_mark (OfKey j) (OfKey k) = is_same_key j k
+is_same_mark (OfKey j) (OfRange lo hi) = false
+is_same_mark (OfKey j) (OfClosedRange lo last) = false
+is_same_mark (OfRange lo hi) (OfKey k) = false
 is_same_mark (OfRange lo hi) (OfRange lo' hi') = is_same_key lo lo' && is_same_end hi hi'
-is_same_mark _ _ = false
+is_same_mark (OfRange lo hi) (OfClosedRange lo' last) = false
+is_same_mark (OfClosedRange lo last) (OfKey k) = false
+is_same_mark (OfClosedRange lo last) (OfRange lo' hi) = false
+is_same_mark (OfClosedRange lo last) (OfClosedRange lo' last') = is_same_key lo lo' && is_same_key last last'
+
+-- the last key of the pairs
+abbrev pub last_key : List (Bytes × Bytes) → Option Bytes
+last_key [] = None
+last_key (e ∷ []) = Some e.0
+last_key (e ∷ f ∷ es) = last_key (f ∷ es)
+
+-- up to this last key, both ends included, where there is one
+abbrev pub mark_up_to : Bytes → Option Bytes → Option Bytes → Mark
+mark_up_to lo hi None = OfRange lo hi
+mark_up_to lo hi (Some last) = OfClosedRange lo last
+
+-- the last key of the pairs, where they are as many as the limit: others may follow it
+abbrev pub page_end : ℕ → List (Bytes × Bytes) → Option Bytes
+page_end limit pairs = if length pairs == limit then last_key pairs else None
+
+-- what a RANGE marks whose reply has these pairs: up to the last of them where they are as many as its limit, else the whole range.
+-- (A limit of 0, which no command has, gets no pairs and marks the whole range.)
+abbrev pub mark_of_reply : Bytes → Option Bytes → ℕ → List (Bytes × Bytes) → Mark
+mark_of_reply lo hi limit pairs = mark_up_to lo hi (page_end limit pairs)
 
 -- the state of a transaction's private copy
 pub record PrivateCopy : Type 0 where
@@ -47,6 +77,10 @@ copy_of m = record { contents = m; written = []; marks = [] }
 
 abbrev pub is_written : PrivateCopy → Bytes → Bool
 is_written c k = list_any (is_same_key k) c.written
+
+-- the mark that a RANGE of the copy asks for
+abbrev pub mark_asked : PrivateCopy → Bytes → Option Bytes → ℕ → Mark
+mark_asked c lo hi limit = mark_of_reply lo hi limit (take limit (pairs_in_range c.contents lo hi))
 
 -- a read that leaves this mark gets this response, unless there is no room for the mark
 abbrev pub after_read : PrivateCopy → Mark → Response → Response × PrivateCopy
@@ -69,7 +103,7 @@ respond c (Get k) =
     else after_read c (OfKey k) (Value (value_at c.contents k))
 respond c (Range lo hi limit) =
     if is_empty_range lo hi then (Pairs [], c)
-    else after_read c (OfRange lo hi) (Pairs (take limit (pairs_in_range c.contents lo hi)))
+    else after_read c (mark_asked c lo hi limit) (Pairs (take limit (pairs_in_range c.contents lo hi)))
 respond c (Set k v) = after_put c k (Some v)
 respond c (Del k) = after_put c k None
 respond c Begin = (Refused AlreadyOpen, c)

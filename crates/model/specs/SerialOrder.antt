@@ -1,4 +1,4 @@
--- A serial order of a history without pivots, and its replay. The order is this project's own: it makes each dependency rise.
+-- A serial order of a history without dangerous pivots, and its replay. The order is this project's own: it makes each dependency rise.
 use Rattle.std.specs.Prelude.{◌≡◌, ℕ, Bool, ◌&&◌, ◌||◌, List, [], ◌∷◌, Option, Some, None, find, nat_lt, ◌==◌, if◌then◌else◌, ⊤}
 use Rattle.model.specs.Map.{KeyMap}
 use Rattle.model.specs.PrivateCopy.{copy_of, copy_after, responses}

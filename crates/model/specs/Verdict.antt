@@ -1,12 +1,12 @@
--- Whether a transaction may commit: the first committer wins (snapshot isolation, Fekete et al. 2005), and no pivot may appear
--- (Cahill, Röhm, Fekete 2008). Which conflict is named is this project's profile.
+-- Whether a transaction may commit: the first committer wins (snapshot isolation, Fekete et al. 2005), and no dangerous pivot may
+-- appear (Cahill, Röhm, Fekete 2008; Ports, Grittner 2012). Which conflict is named is this project's profile.
 use Rattle.std.specs.Prelude.{Bool, ◌&&◌, List, [], ◌∷◌, ◌++◌, Option, Some, None, find, nat_lt, if◌then◌else◌, Contains, IsFalse}
 use Rattle.std.specs.List.{list_any}
 use Rattle.model.specs.declared.refusals.Refusal.{Refusal}
 use Rattle.model.specs.declared.refusals.Refusal.TheVariants.{Overwritten, PivotSelf, Pivot}
 use Rattle.model.specs.Map.{Bytes, KeyWrite}
 use Rattle.model.specs.History.{Record}
-use Rattle.model.specs.Dependency.{writes_key, is_pivot}
+use Rattle.model.specs.Dependency.{writes_key, is_dangerous_pivot}
 
 -- whether a transaction that committed after t began has written the key
 abbrev pub is_overwritten : List Record → Record → Bytes → Bool
@@ -23,13 +23,14 @@ conflict_of None other = other
 conflict_of (Some w) other = Some (Overwritten w.0)
 
 -- the conflict for which t, which would commit next, is refused: the least key of its writes that is overwritten; else t
--- itself, where t is a pivot; else the pivot of least commit number. Writes stand by rising key, records by rising commit number.
+-- itself, where t is a dangerous pivot; else the dangerous pivot of least commit number. Writes stand by rising key, records by rising
+-- commit number.
 unfoldable pub verdict : List Record → Record → Option Refusal
 verdict history t =
     conflict_of (find (λ w. is_overwritten history t w.0) t.writes)
-    (if is_pivot (history ++ t ∷ []) t then Some PivotSelf
-    else pivot_refusal (find (is_pivot (history ++ t ∷ [])) history))
+    (if is_dangerous_pivot (history ++ t ∷ []) t then Some PivotSelf
+    else pivot_refusal (find (is_dangerous_pivot (history ++ t ∷ [])) history))
 
--- no record is a pivot
-abbrev pub HasNoPivot : List Record → Type 0
-HasNoPivot history = (p : Record) → Contains history p → IsFalse (is_pivot history p)
+-- no record is a dangerous pivot
+abbrev pub HasNoDangerousPivot : List Record → Type 0
+HasNoDangerousPivot history = (p : Record) → Contains history p → IsFalse (is_dangerous_pivot history p)

@@ -16,7 +16,9 @@ pub mod writes;
 
 pub use commands::{Command, Reply};
 pub use keys::{KEY_MAX, Key, KeyRef};
-pub use laws::{cycle_has_pivot, history_has_serial_order, machine_is_serializable};
+pub use laws::{
+    cycle_has_dangerous_pivot, cycle_has_pivot, history_has_serial_order, machine_is_serializable,
+};
 pub use maps::Map;
 pub use pairs::Pairs;
 pub use ranges::{Range, RangeRef};

@@ -28,9 +28,9 @@ pub enum Refusal {
     FullTransactions,
     /// A concurrent transaction that committed wrote this key, the least of those that this one wrote too.
     Overwritten(Key),
-    /// The committing transaction is a pivot.
+    /// The committing transaction would be a dangerous pivot.
     PivotSelf,
-    /// The transaction of this commit number, the least such, is a pivot.
+    /// The transaction of this commit number, the least such, would be a dangerous pivot.
     Pivot(u64),
     /// The log has no room for the record.
     FullLog,

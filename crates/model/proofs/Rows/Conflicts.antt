@@ -84,7 +84,7 @@ writer_finds_a_committed_pivot : run start
     ≡ Done ∷ Done ∷ Done ∷
     Value None ∷ Number 1 ∷
     Value None ∷ Done ∷ Number 2 ∷
-    Done ∷ Refused (Pivot 2) ∷ []
+    Done ∷ Number 3 ∷ []
 unfolding step verdict
 writer_finds_a_committed_pivot = refl
 
@@ -108,9 +108,84 @@ pivot_after_its_neighbour_was_forgotten : run start
     Value None ∷ Number 1 ∷
     Done ∷
     Value None ∷ Done ∷ Number 2 ∷
-    Done ∷ Refused (Pivot 2) ∷ []
+    Done ∷ Number 3 ∷ []
 unfolding step verdict
 pivot_after_its_neighbour_was_forgotten = refl
+
+-- the second to commit is a pivot, and the one whose key it read is concurrent with none that is open at the last commit
+pivot_after_its_target_was_forgotten : run start
+    (begin 1 ∷
+    begin 2 ∷ set 2 "m" "1" ∷ commit 2 ∷
+    begin 3 ∷
+    get 1 "m" ∷ set 1 "k" "1" ∷ commit 1 ∷
+    get 3 "k" ∷ commit 3 ∷ [])
+    ≡ Done ∷
+    Done ∷ Done ∷ Number 1 ∷
+    Done ∷
+    Value None ∷ Done ∷ Number 2 ∷
+    Value None ∷ Refused (Pivot 2) ∷ []
+unfolding step verdict
+pivot_after_its_target_was_forgotten = refl
+
+-- the last to commit stands between two, but the one that it would overtake committed after the one that would overtake it
+abbrev earlier_reader : List Request
+earlier_reader =
+    begin 1 ∷ begin 2 ∷ begin 3 ∷
+    get 1 "k" ∷ commit 1 ∷
+    set 2 "m" "1" ∷ commit 2 ∷
+    get 3 "m" ∷ set 3 "k" "1" ∷ commit 3 ∷ []
+
+earlier_reader_is_harmless : run start earlier_reader
+    ≡ Done ∷ Done ∷ Done ∷
+    Value None ∷ Number 1 ∷
+    Done ∷ Number 2 ∷
+    Value None ∷ Done ∷ Number 3 ∷ []
+unfolding step verdict
+earlier_reader_is_harmless = refl
+
+earlier_reader_is_harmless_order : commits (serial_order (after start earlier_reader).history) ≡ 1 ∷ 3 ∷ 2 ∷ []
+unfolding step verdict serial_order
+earlier_reader_is_harmless_order = refl
+
+-- the first to commit is a pivot, but its target commits last
+abbrev later_writer : List Request
+later_writer =
+    begin 1 ∷ begin 2 ∷ begin 3 ∷
+    get 1 "m" ∷ set 1 "k" "1" ∷ commit 1 ∷
+    get 2 "k" ∷ commit 2 ∷
+    set 3 "m" "1" ∷ commit 3 ∷ []
+
+pivot_with_a_later_writer_is_harmless : run start later_writer
+    ≡ Done ∷ Done ∷ Done ∷
+    Value None ∷ Done ∷ Number 1 ∷
+    Value None ∷ Number 2 ∷
+    Done ∷ Number 3 ∷ []
+unfolding step verdict
+pivot_with_a_later_writer_is_harmless = refl
+
+pivot_with_a_later_writer_is_harmless_order : commits (serial_order (after start later_writer).history) ≡ 2 ∷ 1 ∷ 3 ∷ []
+unfolding step verdict serial_order
+pivot_with_a_later_writer_is_harmless_order = refl
+
+-- the first to commit is a pivot, and its target commits second
+abbrev later_target : List Request
+later_target =
+    begin 1 ∷ begin 2 ∷ begin 3 ∷
+    get 1 "m" ∷ set 1 "k" "1" ∷ commit 1 ∷
+    set 2 "m" "1" ∷ commit 2 ∷
+    get 3 "k" ∷ commit 3 ∷ []
+
+pivot_before_its_target_is_harmless : run start later_target
+    ≡ Done ∷ Done ∷ Done ∷
+    Value None ∷ Done ∷ Number 1 ∷
+    Done ∷ Number 2 ∷
+    Value None ∷ Number 3 ∷ []
+unfolding step verdict
+pivot_before_its_target_is_harmless = refl
+
+pivot_before_its_target_is_harmless_order : commits (serial_order (after start later_target).history) ≡ 3 ∷ 1 ∷ 2 ∷ []
+unfolding step verdict serial_order
+pivot_before_its_target_is_harmless_order = refl
 
 -- ---- the serial order
 
