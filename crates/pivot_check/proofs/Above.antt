@@ -1,11 +1,10 @@
 -- The records kept committed after the number up to which they were forgotten.
-use Rattle.std.proofs.Common.{◌≡◌, ℕ, ◌<◌, ◌≤◌, ◌+◌, true, false, cond, List, [], ◌∷◌, ◌++◌, map, take, drop, zero, suc, refl, sym, ap, ◌∙◌, arith}
+use Rattle.std.proofs.Common.{◌≡◌, ℕ, ◌<◌, ◌≤◌, ◌+◌, true, false, cond, List, [], ◌∷◌, ◌++◌, refl, sym, ap, ◌∙◌, arith}
 use Rattle.std.specs.Prelude.{nat_lt}
 use Rattle.std.specs.List.{filter}
 use Rattle.std.proofs.lemmas.Bool.{lt-ltb, ltb-true}
 use Rattle.snapshot.specs.View.{View}
-use Rattle.pivot_check.specs.Kept.{KeptRecord, Facts, AreAbove, with_dependencies, own_record, since}
-use Rattle.pivot_check.proofs.Histories.{after_note}
+use Rattle.pivot_check.specs.Kept.{KeptRecord, Facts, AreAbove, own_record, since}
 
 pub filter_above : (m : ℕ) (ks : List KeptRecord) → AreAbove m (filter (λ k. nat_lt m k.commit) ks)
 filter_above m [] = tt
@@ -25,12 +24,6 @@ push_above : (m : ℕ) (ks : List KeptRecord) (k : KeptRecord) → AreAbove m ks
 push_above m [] k h lt = (lt, tt)
 push_above m (j ∷ ks) k h lt = (h.0, push_above m ks k h.1 lt)
 
-changed_above : (m n : ℕ) (t : View) (ks : List KeptRecord) → AreAbove m ks → AreAbove m (take n ks ++ map (with_dependencies t) (drop n ks))
-changed_above m zero t [] h = tt
-changed_above m zero t (k ∷ ks) h = (h.0, changed_above m zero t ks h.1)
-changed_above m (suc n) t [] h = tt
-changed_above m (suc n) t (k ∷ ks) h = (h.0, changed_above m n t ks h.1)
-
 -- the records once the transaction has committed as number n
-pub note_above : (f : Facts) (t : View) (n : ℕ) → AreAbove f.oldest f.records → f.oldest ≤ f.last → n ≡ f.last + 1 → AreAbove f.oldest (after_note f t ++ own_record (since f t.begin) t n ∷ [])
-note_above f t n h below next = push_above f.oldest (after_note f t) (own_record (since f t.begin) t n) (changed_above f.oldest _ t f.records h) (omega arith)
+pub note_above : (f : Facts) (t : View) (n : ℕ) → AreAbove f.oldest f.records → f.oldest ≤ f.last → n ≡ f.last + 1 → AreAbove f.oldest (f.records ++ own_record (since f t.begin) t n ∷ [])
+note_above f t n h below next = push_above f.oldest f.records (own_record (since f t.begin) t n) h (omega arith)

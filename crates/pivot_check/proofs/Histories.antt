@@ -1,9 +1,9 @@
 -- What is kept decides the verdict over the whole history, and stays what is kept of it.
-use Rattle.std.proofs.Common.{◌≡◌, ℕ, zero, suc, ◌+◌, ◌<◌, ◌≤◌, Bool, true, false, not, cond, ◌&&◌, ◌||◌, List, [], ◌∷◌, ◌++◌, Option, Some, None, refl, sym, ap, subst, ◌∙◌, length, length-append, length-drop, take, drop, ◌-◌, map, arith, inl, inr}
+use Rattle.std.proofs.Common.{◌≡◌, ℕ, zero, suc, ◌+◌, ◌<◌, ◌≤◌, Bool, true, false, not, cond, ◌&&◌, List, [], ◌∷◌, ◌++◌, Option, Some, None, refl, sym, ap, subst, ◌∙◌, length, length-append, length-drop, drop, ◌-◌, map, arith, inl, inr}
 use Rattle.std.specs.Prelude.{nat_lt, ◌==◌, find, max}
 use Rattle.std.specs.List.{list_any, filter, position}
 use Rattle.std.specs.Option.{option_map}
-use Rattle.std.proofs.lemmas.Bool.{lt-ltb, le-ltb, ltb-true, ltb-false, cases_lt, false_from_ne_true}
+use Rattle.std.proofs.lemmas.Bool.{or_left, lt-ltb, le-ltb, ltb-true, ltb-false, cases_lt, false_from_ne_true}
 use Rattle.std.proofs.lemmas.Bool.Decides.{nat_tests}
 use Rattle.std.proofs.lemmas.List.Elements.{All-contains, All-from_recursion, filter-append}
 use Rattle.std.proofs.lemmas.List.{map-append, length-map}
@@ -12,17 +12,18 @@ use Rattle.model.specs.declared.refusals.Refusal.TheVariants as refusal
 use Rattle.model.specs.Map.{Bytes, KeyWrite, is_same_key}
 use Rattle.model.specs.PrivateCopy.{is_covered}
 use Rattle.model.specs.History.{Record, IsNumberedFrom}
-use Rattle.model.specs.Dependency.{writes_key, reads_from, concurrent_read_write, is_pivot}
+use Rattle.model.specs.Dependency.{writes_key, reads_from, concurrent_read_write, is_dangerous_pivot}
 use Rattle.model.specs.Verdict.{verdict, conflict_of, pivot_refusal, is_overwritten}
-use Rattle.model.proofs.Members.{In, at_in, each_in, Contains-from_in, in_from_Contains}
+use Rattle.model.proofs.Members.{In, at_in, each_in, Contains-from_in, in_from_Contains, IsRising, rising_from_numbered}
 use Rattle.model.proofs.Machines.{in_append_cases, numbered-append, commit_low, clear_from}
-use Rattle.model.proofs.Pivots.{any_filter, find_alike, no_read_write_itself, read_write_kept, or_false, over_not_concurrent, has_read_write_in, has_read_write_out, has_read_write_in-push, has_read_write_out-push, verdict_by_kept}
+use Rattle.model.proofs.Pivots.{any_filter, any_same, find_alike, find_same, read_write_kept, has_earlier_target, stands_between, earlier_target-push, own_earlier_target, verdict_by_kept}
 use Rattle.snapshot.specs.View.{View}
-use Rattle.pivot_check.specs.Kept.{KeptRecord, Facts, key_of, keys_of, since, is_written, leads_to, follows, becomes_pivot, with_dependencies, own_record, IsInReach}
+use Rattle.pivot_check.specs.Kept.{KeptRecord, Facts, key_of, keys_of, since, is_written, leads_to, follows, becomes_pivot, first_number, last_that, last_number, are_in_order, is_own_pivot, own_record, IsInReach}
 use Rattle.pivot_check.specs.declared.verdict.Verdict.{Verdict}
 use Rattle.pivot_check.specs.declared.verdict.Verdict.TheVariants.{Overwritten}
 use Rattle.pivot_check.specs.StandsFor.{StandsFor, IsRecordOf, IsClear, Says, verdict_found, kept_of, kept_above}
-use Rattle.pivot_check.proofs.Lists.{any-map, find-map, any_same, find_same, map_same, drop-map, drop-nil, found_at, found_nowhere}
+use Rattle.pivot_check.proofs.Lists.{any-map, find-map, last_that-map, last_that_same, map_same, drop-map, drop-nil, found_at, found_nowhere}
+use Rattle.pivot_check.proofs.Ends.{by_ends}
 
 in_filter : {X : Type 0} (p : X → Bool) (xs : List X) (x : X) → In x (filter p xs) → In x xs
 in_filter p [] x h = absurd h
@@ -67,31 +68,7 @@ numbered_drop n rs h zero le = subst (λ m. IsNumberedFrom m rs) (omega arith) h
 numbered_drop n [] h (suc k) le = tt
 numbered_drop n (r ∷ rs) h (suc k) le = subst (λ m. IsNumberedFrom m (drop k rs)) (omega arith) (numbered_drop (suc n) rs h.1 k (omega arith))
 
--- a change of the records above a number
-changed_above : (f : KeptRecord → KeptRecord) (g : Record → KeptRecord) (n : ℕ) (rs : List Record) → IsNumberedFrom n rs → (b : ℕ)
-    → take (b - n) (map g rs) ++ map f (drop (b - n) (map g rs)) ≡ map (λ p. cond (nat_lt b p.commit) (f (g p)) (g p)) rs
-changed_above f g n [] h b = empty (b - n)
-  where
-    empty : (k : ℕ) → take {A = KeptRecord} k [] ++ map f (drop k []) ≡ []
-    empty zero = refl
-    empty (suc k) = refl
-changed_above f g n (r ∷ rs) h b = elim (cases_lt n b) [
-  | inl lt ↦
-      let below : nat_lt b r.commit ≡ false = le-ltb b r.commit (let c = h.0 in omega arith) in
-      let more : b - n ≡ suc (b - suc n) = omega arith in
-      ap (λ k. take k (map g (r ∷ rs)) ++ map f (drop k (map g (r ∷ rs)))) more
-      ∙ ap (λ ks. g r ∷ ks) (changed_above f g (suc n) rs h.1 b)
-      ∙ ap (λ v. cond v (f (g r)) (g r) ∷ map (λ p. cond (nat_lt b p.commit) (f (g p)) (g p)) rs) (sym below)
-  | inr le ↦
-      let above : nat_lt b r.commit ≡ true = lt-ltb b r.commit (let c = h.0 in omega arith) in
-      let none : b - n ≡ 0 = omega arith in
-      let none' : b - suc n ≡ 0 = omega arith in
-      ap (λ k. take k (map g (r ∷ rs)) ++ map f (drop k (map g (r ∷ rs)))) none
-      ∙ ap (λ ks. f (g r) ∷ ks) (sym (ap (λ k. take k (map g rs) ++ map f (drop k (map g rs))) none') ∙ changed_above f g (suc n) rs h.1 b)
-      ∙ ap (λ v. cond v (f (g r)) (g r) ∷ map (λ p. cond (nat_lt b p.commit) (f (g p)) (g p)) rs) (sym above)
-]
-
-filter_filter : (a b : ℕ) (rs : List Record) → filter (λ p. nat_lt b p.commit) (filter (λ p. nat_lt a p.commit) rs) ≡ filter (λ p. nat_lt (max a b) p.commit) rs
+pub filter_filter : (a b : ℕ) (rs : List Record) → filter (λ p. nat_lt b p.commit) (filter (λ p. nat_lt a p.commit) rs) ≡ filter (λ p. nat_lt (max a b) p.commit) rs
 filter_filter a b [] = refl
 filter_filter a b (r ∷ rs) =
     elim (nat_lt a r.commit) as (λ v. nat_lt a r.commit ≡ v → filter (λ p. nat_lt b p.commit) (cond v (r ∷ filter (λ p. nat_lt a p.commit) rs) (filter (λ p. nat_lt a p.commit) rs)) ≡ filter (λ p. nat_lt (max a b) p.commit) (r ∷ rs)) [
@@ -151,7 +128,7 @@ module _ (f : Facts) (history : List Record) (s : StandsFor f history) (t : View
       let greatest : max f.oldest t.begin ≡ t.begin = omega arith in
       ap (λ k. drop k kept) place_is ∙ sym (above_is_drop f.oldest kept kept_numbered t.begin) ∙ filter_filter f.oldest t.begin history ∙ ap (λ m. filter (λ p. nat_lt m p.commit) history) greatest
 
-  records_are : records ≡ map (kept_of history) late
+  pub records_are : records ≡ map (kept_of history) late
   records_are = ap (drop place) s.records ∙ drop-map (kept_of history) place kept ∙ ap (map (kept_of history)) late_is
 
   low : t.begin ≤ r.begin
@@ -159,6 +136,13 @@ module _ (f : Facts) (history : List Record) (s : StandsFor f history) (t : View
 
   commits_low : (p : Record) → In p history → p.commit ≤ f.last
   commits_low p p_in = let below : p.commit ≤ 0 + length history = at_in (λ u. u.commit ≤ 0 + length history) history p (commit_low 0 history s.numbered) p_in in let l = s.last in omega arith
+
+  before_new : (p : Record) → In p history → p.commit < r.commit
+  before_new p p_in = let below = commits_low p p_in in let c = own.commit in omega arith
+
+  numbers : (o : Option Record) → option_map (λ (p : Record). p.commit) o ≡ option_map (λ (k : KeptRecord). k.commit) (option_map (kept_of history) o)
+  numbers None = refl
+  numbers (Some p) = refl
 
   begins_low : (p : Record) → In p history → p.begin < r.commit
   begins_low p p_in =
@@ -191,12 +175,6 @@ module _ (f : Facts) (history : List Record) (s : StandsFor f history) (t : View
   is_late : (p : Record) → In p late → t.begin < p.commit
   is_late p p_in = ltb-true t.begin p.commit (passes_filter (λ p. nat_lt t.begin p.commit) history p p_in)
 
-  any_in : list_any (λ x. concurrent_read_write x r) late ≡ list_any (λ k. leads_to k t) records
-  any_in =
-      any_same (λ x. concurrent_read_write x r) (λ x. leads_to (kept_of history x) t) late (each_in (λ x. concurrent_read_write x r ≡ leads_to (kept_of history x) t) late (λ x x_in. into_new x (in_history x x_in) (is_late x x_in)))
-      ∙ sym (any-map (λ k. leads_to k t) (kept_of history) late)
-      ∙ ap (list_any (λ k. leads_to k t)) (sym records_are)
-
   any_out : list_any (λ y. concurrent_read_write r y) late ≡ list_any (λ k. follows k t) records
   any_out =
       any_same (λ y. concurrent_read_write r y) (λ y. follows (kept_of history y) t) late (each_in (λ y. concurrent_read_write r y ≡ follows (kept_of history y) t) late (λ y y_in. from_new y (in_history y y_in) (is_late y y_in)))
@@ -219,15 +197,41 @@ module _ (f : Facts) (history : List Record) (s : StandsFor f history) (t : View
   overwritten : find (λ w. is_overwritten late r w.0) r.writes ≡ find (λ w. is_written records w.0) t.writes
   overwritten = find_alike (λ w. is_overwritten late r w.0) (λ w. is_written records w.0) (λ w. written w.0) r.writes ∙ ap (find (λ w. is_written records w.0)) own.writes
 
-  first_pivot : pivot_refusal (find (λ p. (has_read_write_in history p || concurrent_read_write r p) && (has_read_write_out history p || concurrent_read_write p r)) late)
-      ≡ option_map refusal.Pivot (option_map (λ k. k.commit) (find (becomes_pivot t) records))
+  late_rises : IsRising late
+  late_rises = subst IsRising late_is (rising_from_numbered (f.oldest + place) (drop place kept) (numbered_drop f.oldest kept kept_numbered place within))
+    where
+      within : place ≤ length kept
+      within = let l = s.last in let a = reach.begun in let b = reach.held in
+          let len : length kept ≡ length history - f.oldest = ap length kept_is_drop ∙ length-drop f.oldest history in
+          omega (arith, place_is)
+
+  first_target : option_map (λ (p : Record). p.commit) (find (λ y. concurrent_read_write r y) late) ≡ first_number (λ k. follows k t) records
+  first_target =
+      ap (option_map (λ (p : Record). p.commit)) (find_same (λ y. concurrent_read_write r y) (λ y. follows (kept_of history y) t) late
+      (each_in (λ y. concurrent_read_write r y ≡ follows (kept_of history y) t) late (λ y y_in. from_new y (in_history y y_in) (is_late y y_in))))
+      ∙ numbers (find (λ y. follows (kept_of history y) t) late)
+      ∙ ap (option_map (λ (k : KeptRecord). k.commit)) (sym (find-map (λ k. follows k t) (kept_of history) late))
+      ∙ ap (first_number (λ k. follows k t)) (sym records_are)
+
+  last_source : option_map (λ (p : Record). p.commit) (last_that (λ x. concurrent_read_write x r) late) ≡ last_number (λ k. leads_to k t) records
+  last_source =
+      ap (option_map (λ (p : Record). p.commit)) (last_that_same (λ x. concurrent_read_write x r) (λ x. leads_to (kept_of history x) t) late
+      (each_in (λ x. concurrent_read_write x r ≡ leads_to (kept_of history x) t) late (λ x x_in. into_new x (in_history x x_in) (is_late x x_in))))
+      ∙ numbers (last_that (λ x. leads_to (kept_of history x) t) late)
+      ∙ ap (option_map (λ (k : KeptRecord). k.commit)) (sym (last_that-map (λ k. leads_to k t) (kept_of history) late))
+      ∙ ap (last_number (λ k. leads_to k t)) (sym records_are)
+
+  between : stands_between late r ≡ is_own_pivot records t
+  between = by_ends (λ x. concurrent_read_write x r) (λ y. concurrent_read_write r y) late late_rises ∙ (λ i. are_in_order (first_target i) (last_source i))
+
+  first_pivot : pivot_refusal (find (λ p. concurrent_read_write r p && has_earlier_target history p) late) ≡ option_map refusal.Pivot (first_number (becomes_pivot t) records)
   first_pivot =
-      ap pivot_refusal (find_same (λ p. (has_read_write_in history p || concurrent_read_write r p) && (has_read_write_out history p || concurrent_read_write p r)) (λ p. becomes_pivot t (kept_of history p)) late
-      (each_in (λ p. ((has_read_write_in history p || concurrent_read_write r p) && (has_read_write_out history p || concurrent_read_write p r)) ≡ becomes_pivot t (kept_of history p)) late
-      (λ p p_in. let a = from_new p (in_history p p_in) (is_late p p_in) in let b = into_new p (in_history p p_in) (is_late p p_in) in λ i. (has_read_write_in history p || a i) && (has_read_write_out history p || b i))))
+      ap pivot_refusal (find_same (λ p. concurrent_read_write r p && has_earlier_target history p) (λ p. becomes_pivot t (kept_of history p)) late
+      (each_in (λ p. (concurrent_read_write r p && has_earlier_target history p) ≡ becomes_pivot t (kept_of history p)) late
+      (λ p p_in. ap (λ b. b && has_earlier_target history p) (from_new p (in_history p p_in) (is_late p p_in)))))
       ∙ named (find (λ p. becomes_pivot t (kept_of history p)) late)
       ∙ ap (λ o. option_map refusal.Pivot (option_map (λ (k : KeptRecord). k.commit) o)) (sym (find-map (becomes_pivot t) (kept_of history) late))
-      ∙ ap (λ ks. option_map refusal.Pivot (option_map (λ (k : KeptRecord). k.commit) (find (becomes_pivot t) ks))) (sym records_are)
+      ∙ ap (λ ks. option_map refusal.Pivot (first_number (becomes_pivot t) ks)) (sym records_are)
     where
       named : (o : Option Record) → pivot_refusal o ≡ option_map refusal.Pivot (option_map (λ (k : KeptRecord). k.commit) (option_map (kept_of history) o))
       named None = refl
@@ -235,25 +239,23 @@ module _ (f : Facts) (history : List Record) (s : StandsFor f history) (t : View
 
   -- the verdict over the whole history is one over what is kept
   pub verdict_is : verdict history r ≡ conflict_of (find (λ w. is_written records w.0) t.writes)
-      (cond (list_any (λ k. leads_to k t) records && list_any (λ k. follows k t) records) (Some refusal.PivotSelf)
-      (option_map refusal.Pivot (option_map (λ k. k.commit) (find (becomes_pivot t) records))))
-  verdict_is = verdict_by_kept history r t.begin low s.no_pivot
-      ∙ (λ i. conflict_of (overwritten i) (cond (any_in i && any_out i) (Some refusal.PivotSelf) (first_pivot i)))
+      (cond (is_own_pivot records t) (Some refusal.PivotSelf) (option_map refusal.Pivot (first_number (becomes_pivot t) records)))
+  verdict_is = verdict_by_kept history r t.begin low before_new s.no_pivot
+      ∙ (λ i. conflict_of (overwritten i) (cond (between i) (Some refusal.PivotSelf) (first_pivot i)))
 
   abbrev overwrites : KeyWrite → Bool
   overwrites w = is_written records w.0
 
   abbrev pivots_say : Option Refusal
-  pivots_say = cond (list_any (λ k. leads_to k t) records && list_any (λ k. follows k t) records) (Some refusal.PivotSelf)
-      (option_map refusal.Pivot (option_map (λ k. k.commit) (find (becomes_pivot t) records)))
+  pivots_say = cond (is_own_pivot records t) (Some refusal.PivotSelf) (option_map refusal.Pivot (first_number (becomes_pivot t) records))
 
   pub says_overwritten : (i : ℕ) → Some i ≡ position overwrites t.writes → Says (Overwritten i) t.writes (verdict history r)
   says_overwritten i e = let at = found_at overwrites ([], None) t.writes i (sym e) in
       (at.0, at.1, verdict_is ∙ ap (λ o. conflict_of o pivots_say) at.2)
 
   -- what is answered where it overwrites no concurrent commit
-  pub says_found : None ≡ position overwrites t.writes → (self : Bool) → self ≡ (list_any (λ k. leads_to k t) records && list_any (λ k. follows k t) records)
-      → (other : Option ℕ) → other ≡ option_map (λ k. k.commit) (find (becomes_pivot t) records) → (v : Verdict) → v ≡ verdict_found self other → Says v t.writes (verdict history r)
+  pub says_found : None ≡ position overwrites t.writes → (self : Bool) → self ≡ is_own_pivot records t
+      → (other : Option ℕ) → other ≡ first_number (becomes_pivot t) records → (v : Verdict) → v ≡ verdict_found self other → Says v t.writes (verdict history r)
   says_found none self self_is other other_is v v_is = subst (λ (v : Verdict). Says v t.writes (verdict history r)) (sym v_is) (found self other
       (verdict_is ∙ ap (λ o. conflict_of o pivots_say) (found_nowhere overwrites t.writes (sym none)) ∙ (λ i. cond (sym self_is i) (Some refusal.PivotSelf) (option_map refusal.Pivot (sym other_is i)))))
     where
@@ -263,57 +265,25 @@ module _ (f : Facts) (history : List Record) (s : StandsFor f history) (t : View
       found false (Some n) e = e
 
   -- ---- the transaction commits
-  own_in : has_read_write_in (history ++ r ∷ []) r ≡ list_any (λ k. leads_to k t) records
-  own_in = has_read_write_in-push history r r ∙ ap (λ b. has_read_write_in history r || b) (no_read_write_itself r) ∙ or_false (has_read_write_in history r)
-      ∙ sym (any_filter (λ x. concurrent_read_write x r) (λ p. nat_lt t.begin p.commit) (λ x h. read_write_kept t.begin r x low (or_right' (concurrent_read_write r x) _ h)) history)
-      ∙ any_in
-    where
-      or_right' : (a b : Bool) → b ≡ true → (a || b) ≡ true
-      or_right' true b h = refl
-      or_right' false b h = h
-
-  own_out : has_read_write_out (history ++ r ∷ []) r ≡ list_any (λ k. follows k t) records
-  own_out = has_read_write_out-push history r r ∙ ap (λ b. has_read_write_out history r || b) (no_read_write_itself r) ∙ or_false (has_read_write_out history r)
-      ∙ sym (any_filter (λ y. concurrent_read_write r y) (λ p. nat_lt t.begin p.commit) (λ y h. read_write_kept t.begin r y low (or_left' (concurrent_read_write r y) _ h)) history)
+  own_flag : has_earlier_target (history ++ r ∷ []) r ≡ list_any (λ k. follows k t) records
+  own_flag = own_earlier_target history r before_new
+      ∙ sym (any_filter (λ y. concurrent_read_write r y) (λ p. nat_lt t.begin p.commit) (λ y h. read_write_kept t.begin r y low (or_left (concurrent_read_write r y) _ h)) history)
       ∙ any_out
-    where
-      or_left' : (a b : Bool) → a ≡ true → (a || b) ≡ true
-      or_left' true b h = refl
-      or_left' false b h = cc
 
-  -- the records kept, once the transaction has committed
-  abbrev with_new : List KeptRecord
-  with_new = take place f.records ++ map (with_dependencies t) (drop place f.records)
-
-  kept_with_new : with_new ≡ map (kept_of (history ++ r ∷ [])) kept
-  kept_with_new =
-      (λ i. take (place_is i) (s.records i) ++ map (with_dependencies t) (drop (place_is i) (s.records i)))
-      ∙ changed_above (with_dependencies t) (kept_of history) f.oldest kept kept_numbered t.begin
-      ∙ map_same (λ p. cond (nat_lt t.begin p.commit) (with_dependencies t (kept_of history p)) (kept_of history p)) (kept_of (history ++ r ∷ [])) kept
-      (each_in (λ p. cond (nat_lt t.begin p.commit) (with_dependencies t (kept_of history p)) (kept_of history p) ≡ kept_of (history ++ r ∷ []) p) kept (λ p p_in. each p (in_filter (λ p. nat_lt f.oldest p.commit) history p p_in)))
-    where
-      each : (p : Record) → In p history → cond (nat_lt t.begin p.commit) (with_dependencies t (kept_of history p)) (kept_of history p) ≡ kept_of (history ++ r ∷ []) p
-      each p p_in = elim (cases_lt t.begin p.commit) [
-        | inl above ↦
-            let a = ap (λ b. has_read_write_in history p || b) (sym (from_new p p_in above)) ∙ sym (has_read_write_in-push history r p) in
-            let b = ap (λ b. has_read_write_out history p || b) (sym (into_new p p_in above)) ∙ sym (has_read_write_out-push history r p) in
-            ap (λ v. cond v (with_dependencies t (kept_of history p)) (kept_of history p)) (lt-ltb t.begin p.commit above)
-            ∙ (λ i. record { begin = p.begin; commit = p.commit; marks = p.reads; keys = keys_of p.writes; has_read_write_in = a i; has_read_write_out = b i })
-        | inr below ↦
-            let bb = own.begin in
-            let apart = over_not_concurrent r p (omega arith) in
-            let a = sym (or_false (has_read_write_in history p)) ∙ ap (λ b. has_read_write_in history p || b) (sym apart.0) ∙ sym (has_read_write_in-push history r p) in
-            let b = sym (or_false (has_read_write_out history p)) ∙ ap (λ b. has_read_write_out history p || b) (sym apart.1) ∙ sym (has_read_write_out-push history r p) in
-            ap (λ v. cond v (with_dependencies t (kept_of history p)) (kept_of history p)) (le-ltb t.begin p.commit below)
-            ∙ (λ i. record { begin = p.begin; commit = p.commit; marks = p.reads; keys = keys_of p.writes; has_read_write_in = a i; has_read_write_out = b i })
-      ]
+  -- the records kept before stay as they are
+  others_stay : f.records ≡ map (kept_of (history ++ r ∷ [])) kept
+  others_stay = s.records ∙ map_same (kept_of history) (kept_of (history ++ r ∷ [])) kept
+      (each_in (λ p. kept_of history p ≡ kept_of (history ++ r ∷ []) p) kept (λ p p_in.
+      let below = before_new p (in_filter (λ p. nat_lt f.oldest p.commit) history p p_in) in
+      let flag = sym (earlier_target-push history r p (omega arith)) in
+      (λ i. record { begin = p.begin; commit = p.commit; marks = p.reads; keys = keys_of p.writes; has_earlier_target = flag i })))
 
   own_kept : own_record records t (f.last + 1) ≡ kept_of (history ++ r ∷ []) r
-  own_kept = sym (λ i. record { begin = own.begin i; commit = own.commit i; marks = own.reads i; keys = keys_of (own.writes i); has_read_write_in = own_in i; has_read_write_out = own_out i })
+  own_kept = sym (λ i. record { begin = own.begin i; commit = own.commit i; marks = own.reads i; keys = keys_of (own.writes i); has_earlier_target = own_flag i })
 
-  all_kept : with_new ++ own_record records t (f.last + 1) ∷ [] ≡ kept_above f.oldest (history ++ r ∷ [])
+  all_kept : f.records ++ own_record records t (f.last + 1) ∷ [] ≡ kept_above f.oldest (history ++ r ∷ [])
   all_kept =
-      (λ i. kept_with_new i ++ own_kept i ∷ [])
+      (λ i. others_stay i ++ own_kept i ∷ [])
       ∙ sym (map-append (kept_of (history ++ r ∷ [])) kept (r ∷ []))
       ∙ ap (λ rs. map (kept_of (history ++ r ∷ [])) (kept ++ rs)) (sym new_is_kept)
       ∙ ap (map (kept_of (history ++ r ∷ []))) (sym (filter-append (λ p. nat_lt f.oldest p.commit) history (r ∷ [])))
@@ -321,7 +291,7 @@ module _ (f : Facts) (history : List Record) (s : StandsFor f history) (t : View
       new_is_kept : filter (λ p. nat_lt f.oldest p.commit) (r ∷ []) ≡ r ∷ []
       new_is_kept = ap (λ b. cond b (r ∷ []) []) (lt-ltb f.oldest r.commit (let c = own.commit in let a = reach.held in let b = reach.begun in omega arith))
 
-  pub stands_for : verdict history r ≡ None → StandsFor (record { records = with_new ++ own_record records t (f.last + 1) ∷ []; oldest = f.oldest; last = f.last + 1 }) (history ++ r ∷ [])
+  pub stands_for : verdict history r ≡ None → StandsFor (record { records = f.records ++ own_record records t (f.last + 1) ∷ []; oldest = f.oldest; last = f.last + 1 }) (history ++ r ∷ [])
   stands_for clear =
       let free = clear_from history r clear in record {
         numbered = (let l = s.last in let c = own.commit in numbered-append 0 history r s.numbered (omega arith));
@@ -331,22 +301,18 @@ module _ (f : Facts) (history : List Record) (s : StandsFor f history) (t : View
         ]));
         no_pivot = (λ p p_in. elim (in_append_cases history r p (in_from_Contains (history ++ r ∷ []) p p_in)) [
           | inl g ↦ false_from_ne_true _ (free.others p g)
-          | inr e ↦ ap (is_pivot (history ++ r ∷ [])) e ∙ free.self
+          | inr e ↦ ap (is_dangerous_pivot (history ++ r ∷ [])) e ∙ free.self
         ]);
         last = (let l = s.last in omega (arith, length-append history (r ∷ [])));
         records = all_kept;
       }
 
--- the records kept before, once the transaction has committed
-abbrev pub after_note : Facts → View → List KeptRecord
-after_note f t = let place = length f.records - (f.last - t.begin) in take place f.records ++ map (with_dependencies t) (drop place f.records)
-
 -- the transaction commits as number n
 pub notes : (f : Facts) (history : List Record) → StandsFor f history → (t : View) → IsInReach f t → (n : ℕ) → n ≡ f.last + 1 → (r : Record) → IsRecordOf t n r → IsClear f t
-    → StandsFor (record { records = after_note f t ++ own_record (since f t.begin) t n ∷ []; oldest = f.oldest; last = n }) (history ++ r ∷ [])
+    → StandsFor (record { records = f.records ++ own_record (since f t.begin) t n ∷ []; oldest = f.oldest; last = n }) (history ++ r ∷ [])
 notes f history s t reach n next r own clear =
     let own' : IsRecordOf t (f.last + 1) r = subst (λ m. IsRecordOf t m r) next own in
-    subst (λ m. StandsFor (record { records = after_note f t ++ own_record (since f t.begin) t m ∷ []; oldest = f.oldest; last = m }) (history ++ r ∷ [])) (sym next)
+    subst (λ m. StandsFor (record { records = f.records ++ own_record (since f t.begin) t m ∷ []; oldest = f.oldest; last = m }) (history ++ r ∷ [])) (sym next)
     (stands_for f history s t reach r own' (clear history s r own'))
 
 -- ---- forgetting

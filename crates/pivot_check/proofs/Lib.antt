@@ -1,4 +1,5 @@
 pub mod Lists
+pub mod Ends
 pub mod Histories
 pub mod Rising
 pub mod Above

@@ -6,7 +6,7 @@ use Rattle.model.specs.PrivateCopy.{Mark}
 use Rattle.pivot_check.specs.Kept.{KeptRecord}
 
 abbrev pub record_of : Kept → KeptRecord
-record_of r = record { begin = r.begin; commit = r.commit; marks = r.marks; keys = r.keys.items; has_read_write_in = r.flags.has_in; has_read_write_out = r.flags.has_out }
+record_of r = record { begin = r.begin; commit = r.commit; marks = r.marks; keys = r.keys.items; has_earlier_target = r.has_earlier_target }
 
 abbrev pub records_of : List Kept → List KeptRecord
 records_of rs = map record_of rs

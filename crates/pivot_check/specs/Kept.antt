@@ -1,19 +1,18 @@
 -- What is kept of committed transactions, so that a commit can be checked once older ones are forgotten.
-use Rattle.std.specs.Prelude.{◌≡◌, ℕ, ◌<◌, ◌≤◌, Bool, ◌&&◌, ◌||◌, List, Option, Some, None, map, length, drop, ◌-◌}
+use Rattle.std.specs.Prelude.{◌≡◌, ℕ, ◌<◌, ◌≤◌, nat_le, Bool, false, ◌&&◌, List, [], ◌∷◌, Option, Some, None, find, option_map, map, length, drop, ◌-◌, if◌then◌else◌}
 use Rattle.std.specs.List.{list_any, AllByRecursion}
 use Rattle.model.specs.Map.{Bytes, KeyWrite, is_same_key}
 use Rattle.model.specs.PrivateCopy.{Mark, is_covered}
 use Rattle.snapshot.specs.View.{View}
 
--- what is kept of a committed transaction: the marks of what it read, the keys that it wrote by rising key, and whether a
--- concurrent read-write dependency leads to it, and from it
+-- what is kept of a committed transaction: the marks of what it read, the keys that it wrote by rising key, and whether it has a
+-- read-write dependency to a concurrent one that committed before it
 pub record KeptRecord : Type 0 where
   pub begin : ℕ
   pub commit : ℕ
   pub marks : List Mark
   pub keys : List Bytes
-  pub has_read_write_in : Bool
-  pub has_read_write_out : Bool
+  pub has_earlier_target : Bool
 
 -- the records with a commit number above `oldest`, in the order of their commits, and the last commit number
 pub record Facts : Type 0 where
@@ -43,18 +42,38 @@ leads_to r t = list_any (is_covered r.marks) (keys_of t.writes)
 abbrev pub follows : KeptRecord → View → Bool
 follows r t = list_any (is_covered t.marks) r.keys
 
--- whether the concurrent record is a pivot once the transaction has committed
+-- whether the concurrent record is a dangerous pivot once the transaction has committed
 abbrev pub becomes_pivot : View → KeptRecord → Bool
-becomes_pivot t r = (r.has_read_write_in || follows r t) && (r.has_read_write_out || leads_to r t)
+becomes_pivot t r = follows r t && r.has_earlier_target
 
--- the first of two numbers that may be there
-abbrev pub first_of : Option ℕ → Option ℕ → Option ℕ
+-- the first of two that may be there, else the other
+abbrev pub first_of : {X : Type 0} → Option X → Option X → Option X
 first_of None o = o
-first_of (Some n) o = Some n
+first_of (Some x) o = Some x
 
--- the concurrent record once the transaction has committed
-abbrev pub with_dependencies : View → KeptRecord → KeptRecord
-with_dependencies t r = record r { has_read_write_in = r.has_read_write_in || follows r t; has_read_write_out = r.has_read_write_out || leads_to r t }
+-- the commit number of the first record that passes
+abbrev pub first_number : (KeptRecord → Bool) → List KeptRecord → Option ℕ
+first_number p rs = option_map (λ r. r.commit) (find p rs)
+
+-- the last element that passes
+abbrev pub last_that : {X : Type 0} → (X → Bool) → List X → Option X
+last_that p [] = None
+last_that p (x ∷ xs) = first_of (last_that p xs) (if p x then Some x else None)
+
+-- the commit number of the last record that passes
+abbrev pub last_number : (KeptRecord → Bool) → List KeptRecord → Option ℕ
+last_number p rs = option_map (λ r. r.commit) (last_that p rs)
+
+-- whether both are there, the first at most the second
+abbrev pub are_in_order : Option ℕ → Option ℕ → Bool
+are_in_order None other = false
+are_in_order (Some n) None = false
+are_in_order (Some n) (Some m) = nat_le n m
+
+-- whether the transaction is a dangerous pivot once it has committed: the first of the concurrent records that it has a dependency to
+-- committed no later than the last one with a dependency to it
+abbrev pub is_own_pivot : List KeptRecord → View → Bool
+is_own_pivot rs t = are_in_order (first_number (λ r. follows r t) rs) (last_number (λ r. leads_to r t) rs)
 
 -- the transaction's own record, where the records are those that are concurrent
 abbrev pub own_record : List KeptRecord → View → ℕ → KeptRecord
@@ -63,8 +82,7 @@ own_record rs t n = record {
   commit = n;
   marks = t.marks;
   keys = keys_of t.writes;
-  has_read_write_in = list_any (λ r. leads_to r t) rs;
-  has_read_write_out = list_any (λ r. follows r t) rs;
+  has_earlier_target = list_any (λ r. follows r t) rs;
 }
 
 -- the records committed after that number

@@ -1,5 +1,5 @@
 -- The histories for which what is kept stands, and what the check of a commit says about them.
-use Rattle.std.specs.Prelude.{◌≡◌, ℕ, ◌<◌, ◌+◌, Bool, true, false, List, Option, Some, None, map, nat_lt, length, All, slice_get, ⊤}
+use Rattle.std.specs.Prelude.{◌≡◌, ℕ, ◌<◌, ◌+◌, Bool, true, false, ◌&&◌, List, Option, Some, None, map, nat_lt, length, All, slice_get, ⊤}
 use Rattle.std.specs.List.{list_any, filter}
 use Rattle.model.specs.declared.refusals.Refusal.{Refusal}
 use Rattle.model.specs.declared.refusals.Refusal.TheVariants as refusal
@@ -8,19 +8,18 @@ use Rattle.pivot_check.specs.declared.verdict.Verdict.TheVariants.{Clear, Overwr
 use Rattle.model.specs.Map.{KeyWrite}
 use Rattle.model.specs.History.{Record, IsNumberedFrom}
 use Rattle.model.specs.Dependency.{concurrent_read_write}
-use Rattle.model.specs.Verdict.{verdict, HasNoPivot}
+use Rattle.model.specs.Verdict.{verdict, HasNoDangerousPivot}
 use Rattle.snapshot.specs.View.{View}
 use Rattle.pivot_check.specs.Kept.{KeptRecord, Facts, keys_of}
 
--- what is kept of a record of the history, the whole of which decides its flags
+-- what is kept of a record of the history, the whole of which decides its flag
 abbrev pub kept_of : List Record → Record → KeptRecord
 kept_of history r = record {
   begin = r.begin;
   commit = r.commit;
   marks = r.reads;
   keys = keys_of r.writes;
-  has_read_write_in = list_any (λ x. concurrent_read_write x r) history;
-  has_read_write_out = list_any (λ y. concurrent_read_write r y) history;
+  has_earlier_target = list_any (λ y. concurrent_read_write r y && nat_lt y.commit r.commit) history;
 }
 
 -- what is kept of the history: its records with a commit number above `oldest`
@@ -31,7 +30,7 @@ kept_above oldest history = map (kept_of history) (filter (λ r. nat_lt oldest r
 pub record StandsFor (f : Facts) (history : List Record) : Type 0 where
   pub numbered : IsNumberedFrom 0 history
   pub begun : All (λ r. r.begin < r.commit) history
-  pub no_pivot : HasNoPivot history
+  pub no_pivot : HasNoDangerousPivot history
   pub last : f.last ≡ length history
   pub records : f.records ≡ kept_above f.oldest history
 
@@ -56,7 +55,7 @@ IsPlaced Clear ws = ⊤
 IsPlaced PivotSelf ws = ⊤
 IsPlaced (Pivot n) ws = ⊤
 
--- what is answered where the transaction overwrites no concurrent commit: is it a pivot itself, and which other one is the first
+-- what is answered where the transaction overwrites no concurrent commit: is it a dangerous pivot itself, and which other one is the first
 abbrev pub verdict_found : Bool → Option ℕ → Verdict
 verdict_found true other = PivotSelf
 verdict_found false None = Clear

@@ -7,7 +7,7 @@ ghost use Rattle.pivot_check.specs.Inside.{records_of};
 ghost use Rattle.pivot_check.specs.StandsFor.{StandsFor, IsRecordOf, IsVerdict, IsPlaced, IsClear};
 
 use crate::kept::Kept;
-use crate::records::{Findings, first_overwritten, note_dependencies};
+use crate::records::{Findings, first_overwritten, has_target};
 use crate::verdict::Verdict;
 use model::Memory;
 use snapshot::Transaction;
@@ -24,7 +24,7 @@ pub struct Committed {
     records: Vec<Kept>,
     oldest: u64,
     last: u64,
-    // the next record, but for its numbers and flags
+    // the next record, but for its numbers and its flag
     ready: Option<Kept>,
 }
 
@@ -99,8 +99,8 @@ impl Committed {
     }
 
     /// Whether the transaction may commit as the next number, by the definition over the whole history: it has overwritten no concurrent
-    /// commit, and neither it nor a committed transaction would be a pivot (Cahill, Röhm, Fekete 2008). Of several reasons it names the
-    /// least overwritten key, else the transaction itself, else the pivot of least commit number.
+    /// commit, and neither it nor a committed transaction would be a dangerous pivot (Cahill, Röhm, Fekete 2008; Ports, Grittner 2012). Of
+    /// several reasons it names the least overwritten key, else the transaction itself, else the pivot of least commit number.
     ///
     /// It looks at the concurrent records alone. For each it takes a binary search for each mark of the one side among the keys of the
     /// other, and one for each written key. Takes no memory.
@@ -128,9 +128,9 @@ impl Committed {
         Ok(())
     }
 
-    /// Keeps the record of the transaction, which commits as number `n`, the next one, and adds its dependencies to those of the
-    /// concurrent records. From each history that is stood for it leads to that history with the new record. It looks at the concurrent
-    /// records alone, as `verdict` does. Takes no memory: `reserve` made room.
+    /// Keeps the record of the transaction, which commits as number `n`, the next one; the other records stay as they are. From each
+    /// history that is stood for it leads to that history with the new record. It looks at the concurrent records alone, as `verdict`
+    /// does, and no further than to the first that the transaction depends on. Takes no memory: `reserve` made room.
     pub fn note(&mut self, tx: &Transaction, n: u64)
         requires next { n ≡ self.old.facts.last + 1 }
         requires room { HasRoom self.old.room tx.now }
@@ -138,15 +138,13 @@ impl Committed {
         ensures last { self.new.facts.last ≡ n }
         ensures oldest { self.new.facts.oldest ≡ self.old.facts.oldest }
     {
-        let start = self.start(tx.begin());
-        let concurrent = &mut self.records[start..];
-        let flags = note_dependencies(concurrent, tx);
+        let has_earlier_target = has_target(self.since(tx.begin()), tx);
         let Some(mut own) = self.ready.take() else {
             unreachable!()
         };
         own.begin = tx.begin();
         own.commit = n;
-        own.flags = flags;
+        own.has_earlier_target = has_earlier_target;
         match self.records.push(own) {
             Ok(()) => {}
             Err(_) => unreachable!(),
@@ -155,8 +153,8 @@ impl Committed {
     }
 
     /// Drops the records of the transactions that committed at or before number `oldest`: from then on none may ask that began before it.
-    /// What is left stands for the same histories, since a record's dependencies stay known when the record at their other end is
-    /// dropped. Constant time where `oldest` isn't above `self.oldest()`, else one pass over the records. Takes no memory.
+    /// What is left stands for the same histories, since a record's flag was fixed when it was noted. Constant time where `oldest` isn't
+    /// above `self.oldest()`, else one pass over the records. Takes no memory.
     pub fn forget(&mut self, oldest: u64)
         requires { oldest ≤ self.old.facts.last }
         ensures stands_for { (h : List Record) → StandsFor self.old.facts h → StandsFor self.new.facts h }

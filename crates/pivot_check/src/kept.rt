@@ -2,20 +2,20 @@
 ghost use Rattle.std.specs.Prelude.{IsTrue};
 ghost use Rattle.marks.specs.Sorted.{is_rising};
 
-use crate::flags::Flags;
 use marks::{Marks, has_key};
 use model::{Key, KeyRef, Memory, Write};
 use snapshot::Transaction;
 use std::alloc::Global;
 
-/// What is kept of a committed transaction: the marks of what it read, the keys that it wrote by rising key, and its dependencies.
+/// What is kept of a committed transaction: the marks of what it read, the keys that it wrote by rising key, and whether it read what a
+/// concurrent one wrote that committed before it.
 #[derive(Drop)]
 pub(crate) struct Kept {
     pub(crate) begin: u64,
     pub(crate) commit: u64,
     pub(crate) marks: Marks,
     pub(crate) keys: Vec<Key>,
-    pub(crate) flags: Flags,
+    pub(crate) has_earlier_target: bool,
     ghost rising: { IsTrue (is_rising keys.items) },
 }
 
@@ -23,7 +23,7 @@ impl Kept {
     ghost use Rattle.std.specs.Prelude.{◌≡◌, IfOk};
     ghost use Rattle.std.specs.List.{list_any};
     ghost use Rattle.model.specs.Map.{is_same_key};
-    ghost use Rattle.pivot_check.specs.Kept.{keys_of, leads_to, follows, with_dependencies};
+    ghost use Rattle.pivot_check.specs.Kept.{keys_of, leads_to, follows};
     ghost use Rattle.pivot_check.specs.Inside.{record_of};
 
     // Copies of the keys of the writes.
@@ -37,7 +37,7 @@ impl Kept {
         Ok(keys)
     }
 
-    // The record of a transaction with copies of its marks and keys, but without its commit number and dependencies.
+    // The record of a transaction with copies of its marks and keys, but without its commit number and its flag.
     pub(crate) fn copy_of(alloc: Global, tx: &Transaction) -> Result<Kept, Memory>
         ensures marks { IfOk result (λ k. k.marks ≡ tx.now.marks) }
         ensures keys { IfOk result (λ k. k.keys.items ≡ keys_of tx.now.writes) }
@@ -49,7 +49,7 @@ impl Kept {
             commit: 0,
             marks,
             keys,
-            flags: Flags::none(),
+            has_earlier_target: false,
         })
     }
 
@@ -60,23 +60,17 @@ impl Kept {
         has_key(&self.keys, key)
     }
 
-    // The dependencies that the transaction, which is concurrent, has with it.
-    pub(crate) fn dependencies(&self, tx: &Transaction) -> Flags
-        ensures { result ≡ record { has_in = leads_to (record_of self.now) tx.now; has_out = follows (record_of self.now) tx.now } }
+    // Has it read what the transaction, which is concurrent, writes?
+    pub(crate) fn leads_to(&self, tx: &Transaction) -> bool
+        ensures { result ≡ leads_to (record_of self.now) tx.now }
     {
-        Flags {
-            has_in: self.marks.covers_any(tx.entries()),
-            has_out: tx.marks().covers_any(&self.keys),
-        }
+        self.marks.covers_any(tx.entries())
     }
 
-    // Adds the dependencies that it has with the transaction, and answers those that the transaction has with it.
-    pub(crate) fn note(&mut self, tx: &Transaction) -> Flags
-        ensures after { record_of self.new ≡ with_dependencies tx.now (record_of self.old) }
-        ensures met { result ≡ record { has_in = leads_to (record_of self.old) tx.now; has_out = follows (record_of self.old) tx.now } }
+    // Has the transaction, which is concurrent, read what it writes?
+    pub(crate) fn follows(&self, tx: &Transaction) -> bool
+        ensures { result ≡ follows (record_of self.now) tx.now }
     {
-        let met = self.dependencies(tx);
-        self.flags = self.flags.or(met.reversed());
-        met
+        tx.marks().covers_any(&self.keys)
     }
 }

@@ -1,12 +1,11 @@
 //! What the concurrent records say of a transaction.
-ghost use Rattle.std.specs.Prelude.{◌≡◌, List, ◌&&◌, ◌||◌, map, position, find, option_map, Some, None, if◌then◌else◌};
+ghost use Rattle.std.specs.Prelude.{◌≡◌, List, position, Some, None, if◌then◌else◌};
 ghost use Rattle.std.specs.List.{list_any};
 ghost use Rattle.model.specs.Map.{KeyWrite};
-ghost use Rattle.pivot_check.specs.Kept.{is_written, leads_to, follows, becomes_pivot, with_dependencies, first_of};
+ghost use Rattle.pivot_check.specs.Kept.{is_written, leads_to, follows, becomes_pivot, first_of, first_number, last_number, are_in_order};
 ghost use Rattle.pivot_check.specs.StandsFor.{verdict_found, IsPlaced};
 ghost use Rattle.pivot_check.specs.Inside.{record_of, records_of};
 
-use crate::flags::Flags;
 use crate::kept::Kept;
 use crate::verdict::Verdict;
 use model::{KeyRef, Write};
@@ -33,22 +32,37 @@ pub(crate) fn first_overwritten(records: &[Kept], writes: &[Write]) -> Option<us
         .position(|write| is_written(records, write.lend_key()))
 }
 
-/// What records say of a transaction: its dependencies with them, and the commit number of the first that it makes a pivot.
+// Has the transaction read what one of the records, with which it is concurrent, writes?
+pub(crate) fn has_target(records: &[Kept], tx: &Transaction) -> bool
+    ensures { result ≡ list_any (λ r. follows r tx.now) (records_of records.now) }
+{
+    for kept in records {
+        if kept.follows(tx) {
+            return true;
+        }
+    }
+    false
+}
+
+/// What records say of a transaction, each by a commit number: the first whose key it read, its target; the last that read a key of its
+/// own, its source; and the first that it makes a dangerous pivot.
 #[derive(Clone, Copy)]
 pub(crate) struct Findings {
-    pub(crate) own: Flags,
+    pub(crate) target: Option<u64>,
+    pub(crate) source: Option<u64>,
     pub(crate) pivot: Option<u64>,
 }
 
 impl Findings {
     // What the records say of the transaction, with which they are concurrent.
     pub(crate) fn of(records: &[Kept], tx: &Transaction) -> Findings
-        ensures has_in { result.own.has_in ≡ list_any (λ r. leads_to r tx.now) (records_of records.now) }
-        ensures has_out { result.own.has_out ≡ list_any (λ r. follows r tx.now) (records_of records.now) }
-        ensures pivot { result.pivot ≡ option_map (λ r. r.commit) (find (becomes_pivot tx.now) (records_of records.now)) }
+        ensures target { result.target ≡ first_number (λ r. follows r tx.now) (records_of records.now) }
+        ensures source { result.source ≡ last_number (λ r. leads_to r tx.now) (records_of records.now) }
+        ensures pivot { result.pivot ≡ first_number (becomes_pivot tx.now) (records_of records.now) }
     {
         let mut found = Findings {
-            own: Flags::none(),
+            target: None,
+            source: None,
             pivot: None,
         };
         for kept in records {
@@ -57,12 +71,22 @@ impl Findings {
         found
     }
 
+    // Is the transaction a dangerous pivot, with a target that committed no later than a source? Both committed before it.
+    fn is_pivot(self) -> bool
+        ensures { result ≡ are_in_order self.target self.source }
+    {
+        match (self.target, self.source) {
+            (Some(target), Some(source)) => target <= source,
+            _ => false,
+        }
+    }
+
     // The answer where the transaction overwrites no concurrent commit.
     pub(crate) fn verdict(self) -> Verdict
-        ensures verdict { result ≡ verdict_found (self.own.has_in && self.own.has_out) self.pivot }
+        ensures verdict { result ≡ verdict_found (are_in_order self.target self.source) self.pivot }
         ensures place { (ws : List KeyWrite) → IsPlaced result ws }
     {
-        if self.own.is_pivot() {
+        if self.is_pivot() {
             return Verdict::PivotSelf;
         }
         match self.pivot {
@@ -73,27 +97,20 @@ impl Findings {
 
     // Adds what one more record says.
     fn add(&mut self, kept: &Kept, tx: &Transaction)
-        ensures own { self.new.own ≡ record { has_in = self.old.own.has_in || leads_to (record_of kept.now) tx.now; has_out = self.old.own.has_out || follows (record_of kept.now) tx.now } }
+        ensures target { self.new.target ≡ first_of self.old.target (if follows (record_of kept.now) tx.now then Some (record_of kept.now).commit else None) }
+        ensures source { self.new.source ≡ first_of (if leads_to (record_of kept.now) tx.now then Some (record_of kept.now).commit else None) self.old.source }
         ensures pivot { self.new.pivot ≡ first_of self.old.pivot (if becomes_pivot tx.now (record_of kept.now) then Some (record_of kept.now).commit else None) }
     {
-        let met = kept.dependencies(tx);
-        self.own = self.own.or(met);
-        if self.pivot.is_none() && kept.flags.or(met.reversed()).is_pivot() {
-            self.pivot = Some(kept.commit);
+        if kept.follows(tx) {
+            if self.target.is_none() {
+                self.target = Some(kept.commit);
+            }
+            if self.pivot.is_none() && kept.has_earlier_target {
+                self.pivot = Some(kept.commit);
+            }
+        }
+        if kept.leads_to(tx) {
+            self.source = Some(kept.commit);
         }
     }
-}
-
-// Adds the dependencies that the records have with the transaction, and answers those that it has with them.
-pub(crate) fn note_dependencies(records: &mut [Kept], tx: &Transaction) -> Flags
-    ensures records { records_of records.new ≡ map (with_dependencies tx.now) (records_of records.old) }
-    ensures has_in { result.has_in ≡ list_any (λ r. leads_to r tx.now) (records_of records.old) }
-    ensures has_out { result.has_out ≡ list_any (λ r. follows r tx.now) (records_of records.old) }
-{
-    let mut own = Flags::none();
-    for kept in records.iter_mut() {
-        let met = kept.note(tx);
-        own = own.or(met);
-    }
-    own
 }

@@ -8,8 +8,8 @@ pub enum Verdict {
     /// A transaction that committed since it began has written a key that it wrote too. The number is the place of the least
     /// such key among its entries.
     Overwritten(usize),
-    /// It would be a pivot.
+    /// It would be a dangerous pivot.
     PivotSelf,
-    /// It would make this committed transaction a pivot: the one of least commit number.
+    /// It would make this committed transaction a dangerous pivot: the one of least commit number.
     Pivot(u64),
 }

@@ -81,19 +81,21 @@ impl History {
         false
     }
 
-    fn depends_on_some(&self, pivot: &Record) -> bool {
+    // Does it depend on one that committed before it, and not after the other?
+    fn depends_on_first(&self, before: &Record, pivot: &Record) -> bool {
         for after in &self.records {
-            if pivot.depends_on(after) {
+            let first = after.commit < pivot.commit && after.commit <= before.commit;
+            if first && pivot.depends_on(after) {
                 return true;
             }
         }
         false
     }
 
-    // Do two records, which may be one, make it a pivot?
+    // Do two records, which may be one, make it a dangerous pivot?
     fn is_pivot(&self, pivot: &Record) -> bool {
         for before in &self.records {
-            if before.depends_on(pivot) && self.depends_on_some(pivot) {
+            if before.depends_on(pivot) && self.depends_on_first(before, pivot) {
                 return true;
             }
         }

@@ -196,7 +196,39 @@ fn writer_finds_a_committed_pivot(rt: HostRuntime) -> Result<(), Fail> {
     let mut both = Both::new(alloc);
     assert_eq!(rt; run(alloc, &mut both, 0, b"k", b""), CLEAR);
     assert_eq!(rt; run(alloc, &mut both, 0, b"m", b"k"), CLEAR);
-    assert_eq!(rt; run(alloc, &mut both, 0, b"", b"m"), pivot(2));
+    assert_eq!(rt; run(alloc, &mut both, 0, b"", b"m"), CLEAR);
+    Ok(())
+}
+
+#[test]
+fn earlier_reader_is_harmless(rt: HostRuntime) -> Result<(), Fail> {
+    let alloc = rt.alloc();
+    let mut both = Both::new(alloc);
+    assert_eq!(rt; run(alloc, &mut both, 0, b"k", b""), CLEAR);
+    assert_eq!(rt; run(alloc, &mut both, 0, b"", b"m"), CLEAR);
+    assert_eq!(rt; run(alloc, &mut both, 0, b"m", b"k"), CLEAR);
+    Ok(())
+}
+
+#[test]
+fn pivot_with_a_later_writer_is_harmless(rt: HostRuntime) -> Result<(), Fail> {
+    let alloc = rt.alloc();
+    let mut both = Both::new(alloc);
+    assert_eq!(rt; run(alloc, &mut both, 0, b"m", b"k"), CLEAR);
+    assert_eq!(rt; run(alloc, &mut both, 0, b"k", b""), CLEAR);
+    assert_eq!(rt; run(alloc, &mut both, 0, b"", b"m"), CLEAR);
+    Ok(())
+}
+
+#[test]
+fn pivot_after_its_target_was_forgotten(rt: HostRuntime) -> Result<(), Fail> {
+    let alloc = rt.alloc();
+    let mut both = Both::new(alloc);
+    assert_eq!(rt; run(alloc, &mut both, 0, b"", b"m"), CLEAR);
+    assert_eq!(rt; run(alloc, &mut both, 0, b"m", b"k"), CLEAR);
+    forget(&mut both, 1);
+    assert_eq!(rt; both.committed.kept(), 1);
+    assert_eq!(rt; run(alloc, &mut both, 1, b"k", b""), pivot(2));
     Ok(())
 }
 
@@ -218,8 +250,8 @@ fn pivot_after_its_neighbour_was_forgotten(rt: HostRuntime) -> Result<(), Fail> 
     forget(&mut both, 1);
     assert_eq!(rt; both.committed.oldest(), 1);
     assert_eq!(rt; both.committed.kept(), 1);
-    assert_eq!(rt; run(alloc, &mut both, 1, b"", b"m"), pivot(2));
+    assert_eq!(rt; run(alloc, &mut both, 1, b"", b"m"), CLEAR);
     forget(&mut both, 2);
-    assert_eq!(rt; both.committed.kept(), 0);
+    assert_eq!(rt; both.committed.kept(), 1);
     Ok(())
 }

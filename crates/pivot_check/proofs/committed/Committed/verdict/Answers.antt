@@ -1,9 +1,7 @@
-use Rattle.std.proofs.Common.{◌≡◌, List, Some, None, Option, ap, ◌∙◌, ℕ, ◌&&◌}
-use Rattle.std.specs.Prelude.{find}
-use Rattle.std.specs.List.{list_any, position}
-use Rattle.std.specs.Option.{option_map}
+use Rattle.std.proofs.Common.{◌≡◌, List, Some, None, Option, ap, ◌∙◌, ℕ}
+use Rattle.std.specs.List.{position}
 use Rattle.model.specs.Map.{KeyWrite}
-use Rattle.pivot_check.specs.Kept.{KeptRecord, since, is_written, leads_to, follows, becomes_pivot}
+use Rattle.pivot_check.specs.Kept.{KeptRecord, since, is_written, leads_to, follows, becomes_pivot, first_number, last_number, are_in_order}
 use Rattle.pivot_check.specs.Inside.{records_of}
 use Rattle.pivot_check.proofs.Histories.{says_overwritten, says_found}
 use Rattle.pivot_check.proofs.committed.Committed.verdict.Goals as goal
@@ -24,6 +22,7 @@ returns-in-None-clause-verdict c =
     let e : records_of c.since-concurrent.result.now ≡ concurrent = c.since-concurrent.ensures ∙ ap (since c.args.self.now.facts) c.begin.ensures in
     λ reach h s r own. says_found c.args.self.now.facts h s t reach r own
     (places (records_of c.since-concurrent.result.now) concurrent c.entries.result.now t.writes None e c.entries.ensures.writes c.in-None.ensures)
-    (c.of.result.own.has_in && c.of.result.own.has_out) (λ i. (c.of.ensures.has_in ∙ ap (list_any (λ r. leads_to r t)) e) i && (c.of.ensures.has_out ∙ ap (list_any (λ r. follows r t)) e) i)
-    c.of.result.pivot (c.of.ensures.pivot ∙ ap (λ rs. option_map (λ (r : KeptRecord). r.commit) (find (becomes_pivot t) rs)) e)
+    (are_in_order c.of.result.target c.of.result.source)
+    (λ i. are_in_order ((c.of.ensures.target ∙ ap (first_number (λ r. follows r t)) e) i) ((c.of.ensures.source ∙ ap (last_number (λ r. leads_to r t)) e) i))
+    c.of.result.pivot (c.of.ensures.pivot ∙ ap (first_number (becomes_pivot t)) e)
     _ c.verdict.ensures.verdict
