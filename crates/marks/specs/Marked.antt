@@ -1,15 +1,16 @@
 -- The marks that are held, and what one more does.
-use Rattle.std.specs.Prelude.{ℕ, List, [], ◌∷◌, ◌++◌, Bool, length, nat_lt, Option, Some, None, if◌then◌else◌, not, ◌&&◌, option_map}
+use Rattle.std.specs.Prelude.{List, [], ◌∷◌, ◌++◌, Bool, length, nat_lt, if◌then◌else◌, not, ◌&&◌, option_map}
 use Rattle.std.specs.List.{list_any}
 use Rattle.marks.specs.declared.held.Held.{Held}
-use Rattle.marks.specs.declared.held.Held.TheVariants.{Key, Range}
+use Rattle.marks.specs.declared.held.Held.TheVariants.{Key, Range, ClosedRange}
 use Rattle.model.specs.declared.ranges.RangeRef.{RangeRef}
 use Rattle.model.specs.PrivateCopy.{Mark, is_same_mark}
-use Rattle.model.specs.PrivateCopy.Mark.{OfKey, OfRange}
+use Rattle.model.specs.PrivateCopy.Mark.{OfKey, OfRange, OfClosedRange}
 
 abbrev pub mark_of : Held → Mark
 mark_of (Key k) = OfKey k
 mark_of (Range r) = OfRange r.lo r.hi
+mark_of (ClosedRange lo last) = OfClosedRange lo last
 
 abbrev pub marks_of : List Held → List Mark
 marks_of [] = []

@@ -4,7 +4,7 @@ use Rattle.std.specs.List.{list_all}
 use Rattle.std.specs.Ordering.{is_lt}
 use Rattle.model.specs.Map.{Bytes, key_cmp}
 use Rattle.model.specs.PrivateCopy.{Mark}
-use Rattle.model.specs.PrivateCopy.Mark.{OfKey, OfRange}
+use Rattle.model.specs.PrivateCopy.Mark.{OfKey, OfRange, OfClosedRange}
 
 -- whether each key is below all that follow
 abbrev pub is_rising : List Bytes → Bool
@@ -15,3 +15,4 @@ is_rising (k ∷ ks) = list_all (λ j. is_lt (key_cmp k j)) ks && is_rising ks
 abbrev pub start_of : Mark → Bytes
 start_of (OfKey k) = k
 start_of (OfRange lo hi) = lo
+start_of (OfClosedRange lo last) = lo

@@ -7,13 +7,15 @@ use std::alloc::Global;
 pub(crate) enum Held {
     Key(Key),
     Range(Range),
+    /// From the first key to the last, both included.
+    ClosedRange { lo: Key, last: Key },
 }
 
 impl Held {
     ghost use Rattle.std.specs.Prelude.{◌≡◌, IfOk};
     ghost use Rattle.marks.specs.Marked.{mark_of, range_mark};
     ghost use Rattle.model.specs.PrivateCopy.{covers, is_same_mark};
-    ghost use Rattle.model.specs.PrivateCopy.Mark.{OfKey};
+    ghost use Rattle.model.specs.PrivateCopy.Mark.{OfKey, OfClosedRange};
 
     // The same mark once more.
     pub(crate) fn copy(&self) -> Result<Held, Memory>
@@ -29,6 +31,11 @@ impl Held {
                 };
                 Ok(Held::Range(Range { lo, hi }))
             }
+            Held::ClosedRange { lo, last } => {
+                let lo = lo.copy()?;
+                let last = last.copy()?;
+                Ok(Held::ClosedRange { lo, last })
+            }
         }
     }
 
@@ -42,6 +49,15 @@ impl Held {
             Some(hi) => Some(Key::from_ref(alloc, hi)?),
         };
         Ok(Held::Range(Range { lo, hi }))
+    }
+
+    // The mark of all keys from the first to the last.
+    pub(crate) fn from_ends(alloc: Global, lo: KeyRef<'_>, last: KeyRef<'_>) -> Result<Held, Memory>
+        ensures { IfOk result (λ h. mark_of h ≡ OfClosedRange lo.entry.bytes.now last.entry.bytes.now) }
+    {
+        let lo = Key::from_ref(alloc, lo)?;
+        let last = Key::from_ref(alloc, last)?;
+        Ok(Held::ClosedRange { lo, last })
     }
 
     // Does the mark cover the key?
@@ -59,6 +75,9 @@ impl Held {
                     None => true,
                 }
             }
+            Held::ClosedRange { lo, last } => {
+                lo.lend().order(key).is_le() && key.order(last.lend()).is_le()
+            }
         }
     }
 
@@ -68,7 +87,7 @@ impl Held {
     {
         match self {
             Held::Key(held) => key.order(held.lend()).is_eq(),
-            Held::Range(_) => false,
+            Held::Range(_) | Held::ClosedRange { .. } => false,
         }
     }
 
@@ -77,7 +96,7 @@ impl Held {
         ensures { result ≡ is_same_mark (range_mark range.entry) (mark_of self.now) }
     {
         match self {
-            Held::Key(_) => false,
+            Held::Key(_) | Held::ClosedRange { .. } => false,
             Held::Range(held) => {
                 if !range.lo.order(held.lo.lend()).is_eq() {
                     return false;
@@ -87,6 +106,18 @@ impl Held {
                     (Some(hi), Some(end)) => hi.order(end.lend()).is_eq(),
                     _ => false,
                 }
+            }
+        }
+    }
+
+    // Is it the mark from this key to that one?
+    pub(crate) fn is_from_to(&self, first: KeyRef<'_>, end: KeyRef<'_>) -> bool
+        ensures { result ≡ is_same_mark (OfClosedRange first.entry.bytes.now end.entry.bytes.now) (mark_of self.now) }
+    {
+        match self {
+            Held::Key(_) | Held::Range(_) => false,
+            Held::ClosedRange { lo, last } => {
+                first.order(lo.lend()).is_eq() && end.order(last.lend()).is_eq()
             }
         }
     }

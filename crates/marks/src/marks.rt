@@ -1,8 +1,10 @@
 //! The marks of one transaction.
 ghost use Rattle.std.specs.Prelude.{◌≡◌, ◌↔◌, [], map, IsTrue, IsOk, OnOk, OnErr, IfOk, Err};
 ghost use Rattle.std.specs.List.{list_any};
+ghost use Rattle.std.specs.Ordering.{is_le};
 ghost use Rattle.model.specs.PrivateCopy.{is_covered};
-ghost use Rattle.model.specs.PrivateCopy.Mark.{OfKey};
+ghost use Rattle.model.specs.Map.{key_cmp};
+ghost use Rattle.model.specs.PrivateCopy.Mark.{OfKey, OfClosedRange};
 ghost use Rattle.marks.specs.Sorted.{is_rising};
 ghost use Rattle.marks.specs.Marked.{has_mark, is_full_for, with_mark, range_mark};
 
@@ -109,6 +111,28 @@ impl Marks {
         Ok(())
     }
 
+    /// Marks all keys from `lo` to `last`, both included, present or not: what a range read marks that reached its limit at `last`. A mark
+    /// that is there takes no memory and succeeds. A new one takes copies of the two keys and a place; the marks are as they were where
+    /// it answers `FullMarks`, which it does where 256 are there, or `Memory`.
+    pub fn add_upto(&mut self, lo: KeyRef<'_>, last: KeyRef<'_>) -> Result<(), MarksFault>
+        requires { IsTrue (is_le (key_cmp lo.bytes.now last.bytes.now)) }
+        ensures ok { OnOk result (self.new ≡ with_mark self.old (OfClosedRange lo.entry.bytes.now last.entry.bytes.now)) }
+        ensures err { OnErr result (self.new ≡ self.old) }
+        ensures full { (result ≡ Err MarksFault.FullMarks) ↔ IsTrue (is_full_for self.old (OfClosedRange lo.entry.bytes.now last.entry.bytes.now)) }
+        ensures known { IsTrue (has_mark self.old (OfClosedRange lo.entry.bytes.now last.entry.bytes.now)) → IsOk result }
+    {
+        if self.has_upto(lo, last) {
+            return Ok(());
+        }
+        if self.held.len() >= MARKS_MAX {
+            return Err(MarksFault::FullMarks);
+        }
+        let alloc = *self.held.allocator();
+        let held = Held::from_ends(alloc, lo, last)?;
+        self.held.push(held)?;
+        Ok(())
+    }
+
     /// The same marks once more. It takes as much memory as they hold; `Memory` where it is refused.
     pub fn copy(&self) -> Result<Marks, Memory>
         ensures { IfOk result (λ m. m ≡ self.now) }
@@ -139,6 +163,18 @@ impl Marks {
     {
         for mark in &self.held {
             if mark.is_range(range) {
+                return true;
+            }
+        }
+        false
+    }
+
+    // Is this mark there?
+    fn has_upto(&self, lo: KeyRef<'_>, last: KeyRef<'_>) -> bool
+        ensures { result ≡ has_mark self.now (OfClosedRange lo.entry.bytes.now last.entry.bytes.now) }
+    {
+        for mark in &self.held {
+            if mark.is_from_to(lo, last) {
                 return true;
             }
         }

@@ -63,6 +63,7 @@ impl Held {
         match self {
             Held::Key(key) => key.lend(),
             Held::Range(range) => range.lo.lend(),
+            Held::ClosedRange { lo, last: _ } => lo.lend(),
         }
     }
 

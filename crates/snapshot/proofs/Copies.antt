@@ -1,6 +1,6 @@
 -- A transaction's writes and marks against its private copy.
-use Rattle.std.proofs.Common.{◌≡◌, ◌≢◌, ℕ, suc, ◌+◌, ◌<◌, ◌≤◌, Bool, true, false, T, not, cond, ◌&&◌, ◌||◌, List, [], ◌∷◌, ◌++◌, length, Option, Some, None, Result, Ok, Err, refl, sym, ap, subst, ◌∙◌, arith, inl, inr}
-use Rattle.std.specs.Prelude.{nat_lt, is_some, IsTrue, ◌↔◌, IfOk, option_copied, if◌then◌else◌}
+use Rattle.std.proofs.Common.{◌≡◌, ◌≢◌, ℕ, suc, Bool, true, false, T, not, cond, ◌&&◌, ◌||◌, List, [], ◌∷◌, ◌++◌, length, Option, Some, None, Result, Ok, Err, refl, sym, ap, subst, ◌∙◌, arith, inl, inr}
+use Rattle.std.specs.Prelude.{nat_lt, is_some, IsTrue, ◌↔◌, option_copied, if◌then◌else◌}
 use Rattle.std.specs.Borrow.{Bor}
 use Rattle.std.specs.List.{AllByRecursion, list_any}
 use Rattle.std.specs.BTreeSet.{insert_key}
@@ -9,24 +9,23 @@ use Rattle.std.specs.declared.cmp.Ordering.TheVariants.{Less, Equal, Greater}
 use Rattle.std.specs.Ordering.{is_eq, is_lt, nat_cmp, match_ordering}
 use Rattle.std.specs.Cmp.Lexicographic.{slice_cmp, nat_list_cmp_total}
 use Rattle.std.specs.FinMap.Entries.{find, put, is_sorted, below_all, by_order, find-put, is_sorted-put}
-use Rattle.std.proofs.lemmas.Bool.{both_ways, cases_Bool, lt-ltb, le-ltb, ltb-true, ltb-false}
-use Rattle.std.proofs.lemmas.Map.Lookups.{exact_bytes}
+use Rattle.std.proofs.lemmas.Bool.{both_ways, cases_Bool}
 use Rattle.model.specs.declared.refusals.Refusal.TheVariants as refusal
 use Rattle.model.specs.Map.{Bytes, KeyMap, KeyWrite, IsMap, key_cmp, is_same_key, value_at, after_write, after_writes}
 use Rattle.model.specs.Operations.{Operation, Response}
 use Rattle.model.specs.Operations.Operation.{Get, Set, Del}
 use Rattle.model.specs.Operations.Response.{Done, Value, Refused}
-use Rattle.model.specs.PrivateCopy.{PrivateCopy, Mark, copy_of, copy_after, respond, answer, after_read, is_written, is_same_mark, reads, writes, values_at, after_put as copy_put}
+use Rattle.model.specs.PrivateCopy.{PrivateCopy, Mark, copy_of, respond, answer, after_read, reads, writes, values_at, after_put as copy_put}
 use Rattle.model.specs.PrivateCopy.Mark.{OfKey}
 use Rattle.model.proofs.Lookups.{same_key, same_key_comm, same_key_itself, same_map, value_after_write, IsMap-after_write, IsMap-after_writes}
 use Rattle.model.proofs.Steps.{copy_after-push}
-use Rattle.marks.specs.Marked.{has_mark, is_full_for, with_mark}
+use Rattle.marks.specs.Marked.{has_mark, is_full_for}
 use Rattle.write_buffer.specs.Buffered as buffer
 use Rattle.write_buffer.specs.Buffered.{AreEntries, written, with_write}
 use Rattle.snapshot.specs.declared.faults.SnapshotFault.{SnapshotFault}
 use Rattle.snapshot.specs.declared.faults.SnapshotFault.TheVariants.{FullWrites, FullMarks, Memory}
 use Rattle.snapshot.specs.View.{View, new_view, or_else, value_read, after_get, after_put, keys_of, copy_held, is_full_get, marked}
-use Rattle.snapshot.specs.Made.{HasMade, MakesOneMore, IsValueReply, IsDoneReply, IsFault, is_refused}
+use Rattle.snapshot.specs.Made.{HasMade, MakesOneMore, IsDoneReply, IsFault, is_refused}
 use Rattle.write_buffer.specs.declared.faults.WritesFault as faults
 use Rattle.write_buffer.specs.declared.faults.WritesFault.TheVariants as writes_fault
 use Rattle.std.specs.Prelude.{OnOk, OnErr}
@@ -299,8 +298,8 @@ pub read-after_get : (t u : View) (v : ChainsValue) (k : Bytes) → u ≡ after_
 read-after_get t u v k e = ap (λ (u : View). value_read u (map_seen v u.begin) k) e
     ∙ elim (is_some (written t.writes k)) as (λ b. value_read (if b then t else marked t (OfKey k)) (map_seen v (if b then t else marked t (OfKey k)).begin) k ≡ value_read t (map_seen v t.begin) k) [ true ↦ refl | false ↦ refl ]
 
-pub room_of : {x : Unit {0}} {b : Bool} → ((◌≡◌ {A = Result (Unit {0}) SnapshotFault} (Ok x) (Err FullMarks)) ↔ IsTrue b) → b ≡ false
-room_of {x} {b} iff = elim (cases_Bool b) [ inl t ↦ let e = iff.1 t in cc | inr f ↦ f ]
+pub room_of : {B : Type 0} {x : B} {b : Bool} → ((◌≡◌ {A = Result B SnapshotFault} (Ok x) (Err FullMarks)) ↔ IsTrue b) → b ≡ false
+room_of {B} {x} {b} iff = elim (cases_Bool b) [ inl t ↦ let e = iff.1 t in cc | inr f ↦ f ]
 
 pub ok_iff : {A : Type 0} {b : Bool} (x : A) → b ≡ false → (◌≡◌ {A = Result A SnapshotFault} (Ok x) (Err FullMarks)) ↔ IsTrue b
 ok_iff {A} {b} x f = (λ e. cc, λ t. absurd (both_ways b f t))
@@ -309,14 +308,14 @@ ok_iff {A} {b} x f = (λ e. cc, λ t. absurd (both_ways b f t))
 same_fault : {A : Type 0} (e f : SnapshotFault) → ◌≡◌ {A = Result A SnapshotFault} (Err e) (Err f) → e ≡ f
 same_fault e f is = cc
 
-pub fault_iff : {e : SnapshotFault} {b : Bool} → ((◌≡◌ {A = Result (Unit {0}) SnapshotFault} (Err e) (Err FullMarks)) ↔ IsTrue b) → (e ≡ FullMarks) ↔ IsTrue b
-fault_iff {e} {b} iff = (λ is. iff.0 (ap Err is), λ t. same_fault e FullMarks (iff.1 t))
+pub fault_iff : {B : Type 0} {e : SnapshotFault} {b : Bool} → ((◌≡◌ {A = Result B SnapshotFault} (Err e) (Err FullMarks)) ↔ IsTrue b) → (e ≡ FullMarks) ↔ IsTrue b
+fault_iff {B} {e} {b} iff = (λ is. iff.0 (ap Err is), λ t. same_fault e FullMarks (iff.1 t))
 
-pub err_iff : {A : Type 0} {e : SnapshotFault} {b : Bool} → ((◌≡◌ {A = Result (Unit {0}) SnapshotFault} (Err e) (Err FullMarks)) ↔ IsTrue b) → (◌≡◌ {A = Result A SnapshotFault} (Err e) (Err FullMarks)) ↔ IsTrue b
-err_iff {A} {e} {b} iff = (λ is. iff.0 (ap Err (same_fault e FullMarks is)), λ t. ap Err (same_fault e FullMarks (iff.1 t)))
+pub err_iff : {A B : Type 0} {e : SnapshotFault} {b : Bool} → ((◌≡◌ {A = Result B SnapshotFault} (Err e) (Err FullMarks)) ↔ IsTrue b) → (◌≡◌ {A = Result A SnapshotFault} (Err e) (Err FullMarks)) ↔ IsTrue b
+err_iff {A} {B} {e} {b} iff = (λ is. iff.0 (ap Err (same_fault e FullMarks is)), λ t. ap Err (same_fault e FullMarks (iff.1 t)))
 
-pub never_of : {e : SnapshotFault} → ((◌≡◌ {A = Result (Unit {0}) SnapshotFault} (Err e) (Err FullWrites)) → ⊥) → e ≢ FullWrites
-never_of {e} h is = h (ap Err is)
+pub never_of : {B : Type 0} {e : SnapshotFault} → ((◌≡◌ {A = Result B SnapshotFault} (Err e) (Err FullWrites)) → ⊥) → e ≢ FullWrites
+never_of {B} {e} h is = h (ap Err is)
 
 -- ---- what the own requests wrote and read
 

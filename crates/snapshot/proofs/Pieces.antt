@@ -1,10 +1,10 @@
 -- Entries of a range, and pairs with writes over them.
-use Rattle.std.proofs.Common.{◌≡◌, ℕ, suc, Bool, true, false, T, not, cond, ◌&&◌, List, [], ◌∷◌, ◌++◌, ◌-◌, length, take, drop, Option, Some, None, refl, sym, ap, subst, ◌∙◌}
+use Rattle.std.proofs.Common.{◌≡◌, ℕ, Bool, true, false, T, not, cond, ◌&&◌, List, [], ◌∷◌, ◌-◌, length, take, drop, Option, Some, None, refl, sym, ap, subst, ◌∙◌}
 use Rattle.std.specs.declared.cmp.Ordering.{Ordering}
 use Rattle.std.specs.declared.cmp.Ordering.TheVariants.{Less, Equal, Greater}
-use Rattle.std.specs.Ordering.{is_eq, is_lt, is_le, nat_cmp, ordering_reverse}
+use Rattle.std.specs.Ordering.{is_lt, is_le, nat_cmp, ordering_reverse}
 use Rattle.std.specs.Cmp.Lexicographic.{slice_cmp, nat_list_cmp_total}
-use Rattle.std.specs.FinMap.Entries.{find, put, where_key, is_sorted, below_all, by_order, is_sorted-where_key, find-where_key}
+use Rattle.std.specs.FinMap.Entries.{where_key, is_sorted, below_all, by_order, is_sorted-where_key, find-where_key}
 use Rattle.std.proofs.Math.Seq.{take-length}
 use Rattle.std.proofs.lemmas.List.{length-drop}
 use Rattle.std.proofs.lemmas.Map.Lookups.{exact_bytes}

@@ -1,12 +1,13 @@
 -- The own requests that a transaction has made, and how a call answers one more.
-use Rattle.std.specs.Prelude.{◌≡◌, Bool, true, false, List, [], ◌∷◌, ◌++◌, Option, Result, Ok, Err, option_copied, IsFalse}
+use Rattle.std.specs.Prelude.{◌≡◌, ◌||◌, ℕ, Bool, true, false, List, [], ◌∷◌, ◌++◌, Option, Result, Ok, Err, option_copied, IsFalse, IsTrue}
 use Rattle.std.specs.Borrow.{Bor}
+use Rattle.std.specs.List.{list_any}
 use Rattle.model.specs.declared.refusals.Refusal.TheVariants as refusal
-use Rattle.model.specs.Map.{Bytes, KeyMap, IsMap}
+use Rattle.model.specs.Map.{Bytes, KeyMap, IsMap, is_empty_range}
 use Rattle.model.specs.Operations.{Operation, Response}
 use Rattle.model.specs.Operations.Operation.{Get}
-use Rattle.model.specs.Operations.Response.{Done, Value, Pairs, Refused}
-use Rattle.model.specs.PrivateCopy.{copy_of, copy_after}
+use Rattle.model.specs.Operations.Response.{Done, Value, Refused}
+use Rattle.model.specs.PrivateCopy.{PrivateCopy, copy_of, copy_after, is_same_mark, mark_asked}
 use Rattle.write_buffer.specs.Buffered.{AreEntries}
 use Rattle.snapshot.specs.declared.faults.SnapshotFault.{SnapshotFault}
 use Rattle.snapshot.specs.declared.faults.SnapshotFault.TheVariants.{FullWrites, FullMarks, Memory}
@@ -18,9 +19,13 @@ pub record HasMade (t : View) (m : KeyMap) (qs : List Operation) : Type 0 where
   pub entries : AreEntries t.writes
   pub copy : copy_held t m ≡ copy_after (copy_of m) qs
 
--- whatever own requests the transaction has made, it has now made one more
+-- whatever own requests the transaction has made over the map m, it has now made one more
+abbrev pub MakesOneMoreOver : KeyMap → View → View → Operation → Type 0
+MakesOneMoreOver m old new q = (qs : List Operation) → HasMade old m qs → HasMade new m (qs ++ q ∷ [])
+
+-- the same over any map
 abbrev pub MakesOneMore : View → View → Operation → Type 0
-MakesOneMore old new q = (m : KeyMap) (qs : List Operation) → HasMade old m qs → HasMade new m (qs ++ q ∷ [])
+MakesOneMore old new q = (m : KeyMap) → MakesOneMoreOver m old new q
 
 abbrev pub is_refused : Response → Bool
 is_refused (Refused r) = true
@@ -44,3 +49,7 @@ IsLeftByGet old k (Err e) new = new ≡ old
 abbrev pub IsDoneReply : {A : Type 0} → Result A SnapshotFault → Response → Type 0
 IsDoneReply (Ok v) response = response ≡ Done
 IsDoneReply (Err e) response = IsFault e response
+
+-- a read of the range needs no new mark: it is empty, or the copy has the mark that it asks for
+abbrev pub IsKnownRange : PrivateCopy → Bytes → Option Bytes → ℕ → Type 0
+IsKnownRange c lo hi limit = IsTrue (is_empty_range lo hi || list_any (is_same_mark (mark_asked c lo hi limit)) c.marks)

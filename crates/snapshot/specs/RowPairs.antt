@@ -1,5 +1,5 @@
 -- The pairs that rows have left.
-use Rattle.std.specs.Prelude.{ℕ, List, take}
+use Rattle.std.specs.Prelude.{take}
 use Rattle.model.specs.Map.{KeyMap}
 use Rattle.versions.specs.Lent.{range_pairs}
 use Rattle.snapshot.specs.declared.rows.Rows.{Rows}

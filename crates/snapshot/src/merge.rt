@@ -1,7 +1,8 @@
 //! Writes over pairs, by rising key.
-ghost use Rattle.std.specs.Prelude.{◌≡◌, length, min};
+ghost use Rattle.std.specs.Prelude.{◌≡◌, length, take};
 ghost use Rattle.std.specs.Iterator.{YieldsFirstBy};
-ghost use Rattle.model.specs.KeyBytes.{pair_bytes};
+ghost use Rattle.model.specs.KeyBytes.{end_bytes, pair_bytes};
+ghost use Rattle.model.specs.PrivateCopy.{page_end};
 ghost use Rattle.versions.specs.Lent.{range_pairs};
 ghost use Rattle.snapshot.specs.Merged.{merged};
 
@@ -36,18 +37,28 @@ pub(crate) fn next_pair<'a>(
     pairs.next()
 }
 
-// How many pairs there are, `limit` at most.
-pub(crate) fn count_up_to<'a>(writes: &'a [Write], pairs: Pairs<'a>, limit: u8) -> usize
-    ensures { result ≡ min limit (length (merged writes.now (range_pairs pairs.entry))) }
+// The first pairs of a range: how many there are, and where they end if others may follow.
+#[derive(Drop)]
+pub(crate) struct Page<'a> {
+    pub(crate) len: usize,
+    pub(crate) end: Option<KeyRef<'a>>,
+}
+
+// Finds the first pairs, `limit` at most. Where there are as many, the last of their keys is their end.
+pub(crate) fn find_page<'a>(writes: &'a [Write], pairs: Pairs<'a>, limit: u8) -> Page<'a>
+    ensures len { result.len ≡ length (take limit (merged writes.now (range_pairs pairs.entry))) }
+    ensures end { end_bytes result.end ≡ page_end limit (take limit (merged writes.now (range_pairs pairs.entry))) }
 {
     let mut writes = writes;
     let mut pairs = pairs;
-    let mut count: usize = 0;
+    let mut len: usize = 0;
+    let mut last = None;
     for _k in 0..limit {
-        match next_pair(&mut writes, &mut pairs) {
-            None => break,
-            Some(_) => count += 1,
-        }
+        let Some((key, _value)) = next_pair(&mut writes, &mut pairs) else {
+            return Page { len, end: None };
+        };
+        len += 1;
+        last = Some(key);
     }
-    count
+    Page { len, end: last }
 }

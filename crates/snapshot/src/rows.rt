@@ -3,7 +3,7 @@ ghost use Rattle.std.specs.Prelude.{◌≤◌, length};
 ghost use Rattle.versions.specs.Lent.{range_pairs};
 ghost use Rattle.snapshot.specs.Merged.{merged};
 
-use crate::merge::{count_up_to, next_pair};
+use crate::merge::next_pair;
 use model::{KeyRef, Write};
 use versions::Pairs;
 
@@ -18,17 +18,18 @@ pub struct Rows<'a> {
 }
 
 impl<'a> Rows<'a> {
-    ghost use Rattle.std.specs.Prelude.{◌≡◌, length, take};
+    ghost use Rattle.std.specs.Prelude.{◌≡◌, ◌≤◌, length, take};
     ghost use Rattle.std.specs.Iterator.{AlwaysYields, YieldsFirstBy};
     ghost use Rattle.model.specs.KeyBytes.{pair_bytes};
     ghost use Rattle.versions.specs.Lent.{range_pairs};
     ghost use Rattle.snapshot.specs.Merged.{merged};
     ghost use Rattle.snapshot.specs.RowPairs.{row_pairs};
 
-    pub(crate) fn new(writes: &'a [Write], pairs: Pairs<'a>, limit: u8) -> Rows<'a>
-        ensures { row_pairs result ≡ take limit (merged writes.now (range_pairs pairs.entry)) }
+    // The first `left` of the pairs.
+    pub(crate) fn new(writes: &'a [Write], pairs: Pairs<'a>, left: usize) -> Rows<'a>
+        requires { left ≤ length (merged writes.now (range_pairs pairs)) }
+        ensures { row_pairs result ≡ take left (merged writes.now (range_pairs pairs.entry)) }
     {
-        let left = count_up_to(writes, pairs, limit);
         Rows {
             writes,
             pairs,

@@ -1,11 +1,15 @@
-//! The writes of a range.
-ghost use Rattle.std.specs.Prelude.{◌≡◌, T, option_map};
-ghost use Rattle.std.specs.Ordering.{nat_cmp};
+//! The writes of a range, and the mark of a read.
+ghost use Rattle.std.specs.Prelude.{◌≡◌, ◌↔◌, T, Err, IfSome, IsOk, IsTrue, OnErr, OnOk, option_map};
+ghost use Rattle.std.specs.Ordering.{is_le, nat_cmp};
 ghost use Rattle.std.specs.Cmp.Lexicographic.{slice_cmp};
 ghost use Rattle.std.specs.FinMap.Entries.{is_sorted, where_key};
-ghost use Rattle.model.specs.Map.{is_below, is_in_range, is_empty_range};
+ghost use Rattle.marks.specs.Marked.{has_mark, is_full_for, with_mark};
+ghost use Rattle.model.specs.KeyBytes.{key_bytes, end_bytes};
+ghost use Rattle.model.specs.Map.{key_cmp, is_below, is_in_range, is_empty_range};
+ghost use Rattle.model.specs.PrivateCopy.{mark_up_to};
 ghost use Rattle.model.specs.Entries.{IsSplit};
 
+use marks::{Marks, MarksFault};
 use model::{KeyRef, RangeRef, Write};
 
 // Is the upper end at most the lower one?
@@ -49,4 +53,22 @@ pub(crate) fn within<'a>(writes: &'a [Write], range: RangeRef<'_>) -> &'a [Write
     let lower = below(writes, range.hi);
     let start = split_place(lower, range.lo.bytes());
     &lower[start..]
+}
+
+// Makes the mark of a read of the range: up to the end of its pairs, where others may follow them, else of the whole range.
+pub(crate) fn mark_up_to(
+    marks: &mut Marks,
+    range: RangeRef<'_>,
+    end: Option<KeyRef<'_>>,
+) -> Result<(), MarksFault>
+    requires { IfSome end (λ last. IsTrue (is_le (key_cmp (key_bytes range.lo) (key_bytes last)))) }
+    ensures ok { OnOk result (marks.new ≡ with_mark marks.old (mark_up_to (key_bytes range.entry.lo) (end_bytes range.entry.hi) (end_bytes end.entry))) }
+    ensures err { OnErr result (marks.new ≡ marks.old) }
+    ensures full { (result ≡ Err MarksFault.FullMarks) ↔ IsTrue (is_full_for marks.old (mark_up_to (key_bytes range.entry.lo) (end_bytes range.entry.hi) (end_bytes end.entry))) }
+    ensures known { IsTrue (has_mark marks.old (mark_up_to (key_bytes range.entry.lo) (end_bytes range.entry.hi) (end_bytes end.entry))) → IsOk result }
+{
+    match end {
+        Some(last) => marks.add_upto(range.lo, last),
+        None => marks.add_range(range),
+    }
 }

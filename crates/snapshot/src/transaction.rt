@@ -1,25 +1,27 @@
 //! One transaction.
-ghost use Rattle.std.specs.Prelude.{◌||◌, ◌≡◌, ◌≢◌, ◌≤◌, ◌<◌, ◌↔◌, ◌++◌, ◌∷◌, [], List, length, IsTrue, IsOk, OnOk, OnErr, Err, Some, None, option_map, option_copied, is_some, slice_index_or};
+ghost use Rattle.std.specs.Prelude.{◌||◌, ◌≡◌, ◌≢◌, ◌≤◌, ◌<◌, ◌↔◌, ◌++◌, ◌∷◌, [], List, length, IsTrue, IsOk, IfOk, OnOk, OnErr, Err, Some, None, take, option_copied, is_some, slice_index_or};
 ghost use Rattle.std.specs.Borrow.{sem};
 ghost use Rattle.std.specs.Io.BufRead.{Rests};
-ghost use Rattle.model.specs.Map.{KeyMap, KeyWrite, IsMap, is_empty_range};
+ghost use Rattle.model.specs.KeyBytes.{key_bytes, end_bytes};
+ghost use Rattle.model.specs.Map.{KeyMap, KeyWrite, IsMap};
 ghost use Rattle.model.specs.Operations.{Operation};
 ghost use Rattle.model.specs.Operations.Operation.{Get, Set, Del, Range};
-ghost use Rattle.model.specs.PrivateCopy.{answer, reads, writes};
-ghost use Rattle.model.specs.PrivateCopy.Mark.{OfKey, OfRange};
+ghost use Rattle.model.specs.PrivateCopy.{answer, copy_after, copy_of, reads, writes};
+ghost use Rattle.model.specs.PrivateCopy.Mark.{OfKey};
 ghost use Rattle.marks.specs.Marked.{has_mark};
 ghost use Rattle.write_buffer.specs.Buffered.{AreEntries, written, is_full_for};
 ghost use Rattle.versions.specs.Meaning.{map_seen};
 ghost use Rattle.snapshot.specs.View.{new_view, value_read, after_get, after_put, is_full_get};
-ghost use Rattle.snapshot.specs.Merged.{rows_of, after_range, is_full_range};
+ghost use Rattle.snapshot.specs.Merged.{all_rows, rows_of, after_range, is_full_range, is_known_range};
 ghost use Rattle.snapshot.specs.RowPairs.{row_pairs};
-ghost use Rattle.snapshot.specs.Made.{HasMade, MakesOneMore, IsValueReply, IsDoneReply, IsLeftByGet};
+ghost use Rattle.snapshot.specs.Made.{HasMade, MakesOneMore, IsValueReply, IsDoneReply, IsKnownRange, IsLeftByGet};
 ghost use Rattle.snapshot.specs.PairsReply.{IsPairsReply, IsLeftByRange};
 ghost use Rattle.snapshot.specs.contracts.transaction.Transaction.{the_row};
 
 use crate::faults::SnapshotFault;
+use crate::merge::find_page;
 use crate::rows::Rows;
-use crate::spans::{is_empty, within};
+use crate::spans::{is_empty, mark_up_to, within};
 use marks::Marks;
 use model::{Key, KeyRef, RangeRef, VALUE_MAX, Write};
 use std::alloc::Global;
@@ -149,45 +151,55 @@ impl Transaction {
         }
     }
 
-    // Makes the mark that a read of the range needs: none where the range is empty.
-    fn mark_range(&mut self, range: RangeRef<'_>) -> Result<(), SnapshotFault>
-        ensures ok { OnOk result (self.new ≡ after_range self.old range.entry.lo.bytes.now (option_map (λ k. k.bytes.now) range.entry.hi)) }
+    // Finds what a read of the range answers, and makes the mark that this asks for: none where the range is empty. How many pairs?
+    fn mark_range(
+        &mut self,
+        versions: &Versions,
+        range: RangeRef<'_>,
+        limit: u8,
+    ) -> Result<usize, SnapshotFault>
+        ensures ok { OnOk result (self.new ≡ after_range self.old (map_seen versions.now self.old.begin) (key_bytes range.entry.lo) (end_bytes range.entry.hi) limit) }
+        ensures len { IfOk result (λ n. n ≡ length (rows_of self.old (map_seen versions.now self.old.begin) (key_bytes range.entry.lo) (end_bytes range.entry.hi) limit)) }
         ensures err { OnErr result (self.new ≡ self.old) }
-        ensures full { (result ≡ Err SnapshotFault.FullMarks) ↔ IsTrue (is_full_range self.old range.entry.lo.bytes.now (option_map (λ k. k.bytes.now) range.entry.hi)) }
-        ensures known { IsTrue (is_empty_range range.entry.lo.bytes.now (option_map (λ k. k.bytes.now) range.entry.hi) || has_mark self.old.marks (OfRange range.entry.lo.bytes.now (option_map (λ k. k.bytes.now) range.entry.hi))) → IsOk result }
+        ensures full { (result ≡ Err SnapshotFault.FullMarks) ↔ IsTrue (is_full_range self.old (map_seen versions.now self.old.begin) (key_bytes range.entry.lo) (end_bytes range.entry.hi) limit) }
+        ensures known { IsTrue (is_known_range self.old (map_seen versions.now self.old.begin) (key_bytes range.entry.lo) (end_bytes range.entry.hi) limit) → IsOk result }
         ensures never { result ≢ Err SnapshotFault.FullWrites }
     {
+        let writes = within(self.buffer.entries(), range);
+        let page = find_page(writes, versions.range(self.begin, range), limit);
         if !is_empty(range) {
-            self.marks.add_range(range)?;
+            mark_up_to(&mut self.marks, range, page.end)?;
         }
-        Ok(())
+        Ok(page.len)
     }
 
-    // The pairs that a read of the range gives.
-    fn rows<'a>(&'a self, versions: &'a Versions, range: RangeRef<'_>, limit: u8) -> Rows<'a>
-        ensures { row_pairs result ≡ rows_of self.now (map_seen versions.now self.now.begin) range.entry.lo.bytes.now (option_map (λ k. k.bytes.now) range.entry.hi) limit }
+    // The first pairs that a read of the range gives, so many as there are.
+    fn rows<'a>(&'a self, versions: &'a Versions, range: RangeRef<'_>, len: usize) -> Rows<'a>
+        requires { len ≤ length (all_rows self.now (map_seen versions.now self.now.begin) (key_bytes range.lo) (end_bytes range.hi)) }
+        ensures { row_pairs result ≡ take len (all_rows self.now (map_seen versions.now self.now.begin) (key_bytes range.entry.lo) (end_bytes range.entry.hi)) }
     {
         let writes = within(self.entries(), range);
-        Rows::new(writes, versions.range(self.begin, range), limit)
+        Rows::new(writes, versions.range(self.begin, range), len)
     }
 
     /// Reads the pairs of a range by rising key, `limit` at most: those that the begin number sees, with the transaction's own writes
-    /// over them. The range is marked whole, however few pairs it has or the limit lets through, unless it is empty. It takes the memory
-    /// of a new mark and no other; `FullMarks` or `Memory` where that mark is refused.
+    /// over them. Where they are as many as the limit, the keys from `lo` to the last of them are marked, both included; else the range is
+    /// marked whole, however few pairs it has, unless it is empty. It takes the memory of a new mark and no other; `FullMarks` or
+    /// `Memory` where that mark is refused.
     pub fn range<'a>(
         &'a mut self,
         versions: &'a Versions,
         range: RangeRef<'_>,
         limit: u8,
     ) -> Result<Rows<'a>, SnapshotFault>
-        ensures full { (result ≡ Err SnapshotFault.FullMarks) ↔ IsTrue (is_full_range self.old range.entry.lo.bytes.now (option_map (λ k. k.bytes.now) range.entry.hi)) }
+        ensures full { (result ≡ Err SnapshotFault.FullMarks) ↔ IsTrue (is_full_range self.old (map_seen versions.now self.old.begin) (key_bytes range.entry.lo) (end_bytes range.entry.hi) limit) }
         // A read that needs no new mark succeeds.
-        ensures known { IsTrue (is_empty_range range.entry.lo.bytes.now (option_map (λ k. k.bytes.now) range.entry.hi) || has_mark self.old.marks (OfRange range.entry.lo.bytes.now (option_map (λ k. k.bytes.now) range.entry.hi))) → IsOk result }
-        ensures reply { (m : KeyMap) (qs : List Operation) → map_seen versions.now self.old.begin ≡ m → HasMade self.old m qs → IsPairsReply result (answer m qs (Range range.entry.lo.bytes.now (option_map (λ k. k.bytes.now) range.entry.hi) limit)) }
-        ensures* after { sem 𝓛 (Rests the_row self.entry (λ new. IsLeftByRange self.old range.entry.lo.bytes.now (option_map (λ k. k.bytes.now) range.entry.hi) limit result new)) }
+        ensures known { (m : KeyMap) (qs : List Operation) → map_seen versions.now self.old.begin ≡ m → HasMade self.old m qs → IsKnownRange (copy_after (copy_of m) qs) (key_bytes range.entry.lo) (end_bytes range.entry.hi) limit → IsOk result }
+        ensures reply { (m : KeyMap) (qs : List Operation) → map_seen versions.now self.old.begin ≡ m → HasMade self.old m qs → IsPairsReply result (answer m qs (Range (key_bytes range.entry.lo) (end_bytes range.entry.hi) limit)) }
+        ensures* after { sem 𝓛 (Rests the_row self.entry (λ new. IsLeftByRange self.old (map_seen versions.now self.old.begin) (key_bytes range.entry.lo) (end_bytes range.entry.hi) limit result new)) }
     {
-        match self.mark_range(range) {
-            Ok(()) => Ok(self.rows(versions, range, limit)),
+        match self.mark_range(versions, range, limit) {
+            Ok(len) => Ok(self.rows(versions, range, len)),
             Err(fault) => Err(fault),
         }
     }

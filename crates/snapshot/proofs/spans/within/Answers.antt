@@ -1,4 +1,4 @@
-use Rattle.std.proofs.Common.{◌≡◌, List, ℕ, not, sym, ap, subst, ◌∙◌}
+use Rattle.std.proofs.Common.{List, ℕ, not, ap, ◌∙◌}
 use Rattle.std.specs.Ordering.{nat_cmp, is_lt}
 use Rattle.std.specs.Cmp.Lexicographic.{slice_cmp}
 use Rattle.std.specs.FinMap.Entries.{where_key}

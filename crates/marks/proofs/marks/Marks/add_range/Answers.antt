@@ -1,6 +1,5 @@
-use Rattle.std.proofs.Common.{◌≡◌, refl, sym, ap, ◌∙◌, arith, rules}
-use Rattle.model.specs.PrivateCopy.Mark.{OfKey}
-use Rattle.marks.specs.Marked.{mark_of, range_mark}
+use Rattle.std.proofs.Common.{refl, sym, arith, rules}
+use Rattle.marks.specs.Marked.{range_mark}
 use Rattle.marks.proofs.MarkLaws.{full, not_full, only_full, with_new}
 use Rattle.marks.proofs.marks.Marks.add_range.Goals as goal
 

@@ -1,4 +1,4 @@
-use Rattle.std.proofs.Common.{◌≡◌, ◌∷◌, [], length, ap, ◌∙◌, sym, arith, length-append, add-one}
+use Rattle.std.proofs.Common.{◌∷◌, [], length, ap, ◌∙◌, arith, length-append}
 use Rattle.marks.specs.Marked.{marks_of}
 use Rattle.marks.proofs.MarkLaws.{copied}
 use Rattle.marks.proofs.marks.Marks.copy.Goals as goal

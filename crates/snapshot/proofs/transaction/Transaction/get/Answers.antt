@@ -1,8 +1,6 @@
-use Rattle.std.proofs.Common.{◌≡◌, Ok, Err, refl, sym, ap, subst, ◌∙◌}
-use Rattle.std.specs.Prelude.{option_copied}
+use Rattle.std.proofs.Common.{refl, ap, ◌∙◌}
 use Rattle.model.specs.Map.{KeyMap}
-use Rattle.snapshot.specs.View.{View, value_read, after_get, is_full_get}
-use Rattle.versions.specs.Meaning.{map_seen}
+use Rattle.snapshot.specs.View.{value_read}
 use Rattle.snapshot.proofs.Copies.{get-value, get-leaves, get-fault, read-after_get, err_iff, fault_iff, ok_iff, room_of, never_of}
 use Rattle.snapshot.proofs.transaction.Transaction.get.Goals as goal
 

@@ -1,11 +1,11 @@
-use Rattle.std.proofs.Common.{◌≡◌, Some, None, Err, sym, ap, subst, ◌∙◌, ◌↔◌, IsTrue, OnOk}
+use Rattle.std.proofs.Common.{◌≡◌, Some, Err, sym, ap, subst, ◌∙◌, ◌↔◌, IsTrue, OnOk}
 use Rattle.model.specs.PrivateCopy.{answer}
 use Rattle.write_buffer.specs.Buffered.{is_full_for}
 use Rattle.write_buffer.specs.declared.faults.WritesFault.{WritesFault}
 use Rattle.snapshot.specs.declared.faults.SnapshotFault.TheVariants.{FullWrites}
 use Rattle.snapshot.specs.View.{View}
 use Rattle.snapshot.specs.Made.{HasMade, MakesOneMore, IsDoneReply}
-use Rattle.snapshot.proofs.Copies.{Answered, write-reply, write-made, write-full, write_of, as_fault}
+use Rattle.snapshot.proofs.Copies.{write-reply, write-made, write-full, write_of, as_fault}
 use Rattle.snapshot.proofs.transaction.Transaction.put.Goals as goal
 use Rattle.snapshot.proofs.transaction.Transaction.put.Goals.{in-Ok, in-Err-FullWrites, in-Err-Memory}
 

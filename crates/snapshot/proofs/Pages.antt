@@ -1,0 +1,130 @@
+-- The first pairs of a range, and the last of their keys.
+use Rattle.std.proofs.Common.{◌≡◌, ℕ, zero, suc, ◌+◌, ◌<◌, ◌≤◌, Bool, true, false, cond, List, [], ◌∷◌, length, take, drop, Option, Some, None, refl, sym, ap, ◌∙◌, arith, add-one, eqb}
+use Rattle.std.specs.Prelude.{IfSome, IsTrue}
+use Rattle.std.specs.List.{AllByRecursion}
+use Rattle.std.specs.declared.cmp.Ordering.TheVariants.{Less, Equal, Greater}
+use Rattle.std.specs.Ordering.{is_le, nat_cmp}
+use Rattle.std.specs.Cmp.Lexicographic.{slice_cmp}
+use Rattle.std.specs.FinMap.Entries.{by_order, where_key}
+use Rattle.std.proofs.lemmas.Bool.{and_parts, eqb-true}
+use Rattle.model.specs.declared.keys.KeyRef.{KeyRef}
+use Rattle.model.specs.KeyBytes.{key_bytes, end_bytes}
+use Rattle.model.specs.Map.{Bytes, KeyMap, KeyWrite, key_cmp, is_in_range, is_below, pairs_in_range}
+use Rattle.model.specs.PrivateCopy.{last_key, page_end}
+use Rattle.snapshot.specs.View.{View}
+use Rattle.snapshot.specs.Merged.{with_value, merged_one, merged, all_rows, rows_of}
+
+-- ---- one pair after another
+
+-- what one more of the pairs adds to the first n
+pub record OneMore (all : KeyMap) (n : ℕ) (e : Bytes × Bytes) (rest : KeyMap) : Type 0 where
+  pub left : drop n all ≡ rest
+  pub within : n ≤ length all
+  pub last : last_key (take n all) ≡ Some e.0
+
+one_suc : (all : KeyMap) (n : ℕ) (e : Bytes × Bytes) (rest : KeyMap) → drop n all ≡ e ∷ rest → OneMore all (suc n) e rest
+one_suc [] zero e rest h = let no : ◌≡◌ {A = KeyMap} [] (e ∷ rest) = h in cc
+one_suc [] (suc n) e rest h = let no : ◌≡◌ {A = KeyMap} [] (e ∷ rest) = h in cc
+one_suc (x ∷ xs) zero e rest h = record { left = cc; within = omega arith; last = cc }
+one_suc (x ∷ []) (suc n) e rest h = let inner = one_suc [] n e rest h in absurd (omega (arith, inner.within))
+one_suc (x ∷ y ∷ ys) (suc n) e rest h =
+    let inner = one_suc (y ∷ ys) n e rest h in
+    record { left = inner.left; within = omega (arith, inner.within); last = inner.last }
+
+pub one_more : (all : KeyMap) (n : ℕ) (e : Bytes × Bytes) (rest : KeyMap) → drop n all ≡ e ∷ rest → OneMore all (n + 1) e rest
+one_more all n e rest h = rw add-one (one_suc all n e rest h)
+
+-- where none is left, all are among the first n
+pub none_left : (all : KeyMap) (n : ℕ) → drop n all ≡ [] → length all ≤ n
+none_left [] n h = omega arith
+none_left (x ∷ xs) zero h = let no : ◌≡◌ {A = KeyMap} (x ∷ xs) [] = h in cc
+none_left (x ∷ xs) (suc n) h = let inner = none_left xs n h in omega (arith, inner)
+
+pub taken_length : (n : ℕ) (xs : KeyMap) → take (length (take n xs)) xs ≡ take n xs
+taken_length zero xs = refl
+taken_length (suc n) [] = refl
+taken_length (suc n) (x ∷ xs) = ap (λ l. x ∷ l) (taken_length n xs)
+
+pub taken_within : (n : ℕ) (xs : KeyMap) → length (take n xs) ≤ length xs
+taken_within zero xs = omega arith
+taken_within (suc n) [] = omega arith
+taken_within (suc n) (x ∷ xs) = let inner = taken_within n xs in omega (arith, inner)
+
+-- ---- the keys of a range's pairs lie in it
+
+abbrev HaveKeys : (Bytes → Bool) → KeyMap → Type 0
+HaveKeys p es = AllByRecursion (λ e. p e.0 ≡ true) es
+
+module _ (p : Bytes → Bool) where
+  keys_where : {V : Type 0} (es : List (Bytes × V)) → AllByRecursion (λ e. p e.0 ≡ true) (where_key (slice_cmp nat_cmp) p es)
+  keys_where [] = tt
+  keys_where {V} (e ∷ es) = elim (p e.0) as (λ b. p e.0 ≡ b → AllByRecursion (λ e. p e.0 ≡ true) (cond b (e ∷ where_key (slice_cmp nat_cmp) p es) (where_key (slice_cmp nat_cmp) p es))) [
+    | true ↦ λ h. (h, keys_where es)
+    | false ↦ λ h. keys_where es
+  ] refl
+
+  keys-with_value : (k : Bytes) (v : Option Bytes) (es : KeyMap) → p k ≡ true → HaveKeys p es → HaveKeys p (with_value k v es)
+  keys-with_value k None es h g = g
+  keys-with_value k (Some v) es h g = (h, g)
+
+  keys-merged_one : (w : KeyWrite) (f : KeyMap → KeyMap) → p w.0 ≡ true → ((es : KeyMap) → HaveKeys p es → HaveKeys p (f es)) → (es : KeyMap) → HaveKeys p es → HaveKeys p (merged_one w f es)
+  keys-merged_one w f h keeps [] g = keys-with_value w.0 w.1 (f []) h (keeps [] tt)
+  keys-merged_one w f h keeps (e ∷ es) g = elim (key_cmp w.0 e.0) as (λ o. HaveKeys p (by_order o (with_value w.0 w.1 (f (e ∷ es))) (with_value w.0 w.1 (f es)) (e ∷ merged_one w f es))) [
+    | Less ↦ keys-with_value w.0 w.1 (f (e ∷ es)) h (keeps (e ∷ es) g)
+    | Equal ↦ keys-with_value w.0 w.1 (f es) h (keeps es g.1)
+    | Greater ↦ (g.0, keys-merged_one w f h keeps es g.1)
+  ]
+
+  keys-merged : (ws : List KeyWrite) (es : KeyMap) → AllByRecursion (λ w. p w.0 ≡ true) ws → HaveKeys p es → HaveKeys p (merged ws es)
+  keys-merged [] es h g = g
+  keys-merged (w ∷ ws) es h g = keys-merged_one w (merged ws) h.0 (λ fs k. keys-merged ws fs h.1 k) es g
+
+  keys-taken : (n : ℕ) (es : KeyMap) → HaveKeys p es → HaveKeys p (take n es)
+  keys-taken zero es h = tt
+  keys-taken (suc n) [] h = tt
+  keys-taken (suc n) (e ∷ es) h = (h.0, keys-taken n es h.1)
+
+  last_has : (es : KeyMap) (k : Bytes) → HaveKeys p es → last_key es ≡ Some k → p k ≡ true
+  last_has [] k h e = cc
+  last_has (x ∷ []) k h e = let same : x.0 ≡ k = cc in ap p (sym same) ∙ h.0
+  last_has (x ∷ y ∷ es) k h e = last_has (y ∷ es) k h.1 e
+
+-- so the end of a page isn't below the range's lower end
+pub end_above : (t : View) (m : KeyMap) (lo : Bytes) (hi : Option Bytes) (limit : ℕ) (k : Bytes) → page_end limit (rows_of t m lo hi limit) ≡ Some k → is_le (key_cmp lo k) ≡ true
+end_above t m lo hi limit k e =
+    let p = is_in_range lo hi in
+    let keys = keys-taken p limit (all_rows t m lo hi) (keys-merged p (where_key (slice_cmp nat_cmp) p t.writes) (pairs_in_range m lo hi) (keys_where p t.writes) (keys_where p m)) in
+    (and_parts (is_le (key_cmp lo k)) (is_below k hi) (last_has p (rows_of t m lo hi limit) k keys (full (eqb (length (rows_of t m lo hi limit)) limit) e))).0
+  where
+    full : (b : Bool) → cond b (last_key (rows_of t m lo hi limit)) None ≡ Some k → last_key (rows_of t m lo hi limit) ≡ Some k
+    full true h = h
+    full false h = let no : ◌≡◌ {A = Option Bytes} None (Some k) = h in cc
+
+-- a page that is not full has all pairs, and none may follow
+pub record IsShort (n limit : ℕ) (all : KeyMap) : Type 0 where
+  pub many : n ≡ length (take limit all)
+  pub ends : None ≡ page_end limit (take limit all)
+
+all_taken : (n : ℕ) (xs : KeyMap) → length xs ≤ n → take n xs ≡ xs
+all_taken zero [] h = refl
+all_taken zero (x ∷ xs) h = absurd (omega arith)
+all_taken (suc n) [] h = refl
+all_taken (suc n) (x ∷ xs) h = ap (λ l. x ∷ l) (all_taken n xs (omega arith))
+
+pub short_page : (n limit : ℕ) (all : KeyMap) → drop n all ≡ [] → n ≤ length all → n < limit → IsShort n limit all
+short_page n limit all none within less =
+    let most = none_left all n none in
+    let whole = all_taken limit all (omega arith) in
+    let many : n ≡ length (take limit all) = omega (arith, ap length whole) in
+    record { many = many; ends = sym (open_end (length (take limit all)) (last_key (take limit all)) (omega arith)) }
+  where
+    open_end : (k : ℕ) (o : Option Bytes) → k < limit → cond (eqb k limit) o None ≡ None
+    open_end k o h = elim (eqb k limit) as (λ b. eqb k limit ≡ b → cond b o None ≡ None) [
+      | true ↦ λ e. absurd (omega (arith, eqb-true k limit e))
+      | false ↦ λ e. refl
+    ] refl
+
+-- the end of a page, as it is lent
+pub lent_end_above : (o : Option KeyRef) (t : View) (m : KeyMap) (lo : Bytes) (hi : Option Bytes) (limit : ℕ) → end_bytes o ≡ page_end limit (rows_of t m lo hi limit) → IfSome o (λ last. IsTrue (is_le (key_cmp lo (key_bytes last))))
+lent_end_above None t m lo hi limit h = tt
+lent_end_above (Some last) t m lo hi limit h = end_above t m lo hi limit (key_bytes last) (sym h)
