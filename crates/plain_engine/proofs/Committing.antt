@@ -14,12 +14,12 @@ use Rattle.model.specs.Operations.Operation.{Commit}
 use Rattle.model.specs.Operations.Response.{Number, Refused}
 use Rattle.model.specs.PrivateCopy.{copy_of, copy_after, values_at}
 use Rattle.model.specs.History.{Record, map_at}
-use Rattle.model.specs.Dependency.{writes_key, concurrent_read_write, is_pivot}
+use Rattle.model.specs.Dependency.{writes_key, makes_dangerous_pivot, is_dangerous_pivot}
 use Rattle.model.specs.Verdict.{is_overwritten, pivot_refusal, conflict_of, verdict}
 use Rattle.model.specs.Machine.{State, Running, last, leave, record_to_commit, refuse, join_history, body_sectors, store, store_unless, commit, step, IsReached}
 use Rattle.model.specs.Machine.Input.{Asks}
 use Rattle.model.proofs.Machines.{map_at-append, commit_low, IsTrueRunning}
-use Rattle.model.proofs.Pivots.{is_pivot_by_flags}
+use Rattle.model.proofs.Pivots.{any_alike}
 use Rattle.plain_engine.specs.declared.engine.Engine.{Engine}
 use Rattle.plain_engine.specs.declared.faults.EngineFault.{EngineFault}
 use Rattle.plain_engine.specs.declared.faults.EngineFault.TheVariants.{Refused as Refusing}
@@ -43,11 +43,10 @@ map-append (r ∷ rs) t = ap (λ l. bare r ∷ l) (map-append rs t)
 overwritten-bare : (h : List Record) (t : Record) (w : KeyWrite) → is_overwritten (map bare h) (bare t) w.0 ≡ is_overwritten h t w.0
 overwritten-bare h t w = any-bare (λ r. writes_key r w.0 && nat_lt t.begin r.commit) (λ r. refl) h
 
-pivot-bare : (h : List Record) (p : Record) → is_pivot (map bare h) (bare p) ≡ is_pivot h p
+pivot-bare : (h : List Record) (p : Record) → is_dangerous_pivot (map bare h) (bare p) ≡ is_dangerous_pivot h p
 pivot-bare h p =
-    is_pivot_by_flags (map bare h) (bare p)
-    ∙ (λ i. any-bare (λ x. concurrent_read_write x p) (λ x. refl) h i && any-bare (λ y. concurrent_read_write p y) (λ y. refl) h i)
-    ∙ sym (is_pivot_by_flags h p)
+    any-bare (λ x. list_any (λ y. makes_dangerous_pivot x p y) (map bare h)) (λ x. refl) h
+    ∙ any_alike (λ x. list_any (λ y. makes_dangerous_pivot x p y) (map bare h)) (λ x. list_any (λ y. makes_dangerous_pivot x p y) h) (λ x. any-bare (λ y. makes_dangerous_pivot x p y) (λ y. refl) h) h
 
 find-bare : (p : Record → Bool) (q : Record → Bool) → ((r : Record) → p (bare r) ≡ q r) → (h : List Record) → pivot_refusal (find p (map bare h)) ≡ pivot_refusal (find q h)
 find-bare p q same [] = refl
@@ -63,10 +62,10 @@ find-bare p q same (r ∷ rs) = by_test (p (bare r)) (q r) (same r) (find-bare p
 pub verdict-bare : (h : List Record) (t : Record) → verdict (map bare h) (bare t) ≡ verdict h t
 unfolding verdict
 verdict-bare h t =
-    let whole : (p : Record) → is_pivot (map bare h ++ bare t ∷ []) (bare p) ≡ is_pivot (h ++ t ∷ []) p =
-    λ p. ap (λ l. is_pivot l (bare p)) (sym (map-append h t)) ∙ pivot-bare (h ++ t ∷ []) p in
+    let whole : (p : Record) → is_dangerous_pivot (map bare h ++ bare t ∷ []) (bare p) ≡ is_dangerous_pivot (h ++ t ∷ []) p =
+    λ p. ap (λ l. is_dangerous_pivot l (bare p)) (sym (map-append h t)) ∙ pivot-bare (h ++ t ∷ []) p in
     λ i. conflict_of (find (λ w. overwritten-bare h t w i) t.writes)
-    (cond (whole t i) (Some PivotSelf) (find-bare (is_pivot (map bare h ++ bare t ∷ [])) (is_pivot (h ++ t ∷ [])) whole h i))
+    (cond (whole t i) (Some PivotSelf) (find-bare (is_dangerous_pivot (map bare h ++ bare t ∷ [])) (is_dangerous_pivot (h ++ t ∷ [])) whole h i))
 
 -- ---- the cases of the machine's commit
 

@@ -5,8 +5,8 @@ use Rattle.std.specs.Prelude.{ℕ, [], take}
 use Rattle.model.specs.Operations.{Response}
 use Rattle.model.specs.Operations.Operation.{Get, Range}
 use Rattle.model.specs.Operations.Response.{Value, Pairs}
-use Rattle.model.specs.PrivateCopy.{PrivateCopy, Mark, is_written, after_read}
-use Rattle.model.specs.PrivateCopy.Mark.{OfKey, OfRange}
+use Rattle.model.specs.PrivateCopy.{PrivateCopy, Mark, is_written, after_read, mark_of_reply}
+use Rattle.model.specs.PrivateCopy.Mark.{OfKey}
 use Rattle.plain_engine.specs.declared.faults.EngineFault.{EngineFault}
 use Rattle.plain_engine.specs.declared.faults.EngineFault.TheVariants.{Refused, Memory}
 use Rattle.plain_engine.specs.Results.{response_of, Gives, Answers}
@@ -26,7 +26,8 @@ module _ {T : Type 0} (f : T → Response) (old new : PrivateCopy) (e : EngineFa
       subst (λ b. Gives old new (cond b (Value (value_at old.contents k), old) (after_read old (OfKey k) (Value (value_at old.contents k)))) (response_of f (Err e))) (sym unwritten)
       (any_success {S = Unit {0}} old new (after_read old (OfKey k) (Value (value_at old.contents k))) (λ _. Value (value_at old.contents k)) f e (h (Value (value_at old.contents k))))
 
-  pub range_refused : (lo : Bytes) (hi : Option Bytes) (limit : ℕ) → is_empty_range lo hi ≡ false → Refuses old new e (OfRange lo hi) → Answers old new (Range lo hi limit) (response_of f (Err e))
+  pub range_refused : (lo : Bytes) (hi : Option Bytes) (limit : ℕ) → is_empty_range lo hi ≡ false → Refuses old new e (mark_of_reply lo hi limit (take limit (pairs_in_range old.contents lo hi))) → Answers old new (Range lo hi limit) (response_of f (Err e))
   range_refused lo hi limit some h =
-      subst (λ b. Gives old new (cond b (Pairs [], old) (after_read old (OfRange lo hi) (Pairs (take limit (pairs_in_range old.contents lo hi))))) (response_of f (Err e))) (sym some)
-      (any_success {S = Unit {0}} old new (after_read old (OfRange lo hi) (Pairs (take limit (pairs_in_range old.contents lo hi)))) (λ _. Pairs (take limit (pairs_in_range old.contents lo hi))) f e (h (Pairs (take limit (pairs_in_range old.contents lo hi)))))
+      let pairs = take limit (pairs_in_range old.contents lo hi) in
+      subst (λ b. Gives old new (cond b (Pairs [], old) (after_read old (mark_of_reply lo hi limit pairs) (Pairs pairs))) (response_of f (Err e))) (sym some)
+      (any_success {S = Unit {0}} old new (after_read old (mark_of_reply lo hi limit pairs) (Pairs pairs)) (λ _. Pairs pairs) f e (h (Pairs pairs)))

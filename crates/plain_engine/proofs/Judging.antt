@@ -1,20 +1,21 @@
 -- The verdict, found step by step.
-use Rattle.model.specs.Dependency.{concurrent_read_write}
-use Rattle.model.proofs.Pivots.{is_pivot_by_flags, has_read_write_in-push, has_read_write_out-push}
-use Rattle.std.specs.Prelude.{◌&&◌}
-use Rattle.std.proofs.Common.{◌≡◌, ◌+◌, ◌||◌, ◌∙◌, ℕ, sym, cond, Some, None, Bool, true, false, arith, List, [], ◌∷◌, ◌++◌, refl, ap, suc}
+use Rattle.model.proofs.Pivots.{any-append}
+use Rattle.std.proofs.Common.{◌<◌, length, get_or, drop, zero, ◌≡◌, ◌+◌, ◌||◌, ◌∙◌, ℕ, sym, cond, Some, None, Bool, true, false, arith, List, [], ◌∷◌, ◌++◌, refl, ap, suc}
 use Rattle.std.specs.Prelude.{slice_index_or}
 use Rattle.std.specs.List.{list_any, find}
 use Rattle.model.specs.History.{Record}
-use Rattle.model.specs.Dependency.{is_pivot}
+use Rattle.model.specs.Dependency.{makes_dangerous_pivot, is_dangerous_pivot}
 use Rattle.model.specs.Verdict.{is_overwritten, pivot_refusal, verdict}
 use Rattle.model.specs.declared.refusals.Refusal.TheVariants.{Overwritten, PivotSelf}
 use Rattle.plain_engine.specs.Conflicts.{position_by}
 use Rattle.model.specs.Map.{KeyWrite}
 
-pub pivot_parts : (h : List Record) (t p : Record) → is_pivot (h ++ t ∷ []) p
-    ≡ ((list_any (λ x. concurrent_read_write x p) h || concurrent_read_write t p) && (list_any (λ y. concurrent_read_write p y) h || concurrent_read_write p t))
-pivot_parts h t p = is_pivot_by_flags (h ++ t ∷ []) p ∙ (λ i. has_read_write_in-push h t p i && has_read_write_out-push h t p i)
+pub target_parts : (h : List Record) (t x p : Record) → list_any (λ y. makes_dangerous_pivot x p y) (h ++ t ∷ []) ≡ (list_any (λ y. makes_dangerous_pivot x p y) h || makes_dangerous_pivot x p t)
+target_parts h t x p = any-append (λ y. makes_dangerous_pivot x p y) h t
+
+pub pivot_parts : (h : List Record) (t p : Record) → is_dangerous_pivot (h ++ t ∷ []) p
+    ≡ (list_any (λ x. list_any (λ y. makes_dangerous_pivot x p y) (h ++ t ∷ [])) h || list_any (λ y. makes_dangerous_pivot t p y) (h ++ t ∷ []))
+pivot_parts h t p = any-append (λ x. list_any (λ y. makes_dangerous_pivot x p y) (h ++ t ∷ [])) h t
 
 pub found_at : (p : KeyWrite → Bool) (k i : ℕ) (ws : List KeyWrite) → position_by p k ws ≡ Some i → (j : ℕ) × (i ≡ k + j) × (find p ws ≡ Some (slice_index_or ws j ([], None)))
 found_at p k i [] e = absurd (cc)
@@ -42,11 +43,29 @@ module _ (h : List Record) (t : Record) where
       let same : i ≡ f.0 = omega (arith, f.1) in
       sym (rw f.2 (ap (λ j. Some (Overwritten (slice_index_or t.writes j ([], None)).0)) (sym same)))
 
-  pub verdict_self : position_by (λ w. is_overwritten h t w.0) 0 t.writes ≡ None → is_pivot (h ++ t ∷ []) t ≡ true → Some PivotSelf ≡ verdict h t
+  pub verdict_self : position_by (λ w. is_overwritten h t w.0) 0 t.writes ≡ None → is_dangerous_pivot (h ++ t ∷ []) t ≡ true → Some PivotSelf ≡ verdict h t
   unfolding verdict
   verdict_self e pivot = sym (rw (not_found (λ w. is_overwritten h t w.0) 0 t.writes e, pivot) refl)
 
-  pub verdict_other : position_by (λ w. is_overwritten h t w.0) 0 t.writes ≡ None → is_pivot (h ++ t ∷ []) t ≡ false →
-      pivot_refusal (find (is_pivot (h ++ t ∷ [])) h) ≡ verdict h t
+  pub verdict_other : position_by (λ w. is_overwritten h t w.0) 0 t.writes ≡ None → is_dangerous_pivot (h ++ t ∷ []) t ≡ false →
+      pivot_refusal (find (is_dangerous_pivot (h ++ t ∷ [])) h) ≡ verdict h t
   unfolding verdict
   verdict_other e pivot = sym (rw (not_found (λ w. is_overwritten h t w.0) 0 t.writes e, pivot) refl)
+
+-- ---- a walk over records
+
+pub hit : (P : Record → Bool) (rs : List Record) (i : ℕ) (r : Record) → i < length rs → r ≡ get_or rs i r → P r ≡ true → list_any P (drop i rs) ≡ list_any P rs → true ≡ list_any P rs
+hit P rs i r lt is t known = sym (here rs i lt is) ∙ known
+  where
+    here : (rs : List Record) (i : ℕ) → i < length rs → r ≡ get_or rs i r → list_any P (drop i rs) ≡ true
+    here [] i lt is = absurd (omega arith)
+    here (s ∷ rs) zero lt is = ap (λ b. b || list_any P rs) (ap P (sym is) ∙ t)
+    here (s ∷ rs) (suc i) lt is = here rs i (omega arith) is
+
+pub miss : (P : Record → Bool) (rs : List Record) (i : ℕ) (r : Record) → i < length rs → r ≡ get_or rs i r → P r ≡ false → list_any P (drop i rs) ≡ list_any P rs → list_any P (drop (suc i) rs) ≡ list_any P rs
+miss P rs i r lt is f known = sym (here rs i lt is) ∙ known
+  where
+    here : (rs : List Record) (i : ℕ) → i < length rs → r ≡ get_or rs i r → list_any P (drop i rs) ≡ list_any P (drop (suc i) rs)
+    here [] i lt is = absurd (omega arith)
+    here (s ∷ rs) zero lt is = ap (λ b. b || list_any P rs) (ap P (sym is) ∙ f)
+    here (s ∷ rs) (suc i) lt is = here rs i (omega arith) is

@@ -1,5 +1,6 @@
 mod Committing
 mod Copying
+mod Ends
 mod Judging
 mod Reaching
 mod Sessions

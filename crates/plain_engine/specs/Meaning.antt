@@ -32,7 +32,8 @@ pub record StandsFor (e : Engine) (m : State) : Type 0 where
   pub stopped : m.stopped ≡ e.stopped
 
 -- From each state that the old engine stood for, the new one stands for the machine's next, with this response. Where memory
--- was refused there is no response, and the new one stands for the same states.
+-- was refused there is no response, and the new one stands for the same states. This says less than the engine's word of that name: it
+-- leaves open whether the machine would have refused the request, since this engine copies before it judges.
 abbrev pub Leads : Engine → Engine → ℕ → Operation → Bool → Option Response → Type 0
 Leads old new s q failed (Some response) = (m : State) → StandsFor old m → StandsFor new (step m s q failed).0 × ((step m s q failed).1 ≡ response)
 Leads old new s q failed None = (m : State) → StandsFor old m ↔ StandsFor new m

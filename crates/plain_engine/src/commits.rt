@@ -3,7 +3,7 @@ ghost use Rattle.std.specs.Prelude.{◌≡◌, ℕ, ◌+◌, ◌*◌, ◌/◌, �
 ghost use Rattle.std.specs.List.{list_any, find};
 ghost use Rattle.model.specs.Map.{after_writes, is_same_key};
 ghost use Rattle.model.specs.PrivateCopy.{is_covered};
-ghost use Rattle.model.specs.Dependency.{writes_key, reads_from, concurrent_read_write, is_pivot};
+ghost use Rattle.model.specs.Dependency.{writes_key, reads_from, concurrent_read_write, makes_dangerous_pivot, is_dangerous_pivot};
 ghost use Rattle.model.specs.Machine.{payload_size, body_sectors as body_sectors_of};
 ghost use Rattle.model.specs.Verdict.{is_overwritten, pivot_refusal, verdict};
 ghost use Rattle.plain_engine.specs.Conflicts.{refusal_of, position_by, IsPlaced};
@@ -46,7 +46,7 @@ pub enum Conflict {
 impl Commit {
     ghost use Rattle.std.specs.Prelude.{◌≡◌, map, [], option_map, length, Some, slice_get, ◌<◌};
     ghost use Rattle.model.specs.PrivateCopy.{is_covered};
-    ghost use Rattle.model.specs.Dependency.{writes_key, reads_from, concurrent_read_write, is_pivot};
+    ghost use Rattle.model.specs.Dependency.{writes_key, reads_from, concurrent_read_write};
 
     pub fn new(begin: u64, commit: u64, marks: Vec<Mark>, writes: Vec<Write>) -> Commit
         ensures { result ≡ record { begin = begin; commit = commit; requests = []; replies = []; reads = marks.items; writes = writes.items } }
@@ -121,36 +121,51 @@ fn is_any_covered(marks: &[Mark], writes: &[Write]) -> bool
     false
 }
 
-fn has_dependency_from_any(commits: &[Commit], p: &Commit) -> bool
-    ensures { result ≡ list_any (λ x. concurrent_read_write x p.now) commits.now }
+// Whether the three make p a pivot whose target y committed first.
+fn is_dangerous(x: &Commit, p: &Commit, y: &Commit) -> bool
+    ensures { result ≡ makes_dangerous_pivot x.now p.now y.now }
+{
+    let into = x.has_dependency(p);
+    let out = p.has_dependency(y);
+    let first = y.commit < p.commit && y.commit <= x.commit;
+    into && out && first
+}
+
+fn has_target_among(commits: &[Commit], x: &Commit, p: &Commit) -> bool
+    ensures { result ≡ list_any (λ y. makes_dangerous_pivot x.now p.now y) commits.now }
 {
     for c in commits {
-        if c.has_dependency(p) {
+        if is_dangerous(x, p, c) {
             return true;
         }
     }
     false
 }
 
-fn has_dependency_to_any(commits: &[Commit], p: &Commit) -> bool
-    ensures { result ≡ list_any (λ y. concurrent_read_write p.now y) commits.now }
+#[tactic(auto, using(crate::proofs::Judging::target_parts))]
+fn has_target(commits: &[Commit], t: &Commit, x: &Commit, p: &Commit) -> bool
+    ensures { result ≡ list_any (λ y. makes_dangerous_pivot x.now p.now y) (commits.now ++ t.now ∷ []) }
+{
+    has_target_among(commits, x, p) || is_dangerous(x, p, t)
+}
+
+fn has_source_among(commits: &[Commit], t: &Commit, p: &Commit) -> bool
+    ensures { result ≡ list_any (λ x. list_any (λ y. makes_dangerous_pivot x p.now y) (commits.now ++ t.now ∷ [])) commits.now }
 {
     for c in commits {
-        if p.has_dependency(c) {
+        if has_target(commits, t, c, p) {
             return true;
         }
     }
     false
 }
 
-/// Whether p is a pivot among the commits and t.
+/// Whether p is a dangerous pivot among the commits and t.
 #[tactic(auto, using(crate::proofs::Judging::pivot_parts))]
 fn is_pivot_among(commits: &[Commit], t: &Commit, p: &Commit) -> bool
-    ensures { result ≡ is_pivot (commits.now ++ t.now ∷ []) p.now }
+    ensures { result ≡ is_dangerous_pivot (commits.now ++ t.now ∷ []) p.now }
 {
-    let into = has_dependency_from_any(commits, p) || t.has_dependency(p);
-    let out = has_dependency_to_any(commits, p) || p.has_dependency(t);
-    into && out
+    has_source_among(commits, t, p) || has_target(commits, t, t, p)
 }
 
 /// The place of the first write whose key is overwritten.
@@ -166,9 +181,9 @@ fn overwritten_at(commits: &[Commit], t: &Commit, writes: &[Write]) -> Option<us
     None
 }
 
-/// The first commit that is a pivot.
+/// The first commit that is a dangerous pivot.
 fn first_pivot(commits: &[Commit], t: &Commit) -> Option<u64>
-    ensures { option_map (λ n. Pivot n) result ≡ pivot_refusal (find (is_pivot (commits.now ++ t.now ∷ [])) commits.now) }
+    ensures { option_map (λ n. Pivot n) result ≡ pivot_refusal (find (is_dangerous_pivot (commits.now ++ t.now ∷ [])) commits.now) }
 {
     for c in commits {
         if is_pivot_among(commits, t, c) {

@@ -3,8 +3,8 @@ use crate::commits::Commit;
 use crate::faults::EngineFault;
 use crate::marks::{Mark, copied_marks, is_among as is_marked};
 use crate::pairs::{
-    Value, copied_map, is_among, is_empty_range, pairs_within, value_of, values_of, with_key,
-    with_value, without_key,
+    Value, copied_map, is_among, is_empty_range, page_end, pairs_within, value_of, values_of,
+    with_key, with_value, without_key,
 };
 use model::{Key, KeyRef, Memory, RangeRef, Refusal};
 use std::alloc::Global;
@@ -114,7 +114,8 @@ impl PrivateCopy {
         }
         let mut rows = pairs_within(alloc, &self.contents, range)?;
         rows.truncate(limit as usize);
-        let mark = Mark::of_range(alloc, range)?;
+        let end = page_end(&rows, limit);
+        let mark = Mark::of_page(alloc, range, end)?;
         match self.mark(mark) {
             Ok(()) => Ok(rows),
             Err(fault) => Err(fault),

@@ -12,6 +12,7 @@ use std::marker::Model;
 enum Reading {
     Key(Key),
     Range(Range),
+    ClosedRange(Key, Key),
 }
 
 /// A key or a range of keys that was read. A clause sees the model's mark.
@@ -31,8 +32,9 @@ impl Model for Mark {
 
 impl Mark {
     ghost use Rattle.std.specs.Prelude.{◌≡◌, IfOk};
-    ghost use Rattle.model.specs.PrivateCopy.{covers, is_same_mark};
-    ghost use Rattle.model.specs.PrivateCopy.Mark.{OfKey};
+    ghost use Rattle.model.specs.KeyBytes.{key_bytes, end_bytes};
+    ghost use Rattle.model.specs.PrivateCopy.{covers, is_same_mark, mark_up_to};
+    ghost use Rattle.model.specs.PrivateCopy.Mark.{OfKey, OfClosedRange};
     ghost use Rattle.plain_engine.specs.Readings.{range_mark};
 
     pub fn of_key(alloc: Global, key: KeyRef<'_>) -> Result<Mark, Memory>
@@ -57,6 +59,31 @@ impl Mark {
         })
     }
 
+    /// The mark of all keys from the first to the last, both included.
+    pub fn of_ends(alloc: Global, lo: KeyRef<'_>, last: KeyRef<'_>) -> Result<Mark, Memory>
+        ensures { IfOk result (λ m. m ≡ OfClosedRange lo.entry.bytes.now last.entry.bytes.now) }
+    {
+        let lo = Key::from_ref(alloc, lo)?;
+        let last = Key::from_ref(alloc, last)?;
+        Ok(Mark {
+            reading: Reading::ClosedRange(lo, last),
+        })
+    }
+
+    /// The mark of a read of the range that ended at this key, where others may follow it, or that found all.
+    pub fn of_page(
+        alloc: Global,
+        range: RangeRef<'_>,
+        end: Option<KeyRef<'_>>,
+    ) -> Result<Mark, Memory>
+        ensures { IfOk result (λ m. m ≡ mark_up_to (key_bytes range.entry.lo) (end_bytes range.entry.hi) (end_bytes end.entry)) }
+    {
+        match end {
+            Some(last) => Mark::of_ends(alloc, range.lo, last),
+            None => Mark::of_range(alloc, range),
+        }
+    }
+
     pub fn copy(&self, alloc: Global) -> Result<Mark, Memory>
         ensures { IfOk result (λ m. m ≡ self.now) }
     {
@@ -75,6 +102,7 @@ impl Mark {
                     },
                 )
             }
+            Reading::ClosedRange(lo, last) => Mark::of_ends(alloc, lo.lend(), last.lend()),
         }
     }
 
@@ -91,6 +119,10 @@ impl Mark {
                 };
                 is_from && is_below
             }
+            Reading::ClosedRange(lo, last) => {
+                let is_from = lo.lend().order(key).is_le();
+                is_from && key.order(last.lend()).is_le()
+            }
         }
     }
 
@@ -100,6 +132,10 @@ impl Mark {
         match (&self.reading, &other.reading) {
             (Reading::Key(key), Reading::Key(other)) => key.lend().order(other.lend()).is_eq(),
             (Reading::Range(range), Reading::Range(other)) => is_same_range(range, other),
+            (Reading::ClosedRange(lo, last), Reading::ClosedRange(first, end)) => {
+                let is_first = lo.lend().order(first.lend()).is_eq();
+                is_first && last.lend().order(end.lend()).is_eq()
+            }
             _ => false,
         }
     }

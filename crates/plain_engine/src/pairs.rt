@@ -6,7 +6,8 @@ ghost use Rattle.std.specs.Cmp.Lexicographic.{slice_cmp};
 ghost use Rattle.std.specs.FinMap.Entries.{put};
 ghost use Rattle.std.specs.BTreeSet.{insert_key};
 ghost use Rattle.model.specs.Map.{value_at, is_same_key, key_cmp, after_write, is_in_range, is_empty_range, pairs_in_range};
-ghost use Rattle.model.specs.PrivateCopy.{values_at};
+ghost use Rattle.model.specs.KeyBytes.{end_bytes};
+ghost use Rattle.model.specs.PrivateCopy.{page_end, values_at};
 ghost use Rattle.model.specs.Machine.{payload_size, write_size};
 ghost use Rattle.plain_engine.specs.Limits.{IsLimited};
 
@@ -223,6 +224,20 @@ pub fn pairs_within(
         }
     }
     Ok(out)
+}
+
+/// The last key of the pairs, where they are as many as the limit, so that others may follow it.
+pub fn page_end(rows: &[(Key, Value)], limit: u8) -> Option<KeyRef<'_>>
+    ensures { end_bytes result ≡ page_end limit rows.now }
+{
+    if rows.len() != limit as usize {
+        return None;
+    }
+    let mut last = None;
+    for row in rows {
+        last = Some(row.0.lend());
+    }
+    last
 }
 
 /// Does the key lie in the range?
