@@ -3,6 +3,7 @@ use Rattle.std.proofs.Common.{◌≡◌, ◌↔◌, ℕ, ◌<◌, ◌≤◌, ◌
 use Rattle.std.proofs.lemmas.Bool.{cases_lt}
 use Rattle.sector.specs.declared.device.Sectors.{Ghosts}
 use Rattle.commit_log.specs.declared.log.Log.{Log}
+use Rattle.sector.specs.SectorModel.{IsSettled}
 use Rattle.model.specs.Map.{KeyWrite}
 use Rattle.model.specs.Machine.{body_sectors}
 use Rattle.commit_log.specs.RecordFormat.{IsWriteSet, payload_bytes, sectors_for, sectors_of, padded_body, record_digest, first_digest}
@@ -56,8 +57,8 @@ next_record log lists writes body bytes stands proper is size same = record {
 -- the log with a record more
 pub stands_after : {D : Type 0} {g : Ghosts D} (old new : Log D g) (lists : List (List KeyWrite)) (writes : List KeyWrite) → StandsFor old lists → new.stopped ≡ false
     → new.gate ≡ old.gate + 1 + sectors_of writes → new.records ≡ old.records + 1 → new.digest ≡ record_digest old.digest old.records writes
-    → ((c : List (List ℕ)) → g.may_leave new.device c → IsLogImage (lists ++ writes ∷ []) c) → StandsFor new (lists ++ writes ∷ [])
-stands_after old new lists writes stands running gate records digest left = record {
+    → ((image : List (List ℕ)) × IsSettled (g.size new.device) (g.may_read new.device) (g.may_leave new.device) image × IsLogImage (lists ++ writes ∷ []) image) → StandsFor new (lists ++ writes ∷ [])
+stands_after old new lists writes stands running gate records digest settled = record {
   running = running;
   gate = omega (arith, stands.gate, gate, span-push lists writes);
   records = omega (arith, stands.records, records, length-append lists (writes ∷ []));
@@ -65,16 +66,18 @@ stands_after old new lists writes stands running gate records digest left = reco
       let index : old.records ≡ next_index lists 0 = omega (arith, stands.records, next_index-is lists 0) in
       digest ∙ ap (λ (d : List ℕ). record_digest d old.records writes) stands.digest ∙ ap (λ (n : ℕ). record_digest (last_digest lists 0 first_digest) n writes) index
       ∙ sym (last_digest-push lists writes 0 first_digest);
-  left = left;
+  settled = settled;
+  left = λ c left. subst (IsLogImage (lists ++ writes ∷ [])) (sym (settled.1.left c left)) settled.2;
 }
 
 -- a log made of what was found
-pub log_opened : {D : Type 0} {g : Ghosts D} (log : Log D g) (may_leave : List (List ℕ) → Type 0) (image : List (List ℕ)) (found : Found) (opened : IsOpened may_leave image found) → log.stopped ≡ false → log.gate ≡ found.gate → log.records ≡ found.records
-    → log.digest ≡ found.digest.bytes → g.may_leave log.device ≡ may_leave → StandsFor log opened.lists
-log_opened {g = g} log may_leave image found opened running gate records digest same = record {
+pub log_opened : {D : Type 0} {g : Ghosts D} (log : Log D g) (image : List (List ℕ)) (found : Found) (opened : IsOpened (g.size log.device) (g.may_read log.device) (g.may_leave log.device) image found) → log.stopped ≡ false → log.gate ≡ found.gate → log.records ≡ found.records
+    → log.digest ≡ found.digest.bytes → StandsFor log opened.lists
+log_opened log image found opened running gate records digest = record {
   running = running;
   gate = gate ∙ opened.tells.gate;
   records = records ∙ opened.tells.records;
   digest = digest ∙ opened.tells.digest;
-  left = λ c left. subst (IsLogImage opened.lists) (sym (opened.left c (rw same at left))) opened.holds;
+  settled = (image, opened.settled, opened.holds);
+  left = λ c left. subst (IsLogImage opened.lists) (sym (opened.settled.left c left)) opened.holds;
 }

@@ -10,6 +10,7 @@ pub mod Bodies
 pub mod Encoding
 pub mod ReadFaults
 pub mod Gates
+pub mod Making
 pub mod Protocol
 pub mod Unique
 pub mod Writes

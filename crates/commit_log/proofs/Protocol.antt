@@ -2,7 +2,7 @@
 -- a closed gate stand behind its gate, whatever that gate holds.
 use Rattle.std.proofs.Common.{◌≡◌, ◌≢◌, inl, inr, ⊎_elim, ℕ, suc, ◌<◌, ◌≤◌, ◌+◌, ◌*◌, ◌/◌, true, false, List, [], ◌∷◌, ◌++◌, length, take, drop, slice_get, Some, sym, ◌∙◌, ap, subst, arith}
 use Rattle.sector.specs.declared.device.Sectors.{Ghosts}
-use Rattle.sector.specs.SectorModel.{FollowsWrite, Settles, Elapses, LeavesOnly}
+use Rattle.sector.specs.SectorModel.{FollowsWrite, Settles, Elapses, LeavesOnly, IsSettled}
 use Rattle.sector.proofs.Moments.{goes_on}
 use Rattle.model.specs.Map.{KeyWrite}
 use Rattle.commit_log.specs.RecordFormat.{IsWriteSet, is_open, first_digest, sectors_of, padded_body}
@@ -109,13 +109,12 @@ module _ {D : Type 0} (S : Ghosts D) (lists : List (List KeyWrite)) (writes : Li
   -- the sync that settles the gate
   pub acknowledged : (gate size : ℕ) (opened : List ℕ) → gate ≡ 1 + span lists → IsWriteSet writes → gate < size → ((s : List ℕ) → S.may_read now gate s → s ≡ opened) → is_open opened ≡ true
       → Opening S lists writes start now → Settles size (S.may_read now) (S.may_read next) (S.may_leave now) (S.may_leave next)
-      → (c : List (List ℕ)) → S.may_leave next c → IsLogImage (lists ++ writes ∷ []) c
-  acknowledged gate size opened at proper room written is so_far settles c left =
+      → (image : List (List ℕ)) × IsSettled size (S.may_read next) (S.may_leave next) image × IsLogImage (lists ++ writes ∷ []) image
+  acknowledged gate size opened at proper room written is so_far settles =
       let image = settles.image in
-      let only : c ≡ image = settles.settled.left c left in
       let there : (s : List ℕ) × (slice_get image gate ≡ Some s) = slice_get_there image gate (omega (arith, settles.settled.size_is)) in
       let found : there.0 ≡ opened = written there.0 (settles.was_read gate there.0 there.1) in
-      rw only (image_staged_open lists writes image gate there.0 at proper (so_far.left image settles.was_left) there.1 (ap is_open found ∙ is))
+      (image, settles.settled, image_staged_open lists writes image gate there.0 at proper (so_far.left image settles.was_left) there.1 (ap is_open found ∙ is))
 
 -- the same, by the writes before it
 pub staged_by : {D : Type 0} (S : Ghosts D) (lists : List (List KeyWrite)) (writes : List KeyWrite) (start mid now next : D) (gate size : ℕ) (bytes shut : List ℕ) → IsNextRecord lists writes gate bytes

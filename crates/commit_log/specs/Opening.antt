@@ -1,5 +1,6 @@
 -- What opening finds.
 use Rattle.std.specs.Prelude.{◌≡◌, ◌+◌, ℕ, List, [], length, slice_get, Some}
+use Rattle.sector.specs.SectorModel.{IsSettled}
 use Rattle.model.specs.Map.{KeyWrite}
 use Rattle.commit_log.specs.RecordFormat.{first_digest}
 use Rattle.commit_log.specs.LogImage.{HoldsRecords, HoldsDamage, IsLogImage, IsDamaged, IsNoLog, span, last_digest}
@@ -55,9 +56,9 @@ pub record CanSettle (size : ℕ) (may_read : ℕ → List ℕ → Type 0) (may_
   pub read : (i : ℕ) (s : List ℕ) → slice_get image i ≡ Some s → may_read i s
   pub left : may_leave image
 
--- it tells of this image, which is all that a crash now may leave
-pub record IsOpened (may_leave : List (List ℕ) → Type 0) (image : List (List ℕ)) (found : Found) : Type 0 where
+-- it tells of this image, which reads give now and is all that a crash may leave
+pub record IsOpened (size : ℕ) (may_read : ℕ → List ℕ → Type 0) (may_leave : List (List ℕ) → Type 0) (image : List (List ℕ)) (found : Found) : Type 0 where
   pub lists : List (List KeyWrite)
   pub holds : IsLogImage lists image
   pub tells : TellsOf lists found
-  pub left : (c : List (List ℕ)) → may_leave c → c ≡ image
+  pub settled : IsSettled size may_read may_leave image

@@ -26,7 +26,7 @@ pub struct Log<D: Sectors> {
 
 impl<D: Sectors> Log<D> {
     ghost use Rattle.sector.specs.Failures.{Rose, Stayed};
-    ghost use Rattle.sector.specs.SectorModel.{LeavesOnly};
+    ghost use Rattle.sector.specs.SectorModel.{IsSettled, LeavesOnly};
     ghost use Rattle.model.specs.Map.{KeyWrite};
     ghost use Rattle.model.specs.Machine.{body_sectors};
     ghost use Rattle.commit_log.specs.RecordFormat.{IsWriteSet};
@@ -34,6 +34,7 @@ impl<D: Sectors> Log<D> {
     ghost use Rattle.commit_log.specs.Recovery.{map_after};
     ghost use Rattle.commit_log.specs.LogFaults.{IsDeviceOrMemory, IsOpenFault, IsAppendFault};
     ghost use Rattle.commit_log.specs.Reading.{ReadsAs};
+    ghost use Rattle.commit_log.specs.Opening.{CanSettle};
     ghost use Rattle.commit_log.specs.LogState.{StandsFor, IsBeforeOrAfter, record_count, used_sectors, is_stopped, device_of, sector_count, failure_count};
 
     /// Opens the log that a device holds, and gives the map that its write sets make of the empty one. It syncs the device, and reads
@@ -45,11 +46,17 @@ impl<D: Sectors> Log<D> {
     pub fn open(alloc: Global, mut device: D) -> Result<(Self, Map), LogFault>
         ensures size { IfOk result (λ r. sector_count r.0 ≡ D.size device) }
         ensures running { IfOk result (λ r. is_stopped r.0 ≡ false) }
-        ensures failures { IfOk result (λ r. failure_count r.0 ≡ D.failures device) }
+        ensures failures { IfOk result (λ r. Stayed (D.failures device) (failure_count r.0)) }
         ensures faults { IfErr result IsOpenFault }
 
-        // The log stands for what was read: each crash leaves it.
-        ensures stands { D.keeps_model → IfOk result (λ r. (lists : List (List KeyWrite)) × StandsFor r.0 lists × (r.1 ≡ map_after [] lists)) }
+        // `Device` is told only where a call has failed: the device then counts more failures.
+        ensures cause { IfErr result (λ e. e ≡ LogFault.Device → (after : D) × Rose (D.failures device) (D.failures after)) }
+        ensures short { D.size device < 2 → IsErrAnd result (λ e. (e ≡ LogFault.NotALog) ⊎ (e ≡ LogFault.Device)) }
+
+        // The log stands for an image that a crash before the call might have left; the device now holds it, and nothing else.
+        ensures stands { D.keeps_model → IfOk result (λ r. (lists : List (List KeyWrite)) × StandsFor r.0 lists × (r.1 ≡ map_after [] lists)
+            × (image : List (List ℕ)) × IsLogImage lists image × CanSettle (D.size device) (D.may_read device) (D.may_leave device) image
+            × IsSettled (sector_count r.0) (D.may_read (device_of r.0)) (D.may_leave (device_of r.0)) image) }
 
         // During the call a crash leaves what one before it could have left.
         ensures during { D.keeps_model → IfOk result (λ r. LeavesOnly D.moment D.left_since device (device_of r.0) (D.may_leave device)) }
@@ -100,7 +107,7 @@ impl<D: Sectors> Log<D> {
         ensures unchanged { IfErr result (λ e. e ≢ LogFault.Device → self.new ≡ self.old) }
         ensures no_fault { OnOk result (Stayed (failure_count self.old) (failure_count self.new)) }
 
-        // At `Ok` the log stands for its write sets and this one, and each crash leaves them.
+        // At `Ok` the log stands for its write sets and this one: reads give them, and a crash leaves them.
         ensures appended { D.keeps_model → (lists : List (List KeyWrite)) → StandsFor self.old lists → OnOk result (StandsFor self.new (lists ++ writes.now ∷ [])) }
 
         // A crash at any moment of the call leaves the write sets from before it, with this one or without.

@@ -1,5 +1,5 @@
 //! Reading records back.
-ghost use Rattle.std.specs.Prelude.{All, ◌≡◌, ◌⊎◌, ◌<◌, ◌≤◌, ◌+◌, ◌*◌, ◌/◌, ◌%◌, ◌^◌, ℕ, List, length, take, drop, slice_get, Some, OnOk, OnErr, IfOk, IfErr, IfSome, IfNone, MatchResult};
+ghost use Rattle.std.specs.Prelude.{All, ◌≡◌, ◌⊎◌, ◌<◌, ◌≤◌, ◌+◌, ◌*◌, ◌/◌, ◌%◌, ◌^◌, ℕ, List, length, take, drop, slice_get, Some, OnOk, OnErr, IfOk, IfErr, IsErrAnd, IfSome, IfNone, MatchResult};
 ghost use Rattle.sector.specs.SectorModel.{LeavesOnly};
 ghost use Rattle.sector.specs.Failures.{Rose, Stayed};
 ghost use Rattle.byteorder.specs.Endian.{big_number};
@@ -199,6 +199,7 @@ pub fn read_log<D: Sectors>(alloc: Global, device: &mut D) -> Result<Found, LogF
     ensures fault { FaultIs (D.failures device.old) (D.failures device.new) result }
     ensures no_fault { OnOk result (Stayed (D.failures device.old) (D.failures device.new)) }
     ensures size { D.size device.new ≡ D.size device.old }
+    ensures short { D.size device.old < 2 → IsErrAnd result (λ e. (e ≡ LogFault.NotALog) ⊎ (e ≡ LogFault.Device)) }
     ensures range { IfOk result (λ found. (found.gate < D.size device.new) × (found.records ≤ found.gate) × (D.size device.new < 2 ^ 64)) }
     ensures errors { IfErr result IsOpenFault }
 
@@ -206,7 +207,7 @@ pub fn read_log<D: Sectors>(alloc: Global, device: &mut D) -> Result<Found, LogF
     ensures during { D.keeps_model → LeavesOnly D.moment D.left_since device.old device.new (D.may_leave device.old) }
 
     // The call tells of one image that the device might have held.
-    ensures opened { D.keeps_model → IfOk result (λ found. (image : List (List ℕ)) × CanSettle (D.size device.old) (D.may_read device.old) (D.may_leave device.old) image × IsOpened (D.may_leave device.new) image found) }
+    ensures opened { D.keeps_model → IfOk result (λ found. (image : List (List ℕ)) × CanSettle (D.size device.old) (D.may_read device.old) (D.may_leave device.old) image × IsOpened (D.size device.new) (D.may_read device.new) (D.may_leave device.new) image found) }
     ensures refused { D.keeps_model → IfErr result (λ e. IsDeviceOrMemory e ⊎ ((image : List (List ℕ)) × CanSettle (D.size device.old) (D.may_read device.old) (D.may_leave device.old) image × IsRefusal image e)) }
 {
     match device.sync() {

@@ -1,6 +1,6 @@
 //! The order in which a record reaches the device.
 ghost use Rattle.std.specs.Prelude.{◌≡◌, ◌<◌, ◌≤◌, ◌+◌, ◌*◌, ◌/◌, ◌%◌, ◌^◌, ℕ, [], ◌∷◌, ◌++◌, List, length, OnOk, OnErr};
-ghost use Rattle.sector.specs.SectorModel.{LeavesOnly};
+ghost use Rattle.sector.specs.SectorModel.{IsSettled, LeavesOnly};
 ghost use Rattle.sector.specs.Failures.{Rose, Stayed};
 ghost use Rattle.model.specs.Map.{KeyWrite};
 ghost use Rattle.commit_log.specs.RecordFormat.{open_gate, closed_gate};
@@ -33,10 +33,10 @@ pub fn write_record<D: Sectors>(device: &mut D, gate: u64, body: &[u8]) -> Resul
     ensures ok { OnOk result (Stayed (D.failures device.old) (D.failures device.new)) }
     ensures fault { OnErr result (Rose (D.failures device.old) (D.failures device.new)) }
 
-    // At `Ok` each crash leaves the log with the record.
+    // At `Ok` reads give the log with the record, and a crash leaves it.
     ensures acknowledged { D.keeps_model → (lists : List (List KeyWrite)) (writes : List KeyWrite) → IsNextRecord lists writes gate body.now
         → ((c : List (List ℕ)) → D.may_leave device.old c → IsLogImage lists c)
-        → OnOk result ((c : List (List ℕ)) → D.may_leave device.new c → IsLogImage (lists ++ writes ∷ []) c) }
+        → OnOk result ((image : List (List ℕ)) × IsSettled (D.size device.new) (D.may_read device.new) (D.may_leave device.new) image × IsLogImage (lists ++ writes ∷ []) image) }
 
     // A crash at any moment of the call leaves the log with the record or without it.
     ensures any_moment { D.keeps_model → (lists : List (List KeyWrite)) (writes : List KeyWrite) → IsNextRecord lists writes gate body.now

@@ -70,10 +70,16 @@ fn crash_points_of_an_append(rt: HostRuntime) -> Result<(), Fail> {
                 "{fill:?} within {call}"
             );
         }
-        // The gate at 3 is unsettled: its byte 0 tells.
-        let torn = if fill == Fill::Ones { 2 } else { 1 };
-        let opened = if fill == Fill::New { 2 } else { torn };
-        assert_eq!(rt; stopped_within(alloc, 4, fill)?, torn, "{fill:?} within 4");
+        // The gate at 3 is unsettled from within its write on: its byte 0 tells.
+        let opened = match fill {
+            Fill::New | Fill::Ones => 2,
+            Fill::Zeros | Fill::Highest | Fill::Old => 1,
+        };
+        assert_eq!(rt;
+            stopped_within(alloc, 4, fill)?,
+            opened,
+            "{fill:?} within 4"
+        );
         assert_eq!(rt; stopped_after(alloc, 4, fill)?, opened, "{fill:?} after 4");
         assert_eq!(rt;
             stopped_within(alloc, 5, fill)?,

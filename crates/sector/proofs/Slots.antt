@@ -1,10 +1,12 @@
 -- What writes and syncs change in the slots of a device in memory.
 use Rattle.std.proofs.Common.{◌≡◌, ◌≢◌, ℕ, zero, suc, ◌+◌, ◌<◌, replicate, All, List, [], ◌∷◌, ◌++◌, length, map, set, get_or, slice_get, take, drop, None, Some, refl, sym, ◌∙◌, ap, arith, append_assoc, take-append-drop}
-use Rattle.std.proofs.lemmas.List.{append-nil, replicate-append-replicate}
+use Rattle.std.proofs.lemmas.List.{append-nil, replicate-append-replicate, map-set}
+use Rattle.std.proofs.Math.Seq.{map-set_same}
 use Rattle.std.proofs.lemmas.Grind.{common_steps}
 use Rattle.std.specs.List.{concat}
 use Rattle.sector.specs.declared.memory.Slot.{Slot}
-use Rattle.sector.specs.Slots.{written, settled_slot, MayLeave, IsLeft, IsSettledSlot}
+use Rattle.sector.specs.declared.memory.MemSectors.{MemSectors}
+use Rattle.sector.specs.Slots.{written, settled_slot, MayLeave, IsLeft, IsSettledSlot, settled_content, is_settled, HasSameSectors}
 use Rattle.sector.specs.SectorModel.{Settles, FollowsWrite}
 
 pub written-settled : (slots : List Slot) → written (map settled_slot slots) ≡ written slots
@@ -110,3 +112,25 @@ blank-push slots slot n so_far is =
     written-push slots slot ∙ ap (λ (l : List (List ℕ)). l ++ slot.written ∷ []) so_far
     ∙ ap (λ (s : List ℕ). replicate n (replicate 512 0) ++ s ∷ []) is
     ∙ replicate-append-replicate n 1 (replicate 512 0)
+
+pub same_sectors : (old new : MemSectors) → new.slots ≡ old.slots → HasSameSectors old new
+same_sectors old new same = record {
+  content = ap (λ (l : List Slot). map (λ slot. slot.written) l) (ap (λ v. v.items) same);
+  settled = ap (λ (l : List Slot). map settled_content l) (ap (λ v. v.items) same);
+  which = ap (λ (l : List Slot). map is_settled l) (ap (λ v. v.items) same);
+}
+
+pub all_settled : (slots : List Slot) → All IsSettledSlot (map settled_slot slots)
+all_settled [] k d lt = absurd (omega (arith, lt))
+all_settled (slot ∷ slots) zero d lt = refl
+all_settled (slot ∷ slots) (suc k) d lt = all_settled slots k d (omega (arith, lt))
+
+-- what a write leaves
+pub content_after : (old slots : List Slot) (at : ℕ) (slot : Slot) → slots ≡ old → written (set slots at slot) ≡ set (written old) at slot.written
+content_after old slots at slot same = map-set (λ (s : Slot). s.written) slots at slot ∙ ap (λ (l : List Slot). set (written l) at slot.written) same
+
+pub settled_after : (old slots : List Slot) (at : ℕ) (slot d : Slot) → slots ≡ old → settled_content slot ≡ settled_content (get_or slots at d) → map settled_content (set slots at slot) ≡ map settled_content old
+settled_after old slots at slot d same is = map-set_same settled_content slots at slot d is ∙ ap (λ (l : List Slot). map settled_content l) same
+
+pub which_after : (old slots : List Slot) (at : ℕ) (slot : Slot) → slots ≡ old → map is_settled (set slots at slot) ≡ set (map is_settled old) at (is_settled slot)
+which_after old slots at slot same = map-set is_settled slots at slot ∙ ap (λ (l : List Slot). set (map is_settled l) at (is_settled slot)) same

@@ -1,6 +1,8 @@
 -- What a crash may leave of a device in memory.
-use Rattle.std.specs.Prelude.{◌≡◌, ℕ, suc, List, [], ◌∷◌, length, map, All, None, refl}
+use Rattle.std.specs.Prelude.{◌≡◌, ◌⊎◌, ◌<◌, ◌-◌, ℕ, suc, Bool, List, [], ◌∷◌, length, map, All, None, unwrap_or, refl}
+use Rattle.std.specs.Option.{is_none}
 use Rattle.std.proofs.Common.{ap}
+use Rattle.sector.specs.Failures.{greatest}
 use Rattle.sector.specs.declared.memory.Slot.{Slot}
 use Rattle.sector.specs.declared.memory.MemSectors.{MemSectors}
 
@@ -40,3 +42,36 @@ image device = written device.slots.items
 -- every sector is settled
 abbrev pub IsAllSettled : MemSectors → Type 0
 IsAllSettled device = All IsSettledSlot device.slots.items
+
+-- what the last sync left in a sector
+abbrev pub settled_content : Slot → List ℕ
+settled_content slot = unwrap_or slot.settled slot.written
+
+abbrev pub is_settled : Slot → Bool
+is_settled slot = is_none slot.settled
+
+-- what the last sync left in each sector
+abbrev pub settled_image : MemSectors → List (List ℕ)
+settled_image device = map settled_content device.slots.items
+
+-- which sectors are settled
+abbrev pub settled_sectors : MemSectors → List Bool
+settled_sectors device = map is_settled device.slots.items
+
+-- the sectors hold the same, and the same ones are settled
+pub record HasSameSectors (old new : MemSectors) : Type 0 where
+  pub content : image new ≡ image old
+  pub settled : settled_image new ≡ settled_image old
+  pub which : settled_sectors new ≡ settled_sectors old
+
+-- how many calls from now the one comes that is to fail; 0 where none is
+abbrev pub calls_to_failure : MemSectors → ℕ
+calls_to_failure device = device.failing_call
+
+-- the next call is to fail, or the count of failures stands at its end
+abbrev pub FailsNext : MemSectors → Type 0
+FailsNext device = (calls_to_failure device ≡ 1) ⊎ (device.failures ≡ greatest)
+
+-- the call that is to fail has come one nearer
+abbrev pub CountsDown : MemSectors → MemSectors → Type 0
+CountsDown old new = old.failures < greatest → calls_to_failure new ≡ calls_to_failure old - 1

@@ -1,10 +1,11 @@
 //! A device over a file. Nothing is claimed of what a file gives back or keeps.
-ghost use Rattle.std.specs.Prelude.{◌≡◌, ◌<◌, ◌≤◌, ◌^◌, IfOk, OnOk, OnErr};
-ghost use Rattle.sector.specs.Failures.{Rose, Stayed};
+ghost use Rattle.std.specs.Prelude.{◌≡◌, ◌≢◌, ◌<◌, ◌≤◌, ◌*◌, ◌%◌, ◌^◌, ◌↔◌, MatchOption, IfSome, IfOk, IsOk, IsErrAnd, OnOk, OnErr};
+ghost use Rattle.std.specs.IoError.{error_kind};
+ghost use Rattle.sector.specs.Failures.{Rose, Stayed, greatest};
 
 use crate::{DeviceFault, SECTOR_SIZE, Sector, Sectors};
 use std::fs::{self, File, OpenFile, OpenOptions};
-use std::io::{self, Read};
+use std::io::{self, ErrorKind, Read};
 use std::os::unix::fs::FileExt;
 use std::path::Path;
 use std::rt::Files;
@@ -25,11 +26,12 @@ impl FileSectors {
     /// Answers an error where a file of this name exists, where `count` is 2^55 or more, and where a call of the system fails; a file
     /// that it made it then removes. Takes no memory.
     pub fn create<R: Files<File = File>>(rt: &R, path: &str, count: u64) -> io::Result<Self>
+        ensures too_many { 2 ^ 55 ≤ count → IsErrAnd result (λ e. error_kind e ≡ ErrorKind.InvalidInput) }
         ensures count { IfOk result (λ f. f.count ≡ count) }
         ensures failures { IfOk result (λ f. f.failures ≡ 0) }
     {
         if count >= 1 << 55 {
-            return Err(io::Error::from(io::ErrorKind::InvalidInput));
+            return Err(io::Error::from(ErrorKind::InvalidInput));
         }
         let mut file = options().create_new(true).open(rt, path)?;
         match write_zeros(rt, path, &mut file, count * SECTOR_SIZE as u64) {
@@ -52,19 +54,19 @@ impl FileSectors {
         ensures { IfOk result (λ f. f.failures ≡ 0) }
     {
         let file = options().open(rt, path)?;
-        let len = file.metadata()?.len();
-        if len % SECTOR_SIZE as u64 != 0 {
-            return Err(io::Error::from(io::ErrorKind::InvalidData));
+        match whole_sectors(file.metadata()?.len()) {
+            Some(count) => Ok(FileSectors {
+                file,
+                count,
+                failures: 0,
+            }),
+            None => Err(io::Error::from(ErrorKind::InvalidData)),
         }
-        Ok(FileSectors {
-            file,
-            count: len / SECTOR_SIZE as u64,
-            failures: 0,
-        })
     }
 
     /// Counts a call of the file, and tells how it ended. Where the count stands at its end, each call fails.
     fn told(&mut self, outcome: io::Result<()>) -> Result<(), DeviceFault>
+        ensures told { IsOk result ↔ (IsOk outcome × (self.old.failures < greatest)) }
         ensures count { self.new.count ≡ self.old.count }
         ensures ok { OnOk result (Stayed self.old.failures self.new.failures) }
         ensures fault { OnErr result (Rose self.old.failures self.new.failures) }
@@ -74,6 +76,19 @@ impl FileSectors {
         }
         self.failures = self.failures.saturating_add(1);
         Err(DeviceFault)
+    }
+}
+
+/// How many sectors have so many bytes, where these are whole sectors.
+fn whole_sectors(len: u64) -> Option<u64>
+    ensures count { MatchOption result (len % 512 ≢ 0) (λ count. len ≡ 512 * count) }
+    ensures fits { IfSome result (λ count. count < 2 ^ 55) }
+{
+    let rest = len % SECTOR_SIZE as u64;
+    if rest == 0 {
+        Some(len / SECTOR_SIZE as u64)
+    } else {
+        None
     }
 }
 

@@ -1,7 +1,7 @@
 //! A device in memory, which a test can make fail and crash.
-ghost use Rattle.std.specs.Prelude.{◌≡◌, ◌⊎◌, ◌<◌, ◌≤◌, ◌-◌, ◌*◌, ◌%◌, ◌^◌, ◌↔◌, ℕ, List, length, IfOk, IfSome, OnOk, OnErr, IsTrue, MatchBool, slice_index_or, map, replicate};
+ghost use Rattle.std.specs.Prelude.{◌≡◌, ◌≢◌, ◌<◌, ◌≤◌, ◌*◌, ◌%◌, ◌^◌, ◌↔◌, ℕ, List, length, false, IfOk, IfSome, OnOk, OnErr, IsErr, IsTrue, MatchBool, MatchResult, slice_index_or, slice_set, map, replicate};
 ghost use Rattle.std.specs.List.{concat};
-ghost use Rattle.sector.specs.Failures.{Rose, Stayed, greatest};
+ghost use Rattle.sector.specs.Failures.{Rose, Stayed};
 ghost use Rattle.sector.specs.Slots.{IsLeft, settled_slot};
 
 use crate::{DeviceFault, SECTOR_SIZE, Sector, Sectors};
@@ -27,14 +27,14 @@ pub struct MemSectors {
 impl MemSectors {
     ghost use Rattle.std.specs.Prelude.{Some, slice_get};
     ghost use Rattle.sector.specs.declared.memory.Slot.{Slot};
-    ghost use Rattle.sector.specs.Slots.{image, MayLeave, IsAllSettled};
+    ghost use Rattle.sector.specs.Slots.{image, MayLeave, IsAllSettled, calls_to_failure, FailsNext, CountsDown};
 
     /// A device of `count` sectors of zeros, all settled. It takes about 1 KiB for each sector; `AllocError` where they are refused.
     pub fn new(alloc: Global, count: u64) -> Result<Self, AllocError>
         ensures image { IfOk result (λ m. image m ≡ replicate count (replicate 512 0)) }
         ensures settled { IfOk result IsAllSettled }
         ensures failures { IfOk result (λ m. m.failures ≡ 0) }
-        ensures failing { IfOk result (λ m. m.failing_call ≡ 0) }
+        ensures failing { IfOk result (λ m. calls_to_failure m ≡ 0) }
     {
         let mut slots = Vec::with_capacity(alloc, count as usize)?;
         for _i in 0..count {
@@ -57,7 +57,7 @@ impl MemSectors {
         ensures image { IfOk result (λ m. concat (image m) ≡ bytes.now) }
         ensures settled { IfOk result IsAllSettled }
         ensures failures { IfOk result (λ m. m.failures ≡ 0) }
-        ensures failing { IfOk result (λ m. m.failing_call ≡ 0) }
+        ensures failing { IfOk result (λ m. calls_to_failure m ≡ 0) }
     {
         let mut slots = Vec::with_capacity(alloc, bytes.len() / SECTOR_SIZE)?;
         let mut rest = bytes;
@@ -96,7 +96,7 @@ impl MemSectors {
         ensures filled { (k : ℕ) (d : Slot) → k < length self.slots.items → IfSome (slice_index_or self.slots.items k d).settled (λ settled. (old : _) × (new : _)
             × (old.now ≡ settled) × (new.now ≡ (slice_index_or self.slots.items k d).written) × F.post fill k old new (slice_index_or result.slots.items k d).written) }
         ensures failures { result.failures ≡ 0 }
-        ensures failing { result.failing_call ≡ 0 }
+        ensures failing { calls_to_failure result ≡ 0 }
     {
         for i in 0..self.slots.len() {
             self.slots[i] = slot_left(i as u64, self.slots[i], &fill);
@@ -109,8 +109,8 @@ impl MemSectors {
     /// Counts a call, and says whether it fails.
     fn fails(&mut self) -> bool
         ensures slots { self.new.slots ≡ self.old.slots }
-        ensures fails { IsTrue result ↔ ((self.old.failing_call ≡ 1) ⊎ (self.old.failures ≡ greatest)) }
-        ensures next { self.old.failures < greatest → self.new.failing_call ≡ self.old.failing_call - 1 }
+        ensures fails { IsTrue result ↔ FailsNext self.old }
+        ensures next { CountsDown self.old self.new }
         ensures failures { MatchBool result (Rose self.old.failures self.new.failures) (Stayed self.old.failures self.new.failures) }
     {
         if self.failures == u64::MAX {
@@ -151,7 +151,8 @@ fn settle_all(slots: &mut Vec<Slot>)
 
 impl Sectors for MemSectors {
     ghost use Rattle.std.specs.Prelude.{Some, slice_get};
-    ghost use Rattle.sector.specs.Slots.{image, MayLeave, length-left};
+    ghost use Rattle.sector.specs.SectorModel.{Elapses, FollowsWrite, Settles};
+    ghost use Rattle.sector.specs.Slots.{image, settled_image, settled_sectors, MayLeave, length-left, IsAllSettled, HasSameSectors, FailsNext, CountsDown};
 
     ghost size = { λ m. length m.slots.items };
 
@@ -177,7 +178,23 @@ impl Sectors for MemSectors {
         self.slots.len() as u64
     }
 
-    fn read(&mut self, at: u64, into: &mut Sector) -> Result<(), DeviceFault> {
+    fn read(&mut self, at: u64, into: &mut Sector) -> Result<(), DeviceFault>
+        requires { at < length self.old.slots.items }
+        ensures size { length self.new.slots.items ≡ length self.old.slots.items }
+        ensures ok { OnOk result (Stayed self.old.failures self.new.failures) }
+        ensures fault { OnErr result (Rose self.old.failures self.new.failures) }
+        ensures gives { Unit {0} → OnOk result (slice_get (image self.old) at ≡ Some into.new) }
+        ensures reads { Unit {0} → (i : ℕ) (s : List ℕ) → slice_get (image self.new) i ≡ Some s → slice_get (image self.old) i ≡ Some s }
+        ensures crash { Unit {0} → (c : List (List ℕ)) → MayLeave self.new.slots.items c → MayLeave self.old.slots.items c }
+        ensures time { Unit {0} → Elapses 0 0 (λ t. MayLeave self.old.slots.items) (λ t. MayLeave self.new.slots.items) (MayLeave self.new.slots.items) }
+
+        // The call fails exactly where it was to fail, or the count of failures stands at its end.
+        ensures told { IsErr result ↔ FailsNext self.old }
+        ensures next { CountsDown self.old self.new }
+
+        // A read settles nothing.
+        ensures sectors { HasSameSectors self.old self.new }
+    {
         if self.fails() {
             return Err(DeviceFault);
         }
@@ -185,23 +202,57 @@ impl Sectors for MemSectors {
         Ok(())
     }
 
-    fn write(&mut self, at: u64, from: &Sector) -> Result<(), DeviceFault> {
+    fn write(&mut self, at: u64, from: &Sector) -> Result<(), DeviceFault>
+        requires { at < length self.old.slots.items }
+        ensures size { length self.new.slots.items ≡ length self.old.slots.items }
+        ensures ok { OnOk result (Stayed self.old.failures self.new.failures) }
+        ensures fault { OnErr result (Rose self.old.failures self.new.failures) }
+        ensures written { Unit {0} → OnOk result ((s : List ℕ) → slice_get (image self.new) at ≡ Some s → s ≡ from.now) }
+        ensures others { Unit {0} → (i : ℕ) (s : List ℕ) → i ≢ at → slice_get (image self.new) i ≡ Some s → slice_get (image self.old) i ≡ Some s }
+        ensures crash { Unit {0} → FollowsWrite at (MayLeave self.old.slots.items) (MayLeave self.new.slots.items) }
+        ensures time { Unit {0} → Elapses 0 0 (λ t. MayLeave self.old.slots.items) (λ t. MayLeave self.new.slots.items) (MayLeave self.new.slots.items) }
+
+        // The call fails exactly where it was to fail, or the count of failures stands at its end.
+        ensures told { IsErr result ↔ FailsNext self.old }
+        ensures next { CountsDown self.old self.new }
+
+        // Whether or not it failed, the sector was written and is unsettled, and the others are as they were.
+        ensures content { image self.new ≡ slice_set (image self.old) at from.now }
+        ensures settled { settled_image self.new ≡ settled_image self.old }
+        ensures unsettled { settled_sectors self.new ≡ slice_set (settled_sectors self.old) at false }
+    {
         let fails = self.fails();
         let slot = &mut self.slots[at as usize];
         let settled = slot.settled.unwrap_or(slot.written);
         slot.settled = Some(settled);
+        slot.written = *from;
         if fails {
             return Err(DeviceFault);
         }
-        slot.written = *from;
         Ok(())
     }
 
-    fn sync(&mut self) -> Result<(), DeviceFault> {
+    fn sync(&mut self) -> Result<(), DeviceFault>
+        ensures size { length self.new.slots.items ≡ length self.old.slots.items }
+        ensures ok { OnOk result (Stayed self.old.failures self.new.failures) }
+        ensures fault { OnErr result (Rose self.old.failures self.new.failures) }
+        ensures settles { Unit {0} → OnOk result (Settles (length self.new.slots.items) (λ i s. slice_get (image self.old) i ≡ Some s) (λ i s. slice_get (image self.new) i ≡ Some s) (MayLeave self.old.slots.items) (MayLeave self.new.slots.items)) }
+        ensures reads { Unit {0} → OnErr result ((i : ℕ) (s : List ℕ) → slice_get (image self.new) i ≡ Some s → slice_get (image self.old) i ≡ Some s) }
+        ensures crash { Unit {0} → (c : List (List ℕ)) → MayLeave self.new.slots.items c → MayLeave self.old.slots.items c }
+        ensures time { Unit {0} → Elapses 0 0 (λ t. MayLeave self.old.slots.items) (λ t. MayLeave self.new.slots.items) (MayLeave self.new.slots.items) }
+
+        // The call fails exactly where it was to fail, or the count of failures stands at its end.
+        ensures told { IsErr result ↔ FailsNext self.old }
+        ensures next { CountsDown self.old self.new }
+
+        // It settles each sector, or where it fails none.
+        ensures sectors { MatchResult result (λ _. (image self.new ≡ image self.old) × IsAllSettled self.new) (λ _. HasSameSectors self.old self.new) }
+    {
         if self.fails() {
-            return Err(DeviceFault);
+            Err(DeviceFault)
+        } else {
+            settle_all(&mut self.slots);
+            Ok(())
         }
-        settle_all(&mut self.slots);
-        Ok(())
     }
 }

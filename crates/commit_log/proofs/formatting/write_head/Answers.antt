@@ -1,6 +1,7 @@
 use Rattle.std.proofs.Common.{◌≢◌, ◌∙◌, ap, arith}
 use Rattle.commit_log.specs.RecordFormat.{is_open}
 use Rattle.commit_log.proofs.Gates.{formatted, closed_gate_shut}
+use Rattle.commit_log.proofs.Making.{gate_written, gate_fewer, gate_settled, head_written, head_fewer}
 use Rattle.commit_log.proofs.formatting.write_head.Goals as goal
 
 pub returns-clause-formatted : goal.returns-clause-formatted
@@ -17,3 +18,37 @@ returns-clause-formatted g c keeps =
           let zeros = c.in_ok-write.ensures.written keeps s (first.was_read 1 s before) in
           ap is_open (zeros ∙ c.closed_gate.ensures) ∙ closed_gate_shut),
     )
+
+pub returns-in_err-write-clause-any_moment : goal.returns-in_err-write-clause-any_moment
+returns-in_err-write-clause-any_moment g c keeps =
+    let gate = gate_written g.D.Sectors c.args.device.now c.write.new.self (g.met.D.Sectors.only_now keeps c.args.device.now) (c.write.ensures.crash keeps) (c.write.ensures.time keeps) in
+    gate.time
+
+pub returns-in_err-sync-clause-any_moment : goal.returns-in_err-sync-clause-any_moment
+returns-in_err-sync-clause-any_moment g c keeps =
+    let gate = gate_written g.D.Sectors c.args.device.now c.write.new.self (g.met.D.Sectors.only_now keeps c.args.device.now) (c.write.ensures.crash keeps) (c.write.ensures.time keeps) in
+    let fewer = gate_fewer g.D.Sectors c.args.device.now c.write.new.self c.sync.new.self gate (c.sync.ensures.crash keeps) (c.sync.ensures.time keeps) in
+    fewer.time
+
+pub returns-in_err-write-2-clause-any_moment : goal.returns-in_err-write-2-clause-any_moment
+returns-in_err-write-2-clause-any_moment g c keeps =
+    let gate = gate_written g.D.Sectors c.args.device.now c.write.new.self (g.met.D.Sectors.only_now keeps c.args.device.now) (c.write.ensures.crash keeps) (c.write.ensures.time keeps) in
+    let settled = gate_settled g.D.Sectors c.args.device.now c.write.new.self c.sync.new.self (g.D.Sectors.size c.sync.new.self) (omega (arith, c.requires, c.write.ensures.size, c.sync.ensures.size)) (λ s read. c.in_ok-write.ensures.written keeps s read ∙ c.closed_gate.ensures) gate (c.in_ok-sync.ensures.settles keeps) (c.sync.ensures.time keeps) in
+    let head = head_written g.D.Sectors c.args.device.now c.sync.new.self c.write-2.new.self settled (c.write-2.ensures.crash keeps) (c.write-2.ensures.time keeps) in
+    head.time
+
+pub returns-in_err-sync-2-clause-any_moment : goal.returns-in_err-sync-2-clause-any_moment
+returns-in_err-sync-2-clause-any_moment g c keeps =
+    let gate = gate_written g.D.Sectors c.args.device.now c.write.new.self (g.met.D.Sectors.only_now keeps c.args.device.now) (c.write.ensures.crash keeps) (c.write.ensures.time keeps) in
+    let settled = gate_settled g.D.Sectors c.args.device.now c.write.new.self c.sync.new.self (g.D.Sectors.size c.sync.new.self) (omega (arith, c.requires, c.write.ensures.size, c.sync.ensures.size)) (λ s read. c.in_ok-write.ensures.written keeps s read ∙ c.closed_gate.ensures) gate (c.in_ok-sync.ensures.settles keeps) (c.sync.ensures.time keeps) in
+    let head = head_written g.D.Sectors c.args.device.now c.sync.new.self c.write-2.new.self settled (c.write-2.ensures.crash keeps) (c.write-2.ensures.time keeps) in
+    let ended = head_fewer g.D.Sectors c.args.device.now c.write-2.new.self c.sync-2.new.self head (c.sync-2.ensures.crash keeps) (c.sync-2.ensures.time keeps) in
+    ended.time
+
+pub returns-clause-any_moment : goal.returns-clause-any_moment
+returns-clause-any_moment g c keeps =
+    let gate = gate_written g.D.Sectors c.args.device.now c.write.new.self (g.met.D.Sectors.only_now keeps c.args.device.now) (c.write.ensures.crash keeps) (c.write.ensures.time keeps) in
+    let settled = gate_settled g.D.Sectors c.args.device.now c.write.new.self c.sync.new.self (g.D.Sectors.size c.sync.new.self) (omega (arith, c.requires, c.write.ensures.size, c.sync.ensures.size)) (λ s read. c.in_ok-write.ensures.written keeps s read ∙ c.closed_gate.ensures) gate (c.in_ok-sync.ensures.settles keeps) (c.sync.ensures.time keeps) in
+    let head = head_written g.D.Sectors c.args.device.now c.sync.new.self c.write-2.new.self settled (c.write-2.ensures.crash keeps) (c.write-2.ensures.time keeps) in
+    let ended = head_fewer g.D.Sectors c.args.device.now c.write-2.new.self c.sync-2.new.self head (c.sync-2.ensures.crash keeps) (c.sync-2.ensures.time keeps) in
+    ended.time

@@ -27,14 +27,14 @@ returns-in_err-found-clause-undamaged g c keeps all_logs =
 pub returns-clause-stands : goal.returns-clause-stands
 returns-clause-stands g c keeps =
     let opened = c.in_ok-found.ensures.opened keeps in
-    (opened.2.lists, log_opened _ _ _ _ opened.2 refl refl refl refl refl, opened.2.tells.map)
+    (opened.2.lists, log_opened _ _ _ opened.2 refl refl refl refl, opened.2.tells.map, opened.0, opened.2.holds, opened.1, opened.2.settled)
 
 pub returns-clause-found : goal.returns-clause-found
 returns-clause-found g c keeps disk lists len reads holds =
     let opened = c.in_ok-found.ensures.opened keeps in
     let same : opened.0 ≡ disk = settles_as _ _ _ opened.0 disk opened.1 len reads in
     let is : opened.2.lists ≡ lists = log_unique opened.2.lists lists disk (rw same at opened.2.holds) holds in
-    rw (← is) (log_opened _ _ _ _ opened.2 refl refl refl refl refl, opened.2.tells.map)
+    rw (← is) (log_opened _ _ _ opened.2 refl refl refl refl, opened.2.tells.map)
 
 pub returns-clause-damaged : goal.returns-clause-damaged
 returns-clause-damaged g c keeps disk lists len reads holds =
@@ -47,3 +47,13 @@ returns-clause-no_log g c keeps disk len reads no_log =
     let opened = c.in_ok-found.ensures.opened keeps in
     let same : opened.0 ≡ disk = settles_as _ _ _ opened.0 disk opened.1 len reads in
     log_is_log opened.2.lists disk (rw same at opened.2.holds) no_log
+
+pub returns-in_err-found-clause-cause : goal.returns-in_err-found-clause-cause
+returns-in_err-found-clause-cause g c =
+    let p = err_from_is_err_and c.from_residual.result c.from_residual.ensures.1 in
+    rw (p.1, p.2) (λ is. (c.read_log.new.device, c.in_err-found.ensures.fault.0 is))
+
+pub returns-in_err-found-clause-short : goal.returns-in_err-found-clause-short
+returns-in_err-found-clause-short g c few =
+    let p = err_from_is_err_and c.from_residual.result c.from_residual.ensures.1 in
+    rw (p.1, p.2) (c.in_err-found.ensures.short few)
