@@ -3,6 +3,7 @@ use Rattle.std.proofs.Common.{◌≡◌, ℕ, zero, suc, ◌+◌, ◌-◌, ◌<�
 use Rattle.std.specs.Prelude.{option_map, nat_lt, nat_le, ◌==◌, not, ◌⊎◌, if◌then◌else◌, swap_remove, IfSome}
 use Rattle.std.proofs.lemmas.Grind.{common_steps}
 use Rattle.std.specs.List.{AllByRecursion, remove}
+use Rattle.std.proofs.lemmas.List.{get_or_default}
 use Rattle.std.proofs.lemmas.List.Folds.{list_any-append}
 use Rattle.std.proofs.lemmas.List.Sorted.{list_any-IsPermutation, IsPermutation-swap_remove}
 use Rattle.std.proofs.lemmas.Bool.{both_ways, or_cases, or_left, or_right}
@@ -10,7 +11,7 @@ use Rattle.std.proofs.lemmas.Bool.Decides.{nat_tests}
 use Rattle.model.specs.Map.{Bytes, is_same_key}
 use Rattle.model.proofs.Lookups.{same_key, same_key_itself}
 use Rattle.versions.specs.Chains.{Stamped, ChainValue, Chains, find_chain, first_number, is_between, reclaimed, IsKept, IsReclaimedAt}
-use Rattle.versions.specs.Listings.{Listed, GroupValue, is_seen_from, is_seen_by, AreSeenFrom, is_of, is_in, is_listed, AreListed, IsListedChain, IsListed, AreFound, has_version, AreNeeded, IsNeededChain, IsSettled, IsPartReclaimed, AreKept}
+use Rattle.versions.specs.Listings.{Listed, GroupValue, is_seen_from, is_seen_by, AreSeenFrom, is_of, is_in, is_listed, AreListed, IsListedChain, IsListed, AreFound, has_version, AreNeeded, IsNeededChain, IsSettled, IsPartReclaimed, AreKept, CanJoin}
 use Rattle.versions.specs.Meaning.{is_among}
 use Rattle.versions.proofs.Stores.{rising_found}
 use Rattle.versions.proofs.Calls.{take_all}
@@ -318,28 +319,23 @@ found-joined gs hs i a g j lt first second is both k n high t = ap (λ l. is_lis
       | inr e ↦ or_right (is_in x.versions k n high) (is_listed (set (remove (y ∷ xs) (suc m)) m j) k n high) (at (y ∷ xs) m (omega arith) first second e)
     ]
 
-get-other : {X : Type 0} (xs : List X) (i : ℕ) (y d : X) → get_or (set xs i y) (suc i) d ≡ get_or xs (suc i) d
-get-other [] i y d = refl
-get-other (x ∷ xs) zero y d = refl
-get-other (x ∷ xs) (suc i) y d = get-other xs i y d
-
 get-before : {X : Type 0} (xs : List X) (i : ℕ) (d : X) → suc i < length xs → get_or (remove xs (suc i)) i d ≡ get_or xs i d
 get-before [] i d lt = absurd (omega arith)
 get-before (x ∷ []) i d lt = absurd (omega arith)
 get-before (x ∷ y ∷ xs) zero d lt = refl
 get-before (x ∷ y ∷ xs) (suc i) d lt = get-before (y ∷ xs) i d (omega arith)
 
-join-at : (gs : List GroupValue) (i : ℕ) (x r a g j : GroupValue) → suc i < length gs → x ≡ get_or gs i x → r.versions ≡ x.versions → g ≡ get_or (set gs i r) (suc i) g → a ≡ get_or (remove (set gs i r) (suc i)) i a
-    → j.versions ≡ a.versions ++ g.versions → AreFound gs (set (remove (set gs i r) (suc i)) i j)
-join-at gs i x r a g j lt at same second first both =
-    let long : suc i < length (set gs i r) = omega (arith, length-set gs i r) in
-    found-trans gs (set gs i r) (set (remove (set gs i r) (suc i)) i j)
-    (λ k n high t. listed-set gs i x r k n high (omega arith) at (λ e. ap (λ l. is_in l k n high) same ∙ e) t)
-    (found-joined (set gs i r) (set (remove (set gs i r) (suc i)) i j) i a g j long (first ∙ get-before (set gs i r) i a long) second refl both)
+-- the two are the same behind the removal
+pub join-fits : (gs hs : List GroupValue) (i m : ℕ) (x y a g : GroupValue) → i ≡ suc m → i < length gs → x ≡ get_or gs m x → y ≡ get_or gs i y → g ≡ get_or gs i g → hs ≡ remove gs i → a ≡ get_or hs m a → CanJoin x y → CanJoin a g
+join-fits gs hs i m x y a g e lt first second gone less at fits =
+    let long : suc m < length gs = omega (arith, e) in
+    let one : a ≡ x = at ∙ ap (λ l. get_or l m a) (less ∙ ap (remove gs) e) ∙ get-before gs m a long ∙ get_or_default gs m a x (omega (arith, e)) ∙ sym first in
+    let two : g ≡ y = gone ∙ get_or_default gs i g y lt ∙ sym second in
+    subst (λ (p : GroupValue). CanJoin p g) (sym one) (subst (λ (p : GroupValue). CanJoin x p) (sym two) fits)
 
-pub join-found : (gs hs : List GroupValue) (i m : ℕ) (x r a g j : GroupValue) → i ≡ suc m → i < length gs → x ≡ get_or gs m x → r.versions ≡ x.versions → g ≡ get_or (set gs m r) i g → hs ≡ remove (set gs m r) i → a ≡ get_or hs m a
-    → j.versions ≡ a.versions ++ g.versions → AreFound gs (set hs m j)
-join-found gs hs i m x r a g j e lt at same second less first both =
-    let is : hs ≡ remove (set gs m r) (suc m) = less ∙ ap (remove (set gs m r)) e in
+pub join-found : (gs hs : List GroupValue) (i m : ℕ) (a g j : GroupValue) → i ≡ suc m → i < length gs → g ≡ get_or gs i g → hs ≡ remove gs i → a ≡ get_or hs m a → j.versions ≡ a.versions ++ g.versions → AreFound gs (set hs m j)
+join-found gs hs i m a g j e lt second less first both =
+    let is : hs ≡ remove gs (suc m) = less ∙ ap (remove gs) e in
+    let long : suc m < length gs = omega (arith, e) in
     subst (λ l. AreFound gs (set l m j)) (sym is)
-    (join-at gs m x r a g j (omega (arith, e)) at same (subst (λ (p : ℕ). g ≡ get_or (set gs m r) p g) e second) (first ∙ ap (λ l. get_or l m a) is) both)
+    (found-joined gs (set (remove gs (suc m)) m j) m a g j long (first ∙ ap (λ l. get_or l m a) is ∙ get-before gs m a long) (subst (λ (p : ℕ). g ≡ get_or gs p g) e second) refl both)

@@ -1,6 +1,8 @@
 -- Which older versions are listed, so that a reclaim finds those that no number sees any more.
-use Rattle.std.specs.Prelude.{◌≡◌, ℕ, Bool, false, not, ◌||◌, ◌&&◌, ◌==◌, ◌⊎◌, nat_le, nat_lt, List, [], ◌∷◌, Option, Some, None, option_map, IsTrue, ⊤}
-use Rattle.std.specs.List.{AllByRecursion, list_any}
+use Rattle.std.specs.Prelude.{◌≡◌, ℕ, ◌+◌, ◌-◌, ◌<◌, ◌^◌, Bool, false, not, ◌||◌, ◌&&◌, ◌==◌, ◌⊎◌, nat_le, nat_lt, List, [], ◌∷◌, Option, Some, None, option_map, IsTrue, ⊤}
+use Rattle.std.specs.List.{AllByRecursion, list_any, flat_map}
+use Rattle.std.specs.Vec.{vec_len, vec_capacity}
+use Rattle.std.specs.declared.vec.Vec.{Vec}
 use Rattle.model.specs.Map.{Bytes, is_same_key}
 use Rattle.versions.specs.Chains.{Stamped, ChainValue, Chains, find_chain, first_number, is_between, reclaimed}
 
@@ -10,11 +12,20 @@ pub record Listed : Type 0 where
   pub number : ℕ
   pub next : ℕ
 
--- older versions that one number sees, and how many more fit without memory
+-- the versions of lists, one list after the other
+abbrev pub versions_in : {Z : Type 0} → List (Vec Listed Z) → List Listed
+versions_in = flat_map (λ v. v.items)
+
+-- how many more versions fit into the first of the lists without memory
+abbrev pub spare_in : {Z : Type 0} → List (Vec Listed Z) → ℕ
+spare_in [] = 0
+spare_in (v ∷ vs) = vec_capacity v - vec_len v
+
+-- older versions that one number sees, and in how many lists they are
 pub record GroupValue : Type 0 where
   pub witness : ℕ
   pub versions : List Listed
-  pub room : ℕ
+  pub lists : ℕ
 
 -- the number sees the version
 abbrev pub is_seen_from : ℕ → Listed → Bool
@@ -55,11 +66,15 @@ IsListed chains gs = (k : Bytes) → IsListedChain gs k (find_chain k chains)
 abbrev pub AreFound : List GroupValue → List GroupValue → Type 0
 AreFound gs hs = (k : Bytes) (n high : ℕ) → IsTrue (is_listed gs k n high) → IsTrue (is_listed hs k n high)
 
+-- two groups have one witness, and their lists can be counted
+abbrev pub CanJoin : GroupValue → GroupValue → Type 0
+CanJoin g h = (g.witness ≡ h.witness) × (g.lists + h.lists < 2 ^ 63)
+
 -- ---- a version more
 
 -- a group of these versions, whatever its witness
 abbrev pub unwitnessed : List Listed → GroupValue
-unwitnessed vs = record { witness = 0; versions = vs; room = 0 }
+unwitnessed vs = record { witness = 0; versions = vs; lists = 0 }
 
 -- what is listed of a key when a version of number n follows its newest
 abbrev pub followed : Option ChainValue → Bytes → ℕ → List Listed

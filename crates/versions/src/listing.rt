@@ -1,9 +1,12 @@
 //! Which versions are to be looked at when a number is held no more.
-ghost use Rattle.std.specs.Prelude.{◌≡◌, true, [], IfSome, IsTrue};
-ghost use Rattle.versions.specs.Listings.{AreSeenFrom, is_seen_by, is_seen_from};
+ghost use Rattle.std.specs.Prelude.{◌≡◌, ◌==◌, ◌≤◌, true, [], IfSome, IsOk, IsTrue, OnOk};
+ghost use Rattle.std.specs.List.{list_all};
+ghost use Rattle.std.specs.Vec.{vec_len};
+ghost use Rattle.versions.specs.Listings.{AreSeenFrom, is_seen_by, is_seen_from, spare_in, versions_in};
 ghost use Rattle.versions.specs.Meaning.{is_among};
 
-use model::Key;
+use model::{Key, Memory};
+use std::collections::LinkedList;
 use std::marker::Model;
 
 /// An older version of a key: its number, and the number of the version behind it, or a smaller one.
@@ -41,32 +44,32 @@ impl OldVersion {
     }
 }
 
-/// Older versions that one number sees, their witness. While it is held, none of them has to be looked at.
+/// Older versions that one number sees, their witness, in lists: one of each commit whose versions came behind them. While the witness
+/// is held, none of them has to be looked at.
 #[derive(Drop)]
 pub(crate) struct Group {
     pub(crate) witness: u64,
-    pub(crate) versions: Vec<OldVersion>,
+    pub(crate) lists: LinkedList<Vec<OldVersion>>,
 }
 
 impl Model for Group {
-    ghost use Rattle.std.specs.Prelude.{◌-◌};
-    ghost use Rattle.std.specs.Vec.{vec_len, vec_capacity};
-    ghost use Rattle.versions.specs.Listings.{AreSeenFrom, GroupValue};
+    ghost use Rattle.std.specs.Prelude.{length};
+    ghost use Rattle.versions.specs.Listings.{AreSeenFrom, GroupValue, versions_in};
 
     ghost Value = { GroupValue };
 
-    ghost view = { λ g. record { witness = g.witness; versions = g.versions.items; room = vec_capacity g.versions - vec_len g.versions } };
+    ghost view = { λ g. record { witness = g.witness; versions = versions_in g.lists; lists = length g.lists } };
 
-    ghost invariant = { λ g. AreSeenFrom g.witness g.versions.items };
+    ghost invariant = { λ g. AreSeenFrom g.witness (versions_in g.lists) };
 }
 
 impl Group {
     // Versions that this number sees. Takes no memory.
-    pub(crate) fn new(witness: u64, versions: Vec<OldVersion>) -> Group
-        requires { AreSeenFrom witness versions.items }
-        ensures { result.versions ≡ versions.items }
+    pub(crate) fn new(witness: u64, lists: LinkedList<Vec<OldVersion>>) -> Group
+        requires { AreSeenFrom witness (versions_in lists) }
+        ensures { result.versions ≡ versions_in lists }
     {
-        Group { witness, versions }
+        Group { witness, lists }
     }
 
     pub(crate) fn witness(&self) -> u64
@@ -79,8 +82,34 @@ impl Group {
     pub(crate) fn is_empty(&self) -> bool
         ensures { result ≡ true → self.now.versions ≡ [] }
     {
-        self.versions.is_empty()
+        are_empty(&self.lists)
     }
+}
+
+// Is there no version in the lists?
+pub(crate) fn are_empty(lists: &LinkedList<Vec<OldVersion>>) -> bool
+    ensures { result ≡ list_all (λ list. vec_len list == 0) lists.now }
+{
+    lists.iter().all(|list| list.is_empty())
+}
+
+// Makes room for so many versions in the first list, and makes that list where there is none.
+pub(crate) fn reserve_list(
+    lists: &mut LinkedList<Vec<OldVersion>>,
+    more: usize,
+) -> Result<(), Memory>
+    ensures none { versions_in lists.old ≡ [] → versions_in lists.new ≡ [] }
+    ensures made { OnOk result (more ≤ spare_in lists.new) }
+    ensures known { more ≤ spare_in lists.old → IsOk result }
+{
+    if lists.is_empty() && more > 0 {
+        let alloc = *lists.allocator();
+        lists.push_back(Vec::new(alloc))?;
+    }
+    if let Some(list) = lists.front_mut() {
+        list.reserve(more)?;
+    }
+    Ok(())
 }
 
 // Is the number among these?
@@ -102,8 +131,15 @@ pub(crate) fn greatest_below(numbers: &[u64], high: u64) -> Option<u64>
 }
 
 // Does the number see each of these versions?
-pub(crate) fn are_seen_from(versions: &[OldVersion], n: u64) -> bool
-    ensures { IsTrue result → AreSeenFrom n versions.now }
+pub(crate) fn are_seen_from(lists: &LinkedList<Vec<OldVersion>>, n: u64) -> bool
+    ensures { result ≡ list_all (λ list. list_all (is_seen_from n) list.items) lists.now }
+{
+    lists.iter().all(|list| sees_each(n, list))
+}
+
+// Does the number see each version of the list?
+fn sees_each(n: u64, versions: &[OldVersion]) -> bool
+    ensures { result ≡ list_all (is_seen_from n) versions.now }
 {
     versions.iter().all(|version| version.is_seen_from(n))
 }

@@ -1,18 +1,23 @@
 //! Old versions go.
-ghost use Rattle.std.specs.Prelude.{◌≡◌, ℕ, T, false, IfSome, IsTrue, ◌<◌, ◌≤◌, ◌+◌, ◌-◌, ◌++◌, length, option_map};
+ghost use Rattle.std.specs.Prelude.{◌≡◌, ◌↔◌, ℕ, T, false, IfSome, IsTrue, ◌<◌, ◌+◌, ◌^◌, ◌++◌, length, take, drop, option_map};
 ghost use Rattle.std.specs.List.{AllByRecursion};
 ghost use Rattle.std.specs.Ordering.{nat_cmp};
 ghost use Rattle.std.specs.Cmp.Lexicographic.{slice_cmp};
 ghost use Rattle.std.specs.FinMap.Entries.{is_sorted};
-ghost use Rattle.std.specs.Vec.{vec_len, vec_capacity};
+ghost use Rattle.std.specs.Vec.{vec_len};
 ghost use Rattle.model.specs.Map.{Bytes};
 ghost use Rattle.versions.specs.Chains.{IsKept, IsReclaimedAt, find_chain, reclaimed};
-ghost use Rattle.versions.specs.Listings.{AreFound, AreKept, AreSeenFrom, IsListed, IsPartReclaimed, IsSettled, has_version};
+ghost use Rattle.versions.specs.Listings.{AreFound, AreKept, AreSeenFrom, CanJoin, IsListed, IsPartReclaimed, IsSettled, has_version, versions_in};
 ghost use Rattle.versions.specs.Meaning.{is_among};
 
 use crate::chain::Chain;
-use crate::listing::{Group, OldVersion, are_seen_from, greatest_below, is_among};
+use crate::listing::{Group, OldVersion, are_empty, are_seen_from, greatest_below, is_among};
 use crate::searching::search;
+use std::collections::LinkedList;
+use std::mem;
+
+// One more than the most lists that a group can have.
+const LISTS_END: usize = 0x8000_0000_0000_0000;
 
 // Drops the older versions of the key that none of the numbers sees. Is this one still there?
 fn reclaim_version(chains: &mut [Chain], version: &OldVersion, begins: &[u64]) -> bool
@@ -56,6 +61,79 @@ fn drop_unseen(
     }
 }
 
+// Takes the first list out of the lists, as lists of one. Takes no memory.
+fn take_first(lists: &mut LinkedList<Vec<OldVersion>>) -> LinkedList<Vec<OldVersion>>
+    requires { 0 < length lists.old }
+    ensures first { result ≡ take 1 lists.old }
+    ensures rest { lists.new ≡ drop 1 lists.old }
+{
+    match lists.split_off(1) {
+        Ok(rest) => mem::replace(lists, rest),
+        Err(_) => unreachable!(),
+    }
+}
+
+// Moves lists behind others. Takes no memory.
+fn append(lists: &mut LinkedList<Vec<OldVersion>>, more: LinkedList<Vec<OldVersion>>)
+    requires { length lists.old + length more < 2 ^ 63 }
+    ensures { lists.new ≡ lists.old ++ more }
+{
+    let mut more = more;
+    match lists.append(&mut more) {
+        Ok(()) => {}
+        Err(_) => unreachable!(),
+    }
+}
+
+// Looks after the versions of the one list, as `drop_unseen`.
+fn settle_first(
+    chains: &mut [Chain],
+    lists: &mut LinkedList<Vec<OldVersion>>,
+    begins: &[u64],
+    next: Option<u64>,
+)
+    requires one { length lists.old ≡ 1 }
+    requires kept { (last : ℕ) × IsKept chains.old last }
+    requires next { IfSome next (λ n. IsTrue (is_among begins.now n)) }
+    ensures one { length lists.new ≡ 1 }
+    ensures part { IsPartReclaimed begins.now chains.old chains.new }
+    ensures kept { (last : ℕ) → IsKept chains.old last → IsKept chains.new last }
+    ensures settled { AllByRecursion (IsSettled begins.now chains.new) (versions_in lists.new) }
+    ensures left { AreKept (versions_in lists.old) (versions_in lists.new) chains.new }
+    ensures seen { (n : ℕ) → AreSeenFrom n (versions_in lists.old) → AreSeenFrom n (versions_in lists.new) }
+{
+    match lists.front_mut() {
+        Some(list) => drop_unseen(chains, list, begins, next),
+        None => unreachable!(),
+    }
+}
+
+// Looks after the versions of each list, as `drop_unseen`, and drops the lists that are empty then.
+fn settle_lists(
+    chains: &mut [Chain],
+    lists: &mut LinkedList<Vec<OldVersion>>,
+    begins: &[u64],
+    next: Option<u64>,
+)
+    requires kept { (last : ℕ) × IsKept chains.old last }
+    requires next { IfSome next (λ n. IsTrue (is_among begins.now n)) }
+    ensures part { IsPartReclaimed begins.now chains.old chains.new }
+    ensures kept { (last : ℕ) → IsKept chains.old last → IsKept chains.new last }
+    ensures settled { AllByRecursion (IsSettled begins.now chains.new) (versions_in lists.new) }
+    ensures left { AreKept (versions_in lists.old) (versions_in lists.new) chains.new }
+    ensures seen { (n : ℕ) → AreSeenFrom n (versions_in lists.old) → AreSeenFrom n (versions_in lists.new) }
+{
+    let alloc = *lists.allocator();
+    let mut rest = mem::replace(lists, LinkedList::new(alloc));
+    for _ in 0..rest.len() {
+        let mut first = take_first(&mut rest);
+        settle_first(chains, &mut first, begins, next);
+        if !are_empty(&first) {
+            append(lists, first);
+        }
+    }
+}
+
 impl Group {
     // Looks after the group, whose witness is held no more: the greatest number below takes its place where it sees all that is left.
     fn settle(&mut self, chains: &mut [Chain], begins: &[u64])
@@ -66,34 +144,28 @@ impl Group {
         ensures left { AreKept self.old.versions self.new.versions chains.new }
     {
         let next = greatest_below(begins, self.witness);
-        drop_unseen(chains, &mut self.versions, begins, next);
+        settle_lists(chains, &mut self.lists, begins, next);
         if let Some(next) = next {
-            if are_seen_from(&self.versions, next) {
+            if are_seen_from(&self.lists, next) {
                 self.witness = next;
             }
         }
     }
 
-    // Takes in the versions of a group with the same witness, in the room that was made for them.
-    fn absorb(&mut self, other: Group)
-        requires witness { other.witness ≡ self.old.witness }
-        requires room { length other.versions ≤ self.old.room }
-        ensures { self.new.versions ≡ self.old.versions ++ other.versions }
+    // Can the other group be joined to this one? It has the same witness, and their lists can be counted.
+    fn can_absorb(&self, other: &Group) -> bool
+        ensures { IsTrue result ↔ CanJoin self.now other.now }
     {
-        move_all(&mut self.versions, other.versions);
+        self.witness == other.witness && self.lists.len() + other.lists.len() < LISTS_END
     }
-}
 
-// Moves versions to where room was made for them.
-fn move_all(to: &mut Vec<OldVersion>, from: Vec<OldVersion>)
-    requires { length from.items ≤ vec_capacity to.old - vec_len to.old }
-    ensures { to.new.items ≡ to.old.items ++ from.items }
-{
-    for version in from {
-        match to.push(version) {
-            Ok(()) => {}
-            Err(_) => unreachable!(),
-        }
+    // Takes in the versions of a group with the same witness. Takes no memory.
+    fn absorb(&mut self, other: Group)
+        requires { CanJoin self.old other }
+        ensures versions { self.new.versions ≡ self.old.versions ++ other.versions }
+        ensures witness { self.new.witness ≡ self.old.witness }
+    {
+        append(&mut self.lists, other.lists);
     }
 }
 
@@ -112,17 +184,14 @@ pub(crate) fn reclaim_listed(chains: &mut [Chain], groups: &mut [Group], begins:
     }
 }
 
-// Joins a group to the one before it, where both have one witness and memory for it is granted. Did it?
+// Joins a group to the one before it, where both have one witness. Did it? Takes no memory.
 fn join(groups: &mut Vec<Group>, i: usize) -> bool
     requires { (0 < i) × (i < vec_len groups.old) }
     ensures found { AreFound groups.old.items groups.new.items }
     ensures joined { IsTrue result → vec_len groups.new + 1 ≡ vec_len groups.old }
     ensures same { result ≡ false → vec_len groups.new ≡ vec_len groups.old }
 {
-    let more = groups[i].versions.len();
-    if groups[i - 1].witness() != groups[i].witness()
-        || groups[i - 1].versions.reserve(more).is_err()
-    {
+    if !groups[i - 1].can_absorb(&groups[i]) {
         return false;
     }
     let group = groups.remove(i);

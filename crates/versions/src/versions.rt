@@ -12,12 +12,13 @@ ghost use Rattle.versions.specs.StandsFor.{StandsFor};
 
 use crate::chain::{Chain, Version};
 use crate::installing::add_all;
-use crate::listing::{Group, OldVersion};
+use crate::listing::{Group, OldVersion, reserve_list};
 use crate::pairs::Pairs;
 use crate::reclaiming::{join_groups, reclaim_listed};
 use crate::searching::{search, split_place};
 use model::{KeyRef, Map, Memory, RangeRef, Write};
 use std::alloc::{AllocError, Global};
+use std::collections::LinkedList;
 use std::marker::Model;
 use std::mem;
 
@@ -30,8 +31,8 @@ pub struct Versions {
     chains: Vec<Chain>,
     // the older versions, each under a number that sees it, so that a reclaim need not look at all keys
     groups: Vec<Group>,
-    // empty, with room for the older versions that the next commit makes
-    listed: Vec<OldVersion>,
+    // at most one list, empty, with room for the older versions that the next commit makes
+    listed: LinkedList<Vec<OldVersion>>,
     // the greatest number that was installed
     last: u64,
 }
@@ -40,13 +41,13 @@ impl Model for Versions {
     ghost use Rattle.std.specs.Prelude.{◌≡◌, ◌-◌, []};
     ghost use Rattle.std.specs.Vec.{vec_len, vec_capacity};
     ghost use Rattle.versions.specs.Chains.{ChainsValue, IsKept};
-    ghost use Rattle.versions.specs.Listings.{IsListed};
+    ghost use Rattle.versions.specs.Listings.{IsListed, spare_in, versions_in};
 
     ghost Value = { ChainsValue };
 
-    ghost view = { λ v. record { chains = v.chains.items; spare = vec_capacity v.chains - vec_len v.chains; listed_spare = vec_capacity v.listed - vec_len v.listed; groups_spare = vec_capacity v.groups - vec_len v.groups; last = v.last } };
+    ghost view = { λ v. record { chains = v.chains.items; spare = vec_capacity v.chains - vec_len v.chains; listed_spare = spare_in v.listed; groups_spare = vec_capacity v.groups - vec_len v.groups; last = v.last } };
 
-    ghost invariant = { λ v. IsKept v.chains.items v.last × IsListed v.chains.items v.groups.items × (v.listed.items ≡ []) };
+    ghost invariant = { λ v. IsKept v.chains.items v.last × IsListed v.chains.items v.groups.items × (versions_in v.listed ≡ []) };
 }
 
 impl Versions {
@@ -66,7 +67,7 @@ impl Versions {
         Ok(Versions {
             chains,
             groups: Vec::new(alloc),
-            listed: Vec::new(alloc),
+            listed: LinkedList::new(alloc),
             last: 0,
         })
     }
@@ -157,7 +158,7 @@ impl Versions {
             new_chains += self.make_room(write.lend_key().bytes())?;
         }
         self.chains.reserve(new_chains)?;
-        self.listed.reserve(writes.len())?;
+        reserve_list(&mut self.listed, writes.len())?;
         self.groups.reserve(1)?;
         Ok(())
     }
@@ -174,8 +175,11 @@ impl Versions {
     {
         self.last = n;
         let alloc = *self.listed.allocator();
-        let mut listed = mem::replace(&mut self.listed, Vec::new(alloc));
-        add_all(&mut self.chains, &mut listed, n, writes);
+        let mut listed = mem::replace(&mut self.listed, LinkedList::new(alloc));
+        match listed.front_mut() {
+            Some(list) => add_all(&mut self.chains, list, n, writes),
+            None => unreachable!(),
+        }
         match self.groups.push(Group::new(n - 1, listed)) {
             Ok(()) => {}
             Err(_) => unreachable!(),
@@ -186,8 +190,8 @@ impl Versions {
     /// deletion that is the newest version of its key stays.
     ///
     /// Each older version is listed under a number that sees it, and is looked at once that number is none of these, so the cost is
-    /// that of the versions that came in or lost their number since the last time, not of all that are kept. It takes no memory that
-    /// it needs: two lists are joined where memory for that is granted, and stay apart otherwise.
+    /// that of the versions that came in or lost their number since the last time, not of all that are kept. Takes no memory: where
+    /// the versions of two commits come under one number, their lists are linked.
     pub fn reclaim(&mut self, begins: &[u64])
         ensures reclaimed { IsReclaimed self.old self.new begins.now }
         ensures stands { (held : ℕ → Bool) (base : KeyMap) (history : List Record) → StandsFor self.old held base history → StandsFor self.new (λ n. held n && is_among begins.now n) base history }

@@ -2,7 +2,7 @@ use Rattle.std.proofs.Common.{◌≡◌, [], ◌++◌, sym, ap, subst, ◌∙◌
 use Rattle.std.proofs.lemmas.List.{append-nil}
 use Rattle.model.specs.Map.{KeyMap}
 use Rattle.versions.specs.Chains.{Chains, IsKept, base_chains}
-use Rattle.versions.specs.Listings.{IsListed}
+use Rattle.versions.specs.Listings.{IsListed, versions_in}
 use Rattle.versions.proofs.Stores.{kept-base}
 use Rattle.versions.proofs.Listings.{listed-base}
 use Rattle.versions.proofs.Calls.{stands-opened}
@@ -15,7 +15,7 @@ all_made es m rest none is = sym (ap (λ l. es ++ base_chains l) none ∙ append
 pub invariant_of-result : goal.invariant_of-result
 invariant_of-result c =
     let is = sym (all_made c.loop-key.chains.items c.args.map c.loop-key.rest c.in_default.ensures.none c.loop-key.invariant) in
-    (subst (λ (es : Chains). IsKept es 0) is (kept-base c.args.map c.len.ensures.is_map), subst (λ (es : Chains). IsListed es c.new-2.result.items) is (listed-base c.args.map c.new-2.result.items), c.new-3.ensures.items)
+    (subst (λ (es : Chains). IsKept es 0) is (kept-base c.args.map c.len.ensures.is_map), subst (λ (es : Chains). IsListed es c.new-2.result.items) is (listed-base c.args.map c.new-2.result.items), ap versions_in c.new-3.ensures)
 
 pub returns : goal.returns
 returns c = stands-opened _ c.args.map c.len.ensures.is_map (all_made c.loop-key.chains.items c.args.map c.loop-key.rest c.in_default.ensures.none c.loop-key.invariant) refl

@@ -1,8 +1,9 @@
-use Rattle.std.proofs.Common.{◌≡◌, ℕ, List, [], ◌∷◌, ◌++◌, sym, subst, ap, ◌∙◌, refl}
+use Rattle.std.proofs.Common.{◌≡◌, ℕ, List, [], ◌∷◌, ◌++◌, ◌-◌, sym, subst, ap, ◌∙◌, refl}
 use Rattle.model.specs.Map.{KeyWrite}
 use Rattle.versions.specs.Chains.{ChainsValue}
-use Rattle.versions.specs.Listings.{GroupValue, IsListed, unwitnessed}
+use Rattle.versions.specs.Listings.{AreSeenFrom, GroupValue, IsListed, unwitnessed, versions_in}
 use Rattle.versions.specs.Meaning.{AreInstalled, IsInstalled}
+use Rattle.versions.proofs.Lists.{in-first, in-filled}
 use Rattle.versions.proofs.Listings.{groups-found, found-last}
 use Rattle.versions.proofs.Histories.{stands-installed}
 use Rattle.versions.proofs.versions.Versions.install.Goals as goal
@@ -10,14 +11,22 @@ use Rattle.versions.proofs.versions.Versions.install.Goals as goal
 whole : (old inside new : ChainsValue) (n : ℕ) (ws : List KeyWrite) → inside ≡ old → AreInstalled inside.chains new.chains n ws → new.last ≡ n → IsInstalled old new n ws
 whole old inside new n ws same h last = subst (λ (v : ChainsValue). IsInstalled v new n ws) same (record { maps = h.maps; newest = h.newest; kept = h.kept; last = last })
 
+pub add_all-requires-clause-none : goal.add_all-requires-clause-none
+add_all-requires-clause-none c = in-first c.replace-listed.result c.in-Some.list.now (ap versions_in c.replace-listed.ensures.value ∙ c.self.invariant.2) (c.in-Some.ensures.variant.0 refl) c.in-Some.ensures.value
+
+pub new-requires-2 : goal.new-requires-2
+new-requires-2 c =
+    subst (AreSeenFrom (c.args.n - 1)) (sym (in-filled c.replace-listed.result c.add_all.new.listed (ap versions_in c.replace-listed.ensures.value ∙ c.self.invariant.2) (c.in-Some.ensures.variant.0 refl))) c.add_all.ensures.seen
+
 pub invariant_of-self : goal.invariant_of-self
 invariant_of-self c =
     let gs = c.self.inside.groups.items in
-    let ls = c.add_all.new.listed.items in (
+    let ls = c.add_all.new.listed.items in
+    let filled = in-filled c.replace-listed.result c.add_all.new.listed (ap versions_in c.replace-listed.ensures.value ∙ c.self.invariant.2) (c.in-Some.ensures.variant.0 refl) in (
       c.add_all.ensures.kept,
       subst (λ (l : List GroupValue). IsListed c.add_all.new.chains.items l) (sym c.in-Ok.ensures.items)
-          (groups-found c.add_all.new.chains.items (unwitnessed ls ∷ gs) (gs ++ c.new-2.result ∷ []) (found-last gs ls c.new-2.result c.new-2.ensures) (c.add_all.ensures.listed gs c.self.invariant.1)),
-      ap (λ v. v.items) c.replace-listed.ensures.after ∙ c.new.ensures.items,
+          (groups-found c.add_all.new.chains.items (unwitnessed ls ∷ gs) (gs ++ c.new-2.result ∷ []) (found-last gs ls c.new-2.result (c.new-2.ensures ∙ filled)) (c.add_all.ensures.listed gs c.self.invariant.1)),
+      ap versions_in (c.replace-listed.ensures.after ∙ c.new.ensures),
     )
 
 pub returns-clause-installed : goal.returns-clause-installed

@@ -3,7 +3,7 @@ use Rattle.std.proofs.lemmas.Bool.{both_ways}
 use Rattle.model.specs.Map.{Bytes}
 use Rattle.model.specs.Entries.{IsAt}
 use Rattle.versions.specs.Chains.{Chains, ChainsValue, ChainValue, IsKept, IsRoomier, HasRoom, one_if_new, find_chain}
-use Rattle.versions.specs.Listings.{Listed, GroupValue, IsListed}
+use Rattle.versions.specs.Listings.{Listed, GroupValue, IsListed, versions_in}
 use Rattle.versions.proofs.Stores.{kept-roomier, roomier-refl}
 use Rattle.versions.proofs.Listings.{listed-roomier}
 use Rattle.versions.proofs.Calls.{room_made}
@@ -16,13 +16,13 @@ pub invariant_of-self : goal.invariant_of-self
 invariant_of-self c =
     let es = c.self.inside.chains.items in
     let made = room_made c.args.key.now es c.deref.result.now c.in-Ok.i c.index_mut.result.now c.reserve.new.self c.deref.ensures.value c.in-Ok.ensures.found c.index_mut.ensures.value c.reserve.ensures.key (record { older = c.reserve.ensures.older; newest = c.reserve.ensures.newest; room = c.reserve.ensures.room }) in
-    keeps es _ c.self.inside.groups.items c.self.inside.listed.items c.self.inside.last made.roomier c.self.invariant
+    keeps es _ c.self.inside.groups.items (versions_in c.self.inside.listed) c.self.inside.last made.roomier c.self.invariant
 
 pub invariant_of-self-in-Ok : goal.invariant_of-self-in-Ok
 invariant_of-self-in-Ok c =
     let es = c.self.inside.chains.items in
     let made = room_made c.args.key.now es c.deref.result.now c.in-Ok.i c.index_mut.result.now c.reserve.new.self c.deref.ensures.value c.in-Ok.ensures.found c.index_mut.ensures.value c.reserve.ensures.key (record { older = c.reserve.ensures.older; newest = c.reserve.ensures.newest; room = c.reserve.ensures.room }) in
-    keeps es _ c.self.inside.groups.items c.self.inside.listed.items c.self.inside.last made.roomier c.self.invariant
+    keeps es _ c.self.inside.groups.items (versions_in c.self.inside.listed) c.self.inside.last made.roomier c.self.invariant
 
 pub returns-in_err-reserve-in-Ok-clause-chains : goal.returns-in_err-reserve-in-Ok-clause-chains
 returns-in_err-reserve-in-Ok-clause-chains c =

@@ -58,17 +58,17 @@ returns-in_err-reserve-clause-known c = λ p.
 
 -- ---- the list, or the groups, were refused theirs
 
+pub returns-in_err-reserve_list-clause-same : goal.returns-in_err-reserve_list-clause-same
+returns-in_err-reserve_list-clause-same c = reserved c.args.self.now c.loop-write.self _ c.loop-write.invariant.roomier c.loop-write.invariant.last (c.reserve.ensures.items ∙ ap (λ (v : ChainsValue). v.chains) c.self.view_is) (ap (λ (v : ChainsValue). v.last) c.self.view_is)
+
+pub returns-in_err-reserve_list-clause-stands : goal.returns-in_err-reserve_list-clause-stands
+returns-in_err-reserve_list-clause-stands c = λ held base history s. stands-same c.args.self.now held base history _ (returns-in_err-reserve_list-clause-same c) s
+
 pub returns-in_err-reserve-2-clause-same : goal.returns-in_err-reserve-2-clause-same
 returns-in_err-reserve-2-clause-same c = reserved c.args.self.now c.loop-write.self _ c.loop-write.invariant.roomier c.loop-write.invariant.last (c.reserve.ensures.items ∙ ap (λ (v : ChainsValue). v.chains) c.self.view_is) (ap (λ (v : ChainsValue). v.last) c.self.view_is)
 
 pub returns-in_err-reserve-2-clause-stands : goal.returns-in_err-reserve-2-clause-stands
 returns-in_err-reserve-2-clause-stands c = λ held base history s. stands-same c.args.self.now held base history _ (returns-in_err-reserve-2-clause-same c) s
-
-pub returns-in_err-reserve-3-clause-same : goal.returns-in_err-reserve-3-clause-same
-returns-in_err-reserve-3-clause-same c = reserved c.args.self.now c.loop-write.self _ c.loop-write.invariant.roomier c.loop-write.invariant.last (c.reserve.ensures.items ∙ ap (λ (v : ChainsValue). v.chains) c.self.view_is) (ap (λ (v : ChainsValue). v.last) c.self.view_is)
-
-pub returns-in_err-reserve-3-clause-stands : goal.returns-in_err-reserve-3-clause-stands
-returns-in_err-reserve-3-clause-stands c = λ held base history s. stands-same c.args.self.now held base history _ (returns-in_err-reserve-3-clause-same c) s
 
 -- ---- all room is there
 
@@ -84,6 +84,6 @@ returns-clause-prepared c =
     let p = subst (λ l. Preparing c.loop-write.self.chains l c.loop-write.new_chains) (take_all c.args.writes.now c.loop-write.write-index c.loop-write-test.false) c.loop-write.invariant.prepared in
     let q = subst (λ (es : Chains). Preparing es c.args.writes.now c.loop-write.new_chains) (sym is) p in
     let room = c.in_ok-reserve.ensures.ok in
-    let listed = c.in_ok-reserve-2.ensures.ok in
-    let groups = c.in_ok-reserve-3.ensures.ok in
+    let listed = c.in_ok-reserve_list.ensures.made in
+    let groups = c.in_ok-reserve-2.ensures.ok in
     record { chains = q.rooms; spare = omega (arith, q.counted, room); listed = omega arith; groups = omega arith }

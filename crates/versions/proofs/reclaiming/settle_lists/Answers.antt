@@ -1,0 +1,35 @@
+use Rattle.std.proofs.Common.{◌≡◌, ◌≤◌, ◌<◌, ◌+◌, ◌++◌, length, sym, ap, subst, ◌∙◌, arith}
+use Rattle.std.proofs.lemmas.List.{append-nil, length-append}
+use Rattle.versions.specs.Listings.{AreKept, AreSeenFrom, versions_in}
+use Rattle.versions.proofs.Lists.{in-append, in-empty, in-none, one-less, settled-list}
+use Rattle.versions.proofs.reclaiming.settle_lists.Goals.{then-not-are_empty, else-not-are_empty}
+use Rattle.versions.proofs.reclaiming.settle_lists.Goals as goal
+
+pub settle_first-requires-clause-kept : goal.settle_first-requires-clause-kept
+settle_first-requires-clause-kept c = (c.requires.kept.0, c.loop.invariant.settled.kept c.requires.kept.0 c.requires.kept.1)
+
+pub loop-preserved : goal.loop-preserved
+loop-preserved c =
+    let left = c.settle_first.new.lists in
+    let some : 0 < length c.loop.rest = omega arith in
+    let shorter = one-less c.loop.rest c.take_first-first.new.lists c.take_first-first.ensures.rest some in
+    let is : versions_in c.if-not-are_empty.lists ≡ versions_in c.loop.lists ++ versions_in left = elim c.if-not-are_empty.branch [
+      | then-not-are_empty w ↦ ap versions_in (w.lists-is ∙ w.append.ensures) ∙ in-append c.loop.lists left
+      | else-not-are_empty w ↦ ap versions_in w.lists-is ∙ sym (append-nil (versions_in c.loop.lists)) ∙ ap (λ l. versions_in c.loop.lists ++ l) (sym (in-empty left (sym w.if-not-are_empty.ensures)))
+    ] in
+    let counted : length c.if-not-are_empty.lists ≤ length c.loop.lists + 1 = elim c.if-not-are_empty.branch [
+      | then-not-are_empty w ↦ omega (arith, ap length (w.lists-is ∙ w.append.ensures), length-append c.loop.lists left, c.settle_first.ensures.one)
+      | else-not-are_empty w ↦ omega (arith, ap length w.lists-is)
+    ] in
+    record {
+      left = omega (arith, shorter);
+      counted = omega (arith, shorter, counted);
+      settled = settled-list c.args.begins.now c.args.chains.now c.loop.chains c.settle_first.new.chains (versions_in c.args.lists.now) c.loop.lists c.if-not-are_empty.lists c.loop.rest c.take_first-first.result left c.take_first-first.new.lists
+          c.requires.kept.0 c.requires.kept.1 c.take_first-first.ensures.first c.take_first-first.ensures.rest is c.settle_first.ensures.part c.settle_first.ensures.kept c.settle_first.ensures.settled c.settle_first.ensures.left c.settle_first.ensures.seen c.loop.invariant.settled;
+    }
+
+pub returns-clause-left : goal.returns-clause-left
+returns-clause-left c = subst (λ l. AreKept (versions_in c.args.lists.now) l c.loop.chains) (in-none (versions_in c.loop.lists) c.loop.rest (omega arith)) c.loop.invariant.settled.left_out
+
+pub returns-clause-seen : goal.returns-clause-seen
+returns-clause-seen c = λ n h. subst (AreSeenFrom n) (in-none (versions_in c.loop.lists) c.loop.rest (omega arith)) (c.loop.invariant.settled.seen n h)

@@ -1,0 +1,12 @@
+use Rattle.std.proofs.Common.{◌≡◌, ◌≤◌, ◌+◌, length}
+use Rattle.versions.specs.Listings.{versions_in}
+use Rattle.versions.proofs.Lists.{Settled}
+use Rattle.versions.proofs.reclaiming.settle_lists.Given as goal
+
+-- the lists that were put back were looked after, and the others are left
+abbrev pub invariant-loop : goal.invariant-loop
+invariant-loop l = record {
+  left : length l.rest + l.counter ≡ l.end;
+  counted : length l.lists + length l.rest ≤ l.end;
+  settled : Settled l.begins l.initial.chains l.chains (versions_in l.fn.lists) (versions_in l.lists) (versions_in l.rest);
+}
