@@ -1,6 +1,6 @@
 -- What each kind of call does to the states that an engine stands for.
 use Rattle.std.proofs.Common.{◌≡◌, ◌<◌, ◌≤◌, ◌↔◌, ℕ, Bool, true, false, T, List, [], ◌∷◌, ◌++◌, Option, Some, None, refl, sym, ap, subst, ◌∙◌, length, arith, ◌||◌, ◌+◌}
-use Rattle.std.specs.Prelude.{nat_lt, nat_le, not, ◌==◌, IsTrue, is_some, if◌then◌else◌}
+use Rattle.std.specs.Prelude.{nat_lt, nat_le, not, ◌==◌, IsTrue, IsFalse, is_some, if◌then◌else◌}
 use Rattle.std.specs.Ordering.{nat_cmp}
 use Rattle.std.specs.Map.{set_value}
 use Rattle.std.specs.BTreeMap.{insert_entry, is_at}
@@ -21,18 +21,18 @@ use Rattle.model.proofs.Steps.{copy_after-push}
 use Rattle.versions.specs.Meaning.{map_seen}
 use Rattle.versions.specs.Laws.{HoldingLaw}
 use Rattle.snapshot.specs.View.{View, new_view}
-use Rattle.snapshot.specs.Made.{HasMade}
+use Rattle.snapshot.specs.Made.{HasMade, is_refused}
 use Rattle.sector.specs.declared.device.Sectors.{Ghosts}
 use Rattle.commit_log.specs.declared.log.Log.{Log}
 use Rattle.commit_log.specs.LogState.{is_stopped}
 use Rattle.engine.specs.HistoryValue.{HistoryValue, HistoryStandsFor}
 use Rattle.engine.specs.declared.engine.Engine.{Engine}
 use Rattle.engine.specs.StandsFor.{StandsFor, IsRunning, AreRunning}
-use Rattle.engine.specs.Recovery.{IsStored}
+use Rattle.engine.specs.Recovery.{IsStored, IsInDoubt}
 use Rattle.engine.specs.Changes.{entry_of, IsSameStore, Leaves}
-use Rattle.engine.specs.Meaning.{StandsForSame, Leads}
+use Rattle.engine.specs.Meaning.{StandsForSame, IsNotRefused, Leads}
 use Rattle.engine.proofs.Sessions.{IsFound, beside_length, beside_none, beside_some, beside_insert, beside_remove, beside_set, beside_weaker}
-use Rattle.engine.proofs.Steps.{step_with, step_without, reached_step, reached_leave, reached_map, refused_same, is_refused}
+use Rattle.engine.proofs.Steps.{step_with, step_without, reached_step, reached_leave, reached_map, refused_same}
 
 -- a request that was refused, and that changed nothing, is one more own request
 pub made_refused : (t : View) (m : KeyMap) (qs : List Operation) (q : Operation) → HasMade t m qs → is_refused (answer m qs q) ≡ true → HasMade t m (qs ++ q ∷ [])
@@ -82,6 +82,7 @@ module _ {D : Type 0} {g : Ghosts D} where
         used = subst (λ (l : Log D g). m.used ≡ l.gate + 1) (sym log) h.used;
         count = subst (λ (l : Log D g). m.count ≡ g.size l.device) (sym log) h.count;
         stored = subst (λ (l : Log D g). g.keeps_model → is_stopped l ≡ false → IsStored l (map_at m.base m.history (length m.history))) (sym log) h.stored;
+        doubt = subst (λ (l : Log D g). g.keeps_model → is_stopped l ≡ true → IsInDoubt (map_at m.base m.history (length m.history)) (g.may_leave l.device)) (sym log) h.doubt;
         held = held;
         history = subst (λ (v : HistoryValue). HistoryStandsFor v held m.base m.history) (sym at) history;
         kept = subst (λ (v : HistoryValue). v.committed.facts.oldest ≤ length m.history) (sym at) h.kept;
@@ -158,12 +159,29 @@ module _ {D : Type 0} {g : Ghosts D} where
         ap (λ (p : State × Response). p.1) is,
       )
 
+  -- memory was refused where there is room
+  pub begin_memory : (e e' : Engine D g) (s : ℕ) → IsSameStore e e' → e'.running.entries ≡ e.running.entries → entry_of s e ≡ None → is_stopped e.log ≡ false → length e.running.entries < 64
+      → StandsForSame e e' × IsNotRefused e s Begin
+  begin_memory e e' s same entries none stopped few = (same_states e e' same entries, due)
+    where
+      due : (m : State) → StandsFor e m → IsFalse (is_refused (step m s Begin false).1)
+      due m h =
+          let room : nat_lt (length m.running) 64 ≡ true = lt-ltb (length m.running) 64 (subst (λ k. k < 64) (beside_length (Held e m h) e.running.entries m.running h.running) few) in
+          let run : Running = record { begin = last m; requests = []; replies = [] } in
+          let outside : step_outside m s Begin ≡ (with_running m s run, Done) = rw (h.stopped ∙ stopped, room) refl in
+          ap (λ (p : State × Response). is_refused p.1) (step_without m s Begin false (not_open e m s h none) ∙ outside)
+
   -- ---- own requests
 
-  -- what a request made of the transaction, and how it was answered
+  -- what a request made of the transaction, and how it was answered; where memory was refused, that it is no refusal
   abbrev pub Answered : Engine D g → View → View → Operation → Option Response → Type 0
   Answered e t t' q (Some response) = (m : KeyMap) (qs : List Operation) → map_seen e.history.versions t.begin ≡ m → HasMade t m qs → (answer m qs q ≡ response) × HasMade t' m (qs ++ q ∷ [])
-  Answered e t t' q None = t' ≡ t
+  Answered e t t' q None = (t' ≡ t) × ((m : KeyMap) (qs : List Operation) → map_seen e.history.versions t.begin ≡ m → HasMade t m qs → IsFalse (is_refused (answer m qs q)))
+
+  -- the transaction sees the map at its begin
+  map_is : (e : Engine D g) (m : State) (t : View) (r : Running) (h : StandsFor e m) → Held e m h t r → map_seen e.history.versions t.begin ≡ snapshot m r
+  map_is e m t r h same =
+      ap (map_seen e.history.versions) same.begin ∙ h.history.versions.maps r.begin (or_left (h.held r.begin) (nat_le e.history.versions.last r.begin) same.is_held)
 
   own_answered : (e e' : Engine D g) (s : ℕ) (q : Operation) (failed : Bool) (t t' : View) (response : Response) → ((m : State) (r : Running) → step_inside m s r q failed ≡ own_step m s r q)
       → IsSameStore e e' → entry_of s e ≡ Some t → e'.running.entries ≡ set_value (is_at (nat_cmp s)) e.running.entries t' → length e'.running.entries ≡ length e.running.entries
@@ -173,9 +191,7 @@ module _ {D : Type 0} {g : Ghosts D} where
       let facts = e.history.committed.facts in
       let is : step m s q failed ≡ own_step m s f.run q = step_with m s q failed f.run f.is ∙ own m f.run in
       let run : Running = record { begin = f.run.begin; requests = f.run.requests ++ q ∷ []; replies = f.run.replies ++ (own_step m s f.run q).1 ∷ [] } in
-      let seen : map_seen e.history.versions t.begin ≡ snapshot m f.run =
-      ap (map_seen e.history.versions) f.same.begin ∙ h.history.versions.maps f.run.begin (or_left (h.held f.run.begin) (nat_le e.history.versions.last f.run.begin) f.same.is_held) in
-      let made = answered (snapshot m f.run) f.run.requests seen f.same.made in
+      let made = answered (snapshot m f.run) f.run.requests (map_is e m t f.run h f.same) f.same.made in
       let here : IsRunning facts h.held m.base m.history t' run = record {
         begin = begin ∙ f.same.begin;
         made = made.1;
@@ -191,12 +207,17 @@ module _ {D : Type 0} {g : Ghosts D} where
       )
 
   -- a request of the session's own transaction
-  pub own_call : (e e' : Engine D g) (s : ℕ) (q : Operation) (failed : Bool) (t t' : View) (o : Option Response) → ((m : State) (r : Running) → step_inside m s r q failed ≡ own_step m s r q)
+  pub own_call : (e e' : Engine D g) (s : ℕ) (q : Operation) (failed : Bool) (t t' : View) (o : Option Response) → ((b : Bool) (m : State) (r : Running) → step_inside m s r q b ≡ own_step m s r q)
       → IsSameStore e e' → entry_of s e ≡ Some t → e'.running.entries ≡ set_value (is_at (nat_cmp s)) e.running.entries t' → length e'.running.entries ≡ length e.running.entries
       → t'.begin ≡ t.begin → Answered e t t' q o → Leads e e' s q failed o
   own_call e e' s q failed t t' None own same some entries long begin answered =
-      same_states e e' same (entries ∙ set_value_same (is_at (nat_cmp s)) e.running.entries t' (some ∙ ap Some (sym answered)))
-  own_call e e' s q failed t t' (Some response) own same some entries long begin answered = own_answered e e' s q failed t t' response own same some entries long begin answered
+      (same_states e e' same (entries ∙ set_value_same (is_at (nat_cmp s)) e.running.entries t' (some ∙ ap Some (sym answered.0))), due)
+    where
+      due : (m : State) → StandsFor e m → IsFalse (is_refused (step m s q false).1)
+      due m h =
+          let f = found_open e m s t h some in
+          ap (λ (p : State × Response). is_refused p.1) (step_with m s q false f.run f.is ∙ own false m f.run) ∙ answered.1 (snapshot m f.run) f.run.requests (map_is e m t f.run h f.same) f.same.made
+  own_call e e' s q failed t t' (Some response) own same some entries long begin answered = own_answered e e' s q failed t t' response (own failed) same some entries long begin answered
 
   -- one that changes nothing, in an engine that stays
   pub own_same : (e : Engine D g) (s : ℕ) (q : Operation) (failed : Bool) (t : View) (response : Response) → ((m : State) (r : Running) → step_inside m s r q failed ≡ own_step m s r q)

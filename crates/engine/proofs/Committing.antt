@@ -18,7 +18,7 @@ use Rattle.model.specs.Verdict.{verdict}
 use Rattle.model.specs.Machine.{State, Running, last, snapshot, leave, record_to_commit, refuse, join_history, body_sectors, store, store_unless, commit, step, IsReached}
 use Rattle.model.proofs.Machines.{map_at-append, commit_low}
 use Rattle.snapshot.specs.View.{View}
-use Rattle.snapshot.specs.Made.{HasMade}
+use Rattle.snapshot.specs.Made.{HasMade, is_refused}
 use Rattle.model.specs.PrivateCopy.{PrivateCopy, writes}
 use Rattle.pivot_check.specs.Kept.{Facts, CommittedValue, IsInReach}
 use Rattle.pivot_check.specs.StandsFor.{IsRecordOf, IsVerdict, IsClear, StandsFor as CommittedStandsFor}
@@ -35,8 +35,9 @@ use Rattle.engine.specs.StandsFor.{StandsFor, IsRunning, AreRunning}
 use Rattle.engine.specs.Changes.{entry_of, Leaves, IsWritten, HasLogRoom, IsLogged, IsLogStopped, sectors_taken}
 use Rattle.engine.specs.declared.faults.EngineFault.{EngineFault}
 use Rattle.engine.specs.declared.faults.EngineFault.TheVariants.{Refused as Refusing}
-use Rattle.engine.specs.Meaning.{StandsForSame, Leads, IsReadOnly, has_risen, response_to}
-use Rattle.engine.specs.Recovery.{IsStored, HoldsMap, committed_map}
+use Rattle.engine.specs.Meaning.{StandsForSame, Leads, IsNotRefused, IsReadOnly, IsLeftByCommit, has_risen, response_to}
+use Rattle.engine.specs.Recovery.{IsStored, IsInDoubt, HoldsMap, committed_map}
+use Rattle.engine.proofs.Crashes.{weaker_crash}
 use Rattle.engine.proofs.Sessions.{IsFound, beside_remove, beside_weaker}
 use Rattle.engine.proofs.Steps.{step_with, reached_step, commit_stopped, commit_numbers, commit_judged, store_full, store_fault, store_joined, map_at_push, map_at_all}
 use Rattle.engine.proofs.Calls.{Held, found_open, ended}
@@ -108,6 +109,7 @@ module _ {D : Type 0} {g : Ghosts D} where
     used = subst (λ (l : Log D g). m.used ≡ l.gate + 1) (sym log) h.used;
     count = subst (λ (l : Log D g). m.count ≡ g.size l.device) (sym log) h.count;
     stored = subst (λ (l : Log D g). g.keeps_model → is_stopped l ≡ false → IsStored l (map_at m.base m.history (length m.history))) (sym log) h.stored;
+    doubt = subst (λ (l : Log D g). g.keeps_model → is_stopped l ≡ true → IsInDoubt (map_at m.base m.history (length m.history)) (g.may_leave l.device)) (sym log) h.doubt;
     held = h.held;
     history = same_history e.history e'.history h.held m.base m.history same h.history;
     kept = subst (λ (f : Facts). f.oldest ≤ length m.history) (sym same.facts) h.kept;
@@ -210,8 +212,9 @@ module _ {D : Type 0} {g : Ghosts D} where
   -- ---- a commit in which the device failed
 
   pub ended_fault : (e f e' : Engine D g) (s : ℕ) (t : View) (failed : Bool) → Judges e s t verdicts.Clear → HasLogRoom (used_sectors e.log) (sector_count e.log) t.writes
-      → IsLogStopped e.log f.log t.writes → IsSameHistory e.history f.history → f.running.entries ≡ e.running.entries → Leaves f e' s → failed ≡ true → Leads e e' s Commit failed (Some (Refused StoreFault))
-  ended_fault e f e' s t failed j room stops same entries leaves fault m h =
+      → IsLogStopped e.log f.log t.writes → IsSameHistory e.history f.history → f.running.entries ≡ e.running.entries → Leaves f e' s → failed ≡ true
+      → (g.keeps_model → (map : KeyMap) → IsStored e.log map → IsInDoubt map (g.may_leave f.log.device)) → Leads e e' s Commit failed (Some (Refused StoreFault))
+  ended_fault e f e' s t failed j room stops same entries leaves fault doubt m h =
       let at = found_open e m s t h j.some in
       let used = h.used in let count = h.count in let fits = room stops.written in
       let after : State × Response = (record (leave m s) { stopped = true }, Refused StoreFault) in
@@ -230,6 +233,7 @@ module _ {D : Type 0} {g : Ghosts D} where
               used = h.used ∙ sym (ap (λ (l : Log D g). l.gate + 1) log ∙ stops.used);
               count = h.count ∙ sym (ap (λ (l : Log D g). g.size l.device) log ∙ stops.size);
               stored = λ keeps runs. absurd (both_ways (is_stopped e'.log) runs (ap is_stopped log ∙ stops.stopped));
+              doubt = λ keeps _. subst (λ (l : Log D g). IsInDoubt (committed_map m) (g.may_leave l.device)) (sym log) (doubt keeps (committed_map m) (h.stored keeps j.running));
               held = h.held;
               history = subst (λ (v : HistoryValue). HistoryStandsFor v h.held m.base m.history) (sym leaves.store.history) (same_history e.history f.history h.held m.base m.history same h.history);
               kept = subst (λ (x : Facts). x.oldest ≤ length m.history) (sym facts) h.kept;
@@ -262,6 +266,12 @@ module _ {D : Type 0} {g : Ghosts D} where
       let used = h.used in let count = h.count in
       step_with m s Commit failed at.run at.is ∙ cleared e m s t at.run failed h at.same j
       ∙ store_joined m s (record_to_commit m at.run) t.writes failed (λ some. let fits = room some in omega (arith, used, count, fits)) quiet
+
+  -- memory was refused where nothing else was
+  pub commit_memory : (e e' : Engine D g) (s : ℕ) (t : View) → Judges e s t verdicts.Clear → HasLogRoom (used_sectors e.log) (sector_count e.log) t.writes
+      → e'.log ≡ e.log → e'.running.entries ≡ e.running.entries → IsSameHistory e.history e'.history → StandsForSame e e' × IsNotRefused e s Commit
+  commit_memory e e' s t j room log entries same =
+      (refused_memory e e' log entries same, λ m h. ap (λ (p : State × Response). is_refused p.1) (step_joined e s t false j room (λ _. refl) m h (found_open e m s t h j.some)))
 
   -- the committed map with the transaction's writes
   pub map_joined : (e : Engine D g) (s : ℕ) (t : View) (j : Judges e s t verdicts.Clear) (m : State) (h : StandsFor e m) (at : IsFound (Held e m h) s t m.running)
@@ -307,6 +317,7 @@ module _ {D : Type 0} {g : Ghosts D} where
               used = omega (arith, used, taken);
               count = h.count ∙ sym joins.logged.size;
               stored = λ keeps runs. subst (IsStored e'.log) (sym (map_joined e s t j m h at)) (joins.stored keeps (committed_map m) (h.stored keeps j.running));
+              doubt = λ keeps stop. absurd (both_ways (is_stopped e'.log) joins.logged.running stop);
               held = h.held;
               history = joins.history h.held m.base m.history r h.history at.same.in_reach clear (own_record e m t at.run h j.made at.same);
               kept = (let k = h.kept in let o = joins.oldest in omega (arith, k, o, long));
@@ -361,11 +372,12 @@ module _ {D : Type 0} {g : Ghosts D} where
   -- a crash during a commit that came as far as the log
   pub crash_stored : (e : Engine D g) (log : Log D g) (device : D) (s : ℕ) (t : View) (ws : List KeyWrite) → Judges e s t verdicts.Clear → HasLogRoom (used_sectors e.log) (sector_count e.log) t.writes → ws ≡ t.writes → device ≡ log.device
       → ((map : KeyMap) → IsStored e.log map → LeavesOnly g.moment g.left_since e.log.device log.device (λ c. HoldsMap c map ⊎ HoldsMap c (after_writes map ws)))
-      → g.keeps_model → (m : State) → StandsFor e m → m.stopped ≡ false → LeavesOnly g.moment g.left_since e.log.device device (λ c. HoldsMap c (committed_map m) ⊎ HoldsMap c (committed_map (step m s Commit false).0))
-  crash_stored e log device s t ws j room written same crash keeps m h runs =
+      → g.keeps_model → (m : State) → StandsFor e m → LeavesOnly g.moment g.left_since e.log.device device (IsLeftByCommit e m s)
+  crash_stored e log device s t ws j room written same crash keeps m h =
       let at = found_open e m s t h j.some in
       let is = step_joined e s t false j room (λ _. refl) m h at in
       let after : after_writes (committed_map m) ws ≡ committed_map (step m s Commit false).0 =
       ap (after_writes (committed_map m)) written ∙ sym (map_joined e s t j m h at) ∙ sym (ap (λ (p : State × Response). committed_map p.0) is) in
-      subst (λ (d : D). LeavesOnly g.moment g.left_since e.log.device d (λ c. HoldsMap c (committed_map m) ⊎ HoldsMap c (committed_map (step m s Commit false).0))) (sym same)
-      (subst (λ (k : KeyMap). LeavesOnly g.moment g.left_since e.log.device log.device (λ c. HoldsMap c (committed_map m) ⊎ HoldsMap c k)) after (crash (committed_map m) (h.stored keeps (sym h.stopped ∙ runs))))
+      subst (λ (d : D). LeavesOnly g.moment g.left_since e.log.device d (IsLeftByCommit e m s)) (sym same)
+      (weaker_crash g.moment g.left_since e.log.device log.device (λ c. HoldsMap c (committed_map m) ⊎ HoldsMap c (committed_map (step m s Commit false).0)) (IsLeftByCommit e m s) (λ c y. inl (h.stopped ∙ j.running, y))
+      (subst (λ (k : KeyMap). LeavesOnly g.moment g.left_since e.log.device log.device (λ c. HoldsMap c (committed_map m) ⊎ HoldsMap c k)) after (crash (committed_map m) (h.stored keeps j.running))))

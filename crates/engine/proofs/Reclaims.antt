@@ -80,6 +80,7 @@ module _ {D : Type 0} {g : Ghosts D} (e : Engine D g) (new : HistoryValue) (olde
         used = h.used;
         count = h.count;
         stored = h.stored;
+        doubt = h.doubt;
         held = λ n. h.held n && is_among bs n;
         history = stands h.held m.base m.history h.history;
         kept = omega (arith, is, kept, below, o);

@@ -1,5 +1,6 @@
 -- The states that an engine stands for once it was opened.
 use Rattle.std.proofs.Common.{◌≡◌, ◌≤◌, ◌+◌, ◌∷◌, ◌∙◌, ℕ, Bool, true, false, List, [], sym, ap, subst, refl, length, arith}
+use Rattle.std.proofs.lemmas.Bool.{both_ways}
 use Rattle.model.specs.Map.{KeyMap, KeyWrite}
 use Rattle.model.specs.History.{Record}
 use Rattle.model.specs.Machine.{State, Running, opened}
@@ -13,7 +14,7 @@ use Rattle.commit_log.specs.Recovery.{map_after}
 use Rattle.engine.specs.HistoryValue.{HistoryStandsFor}
 use Rattle.engine.specs.declared.engine.Engine.{Engine}
 use Rattle.engine.specs.StandsFor.{StandsFor, AreRunning}
-use Rattle.engine.specs.Recovery.{IsStored, HoldsMap, committed_map}
+use Rattle.engine.specs.Recovery.{IsStored, IsInDoubt, HoldsMap, LeavesCommitted, committed_map}
 use Rattle.engine.proofs.Steps.{reached_opened}
 
 none_running : (facts : Facts) (held : ℕ → Bool) (base : KeyMap) (history : List Record) (rs : List (ℕ × Running)) → AreRunning facts held base history [] rs → rs ≡ []
@@ -29,6 +30,7 @@ module _ {D : Type 0} {g : Ghosts D} where
     used = refl;
     count = sym size;
     stored = λ keeps runs. stored keeps;
+    doubt = λ keeps stop. absurd (both_ways (is_stopped e.log) running stop);
     held = λ _. true;
     history = h;
     kept = (let oldest = ap (λ (f : Facts). f.oldest) facts in omega (arith, oldest));
@@ -53,6 +55,9 @@ module _ {D : Type 0} {g : Ghosts D} where
   pub idle_stands : (e : Engine D g) → e.running.entries ≡ [] → (m : State) → StandsFor e m → m.running ≡ []
   idle_stands e none m h = none_running e.history.committed.facts h.held m.base m.history m.running (subst (λ (es : List (ℕ × View)). AreRunning e.history.committed.facts h.held m.base m.history es m.running) none h.running)
 
-  -- a crash of a store that isn't stopped leaves what has committed
-  pub holds_map : (e : Engine D g) → g.keeps_model → (m : State) → StandsFor e m → m.stopped ≡ false → (c : List (List ℕ)) → g.may_leave e.log.device c → HoldsMap c (committed_map m)
-  holds_map e keeps m h runs c left = let s = h.stored keeps (sym h.stopped ∙ runs) in (s.lists, s.stands.left c left, s.makes)
+  -- what a crash leaves
+  pub leaves_committed : (e : Engine D g) → g.keeps_model → (m : State) → StandsFor e m → LeavesCommitted m (g.may_leave e.log.device)
+  leaves_committed e keeps m h = record {
+    running = λ runs c left. let s = h.stored keeps (sym h.stopped ∙ runs) in (s.lists, s.stands.left c left, s.makes);
+    stopped = λ stop. h.doubt keeps (sym h.stopped ∙ stop);
+  }

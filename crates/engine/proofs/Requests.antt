@@ -1,14 +1,16 @@
 -- What a request of an open transaction is answered, and what it makes of the transaction.
-use Rattle.std.proofs.Common.{◌≡◌, ℕ, true, false, cond, ◌||◌, List, [], ◌∷◌, ◌++◌, Option, Some, None, Err, refl, sym, ap, subst, ◌∙◌}
-use Rattle.std.specs.Prelude.{IsTrue, is_some}
+use Rattle.std.proofs.Common.{◌≡◌, ℕ, true, false, cond, ◌||◌, List, [], ◌∷◌, ◌++◌, Option, Some, None, Err, refl, sym, ap, subst, ◌∙◌, take}
+use Rattle.std.specs.Prelude.{IsTrue, is_some, nat_lt, nat_le, length, if◌then◌else◌}
+use Rattle.std.proofs.lemmas.Bool.{or_left}
 use Rattle.std.specs.List.{list_any}
 use Rattle.model.specs.declared.refusals.Refusal.{Refusal}
 use Rattle.model.specs.declared.refusals.Refusal.TheVariants as refusals
-use Rattle.model.specs.Map.{Bytes, KeyMap, KeyWrite, is_same_key, is_empty_range}
+use Rattle.model.specs.Map.{Bytes, KeyMap, KeyWrite, is_same_key, is_empty_range, value_at, pairs_in_range}
 use Rattle.model.specs.Operations.{Operation, Response}
-use Rattle.model.specs.Operations.Response.{Refused}
-use Rattle.model.specs.PrivateCopy.{PrivateCopy, answer}
-use Rattle.model.specs.PrivateCopy.Mark.{OfKey, OfRange}
+use Rattle.model.specs.Operations.Operation.{Get, Range}
+use Rattle.model.specs.Operations.Response.{Value, Pairs, Refused}
+use Rattle.model.specs.PrivateCopy.{PrivateCopy, Mark, respond, after_read, copy_of, copy_after, is_written, is_same_mark, answer, mark_asked}
+use Rattle.model.specs.PrivateCopy.Mark.{OfKey}
 use Rattle.model.specs.Machine.{State, Running, running_of, snapshot}
 use Rattle.versions.specs.Chains.{ChainsValue}
 use Rattle.versions.specs.Meaning.{map_seen}
@@ -17,8 +19,8 @@ use Rattle.write_buffer.specs.Buffered.{written}
 use Rattle.snapshot.specs.declared.faults.SnapshotFault.{SnapshotFault}
 use Rattle.snapshot.specs.declared.faults.SnapshotFault.TheVariants.{FullWrites, FullMarks, Memory}
 use Rattle.snapshot.specs.View.{View, after_get, keys_of, marked}
-use Rattle.snapshot.specs.Made.{HasMade, MakesOneMore, IsFault}
-use Rattle.snapshot.specs.Merged.{after_range}
+use Rattle.snapshot.specs.Made.{HasMade, MakesOneMoreOver, IsFault, IsKnownRange, is_refused}
+use Rattle.snapshot.specs.Merged.{after_range, mark_of_rows}
 use Rattle.sector.specs.declared.device.Sectors.{Ghosts}
 use Rattle.engine.specs.declared.engine.Engine.{Engine}
 use Rattle.engine.specs.Changes.{entry_of}
@@ -26,41 +28,73 @@ use Rattle.engine.specs.declared.faults.EngineFault.{EngineFault}
 use Rattle.engine.specs.declared.faults.ReadFault.{ReadFault}
 use Rattle.engine.specs.Faults.{of_read, of_write}
 use Rattle.engine.specs.StandsFor.{StandsFor}
-use Rattle.engine.specs.Meaning.{response_to, response_to_read, IsKnownKey, IsKnownRange}
-use Rattle.engine.proofs.Steps.{is_refused}
+use Rattle.engine.specs.Meaning.{response_to, response_to_read, copy_in, IsKnownKey}
 use Rattle.engine.proofs.Calls.{Answered, found_open, not_open, made_refused}
 
 pub begin-after_get : (t t' : View) (k : Bytes) → t' ≡ after_get t k → t'.begin ≡ t.begin
 begin-after_get t t' k e = ap (λ (u : View). u.begin) e ∙ elim (is_some (written t.writes k)) as (λ b. (cond b t (marked t (OfKey k))).begin ≡ t.begin) [ true ↦ refl | false ↦ refl ]
 
-pub begin-after_range : (t t' : View) (lo : Bytes) (hi : Option Bytes) → t' ≡ after_range t lo hi → t'.begin ≡ t.begin
-begin-after_range t t' lo hi e = ap (λ (u : View). u.begin) e ∙ elim (is_empty_range lo hi) as (λ b. (cond b t (marked t (OfRange lo hi))).begin ≡ t.begin) [ true ↦ refl | false ↦ refl ]
+pub begin-after_range : (t t' : View) (n : KeyMap) (lo : Bytes) (hi : Option Bytes) (limit : ℕ) → t' ≡ after_range t n lo hi limit → t'.begin ≡ t.begin
+begin-after_range t t' n lo hi limit e = ap (λ (u : View). u.begin) e ∙ elim (is_empty_range lo hi) as (λ b. (cond b t (marked t (mark_of_rows t n lo hi limit))).begin ≡ t.begin) [ true ↦ refl | false ↦ refl ]
 
 any_keys : (k : Bytes) (ws : List KeyWrite) → list_any (is_same_key k) (keys_of ws) ≡ is_some (written ws k)
 any_keys k [] = refl
 any_keys k (w ∷ ws) = elim (is_same_key k w.0) as (λ b. (b || list_any (is_same_key k) (keys_of ws)) ≡ is_some (cond b (Some w.1) (written ws k))) [ true ↦ refl | false ↦ any_keys k ws ]
+
+-- a read is not refused for its writes
+abbrev IsOfWrites : Response × PrivateCopy → Type 0
+IsOfWrites r = r.0 ≡ Refused refusals.FullWrites
+
+read_writes : (c : PrivateCopy) (mark : Mark) (response : Response) → (response ≡ Refused refusals.FullWrites → ⊥) → IsOfWrites (after_read c mark response) → ⊥
+read_writes c mark response plain =
+    elim (list_any (is_same_mark mark) c.marks) as (λ b. IsOfWrites (if b then (response, c) else (if nat_lt (length c.marks) 256 then (response, record c { marks = c.marks ++ mark ∷ [] }) else (Refused refusals.FullMarks, c))) → ⊥) [
+      | true ↦ plain
+      | false ↦ elim (nat_lt (length c.marks) 256) as (λ b. IsOfWrites (if b then (response, record c { marks = c.marks ++ mark ∷ [] }) else (Refused refusals.FullMarks, c)) → ⊥) [ true ↦ plain | false ↦ λ x. cc ]
+    ]
+
+-- a read
+abbrev pub IsReading : Operation → Type 0
+IsReading (Get k) = Unit {0}
+IsReading (Range lo hi limit) = Unit {0}
+IsReading other = ⊥
+
+never_writes : (c : PrivateCopy) (q : Operation) → IsReading q → (respond c q).0 ≡ Refused refusals.FullWrites → ⊥
+never_writes c (Get k) r =
+    elim (is_written c k) as (λ b. IsOfWrites (if b then (Value (value_at c.contents k), c) else after_read c (OfKey k) (Value (value_at c.contents k))) → ⊥) [
+      | true ↦ λ x. cc
+      | false ↦ read_writes c (OfKey k) (Value (value_at c.contents k)) (λ x. cc)
+    ]
+never_writes c (Range lo hi limit) r =
+    elim (is_empty_range lo hi) as (λ b. IsOfWrites (if b then (Pairs [], c) else after_read c (mark_asked c lo hi limit) (Pairs (take limit (pairs_in_range c.contents lo hi)))) → ⊥) [
+      | true ↦ λ x. cc
+      | false ↦ read_writes c (mark_asked c lo hi limit) (Pairs (take limit (pairs_in_range c.contents lo hi))) (λ x. cc)
+    ]
+never_writes c other r = absurd r
 
 module _ {D : Type 0} {g : Ghosts D} (e : Engine D g) (t t' : View) where
   -- what the transaction says of the versions that were lent
   abbrev pub Says : ChainsValue → (Response → Type 0) → Operation → Type 0
   Says vs P q = (m : KeyMap) (qs : List Operation) → map_seen vs t.begin ≡ m → HasMade t m qs → P (answer m qs q)
 
-  pub read_answered : (vs : ChainsValue) (q : Operation) (response : Response) → vs ≡ e.history.versions → Says vs (λ r. r ≡ response) q → MakesOneMore t t' q → Answered e t t' q (Some response)
-  read_answered vs q response same says more m qs seen made = (says m qs (ap (λ (x : ChainsValue). map_seen x t.begin) same ∙ seen) made, more m qs made)
+  pub read_answered : (vs : ChainsValue) (q : Operation) (response : Response) → vs ≡ e.history.versions → Says vs (λ r. r ≡ response) q
+      → MakesOneMoreOver (map_seen vs t.begin) t t' q → Answered e t t' q (Some response)
+  read_answered vs q response same says more m qs seen made =
+      let is = ap (λ (x : ChainsValue). map_seen x t.begin) same ∙ seen in
+      (says m qs is made, subst (λ n. MakesOneMoreOver n t t' q) is more qs made)
 
   refused : (vs : ChainsValue) (q : Operation) (refusal : Refusal) → vs ≡ e.history.versions → Says vs (λ r. r ≡ Refused refusal) q → t' ≡ t → Answered e t t' q (Some (Refused refusal))
   refused vs q refusal same says is m qs seen made =
       let told = says m qs (ap (λ (x : ChainsValue). map_seen x t.begin) same ∙ seen) made in
       (told, subst (λ u. HasMade u m (qs ++ q ∷ [])) (sym is) (made_refused t m qs q made (ap is_refused told)))
 
-  pub read_refused : {A : Type 0} (vs : ChainsValue) (q : Operation) (f : A → Response) (fault : SnapshotFault) (told : ReadFault) → told ≡ of_read fault → vs ≡ e.history.versions → Says vs (IsFault fault) q → t' ≡ t
+  pub read_refused : {A : Type 0} (vs : ChainsValue) (q : Operation) (f : A → Response) (fault : SnapshotFault) (told : ReadFault) → IsReading q → told ≡ of_read fault → vs ≡ e.history.versions → Says vs (IsFault fault) q → t' ≡ t
       → Answered e t t' q (response_to_read f (Err told))
-  read_refused vs q f fault told is same says stays = subst (λ r. Answered e t t' q (response_to_read f (Err r))) (sym is) (by fault says)
+  read_refused vs q f fault told read is same says stays = subst (λ r. Answered e t t' q (response_to_read f (Err r))) (sym is) (by fault says)
     where
       by : (fault : SnapshotFault) → Says vs (IsFault fault) q → Answered e t t' q (response_to_read f (Err (of_read fault)))
-      by FullWrites said = stays
+      by FullWrites said = (stays, λ m qs seen made. absurd (never_writes (copy_after (copy_of m) qs) q read (said m qs (ap (λ (x : ChainsValue). map_seen x t.begin) same ∙ seen) made)))
       by FullMarks said = refused vs q refusals.FullMarks same said stays
-      by Memory said = stays
+      by Memory said = (stays, λ m qs seen made. said m qs (ap (λ (x : ChainsValue). map_seen x t.begin) same ∙ seen) made)
 
   pub write_refused : {A : Type 0} (q : Operation) (f : A → Response) (fault : SnapshotFault) (told : EngineFault) → told ≡ of_write fault → Says e.history.versions (IsFault fault) q → t' ≡ t
       → Answered e t t' q (response_to f (Err told))
@@ -69,9 +103,12 @@ module _ {D : Type 0} {g : Ghosts D} (e : Engine D g) (t t' : View) where
       by : (fault : SnapshotFault) → Says e.history.versions (IsFault fault) q → Answered e t t' q (response_to f (Err (of_write fault)))
       by FullWrites said = refused e.history.versions q refusals.FullWrites refl said stays
       by FullMarks said = refused e.history.versions q refusals.FullMarks refl said stays
-      by Memory said = stays
+      by Memory said = (stays, said)
 
 -- ---- reads that need no memory
+
+some_same : {X : Type 0} (x y : X) → Some x ≡ Some y → x ≡ y
+some_same x y q = cc
 
 module _ {D : Type 0} {g : Ghosts D} (e : Engine D g) (s : ℕ) (t : View) (some : entry_of s e ≡ Some t) where
   copy_is : (m : State) (h : StandsFor e m) (r : Running) → running_of m s ≡ Some r → HasMade t (snapshot m r) r.requests
@@ -79,9 +116,6 @@ module _ {D : Type 0} {g : Ghosts D} (e : Engine D g) (s : ℕ) (t : View) (some
       let f = found_open e m s t h some in
       let same : f.run ≡ r = some_same f.run r (sym f.is ∙ is) in
       subst (λ (x : Running). HasMade t (snapshot m x) x.requests) same f.same.made
-    where
-      some_same : {X : Type 0} (x y : X) → Some x ≡ Some y → x ≡ y
-      some_same x y q = cc
 
   pub known_key : (k : Bytes) (m : State) → StandsFor e m → (r : Running) → running_of m s ≡ Some r → IsKnownKey m r k → IsTrue (is_some (written t.writes k) || has_mark t.marks (OfKey k))
   known_key k m h r is known =
@@ -89,10 +123,19 @@ module _ {D : Type 0} {g : Ghosts D} (e : Engine D g) (s : ℕ) (t : View) (some
       subst (λ b. (b || has_mark t.marks (OfKey k)) ≡ true) (any_keys k t.writes)
       (subst (λ (c : PrivateCopy). (list_any (is_same_key k) c.written || has_mark c.marks (OfKey k)) ≡ true) (sym made.copy) known)
 
-  pub known_range : (lo : Bytes) (hi : Option Bytes) (m : State) → StandsFor e m → (r : Running) → running_of m s ≡ Some r → IsKnownRange m r lo hi → IsTrue (is_empty_range lo hi || has_mark t.marks (OfRange lo hi))
-  known_range lo hi m h r is known =
-      let made = copy_is m h r is in
-      subst (λ (c : PrivateCopy). (is_empty_range lo hi || has_mark c.marks (OfRange lo hi)) ≡ true) (sym made.copy) known
+  pub seen_is : (m : State) (h : StandsFor e m) (r : Running) → running_of m s ≡ Some r → map_seen e.history.versions t.begin ≡ snapshot m r
+  seen_is m h r is =
+      let f = found_open e m s t h some in
+      let same : f.run ≡ r = some_same f.run r (sym f.is ∙ is) in
+      subst (λ (x : Running). map_seen e.history.versions t.begin ≡ snapshot m x) same
+      (ap (map_seen e.history.versions) f.same.begin ∙ h.history.versions.maps f.run.begin (or_left (h.held f.run.begin) (nat_le e.history.versions.last f.run.begin) f.same.is_held))
+
+  -- what the transaction says of a range that it knows
+  pub known_range : {P : Type 0} (vs : ChainsValue) (lo : Bytes) (hi : Option Bytes) (limit : ℕ) → vs ≡ e.history.versions
+      → ((n : KeyMap) (qs : List Operation) → map_seen vs t.begin ≡ n → HasMade t n qs → IsKnownRange (copy_after (copy_of n) qs) lo hi limit → P)
+      → (m : State) → StandsFor e m → (r : Running) → running_of m s ≡ Some r → IsKnownRange (copy_in m r) lo hi limit → P
+  known_range vs lo hi limit same says m h r is known =
+      says (snapshot m r) r.requests (ap (λ (x : ChainsValue). map_seen x t.begin) same ∙ seen_is m h r is) (copy_is m h r is) known
 
 -- a session without a transaction knows nothing
 pub known_nowhere : {D : Type 0} {g : Ghosts D} (e : Engine D g) (s : ℕ) {P : Type 0} → entry_of s e ≡ None → (m : State) → StandsFor e m → (r : Running) → running_of m s ≡ Some r → P

@@ -9,8 +9,8 @@ use Rattle.model.specs.Map.{Bytes, KeyMap, KeyWrite, IsMap, is_empty_range, afte
 use Rattle.model.specs.Operations.{Operation, Response}
 use Rattle.model.specs.Operations.Operation.{Begin, Get, Set, Del, Range, Commit, Abort, Ping, Faulty}
 use Rattle.model.specs.Operations.Response.{Done, Value, Pairs, Refused}
-use Rattle.model.specs.PrivateCopy.{PrivateCopy, Mark, respond, after_read, after_put, is_written, is_same_mark}
-use Rattle.model.specs.PrivateCopy.Mark.{OfKey, OfRange}
+use Rattle.model.specs.PrivateCopy.{PrivateCopy, Mark, respond, after_read, after_put, is_written, is_same_mark, mark_asked}
+use Rattle.model.specs.PrivateCopy.Mark.{OfKey}
 use Rattle.std.specs.BTreeSet.{insert_key}
 use Rattle.std.specs.Ordering.{nat_cmp}
 use Rattle.std.specs.Cmp.Lexicographic.{slice_cmp}
@@ -20,6 +20,7 @@ use Rattle.model.specs.Machine.{State, Running, Input, opened, last, running_of,
 use Rattle.model.specs.Machine.Input.{Asks, Leaves}
 use Rattle.model.proofs.Lookups.{IsMap-after_writes}
 use Rattle.model.proofs.Machines.{machine_law}
+use Rattle.snapshot.specs.Made.{is_refused}
 use Rattle.engine.specs.Changes.{sectors_taken, HasLogRoom}
 
 pub step_without : (m : State) (s : ℕ) (q : Operation) (failed : Bool) → running_of m s ≡ None → step m s q failed ≡ step_outside m s q
@@ -66,10 +67,6 @@ reached_map m n h = IsMap-map_at m.base m.history n ((machine_law m h).1.faithfu
 
 -- ---- a request that is refused inside a transaction changes nothing
 
-abbrev pub is_refused : Response → Bool
-is_refused (Refused r) = true
-is_refused other = false
-
 refused_read : (c : PrivateCopy) (mark : Mark) (response : Response) → is_refused response ≡ false → is_refused (after_read c mark response).0 ≡ true → (after_read c mark response).1 ≡ c
 refused_read c mark response plain =
     elim (list_any (is_same_mark mark) c.marks) as (λ b. is_refused (read_out b (nat_lt (length c.marks) 256)).0 ≡ true → (read_out b (nat_lt (length c.marks) 256)).1 ≡ c) [
@@ -95,8 +92,8 @@ refused_same c (Get k) e =
     elim (is_written c k) as (λ b. is_refused (if b then (Value (value_at c.contents k), c) else after_read c (OfKey k) (Value (value_at c.contents k))).0 ≡ true
     → (if b then (Value (value_at c.contents k), c) else after_read c (OfKey k) (Value (value_at c.contents k))).1 ≡ c) [ true ↦ λ x. refl | false ↦ refused_read c (OfKey k) (Value (value_at c.contents k)) refl ] e
 refused_same c (Range lo hi limit) e =
-    elim (is_empty_range lo hi) as (λ b. is_refused (if b then (Pairs [], c) else after_read c (OfRange lo hi) (Pairs (take limit (pairs_in_range c.contents lo hi)))).0 ≡ true
-    → (if b then (Pairs [], c) else after_read c (OfRange lo hi) (Pairs (take limit (pairs_in_range c.contents lo hi)))).1 ≡ c) [ true ↦ λ x. refl | false ↦ refused_read c (OfRange lo hi) (Pairs (take limit (pairs_in_range c.contents lo hi))) refl ] e
+    elim (is_empty_range lo hi) as (λ b. is_refused (if b then (Pairs [], c) else after_read c (mark_asked c lo hi limit) (Pairs (take limit (pairs_in_range c.contents lo hi)))).0 ≡ true
+    → (if b then (Pairs [], c) else after_read c (mark_asked c lo hi limit) (Pairs (take limit (pairs_in_range c.contents lo hi)))).1 ≡ c) [ true ↦ λ x. refl | false ↦ refused_read c (mark_asked c lo hi limit) (Pairs (take limit (pairs_in_range c.contents lo hi))) refl ] e
 refused_same c (Set k v) e = refused_put c k (Some v) e
 refused_same c (Del k) e = refused_put c k None e
 refused_same c Begin e = refl

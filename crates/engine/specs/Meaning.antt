@@ -1,11 +1,12 @@
 -- What a call of the engine does to the states of the machine that it stands for.
-use Rattle.std.specs.Prelude.{◌≡◌, ◌↔◌, ℕ, ◌-◌, ◌^◌, Bool, ◌||◌, nat_lt, ◌==◌, Option, Some, None, Result, Ok, Err, IsTrue, List, []}
+use Rattle.std.specs.Prelude.{◌≡◌, ◌↔◌, ◌⊎◌, ℕ, ◌-◌, ◌^◌, Bool, true, false, ◌||◌, nat_lt, ◌==◌, Option, Some, None, Result, Ok, Err, IsTrue, IsFalse, List, []}
 use Rattle.model.specs.Operations.{Operation, Response}
+use Rattle.model.specs.Operations.Operation.{Commit}
 use Rattle.model.specs.Operations.Response.{Refused}
 use Rattle.model.specs.declared.refusals.Refusal.TheVariants.{NotOpen, FullMarks}
-use Rattle.model.specs.Map.{Bytes, is_empty_range}
+use Rattle.model.specs.Map.{Bytes}
 use Rattle.model.specs.PrivateCopy.{PrivateCopy, copy_of, copy_after, writes, is_written, is_same_mark}
-use Rattle.model.specs.PrivateCopy.Mark.{OfKey, OfRange}
+use Rattle.model.specs.PrivateCopy.Mark.{OfKey}
 use Rattle.model.specs.Machine.{State, Running, running_of, snapshot, step}
 use Rattle.std.specs.List.{list_any}
 use Rattle.sector.specs.declared.device.Sectors.{Ghosts}
@@ -16,6 +17,8 @@ use Rattle.engine.specs.declared.faults.EngineFault.TheVariants.{Refused as Refu
 use Rattle.engine.specs.declared.faults.ReadFault.{ReadFault}
 use Rattle.engine.specs.declared.faults.ReadFault.TheVariants as reads
 use Rattle.versions.specs.Chains.{ChainsValue}
+use Rattle.snapshot.specs.Made.{is_refused}
+use Rattle.engine.specs.Recovery.{HoldsMap, committed_map}
 use Rattle.pivot_check.specs.Kept.{KeptRecord}
 pub use Rattle.engine.specs.StandsFor.{StandsFor}
 
@@ -37,12 +40,16 @@ has_risen before now = nat_lt before now || (before == 2 ^ 64 - 1)
 abbrev pub StandsForSame : {D : Type 0} {g : Ghosts D} → Engine D g → Engine D g → Type 0
 StandsForSame old new = (m : State) → StandsFor old m ↔ StandsFor new m
 
+-- the machine refuses the request in no state that the engine stands for, the device's failure aside
+abbrev pub IsNotRefused : {D : Type 0} {g : Ghosts D} → Engine D g → ℕ → Operation → Type 0
+IsNotRefused e s q = (m : State) → StandsFor e m → IsFalse (is_refused (step m s q false).1)
+
 -- from every state that the old engine stood for to the machine's next one, with the machine's response; where memory was
--- refused, there is no response, and the states are as they were
+-- refused, there is no response, the machine's would have been no refusal, and the states are as they were
 abbrev pub Leads : {D : Type 0} {g : Ghosts D} → Engine D g → Engine D g → ℕ → Operation → Bool → Option Response → Type 0
 Leads old new s q failed (Some response) =
     (m : State) → StandsFor old m → StandsFor new (step m s q failed).0 × ((step m s q failed).1 ≡ response)
-Leads old new s q failed None = StandsForSame old new
+Leads old new s q failed None = StandsForSame old new × IsNotRefused old s q
 
 -- the response that a result says, and nothing where memory was refused
 abbrev pub response_to : {T : Type 0} → (T → Response) → Result T EngineFault → Option Response
@@ -65,10 +72,6 @@ copy_in m t = copy_after (copy_of (snapshot m t)) t.requests
 abbrev pub IsKnownKey : State → Running → Bytes → Type 0
 IsKnownKey m t k = IsTrue (is_written (copy_in m t) k || list_any (is_same_mark (OfKey k)) (copy_in m t).marks)
 
--- the range is empty, or the transaction has its mark
-abbrev pub IsKnownRange : State → Running → Bytes → Option Bytes → Type 0
-IsKnownRange m t lo hi = IsTrue (is_empty_range lo hi || list_any (is_same_mark (OfRange lo hi)) (copy_in m t).marks)
-
 -- the session's open transaction, if it has one, has written nothing
 abbrev pub IsReadOnly : State → ℕ → Type 0
 IsReadOnly m s = (t : Running) → running_of m s ≡ Some t → writes (snapshot m t) t.requests ≡ []
@@ -79,3 +82,10 @@ versions_of e = e.history.versions
 
 abbrev pub records_of : {D : Type 0} {g : Ghosts D} → Engine D g → List KeptRecord
 records_of e = e.history.committed.facts.records
+
+-- what a crash may leave at a moment of a COMMIT: the map committed before it, or that with the transaction's writes; of a store that was
+-- stopped, what it could have left before
+abbrev pub IsLeftByCommit : {D : Type 0} {g : Ghosts D} → Engine D g → State → ℕ → List (List ℕ) → Type 0
+IsLeftByCommit {g = g} old m s c =
+    ((m.stopped ≡ false) × (HoldsMap c (committed_map m) ⊎ HoldsMap c (committed_map (step m s Commit false).0)))
+    ⊎ ((m.stopped ≡ true) × g.may_leave (device_of old) c)

@@ -1,6 +1,6 @@
 -- What a crash leaves of the store.
-use Rattle.std.specs.Prelude.{◌≡◌, ℕ, List, [], length}
-use Rattle.model.specs.Map.{KeyMap, KeyWrite}
+use Rattle.std.specs.Prelude.{◌≡◌, ◌⊎◌, ℕ, true, false, List, [], length}
+use Rattle.model.specs.Map.{KeyMap, KeyWrite, after_writes}
 use Rattle.model.specs.History.{map_at}
 use Rattle.model.specs.Machine.{State}
 use Rattle.sector.specs.declared.device.Sectors.{Ghosts}
@@ -22,3 +22,14 @@ pub record IsStored {D : Type 0} {g : Ghosts D} (log : Log D g) (map : KeyMap) :
   pub lists : List (List KeyWrite)
   pub stands : LogStandsFor log lists
   pub makes : map_after [] lists ≡ map
+
+-- each image holds the map, or the map with the writes of one COMMIT, the same for all
+pub record IsInDoubt (map : KeyMap) (may_leave : List (List ℕ) → Type 0) : Type 0 where
+  pub in_doubt : List KeyWrite
+  pub holds : (c : List (List ℕ)) → may_leave c → HoldsMap c map ⊎ HoldsMap c (after_writes map in_doubt)
+
+-- What a crash leaves: the map that is committed and, once the store is stopped, that or the one with the writes of the COMMIT that was
+-- answered a store fault.
+pub record LeavesCommitted (m : State) (may_leave : List (List ℕ) → Type 0) : Type 0 where
+  pub running : m.stopped ≡ false → (c : List (List ℕ)) → may_leave c → HoldsMap c (committed_map m)
+  pub stopped : m.stopped ≡ true → IsInDoubt (committed_map m) may_leave

@@ -1,5 +1,5 @@
 -- Which states of the machine an engine stands for.
-use Rattle.std.specs.Prelude.{◌≡◌, ℕ, ◌-◌, ◌^◌, ◌≤◌, T, Bool, false, IsTrue, List, length}
+use Rattle.std.specs.Prelude.{◌≡◌, ℕ, ◌-◌, ◌^◌, ◌≤◌, T, Bool, true, false, IsTrue, List, length}
 use Rattle.std.specs.List.{AllZip}
 use Rattle.std.specs.Ordering.{nat_cmp}
 use Rattle.std.specs.FinMap.Entries.{is_sorted}
@@ -10,8 +10,8 @@ use Rattle.snapshot.specs.View.{View}
 use Rattle.snapshot.specs.Made.{HasMade}
 use Rattle.pivot_check.specs.Kept.{Facts, IsInReach}
 use Rattle.sector.specs.declared.device.Sectors.{Ghosts}
-use Rattle.commit_log.specs.LogState.{is_stopped, used_sectors, sector_count}
-use Rattle.engine.specs.Recovery.{IsStored, committed_map}
+use Rattle.commit_log.specs.LogState.{device_of, is_stopped, used_sectors, sector_count}
+use Rattle.engine.specs.Recovery.{IsStored, IsInDoubt, committed_map}
 use Rattle.engine.specs.HistoryValue.{HistoryStandsFor}
 use Rattle.engine.specs.declared.engine.Engine.{Engine}
 
@@ -33,6 +33,8 @@ pub record StandsFor {D : Type 0} {g : Ghosts D} (e : Engine D g) (m : State) : 
   pub count : m.count ≡ sector_count e.log
   -- where the device has not failed and keeps its model, the log has what has committed
   pub stored : g.keeps_model → is_stopped e.log ≡ false → IsStored e.log (committed_map m)
+  -- where it has failed, the writes of the COMMIT in which it did may be there too
+  pub doubt : g.keeps_model → is_stopped e.log ≡ true → IsInDoubt (committed_map m) (g.may_leave (device_of e.log))
   -- the numbers at which open transactions began are among those that are held
   pub held : ℕ → Bool
   pub history : HistoryStandsFor e.history held m.base m.history

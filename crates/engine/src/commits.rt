@@ -11,14 +11,14 @@ use snapshot::Transaction;
 const LAST_MAX: u64 = 9_223_372_036_854_775_807;
 
 impl<D: Sectors> Engine<D> {
-    ghost use Rattle.std.specs.Prelude.{◌≡◌, ◌≤◌, ◌⊎◌, ℕ, List, false, Some, None, IsSome, IfOk};
+    ghost use Rattle.std.specs.Prelude.{◌≡◌, ◌≢◌, ◌≤◌, ℕ, List, true, Some, None, IsSome, IfOk, IfErr};
     ghost use Rattle.model.specs.Operations.Operation.{Commit};
     ghost use Rattle.model.specs.Operations.Response.{Number};
     ghost use Rattle.engine.specs.Changes.{entry_of, Leaves};
-    ghost use Rattle.model.specs.Machine.{State, step};
+    ghost use Rattle.model.specs.Machine.{State};
     ghost use Rattle.sector.specs.SectorModel.{LeavesOnly};
     ghost use Rattle.engine.specs.Recovery.{HoldsMap, committed_map};
-    ghost use Rattle.engine.specs.Meaning.{StandsFor, Leads, IsReadOnly, response_to, device_of, failures_of, has_risen};
+    ghost use Rattle.engine.specs.Meaning.{StandsFor, Leads, IsReadOnly, IsLeftByCommit, response_to, device_of, failures_of, has_risen, is_stopped};
 
     /// Commits the session's transaction, and answers its commit number. Where it wrote something, one record is appended to the log; what
     /// it takes of memory is made before, so that nothing can fail once the record stands.
@@ -31,12 +31,16 @@ impl<D: Sectors> Engine<D> {
         ensures step { Leads self.old self.new s Commit (has_risen (failures_of self.old) (failures_of self.new)) (response_to (λ n. Number n) result) }
         ensures device { failures_of self.old ≤ failures_of self.new }
 
+        // A stopped store leaves the device alone, and so does each refusal but that of a store fault.
+        ensures still { is_stopped self.old ≡ true → device_of self.new ≡ device_of self.old }
+        ensures refused { IfErr result (λ e. e ≢ EngineFault.Refused Refusal.StoreFault → device_of self.new ≡ device_of self.old) }
+
         // Where nothing was written, the device is left alone.
         ensures read_only { (m : State) → StandsFor self.old m → IsReadOnly m s → device_of self.new ≡ device_of self.old }
 
-        // A crash at any moment of the call leaves the committed map of before it, or that with the transaction's writes.
-        ensures crash { D.keeps_model → (m : State) → StandsFor self.old m → m.stopped ≡ false → LeavesOnly D.moment D.left_since (device_of self.old) (device_of self.new)
-            (λ c. HoldsMap c (committed_map m) ⊎ HoldsMap c (committed_map (step m s Commit false).0)) }
+        // A crash at any moment of the call leaves the committed map of before it, or that with the transaction's writes; of a store that
+        // was stopped, what it could have left before.
+        ensures crash { D.keeps_model → (m : State) → StandsFor self.old m → LeavesOnly D.moment D.left_since (device_of self.old) (device_of self.new) (IsLeftByCommit self.old m s) }
 
         // Once a number was answered, a crash leaves the latter alone.
         ensures acknowledged { D.keeps_model → IfOk result (λ n. (m : State) → StandsFor self.new m → (c : List (List ℕ)) → D.may_leave (device_of self.new) c → HoldsMap c (committed_map m)) }

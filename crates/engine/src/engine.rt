@@ -16,9 +16,10 @@ pub(crate) const OPEN_MAX: usize = 64;
 /// A store, and an open transaction for some of its sessions.
 ///
 /// It is the machine of the model (`Machine.antt`): each call leads from every state that the engine stands for to the machine's next
-/// state, with the machine's response; where memory is refused, it leaves the states as they were. So each open transaction is
-/// answered by a private copy of the map committed at its begin, and a commit is refused where it would overwrite a concurrent one
-/// or make a pivot (Cahill, Röhm, Fekete 2008; Fekete et al. 2005).
+/// state, with the machine's response; where memory is refused, it leaves the states as they were, and it never answers so where the
+/// request is refused. So each open transaction is answered by a private copy of the map committed at its begin, and a commit is
+/// refused where it would overwrite a concurrent one or make a dangerous pivot (Cahill, Röhm, Fekete 2008; Fekete et al. 2005; Ports,
+/// Grittner 2012).
 #[derive(Drop)]
 pub struct Engine<D: Sectors> {
     pub(crate) log: Log<D>,
@@ -34,9 +35,10 @@ impl<D: Sectors> Engine<D> {
     ghost use Rattle.model.specs.Operations.Response.{Done, Pong, Refused};
     ghost use Rattle.model.specs.Machine.{State, IsReached, last, leave};
     ghost use Rattle.model.specs.Laws.{IsIsolated, IsSerializable};
-    ghost use Rattle.versions.specs.Meaning.{kept_of, IsTight};
+    ghost use Rattle.model.specs.Map.{Bytes};
+    ghost use Rattle.versions.specs.Meaning.{kept_of, needed_of, IsTight};
     ghost use Rattle.std.specs.List.{AllByRecursion};
-    ghost use Rattle.engine.specs.Recovery.{HoldsMap, committed_map};
+    ghost use Rattle.engine.specs.Recovery.{LeavesCommitted};
     ghost use Rattle.engine.specs.Meaning.{StandsFor, Leads, response_to, device_of, versions_of, records_of};
 
     /// Begins a transaction of the session, over the map that is committed now.
@@ -126,9 +128,10 @@ impl<D: Sectors> Engine<D> {
         machine_is_serializable();
     }
 
-    /// Does nothing: a crash of a store that isn't stopped leaves the map of all that has committed.
+    /// Does nothing: a crash leaves the map of all that has committed; of a store that is stopped, that or the one with the writes of the
+    /// COMMIT that was answered a store fault.
     pub fn is_stored(&self)
-        ensures { D.keeps_model → (m : State) → StandsFor self.now m → m.stopped ≡ false → (c : List (List ℕ)) → D.may_leave (device_of self.now) c → HoldsMap c (committed_map m) }
+        ensures { D.keeps_model → (m : State) → StandsFor self.now m → LeavesCommitted m (D.may_leave (device_of self.now)) }
     {}
 
     /// Drops what no open transaction needs: each version that is neither the newest of its key nor seen from the begin of an open
@@ -136,6 +139,7 @@ impl<D: Sectors> Engine<D> {
     pub fn reclaim(&mut self)
         ensures keeps { (m : State) → StandsFor self.old m → StandsFor self.new m }
         ensures versions { (m : State) → StandsFor self.old m → IsTight (map (λ e. e.1.begin) m.running) (versions_of self.new) }
+        ensures kept { (m : State) → StandsFor self.old m → (k : Bytes) → kept_of (versions_of self.new) k ≡ needed_of (map (λ e. e.1.begin) m.running) (versions_of self.old) k }
         ensures records { (m : State) → StandsFor self.old m → (n : ℕ) → n ≤ last m → AllByRecursion (λ e. n ≤ e.1.begin) m.running → All (λ r. n < r.commit) (records_of self.new) }
         ensures device { device_of self.new ≡ device_of self.old }
     {

@@ -1,8 +1,8 @@
 //! What has committed.
 ghost use Rattle.std.specs.Prelude.{◌≡◌, ℕ, ◌+◌, ◌-◌, ◌^◌, ◌<◌, ◌≤◌, ◌&&◌, Bool, true, List, [], ◌∷◌, ◌++◌, All, IfOk, OnOk, max};
-ghost use Rattle.model.specs.Map.{KeyMap};
+ghost use Rattle.model.specs.Map.{Bytes, KeyMap};
 ghost use Rattle.model.specs.History.{Record};
-ghost use Rattle.versions.specs.Meaning.{is_among, IsTight};
+ghost use Rattle.versions.specs.Meaning.{is_among, IsTight, kept_of, needed_of};
 ghost use Rattle.pivot_check.specs.Kept.{IsInReach};
 ghost use Rattle.pivot_check.specs.StandsFor.{IsRecordOf, IsClear};
 ghost use Rattle.engine.specs.HistoryValue.{HistoryStandsFor, IsSameHistory, IsReady};
@@ -94,6 +94,7 @@ impl History {
         ensures last { self.new.committed.facts.last ≡ self.old.committed.facts.last }
         ensures oldest { self.new.committed.facts.oldest ≡ max self.old.committed.facts.oldest oldest }
         ensures tight { IsTight begins.now self.new.versions }
+        ensures kept { (k : Bytes) → kept_of self.new.versions k ≡ needed_of begins.now self.old.versions k }
         ensures forgotten { (held : ℕ → Bool) (base : KeyMap) (history : List Record) → HistoryStandsFor self.old held base history → All (λ r. oldest < r.commit) self.new.committed.facts.records }
     {
         self.versions.reclaim(begins);

@@ -7,9 +7,10 @@ use std::alloc::Global;
 use std::collections::BTreeMap;
 
 impl<D: Sectors> Engine<D> {
-    ghost use Rattle.std.specs.Prelude.{◌≡◌, ◌⊎◌, ◌+◌, ℕ, List, [], false, length, IfOk, IfErr, IsErrAnd, MatchResult};
+    ghost use Rattle.std.specs.Prelude.{◌≡◌, ◌⊎◌, ◌<◌, ◌+◌, ℕ, List, [], false, length, IfOk, IfErr, IsErrAnd, MatchResult};
     ghost use Rattle.model.specs.Map.{KeyMap, KeyWrite};
     ghost use Rattle.model.specs.Machine.{State, opened};
+    ghost use Rattle.sector.specs.Failures.{Rose, Stayed};
     ghost use Rattle.sector.specs.SectorModel.{LeavesOnly};
     ghost use Rattle.commit_log.specs.LogImage.{IsLogImage, IsDamaged, IsNoLog, span};
     ghost use Rattle.commit_log.specs.LogFaults.{IsDeviceOrMemory, IsOpenFault};
@@ -25,8 +26,12 @@ impl<D: Sectors> Engine<D> {
         ensures opens { IfOk result (λ e. (base : KeyMap) × (used : ℕ) × StandsFor e (opened base used (D.size dev))) }
         ensures idle { IfOk result (λ e. (m : State) → StandsFor e m → m.running ≡ []) }
         ensures running { IfOk result (λ e. is_stopped e ≡ false) }
-        ensures failures { IfOk result (λ e. failures_of e ≡ D.failures dev) }
+        ensures failures { IfOk result (λ e. Stayed (D.failures dev) (failures_of e)) }
         ensures faults { IfErr result IsOpenFault }
+
+        // `Device` is told only where a call has failed: the device then counts more failures.
+        ensures cause { IfErr result (λ e. e ≡ LogFault.Device → (after : D) × Rose (D.failures dev) (D.failures after)) }
+        ensures short { D.size dev < 2 → IsErrAnd result (λ e. (e ≡ LogFault.NotALog) ⊎ (e ≡ LogFault.Device)) }
 
         // A log is opened with the map that its write sets make.
         ensures found { D.keeps_model → (disk : List (List ℕ)) (lists : List (List KeyWrite)) → length disk ≡ D.size dev → ReadsAs (D.may_read dev) disk

@@ -13,7 +13,8 @@ impl<D: Sectors> Engine<D> {
     ghost use Rattle.model.specs.Operations.Response.{Value, Pairs};
     ghost use Rattle.snapshot.specs.RowPairs.{row_pairs};
     ghost use Rattle.model.specs.Machine.{State, Running, running_of};
-    ghost use Rattle.engine.specs.Meaning.{StandsFor, Leads, response_to_read, device_of, IsKnownKey, IsKnownRange};
+    ghost use Rattle.engine.specs.Meaning.{StandsFor, Leads, response_to_read, copy_in, device_of, IsKnownKey};
+    ghost use Rattle.snapshot.specs.Made.{IsKnownRange};
     ghost use Rattle.engine.specs.contracts.engine.Engine.{the_row};
 
     /// Lends what the session's private copy has at the key, and `None` where it has nothing. The key is marked as read, unless the
@@ -37,14 +38,14 @@ impl<D: Sectors> Engine<D> {
         }
     }
 
-    /// Lends the first pairs of a range in the session's private copy, by rising key, at most `limit`, from 1 to 128. The range is marked as
-    /// read, unless it is empty.
+    /// Lends the first pairs of a range in the session's private copy, by rising key, at most `limit`, from 1 to 128. Where they are as many
+    /// as the limit, the keys from `lo` to the last of them are marked as read, both included; else the whole range is, unless it is empty.
     ///
-    /// Refusals: `NotOpen`; `FullMarks` for a 257th mark. It may take copies of the bounds and room for a mark; `Memory` where that is
-    /// refused, never for a range that is empty or marked.
+    /// Refusals: `NotOpen`; `FullMarks` for a 257th mark. It may take copies of two keys and room for a mark; `Memory` where that is
+    /// refused, never for a range that is empty or whose reply asks for a mark that is there.
     pub fn range(&mut self, s: u64, range: RangeRef<'_>, limit: u8) -> Result<Rows<'_>, ReadFault>
         requires { (1 ≤ limit) × (limit ≤ 128) }
-        ensures known { (m : State) → StandsFor self.old m → (t : Running) → running_of m s ≡ Some t → IsKnownRange m t range.entry.lo.bytes.now (option_map (λ k. k.bytes.now) range.entry.hi) → IsOk result }
+        ensures known { (m : State) → StandsFor self.old m → (t : Running) → running_of m s ≡ Some t → IsKnownRange (copy_in m t) range.entry.lo.bytes.now (option_map (λ k. k.bytes.now) range.entry.hi) limit → IsOk result }
         ensures* after { sem 𝓛 (Rests (the_row D.row D.Sectors) self.entry (λ new.
             Leads self.old new s (Range range.entry.lo.bytes.now (option_map (λ k. k.bytes.now) range.entry.hi) limit) false (response_to_read (λ rows. Pairs (row_pairs rows)) result)
             × (device_of new ≡ device_of self.old))) }

@@ -5,7 +5,7 @@ ghost use Rattle.sector.specs.SectorModel.{LeavesOnly};
 ghost use Rattle.write_buffer.specs.Buffered.{AreEntries};
 ghost use Rattle.commit_log.specs.LogState.{is_stopped, used_sectors, sector_count, device_of};
 ghost use Rattle.engine.specs.Changes.{HasLogRoom, IsLogged, IsLogStopped};
-ghost use Rattle.engine.specs.Recovery.{HoldsMap, IsStored};
+ghost use Rattle.engine.specs.Recovery.{HoldsMap, IsStored, IsInDoubt};
 
 use commit_log::{Log, LogFault, payload_len};
 use model::Write;
@@ -45,6 +45,7 @@ pub(crate) fn store<D: Sectors>(
     ensures stored { D.keeps_model → (map : KeyMap) → IsStored log.old map → OnOk result (IsStored log.new (after_writes map writes.now)) }
     ensures unchanged { IsErrOf result StoreFault.Memory → log.new ≡ log.old }
     ensures stopped { IsErrOf result StoreFault.Device → IsLogStopped log.old log.new writes.now }
+    ensures left { IsErrOf result StoreFault.Device → D.keeps_model → (map : KeyMap) → IsStored log.old map → IsInDoubt map (D.may_leave (device_of log.new)) }
     ensures crash { D.keeps_model → (map : KeyMap) → IsStored log.old map → LeavesOnly D.moment D.left_since (device_of log.old) (device_of log.new) (λ c. HoldsMap c map ⊎ HoldsMap c (after_writes map writes.now)) }
 {
     if writes.is_empty() {

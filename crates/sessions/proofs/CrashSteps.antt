@@ -1,24 +1,21 @@
 -- From the crashes of a request to those of an event.
-use Rattle.std.proofs.Common.{◌≡◌, ℕ, false, List, inl, inr, sym, subst, ◌∙◌, arith}
+use Rattle.std.proofs.Common.{◌≡◌, ℕ, Bool, true, false, List, inl, inr, refl, sym, subst, ◌∙◌, arith}
 use Rattle.std.specs.Prelude.{◌⊎◌}
 use Rattle.sector.specs.declared.device.Sectors.{Ghosts}
 use Rattle.sector.specs.SectorModel.{LeavesOnly}
 use Rattle.model.specs.Map.{Bytes}
-use Rattle.model.specs.Operations.Operation.{Commit}
-use Rattle.model.specs.Machine.{step}
 use Rattle.engine.specs.declared.engine.Engine.{Engine}
-use Rattle.engine.specs.Meaning.{device_of}
-use Rattle.engine.specs.Recovery.{HoldsMap, committed_map}
+use Rattle.engine.specs.Meaning.{device_of, IsLeftByCommit}
 use Rattle.sessions.specs.declared.hub.Hub.{Hub}
-use Rattle.sessions.specs.Crashes.{SurvivesCommit, SurvivesRequest, SurvivesFront, SurvivesEvent, SurvivesCrash, ServesCommit, Commits, HoldsBeforeOrAfter, IsStored}
+use Rattle.sessions.specs.Crashes.{SurvivesCommit, SurvivesRequest, SurvivesFront, SurvivesEvent, SurvivesCrash, ServesCommit, Commits, IsLeftByEvent, IsStored}
 use Rattle.sessions.specs.SessionStreams.{HubEvent, Whole, IsFront, asks}
 use Rattle.sessions.specs.StandsFor.{device}
 use Rattle.sessions.proofs.EventSteps.{stream-some}
 
 -- a call that leaves the device alone may follow
 pub survives_after : {D : Type 0} {g : Ghosts D} (old mid new : Engine D g) (s : ℕ) → device_of new ≡ device_of mid → SurvivesCommit old mid s → SurvivesCommit old new s
-survives_after {D} {g} old mid new s same crash keeps m h runs =
-    subst (λ (d : D). LeavesOnly g.moment g.left_since (device_of old) d (λ c. HoldsMap c (committed_map m) ⊎ HoldsMap c (committed_map (step m s Commit false).0))) (sym same) (crash keeps m h runs)
+survives_after {D} {g} old mid new s same crash keeps m h =
+    subst (λ (d : D). LeavesOnly g.moment g.left_since (device_of old) d (IsLeftByCommit old m s)) (sym same) (crash keeps m h)
 
 module _ {D : Type 0} {g : Ghosts D} (old mid new : Engine D g) (s : ℕ) (inbox : Bytes) (same : device_of new ≡ device_of mid) where
   -- a request at the front of the inbox, and then calls that don't reach the device
@@ -28,19 +25,26 @@ module _ {D : Type 0} {g : Ghosts D} (old mid new : Engine D g) (s : ℕ) (inbox
 
 module _ {D : Type 0} {g : Ghosts D} (old new : Hub D g) (e : HubEvent) (only_now : g.keeps_model → (d : D) (c : List (List ℕ)) → g.left_since d (g.moment d) c → g.may_leave d c) where
   pub survives : IsStored old → SurvivesEvent old new e → SurvivesCrash old new e
-  survives stored (inl same) keeps h stands up =
-      let P : D → Type 0 = λ d. LeavesOnly g.moment g.left_since (device old) d (HoldsBeforeOrAfter h e) in
+  survives stored (inl same) keeps h stands =
+      let P : D → Type 0 = λ d. LeavesOnly g.moment g.left_since (device old) d (IsLeftByEvent old h e) in
       subst P (sym same) (record {
         later = omega arith;
-        each = λ c left. inl (stored keeps h stands up c (only_now keeps (device old) c left));
+        each = λ c left. by h.machine.stopped refl c (only_now keeps (device old) c left);
         before = λ t c le left. inl left;
       })
-  survives stored (inr x) keeps h stands up =
+    where
+      by : (b : Bool) → h.machine.stopped ≡ b → (c : List (List ℕ)) → g.may_leave (device old) c → IsLeftByEvent old h e c
+      by true stop c left = inr (stop, left)
+      by false up c left = inl (up, inl ((stored keeps h stands).running up c left))
+  survives stored (inr x) keeps h stands =
       let f = stream-some old h stands x.0 x.1 x.3 in
       let commits : Commits h e x.0 = record { is = x.2; stream = f.stream; present = f.is; serves = subst ServesCommit (sym f.now) x.4 } in
-      let run = x.5 keeps h.machine stands.engine up in
-      let either : (c : List (List ℕ)) → HoldsMap c (committed_map h.machine) ⊎ HoldsMap c (committed_map (step h.machine x.0 Commit false).0) → HoldsBeforeOrAfter h e c =
-      λ c y. elim y [ inl before ↦ inl before | inr after ↦ inr (x.0, commits, after) ] in
+      let run = x.5 keeps h.machine stands.engine in
+      let either : (c : List (List ℕ)) → IsLeftByCommit old.engine h.machine x.0 c → IsLeftByEvent old h e c =
+      λ c y. elim y [
+        | inl z ↦ elim z.1 [ inl before ↦ inl (z.0, inl before) | inr after ↦ inl (z.0, inr (x.0, commits, after)) ]
+        | inr z ↦ inr z
+      ] in
       record {
         later = run.later;
         each = λ c left. either c (run.each c left);

@@ -14,7 +14,7 @@ use Rattle.engine.specs.Meaning.{StandsFor as EngineStandsFor}
 use Rattle.sessions.specs.declared.events.Outcome.{Outcome}
 use Rattle.sessions.specs.declared.events.Outcome.TheVariants.{Done, Unknown, Crowded, Idle, NoRoom, BadCount, Memory}
 use Rattle.sessions.specs.declared.hub.Hub.{Hub}
-use Rattle.sessions.specs.SessionStreams.{HubState, SessionState, SessionStream, HubEvent, Joins, Receives, Serves, Sends, Leaves, More, Choice, Effect, IsPossible, hub_step, stream_of, with_stream, with_effect, new_stream, room, is_open, is_above, may_serve, serve, IsServed, IsReachedHub, Continued}
+use Rattle.sessions.specs.SessionStreams.{HubState, SessionState, SessionStream, HubEvent, Joins, Receives, Serves, Sends, Leaves, More, Choice, Effect, IsPossible, hub_step, stream_of, with_stream, with_effect, new_stream, room, is_open, is_above, serve, IsReachedHub, Continued}
 use Rattle.sessions.specs.Calls.{HasEffect, ServesSession, chosen, has_failed}
 use Rattle.sessions.specs.StandsFor.{StandsFor, Reaches, HubLeads, at_hand}
 
@@ -225,13 +225,11 @@ module _ {D : Type 0} {g : Ghosts D} (old new : Hub D g) (s : ℕ) (before after
       leads h stands =
           let f = stream-some old h stands s before found in
           let E : SessionState → Type 0 = λ n. HasEffect old.engine new.engine s c h.machine n after outcome in
-          let effects = subst E (sym f.now) (x.2 h.machine stands.engine) in
-          let F : SessionState → Type 0 = λ n. IsTrue (may_serve n) → IsServed n.inbox c in
-          let front = subst F (sym f.now) x.1 in
+          let effects = subst E (sym f.now) (x.1 h.machine stands.engine) in
           let effect : Effect = serve c h.machine s f.stream.now in
           let later : SessionStream = record f.stream { now = effect.now; served = f.stream.served ++ effect.served; replies = f.stream.replies ++ effect.replies } in
           let there : HubState = record (with_stream h s later) { machine = effect.machine } in
-          reaches old new h stands (Serves s) c outcome there (rw f.is front) (serve-done h s c f.stream f.is ∙ ap (λ o. (there, o)) (sym effects.outcome_is))
+          reaches old new h stands (Serves s) c outcome there (rw f.is effects.possible) (serve-done h s c f.stream f.is ∙ ap (λ o. (there, o)) (sym effects.outcome_is))
           effects.engine (set_is old h stands s new.sessions.entries after later sessions effects.session) (latest ∙ stands.latest)
 
 module _ {D : Type 0} {g : Ghosts D} (old new : Hub D g) (s : ℕ) where

@@ -5,6 +5,7 @@ pub mod StreamLaws
 pub mod OpenTransactions
 pub mod CrashSteps
 pub mod RunLaws
+pub mod LifeLaws
 pub mod PrivateReplies
 pub mod HubEvents
 pub mod PiecesOfStreams

@@ -14,7 +14,8 @@ use Rattle.model.specs.Machine.{State, Running, step, step_of, leave, running_of
 use Rattle.model.specs.ReplyText.{reply_text}
 use Rattle.engine.specs.declared.engine.Engine.{Engine}
 use Rattle.engine.specs.Meaning.{StandsFor}
-use Rattle.engine.specs.Meaning.{Leads}
+use Rattle.engine.specs.Meaning.{Leads, StandsForSame, IsNotRefused}
+use Rattle.snapshot.specs.Made.{is_refused}
 use Rattle.engine.specs.Meaning.{response_to, response_to_read}
 use Rattle.engine.specs.declared.faults.EngineFault.{EngineFault}
 use Rattle.engine.specs.declared.faults.EngineFault.TheVariants.{Refused as RefusedFor, Memory as OutOfMemory}
@@ -125,7 +126,7 @@ module _ {D : Type 0} {g : Ghosts D} (old new : Engine D g) (s : ℕ) (q : Opera
   executes_from (Some response) after (Ok done) takes leads said = λ m h. let x = leads m h in (x.0, said ∙ ap reply_text (sym x.1))
   executes_from (Some response) after (Err refused) takes leads said = absurd said
   executes_from None after (Ok done) takes leads said = absurd said
-  executes_from None after (Err refused) takes leads said = (takes, λ m h. (m, (leads m).0 h, refl), said)
+  executes_from None after (Err refused) takes leads said = (takes, λ m h. (m, (leads.0 m).0 h, refl), said, leads.1)
 
   -- the same of a call that takes no memory
   pub executes_always : (response : Response) (after : Bytes) (r : Result (Unit {0}) Memory) → Leads old new s q b (Some response) → Writes (Some response) after r → Executes old new s q b after r
@@ -149,12 +150,12 @@ leads_kept old mid new s q b response leads keeps = λ m h. let x = leads m h in
 
 module _ {D : Type 0} {g : Ghosts D} (old new : Engine D g) (s : ℕ) (q : Operation) where
   -- a read whose response may be too long
-  pub executes_read : (response : Response) (before after : Vec ℕ Global) (r : Result (Unit {0}) Memory) → IsRead q → Leads old new s q false (Some response) → before.items ≡ []
+  pub executes_read : (response : Response) (before after : Vec ℕ Global) (r : Result (Unit {0}) Memory) → IsRead q → Leads old new s q false (Some response) → is_refused response ≡ false → before.items ≡ []
       → OnOk r (after.items ≡ before.items ++ reply_text response) → OnErr r (after.items ≡ before.items) → Executes old new s q false after.items r
-  executes_read response before after (Ok done) read leads empty ok err =
+  executes_read response before after (Ok done) read leads plain empty ok err =
       λ m h. let x = leads m h in (x.0, ok ∙ ap (λ xs. xs ++ reply_text response) empty ∙ ap reply_text (sym x.1))
-  executes_read response before after (Err refused) read leads empty ok err =
-      (read_takes q read, λ m h. ((step m s q false).0, (leads m h).0, leave-read m s q read), err ∙ empty)
+  executes_read response before after (Err refused) read leads plain empty ok err =
+      (read_takes q read, λ m h. ((step m s q false).0, (leads m h).0, leave-read m s q read), err ∙ empty, λ m h. ap is_refused (leads m h).1 ∙ plain)
 
 -- a read's refusal doesn't depend on what it reads
 same_refusal : {T : Type 0} (f : T → Response) (fault : ReadFault) → response_to_read f (Err fault) ≡ refusal_to_read fault
@@ -168,10 +169,10 @@ pub executes_refused : {T D : Type 0} {g : Ghosts D} (old new : Engine D g) (s :
 executes_refused old new s q f result fault after r read is leads said =
     executes_from old new s q false (refusal_to_read fault) after r (read_takes q read) (subst (λ o. Leads old new s q false o) (ap (response_to_read f) is ∙ same_refusal f fault) leads) said
 
--- a call that was refused memory changes nothing
+-- a call that was refused memory changes nothing, and isn't refused
 pub memory_same : {T D : Type 0} {g : Ghosts D} (old new : Engine D g) (s : ℕ) (q : Operation) (b : Bool) (f : T → Response) (result : Result T EngineFault)
-    → result ≡ Err OutOfMemory → Leads old new s q b (response_to f result) → (m : State) → StandsFor old m → StandsFor new m
-memory_same old new s q b f result is leads m = (subst (λ o. Leads old new s q b o) (ap (response_to f) is) leads m).0
+    → result ≡ Err OutOfMemory → Leads old new s q b (response_to f result) → StandsForSame old new × IsNotRefused old s q
+memory_same old new s q b f result is leads = subst (λ o. Leads old new s q b o) (ap (response_to f) is) leads
 
 -- a call that takes no memory, and a reclamation after it
 pub executes_ended : {D : Type 0} {g : Ghosts D} (old mid new : Engine D g) (s : ℕ) (q : Operation) (answer : Result (Unit {0}) EngineFault) (after : Bytes) (r : Result (Unit {0}) Memory)

@@ -18,6 +18,7 @@ use Rattle.sessions.specs.declared.events.Outcome.{Outcome}
 use Rattle.sessions.specs.SessionStreams.{HubState, SessionStream, HubEvent, Joins, Receives, Serves, Sends, Leaves, Front, Whole, More, Bad, Choice, Effect, IsPossible, IsServePossible, ArePossible, hub_step, run, stream_of, with_effect, may_serve, serve_session, serve_front, served_with, asks, IsReachedHub, Continued}
 use Rattle.sessions.specs.StandsFor.{StandsFor, Reaches}
 use Rattle.sessions.specs.Laws.{Runs, IsLawful, failures_in}
+use Rattle.sessions.specs.Life.{Survives}
 use Rattle.sessions.proofs.OpenTransactions.{always}
 use Rattle.sessions.proofs.StreamLaws.{machine_reached, are_streams, Moved, Rests, Lets, Steps, moved, by_if}
 
@@ -133,7 +134,7 @@ possible-flag h (Joins s) c b n = tt
 possible-flag h (Receives s piece) c b n = tt
 possible-flag h (Sends s k) c b n = tt
 possible-flag h (Leaves s) c b n = tt
-possible-flag h (Serves s) c b n = elim (stream_of h s) as (λ o. IsServePossible o c → IsServePossible o (flag c b)) [ None ↦ λ x. x | Some st ↦ λ x. x ] n
+possible-flag h (Serves s) c b n = elim (stream_of h s) as (λ o. IsServePossible h.machine s o c → IsServePossible h.machine s o (flag c b)) [ None ↦ λ x. x | Some st ↦ λ x. x ] n
 
 -- ---- one more event
 
@@ -183,8 +184,8 @@ lawful_run law h (e ∷ es) reached possible zero = lawful_at law h reached
 lawful_run law h (e ∷ es) reached possible (suc n) = lawful_run law (hub_step h e.0 e.1).0 es (Continued h e.0 e.1 possible.0 reached) possible.1 n
 
 -- before the first event
-pub no_events : {D : Type 0} {g : Ghosts D} (hub : Hub D g) (h : HubState) (risen : Bool) → MachineLaw → StandsFor hub h → Runs hub h [] risen
-no_events hub h risen law stands = record {
+pub no_events : {D : Type 0} {g : Ghosts D} (hub : Hub D g) (h : HubState) (risen : Bool) → MachineLaw → StandsFor hub h → (g.keeps_model → Survives hub hub h []) → Runs hub hub h [] risen
+no_events hub h risen law stands survives = record {
   choices = [];
   are = refl;
   possible = tt;
@@ -193,10 +194,12 @@ no_events hub h risen law stands = record {
   risen_then = λ some. absurd (omega (arith, some));
   stands = stands;
   lawful = lawful_run law h [] stands.reached tt;
+  survives = survives;
 }
 
-module _ {D : Type 0} {g : Ghosts D} (mid new : Hub D g) (h : HubState) (hs : List HubEvent) (e : HubEvent) (outcome : Outcome) (a b c : ℕ) (ab : a ≤ b) (bc : b ≤ c)
-    (law : MachineLaw) (reached : IsReachedHub h) (so_far : Runs mid h hs (has_risen a b)) (choice : Choice) (told : choice.failed ≡ has_risen b c) where
+module _ {D : Type 0} {g : Ghosts D} (old mid new : Hub D g) (h : HubState) (hs : List HubEvent) (e : HubEvent) (outcome : Outcome) (a b c : ℕ) (ab : a ≤ b) (bc : b ≤ c)
+    (law : MachineLaw) (reached : IsReachedHub h) (so_far : Runs old mid h hs (has_risen a b)) (choice : Choice) (told : choice.failed ≡ has_risen b c)
+    (more : (n : Choice) → StandsFor new (hub_step (run h so_far.choices) e n).0 → g.keeps_model → Survives old new h (so_far.choices ++ (e, n) ∷ [])) where
   abbrev there : HubState
   there = run h so_far.choices
 
@@ -205,13 +208,13 @@ module _ {D : Type 0} {g : Ghosts D} (mid new : Hub D g) (h : HubState) (hs : Li
 
   -- one more event, under a choice in which the device fails only where the store stops
   push : (n : Choice) → IsPossible there e n → StandsFor new (hub_step there e n).0 → (n.failed ≡ true → (has_risen b c ≡ true) × (there.machine.stopped ≡ false) × ((hub_step there e n).0.machine.stopped ≡ true)) →
-      Runs new h (hs ++ e ∷ []) (has_risen a c)
+      Runs old new h (hs ++ e ∷ []) (has_risen a c)
   push n possible stands fails = by_flag n.failed refl
     where
       are : map (λ x. x.0) (pushed n) ≡ hs ++ e ∷ []
       are = map-append (λ (x : HubEvent × Choice). x.0) so_far.choices ((e, n) ∷ []) ∙ ap (λ xs. xs ++ e ∷ []) so_far.are
 
-      by_flag : (f : Bool) → n.failed ≡ f → Runs new h (hs ++ e ∷ []) (has_risen a c)
+      by_flag : (f : Bool) → n.failed ≡ f → Runs old new h (hs ++ e ∷ []) (has_risen a c)
       by_flag false is =
           let count : failures_in (pushed n) ≡ failures_in so_far.choices = failures-push so_far.choices e n ∙ ap (λ x. failures_in so_far.choices + (if x then 1 else 0)) is ∙ (let z : failures_in so_far.choices + 0 ≡ failures_in so_far.choices = omega arith in z) in
           record {
@@ -223,6 +226,7 @@ module _ {D : Type 0} {g : Ghosts D} (mid new : Hub D g) (h : HubState) (hs : Li
             risen_then = λ some. risen-later a b c ab bc (so_far.risen_then (omega (arith, count, some)));
             stands = subst (StandsFor new) (sym (run-push h so_far.choices e n)) stands;
             lawful = lawful_run law h (pushed n) reached (possible-push h so_far.choices e n so_far.possible possible);
+            survives = more n stands;
           }
       by_flag true is =
           let x = fails is in
@@ -237,12 +241,13 @@ module _ {D : Type 0} {g : Ghosts D} (mid new : Hub D g) (h : HubState) (hs : Li
             risen_then = λ some. risen-last a b c ab bc x.0;
             stands = subst (StandsFor new) (sym (run-push h so_far.choices e n)) stands;
             lawful = lawful_run law h (pushed n) reached (possible-push h so_far.choices e n so_far.possible possible);
+            survives = more n stands;
           }
 
-  pub one_more : Reaches new there e choice outcome → Runs new h (hs ++ e ∷ []) (has_risen a c)
+  pub one_more : Reaches new there e choice outcome → Runs old new h (hs ++ e ∷ []) (has_risen a c)
   one_more reaches = by_flag choice.failed refl
     where
-      by_flag : (f : Bool) → choice.failed ≡ f → Runs new h (hs ++ e ∷ []) (has_risen a c)
+      by_flag : (f : Bool) → choice.failed ≡ f → Runs old new h (hs ++ e ∷ []) (has_risen a c)
       by_flag false is = push choice reaches.possible reaches.stands (λ up. (let bad : false ≡ true = sym is ∙ up in absurd (cc)))
       by_flag true is =
           let same = choice_is choice true is in

@@ -7,11 +7,11 @@ use Rattle.model.specs.Map.{Bytes}
 use Rattle.model.specs.Machine.{State, step}
 use Rattle.model.specs.ReplyText.{reply_text}
 use Rattle.engine.specs.declared.engine.Engine.{Engine}
-use Rattle.engine.specs.Meaning.{StandsFor}
+use Rattle.engine.specs.Meaning.{StandsFor, IsNotRefused}
 use Rattle.sessions.specs.declared.events.Status.TheVariants.{Absent, Open, Ending, Refused}
 use Rattle.sessions.specs.declared.events.Outcome.{Outcome}
 use Rattle.sessions.specs.declared.events.Outcome.TheVariants.{Done as OfDone, Idle as OfIdle, Memory as OutOfMemory}
-use Rattle.sessions.specs.SessionStreams.{SessionState, Choice, Effect, Whole, More, Bad, is_open, IsFront, asks, takes_memory, bad_frame, serve, serve_front, no_effect, may_serve}
+use Rattle.sessions.specs.SessionStreams.{SessionState, Choice, IsServed, Effect, Whole, More, Bad, is_open, IsFront, asks, takes_memory, bad_frame, serve, serve_front, no_effect, may_serve}
 use Rattle.sessions.specs.Calls.{LeavesSame, Aborts, HasEffect, ServesSession, has_failed}
 
 pub aborts_left : {D : Type 0} {g : Ghosts D} (old mid new : Engine D g) (s : ℕ) → LeavesSame old mid s → Aborts mid new s → Aborts old new s
@@ -47,12 +47,12 @@ module _ {D : Type 0} {g : Ghosts D} (old new : Engine D g) (s : ℕ) (before af
   effect_is : (c : Choice) (m : State) → serve c m s before ≡ serve_front c.front c m s before
   effect_is c m = ap (λ b. if b then serve_front c.front c m s before else no_effect m before) may
 
-  effects : (c : Choice) (m : State) (outcome : Outcome) → StandsFor new (serve_front c.front c m s before).machine → after ≡ (serve_front c.front c m s before).now → outcome ≡ (serve_front c.front c m s before).outcome
+  effects : (c : Choice) (m : State) (outcome : Outcome) → IsServed m s before.inbox c → StandsFor new (serve_front c.front c m s before).machine → after ≡ (serve_front c.front c m s before).now → outcome ≡ (serve_front c.front c m s before).outcome
       → HasEffect old new s c m before after outcome
-  effects c m outcome stands now is =
+  effects c m outcome front stands now is =
       let P : Effect → Type 0 = λ e. StandsFor new e.machine × (after ≡ e.now) × (outcome ≡ e.outcome) in
       let all = subst P (sym (effect_is c m)) (stands, now, is) in
-      record { engine = all.0; session = all.1; outcome_is = all.2 }
+      record { possible = λ _. front; engine = all.0; session = all.1; outcome_is = all.2 }
 
   standing : (n : SessionState) → after.inbox ≡ n.inbox → after.pending ≡ n.pending → after.status ≡ n.status → after ≡ n
   standing n inbox pending status = λ i. record { inbox = inbox i; pending = pending i; status = status i }
@@ -63,21 +63,19 @@ module _ {D : Type 0} {g : Ghosts D} (old new : Engine D g) (s : ℕ) (before af
         → after.inbox ≡ drop used before.inbox → after.status ≡ before.status → ServesSession old new s before after OfDone
     whole parts used front steps inbox status = (
       Whole parts used,
-      λ _. (front, λ wrong. absurd (cc)),
-      λ m h. (let x = steps m h in effects _ m OfDone x.0 (standing _ inbox (pending ∙ x.1) (status ∙ is_open_there before may)) refl),
+      λ m h. (let x = steps m h in effects _ m OfDone (front, λ wrong. absurd (cc)) x.0 (standing _ inbox (pending ∙ x.1) (status ∙ is_open_there before may)) refl),
     )
 
     pub more : IsFront before.inbox More → new ≡ old → out ≡ [] → after.inbox ≡ before.inbox → after.status ≡ before.status → ServesSession old new s before after OfIdle
     more front same none inbox status = (
       More,
-      λ _. (front, λ wrong. absurd (cc)),
-      λ m h. effects _ m OfIdle (subst (λ (x : Engine D g). StandsFor x m) (sym same) h) (standing _ inbox (pending ∙ none ∙ sym (nothing_pending (is_open before.status) before.pending may)) status) refl,
+      λ m h. effects _ m OfIdle (front, λ wrong. absurd (cc)) (subst (λ (x : Engine D g). StandsFor x m) (sym same) h) (standing _ inbox (pending ∙ none ∙ sym (nothing_pending (is_open before.status) before.pending may)) status) refl,
     )
 
     pub bad : IsFront before.inbox Bad → Aborts old new s → after.inbox ≡ [] → out ≡ reply_text bad_frame → after.status ≡ Ending → ServesSession old new s before after OfDone
-    bad front a inbox text status = (Bad, λ _. (front, λ wrong. absurd (cc)), λ m h. effects _ m OfDone (a m h) (standing _ inbox (pending ∙ text) status) refl)
+    bad front a inbox text status = (Bad, λ m h. effects _ m OfDone (front, λ wrong. absurd (cc)) (a m h) (standing _ inbox (pending ∙ text) status) refl)
 
-    pub refused_memory : (parts : List Bytes) (used : ℕ) → IsFront before.inbox (Whole parts used) → IsTrue (takes_memory (asks parts)) → Aborts old new s → after.inbox ≡ [] → out ≡ [] → after.status ≡ Refused
+    pub refused_memory : (parts : List Bytes) (used : ℕ) → IsFront before.inbox (Whole parts used) → IsTrue (takes_memory (asks parts)) → Aborts old new s → after.inbox ≡ [] → out ≡ [] → IsNotRefused old s (asks parts) → after.status ≡ Refused
         → ServesSession old new s before after OutOfMemory
-    refused_memory parts used front takes a inbox none status =
-        (Whole parts used, λ _. (front, λ _. takes), λ m h. effects _ m OutOfMemory (a m h) (standing _ inbox (pending ∙ none) status) refl)
+    refused_memory parts used front takes a inbox none due status =
+        (Whole parts used, λ m h. effects _ m OutOfMemory (front, λ _. (takes, due m h)) (a m h) (standing _ inbox (pending ∙ none) status) refl)

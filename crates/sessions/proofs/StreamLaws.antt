@@ -203,7 +203,7 @@ module _ (st : SessionStream) (h : IsSessionStream st) (c : Choice) (m : State) 
     found More front = idle
     found Bad front = breaking
 
-  pub serving : (IsTrue (may_serve st.now) → IsServed st.now.inbox c) → IsSessionStream (after_effect st (serve c m s st.now))
+  pub serving : (IsTrue (may_serve st.now) → IsServed m s st.now.inbox c) → IsSessionStream (after_effect st (serve c m s st.now))
   serving possible = elim (may_serve st.now) as (λ b. may_serve st.now ≡ b → IsSessionStream (after_effect st (if b then serve_front c.front c m s st.now else no_effect m st.now))) [
     | true ↦ λ may. found may c.front (possible may).0
     | false ↦ λ _. idle
@@ -224,7 +224,7 @@ streams_step h (Receives s piece) c possible a = brought (stream_of h s) refl
         by_if P (not (is_open st.now.status)) _ _ a (by_if P (nat_lt (room st.now) (length piece)) _ _ a (record { present = all-set (is_at (nat_cmp s)) h.present _ a.present (brought_more st piece old); gone = a.gone }))
 streams_step h (Serves s) c possible a = answered (stream_of h s) refl possible
   where
-    answered : (o : Option SessionStream) → stream_of h s ≡ o → IsServePossible o c → AreStreams (serve_session o h s c).0
+    answered : (o : Option SessionStream) → stream_of h s ≡ o → IsServePossible h.machine s o c → AreStreams (serve_session o h s c).0
     answered None e n = a
     answered (Some st) e n =
         let old = all-lookup (is_at (nat_cmp s)) h.present st a.present e in

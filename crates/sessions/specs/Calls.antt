@@ -8,7 +8,7 @@ use Rattle.model.specs.Operations.Response.{Done}
 use Rattle.model.specs.Machine.{State, step, leave}
 use Rattle.model.specs.ReplyText.{reply_text}
 use Rattle.engine.specs.declared.engine.Engine.{Engine}
-use Rattle.engine.specs.Meaning.{StandsFor}
+use Rattle.engine.specs.Meaning.{StandsFor, IsNotRefused}
 use Rattle.engine.specs.declared.faults.ReadFault.{ReadFault}
 use Rattle.engine.specs.Meaning.{failures_of, has_risen, response_to_read}
 use Rattle.sessions.specs.declared.buffer.Buffer.{Buffer}
@@ -41,12 +41,12 @@ refusal_to_read fault = response_to_read (λ (u : Unit {0}). Done) (Err fault)
 abbrev pub LeavesSame : {D : Type 0} {g : Ghosts D} → Engine D g → Engine D g → ℕ → Type 0
 LeavesSame old new s = (m : State) → StandsFor old m → (left : State) × StandsFor new left × (leave left s ≡ leave m s)
 
--- the request was executed and its response written to an empty output; where memory was refused nothing was, and the
--- transaction is still to be aborted
+-- the request was executed and its response written to an empty output; where memory was refused, though the request isn't, nothing
+-- was written, and the transaction is still to be aborted
 abbrev pub Executes : {D : Type 0} {g : Ghosts D} → Engine D g → Engine D g → ℕ → Operation → Bool → Bytes → Result (Unit {0}) Memory → Type 0
 Executes old new s q failed after (Ok done) =
     (m : State) → StandsFor old m → StandsFor new (step m s q failed).0 × (after ≡ reply_text (step m s q failed).1)
-Executes old new s q failed after (Err refused) = IsTrue (takes_memory q) × LeavesSame old new s × (after ≡ [])
+Executes old new s q failed after (Err refused) = IsTrue (takes_memory q) × LeavesSame old new s × (after ≡ []) × IsNotRefused old s q
 
 -- the session's transaction is aborted, if it has one
 abbrev pub Aborts : {D : Type 0} {g : Ghosts D} → Engine D g → Engine D g → ℕ → Type 0
@@ -60,14 +60,15 @@ ServesFront old new s failed inbox after (Answered used) =
 ServesFront old new s failed inbox after Incomplete = IsFront inbox More × (new ≡ old) × (after ≡ [])
 ServesFront old new s failed inbox after Broken = IsFront inbox Bad × Aborts old new s × (after ≡ reply_text bad_frame)
 ServesFront old new s failed inbox after Refused =
-    (parts : List Bytes) × (used : ℕ) × IsFront inbox (Whole parts used) × IsTrue (takes_memory (asks parts)) × Aborts old new s × (after ≡ [])
+    (parts : List Bytes) × (used : ℕ) × IsFront inbox (Whole parts used) × IsTrue (takes_memory (asks parts)) × Aborts old new s × (after ≡ []) × IsNotRefused old s (asks parts)
 
 abbrev pub is_memory : Outcome → Bool
 is_memory OfMemory = true
 is_memory other = false
 
--- the effect of a Serve by its choice
+-- the choice may be made, and this is the effect of a Serve by it
 pub record HasEffect {D : Type 0} {g : Ghosts D} (old new : Engine D g) (s : ℕ) (c : Choice) (m : State) (before after : SessionState) (outcome : Outcome) : Type 0 where
+  pub possible : IsTrue (may_serve before) → IsServed m s before.inbox c
   pub engine : StandsFor new (serve c m s before).machine
   pub session : after ≡ (serve c m s before).now
   pub outcome_is : outcome ≡ (serve c m s before).outcome
@@ -79,5 +80,4 @@ chosen front outcome failed = record { front = front; refused = is_memory outcom
 -- one Serve of a session: what the grammar finds is one front for all states
 abbrev pub ServesSession : {D : Type 0} {g : Ghosts D} → Engine D g → Engine D g → ℕ → SessionState → SessionState → Outcome → Type 0
 ServesSession old new s before after outcome =
-    (front : Front) × (IsTrue (may_serve before) → IsServed before.inbox (chosen front outcome (has_failed old new)))
-    × ((m : State) → StandsFor old m → HasEffect old new s (chosen front outcome (has_failed old new)) m before after outcome)
+    (front : Front) × ((m : State) → StandsFor old m → HasEffect old new s (chosen front outcome (has_failed old new)) m before after outcome)

@@ -10,17 +10,17 @@ use Rattle.model.specs.Operations.{Operation}
 use Rattle.model.specs.Operations.Operation.{Commit}
 use Rattle.model.specs.Machine.{State, step}
 use Rattle.engine.specs.declared.engine.Engine.{Engine}
-use Rattle.engine.specs.Meaning.{StandsFor as EngineStandsFor, device_of}
-use Rattle.engine.specs.Recovery.{HoldsMap, committed_map}
+use Rattle.engine.specs.Meaning.{StandsFor as EngineStandsFor, device_of, IsLeftByCommit}
+use Rattle.engine.specs.Recovery.{HoldsMap, LeavesCommitted, committed_map}
 use Rattle.sessions.specs.declared.hub.Hub.{Hub}
 use Rattle.sessions.specs.SessionStreams.{HubState, HubEvent, Serves, SessionState, SessionStream, Whole, IsFront, asks, may_serve, stream_of}
 use Rattle.sessions.specs.StandsFor.{StandsFor, device}
 
--- a crash at any moment of the session's COMMIT leaves the map from before it, or the one with the transaction's writes
+-- a crash at any moment of the session's COMMIT leaves the map from before it, or the one with the transaction's writes; of a store that
+-- was stopped, what it could have left before
 abbrev pub SurvivesCommit : {D : Type 0} {g : Ghosts D} → Engine D g → Engine D g → ℕ → Type 0
 SurvivesCommit {D} {g} old new s =
-    g.keeps_model → (m : State) → EngineStandsFor old m → m.stopped ≡ false →
-    LeavesOnly g.moment g.left_since (device_of old) (device_of new) (λ c. HoldsMap c (committed_map m) ⊎ HoldsMap c (committed_map (step m s Commit false).0))
+    g.keeps_model → (m : State) → EngineStandsFor old m → LeavesOnly g.moment g.left_since (device_of old) (device_of new) (IsLeftByCommit old m s)
 
 -- the device is as it was, or the request is a COMMIT
 abbrev pub SurvivesRequest : {D : Type 0} {g : Ghosts D} → Engine D g → Engine D g → ℕ → Operation → Type 0
@@ -60,13 +60,15 @@ pub record Commits (h : HubState) (e : HubEvent) (s : ℕ) : Type 0 where
 abbrev pub HoldsBeforeOrAfter : HubState → HubEvent → List (List ℕ) → Type 0
 HoldsBeforeOrAfter h e c = HoldsMap c (committed_map h.machine) ⊎ ((s : ℕ) × Commits h e s × HoldsMap c (committed_map (step h.machine s Commit false).0))
 
--- a crash at any moment of the event leaves such an image, where the device keeps its model and the store is not stopped
-abbrev pub SurvivesCrash : {D : Type 0} {g : Ghosts D} → Hub D g → Hub D g → HubEvent → Type 0
-SurvivesCrash {D} {g} old new e =
-    g.keeps_model → (h : HubState) → StandsFor old h → h.machine.stopped ≡ false →
-    LeavesOnly g.moment g.left_since (device old) (device new) (HoldsBeforeOrAfter h e)
+-- what a crash may leave at a moment of the event: such an image; of a store that was stopped, what it could have left before
+abbrev pub IsLeftByEvent : {D : Type 0} {g : Ghosts D} → Hub D g → HubState → HubEvent → List (List ℕ) → Type 0
+IsLeftByEvent {D} {g} old h e c = ((h.machine.stopped ≡ false) × HoldsBeforeOrAfter h e c) ⊎ ((h.machine.stopped ≡ true) × g.may_leave (device old) c)
 
--- a crash now leaves the map that is committed
+-- a crash at any moment of the event leaves only that, where the device keeps its model
+abbrev pub SurvivesCrash : {D : Type 0} {g : Ghosts D} → Hub D g → Hub D g → HubEvent → Type 0
+SurvivesCrash {D} {g} old new e = g.keeps_model → (h : HubState) → StandsFor old h → LeavesOnly g.moment g.left_since (device old) (device new) (IsLeftByEvent old h e)
+
+-- a crash now leaves the map that is committed; once the store is stopped, that or the one with the writes of the COMMIT that was
+-- answered a store fault
 abbrev pub IsStored : {D : Type 0} {g : Ghosts D} → Hub D g → Type 0
-IsStored {D} {g} hub =
-    g.keeps_model → (h : HubState) → StandsFor hub h → h.machine.stopped ≡ false → (c : List (List ℕ)) → g.may_leave (device hub) c → HoldsMap c (committed_map h.machine)
+IsStored {D} {g} hub = g.keeps_model → (h : HubState) → StandsFor hub h → LeavesCommitted h.machine (g.may_leave (device hub))

@@ -11,6 +11,7 @@ use Rattle.sessions.specs.declared.events.Status.TheVariants.{Open}
 use Rattle.sessions.specs.declared.hub.Hub.{Hub}
 use Rattle.sessions.specs.SessionStreams.{HubState, SessionStream, HubEvent, Choice, ArePossible, run, replies_text, requests_text, asks, stream_of}
 use Rattle.sessions.specs.StandsFor.{StandsFor}
+use Rattle.sessions.specs.Life.{Survives}
 
 -- what came in is the spellings of the requests that were served and then the inbox, until it was emptied for good;
 -- the texts of the machine's replies are the bytes that were told to be sent and then those that are pending
@@ -50,7 +51,7 @@ failures_in (e ∷ es) = if e.1.failed then failures_in es + 1 else failures_in 
 -- A run over the events by some choices. The device fails in one of them at most, then the store is stopped, and in none where
 -- the count of its failures did not rise. At each moment of the run, and so for each transaction up to its commit or abort, the
 -- laws hold.
-pub record Runs {D : Type 0} {g : Ghosts D} (new : Hub D g) (h : HubState) (events : List HubEvent) (risen : Bool) : Type 0 where
+pub record Runs {D : Type 0} {g : Ghosts D} (old new : Hub D g) (h : HubState) (events : List HubEvent) (risen : Bool) : Type 0 where
   pub choices : List (HubEvent × Choice)
   pub are : map (λ e. e.0) choices ≡ events
   pub possible : ArePossible h choices
@@ -59,6 +60,8 @@ pub record Runs {D : Type 0} {g : Ghosts D} (new : Hub D g) (h : HubState) (even
   pub risen_then : 1 ≤ failures_in choices → risen ≡ true
   pub stands : StandsFor new (run h choices)
   pub lawful : (n : ℕ) → IsLawful (run h (take n choices))
+  -- a crash at any moment of the run leaves a map that was committed at one, or one with a COMMIT that was under way
+  pub survives : g.keeps_model → Survives old new h choices
 
 -- the bytes of a transaction's own replies
 abbrev pub own_bytes : Running → Bytes

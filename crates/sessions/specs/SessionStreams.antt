@@ -1,5 +1,5 @@
 -- The byte streams of sessions over the machine, and what each event does to them.
-use Rattle.std.specs.Prelude.{◌≡◌, ℕ, ◌-◌, ◌≤◌, Bool, true, false, not, nat_le, nat_lt, ◌==◌, if◌then◌else◌, List, [], ◌∷◌, ◌++◌, length, take, drop, Option, Some, None, Result, Ok, Err, IsTrue, ⊤}
+use Rattle.std.specs.Prelude.{◌≡◌, ℕ, ◌-◌, ◌≤◌, Bool, true, false, not, nat_le, nat_lt, ◌==◌, if◌then◌else◌, List, [], ◌∷◌, ◌++◌, length, take, drop, Option, Some, None, Result, Ok, Err, IsTrue, IsFalse, ⊤}
 use Rattle.std.specs.List.{flat_map}
 use Rattle.std.specs.Ordering.{nat_cmp}
 use Rattle.std.specs.Map.{lookup, remove_entry, set_value}
@@ -14,6 +14,7 @@ use Rattle.model.specs.Operations.{Operation, Response}
 use Rattle.model.specs.Operations.Operation.{Abort, Ping, Faulty}
 use Rattle.model.specs.Operations.Response.{Refused as RefusedFor}
 use Rattle.model.specs.ReplyText.{reply_text}
+use Rattle.snapshot.specs.Made.{is_refused}
 use Rattle.sessions.specs.declared.events.Status.{Status}
 use Rattle.sessions.specs.declared.events.Status.TheVariants.{Open, Ending, Refused}
 use Rattle.sessions.specs.declared.events.Outcome.{Outcome}
@@ -211,21 +212,22 @@ hub_step h (Serves s) c = serve_session (stream_of h s) h s c
 hub_step h (Sends s n) c = send (stream_of h s) h s n
 hub_step h (Leaves s) c = depart (stream_of h s) h s
 
-abbrev pub may_be_refused : Front → Bool
-may_be_refused (Whole parts used) = takes_memory (asks parts)
-may_be_refused other = false
+-- the request at the front takes memory, and the machine's reply to it would be no refusal, the device's failure aside
+abbrev pub MayWantMemory : State → ℕ → Front → Type 0
+MayWantMemory m s (Whole parts used) = IsTrue (takes_memory (asks parts)) × IsFalse (is_refused (step m s (asks parts) false).1)
+MayWantMemory m s other = ⊥
 
--- the grammar finds this front, and memory was refused only where the request takes some
-abbrev pub IsServed : Bytes → Choice → Type 0
-IsServed inbox c = IsFront inbox c.front × (IsTrue c.refused → IsTrue (may_be_refused c.front))
+-- the grammar finds this front, and memory was refused only where it may be
+abbrev pub IsServed : State → ℕ → Bytes → Choice → Type 0
+IsServed m s inbox c = IsFront inbox c.front × (IsTrue c.refused → MayWantMemory m s c.front)
 
-abbrev pub IsServePossible : Option SessionStream → Choice → Type 0
-IsServePossible None c = ⊤
-IsServePossible (Some st) c = IsTrue (may_serve st.now) → IsServed st.now.inbox c
+abbrev pub IsServePossible : State → ℕ → Option SessionStream → Choice → Type 0
+IsServePossible m s None c = ⊤
+IsServePossible m s (Some st) c = IsTrue (may_serve st.now) → IsServed m s st.now.inbox c
 
 -- what may be chosen at an event
 abbrev pub IsPossible : HubState → HubEvent → Choice → Type 0
-IsPossible h (Serves s) c = IsServePossible (stream_of h s) c
+IsPossible h (Serves s) c = IsServePossible h.machine s (stream_of h s) c
 IsPossible h other c = ⊤
 
 -- events one after another, each with its choice

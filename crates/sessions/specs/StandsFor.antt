@@ -1,8 +1,8 @@
 -- Which states a hub stands for, and what an event does to them.
-use Rattle.std.specs.Prelude.{◌≡◌, ℕ, List, [], map, Option, Some, None}
+use Rattle.std.specs.Prelude.{◌≡◌, ℕ, Bool, List, [], map, Option, Some, None}
 use Rattle.sector.specs.declared.device.Sectors.{Ghosts}
 use Rattle.engine.specs.Meaning.{StandsFor as EngineStandsFor}
-use Rattle.engine.specs.Meaning.{device_of, failures_of}
+use Rattle.engine.specs.Meaning.{device_of, failures_of, is_stopped as has_engine_stopped}
 use Rattle.sessions.specs.declared.events.Status.{Status}
 use Rattle.sessions.specs.declared.events.Status.TheVariants.{Absent}
 use Rattle.sessions.specs.declared.events.Outcome.{Outcome}
@@ -36,6 +36,10 @@ device hub = device_of hub.engine
 
 abbrev pub failures : {D : Type 0} {g : Ghosts D} → Hub D g → ℕ
 failures hub = failures_of hub.engine
+
+-- whether the device has failed in a COMMIT
+abbrev pub is_stopped : {D : Type 0} {g : Ghosts D} → Hub D g → Bool
+is_stopped hub = has_engine_stopped hub.engine
 
 -- the state and the outcome that an event leads to by a choice
 pub record Reaches {D : Type 0} {g : Ghosts D} (new : Hub D g) (h : HubState) (e : HubEvent) (c : Choice) (outcome : Outcome) : Type 0 where

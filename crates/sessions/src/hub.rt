@@ -1,12 +1,13 @@
 //! The sessions that are present, over one engine.
-ghost use Rattle.std.specs.Prelude.{◌≡◌, ◌≤◌, ℕ, [], map};
-ghost use Rattle.engine.specs.Meaning.{has_risen};
+ghost use Rattle.std.specs.Prelude.{◌≡◌, ◌≤◌, ℕ, true, [], map};
+ghost use Rattle.engine.specs.Meaning.{has_risen, device_of};
 ghost use Rattle.engine.specs.Meaning.{StandsFor as EngineStandsFor};
 ghost use Rattle.model.specs.Machine.{State};
 ghost use Rattle.sessions.specs.Crashes.{SurvivesEvent, SurvivesCrash, IsStored};
 ghost use Rattle.sessions.specs.Laws.{IsLawful, Runs};
+ghost use Rattle.sessions.specs.Life.{RunsGoOn, LosesNothing};
 ghost use Rattle.sessions.specs.SessionStreams.{HubState, is_above, hub_over, stream_of, Joins, Receives, Serves, Sends, Leaves};
-ghost use Rattle.sessions.specs.StandsFor.{HubLeads, StandsFor, event_of, status_in, room_in, pending_in, device, failures};
+ghost use Rattle.sessions.specs.StandsFor.{HubLeads, StandsFor, event_of, status_in, room_in, pending_in, device, failures, is_stopped};
 
 use crate::events::{Event, Outcome, SESSIONS_MAX, Status};
 use crate::requests::abort_transaction;
@@ -45,7 +46,8 @@ impl<D: Sectors> Hub<D> {
     /// A hub over an engine with no open transaction. No session is present. Takes no memory.
     pub fn new(alloc: Global, engine: Engine<D>) -> Hub<D>
         requires { (m : State) → EngineStandsFor engine m → m.running ≡ [] }
-        ensures { (m : State) → EngineStandsFor engine m → StandsFor result (hub_over m) }
+        ensures stands { (m : State) → EngineStandsFor engine m → StandsFor result (hub_over m) }
+        ensures device { device result ≡ device_of engine }
     {
         engine.is_lawful();
         Hub {
@@ -153,6 +155,7 @@ impl<D: Sectors> Hub<D> {
     fn serve(&mut self, s: u64) -> Outcome
         ensures step { HubLeads self.old self.new (Serves s) result }
         ensures crash { SurvivesEvent self.old self.new (Serves s) }
+        ensures still { is_stopped self.old ≡ true → device self.new ≡ device self.old }
         ensures device { failures self.old ≤ failures self.new }
     {
         match self.sessions.get_mut(&s) {
@@ -196,6 +199,7 @@ impl<D: Sectors> Hub<D> {
     fn apply(&mut self, event: &Event<'_>) -> Outcome
         ensures step { HubLeads self.old self.new (event_of event.now) result }
         ensures crash { SurvivesEvent self.old self.new (event_of event.now) }
+        ensures still { is_stopped self.old ≡ true → device self.new ≡ device self.old }
         ensures device { failures self.old ≤ failures self.new }
     {
         match event {
@@ -207,7 +211,8 @@ impl<D: Sectors> Hub<D> {
         }
     }
 
-    /// Does nothing, and takes no memory. Its contract says what a crash between two events leaves: the map that is committed.
+    /// Does nothing, and takes no memory. Its contract says what a crash between two events leaves: the map that is committed; once the
+    /// store is stopped, that or the one with the writes of the COMMIT that was answered a store fault.
     pub fn is_stored(&self)
         ensures { IsStored self.now }
     {
@@ -221,10 +226,11 @@ impl<D: Sectors> Hub<D> {
     /// the reply's text beyond 536 bytes. `Bytes`, `Sent` and `Left` take no memory.
     ///
     /// A crash at any moment of the event leaves the map committed before it or, where it executes a COMMIT, that with the
-    /// transaction's writes; after the event it leaves the map that is then committed.
+    /// transaction's writes; after the event it leaves the map that is then committed. A store that is stopped leaves the device alone.
     pub fn step(&mut self, event: &Event<'_>) -> Outcome
         ensures step { HubLeads self.old self.new (event_of event.now) result }
         ensures crash { SurvivesCrash self.old self.new (event_of event.now) }
+        ensures still { is_stopped self.old ≡ true → device self.new ≡ device self.old }
         ensures stored { IsStored self.new }
         ensures device { failures self.old ≤ failures self.new }
     {
@@ -241,14 +247,23 @@ impl<D: Sectors> Hub<D> {
     /// transactions, run one at a time in one order, give the same replies and the same final map. (Serializable snapshot isolation
     /// as in Cahill, Röhm and Fekete, SIGMOD 2008.)
     pub fn run(&mut self, events: &[Event<'_>])
-        ensures run { (h : HubState) → StandsFor self.old h → Runs self.new h (map event_of events.now) (has_risen (failures self.old) (failures self.new)) }
+        ensures run { (h : HubState) → StandsFor self.old h → Runs self.old self.new h (map event_of events.now) (has_risen (failures self.old) (failures self.new)) }
         ensures device { failures self.old ≤ failures self.new }
     {
         machine_is_serializable();
+        self.is_stored();
         for event in events {
             let _outcome = self.step(event);
         }
     }
+
+    /// Does nothing, and takes no memory. Its contract is the law of a store's whole life: a crash at any moment after some events were
+    /// answered leaves the map committed when they were answered or at a later moment, one with a COMMIT that was under way since, or
+    /// one with the COMMIT that was answered a store fault.
+    pub fn loses_nothing(&self)
+        ensures go_on { RunsGoOn self.now }
+        ensures crash { LosesNothing self.now }
+    {}
 
     /// Does nothing, and takes no memory. Its contract says what holds of every state that the hub stands for: no reply of an open
     /// transaction depends on others, what has committed has a serial order, and each session's bytes are those of its requests and of

@@ -11,9 +11,10 @@ mod buffer;
 mod events;
 mod hub;
 mod laws;
+mod opening;
 mod requests;
 mod session;
 
 pub use events::{Event, INBOX_MAX, OUTPUT_ROOM, Outcome, SESSIONS_MAX, Status};
 pub use hub::Hub;
-pub use laws::replies_are_private;
+pub use laws::{crashes_leave_the_last_map, replies_are_private};

@@ -1,11 +1,11 @@
 //! One request of a session: executed by the engine, answered into an output.
-ghost use Rattle.std.specs.Prelude.{◌≡◌, ◌≤◌, [], vec_capacity, Some, false};
+ghost use Rattle.std.specs.Prelude.{◌≡◌, ◌≤◌, [], vec_capacity, Some, true, false};
 ghost use Rattle.model.specs.KeyBytes.{key_bytes, end_bytes};
 ghost use Rattle.model.specs.Operations.{operation_of, response_of, IsFit};
 ghost use Rattle.model.specs.Operations.Operation.{Get, Range, Abort as ToAbort, Commit as ToCommit};
 ghost use Rattle.model.specs.Operations.Response.{Done};
 ghost use Rattle.resp.specs.Writing.{IsBrief};
-ghost use Rattle.engine.specs.Meaning.{failures_of, device_of, response_to};
+ghost use Rattle.engine.specs.Meaning.{failures_of, device_of, is_stopped, response_to};
 ghost use Rattle.sessions.specs.Calls.{Writes, refusal_to_read, Executes, Aborts, ServesFront, has_failed};
 ghost use Rattle.sessions.specs.Crashes.{SurvivesCommit, SurvivesRequest, SurvivesFront};
 ghost use Rattle.sessions.specs.SessionStreams.{asks};
@@ -100,6 +100,7 @@ fn commit<D: Sectors>(engine: &mut Engine<D>, s: u64, out: &mut Vec<u8>) -> Resu
     requires room { 536 ≤ vec_capacity out.old }
     ensures step { Executes engine.old engine.new s ToCommit (has_failed engine.old engine.new) out.new.items result }
     ensures crash { SurvivesCommit engine.old engine.new s }
+    ensures still { is_stopped engine.old ≡ true → device_of engine.new ≡ device_of engine.old }
     ensures device { failures_of engine.old ≤ failures_of engine.new }
     ensures capacity { vec_capacity out.old ≤ vec_capacity out.new }
 {
@@ -141,6 +142,7 @@ fn execute<D: Sectors>(
     requires room { 536 ≤ vec_capacity out.old }
     ensures step { Executes engine.old engine.new s (operation_of command.entry) (has_failed engine.old engine.new) out.new.items result }
     ensures crash { SurvivesRequest engine.old engine.new s (operation_of command.entry) }
+    ensures still { is_stopped engine.old ≡ true → device_of engine.new ≡ device_of engine.old }
     ensures device { failures_of engine.old ≤ failures_of engine.new }
     ensures capacity { vec_capacity out.old ≤ vec_capacity out.new }
 {
@@ -179,6 +181,7 @@ fn execute_request<D: Sectors>(
     requires room { 536 ≤ vec_capacity out.old }
     ensures step { Executes engine.old engine.new s (asks request.now) (has_failed engine.old engine.new) out.new.items result }
     ensures crash { SurvivesRequest engine.old engine.new s (asks request.now) }
+    ensures still { is_stopped engine.old ≡ true → device_of engine.new ≡ device_of engine.old }
     ensures device { failures_of engine.old ≤ failures_of engine.new }
     ensures capacity { vec_capacity out.old ≤ vec_capacity out.new }
 {
@@ -226,6 +229,7 @@ pub(crate) fn serve_request<D: Sectors>(
     requires room { 536 ≤ vec_capacity out.old }
     ensures step { ServesFront engine.old engine.new s (has_failed engine.old engine.new) inbox.now out.new.items result }
     ensures crash { SurvivesFront engine.old engine.new s inbox.now }
+    ensures still { is_stopped engine.old ≡ true → device_of engine.new ≡ device_of engine.old }
     ensures device { failures_of engine.old ≤ failures_of engine.new }
     ensures capacity { vec_capacity out.old ≤ vec_capacity out.new }
 {

@@ -30,8 +30,8 @@ impl Model for Session {
 }
 
 impl Session {
-    ghost use Rattle.std.specs.Prelude.{◌≡◌, ◌≤◌, ◌++◌, length, drop, IfOk};
-    ghost use Rattle.engine.specs.Meaning.{failures_of};
+    ghost use Rattle.std.specs.Prelude.{◌≡◌, ◌≤◌, ◌++◌, true, length, drop, IfOk};
+    ghost use Rattle.engine.specs.Meaning.{failures_of, device_of, is_stopped};
     ghost use Rattle.sessions.specs.Calls.{ServesSession};
     ghost use Rattle.sessions.specs.Crashes.{SurvivesServe};
     ghost use Rattle.sessions.specs.SessionStreams.{new_session, is_open, room, may_serve};
@@ -114,6 +114,7 @@ impl Session {
     pub(crate) fn serve<D: Sectors>(&mut self, engine: &mut Engine<D>, s: u64) -> Outcome
         ensures step { ServesSession engine.old engine.new s self.old self.new result }
         ensures crash { SurvivesServe engine.old engine.new s self.old }
+        ensures still { is_stopped engine.old ≡ true → device_of engine.new ≡ device_of engine.old }
         ensures device { failures_of engine.old ≤ failures_of engine.new }
     {
         if !self.is_ready() {

@@ -21,3 +21,6 @@ pub returns-in-Err-Device-clause-crash : goal.returns-in-Err-Device-clause-crash
 returns-in-Err-Device-clause-crash g c keeps map h =
     weaker_crash g.D.Sectors.moment g.D.Sectors.left_since c.args.log.now.device c.append.new.self.device (IsBeforeOrAfter h.lists c.args.writes.now) (λ i. HoldsMap i map ⊎ HoldsMap i (after_writes map c.args.writes.now))
     (before_or_after c.args.log.now map c.args.writes.now h) (c.in-Err-Device.ensures.any_moment keeps h.lists h.stands)
+
+pub returns-in-Err-Device-clause-left : goal.returns-in-Err-Device-clause-left
+returns-in-Err-Device-clause-left g c is keeps map h = record { in_doubt = c.args.writes.now; holds = λ i left. before_or_after c.args.log.now map c.args.writes.now h i (c.in-Err-Device.ensures.left keeps h.lists h.stands i left) }

@@ -1,3 +1,4 @@
+use Rattle.std.proofs.Common.{refl}
 use Rattle.model.specs.Operations.Operation.{Get}
 use Rattle.sessions.proofs.RequestSteps.{executes_read, executes_refused}
 use Rattle.sessions.proofs.requests.get.Goals as goal
@@ -5,7 +6,7 @@ use Rattle.sessions.proofs.requests.get.Goals as goal
 pub returns-in-Ok-clause-step : goal.returns-in-Ok-clause-step
 returns-in-Ok-clause-step g c =
     let kept = rw c.in-Ok.is at c.get.follows.holds-at-none in
-    executes_read c.args.engine.now c.get.follows.lender-at-none c.args.s (Get c.args.key.bytes.now) _ c.args.out.now c.write_reply.new.out c.write_reply.result tt kept.0 c.requires.empty c.write_reply.ensures.ok c.write_reply.ensures.err
+    executes_read c.args.engine.now c.get.follows.lender-at-none c.args.s (Get c.args.key.bytes.now) _ c.args.out.now c.write_reply.new.out c.write_reply.result tt kept.0 refl c.requires.empty c.write_reply.ensures.ok c.write_reply.ensures.err
 
 pub returns-in-Err-clause-step : goal.returns-in-Err-clause-step
 returns-in-Err-clause-step g c =

@@ -11,7 +11,7 @@ write_pairs-requires g c κs = ((refl, tt), (tt, (tt, (row_pairs c.in-Ok.rows, (
 pub returns-in-Ok-clause-step : goal.returns-in-Ok-clause-step
 returns-in-Ok-clause-step g c =
     let kept = rw c.in-Ok.is at c.range.follows.holds-at-none in
-    executes_read c.args.engine.now c.range.follows.lender-at-none c.args.s (Range (key_bytes c.args.range.lo) (end_bytes c.args.range.hi) c.args.limit) _ c.args.out.now c.write_pairs.new.out c.write_pairs.result tt kept.0 c.requires.empty
+    executes_read c.args.engine.now c.range.follows.lender-at-none c.args.s (Range (key_bytes c.args.range.lo) (end_bytes c.args.range.hi) c.args.limit) _ c.args.out.now c.write_pairs.new.out c.write_pairs.result tt kept.0 refl c.requires.empty
     (c.write_pairs.ensures.ok (row_pairs c.in-Ok.rows) (sym c.len.ensures.len, c.len.ensures.gives)) c.write_pairs.ensures.err
 
 pub returns-in-Err-clause-step : goal.returns-in-Err-clause-step

@@ -11,6 +11,7 @@ returns-in-Err-clause-step g c = (
   c.in-Err.ensures.step.0,
   aborts_left c.args.engine.now c.execute_request.new.engine c.abort_transaction.new.engine c.args.s c.in-Err.ensures.step.1 c.abort_transaction.ensures.left,
   c.in-Err.ensures.step.2,
+  c.in-Err.ensures.step.3,
 )
 
 pub returns-in-Ok-clause-crash : goal.returns-in-Ok-clause-crash

@@ -13,7 +13,7 @@ use Rattle.engine.specs.HistoryValue.{HistoryValue}
 use Rattle.engine.specs.Meaning.{failures_of, device_of}
 use Rattle.engine.specs.Changes.{IsWritten, HasLogRoom, IsLogged, IsLogStopped}
 use Rattle.engine.proofs.Calls.{refused_outside, running_if}
-use Rattle.engine.proofs.Committing.{told, ended_stopped, ended_numbers, ended_overwritten, ended_self, ended_pivot, ended_full, ended_fault, joined, no_room, risen, not_risen, judges, joins_from, number_is, unwritten, crash_stored}
+use Rattle.engine.proofs.Committing.{told, ended_stopped, ended_numbers, ended_overwritten, ended_self, ended_pivot, ended_full, ended_fault, joined, no_room, risen, not_risen, judges, joins_from, commit_memory, number_is, unwritten, crash_stored}
 use Rattle.engine.proofs.engine.Engine.commit.Goals as goal
 
 pub returns-in_default-clause-step : goal.returns-in_default-clause-step
@@ -59,6 +59,20 @@ returns-then-not-has_room-clause-step g c =
     c.refuse-then-not-has_room.ensures.leaves (subst IsWritten c.entries-writes.ensures.writes full.0)
     (subst (λ ws. sector_count c.args.self.now.log ≤ used_sectors c.args.self.now.log + body_sectors ws) c.entries-writes.ensures.writes full.1))
 
+pub returns-then-is_err-clause-step : goal.returns-then-is_err-clause-step
+returns-then-is_err-clause-step g c =
+    commit_memory c.args.self.now _ c.args.s c.in-Some.transaction.now
+    (judges c.args.self.now c.args.s c.in-Some.transaction.now _ c.committed-2.result.now c.in-Some.ensures.value (running_if _ _ c.is_stopped.ensures c.if-is_stopped.false) _ (c.last.ensures ∙ ap (λ (v : CommittedValue). v.facts.last) c.committed.ensures) (omega arith) c.entries-writes.result.now c.entries-writes.ensures.writes c.entries-writes.ensures.made c.committed-2.ensures c.in-Clear.ensures.verdict)
+    (subst (HasLogRoom (used_sectors c.args.self.now.log) (sector_count c.args.self.now.log)) c.entries-writes.ensures.writes (c.has_room.ensures.0 c.if-not-has_room.false))
+    refl refl c.prepare.ensures.same
+
+pub returns-in-Err-Memory-clause-step : goal.returns-in-Err-Memory-clause-step
+returns-in-Err-Memory-clause-step g c =
+    commit_memory c.args.self.now _ c.args.s c.in-Some.transaction.now
+    (judges c.args.self.now c.args.s c.in-Some.transaction.now _ c.committed-2.result.now c.in-Some.ensures.value (running_if _ _ c.is_stopped.ensures c.if-is_stopped.false) _ (c.last.ensures ∙ ap (λ (v : CommittedValue). v.facts.last) c.committed.ensures) (omega arith) c.entries-writes.result.now c.entries-writes.ensures.writes c.entries-writes.ensures.made c.committed-2.ensures c.in-Clear.ensures.verdict)
+    (subst (HasLogRoom (used_sectors c.args.self.now.log) (sector_count c.args.self.now.log)) c.entries-writes.ensures.writes (c.has_room.ensures.0 c.if-not-has_room.false))
+    (c.in-Err-Memory.ensures.unchanged (ap Err c.in-Err-Memory.field-0-is)) refl c.prepare.ensures.same
+
 pub returns-in-Err-Device-clause-step : goal.returns-in-Err-Device-clause-step
 returns-in-Err-Device-clause-step g c =
     let stops = subst (IsLogStopped c.args.self.now.log c.store.new.log) c.entries-writes.ensures.writes (c.in-Err-Device.ensures.stopped (ap Err c.in-Err-Device.field-0-is)) in
@@ -67,7 +81,8 @@ returns-in-Err-Device-clause-step g c =
     (judges c.args.self.now c.args.s c.in-Some.transaction.now _ c.committed-2.result.now c.in-Some.ensures.value (running_if _ _ c.is_stopped.ensures c.if-is_stopped.false) _ (c.last.ensures ∙ ap (λ (v : CommittedValue). v.facts.last) c.committed.ensures) (omega arith) c.entries-writes.result.now c.entries-writes.ensures.writes c.entries-writes.ensures.made c.committed-2.ensures c.in-Clear.ensures.verdict)
     (subst (HasLogRoom (used_sectors c.args.self.now.log) (sector_count c.args.self.now.log)) c.entries-writes.ensures.writes (c.has_room.ensures.0 c.if-not-has_room.false))
     stops c.prepare.ensures.same refl c.refuse-in-Err-Device.ensures.leaves
-    (risen (failures_of c.args.self.now) (failures_of c.refuse-in-Err-Device.new.self) (subst (λ (l : Log g.row.D.Denot g.D.Sectors). Rose (failures_of c.args.self.now) (failure_count l)) (sym c.refuse-in-Err-Device.ensures.leaves.store.log) stops.fault)))
+    (risen (failures_of c.args.self.now) (failures_of c.refuse-in-Err-Device.new.self) (subst (λ (l : Log g.row.D.Denot g.D.Sectors). Rose (failures_of c.args.self.now) (failure_count l)) (sym c.refuse-in-Err-Device.ensures.leaves.store.log) stops.fault))
+    (c.in-Err-Device.ensures.left (ap Err c.in-Err-Device.field-0-is)))
 
 pub returns-in-Err-Device-clause-read_only : goal.returns-in-Err-Device-clause-read_only
 returns-in-Err-Device-clause-read_only g c m h none =

@@ -16,9 +16,9 @@ returns-in-Ok g c =
         λ _. tt,
         (
           own_call c.args.self.now _ c.args.s (Get c.args.key.bytes.now) _ c.in-Some.transaction.now c.get.follows.lender-at-none (Some (Value (option_copied c.in-Ok.value)))
-              (λ m r. refl) (record { log = refl; history = refl }) (sym c.in-Some.ensures.value) (c.get_mut.follows.holds _).0 (c.get_mut.follows.holds _).2
+              (λ b m r. refl) (record { log = refl; history = refl }) (sym c.in-Some.ensures.value) (c.get_mut.follows.holds _).0 (c.get_mut.follows.holds _).2
               (begin-after_get c.in-Some.transaction.now _ c.args.key.bytes.now is.0)
-              (read_answered c.args.self.now c.in-Some.transaction.now _ c.versions-versions.result.now (Get c.args.key.bytes.now) (Value (option_copied c.in-Ok.value)) c.versions-versions.ensures (λ m qs seen made. c.in-Ok.ensures.reply m qs seen made) is.1),
+              (read_answered c.args.self.now c.in-Some.transaction.now _ c.versions-versions.result.now (Get c.args.key.bytes.now) (Value (option_copied c.in-Ok.value)) c.versions-versions.ensures (λ m qs seen made. c.in-Ok.ensures.reply m qs seen made) (is.1 _)),
           refl,
         ),
       ),
@@ -33,9 +33,9 @@ returns-in-Err g c =
         λ _. tt,
         (
           own_call c.args.self.now _ c.args.s (Get c.args.key.bytes.now) _ c.in-Some.transaction.now c.get.follows.lender-at-none _
-              (λ m r. refl) (record { log = refl; history = refl }) (sym c.in-Some.ensures.value) (c.get_mut.follows.holds _).0 (c.get_mut.follows.holds _).2
+              (λ b m r. refl) (record { log = refl; history = refl }) (sym c.in-Some.ensures.value) (c.get_mut.follows.holds _).0 (c.get_mut.follows.holds _).2
               (ap (λ (u : View). u.begin) is)
-              (read_refused c.args.self.now c.in-Some.transaction.now _ c.versions-versions.result.now (Get c.args.key.bytes.now) (λ v. Value (option_copied v)) c.in-Err.fault c.from.result c.from.ensures c.versions-versions.ensures
+              (read_refused c.args.self.now c.in-Some.transaction.now _ c.versions-versions.result.now (Get c.args.key.bytes.now) (λ v. Value (option_copied v)) c.in-Err.fault c.from.result tt c.from.ensures c.versions-versions.ensures
               (λ m qs seen made. c.in-Err.ensures.reply m qs seen made) is),
           refl,
         ),

@@ -1,5 +1,5 @@
-use Rattle.engine.proofs.Recovered.{holds_map}
+use Rattle.engine.proofs.Recovered.{leaves_committed}
 use Rattle.engine.proofs.engine.Engine.is_stored.Goals as goal
 
 pub returns : goal.returns
-returns g c = holds_map c.args.self.now
+returns g c = leaves_committed c.args.self.now

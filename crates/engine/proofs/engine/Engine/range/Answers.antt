@@ -17,8 +17,8 @@ returns-in-Ok g c =
         λ _. tt,
         (
           own_call c.args.self.now _ c.args.s (Range c.args.range.lo.bytes.now (option_map (λ k. k.bytes.now) c.args.range.hi) c.args.limit) _ c.in-Some.transaction.now c.range.follows.lender-at-none (Some (Pairs (row_pairs c.in-Ok.rows)))
-              (λ m r. refl) (record { log = refl; history = refl }) (sym c.in-Some.ensures.value) (c.get_mut.follows.holds _).0 (c.get_mut.follows.holds _).2
-              (begin-after_range c.in-Some.transaction.now _ c.args.range.lo.bytes.now (option_map (λ k. k.bytes.now) c.args.range.hi) is.0)
+              (λ b m r. refl) (record { log = refl; history = refl }) (sym c.in-Some.ensures.value) (c.get_mut.follows.holds _).0 (c.get_mut.follows.holds _).2
+              (begin-after_range c.in-Some.transaction.now _ _ c.args.range.lo.bytes.now (option_map (λ k. k.bytes.now) c.args.range.hi) c.args.limit is.0)
               (read_answered c.args.self.now c.in-Some.transaction.now _ c.versions-versions.result.now (Range c.args.range.lo.bytes.now (option_map (λ k. k.bytes.now) c.args.range.hi) c.args.limit) (Pairs (row_pairs c.in-Ok.rows)) c.versions-versions.ensures (λ m qs seen made. c.in-Ok.ensures.reply m qs seen made) is.1),
           refl,
         ),
@@ -34,14 +34,14 @@ returns-in-Err g c =
         λ _. tt,
         (
           own_call c.args.self.now _ c.args.s (Range c.args.range.lo.bytes.now (option_map (λ k. k.bytes.now) c.args.range.hi) c.args.limit) _ c.in-Some.transaction.now c.range.follows.lender-at-none _
-              (λ m r. refl) (record { log = refl; history = refl }) (sym c.in-Some.ensures.value) (c.get_mut.follows.holds _).0 (c.get_mut.follows.holds _).2
+              (λ b m r. refl) (record { log = refl; history = refl }) (sym c.in-Some.ensures.value) (c.get_mut.follows.holds _).0 (c.get_mut.follows.holds _).2
               (ap (λ (u : View). u.begin) is)
-              (read_refused c.args.self.now c.in-Some.transaction.now _ c.versions-versions.result.now (Range c.args.range.lo.bytes.now (option_map (λ k. k.bytes.now) c.args.range.hi) c.args.limit) (λ rows. Pairs (row_pairs rows)) c.in-Err.fault c.from.result c.from.ensures c.versions-versions.ensures
+              (read_refused c.args.self.now c.in-Some.transaction.now _ c.versions-versions.result.now (Range c.args.range.lo.bytes.now (option_map (λ k. k.bytes.now) c.args.range.hi) c.args.limit) (λ rows. Pairs (row_pairs rows)) c.in-Err.fault c.from.result tt c.from.ensures c.versions-versions.ensures
               (λ m qs seen made. c.in-Err.ensures.reply m qs seen made) is),
           refl,
         ),
       ),
-      record { known = λ m h t r k. c.in-Err.ensures.known (known_range c.args.self.now c.args.s c.in-Some.transaction.now (sym c.in-Some.ensures.value) c.args.range.lo.bytes.now (option_map (λ k. k.bytes.now) c.args.range.hi) m h t r k); after = tt },
+      record { known = λ m h t r k. known_range c.args.self.now c.args.s c.in-Some.transaction.now (sym c.in-Some.ensures.value) c.versions-versions.result.now c.args.range.lo.bytes.now (option_map (λ k. k.bytes.now) c.args.range.hi) c.args.limit c.versions-versions.ensures c.in-Err.ensures.known m h t r k; after = tt },
     )
 
 pub returns-in-None : goal.returns-in-None

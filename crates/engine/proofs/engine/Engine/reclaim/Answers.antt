@@ -1,6 +1,6 @@
-use Rattle.std.proofs.Common.{◌∙◌, ap, subst}
+use Rattle.std.proofs.Common.{◌≡◌, ◌∙◌, ap, subst}
 use Rattle.std.specs.BTreeMap.{values}
-use Rattle.versions.specs.Meaning.{IsTight}
+use Rattle.versions.specs.Meaning.{IsTight, kept_of, needed_of}
 use Rattle.pivot_check.specs.Kept.{CommittedValue}
 use Rattle.engine.specs.Least.{IsLeast}
 use Rattle.engine.proofs.Reclaims.{reclaimed_stands, numbers_are, none_below}
@@ -17,6 +17,12 @@ returns-clause-versions g c m h =
     let least = subst (λ n. IsLeast (λ t. t.begin) n (values c.args.self.now.running) c.oldest_begin-oldest.result) (c.last.ensures ∙ ap (λ (v : CommittedValue). v.facts.last) c.committed.ensures) c.oldest_begin-oldest.ensures in
     subst (λ ns. IsTight ns c.reclaim.new.self.versions)
     (numbers_are c.args.self.now c.reclaim.new.self c.oldest_begin-oldest.result _ least c.begins-count.ensures.numbers m h) c.reclaim.ensures.tight
+
+pub returns-clause-kept : goal.returns-clause-kept
+returns-clause-kept g c m h k =
+    let least = subst (λ n. IsLeast (λ t. t.begin) n (values c.args.self.now.running) c.oldest_begin-oldest.result) (c.last.ensures ∙ ap (λ (v : CommittedValue). v.facts.last) c.committed.ensures) c.oldest_begin-oldest.ensures in
+    subst (λ ns. kept_of c.reclaim.new.self.versions k ≡ needed_of ns c.args.self.now.history.versions k)
+    (numbers_are c.args.self.now c.reclaim.new.self c.oldest_begin-oldest.result _ least c.begins-count.ensures.numbers m h) (c.reclaim.ensures.kept k)
 
 pub returns-clause-records : goal.returns-clause-records
 returns-clause-records g c m h n low each =

@@ -2,8 +2,8 @@ use Rattle.std.proofs.Common.{refl}
 use Rattle.sessions.specs.SessionStreams.{Begun}
 use Rattle.sessions.proofs.hub.Hub.new.Goals as goal
 
-pub returns : goal.returns
-returns g c m h = record {
+pub returns-clause-stands : goal.returns-clause-stands
+returns-clause-stands g c m h = record {
   engine = h;
   sessions = c.new.ensures.empty;
   latest = refl;

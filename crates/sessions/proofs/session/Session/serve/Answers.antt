@@ -48,4 +48,4 @@ returns-in-Refused-clause-step g c =
     let F : List ℕ → Type 0 = λ bytes. IsFront bytes (Whole found.0 found.1) in
     let front = subst F c.as_slice.ensures found.2 in
     let emptied = ap (λ xs. drop c.clear-in-Refused.new.self.start xs) c.clear-in-Refused.ensures.empty ∙ ap (λ k. drop k []) c.clear-in-Refused.ensures.start in
-    rw (← c.self.view_is) (refused_memory c.args.engine.now c.serve_request.new.engine c.args.s before _ may _ pending found.0 found.1 front found.3 found.4 emptied found.5 refl)
+    rw (← c.self.view_is) (refused_memory c.args.engine.now c.serve_request.new.engine c.args.s before _ may _ pending found.0 found.1 front found.3 found.4 emptied found.5 found.6 refl)

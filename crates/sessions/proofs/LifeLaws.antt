@@ -1,0 +1,325 @@
+-- Runs that follow each other, and what a crash leaves of them.
+use Rattle.std.proofs.Common.{◌≡◌, ◌≤◌, ◌+◌, ◌⊎◌, inl, inr, ℕ, zero, suc, Bool, true, false, List, [], ◌∷◌, ◌++◌, length, length-append, Option, Some, None, refl, sym, ap, subst, ◌∙◌, arith, nat_le, if◌then◌else◌}
+use Rattle.std.specs.Prelude.{◌==◌, ◌^◌, ◌-◌, nat_lt}
+use Rattle.std.proofs.lemmas.Bool.{both_ways}
+use Rattle.sector.specs.declared.device.Sectors.{Ghosts}
+use Rattle.sector.specs.SectorModel.{LeavesOnly}
+use Rattle.model.specs.declared.refusals.Refusal.{Refusal}
+use Rattle.model.specs.Map.{KeyMap, KeyWrite}
+use Rattle.model.specs.Operations.{Operation, Response}
+use Rattle.model.specs.Operations.Operation.{Begin, Get, Set, Del, Range, Commit, Abort, Ping, Faulty}
+use Rattle.model.specs.History.{Record}
+use Rattle.model.specs.Verdict.{verdict}
+use Rattle.model.specs.Machine.{State, Running, step, step_of, running_of, commit, store, store_unless, record_to_commit, last, body_sectors}
+use Rattle.engine.specs.Recovery.{HoldsMap, committed_map}
+use Rattle.sessions.specs.declared.hub.Hub.{Hub}
+use Rattle.sessions.specs.SessionStreams.{HubState, HubEvent, Choice, hub_step, run}
+use Rattle.sessions.specs.StandsFor.{StandsFor, device, is_stopped}
+use Rattle.sessions.specs.Crashes.{SurvivesCrash, IsStored, HoldsBeforeOrAfter, IsLeftByEvent}
+use Rattle.sessions.specs.Life.{MayFind, Holds, Survives, IsInDoubt, FoundAfter, FoundDuring}
+use Rattle.sessions.proofs.StreamLaws.{Moved, Rests, Lets, Steps, moved, by_if}
+use Rattle.sessions.proofs.RunLaws.{hub-stopped}
+
+by_case : {A : Type 0} (P : A → Type 0) (b : Bool) (x y : A) → (b ≡ true → P x) → (b ≡ false → P y) → P (if b then x else y)
+by_case P true x y p q = p refl
+by_case P false x y p q = q refl
+
+-- ---- a stopped store
+
+-- the store is then not stopped, or the map is as it was
+abbrev Same : State → State × Response → Type 0
+Same m r = r.0.stopped ≡ true → committed_map r.0 ≡ committed_map m
+
+module _ (m : State) (s : ℕ) (t : Running) (f : Bool) where
+  abbrev r : Record
+  r = record_to_commit m t
+
+  up_or : (x : KeyMap) → m.stopped ≡ false → m.stopped ≡ true → x ≡ committed_map m
+  up_or x up stop = let bad : false ≡ true = sym up ∙ stop in absurd (cc)
+
+  stored-same : m.stopped ≡ false → (ws : List KeyWrite) → Same m (store m s r ws f)
+  stored-same up [] = λ stop. up_or _ up stop
+  stored-same up (w ∷ ws) = by_case (Same m) (nat_le m.count (m.used + body_sectors (w ∷ ws))) _ _ (λ _ _. refl) (λ _. by_case (Same m) f _ _ (λ _ _. refl) (λ _ stop. up_or _ up stop))
+
+  judged-same : m.stopped ≡ false → (o : Option Refusal) → Same m (store_unless o m s r f)
+  judged-same up None = stored-same up r.writes
+  judged-same up (Some conflict) = λ _. refl
+
+  committed-same : Same m (commit m s t f)
+  committed-same = by_case (Same m) m.stopped _ _ (λ _ _. refl) (λ up. by_case (Same m) (last m == 2 ^ 63 - 1) _ _ (λ _ _. refl) (λ _. judged-same up (verdict m.history r)))
+
+step-same : (m : State) (s : ℕ) (q : Operation) (f : Bool) → Same m (step m s q f)
+unfolding step
+step-same m s q f = elim (running_of m s) as (λ o. Same m (step_of o m s q f)) [ None ↦ outside q | Some t ↦ inside t q ]
+  where
+    outside : (q : Operation) → Same m (step_of None m s q f)
+    outside Begin = by_case (Same m) m.stopped _ _ (λ _ _. refl) (λ _. by_case (Same m) (nat_lt (length m.running) 64) _ _ (λ _ _. refl) (λ _ _. refl))
+    outside (Get k) = λ _. refl
+    outside (Set k v) = λ _. refl
+    outside (Del k) = λ _. refl
+    outside (Range lo hi limit) = λ _. refl
+    outside Commit = λ _. refl
+    outside Abort = λ _. refl
+    outside Ping = λ _. refl
+    outside (Faulty refusal) = λ _. refl
+
+    inside : (t : Running) (q : Operation) → Same m (step_of (Some t) m s q f)
+    inside t Begin = λ _. refl
+    inside t (Get k) = λ _. refl
+    inside t (Set k v) = λ _. refl
+    inside t (Del k) = λ _. refl
+    inside t (Range lo hi limit) = λ _. refl
+    inside t Commit = committed-same m s t f
+    inside t Abort = λ _. refl
+    inside t Ping = λ _. refl
+    inside t (Faulty refusal) = λ _. refl
+
+-- where the device doesn't fail the store isn't stopped
+abbrev Quiet : State → State × Response → Type 0
+Quiet m r = r.0.stopped ≡ m.stopped
+
+module _ (m : State) (s : ℕ) (t : Running) where
+  stored-quiet : (r : Record) (ws : List KeyWrite) → Quiet m (store m s r ws false)
+  stored-quiet r [] = refl
+  stored-quiet r (w ∷ ws) = by_if (Quiet m) (nat_le m.count (m.used + body_sectors (w ∷ ws))) _ _ refl refl
+
+  judged-quiet : (r : Record) (o : Option Refusal) → Quiet m (store_unless o m s r false)
+  judged-quiet r None = stored-quiet r r.writes
+  judged-quiet r (Some conflict) = refl
+
+  committed-quiet : Quiet m (commit m s t false)
+  committed-quiet = by_if (Quiet m) m.stopped _ _ refl (by_if (Quiet m) (last m == 2 ^ 63 - 1) _ _ refl (judged-quiet (record_to_commit m t) (verdict m.history (record_to_commit m t))))
+
+step-quiet : (m : State) (s : ℕ) (q : Operation) → Quiet m (step m s q false)
+unfolding step
+step-quiet m s q = elim (running_of m s) as (λ o. Quiet m (step_of o m s q false)) [ None ↦ outside q | Some t ↦ inside t q ]
+  where
+    outside : (q : Operation) → Quiet m (step_of None m s q false)
+    outside Begin = by_if (Quiet m) m.stopped _ _ refl (by_if (Quiet m) (nat_lt (length m.running) 64) _ _ refl refl)
+    outside (Get k) = refl
+    outside (Set k v) = refl
+    outside (Del k) = refl
+    outside (Range lo hi limit) = refl
+    outside Commit = refl
+    outside Abort = refl
+    outside Ping = refl
+    outside (Faulty refusal) = refl
+
+    inside : (t : Running) (q : Operation) → Quiet m (step_of (Some t) m s q false)
+    inside t Begin = refl
+    inside t (Get k) = refl
+    inside t (Set k v) = refl
+    inside t (Del k) = refl
+    inside t (Range lo hi limit) = refl
+    inside t Commit = committed-quiet m s t
+    inside t Abort = refl
+    inside t Ping = refl
+    inside t (Faulty refusal) = refl
+
+module _ (h : HubState) (e : HubEvent) (c : Choice) where
+  abbrev after : HubState
+  after = (hub_step h e c).0
+
+  -- an event after which the store is stopped commits nothing
+  pub hub-same : after.machine.stopped ≡ true → committed_map after.machine ≡ committed_map h.machine
+  hub-same stop = by_move (moved h e c) stop
+    where
+      by_move : {m : State} → Moved c h.machine m → m.stopped ≡ true → committed_map m ≡ committed_map h.machine
+      by_move Rests stop = refl
+      by_move (Lets s) stop = refl
+      by_move (Steps s q) stop = step-same h.machine s q c.failed stop
+
+  hub-quiet : c.failed ≡ false → after.machine.stopped ≡ h.machine.stopped
+  hub-quiet is = by_move (moved h e c)
+    where
+      by_move : {m : State} → Moved c h.machine m → m.stopped ≡ h.machine.stopped
+      by_move Rests = refl
+      by_move (Lets s) = refl
+      by_move (Steps s q) = subst (λ f. (step h.machine s q f).0.stopped ≡ h.machine.stopped) (sym is) (step-quiet h.machine s q)
+
+  -- only the device's failure stops a store
+  pub hub-failed : h.machine.stopped ≡ false → after.machine.stopped ≡ true → c.failed ≡ true
+  hub-failed up stop = by_flag c.failed refl
+    where
+      by_flag : (b : Bool) → c.failed ≡ b → c.failed ≡ true
+      by_flag true is = is
+      by_flag false is = let bad : false ≡ true = sym up ∙ sym (hub-quiet is) ∙ stop in absurd (cc)
+
+stays_stopped : (h : HubState) (es : List (HubEvent × Choice)) → h.machine.stopped ≡ true → (run h es).machine.stopped ≡ true
+stays_stopped h [] stop = stop
+stays_stopped h (e ∷ es) stop = stays_stopped (hub_step h e.0 e.1).0 es (hub-stopped h e.0 e.1 stop)
+
+-- ---- what may be found
+
+fewer : (h : HubState) (es : List (HubEvent × Choice)) (k : ℕ) (map : KeyMap) → MayFind h es k map → MayFind h es zero map
+fewer h [] k map x = x
+fewer h (e ∷ es) zero map x = x
+fewer h (e ∷ es) (suc k) map x = elim x [ inl a ↦ inr (inl a.1) | inr y ↦ inr (inr (fewer (hub_step h e.0 e.1).0 es k map y)) ]
+
+earlier : (h : HubState) (es fs : List (HubEvent × Choice)) (k : ℕ) (map : KeyMap) → k ≤ length es → MayFind h es k map → MayFind h (es ++ fs) k map
+earlier h [] [] k map le x = x
+earlier h [] (f ∷ fs) zero map le x = inl x
+earlier h [] (f ∷ fs) (suc k) map le x = absurd (omega (arith, le))
+earlier h (e ∷ es) fs zero map le x =
+    elim x [
+      | inl a ↦ inl a
+      | inr y ↦ elim y [ inl b ↦ inr (inl b) | inr z ↦ inr (inr (earlier (hub_step h e.0 e.1).0 es fs zero map (omega arith) z)) ]
+    ]
+earlier h (e ∷ es) fs (suc k) map le x = elim x [ inl a ↦ inl a | inr y ↦ inr (earlier (hub_step h e.0 e.1).0 es fs k map (omega (arith, le)) y) ]
+
+later : (h : HubState) (es fs : List (HubEvent × Choice)) (k n : ℕ) (map : KeyMap) → n ≡ length es + k → MayFind (run h es) fs k map → MayFind h (es ++ fs) n map
+later h [] fs k n map is x = let same : k ≡ n = omega (arith, is) in subst (λ i. MayFind h fs i map) same x
+later h (e ∷ es) fs k zero map is x = absurd (omega (arith, is))
+later h (e ∷ es) fs k (suc n) map is x = inr (later (hub_step h e.0 e.1).0 es fs k n map (omega (arith, is)) x)
+
+idle : (h : HubState) (fs : List (HubEvent × Choice)) (map : KeyMap) → h.machine.stopped ≡ true → map ≡ committed_map h.machine → MayFind h fs (length fs) map
+idle h [] map stop x = x
+idle h (f ∷ fs) map stop x =
+    let there = hub-stopped h f.0 f.1 stop in
+    inr (idle (hub_step h f.0 f.1).0 fs map there (x ∙ sym (hub-same h f.0 f.1 there)))
+
+-- a stopped store leaves what there was
+rests : (h : HubState) (es fs : List (HubEvent × Choice)) (map : KeyMap) → (run h es).machine.stopped ≡ true → MayFind h es (length es) map → MayFind h (es ++ fs) (length (es ++ fs)) map
+rests h [] fs map stop x = idle h fs map stop x
+rests h (e ∷ es) fs map stop x = elim x [ inl a ↦ inl a | inr y ↦ inr (rests (hub_step h e.0 e.1).0 es fs map stop y) ]
+
+pub found_after : FoundAfter
+found_after h [] map x = inl x
+found_after h (e ∷ es) map x = elim x [ inl a ↦ inr (inl a) | inr y ↦ elim (found_after (hub_step h e.0 e.1).0 es map y) [ inl z ↦ inl z | inr d ↦ inr (inr d) ] ]
+
+pub found_during : FoundDuring
+found_during h [] e map x = elim x [ inl a ↦ inl a | inr y ↦ elim y [ inl b ↦ inr (inl b) | inr z ↦ inr (inr (inl z)) ] ]
+found_during h (d ∷ es) e map x =
+    elim x [
+      | inl a ↦ inr (inr (inr (inl a)))
+      | inr y ↦ elim (found_during (hub_step h d.0 d.1).0 es e map y) [
+        | inl p ↦ inl p
+        | inr q ↦ elim q [ inl u ↦ inr (inl u) | inr r ↦ elim r [ inl c ↦ inr (inr (inl c)) | inr i ↦ inr (inr (inr (inr i))) ] ]
+      ]
+    ]
+
+-- ---- crashes
+
+module _ {D : Type 0} (moment : D → ℕ) (left_since : D → ℕ → List (List ℕ) → Type 0) where
+  pub weaker : (old new : D) (P Q : List (List ℕ) → Type 0) → ((c : List (List ℕ)) → P c → Q c) → LeavesOnly moment left_since old new P → LeavesOnly moment left_since old new Q
+  weaker old new P Q f x = record {
+    later = x.later;
+    each = λ c left. f c (x.each c left);
+    before = λ t c le left. elim (x.before t c le left) [ inl was ↦ inl was | inr y ↦ inr (f c y) ];
+  }
+
+  joined : (old mid new : D) (P : List (List ℕ) → Type 0) → LeavesOnly moment left_since old mid P → LeavesOnly moment left_since mid new P → LeavesOnly moment left_since old new P
+  joined old mid new P x y = record {
+    later = omega (arith, x.later, y.later);
+    each = λ c left. elim (y.before (moment old) c x.later left) [ inl was ↦ x.each c was | inr p ↦ p ];
+    before = λ t c le left. elim (y.before t c (omega (arith, le, x.later)) left) [ inl was ↦ x.before t c le was | inr p ↦ inr p ];
+  }
+
+-- what a crash leaves after the events, where the store wasn't stopped before them
+now_up : {D : Type 0} {g : Ghosts D} (old new : Hub D g) (h : HubState) (es : List (HubEvent × Choice)) → Survives old new h es → h.machine.stopped ≡ false → (c : List (List ℕ)) → g.may_leave (device new) c → Holds h es (length es) c
+now_up old new h es x up c left = elim (x.now c left) [ inl a ↦ a.1 | inr b ↦ absurd (both_ways h.machine.stopped up b.0) ]
+
+-- a run and another run
+module _ {D : Type 0} {g : Ghosts D} (old mid new : Hub D g) (h : HubState) (es fs : List (HubEvent × Choice)) (first : Survives old mid h es) (second : Survives mid new (run h es) fs) where
+  abbrev All : List (List ℕ) → Type 0
+  All = Holds h (es ++ fs) zero
+
+  holds_first : (c : List (List ℕ)) → Holds h es zero c → All c
+  holds_first c x = (x.0, x.1, earlier h es fs zero x.0 (omega arith) x.2)
+
+  holds_second : (c : List (List ℕ)) → Holds (run h es) fs zero c → All c
+  holds_second c x = (x.0, x.1, fewer h (es ++ fs) (length es) x.0 (later h es fs zero (length es) x.0 (omega arith) x.2))
+
+  leaves_by : (b : Bool) → (run h es).machine.stopped ≡ b → h.machine.stopped ≡ false → LeavesOnly g.moment g.left_since (device old) (device new) All
+  leaves_by true stop up =
+      let P : D → Type 0 = λ d. LeavesOnly g.moment g.left_since (device old) d All in
+      subst P (sym (second.still stop)) (weaker g.moment g.left_since (device old) (device mid) (Holds h es zero) All holds_first (first.leaves up))
+  leaves_by false runs up =
+      joined g.moment g.left_since (device old) (device mid) (device new) All (weaker g.moment g.left_since (device old) (device mid) (Holds h es zero) All holds_first (first.leaves up))
+      (weaker g.moment g.left_since (device mid) (device new) (Holds (run h es) fs zero) All holds_second (second.leaves runs))
+
+  now_by : (b : Bool) → (run h es).machine.stopped ≡ b → h.machine.stopped ≡ false → (c : List (List ℕ)) → g.may_leave (device new) c → Holds h (es ++ fs) (length (es ++ fs)) c
+  now_by true stop up c left =
+      let x = now_up old mid h es first up c (subst (λ d. g.may_leave d c) (second.still stop) left) in
+      (x.0, x.1, rests h es fs x.0 stop x.2)
+  now_by false runs up c left =
+      let x = now_up mid new (run h es) fs second runs c left in
+      (x.0, x.1, later h es fs (length fs) (length (es ++ fs)) x.0 (length-append es fs) x.2)
+
+  now_from : (b : Bool) → h.machine.stopped ≡ b → (c : List (List ℕ)) → g.may_leave (device new) c
+      → ((h.machine.stopped ≡ false) × Holds h (es ++ fs) (length (es ++ fs)) c) ⊎ ((h.machine.stopped ≡ true) × g.may_leave (device old) c)
+  now_from true stop c left = inr (stop, subst (λ d. g.may_leave d c) (second.still (stays_stopped h es stop) ∙ first.still stop) left)
+  now_from false up c left = inl (up, now_by (run h es).machine.stopped refl up c left)
+
+  pub goes_on : Survives old new h (es ++ fs)
+  goes_on = record {
+    still = λ stop. second.still (stays_stopped h es stop) ∙ first.still stop;
+    leaves = leaves_by (run h es).machine.stopped refl;
+    now = now_from h.machine.stopped refl;
+  }
+
+  since_by : (b : Bool) → (run h es).machine.stopped ≡ b → (g.keeps_model → (d : D) (c : List (List ℕ)) → g.left_since d (g.moment d) c → g.may_leave d c) → g.keeps_model → h.machine.stopped ≡ false
+      → (c : List (List ℕ)) → g.left_since (device new) (g.moment (device mid)) c → Holds h (es ++ fs) (length es) c
+  since_by true stop only_now keeps up c left =
+      let x = now_up old mid h es first up c (only_now keeps (device mid) c (subst (λ d. g.left_since d (g.moment (device mid)) c) (second.still stop) left)) in
+      (x.0, x.1, earlier h es fs (length es) x.0 (omega arith) x.2)
+  since_by false runs only_now keeps up c left =
+      let x = (second.leaves runs).each c left in
+      (x.0, x.1, later h es fs zero (length es) x.0 (omega arith) x.2)
+
+  pub loses_nothing : (g.keeps_model → (d : D) (c : List (List ℕ)) → g.left_since d (g.moment d) c → g.may_leave d c) → g.keeps_model → h.machine.stopped ≡ false
+      → (c : List (List ℕ)) → g.left_since (device new) (g.moment (device mid)) c → Holds h (es ++ fs) (length es) c
+  loses_nothing = since_by (run h es).machine.stopped refl
+
+-- no event
+pub nothing : {D : Type 0} {g : Ghosts D} (hub : Hub D g) (h : HubState) → (g.keeps_model → (d : D) (c : List (List ℕ)) → g.left_since d (g.moment d) c → g.may_leave d c)
+    → StandsFor hub h → IsStored hub → g.keeps_model → Survives hub hub h []
+nothing {g = g} hub h only_now stands stored keeps = record {
+  still = λ stop. refl;
+  leaves = λ up. record {
+    later = omega arith;
+    each = λ c left. (committed_map h.machine, (stored keeps h stands).running up c (only_now keeps (device hub) c left), refl);
+    before = λ t c le left. inl left;
+  };
+  now = now_from h.machine.stopped refl;
+}
+  where
+    now_from : (b : Bool) → h.machine.stopped ≡ b → (c : List (List ℕ)) → g.may_leave (device hub) c → ((h.machine.stopped ≡ false) × Holds h [] zero c) ⊎ ((h.machine.stopped ≡ true) × g.may_leave (device hub) c)
+    now_from true stop c left = inr (stop, left)
+    now_from false up c left = inl (up, (committed_map h.machine, (stored keeps h stands).running up c left, refl))
+
+-- one event
+module _ {D : Type 0} {g : Ghosts D} (old new : Hub D g) (h : HubState) (e : HubEvent) (n : Choice)
+    (counts_now : g.keeps_model → (d : D) (t : ℕ) (c : List (List ℕ)) → t ≤ g.moment d → g.may_leave d c → g.left_since d t c)
+    (stands : StandsFor old h) (stands_then : StandsFor new (hub_step h e n).0) (crash : SurvivesCrash old new e) (stored : IsStored new) (still : is_stopped old ≡ true → device new ≡ device old) (keeps : g.keeps_model) where
+  abbrev one : List (HubEvent × Choice)
+  one = (e, n) ∷ []
+
+  running : h.machine.stopped ≡ false → (c : List (List ℕ)) → IsLeftByEvent old h e c → HoldsBeforeOrAfter h e c
+  running up c x = elim x [ inl a ↦ a.1 | inr b ↦ absurd (both_ways h.machine.stopped up b.0) ]
+
+  during : h.machine.stopped ≡ false → (c : List (List ℕ)) → IsLeftByEvent old h e c → Holds h one zero c
+  during up c x = elim (running up c x) [
+    | inl a ↦ (committed_map h.machine, a, inl refl)
+    | inr y ↦ (_, y.2, inr (inl (y.0, y.1, refl)))
+  ]
+
+  now_after : (b : Bool) → (hub_step h e n).0.machine.stopped ≡ b → h.machine.stopped ≡ false → (c : List (List ℕ)) → g.may_leave (device new) c → Holds h one (suc zero) c
+  now_after false runs up c left = (committed_map (hub_step h e n).0.machine, (stored keeps (hub_step h e n).0 stands_then).running runs c left, inr refl)
+  now_after true stop up c left =
+      let x = crash keeps h stands in
+      elim (running up c (x.each c (counts_now keeps (device new) (g.moment (device old)) c x.later left))) [
+        | inl a ↦ (committed_map h.machine, a, inr (sym (hub-same h e n stop)))
+        | inr y ↦ (_, y.2, inl (hub-failed h e n up stop, (y.0, y.1, refl)))
+      ]
+
+  now_one : (b : Bool) → h.machine.stopped ≡ b → (c : List (List ℕ)) → g.may_leave (device new) c → ((h.machine.stopped ≡ false) × Holds h one (suc zero) c) ⊎ ((h.machine.stopped ≡ true) × g.may_leave (device old) c)
+  now_one true stop c left = inr (stop, subst (λ d. g.may_leave d c) (still (sym stands.engine.stopped ∙ stop)) left)
+  now_one false up c left = inl (up, now_after (hub_step h e n).0.machine.stopped refl up c left)
+
+  pub one_event : Survives old new h one
+  one_event = record {
+    still = λ stop. still (sym stands.engine.stopped ∙ stop);
+    leaves = λ up. weaker g.moment g.left_since (device old) (device new) (IsLeftByEvent old h e) (Holds h one zero) (during up) (crash keeps h stands);
+    now = now_one h.machine.stopped refl;
+  }

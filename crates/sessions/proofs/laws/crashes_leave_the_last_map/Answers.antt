@@ -1,0 +1,8 @@
+use Rattle.sessions.proofs.LifeLaws.{found_after, found_during}
+use Rattle.sessions.proofs.laws.crashes_leave_the_last_map.Goals as goal
+
+pub returns-clause-after : goal.returns-clause-after
+returns-clause-after c = found_after
+
+pub returns-clause-during : goal.returns-clause-during
+returns-clause-during c = found_during
