@@ -9,8 +9,8 @@ use Rattle.sessions.specs.SessionStreams.{HubState, SessionStream, HubEvent, Cho
 use Rattle.stream_driver.specs.Traffic.{Traffic}
 use Rattle.sessions.specs.Laws.{failures_in}
 use Rattle.engine.specs.Meaning.{has_risen}
-use Rattle.stream_driver.specs.Sessions.{GoesOn, Point, Runs, session_of, IsPresentIn}
-use Rattle.stream_driver.specs.Drives.{Carried, NoneFell}
+use Rattle.stream_driver.specs.Sessions.{ComeInTurn, GoesOn, Point, Runs, session_of, IsPresentIn}
+use Rattle.stream_driver.specs.Drives.{Carried}
 use Rattle.stream_driver.proofs.Events.{no_events}
 
 -- two lists that grow one after the other
@@ -88,40 +88,31 @@ runs_then s a b c p q = record {
   others = λ t apart. q.others t apart ∙ p.others t apart;
 }
 
-pub same_counts : (t : Traffic) → NoneFell t t
-same_counts t = record { read_blocked = omega arith; read_failed = omega arith; read_ended = omega arith; write_blocked = omega arith; write_failed = omega arith }
-
-pub none_fell : (a b c : Traffic) → NoneFell a b → NoneFell b c → NoneFell a c
-none_fell a b c p q = record {
-  read_blocked = omega (arith, p.read_blocked, q.read_blocked);
-  read_failed = omega (arith, p.read_failed, q.read_failed);
-  read_ended = omega (arith, p.read_ended, q.read_ended);
-  write_blocked = omega (arith, p.write_blocked, q.write_blocked);
-  write_failed = omega (arith, p.write_failed, q.write_failed);
-}
+pub in_turn_then : (h : HubState) (xs ys : List (HubEvent × Choice)) → ComeInTurn h xs → ComeInTurn (run h xs) ys → ComeInTurn h (xs ++ ys)
+in_turn_then h [] ys a b = b
+in_turn_then h (x ∷ xs) ys a b = (a.0, in_turn_then (hub_step h x.0 x.1).0 xs ys a.1 b)
 
 module _ (s : ℕ) (tells : Bool) where
   -- nothing has happened
   abbrev pub nothing : (h : Point) (t : Traffic) → IsPresentIn h.hub s → Carried s tells h t h t
   nothing h t present = record {
     runs = no_events s h present;
+    in_turn = tt;
     given = λ _. sym (append-nil t.given);
     taken = λ _. sym (append-nil t.taken);
-    counts = same_counts t;
   }
 
   -- the stream answered, and the hub stayed
-  abbrev pub answered : (h : Point) (before after : Traffic) → IsPresentIn h.hub s → (IsTrue tells → after.given ≡ before.given ++ []) → (IsTrue tells → after.taken ≡ before.taken ++ []) → NoneFell before after
-      → Carried s tells h before h after
-  answered h before after present given taken counts = record { runs = no_events s h present; given = given; taken = taken; counts = counts }
+  abbrev pub answered : (h : Point) (before after : Traffic) → IsPresentIn h.hub s → (IsTrue tells → after.given ≡ before.given ++ []) → (IsTrue tells → after.taken ≡ before.taken ++ []) → Carried s tells h before h after
+  answered h before after present given taken = record { runs = no_events s h present; in_turn = tt; given = given; taken = taken }
 
   -- the stream stayed, and the hub ran
-  abbrev pub alone : (h k : Point) (t : Traffic) (r : Runs s h k) → [] ≡ r.history.received → [] ≡ r.history.sent → Carried s tells h t k t
-  alone h k t r received sent = record {
+  abbrev pub alone : (h k : Point) (t : Traffic) (r : Runs s h k) → ComeInTurn h.hub r.events → [] ≡ r.history.received → [] ≡ r.history.sent → Carried s tells h t k t
+  alone h k t r in_turn received sent = record {
     runs = r;
+    in_turn = in_turn;
     given = λ _. sym (append-nil t.given) ∙ ap (λ l. t.given ++ l) received;
     taken = λ _. sym (append-nil t.taken) ∙ ap (λ l. t.taken ++ l) sent;
-    counts = same_counts t;
   }
 
   -- one part after another
@@ -129,7 +120,7 @@ module _ (s : ℕ) (tells : Bool) where
       → Carried s tells old before new after
   and_then old before mid between new after p q = record {
     runs = runs_then s old mid new p.runs q.runs;
+    in_turn = in_turn_then old.hub p.runs.events q.runs.events p.in_turn (subst (λ v. ComeInTurn v q.runs.events) p.runs.run_is q.in_turn);
     given = λ t. grown before.given between.given between.given after.given p.runs.history.received q.runs.history.received (p.given t) refl (q.given t);
     taken = λ t. grown before.taken between.taken between.taken after.taken p.runs.history.sent q.runs.history.sent (p.taken t) refl (q.taken t);
-    counts = none_fell before between after p.counts q.counts;
   }

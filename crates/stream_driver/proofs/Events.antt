@@ -169,18 +169,18 @@ was_served st e nothing texts = record {
 -- what a request that is looked for comes to
 pub data Comes (n : SessionState) (e : Effect) : Type 0 where
   Answered : e.outcome ≡ Done → e.now.status ≡ Open → length e.served ≡ 1 → Comes n e
-  IsBroken : e.outcome ≡ Done → e.now.status ≡ Ending → Comes n e
-  IsStarved : e.outcome ≡ Memory → e.now.status ≡ Refused → Comes n e
+  IsBroken : e.outcome ≡ Done → e.now.status ≡ Ending → e.served ≡ [] → Comes n e
+  IsStarved : e.outcome ≡ Memory → e.now.status ≡ Refused → e.served ≡ [] → Comes n e
   Awaits : e.outcome ≡ Idle → e.now ≡ n → e.served ≡ [] → IsProperBeginning n.inbox → Comes n e
 
 pub comes : (front : Front) (c : Choice) (m : State) (s : ℕ) (n : SessionState) → IsFront n.inbox front → Comes n (serve_front front c m s n)
 comes (Whole parts used) c m s n is =
     elim c.refused as (λ b. Comes n (if b then out_of_memory m s else served_with (step m s (asks parts) c.failed) n parts used)) [
-      | true ↦ IsStarved refl refl
+      | true ↦ IsStarved refl refl refl
       | false ↦ Answered refl refl refl
     ]
 comes More c m s n is = Awaits refl refl refl is
-comes Bad c m s n is = IsBroken refl refl
+comes Bad c m s n is = IsBroken refl refl refl
 
 -- the event of a Serve
 module _ (s : ℕ) (p : Point) (c : Choice) (count : ℕ) (st : SessionStream) (is : stream_of p.hub s ≡ Some st) (opened : st.now.status ≡ Open) (nothing : st.now.pending ≡ []) (happens : Happens p (Serves s) c count) where
@@ -193,9 +193,9 @@ module _ (s : ℕ) (p : Point) (c : Choice) (count : ℕ) (st : SessionStream) (
   pub serves_is : hub_step h (Serves s) c ≡ with_effect h s st effect
   serves_is = serves h s c st is opened nothing
 
-  pub front_is : IsServed st.now.inbox c
+  pub front_is : IsServed h.machine s st.now.inbox c
   front_is =
-      let here : IsServePossible (Some st) c = subst (λ o. IsServePossible o c) is happens.possible in
+      let here : IsServePossible h.machine s (Some st) c = subst (λ o. IsServePossible h.machine s o c) is happens.possible in
       let may : may_serve st.now ≡ true = rw (opened, nothing) refl in
       here may
 
@@ -205,8 +205,8 @@ module _ (s : ℕ) (p : Point) (c : Choice) (count : ℕ) (st : SessionStream) (
   pub status_kept : effect.now.status ≢ Absent
   status_kept = elim comes_to [
     | Answered o status len ↦ λ gone. (let bad : Open ≡ Absent = sym status ∙ gone in cc)
-    | IsBroken o status ↦ λ gone. (let bad : Ending ≡ Absent = sym status ∙ gone in cc)
-    | IsStarved o status ↦ λ gone. (let bad : Refused ≡ Absent = sym status ∙ gone in cc)
+    | IsBroken o status none ↦ λ gone. (let bad : Ending ≡ Absent = sym status ∙ gone in cc)
+    | IsStarved o status none ↦ λ gone. (let bad : Refused ≡ Absent = sym status ∙ gone in cc)
     | Awaits o same none begins ↦ λ gone. (let bad : Open ≡ Absent = sym opened ∙ sym (ap (λ n. n.status) same) ∙ gone in cc)
   ]
 

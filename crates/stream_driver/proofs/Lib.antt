@@ -2,7 +2,8 @@ pub mod Lookups
 pub mod Inboxes
 pub mod Events
 pub mod States
+pub mod Answered
 pub mod Carry
-pub mod Parts
+pub mod OneCall
 pub mod Loops
 pub mod Turns

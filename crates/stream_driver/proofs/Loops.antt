@@ -10,19 +10,21 @@ use Rattle.sessions.specs.SessionStreams.{SessionStream, Serves, Choice, hub_ste
 use Rattle.sector.specs.declared.device.Sectors.{Ghosts}
 use Rattle.sessions.specs.declared.hub.Hub.{Hub}
 use Rattle.sessions.specs.StandsFor.{HubLeads, status_in, pending_in, room_in, failures}
+use Rattle.stream_driver.specs.declared.answers.Call.TheVariants.{Read, Write}
 use Rattle.stream_driver.specs.declared.answers.ReadAnswer.TheVariants.{Moved, Blocked, Failed, Ended}
 use Rattle.stream_driver.specs.declared.answers.WriteAnswer.TheVariants.{Moved as Wrote, Blocked as WriteBlocked, Failed as WriteFailed}
 use Rattle.stream_driver.specs.declared.answers.Progress.TheVariants.{Waiting, Again, Gone}
 use Rattle.stream_driver.specs.declared.driving.Flush.TheVariants.{Empty, Blocked as FlushBlocked, Failed as FlushFailed}
 use Rattle.stream_driver.specs.declared.driving.Exchange.{Exchange}
 use Rattle.stream_driver.specs.declared.driving.Exchange.TheVariants.{Served, Broke as ExchangeBroke, Starved as ExchangeStarved, Blocked as ExchangeBlocked, Failed as ExchangeFailed, Ended as ExchangeEnded}
-use Rattle.stream_driver.specs.Traffic.{Traffic, Rose}
+use Rattle.stream_driver.specs.Traffic.{Traffic, AllMoved}
 use Rattle.stream_driver.specs.Sessions.{Point, Leads, Runs, AwaitsMore, status_at, pending_at, room_at, inbox_at, inbox_in, IsPresentIn}
-use Rattle.stream_driver.specs.Drives.{Carried, Drove, Parts}
+use Rattle.stream_driver.specs.Drives.{Carried, Drove, Departs}
 use Rattle.stream_driver.specs.Calls.{Moves, WritesSome, ReadsSome, Flushes, Exchanges, WrittenSoFar, ReadSoFar, DrivenSoFar, served_in}
 use Rattle.stream_driver.proofs.States.{leads_step}
 use Rattle.stream_driver.proofs.Inboxes.{beginning_short}
 use Rattle.stream_driver.proofs.Events.{Happens, point_after, Comes, Answered, IsBroken, IsStarved, Awaits, comes_to, serves_is, served_event, effect, open_present}
+use Rattle.stream_driver.proofs.Answered.{none_called, moved_then, ends_then}
 use Rattle.stream_driver.proofs.Carry.{nothing, alone, and_then}
 
 -- a status that is neither absent nor open
@@ -40,18 +42,19 @@ some_more xs n e some = λ none. let long : length xs ≡ 0 = ap length none in 
 
 module _ (s : ℕ) (tells : Bool) where
   pub written_none : (h : Point) (t : Traffic) (owed : ℕ) → IsPresentIn h.hub s → owed ≡ length (pending_at h.hub s) → WrittenSoFar s tells h t h t owed
-  written_none h t owed present is = record { moves = record { carried = nothing s tells h t present; none_served = refl; status = refl }; owed_is = is }
+  written_none h t owed present is = record { moves = record { carried = nothing s tells h t present; none_served = refl; status = refl }; moved = none_called t; owed_is = is }
 
   pub read_nothing : (h : Point) (t : Traffic) (room : ℕ) → status_at h.hub s ≡ Open → pending_at h.hub s ≡ [] → room ≡ room_at h.hub s → ReadSoFar s tells h t h t room
   read_nothing h t room is_open none is = record {
     moves = record { carried = nothing s tells h t (open_present h.hub s is_open); none_served = refl; status = refl };
+    moved = none_called t;
     is_open = is_open;
     nothing = none;
     room_is = is;
   }
 
   pub driven_none : (h : Point) (t : Traffic) → IsPresentIn h.hub s → DrivenSoFar s tells h t h t 0
-  driven_none h t present = record { carried = nothing s tells h t present; served_is = λ _. refl }
+  driven_none h t present = record { carried = nothing s tells h t present; moved = none_called t; few = omega arith; served_is = λ _. refl }
 
   module _ (old : Point) (before : Traffic) (mid : Point) (between : Traffic) (new : Point) (after : Traffic) where
     abbrev pub moves_then : Moves s tells old before mid between → Moves s tells mid between new after → Moves s tells old before new after
@@ -63,7 +66,11 @@ module _ (s : ℕ) (tells : Bool) where
 
     module _ (owed : ℕ) (p : WrittenSoFar s tells old before mid between owed) where
       pub written_then : (n : ℕ) → WritesSome s tells mid between (Wrote n) new after → WrittenSoFar s tells old before new after (owed - n)
-      written_then n q = record { moves = moves_then p.moves q.moves; owed_is = let was = p.owed_is in let left = q.why.1 in omega arith }
+      written_then n q = record {
+        moves = moves_then p.moves q.moves;
+        moved = moved_then before between after p.moved q.answered.0;
+        owed_is = let was = p.owed_is in let left = q.why.1 in omega arith;
+      }
 
       pub written_within : (n : ℕ) → WritesSome s tells mid between (Wrote n) new after → n ≤ owed
       written_within n q = let was = p.owed_is in let left = q.why.1 in omega arith
@@ -71,25 +78,20 @@ module _ (s : ℕ) (tells : Bool) where
       pub written_blocked : 0 < owed → WritesSome s tells mid between WriteBlocked new after → Flushes s tells old before FlushBlocked new after
       written_blocked some q = record {
         moves = moves_then p.moves q.moves;
-        why =
-            let below : before.write_blocked ≤ between.write_blocked = p.moves.carried.counts.write_blocked in
-            let rose : Rose between.write_blocked after.write_blocked = q.why.0 in
-            (omega arith, λ none. some_more (pending_at mid.hub s) owed p.owed_is some (sym q.why.1 ∙ none));
+        why = (ends_then (Write WriteBlocked) before between after p.moved q.answered, λ none. some_more (pending_at mid.hub s) owed p.owed_is some (sym q.why ∙ none));
       }
 
-      pub written_failed : WritesSome s tells mid between WriteFailed new after → Flushes s tells old before FlushFailed new after
-      written_failed q = record {
+      pub written_failed : 0 < owed → WritesSome s tells mid between WriteFailed new after → Flushes s tells old before FlushFailed new after
+      written_failed some q = record {
         moves = moves_then p.moves q.moves;
-        why =
-            let below : before.write_failed ≤ between.write_failed = p.moves.carried.counts.write_failed in
-            let rose : Rose between.write_failed after.write_failed = q.why in
-            omega arith;
+        why = (ends_then (Write WriteFailed) before between after p.moved q.answered, λ none. some_more (pending_at mid.hub s) owed p.owed_is some (sym q.why ∙ none));
       }
 
     module _ (room : ℕ) (p : ReadSoFar s tells old before mid between room) where
       pub read_then : (n : ℕ) → ReadsSome s tells mid between (Moved n) new after → ReadSoFar s tells old before new after (room - n)
       read_then n q = record {
         moves = moves_then p.moves q.moves;
+        moved = moved_then before between after p.moved q.answered.0;
         is_open = q.moves.status ∙ p.is_open;
         nothing = q.pending ∙ p.nothing;
         room_is = let was = p.room_is in let left = q.why.1 in omega arith;
@@ -98,38 +100,32 @@ module _ (s : ℕ) (tells : Bool) where
       pub read_within : (n : ℕ) → ReadsSome s tells mid between (Moved n) new after → n ≤ room
       read_within n q = let was = p.room_is in let left = q.why.1 in omega arith
 
-      abbrev so_far : Carried s tells mid between new after → Carried s tells old before new after
-      so_far q = and_then s tells old before mid between new after p.moves.carried q
+      abbrev so_far : Moves s tells mid between new after → Moves s tells old before new after
+      so_far q = moves_then p.moves q
 
       pub read_blocked : AwaitsMore mid.hub s → ReadsSome s tells mid between Blocked new after → Exchanges s tells old before ExchangeBlocked new after
       read_blocked more q = record {
-        carried = so_far q.moves.carried;
-        why =
-            let below : before.read_blocked ≤ between.read_blocked = p.moves.carried.counts.read_blocked in
-            let rose : Rose between.read_blocked after.read_blocked = q.why.0 in
-            (omega arith, subst (λ v. AwaitsMore v s) (sym q.why.1) more);
+        carried = (so_far q.moves).carried;
+        few = let none = (so_far q.moves).none_served in omega arith;
+        why = (ends_then (Read Blocked) before between after p.moved q.answered, subst (λ v. AwaitsMore v s) (sym q.why) more);
       }
 
-      pub read_failed : ReadsSome s tells mid between Failed new after → Exchanges s tells old before ExchangeFailed new after
-      read_failed q = record {
-        carried = so_far q.moves.carried;
-        why =
-            let below : before.read_failed ≤ between.read_failed = p.moves.carried.counts.read_failed in
-            let rose : Rose between.read_failed after.read_failed = q.why in
-            omega arith;
+      pub read_failed : AwaitsMore mid.hub s → ReadsSome s tells mid between Failed new after → Exchanges s tells old before ExchangeFailed new after
+      read_failed more q = record {
+        carried = (so_far q.moves).carried;
+        few = let none = (so_far q.moves).none_served in omega arith;
+        why = (ends_then (Read Failed) before between after p.moved q.answered, subst (λ v. AwaitsMore v s) (sym q.why) more);
       }
 
       pub read_ended : AwaitsMore mid.hub s → ReadsSome s tells mid between Ended new after → Exchanges s tells old before ExchangeEnded new after
       read_ended more q = record {
-        carried = so_far q.moves.carried;
-        why =
-            let below : before.read_ended ≤ between.read_ended = p.moves.carried.counts.read_ended in
-            let rose : Rose between.read_ended after.read_ended = q.why.0 in
-            (omega arith, subst (λ v. AwaitsMore v s) (sym q.why.1) more);
+        carried = (so_far q.moves).carried;
+        few = let none = (so_far q.moves).none_served in omega arith;
+        why = (ends_then (Read Ended) before between after p.moved q.answered, subst (λ v. AwaitsMore v s) (sym q.why) more);
       }
 
   pub written_all : (old : Point) (before : Traffic) (new : Point) (after : Traffic) (owed : ℕ) → WrittenSoFar s tells old before new after owed → owed ≡ 0 → Flushes s tells old before Empty new after
-  written_all old before new after owed p none = record { moves = p.moves; why = no_more (pending_at new.hub s) (sym none ∙ p.owed_is) }
+  written_all old before new after owed p none = record { moves = p.moves; why = (p.moved, no_more (pending_at new.hub s) (sym none ∙ p.owed_is)) }
 
   -- ---- a request is looked for
 
@@ -151,7 +147,7 @@ module _ (s : ℕ) (tells : Bool) where
     served = served_event s mid c count st p.moves.carried.runs.last_is opened none happens
 
     abbrev done : Carried s tells old before new between
-    done = and_then s tells old before mid between new between p.moves.carried (alone s tells mid new between served refl refl)
+    done = and_then s tells old before mid between new between p.moves.carried (alone s tells mid new between served (tt, tt) refl refl)
 
     what : Comes st.now (effect s mid c count st p.moves.carried.runs.last_is opened none happens)
     what = comes_to s mid c count st p.moves.carried.runs.last_is opened none happens
@@ -165,27 +161,30 @@ module _ (s : ℕ) (tells : Bool) where
     how_many : length (p.moves.carried.runs.history.served ++ served.history.served) ≡ length served.history.served
     how_many = length-append p.moves.carried.runs.history.served served.history.served ∙ (let a = p.moves.none_served in omega arith)
 
+    none_more : served.history.served ≡ [] → length (p.moves.carried.runs.history.served ++ served.history.served) ≤ 1
+    none_more unserved = let all = how_many in let zero : length served.history.served ≡ 0 = ap length unserved in omega arith
+
     pub serve_starved : outcome ≡ Memory → Exchanges s tells old before ExchangeStarved new between
     serve_starved e = elim what [
       | Answered o status len ↦ absurd (let bad : Done ≡ Memory = sym o ∙ sym effect_outcome ∙ e in cc)
-      | IsBroken o status ↦ absurd (let bad : Done ≡ Memory = sym o ∙ sym effect_outcome ∙ e in cc)
-      | IsStarved o status ↦ record { carried = done; why = status_is ∙ status }
+      | IsBroken o status unserved ↦ absurd (let bad : Done ≡ Memory = sym o ∙ sym effect_outcome ∙ e in cc)
+      | IsStarved o status unserved ↦ record { carried = done; few = none_more unserved; why = (p.moved, status_is ∙ status) }
       | Awaits o same unserved begins ↦ absurd (let bad : Idle ≡ Memory = sym o ∙ sym effect_outcome ∙ e in cc)
     ]
 
     pub serve_open : outcome ≡ Done → status_at new.hub s ≡ Open → Exchanges s tells old before Served new between
     serve_open e is_open = elim what [
-      | Answered o status len ↦ record { carried = done; why = (is_open, how_many ∙ len) }
-      | IsBroken o status ↦ absurd (let bad : Ending ≡ Open = sym status ∙ sym status_is ∙ is_open in cc)
-      | IsStarved o status ↦ absurd (let bad : Memory ≡ Done = sym o ∙ sym effect_outcome ∙ e in cc)
+      | Answered o status len ↦ record { carried = done; few = (let all = how_many in omega arith); why = (p.moved, is_open, how_many ∙ len) }
+      | IsBroken o status unserved ↦ absurd (let bad : Ending ≡ Open = sym status ∙ sym status_is ∙ is_open in cc)
+      | IsStarved o status unserved ↦ absurd (let bad : Memory ≡ Done = sym o ∙ sym effect_outcome ∙ e in cc)
       | Awaits o same unserved begins ↦ absurd (let bad : Idle ≡ Done = sym o ∙ sym effect_outcome ∙ e in cc)
     ]
 
     pub serve_closed : outcome ≡ Done → status_at new.hub s ≢ Open → Exchanges s tells old before ExchangeBroke new between
     serve_closed e is_closed = elim what [
       | Answered o status len ↦ absurd (is_closed (status_is ∙ status))
-      | IsBroken o status ↦ record { carried = done; why = status_is ∙ status }
-      | IsStarved o status ↦ absurd (let bad : Memory ≡ Done = sym o ∙ sym effect_outcome ∙ e in cc)
+      | IsBroken o status unserved ↦ record { carried = done; few = none_more unserved; why = (p.moved, status_is ∙ status) }
+      | IsStarved o status unserved ↦ absurd (let bad : Memory ≡ Done = sym o ∙ sym effect_outcome ∙ e in cc)
       | Awaits o same unserved begins ↦ absurd (let bad : Idle ≡ Done = sym o ∙ sym effect_outcome ∙ e in cc)
     ]
 
@@ -193,8 +192,8 @@ module _ (s : ℕ) (tells : Bool) where
     pub serve_awaits : outcome ≢ Done → outcome ≢ Memory → ReadSoFar s tells old before new between room × AwaitsMore new.hub s × (0 < room)
     serve_awaits not_done not_memory = elim what [
       | Answered o status len ↦ absurd (not_done (effect_outcome ∙ o))
-      | IsBroken o status ↦ absurd (not_done (effect_outcome ∙ o))
-      | IsStarved o status ↦ absurd (not_memory (effect_outcome ∙ o))
+      | IsBroken o status unserved ↦ absurd (not_done (effect_outcome ∙ o))
+      | IsStarved o status unserved ↦ absurd (not_memory (effect_outcome ∙ o))
       | Awaits o same unserved begins ↦
           let inbox_now : inbox_at new.hub s ≡ st.now.inbox = ap inbox_in served.last_is ∙ ap (λ n. n.inbox) same in
           let pending_now : pending_at new.hub s ≡ [] = ap pending_in served.last_is ∙ ap (λ n. n.pending) same ∙ none in
@@ -204,11 +203,12 @@ module _ (s : ℕ) (tells : Bool) where
           let room_was : room ≡ 32768 - length st.now.inbox = p.room_is ∙ ap room_in p.moves.carried.runs.last_is in (
             record {
               moves = record { carried = done; none_served = how_many ∙ ap length unserved; status = status_now ∙ sym p.is_open ∙ p.moves.status };
+              moved = p.moved;
               is_open = status_now;
               nothing = pending_now;
               room_is = p.room_is ∙ sym room_now;
             },
-            (pending_now, subst IsProperBeginning (sym inbox_now) begins),
+            (status_now, pending_now, subst IsProperBeginning (sym inbox_now) begins),
             omega arith,
           )
     ]
@@ -223,9 +223,11 @@ module _ (s : ℕ) (tells : Bool) where
     total q = length-append p.carried.runs.history.served q.runs.history.served
 
     -- the output was written, as far as it goes
-    abbrev pub driven_flushed : Moves s tells mid between new after → DrivenSoFar s tells old before new after count
-    driven_flushed q = record {
+    abbrev pub driven_flushed : Moves s tells mid between new after → AllMoved between after → DrivenSoFar s tells old before new after count
+    driven_flushed q moved = record {
       carried = further q.carried;
+      moved = moved_then before between after p.moved moved;
+      few = let all = total q.carried in let none = q.none_served in omega (arith, p.few);
       served_is = λ is_open.
           let all = total q.carried in
           let first : served_in p.carried ≡ count = p.served_is (sym q.status ∙ is_open) in
@@ -233,101 +235,118 @@ module _ (s : ℕ) (tells : Bool) where
           all ∙ omega arith;
     }
 
+    abbrev more : (q : Carried s tells mid between new after) → served_in q ≤ 1 → served_in (further q) ≤ count + 1
+    more q few = let all = total q in omega (arith, p.few)
+
     pub driven_served : status_at mid.hub s ≡ Open → Exchanges s tells mid between Served new after → DrivenSoFar s tells old before new after (count + 1)
     driven_served was_open q = record {
       carried = further q.carried;
+      moved = moved_then before between after p.moved q.why.0;
+      few = more q.carried q.few;
       served_is = λ _.
           let all = total q.carried in
           let first : served_in p.carried ≡ count = p.served_is was_open in
-          let one : served_in q.carried ≡ 1 = q.why.1 in
+          let one : served_in q.carried ≡ 1 = q.why.2 in
           all ∙ omega arith;
     }
 
     pub driven_broke : Exchanges s tells mid between ExchangeBroke new after → DrivenSoFar s tells old before new after (count + 1)
     driven_broke q = record {
       carried = further q.carried;
-      served_is = λ is_open. absurd (let bad : Open ≡ Ending = sym is_open ∙ q.why in cc);
+      moved = moved_then before between after p.moved q.why.0;
+      few = more q.carried q.few;
+      served_is = λ is_open. absurd (let bad : Open ≡ Ending = sym is_open ∙ q.why.1 in cc);
     }
 
-    pub waits_to_write : Flushes s tells mid between FlushBlocked new after → Drove s tells old before Waiting new after
-    waits_to_write q = record {
+    few_flushed : count ≤ 64 → (q : Moves s tells mid between new after) → served_in (further q.carried) ≤ 64
+    few_flushed le q = let all = total q.carried in let none = q.none_served in omega (arith, p.few)
+
+    few_served : count < 64 → (q : Carried s tells mid between new after) → served_in q ≤ 1 → served_in (further q) ≤ 64
+    few_served lt q few = let all = more q few in omega arith
+
+    pub waits_to_write : count ≤ 64 → Flushes s tells mid between FlushBlocked new after → Drove s tells old before Waiting new after
+    waits_to_write le q = record {
       last = new;
       carried = further q.moves.carried;
+      few = few_flushed le q.moves;
       ends = refl;
-      why =
-          let below : before.write_blocked ≤ between.write_blocked = p.carried.counts.write_blocked in
-          let rose : Rose between.write_blocked after.write_blocked = q.why.0 in
-          inl (omega arith, q.why.1);
+      why = inl (ends_then (Write WriteBlocked) before between after p.moved q.why.0, q.why.1);
     }
 
-    pub waits_to_read : Exchanges s tells mid between ExchangeBlocked new after → Drove s tells old before Waiting new after
-    waits_to_read q = record {
+    pub waits_to_read : count < 64 → Exchanges s tells mid between ExchangeBlocked new after → Drove s tells old before Waiting new after
+    waits_to_read lt q = record {
       last = new;
       carried = further q.carried;
+      few = few_served lt q.carried q.few;
       ends = refl;
-      why =
-          let below : before.read_blocked ≤ between.read_blocked = p.carried.counts.read_blocked in
-          let rose : Rose between.read_blocked after.read_blocked = q.why.0 in
-          inr (omega arith, q.why.1);
+      why = inr (ends_then (Read Blocked) before between after p.moved q.why.0, q.why.1);
     }
 
-    module _ (gone : Point) (parts : Parts s new gone) where
-      pub gone_writing : Flushes s tells mid between FlushFailed new after → Drove s tells old before Gone gone after
-      gone_writing q = record {
+    module _ (gone : Point) (departs : Departs s new gone) where
+      pub gone_writing : count ≤ 64 → Flushes s tells mid between FlushFailed new after → Drove s tells old before Gone gone after
+      gone_writing le q = record {
         last = new;
         carried = further q.moves.carried;
-        ends = parts;
-        why =
-            let below : before.write_failed ≤ between.write_failed = p.carried.counts.write_failed in
-            let rose : Rose between.write_failed after.write_failed = q.why in
-            inr (inl (omega arith));
+        few = few_flushed le q.moves;
+        ends = departs;
+        why = inr (inl (ends_then (Write WriteFailed) before between after p.moved q.why.0, q.why.1));
       }
 
-      gone_reading : Exchanges s tells mid between ExchangeFailed new after → Drove s tells old before Gone gone after
-      gone_reading q = record {
-        last = new;
-        carried = further q.carried;
-        ends = parts;
-        why =
-            let below : before.read_failed ≤ between.read_failed = p.carried.counts.read_failed in
-            let rose : Rose between.read_failed after.read_failed = q.why in
-            inl (omega arith);
-      }
+      module _ (lt : count < 64) where
+        gone_reading : Exchanges s tells mid between ExchangeFailed new after → Drove s tells old before Gone gone after
+        gone_reading q = record {
+          last = new;
+          carried = further q.carried;
+          few = few_served lt q.carried q.few;
+          ends = departs;
+          why = inl (ends_then (Read Failed) before between after p.moved q.why.0, q.why.1);
+        }
 
-      gone_at_end : Exchanges s tells mid between ExchangeEnded new after → Drove s tells old before Gone gone after
-      gone_at_end q = record {
-        last = new;
-        carried = further q.carried;
-        ends = parts;
-        why =
-            let below : before.read_ended ≤ between.read_ended = p.carried.counts.read_ended in
-            let rose : Rose between.read_ended after.read_ended = q.why.0 in
-            inr (inr (inl (omega arith, q.why.1)));
-      }
+        gone_at_end : Exchanges s tells mid between ExchangeEnded new after → Drove s tells old before Gone gone after
+        gone_at_end q = record {
+          last = new;
+          carried = further q.carried;
+          few = few_served lt q.carried q.few;
+          ends = departs;
+          why = inr (inr (inl (ends_then (Read Ended) before between after p.moved q.why.0, q.why.1)));
+        }
 
-      gone_starved : Exchanges s tells mid between ExchangeStarved new after → Drove s tells old before Gone gone after
-      gone_starved q = record { last = new; carried = further q.carried; ends = parts; why = inr (inr (inr (inl q.why))) }
+        gone_starved : Exchanges s tells mid between ExchangeStarved new after → Drove s tells old before Gone gone after
+        gone_starved q = record {
+          last = new;
+          carried = further q.carried;
+          few = few_served lt q.carried q.few;
+          ends = departs;
+          why = inr (inr (inr (moved_then before between after p.moved q.why.0, inl q.why.1)));
+        }
 
-      -- which of these, by the answer
-      pub gone_serving : (answer : Exchange) → answer ≢ Served → answer ≢ ExchangeBroke → answer ≢ ExchangeBlocked → Exchanges s tells mid between answer new after → Drove s tells old before Gone gone after
-      gone_serving Served a b c q = absurd (a refl)
-      gone_serving ExchangeBroke a b c q = absurd (b refl)
-      gone_serving ExchangeBlocked a b c q = absurd (c refl)
-      gone_serving ExchangeStarved a b c q = gone_starved q
-      gone_serving ExchangeFailed a b c q = gone_reading q
-      gone_serving ExchangeEnded a b c q = gone_at_end q
+        -- which of these, by the answer
+        pub gone_serving : (answer : Exchange) → answer ≢ Served → answer ≢ ExchangeBroke → answer ≢ ExchangeBlocked → Exchanges s tells mid between answer new after → Drove s tells old before Gone gone after
+        gone_serving Served a b c q = absurd (a refl)
+        gone_serving ExchangeBroke a b c q = absurd (b refl)
+        gone_serving ExchangeBlocked a b c q = absurd (c refl)
+        gone_serving ExchangeStarved a b c q = gone_starved q
+        gone_serving ExchangeFailed a b c q = gone_reading q
+        gone_serving ExchangeEnded a b c q = gone_at_end q
 
       -- nothing is pending, and the session is no longer open
-      pub gone_closed : Flushes s tells mid between Empty new after → status_at new.hub s ≢ Open → Drove s tells old before Gone gone after
-      gone_closed q is_closed = record {
+      pub gone_closed : count ≤ 64 → Flushes s tells mid between Empty new after → status_at new.hub s ≢ Open → Drove s tells old before Gone gone after
+      gone_closed le q is_closed = record {
         last = new;
         carried = further q.moves.carried;
-        ends = parts;
-        why = inr (inr (inr (closed_kinds (status_at new.hub s) q.moves.carried.runs.present is_closed q.why)));
+        few = few_flushed le q.moves;
+        ends = departs;
+        why = inr (inr (inr (moved_then before between after p.moved q.why.0, closed_kinds (status_at new.hub s) q.moves.carried.runs.present is_closed q.why.1)));
       }
 
     pub again : Flushes s tells mid between Empty new after → count ≡ 64 → status_at new.hub s ≡ Open → Drove s tells old before Again new after
-    again q all is_open = record { last = new; carried = further q.moves.carried; ends = refl; why = ((driven_flushed q.moves).served_is is_open ∙ all, q.why) }
+    again q all is_open = record {
+      last = new;
+      carried = further q.moves.carried;
+      few = few_flushed (omega arith) q.moves;
+      ends = refl;
+      why = (moved_then before between after p.moved q.why.0, (driven_flushed q.moves q.why.0).served_is is_open ∙ all, is_open, q.why.1);
+    }
 
 -- a request was looked for, and there is only the beginning of one
 abbrev pub HasRead : ℕ → Bool → Traffic → Traffic → ℕ → Point → Point → Type 0

@@ -1,7 +1,8 @@
 -- What the parts of a drive do.
-use Rattle.std.specs.Prelude.{◌≡◌, ◌≢◌, ℕ, ◌+◌, ◌<◌, Bool, [], length}
+use Rattle.std.specs.Prelude.{◌≡◌, ◌≢◌, ℕ, ◌+◌, ◌<◌, ◌≤◌, Bool, [], length}
 use Rattle.sessions.specs.declared.events.Status.TheVariants.{Open, Ending, Refused}
 use Rattle.sessions.specs.SessionStreams.{HubState}
+use Rattle.stream_driver.specs.declared.answers.Call.TheVariants.{Read, Write}
 use Rattle.stream_driver.specs.declared.answers.ReadAnswer.{ReadAnswer}
 use Rattle.stream_driver.specs.declared.answers.ReadAnswer.TheVariants.{Moved, Blocked, Failed, Ended}
 use Rattle.stream_driver.specs.declared.answers.WriteAnswer.{WriteAnswer}
@@ -10,7 +11,7 @@ use Rattle.stream_driver.specs.declared.driving.Flush.{Flush}
 use Rattle.stream_driver.specs.declared.driving.Flush.TheVariants.{Empty, Blocked as FlushBlocked, Failed as FlushFailed}
 use Rattle.stream_driver.specs.declared.driving.Exchange.{Exchange}
 use Rattle.stream_driver.specs.declared.driving.Exchange.TheVariants.{Served, Broke, Starved, Blocked as ExchangeBlocked, Failed as ExchangeFailed, Ended as ExchangeEnded}
-use Rattle.stream_driver.specs.Traffic.{Traffic, Rose}
+use Rattle.stream_driver.specs.Traffic.{Traffic, AllMoved, EndsWith}
 use Rattle.stream_driver.specs.Sessions.{Point, status_at, room_at, pending_at, AwaitsMore}
 use Rattle.stream_driver.specs.Drives.{Carried}
 
@@ -25,58 +26,63 @@ pub record Moves (s : ℕ) (tells : Bool) (old : Point) (before : Traffic) (new 
   pub status : status_at new.hub s ≡ status_at old.hub s
 
 -- one write
-abbrev pub WhyWrote : ℕ → HubState → HubState → Traffic → Traffic → WriteAnswer → Type 0
-WhyWrote s old new before after (Wrote n) = (0 < n) × (length (pending_at new s) + n ≡ length (pending_at old s))
-WhyWrote s old new before after WriteBlocked = Rose before.write_blocked after.write_blocked × (pending_at new s ≡ pending_at old s)
-WhyWrote s old new before after WriteFailed = Rose before.write_failed after.write_failed
+abbrev pub WhyWrote : ℕ → HubState → HubState → WriteAnswer → Type 0
+WhyWrote s old new (Wrote n) = (0 < n) × (length (pending_at new s) + n ≡ length (pending_at old s))
+WhyWrote s old new WriteBlocked = pending_at new s ≡ pending_at old s
+WhyWrote s old new WriteFailed = pending_at new s ≡ pending_at old s
 
 pub record WritesSome (s : ℕ) (tells : Bool) (old : Point) (before : Traffic) (answer : WriteAnswer) (new : Point) (after : Traffic) : Type 0 where
   pub moves : Moves s tells old before new after
-  pub why : WhyWrote s old.hub new.hub before after answer
+  pub answered : EndsWith (Write answer) before after
+  pub why : WhyWrote s old.hub new.hub answer
 
 -- why the writing stopped
 abbrev pub WhyFlushed : ℕ → HubState → Traffic → Traffic → Flush → Type 0
-WhyFlushed s new before after Empty = pending_at new s ≡ []
-WhyFlushed s new before after FlushBlocked = Rose before.write_blocked after.write_blocked × (pending_at new s ≢ [])
-WhyFlushed s new before after FlushFailed = Rose before.write_failed after.write_failed
+WhyFlushed s new before after Empty = AllMoved before after × (pending_at new s ≡ [])
+WhyFlushed s new before after FlushBlocked = EndsWith (Write WriteBlocked) before after × (pending_at new s ≢ [])
+WhyFlushed s new before after FlushFailed = EndsWith (Write WriteFailed) before after × (pending_at new s ≢ [])
 
 pub record Flushes (s : ℕ) (tells : Bool) (old : Point) (before : Traffic) (answer : Flush) (new : Point) (after : Traffic) : Type 0 where
   pub moves : Moves s tells old before new after
   pub why : WhyFlushed s new.hub before after answer
 
 -- one read
-abbrev pub WhyRead : ℕ → HubState → HubState → Traffic → Traffic → ReadAnswer → Type 0
-WhyRead s old new before after (Moved n) = (0 < n) × (room_at new s + n ≡ room_at old s)
-WhyRead s old new before after Blocked = Rose before.read_blocked after.read_blocked × (new ≡ old)
-WhyRead s old new before after Failed = Rose before.read_failed after.read_failed
-WhyRead s old new before after Ended = Rose before.read_ended after.read_ended × (new ≡ old)
+abbrev pub WhyRead : ℕ → HubState → HubState → ReadAnswer → Type 0
+WhyRead s old new (Moved n) = (0 < n) × (room_at new s + n ≡ room_at old s)
+WhyRead s old new Blocked = new ≡ old
+WhyRead s old new Failed = new ≡ old
+WhyRead s old new Ended = new ≡ old
 
 pub record ReadsSome (s : ℕ) (tells : Bool) (old : Point) (before : Traffic) (answer : ReadAnswer) (new : Point) (after : Traffic) : Type 0 where
   pub moves : Moves s tells old before new after
   pub pending : pending_at new.hub s ≡ pending_at old.hub s
-  pub why : WhyRead s old.hub new.hub before after answer
+  pub answered : EndsWith (Read answer) before after
+  pub why : WhyRead s old.hub new.hub answer
 
 -- one request: it was executed, or no request began there, or memory was refused, or the stream stopped at a beginning of one
 abbrev pub WhyExchanged : ℕ → HubState → Traffic → Traffic → ℕ → Exchange → Type 0
-WhyExchanged s new before after served Served = (status_at new s ≡ Open) × (served ≡ 1)
-WhyExchanged s new before after served Broke = status_at new s ≡ Ending
-WhyExchanged s new before after served Starved = status_at new s ≡ Refused
-WhyExchanged s new before after served ExchangeBlocked = Rose before.read_blocked after.read_blocked × AwaitsMore new s
-WhyExchanged s new before after served ExchangeFailed = Rose before.read_failed after.read_failed
-WhyExchanged s new before after served ExchangeEnded = Rose before.read_ended after.read_ended × AwaitsMore new s
+WhyExchanged s new before after served Served = AllMoved before after × (status_at new s ≡ Open) × (served ≡ 1)
+WhyExchanged s new before after served Broke = AllMoved before after × (status_at new s ≡ Ending)
+WhyExchanged s new before after served Starved = AllMoved before after × (status_at new s ≡ Refused)
+WhyExchanged s new before after served ExchangeBlocked = EndsWith (Read Blocked) before after × AwaitsMore new s
+WhyExchanged s new before after served ExchangeFailed = EndsWith (Read Failed) before after × AwaitsMore new s
+WhyExchanged s new before after served ExchangeEnded = EndsWith (Read Ended) before after × AwaitsMore new s
 
 pub record Exchanges (s : ℕ) (tells : Bool) (old : Point) (before : Traffic) (answer : Exchange) (new : Point) (after : Traffic) : Type 0 where
   pub carried : Carried s tells old before new after
+  pub few : served_in carried ≤ 1
   pub why : WhyExchanged s new.hub before after (served_in carried) answer
 
 -- between two writes: so much is pending
 pub record WrittenSoFar (s : ℕ) (tells : Bool) (old : Point) (before : Traffic) (new : Point) (after : Traffic) (owed : ℕ) : Type 0 where
   pub moves : Moves s tells old before new after
+  pub moved : AllMoved before after
   pub owed_is : owed ≡ length (pending_at new.hub s)
 
 -- between two reads: so much room is left
 pub record ReadSoFar (s : ℕ) (tells : Bool) (old : Point) (before : Traffic) (new : Point) (after : Traffic) (room : ℕ) : Type 0 where
   pub moves : Moves s tells old before new after
+  pub moved : AllMoved before after
   pub is_open : status_at new.hub s ≡ Open
   pub nothing : pending_at new.hub s ≡ []
   pub room_is : room ≡ room_at new.hub s
@@ -84,4 +90,6 @@ pub record ReadSoFar (s : ℕ) (tells : Bool) (old : Point) (before : Traffic) (
 -- between two requests
 pub record DrivenSoFar (s : ℕ) (tells : Bool) (old : Point) (before : Traffic) (new : Point) (after : Traffic) (served : ℕ) : Type 0 where
   pub carried : Carried s tells old before new after
+  pub moved : AllMoved before after
+  pub few : served_in carried ≤ served
   pub served_is : status_at new.hub s ≡ Open → served_in carried ≡ served

@@ -1,16 +1,16 @@
 -- One session of a hub, and what a run of its events adds to its history.
-use Rattle.std.specs.Prelude.{◌≡◌, ◌≢◌, ℕ, ◌≤◌, true, List, [], ◌++◌, Option, Some, None}
+use Rattle.std.specs.Prelude.{◌≡◌, ◌≢◌, ℕ, ◌≤◌, true, List, [], ◌∷◌, ◌++◌, Option, Some, None}
 use Rattle.std.specs.List.{flat_map, AllByRecursion}
 use Rattle.model.specs.Map.{Bytes}
 use Rattle.model.specs.Operations.{Response}
 use Rattle.model.specs.Grammar.{IsProperBeginning}
 use Rattle.model.specs.ReplyText.{reply_text}
 use Rattle.sessions.specs.declared.events.Status.{Status}
-use Rattle.sessions.specs.declared.events.Status.TheVariants.{Absent}
+use Rattle.sessions.specs.declared.events.Status.TheVariants.{Absent, Open}
 use Rattle.sector.specs.declared.device.Sectors.{Ghosts}
 use Rattle.engine.specs.Meaning.{has_risen}
 use Rattle.sessions.specs.declared.hub.Hub.{Hub}
-use Rattle.sessions.specs.SessionStreams.{HubState, SessionStream, HubEvent, Joins, Receives, Serves, Sends, Leaves, Choice, ArePossible, run, stream_of}
+use Rattle.sessions.specs.SessionStreams.{HubState, SessionStream, HubEvent, Joins, Receives, Serves, Sends, Leaves, Choice, ArePossible, hub_step, run, stream_of}
 use Rattle.sessions.specs.StandsFor.{StandsFor, status_in, room_in, pending_in, failures}
 use Rattle.sessions.specs.Laws.{failures_in}
 
@@ -33,9 +33,9 @@ inbox_at h s = inbox_in (stream_of h s)
 abbrev pub IsPresentIn : HubState → ℕ → Type 0
 IsPresentIn h s = status_at h s ≢ Absent
 
--- the session waits for the rest of a request
+-- the session is open, owes no reply, and waits for the rest of a request
 abbrev pub AwaitsMore : HubState → ℕ → Type 0
-AwaitsMore h s = (pending_at h s ≡ []) × IsProperBeginning (inbox_at h s)
+AwaitsMore h s = (status_at h s ≡ Open) × (pending_at h s ≡ []) × IsProperBeginning (inbox_at h s)
 
 -- the hub stands for some state that is so
 abbrev pub InSomeState : {D : Type 0} {g : Ghosts D} → Hub D g → (HubState → Type 0) → Type 0
@@ -100,3 +100,15 @@ pub record Runs (s : ℕ) (old new : Point) : Type 0 where
   pub history : GoesOn first last
   pub present : IsPresentIn new.hub s
   pub others : (t : ℕ) → t ≢ s → stream_of new.hub t ≡ stream_of old.hub t
+
+-- bytes come in only where the session waits for the rest of a request
+abbrev pub ComesInTurn : HubState → HubEvent → Type 0
+ComesInTurn h (Receives s piece) = AwaitsMore h s
+ComesInTurn h (Joins s) = Unit {0}
+ComesInTurn h (Serves s) = Unit {0}
+ComesInTurn h (Sends s n) = Unit {0}
+ComesInTurn h (Leaves s) = Unit {0}
+
+abbrev pub ComeInTurn : HubState → List (HubEvent × Choice) → Type 0
+ComeInTurn h [] = Unit {0}
+ComeInTurn h (x ∷ xs) = ComesInTurn h x.0 × ComeInTurn (hub_step h x.0 x.1).0 xs

@@ -1,11 +1,13 @@
 -- What a stream has moved and answered so far.
-use Rattle.std.specs.Prelude.{◌≡◌, ℕ, ◌+◌, ◌<◌, ◌≤◌, ◌^◌, ◌-◌, min, max, List}
+use Rattle.std.specs.Prelude.{◌≡◌, ℕ, ◌+◌, ◌<◌, ◌≤◌, ◌^◌, ◌-◌, min, max, List, Option, Some}
+use Rattle.stream_driver.specs.declared.answers.Call.{Call}
+use Rattle.stream_driver.specs.declared.answers.Call.TheVariants.{Read, Write}
 use Rattle.stream_driver.specs.declared.answers.ReadAnswer.{ReadAnswer}
 use Rattle.stream_driver.specs.declared.answers.ReadAnswer.TheVariants.{Moved, Blocked, Failed, Ended}
 use Rattle.stream_driver.specs.declared.answers.WriteAnswer.{WriteAnswer}
 use Rattle.stream_driver.specs.declared.answers.WriteAnswer.TheVariants.{Moved as Wrote, Blocked as WriteBlocked, Failed as WriteFailed}
 
--- the bytes that reads gave and writes took, and how often each call gave each answer but `Moved`
+-- the bytes that reads gave and writes took, how often each call gave each answer but `Moved`, and the last call with its answer
 pub record Traffic : Type 0 where
   pub given : List ℕ
   pub taken : List ℕ
@@ -14,14 +16,11 @@ pub record Traffic : Type 0 where
   pub read_ended : ℕ
   pub write_blocked : ℕ
   pub write_failed : ℕ
+  pub last : Option Call
 
 -- a u64 count after one more: the highest stays
 abbrev pub one_more : ℕ → ℕ
 one_more count = max count (min (count + 1) (2 ^ 64 - 1))
-
--- the count rose, or could not
-abbrev pub Rose : ℕ → ℕ → Type 0
-Rose old new = one_more old ≤ new
 
 -- a read or a write that moves bytes moves one at least, and no more than there are
 abbrev pub ReadsWithin : ReadAnswer → ℕ → Type 0
@@ -40,7 +39,7 @@ abbrev pub bytes_written : WriteAnswer → ℕ
 bytes_written (Wrote n) = n
 bytes_written _ = 0
 
--- the same bytes, and what the counts are after this answer
+-- what the counts are after this answer; all else is the same
 abbrev pub after_read : ReadAnswer → Traffic → Traffic
 after_read (Moved n) t = t
 after_read Blocked t = record t { read_blocked = one_more t.read_blocked }
@@ -57,3 +56,14 @@ abbrev pub SameCounts : Traffic → Traffic → Type 0
 SameCounts a b =
     (a.read_blocked ≡ b.read_blocked) × (a.read_failed ≡ b.read_failed) × (a.read_ended ≡ b.read_ended)
     × (a.write_blocked ≡ b.write_blocked) × (a.write_failed ≡ b.write_failed)
+
+abbrev pub after_call : Call → Traffic → Traffic
+after_call (Read answer) = after_read answer
+after_call (Write answer) = after_write answer
+
+-- each call between the two moved bytes, if there was one; and the last call was this one, and each before it moved bytes
+abbrev pub AllMoved : Traffic → Traffic → Type 0
+AllMoved before after = SameCounts after before
+
+abbrev pub EndsWith : Call → Traffic → Traffic → Type 0
+EndsWith call before after = SameCounts after (after_call call before) × (after.last ≡ Some call)

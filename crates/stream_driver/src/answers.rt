@@ -24,6 +24,13 @@ pub enum WriteAnswer {
     Failed,
 }
 
+/// A call of a stream, with its answer.
+#[derive(Clone, Copy, PartialEq, Eq, Debug)]
+pub enum Call {
+    Read(ReadAnswer),
+    Write(WriteAnswer),
+}
+
 /// What a drive came to.
 #[derive(Clone, Copy, PartialEq, Eq, Debug)]
 pub enum Progress {

@@ -2,8 +2,8 @@
 ghost use Rattle.std.specs.Prelude.{◌≡◌, ◌<◌, ◌≤◌, length, []};
 ghost use Rattle.sessions.specs.declared.events.Status.TheVariants.{Open};
 ghost use Rattle.sessions.specs.StandsFor.{failures};
-ghost use Rattle.stream_driver.specs.Sessions.{InSomeState, IsPresent, IsPresentIn, Leads, pending_at, status_at, room_at};
-ghost use Rattle.stream_driver.specs.Drives.{Drove, Parts};
+ghost use Rattle.stream_driver.specs.Sessions.{AwaitsMore, InSomeState, IsPresent, IsPresentIn, Leads, pending_at, status_at, room_at};
+ghost use Rattle.stream_driver.specs.Drives.{Drove, Departs};
 ghost use Rattle.stream_driver.specs.Calls.{WritesSome, Flushes, ReadsSome, Exchanges};
 
 use crate::answers::{Progress, ReadAnswer, WriteAnswer};
@@ -66,7 +66,7 @@ fn write_out<D: Sectors, S: Stream>(hub: &mut Hub<D>, s: u64, stream: &mut S) ->
     Flush::Empty
 }
 
-// One read into the inbox, which has so much room.
+// One read into the inbox, which has so much room and holds only the beginning of a request.
 fn read_some<D: Sectors, S: Stream>(
     hub: &mut Hub<D>,
     s: u64,
@@ -76,14 +76,14 @@ fn read_some<D: Sectors, S: Stream>(
     requires some { 0 < room }
     requires opened { InSomeState hub.old (λ h. (status_at h s ≡ Open) × (room ≡ room_at h s)) }
     ensures device { failures hub.old ≤ failures hub.new }
-    ensures read { Leads hub.old hub.new (λ h k. ReadsSome s S.tells h (S.traffic stream.old) result k (S.traffic stream.new)) }
+    ensures read { Leads hub.old hub.new (λ h k. AwaitsMore h.hub s → ReadsSome s S.tells h (S.traffic stream.old) result k (S.traffic stream.new)) }
 {
     let mut buffer = [0u8; READ_MAX];
     let most = room.min(READ_MAX);
-    let part = &mut buffer[..most];
-    let answer = stream.read(part);
+    let piece = &mut buffer[..most];
+    let answer = stream.read(piece);
     if let ReadAnswer::Moved(n) = answer {
-        let _ = hub.step(&Event::Bytes(s, &part[..n]));
+        let _ = hub.step(&Event::Bytes(s, &piece[..n]));
     }
     answer
 }
@@ -116,10 +116,10 @@ fn serve_one<D: Sectors, S: Stream>(hub: &mut Hub<D>, s: u64, stream: &mut S) ->
 }
 
 // The session leaves.
-fn part<D: Sectors>(hub: &mut Hub<D>, s: u64) -> Progress
+fn depart<D: Sectors>(hub: &mut Hub<D>, s: u64) -> Progress
     ensures answer { result ≡ Progress.Gone }
     ensures device { failures hub.old ≤ failures hub.new }
-    ensures left { Leads hub.old hub.new (λ h k. Parts s h k) }
+    ensures left { Leads hub.old hub.new (λ h k. Departs s h k) }
 {
     let _ = hub.step(&Event::Left(s));
     Progress::Gone
@@ -129,9 +129,12 @@ fn part<D: Sectors>(hub: &mut Hub<D>, s: u64) -> Progress
 /// requests were served and their replies sent.
 ///
 /// It writes what is pending; where nothing is, it serves a request; where the inbox holds only the beginning of one, it reads, at most
-/// `READ_MAX` bytes and never more than the inbox has room for. A call of the stream that fails, the stream's end (what was read of a
-/// request is dropped), a broken frame once its reply was written, and a request that was refused memory make the session leave, which
-/// aborts its transaction. Other sessions are unchanged.
+/// `READ_MAX` bytes and never more than the inbox has room for. A call of the stream that moves no bytes is the last of the drive.
+///
+/// `Waiting` where a write blocked, or a read while the inbox held only the beginning of a request. `Again` where the session is open and
+/// owes no reply after `REQUESTS_MAX` requests. `Gone` where the session has left, which aborts its transaction: a call of the stream
+/// failed, the stream ended (what was read of a request is dropped), a request was refused memory, or there was a broken frame, whose reply
+/// is written. Other sessions are unchanged.
 ///
 /// The device failed in none of these requests where its count of failures did not rise.
 ///
@@ -145,25 +148,25 @@ pub fn drive<D: Sectors, S: Stream>(hub: &mut Hub<D>, s: u64, stream: &mut S) ->
         match write_out(hub, s, stream) {
             Flush::Empty => {}
             Flush::Blocked => return Progress::Waiting,
-            Flush::Failed => return part(hub, s),
+            Flush::Failed => return depart(hub, s),
         }
         match hub.status(s) {
             Status::Open => {}
-            _ => return part(hub, s),
+            _ => return depart(hub, s),
         }
         match serve_one(hub, s, stream) {
             Exchange::Served | Exchange::Broke => {}
             Exchange::Blocked => return Progress::Waiting,
-            _ => return part(hub, s),
+            _ => return depart(hub, s),
         }
     }
     match write_out(hub, s, stream) {
         Flush::Empty => {}
         Flush::Blocked => return Progress::Waiting,
-        Flush::Failed => return part(hub, s),
+        Flush::Failed => return depart(hub, s),
     }
     match hub.status(s) {
         Status::Open => Progress::Again,
-        _ => part(hub, s),
+        _ => depart(hub, s),
     }
 }

@@ -7,7 +7,7 @@ mod driving;
 mod entries;
 mod stream;
 
-pub use answers::{Progress, ReadAnswer, WriteAnswer};
+pub use answers::{Call, Progress, ReadAnswer, WriteAnswer};
 pub use driving::{READ_MAX, REQUESTS_MAX, drive};
 pub use entries::{Entry, EntryState, drive_ready};
 pub use stream::Stream;

@@ -1,20 +1,20 @@
 //! Connections.
 
-use crate::answers::{ReadAnswer, WriteAnswer};
+use crate::answers::{Call, ReadAnswer, WriteAnswer};
 
 /// A connection whose calls don't wait.
 ///
-/// What it has moved and answered is told by five counts, of each answer but `Moved` of each call, and by the bytes that went each way.
-/// A count is a u64: it rises with its answer, and once it stands at 2^64 - 1 it stays. The bytes are claimed of a type that tells
-/// them alone; a socket leaves them open.
+/// What it has moved and answered is told by five counts, of each answer but `Moved` of each call, by the last call with its answer, and
+/// by the bytes that went each way. A count is a u64: it rises with its answer, and once it stands at 2^64 - 1 it stays. The bytes are
+/// claimed of a type that tells them alone; a socket leaves them open.
 pub trait Stream: Drop {
     ghost use Rattle.std.specs.Prelude.{◌≡◌, ◌<◌, ◌++◌, Bool, IsTrue, length, take};
-    ghost use Rattle.stream_driver.specs.Traffic.{Traffic, ReadsWithin, WritesWithin, bytes_read, bytes_written, after_read, after_write, SameCounts};
+    ghost use Rattle.stream_driver.specs.Traffic.{Traffic, ReadsWithin, WritesWithin, bytes_read, bytes_written, EndsWith};
 
     /// The bytes of `traffic` are those that the calls moved.
     ghost tells: { Bool };
 
-    /// The bytes that were moved, and how often each call gave each answer but `Moved`.
+    /// The bytes that were moved, how often each call gave each answer but `Moved`, and the last call with its answer.
     ghost traffic: { Self → Traffic };
 
     /// Reads at least one byte and at most as many as `into` holds, or answers why none came. What it answers stands at the front of
@@ -24,7 +24,7 @@ pub trait Stream: Drop {
         ensures within { ReadsWithin result (length into.old) }
         ensures given { IsTrue tells → (traffic self.new).given ≡ (traffic self.old).given ++ take (bytes_read result) into.new }
         ensures taken { IsTrue tells → (traffic self.new).taken ≡ (traffic self.old).taken }
-        ensures counts { SameCounts (traffic self.new) (after_read result (traffic self.old)) };
+        ensures answered { EndsWith (Call.Read result) (traffic self.old) (traffic self.new) };
 
     /// Writes at least one byte from the front of `from`, or answers why none went. Takes no memory that a caller sees.
     fn write(&mut self, from: &[u8]) -> WriteAnswer
@@ -32,5 +32,5 @@ pub trait Stream: Drop {
         ensures within { WritesWithin result (length from.now) }
         ensures given { IsTrue tells → (traffic self.new).given ≡ (traffic self.old).given }
         ensures taken { IsTrue tells → (traffic self.new).taken ≡ (traffic self.old).taken ++ take (bytes_written result) from.now }
-        ensures counts { SameCounts (traffic self.new) (after_write result (traffic self.old)) };
+        ensures answered { EndsWith (Call.Write result) (traffic self.old) (traffic self.new) };
 }

@@ -1,4 +1,4 @@
-use Rattle.std.proofs.Common.{inl, inr, ◌≡◌, arith, sym, ◌∙◌, []}
+use Rattle.std.proofs.Common.{inl, inr, ◌≡◌, ◌<◌, ◌≤◌, arith, sym, ◌∙◌, []}
 use Rattle.sessions.specs.declared.events.Status.TheVariants.{Open}
 use Rattle.stream_driver.specs.Sessions.{status_at, pending_at}
 use Rattle.stream_driver.proofs.States.{present_at, leads_then, leads_three, leads_four, some_after}
@@ -17,35 +17,38 @@ returns-in-Blocked g c =
     record {
       device = omega (arith, c.requests.invariant.0, c.write_out.ensures.device);
       driven =
+          let below : c.requests._served ≤ 64 = omega arith in
           leads_then c.args.hub.now c.requests.hub c.write_out.new.hub _ _ _ c.requests.invariant.1 c.in-Blocked.ensures.written
-          (λ h k l stands p q. waits_to_write c.args.s g.S.Stream.tells h (g.S.Stream.traffic c.args.stream.now) k (g.S.Stream.traffic c.requests.stream) l (g.S.Stream.traffic c.write_out.new.stream) c.requests._served p q);
+          (λ h k l stands p q. waits_to_write c.args.s g.S.Stream.tells h (g.S.Stream.traffic c.args.stream.now) k (g.S.Stream.traffic c.requests.stream) l (g.S.Stream.traffic c.write_out.new.stream) c.requests._served p below q);
     }
 
 pub returns-in-Failed : goal.returns-in-Failed
 returns-in-Failed g c =
     record {
-      device = omega (arith, c.requests.invariant.0, c.write_out.ensures.device, c.part.ensures.device);
+      device = omega (arith, c.requests.invariant.0, c.write_out.ensures.device, c.depart.ensures.device);
       driven =
-          rw c.part.ensures.answer
-          (leads_three c.args.hub.now c.requests.hub c.write_out.new.hub c.part.new.hub _ _ _ _ c.requests.invariant.1 c.in-Failed.ensures.written c.part.ensures.left
-          (λ h k l m stands p q r. gone_writing c.args.s g.S.Stream.tells h (g.S.Stream.traffic c.args.stream.now) k (g.S.Stream.traffic c.requests.stream) l (g.S.Stream.traffic c.write_out.new.stream) c.requests._served p m r q));
+          let below : c.requests._served ≤ 64 = omega arith in
+          rw c.depart.ensures.answer
+          (leads_three c.args.hub.now c.requests.hub c.write_out.new.hub c.depart.new.hub _ _ _ _ c.requests.invariant.1 c.in-Failed.ensures.written c.depart.ensures.left
+          (λ h k l m stands p q r. gone_writing c.args.s g.S.Stream.tells h (g.S.Stream.traffic c.args.stream.now) k (g.S.Stream.traffic c.requests.stream) l (g.S.Stream.traffic c.write_out.new.stream) c.requests._served p m r below q));
     }
 
 pub returns-in_default : goal.returns-in_default
 returns-in_default g c =
     record {
-      device = omega (arith, c.requests.invariant.0, c.write_out.ensures.device, c.part-in_default.ensures.device);
+      device = omega (arith, c.requests.invariant.0, c.write_out.ensures.device, c.depart-in_default.ensures.device);
       driven =
-          rw c.part-in_default.ensures.answer
-          (leads_three c.args.hub.now c.requests.hub c.write_out.new.hub c.part-in_default.new.hub _ _ _ _ c.requests.invariant.1 c.in-Empty.ensures.written c.part-in_default.ensures.left
-          (λ h k l m stands p q r. gone_closed c.args.s g.S.Stream.tells h (g.S.Stream.traffic c.args.stream.now) k (g.S.Stream.traffic c.requests.stream) l (g.S.Stream.traffic c.write_out.new.stream) c.requests._served p m r q (λ e. c.in_default.not-Open (c.status.ensures l.hub stands ∙ e))));
+          let below : c.requests._served ≤ 64 = omega arith in
+          rw c.depart-in_default.ensures.answer
+          (leads_three c.args.hub.now c.requests.hub c.write_out.new.hub c.depart-in_default.new.hub _ _ _ _ c.requests.invariant.1 c.in-Empty.ensures.written c.depart-in_default.ensures.left
+          (λ h k l m stands p q r. gone_closed c.args.s g.S.Stream.tells h (g.S.Stream.traffic c.args.stream.now) k (g.S.Stream.traffic c.requests.stream) l (g.S.Stream.traffic c.write_out.new.stream) c.requests._served p m r below q (λ e. c.in_default.not-Open (c.status.ensures l.hub stands ∙ e))));
     }
 
 pub serve_one-requires : goal.serve_one-requires
 serve_one-requires g c =
     some_after c.args.hub.now c.write_out.new.hub _ _ _ c.requires
     (leads_then c.args.hub.now c.requests.hub c.write_out.new.hub _ _ (λ h l. (status_at l.hub c.args.s ≡ Open) × (pending_at l.hub c.args.s ≡ [])) c.requests.invariant.1 c.in-Empty.ensures.written
-    (λ h k l stands p q. (sym (c.in-Open.ensures l.hub stands), q.why)))
+    (λ h k l stands p q. (sym (c.in-Open.ensures l.hub stands), q.why.1)))
     (λ h l before r. r)
 
 pub returns-in-Blocked-serve_one : goal.returns-in-Blocked-serve_one
@@ -53,22 +56,24 @@ returns-in-Blocked-serve_one g c =
     record {
       device = omega (arith, c.requests.invariant.0, c.write_out.ensures.device, c.serve_one.ensures.device);
       driven =
+          let fewer : c.requests._served < 64 = omega arith in
           leads_three c.args.hub.now c.requests.hub c.write_out.new.hub c.serve_one.new.hub _ _ _ _ c.requests.invariant.1 c.in-Empty.ensures.written c.in-Blocked-serve_one.ensures.served
           (λ h k l m stands p q r.
           waits_to_read c.args.s g.S.Stream.tells h (g.S.Stream.traffic c.args.stream.now) l (g.S.Stream.traffic c.write_out.new.stream) m (g.S.Stream.traffic c.serve_one.new.stream) c.requests._served
-          (driven_flushed c.args.s g.S.Stream.tells h (g.S.Stream.traffic c.args.stream.now) k (g.S.Stream.traffic c.requests.stream) l (g.S.Stream.traffic c.write_out.new.stream) c.requests._served p q.moves) r);
+          (driven_flushed c.args.s g.S.Stream.tells h (g.S.Stream.traffic c.args.stream.now) k (g.S.Stream.traffic c.requests.stream) l (g.S.Stream.traffic c.write_out.new.stream) c.requests._served p q.moves q.why.0) fewer r);
     }
 
 pub returns-in_default-serve_one : goal.returns-in_default-serve_one
 returns-in_default-serve_one g c =
     record {
-      device = omega (arith, c.requests.invariant.0, c.write_out.ensures.device, c.serve_one.ensures.device, c.part-in_default-serve_one.ensures.device);
+      device = omega (arith, c.requests.invariant.0, c.write_out.ensures.device, c.serve_one.ensures.device, c.depart-in_default-serve_one.ensures.device);
       driven =
-          rw c.part-in_default-serve_one.ensures.answer
-          (leads_four c.args.hub.now c.requests.hub c.write_out.new.hub c.serve_one.new.hub c.part-in_default-serve_one.new.hub _ _ _ _ _ c.requests.invariant.1 c.in-Empty.ensures.written c.serve_one.ensures.served c.part-in_default-serve_one.ensures.left
+          let fewer : c.requests._served < 64 = omega arith in
+          rw c.depart-in_default-serve_one.ensures.answer
+          (leads_four c.args.hub.now c.requests.hub c.write_out.new.hub c.serve_one.new.hub c.depart-in_default-serve_one.new.hub _ _ _ _ _ c.requests.invariant.1 c.in-Empty.ensures.written c.serve_one.ensures.served c.depart-in_default-serve_one.ensures.left
           (λ h k l m n p q r t.
           gone_serving c.args.s g.S.Stream.tells h (g.S.Stream.traffic c.args.stream.now) l (g.S.Stream.traffic c.write_out.new.stream) m (g.S.Stream.traffic c.serve_one.new.stream) c.requests._served
-          (driven_flushed c.args.s g.S.Stream.tells h (g.S.Stream.traffic c.args.stream.now) k (g.S.Stream.traffic c.requests.stream) l (g.S.Stream.traffic c.write_out.new.stream) c.requests._served p q.moves) n t c.serve_one.result
+          (driven_flushed c.args.s g.S.Stream.tells h (g.S.Stream.traffic c.args.stream.now) k (g.S.Stream.traffic c.requests.stream) l (g.S.Stream.traffic c.write_out.new.stream) c.requests._served p q.moves q.why.0) n t fewer c.serve_one.result
           c.in_default-serve_one.not-Served c.in_default-serve_one.not-Broke c.in_default-serve_one.not-Blocked r));
     }
 
@@ -80,12 +85,12 @@ requests-preserved g c = (
         leads_three c.args.hub.now c.requests.hub c.write_out.new.hub c.serve_one.new.hub _ _ _ _ c.requests.invariant.1 c.in-Empty.ensures.written (rw e at c.serve_one.ensures.served)
         (λ h k l m stands p q r.
         driven_served c.args.s g.S.Stream.tells h (g.S.Stream.traffic c.args.stream.now) l (g.S.Stream.traffic c.write_out.new.stream) m (g.S.Stream.traffic c.serve_one.new.stream) c.requests._served
-        (driven_flushed c.args.s g.S.Stream.tells h (g.S.Stream.traffic c.args.stream.now) k (g.S.Stream.traffic c.requests.stream) l (g.S.Stream.traffic c.write_out.new.stream) c.requests._served p q.moves) (sym (c.in-Open.ensures l.hub stands)) r)
+        (driven_flushed c.args.s g.S.Stream.tells h (g.S.Stream.traffic c.args.stream.now) k (g.S.Stream.traffic c.requests.stream) l (g.S.Stream.traffic c.write_out.new.stream) c.requests._served p q.moves q.why.0) (sym (c.in-Open.ensures l.hub stands)) r)
     | inr e ↦
         leads_three c.args.hub.now c.requests.hub c.write_out.new.hub c.serve_one.new.hub _ _ _ _ c.requests.invariant.1 c.in-Empty.ensures.written (rw e at c.serve_one.ensures.served)
         (λ h k l m stands p q r.
         driven_broke c.args.s g.S.Stream.tells h (g.S.Stream.traffic c.args.stream.now) l (g.S.Stream.traffic c.write_out.new.stream) m (g.S.Stream.traffic c.serve_one.new.stream) c.requests._served
-        (driven_flushed c.args.s g.S.Stream.tells h (g.S.Stream.traffic c.args.stream.now) k (g.S.Stream.traffic c.requests.stream) l (g.S.Stream.traffic c.write_out.new.stream) c.requests._served p q.moves) r)
+        (driven_flushed c.args.s g.S.Stream.tells h (g.S.Stream.traffic c.args.stream.now) k (g.S.Stream.traffic c.requests.stream) l (g.S.Stream.traffic c.write_out.new.stream) c.requests._served p q.moves q.why.0) r)
   ],
 )
 
@@ -97,18 +102,20 @@ returns-in-Blocked-write_out g c =
     record {
       device = omega (arith, c.requests.invariant.0, c.write_out-2.ensures.device);
       driven =
+          let below : c.requests._served ≤ 64 = omega arith in
           leads_then c.args.hub.now c.requests.hub c.write_out-2.new.hub _ _ _ c.requests.invariant.1 c.in-Blocked-write_out.ensures.written
-          (λ h k l stands p q. waits_to_write c.args.s g.S.Stream.tells h (g.S.Stream.traffic c.args.stream.now) k (g.S.Stream.traffic c.requests.stream) l (g.S.Stream.traffic c.write_out-2.new.stream) c.requests._served p q);
+          (λ h k l stands p q. waits_to_write c.args.s g.S.Stream.tells h (g.S.Stream.traffic c.args.stream.now) k (g.S.Stream.traffic c.requests.stream) l (g.S.Stream.traffic c.write_out-2.new.stream) c.requests._served p below q);
     }
 
 pub returns-in-Failed-write_out : goal.returns-in-Failed-write_out
 returns-in-Failed-write_out g c =
     record {
-      device = omega (arith, c.requests.invariant.0, c.write_out-2.ensures.device, c.part-in-Failed-write_out.ensures.device);
+      device = omega (arith, c.requests.invariant.0, c.write_out-2.ensures.device, c.depart-in-Failed-write_out.ensures.device);
       driven =
-          rw c.part-in-Failed-write_out.ensures.answer
-          (leads_three c.args.hub.now c.requests.hub c.write_out-2.new.hub c.part-in-Failed-write_out.new.hub _ _ _ _ c.requests.invariant.1 c.in-Failed-write_out.ensures.written c.part-in-Failed-write_out.ensures.left
-          (λ h k l m stands p q r. gone_writing c.args.s g.S.Stream.tells h (g.S.Stream.traffic c.args.stream.now) k (g.S.Stream.traffic c.requests.stream) l (g.S.Stream.traffic c.write_out-2.new.stream) c.requests._served p m r q));
+          let below : c.requests._served ≤ 64 = omega arith in
+          rw c.depart-in-Failed-write_out.ensures.answer
+          (leads_three c.args.hub.now c.requests.hub c.write_out-2.new.hub c.depart-in-Failed-write_out.new.hub _ _ _ _ c.requests.invariant.1 c.in-Failed-write_out.ensures.written c.depart-in-Failed-write_out.ensures.left
+          (λ h k l m stands p q r. gone_writing c.args.s g.S.Stream.tells h (g.S.Stream.traffic c.args.stream.now) k (g.S.Stream.traffic c.requests.stream) l (g.S.Stream.traffic c.write_out-2.new.stream) c.requests._served p m r below q));
     }
 
 pub returns-in-Open-status : goal.returns-in-Open-status
@@ -124,9 +131,10 @@ returns-in-Open-status g c =
 pub returns-in_default-status : goal.returns-in_default-status
 returns-in_default-status g c =
     record {
-      device = omega (arith, c.requests.invariant.0, c.write_out-2.ensures.device, c.part-in_default-status.ensures.device);
+      device = omega (arith, c.requests.invariant.0, c.write_out-2.ensures.device, c.depart-in_default-status.ensures.device);
       driven =
-          rw c.part-in_default-status.ensures.answer
-          (leads_three c.args.hub.now c.requests.hub c.write_out-2.new.hub c.part-in_default-status.new.hub _ _ _ _ c.requests.invariant.1 c.in-Empty-write_out.ensures.written c.part-in_default-status.ensures.left
-          (λ h k l m stands p q r. gone_closed c.args.s g.S.Stream.tells h (g.S.Stream.traffic c.args.stream.now) k (g.S.Stream.traffic c.requests.stream) l (g.S.Stream.traffic c.write_out-2.new.stream) c.requests._served p m r q (λ e. c.in_default-status.not-Open (c.status-2.ensures l.hub stands ∙ e))));
+          let below : c.requests._served ≤ 64 = omega arith in
+          rw c.depart-in_default-status.ensures.answer
+          (leads_three c.args.hub.now c.requests.hub c.write_out-2.new.hub c.depart-in_default-status.new.hub _ _ _ _ c.requests.invariant.1 c.in-Empty-write_out.ensures.written c.depart-in_default-status.ensures.left
+          (λ h k l m stands p q r. gone_closed c.args.s g.S.Stream.tells h (g.S.Stream.traffic c.args.stream.now) k (g.S.Stream.traffic c.requests.stream) l (g.S.Stream.traffic c.write_out-2.new.stream) c.requests._served p m r below q (λ e. c.in_default-status.not-Open (c.status-2.ensures l.hub stands ∙ e))));
     }

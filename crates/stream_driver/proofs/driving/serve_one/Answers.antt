@@ -54,7 +54,7 @@ overflow_sub-room g c =
     let waited = waits c.args.hub.now c.loop-hub.hub c.step.new.self c.args.s g.S.Stream.tells (g.S.Stream.traffic c.args.stream.now) (g.S.Stream.traffic c.loop-hub.stream) c.loop-hub.room c.step.result c.loop-hub.invariant.1 c.step.ensures.step c.step.ensures.device c.in_default.not-Done c.in_default.not-Memory in
     le_after c.args.hub.now c.read_some.new.hub _ _ c.in-Moved.n c.loop-hub.room c.requires
     (leads_then c.args.hub.now c.step.new.self c.read_some.new.hub _ _ (λ h l. c.in-Moved.n ≤ c.loop-hub.room) waited c.in-Moved.ensures.read
-    (λ h k l stands p q. read_within c.args.s g.S.Stream.tells h (g.S.Stream.traffic c.args.stream.now) k (g.S.Stream.traffic c.loop-hub.stream) l (g.S.Stream.traffic c.read_some.new.stream) c.loop-hub.room p.0 c.in-Moved.n q))
+    (λ h k l stands p q. read_within c.args.s g.S.Stream.tells h (g.S.Stream.traffic c.args.stream.now) k (g.S.Stream.traffic c.loop-hub.stream) l (g.S.Stream.traffic c.read_some.new.stream) c.loop-hub.room p.0 c.in-Moved.n (q p.1)))
     (λ h l le. le)
 
 pub loop-hub-smaller : goal.loop-hub-smaller
@@ -63,7 +63,7 @@ loop-hub-smaller g c =
     let both : c.loop-hub.room - c.in-Moved.n + 1 ≤ c.loop-hub.room =
     le_after c.args.hub.now c.read_some.new.hub _ _ (c.loop-hub.room - c.in-Moved.n + 1) c.loop-hub.room c.requires
     (leads_then c.args.hub.now c.step.new.self c.read_some.new.hub _ _ (λ h l. c.loop-hub.room - c.in-Moved.n + 1 ≤ c.loop-hub.room) waited c.in-Moved.ensures.read
-    (λ h k l stands p q. (let some = q.why.0 in let room = p.2 in omega arith)))
+    (λ h k l stands p q. (let some = (q p.1).why.0 in let room = p.2 in omega arith)))
     (λ h l le. le) in
     omega arith
 
@@ -72,7 +72,7 @@ loop-hub-preserved g c = (
   omega (arith, c.loop-hub.invariant.0, c.step.ensures.device, c.read_some.ensures.device),
   leads_then c.args.hub.now c.step.new.self c.read_some.new.hub _ _ _
       (waits c.args.hub.now c.loop-hub.hub c.step.new.self c.args.s g.S.Stream.tells (g.S.Stream.traffic c.args.stream.now) (g.S.Stream.traffic c.loop-hub.stream) c.loop-hub.room c.step.result c.loop-hub.invariant.1 c.step.ensures.step c.step.ensures.device c.in_default.not-Done c.in_default.not-Memory) c.in-Moved.ensures.read
-      (λ h k l stands p q. read_then c.args.s g.S.Stream.tells h (g.S.Stream.traffic c.args.stream.now) k (g.S.Stream.traffic c.loop-hub.stream) l (g.S.Stream.traffic c.read_some.new.stream) c.loop-hub.room p.0 c.in-Moved.n q),
+      (λ h k l stands p q. read_then c.args.s g.S.Stream.tells h (g.S.Stream.traffic c.args.stream.now) k (g.S.Stream.traffic c.loop-hub.stream) l (g.S.Stream.traffic c.read_some.new.stream) c.loop-hub.room p.0 c.in-Moved.n (q p.1)),
 )
 
 pub returns-in-Blocked : goal.returns-in-Blocked
@@ -82,7 +82,7 @@ returns-in-Blocked g c =
       served =
           leads_then c.args.hub.now c.step.new.self c.read_some.new.hub _ _ _
           (waits c.args.hub.now c.loop-hub.hub c.step.new.self c.args.s g.S.Stream.tells (g.S.Stream.traffic c.args.stream.now) (g.S.Stream.traffic c.loop-hub.stream) c.loop-hub.room c.step.result c.loop-hub.invariant.1 c.step.ensures.step c.step.ensures.device c.in_default.not-Done c.in_default.not-Memory) c.in-Blocked.ensures.read
-          (λ h k l stands p q. read_blocked c.args.s g.S.Stream.tells h (g.S.Stream.traffic c.args.stream.now) k (g.S.Stream.traffic c.loop-hub.stream) l (g.S.Stream.traffic c.read_some.new.stream) c.loop-hub.room p.0 p.1 q);
+          (λ h k l stands p q. read_blocked c.args.s g.S.Stream.tells h (g.S.Stream.traffic c.args.stream.now) k (g.S.Stream.traffic c.loop-hub.stream) l (g.S.Stream.traffic c.read_some.new.stream) c.loop-hub.room p.0 p.1 (q p.1));
     }
 
 pub returns-in-Failed : goal.returns-in-Failed
@@ -92,7 +92,7 @@ returns-in-Failed g c =
       served =
           leads_then c.args.hub.now c.step.new.self c.read_some.new.hub _ _ _
           (waits c.args.hub.now c.loop-hub.hub c.step.new.self c.args.s g.S.Stream.tells (g.S.Stream.traffic c.args.stream.now) (g.S.Stream.traffic c.loop-hub.stream) c.loop-hub.room c.step.result c.loop-hub.invariant.1 c.step.ensures.step c.step.ensures.device c.in_default.not-Done c.in_default.not-Memory) c.in-Failed.ensures.read
-          (λ h k l stands p q. read_failed c.args.s g.S.Stream.tells h (g.S.Stream.traffic c.args.stream.now) k (g.S.Stream.traffic c.loop-hub.stream) l (g.S.Stream.traffic c.read_some.new.stream) c.loop-hub.room p.0 q);
+          (λ h k l stands p q. read_failed c.args.s g.S.Stream.tells h (g.S.Stream.traffic c.args.stream.now) k (g.S.Stream.traffic c.loop-hub.stream) l (g.S.Stream.traffic c.read_some.new.stream) c.loop-hub.room p.0 p.1 (q p.1));
     }
 
 pub returns-in-Ended : goal.returns-in-Ended
@@ -102,5 +102,5 @@ returns-in-Ended g c =
       served =
           leads_then c.args.hub.now c.step.new.self c.read_some.new.hub _ _ _
           (waits c.args.hub.now c.loop-hub.hub c.step.new.self c.args.s g.S.Stream.tells (g.S.Stream.traffic c.args.stream.now) (g.S.Stream.traffic c.loop-hub.stream) c.loop-hub.room c.step.result c.loop-hub.invariant.1 c.step.ensures.step c.step.ensures.device c.in_default.not-Done c.in_default.not-Memory) c.in-Ended.ensures.read
-          (λ h k l stands p q. read_ended c.args.s g.S.Stream.tells h (g.S.Stream.traffic c.args.stream.now) k (g.S.Stream.traffic c.loop-hub.stream) l (g.S.Stream.traffic c.read_some.new.stream) c.loop-hub.room p.0 p.1 q);
+          (λ h k l stands p q. read_ended c.args.s g.S.Stream.tells h (g.S.Stream.traffic c.args.stream.now) k (g.S.Stream.traffic c.loop-hub.stream) l (g.S.Stream.traffic c.read_some.new.stream) c.loop-hub.room p.0 p.1 (q p.1));
     }

@@ -53,7 +53,7 @@ returns-in-Failed g c =
       device = omega (arith, c.loop-owed.invariant.0, c.write_some.ensures.device);
       written =
           leads_then c.args.hub.now c.loop-owed.hub c.write_some.new.hub _ _ _ c.loop-owed.invariant.1 c.in-Failed.ensures.written
-          (λ h k l stands p q. written_failed c.args.s g.S.Stream.tells h (g.S.Stream.traffic c.args.stream.now) k (g.S.Stream.traffic c.loop-owed.stream) l (g.S.Stream.traffic c.write_some.new.stream) c.loop-owed.owed p q);
+          (λ h k l stands p q. written_failed c.args.s g.S.Stream.tells h (g.S.Stream.traffic c.args.stream.now) k (g.S.Stream.traffic c.loop-owed.stream) l (g.S.Stream.traffic c.write_some.new.stream) c.loop-owed.owed p c.loop-owed-test.true q);
     }
 
 pub returns : goal.returns

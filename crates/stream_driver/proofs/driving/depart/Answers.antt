@@ -3,7 +3,7 @@ use Rattle.sessions.specs.SessionStreams.{Leaves}
 use Rattle.sessions.specs.StandsFor.{failures}
 use Rattle.stream_driver.proofs.Events.{point_after}
 use Rattle.stream_driver.proofs.States.{happens_at}
-use Rattle.stream_driver.proofs.driving.part.Goals as goal
+use Rattle.stream_driver.proofs.driving.depart.Goals as goal
 
 pub returns-clause-left : goal.returns-clause-left
 returns-clause-left g c = λ h stands.

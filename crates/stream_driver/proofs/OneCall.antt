@@ -8,36 +8,24 @@ use Rattle.sector.specs.declared.device.Sectors.{Ghosts}
 use Rattle.sessions.specs.declared.hub.Hub.{Hub}
 use Rattle.sessions.specs.SessionStreams.{HubState, Receives, Sends, hub_step, with_stream, stream_of}
 use Rattle.sessions.specs.StandsFor.{StandsFor, HubLeads, status_in, pending_in, room_in, failures}
+use Rattle.stream_driver.specs.declared.answers.Call.TheVariants.{Read, Write}
 use Rattle.stream_driver.specs.declared.answers.ReadAnswer.{ReadAnswer}
 use Rattle.stream_driver.specs.declared.answers.ReadAnswer.TheVariants.{Moved, Blocked, Failed, Ended}
 use Rattle.stream_driver.specs.declared.answers.WriteAnswer.{WriteAnswer}
 use Rattle.stream_driver.specs.declared.answers.WriteAnswer.TheVariants.{Moved as Wrote, Blocked as WriteBlocked, Failed as WriteFailed}
-use Rattle.stream_driver.specs.Traffic.{Traffic, after_read, after_write, SameCounts, bytes_read, bytes_written}
-use Rattle.stream_driver.specs.Sessions.{Leads, Runs, status_at, pending_at, room_at, IsPresentIn}
-use Rattle.stream_driver.specs.Drives.{NoneFell}
+use Rattle.stream_driver.specs.Traffic.{Traffic, EndsWith, bytes_read, bytes_written}
+use Rattle.stream_driver.specs.Sessions.{AwaitsMore, Leads, Runs, status_at, pending_at, room_at, IsPresentIn}
 use Rattle.stream_driver.specs.Calls.{WritesSome, ReadsSome}
 use Rattle.stream_driver.proofs.Events.{found, Happens, point_after, one_event, received_by, receives, bytes_came, sent_from, sends, bytes_went, open_present}
 use Rattle.stream_driver.proofs.Carry.{answered}
 use Rattle.stream_driver.proofs.States.{happens_at}
 
--- the counts after an answer don't fall
-write_none_fell : (answer : WriteAnswer) (b a : Traffic) → SameCounts a (after_write answer b) → NoneFell b a
-write_none_fell (Wrote n) b a (p, q, r, t, u) = record { read_blocked = omega arith; read_failed = omega arith; read_ended = omega arith; write_blocked = omega arith; write_failed = omega arith }
-write_none_fell WriteBlocked b a (p, q, r, t, u) = record { read_blocked = omega arith; read_failed = omega arith; read_ended = omega arith; write_blocked = omega arith; write_failed = omega arith }
-write_none_fell WriteFailed b a (p, q, r, t, u) = record { read_blocked = omega arith; read_failed = omega arith; read_ended = omega arith; write_blocked = omega arith; write_failed = omega arith }
-
-read_none_fell : (answer : ReadAnswer) (b a : Traffic) → SameCounts a (after_read answer b) → NoneFell b a
-read_none_fell (Moved n) b a (p, q, r, t, u) = record { read_blocked = omega arith; read_failed = omega arith; read_ended = omega arith; write_blocked = omega arith; write_failed = omega arith }
-read_none_fell Blocked b a (p, q, r, t, u) = record { read_blocked = omega arith; read_failed = omega arith; read_ended = omega arith; write_blocked = omega arith; write_failed = omega arith }
-read_none_fell Failed b a (p, q, r, t, u) = record { read_blocked = omega arith; read_failed = omega arith; read_ended = omega arith; write_blocked = omega arith; write_failed = omega arith }
-read_none_fell Ended b a (p, q, r, t, u) = record { read_blocked = omega arith; read_failed = omega arith; read_ended = omega arith; write_blocked = omega arith; write_failed = omega arith }
-
 module _ {D : Type 0} {g : Ghosts D} (hub new : Hub D g) (s : ℕ) (tells : Bool) (b a : Traffic) where
   pub wrote_moved : (n : ℕ) → 0 < n → (outcome : Rattle.sessions.specs.declared.events.Outcome.Outcome) → HubLeads hub new (Sends s n) outcome → failures hub ≤ failures new
       → ((h : HubState) → StandsFor hub h → IsPresentIn h s × (n ≤ length (pending_at h s)))
-      → ((h : HubState) → StandsFor hub h → IsTrue tells → a.taken ≡ b.taken ++ take n (pending_at h s)) → (IsTrue tells → a.given ≡ b.given) → SameCounts a (after_write (Wrote n) b)
+      → ((h : HubState) → StandsFor hub h → IsTrue tells → a.taken ≡ b.taken ++ take n (pending_at h s)) → (IsTrue tells → a.given ≡ b.given) → EndsWith (Write (Wrote n)) b a
       → Leads hub new (λ h k. WritesSome s tells h b (Wrote n) k a)
-  wrote_moved n some outcome leads counted here taken given counts = λ h stands.
+  wrote_moved n some outcome leads counted here taken given calls = λ h stands.
       let c = leads.0 in
       let there = leads.3 h.hub stands.state in
       let happens : Happens h (Sends s n) c (failures new) = happens_at hub new (Sends s n) outcome leads counted h stands in
@@ -56,11 +44,12 @@ module _ {D : Type 0} {g : Ghosts D} (hub new : Hub D g) (s : ℕ) (tells : Bool
               runs = one_event s h (Sends s n) c (failures new) st.0 (sent_from st.0 n) refl happens is (ap (λ r. r.0.present) step) (bytes_went st.0 n) stays;
               given = λ t. given t ∙ sym (append-nil b.given);
               taken = λ t. taken h.hub stands.state t ∙ ap (λ l. b.taken ++ take n l) pending;
-              counts = write_none_fell (Wrote n) b a counts;
+              in_turn = (tt, tt);
             };
             none_served = refl;
             status = ap status_in runs.last_is ∙ sym (ap status_in is);
           };
+          answered = calls;
           why =
               let left : length (pending_at (hub_step h.hub (Sends s n) c).0 s) ≡ length (drop n st.0.now.pending) = ap (λ o. length (pending_in o)) runs.last_is in
               let rest : length (drop n st.0.now.pending) ≡ length st.0.now.pending - n = length-drop n st.0.now.pending in
@@ -71,9 +60,9 @@ module _ {D : Type 0} {g : Ghosts D} (hub new : Hub D g) (s : ℕ) (tells : Bool
 
   pub read_moved : (n : ℕ) → 0 < n → (piece : Bytes) (outcome : Rattle.sessions.specs.declared.events.Outcome.Outcome) → HubLeads hub new (Receives s piece) outcome → failures hub ≤ failures new
       → ((h : HubState) → StandsFor hub h → (status_at h s ≡ Open) × (length piece ≤ room_at h s)) → length piece ≡ n
-      → (IsTrue tells → a.given ≡ b.given ++ piece) → (IsTrue tells → a.taken ≡ b.taken) → SameCounts a (after_read (Moved n) b)
-      → Leads hub new (λ h k. ReadsSome s tells h b (Moved n) k a)
-  read_moved n some piece outcome leads counted here long given taken counts = λ h stands.
+      → (IsTrue tells → a.given ≡ b.given ++ piece) → (IsTrue tells → a.taken ≡ b.taken) → EndsWith (Read (Moved n)) b a
+      → Leads hub new (λ h k. AwaitsMore h.hub s → ReadsSome s tells h b (Moved n) k a)
+  read_moved n some piece outcome leads counted here long given taken calls = λ h stands.
       let c = leads.0 in
       let there = leads.3 h.hub stands.state in
       let happens : Happens h (Receives s piece) c (failures new) = happens_at hub new (Receives s piece) outcome leads counted h stands in
@@ -86,18 +75,19 @@ module _ {D : Type 0} {g : Ghosts D} (hub new : Hub D g) (s : ℕ) (tells : Bool
       let runs : Runs s h (point_after h (Receives s piece) c (failures new)) = one_event s h (Receives s piece) c (failures new) st.0 (received_by st.0 piece) refl happens is (ap (λ r. r.0.present) step) (bytes_came st.0 piece) stays in (
         point_after h (Receives s piece) c (failures new),
         record { state = there.stands; count = refl },
-        record {
+        λ awaits. record {
           moves = record {
             carried = record {
               runs = one_event s h (Receives s piece) c (failures new) st.0 (received_by st.0 piece) refl happens is (ap (λ r. r.0.present) step) (bytes_came st.0 piece) stays;
               given = given;
               taken = λ t. taken t ∙ sym (append-nil b.taken);
-              counts = read_none_fell (Moved n) b a counts;
+              in_turn = (awaits, tt);
             };
             none_served = refl;
             status = ap status_in runs.last_is ∙ sym (ap status_in is);
           };
           pending = ap pending_in runs.last_is ∙ sym (ap pending_in is);
+          answered = calls;
           why =
               let after : room_at (hub_step h.hub (Receives s piece) c).0 s ≡ 32768 - length (st.0.now.inbox ++ piece) = ap room_in runs.last_is in
               let before : room_at h.hub s ≡ 32768 - length st.0.now.inbox = ap room_in is in
@@ -109,62 +99,59 @@ module _ {D : Type 0} {g : Ghosts D} (hub new : Hub D g) (s : ℕ) (tells : Bool
 -- the stream didn't move
 module _ {D : Type 0} {g : Ghosts D} (hub : Hub D g) (s : ℕ) (tells : Bool) (b a : Traffic) where
   pub wrote_none : (answer : WriteAnswer) → ((n : ℕ) → answer ≢ Wrote n) → ((h : HubState) → StandsFor hub h → IsPresentIn h s)
-      → (from : List ℕ) → (IsTrue tells → a.given ≡ b.given) → (IsTrue tells → a.taken ≡ b.taken ++ take (bytes_written answer) from) → SameCounts a (after_write answer b)
+      → (from : List ℕ) → (IsTrue tells → a.given ≡ b.given) → (IsTrue tells → a.taken ≡ b.taken ++ take (bytes_written answer) from) → EndsWith (Write answer) b a
       → Leads hub hub (λ h k. WritesSome s tells h b answer k a)
-  wrote_none (Wrote n) differs here from given taken counts = absurd (differs n refl)
-  wrote_none WriteBlocked differs here from given taken counts = λ h stands. (
+  wrote_none (Wrote n) differs here from given taken calls = absurd (differs n refl)
+  wrote_none WriteBlocked differs here from given taken calls = λ h stands. (
     h,
     stands,
     record {
-      moves = record {
-        carried = answered s tells h b a (here h.hub stands.state) (λ t. given t ∙ sym (append-nil b.given)) taken (write_none_fell WriteBlocked b a counts);
-        none_served = refl;
-        status = refl;
-      };
-      why = (omega (arith, counts.3), refl);
+      moves = record { carried = answered s tells h b a (here h.hub stands.state) (λ t. given t ∙ sym (append-nil b.given)) taken; none_served = refl; status = refl };
+      answered = calls;
+      why = refl;
     },
   )
-  wrote_none WriteFailed differs here from given taken counts = λ h stands. (
+  wrote_none WriteFailed differs here from given taken calls = λ h stands. (
     h,
     stands,
     record {
-      moves = record {
-        carried = answered s tells h b a (here h.hub stands.state) (λ t. given t ∙ sym (append-nil b.given)) taken (write_none_fell WriteFailed b a counts);
-        none_served = refl;
-        status = refl;
-      };
-      why = omega (arith, counts.4);
+      moves = record { carried = answered s tells h b a (here h.hub stands.state) (λ t. given t ∙ sym (append-nil b.given)) taken; none_served = refl; status = refl };
+      answered = calls;
+      why = refl;
     },
   )
 
   module _ (here : (h : HubState) → StandsFor hub h → status_at h s ≡ Open) (into : List ℕ) (taken : IsTrue tells → a.taken ≡ b.taken) where
-    pub read_none : (answer : ReadAnswer) → ((n : ℕ) → answer ≢ Moved n) → (IsTrue tells → a.given ≡ b.given ++ take (bytes_read answer) into) → SameCounts a (after_read answer b)
-        → Leads hub hub (λ h k. ReadsSome s tells h b answer k a)
-    read_none (Moved n) differs given counts = absurd (differs n refl)
-    read_none Blocked differs given counts = λ h stands. (
+    pub read_none : (answer : ReadAnswer) → ((n : ℕ) → answer ≢ Moved n) → (IsTrue tells → a.given ≡ b.given ++ take (bytes_read answer) into) → EndsWith (Read answer) b a
+        → Leads hub hub (λ h k. AwaitsMore h.hub s → ReadsSome s tells h b answer k a)
+    read_none (Moved n) differs given calls = absurd (differs n refl)
+    read_none Blocked differs given calls = λ h stands. (
       h,
       stands,
-      record {
-        moves = record { carried = answered s tells h b a (open_present h.hub s (here h.hub stands.state)) given (λ t. taken t ∙ sym (append-nil b.taken)) (read_none_fell Blocked b a counts); none_served = refl; status = refl };
+      λ awaits. record {
+        moves = record { carried = answered s tells h b a (open_present h.hub s (here h.hub stands.state)) given (λ t. taken t ∙ sym (append-nil b.taken)); none_served = refl; status = refl };
         pending = refl;
-        why = (omega (arith, counts.0), refl);
+        answered = calls;
+        why = refl;
       },
     )
-    read_none Failed differs given counts = λ h stands. (
+    read_none Failed differs given calls = λ h stands. (
       h,
       stands,
-      record {
-        moves = record { carried = answered s tells h b a (open_present h.hub s (here h.hub stands.state)) given (λ t. taken t ∙ sym (append-nil b.taken)) (read_none_fell Failed b a counts); none_served = refl; status = refl };
+      λ awaits. record {
+        moves = record { carried = answered s tells h b a (open_present h.hub s (here h.hub stands.state)) given (λ t. taken t ∙ sym (append-nil b.taken)); none_served = refl; status = refl };
         pending = refl;
-        why = omega (arith, counts.1);
+        answered = calls;
+        why = refl;
       },
     )
-    read_none Ended differs given counts = λ h stands. (
+    read_none Ended differs given calls = λ h stands. (
       h,
       stands,
-      record {
-        moves = record { carried = answered s tells h b a (open_present h.hub s (here h.hub stands.state)) given (λ t. taken t ∙ sym (append-nil b.taken)) (read_none_fell Ended b a counts); none_served = refl; status = refl };
+      λ awaits. record {
+        moves = record { carried = answered s tells h b a (open_present h.hub s (here h.hub stands.state)) given (λ t. taken t ∙ sym (append-nil b.taken)); none_served = refl; status = refl };
         pending = refl;
-        why = (omega (arith, counts.2), refl);
+        answered = calls;
+        why = refl;
       },
     )

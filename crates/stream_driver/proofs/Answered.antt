@@ -1,0 +1,26 @@
+-- Calls of a stream follow one another.
+use Rattle.std.proofs.Common.{ap, refl, ◌∙◌}
+use Rattle.stream_driver.specs.declared.answers.Call.{Call}
+use Rattle.stream_driver.specs.declared.answers.Call.TheVariants.{Read, Write}
+use Rattle.stream_driver.specs.declared.answers.ReadAnswer.TheVariants.{Moved, Blocked, Failed, Ended}
+use Rattle.stream_driver.specs.declared.answers.WriteAnswer.TheVariants.{Moved as Wrote, Blocked as WriteBlocked, Failed as WriteFailed}
+use Rattle.stream_driver.specs.Traffic.{Traffic, SameCounts, one_more, after_call, AllMoved, EndsWith}
+
+pub none_called : (t : Traffic) → AllMoved t t
+none_called t = (refl, refl, refl, refl, refl)
+
+pub moved_then : (a b c : Traffic) → AllMoved a b → AllMoved b c → AllMoved a c
+moved_then a b c (p, q, r, t, u) (p', q', r', t', u') = (p' ∙ p, q' ∙ q, r' ∙ r, t' ∙ t, u' ∙ u)
+
+-- all moved, and then a call was answered
+same_after : (call : Call) (a b : Traffic) → SameCounts b a → SameCounts (after_call call b) (after_call call a)
+same_after (Read (Moved n)) a b s = s
+same_after (Read Blocked) a b (p, q, r, t, u) = (ap one_more p, q, r, t, u)
+same_after (Read Failed) a b (p, q, r, t, u) = (p, ap one_more q, r, t, u)
+same_after (Read Ended) a b (p, q, r, t, u) = (p, q, ap one_more r, t, u)
+same_after (Write (Wrote n)) a b s = s
+same_after (Write WriteBlocked) a b (p, q, r, t, u) = (p, q, r, ap one_more t, u)
+same_after (Write WriteFailed) a b (p, q, r, t, u) = (p, q, r, t, ap one_more u)
+
+pub ends_then : (call : Call) (a b c : Traffic) → AllMoved a b → EndsWith call b c → EndsWith call a c
+ends_then call a b c p (counts, last) = (moved_then (after_call call a) (after_call call b) c (same_after call a b p) counts, last)
