@@ -46,7 +46,7 @@ module _ (s : ℕ) (w : SessionStream) where
       by Equal a false t ta tb rec = ap (λ b. cond b (Some w) (lookup (test q) es)) tb
       by Greater a b t ta tb rec = ap (λ b. cond b (Some e.1) (lookup (test q) (insert_entry nat_cmp es s w))) tb ∙ ap (λ o. cond b (Some e.1) o) rec
 
-abbrev joins_by : Bool → Bool → Bool → HubState → ℕ → HubState × Outcome
+abbrev pub joins_by : Bool → Bool → Bool → HubState → ℕ → HubState × Outcome
 joins_by unknown crowded refused h s =
     if unknown then (h, Unknown)
     else (if crowded then (h, Crowded)
@@ -74,3 +74,14 @@ joins_same h s c done = by (not (is_above s h.latest)) (nat_le 128 (length h.pre
     by false true r e = absurd (let bad : Done ≡ Crowded = e in cc)
     by false false true e = absurd (let bad : Done ≡ Memory = e in cc)
     by false false false e = insert-same s new_stream h.present
+
+-- a join that is refused changes nothing
+pub joins_not : (h : HubState) (s : ℕ) (c : Choice) → (hub_step h (Joins s) c).1 ≢ Done → (hub_step h (Joins s) c).0 ≡ h
+unfolding hub_step
+joins_not h s c refused = by (not (is_above s h.latest)) (nat_le 128 (length h.present)) c.refused refused
+  where
+    by : (a b r : Bool) → (joins_by a b r h s).1 ≢ Done → (joins_by a b r h s).0 ≡ h
+    by true b r e = refl
+    by false true r e = refl
+    by false false true e = refl
+    by false false false e = absurd (e refl)

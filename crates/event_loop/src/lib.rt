@@ -1,14 +1,21 @@
 //! Sessions over TCP: a loop that polls, drives the connections that are ready, takes out those that are gone, and accepts others.
 //!
-//! Nothing in a contract says what the system's sockets do. That each entry that is ready is driven, and how, is the contract of
-//! `drive_ready`; that a turn makes the polled entries ready is shown by tests.
+//! Nothing in a contract says what the system's sockets do. What a turn makes of the table is stated part by part: which entries become
+//! ready, that each that is ready is driven and how (`drive_ready`), which go, and which come. That `turn` polls is shown by tests.
 #![tactic(auto)]
 
 mod connections;
+mod lingering;
+mod listener;
 mod server;
 mod socket;
 mod waiting;
 
+pub use connections::{Backlog, accept_some};
+pub use lingering::{
+    Dropped, LINGERING_BYTES, LINGERING_BYTES_A_TURN, LINGERING_MAX, LINGERING_SECONDS, drop_input,
+};
+pub use listener::{AcceptAnswer, Listener, Port};
 pub use server::EventLoop;
 pub use socket::Socket;
 pub use waiting::RETRY_AFTER_MILLIS;

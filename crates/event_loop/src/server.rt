@@ -2,10 +2,15 @@
 ghost use Rattle.stream_driver.specs.Sessions.{Stands};
 ghost use Rattle.stream_driver.specs.Entries.{HaveSessions};
 ghost use Rattle.event_loop.specs.Numbers.{AreBelow};
+ghost use Rattle.event_loop.specs.Tables.{HasNobody, HaveEntries};
 
-use crate::connections::{Backlog, accept_some, any_ready, make_polled_ready, take_gone_out};
+use crate::connections::{
+    Backlog, LINGERER, accept_some, any_ready, make_polled_ready, take_gone_out,
+};
+use crate::lingering::{LINGERING_MAX, Lingering};
+use crate::listener::Port;
 use crate::socket::Socket;
-use crate::waiting::longest_wait;
+use crate::waiting::{longest_wait, shorter};
 use mio::net::TcpListener;
 use mio::{Events, Interest, Poll, Token};
 use sector::Sectors;
@@ -14,10 +19,10 @@ use slab::Slab;
 use std::alloc::Global;
 use std::io;
 use std::net::{Net, SocketAddr};
-use std::time::Duration;
+use std::time::{Clock, Duration, Instant};
 use stream_driver::{Entry, drive_ready};
 
-/// The token of the listener, which no entry of the table has.
+/// The token of the listener, which no key of the table is.
 const LISTENER: Token = Token(usize::MAX);
 
 /// A listener, its connections, and the hub of their sessions.
@@ -25,14 +30,16 @@ const LISTENER: Token = Token(usize::MAX);
 pub struct EventLoop<D: Sectors> {
     poll: Poll,
     events: Events,
-    listener: TcpListener,
+    port: Port,
     backlog: Backlog,
+    lingering: Lingering,
     hub: Hub<D>,
     /// The number of the next session.
     next: u64,
     table: Slab<Entry<Socket>>,
     ghost stands: { Stands hub },
     ghost sessions: { HaveSessions hub table.slots },
+    ghost entries: { HaveEntries hub table.slots },
     ghost numbers: { AreBelow next table.slots },
 }
 
@@ -45,26 +52,29 @@ impl<D: Sectors> EventLoop<D> {
     /// Listens at an address for the sessions of a hub that none has joined, over an engine that was opened. Port 0 stands for one that
     /// the system picks.
     ///
-    /// A fault is the system's, or a want of memory, which it tells as `OutOfMemory`. It takes memory for the events of one poll.
+    /// A fault is the system's, or a want of memory, which it tells as `OutOfMemory`. It takes memory for the events of one poll, and
+    /// for the connections that linger.
     pub fn bind<R: Net>(
         rt: &R,
         alloc: Global,
         address: SocketAddr,
         hub: Hub<D>,
     ) -> io::Result<EventLoop<D>>
-        requires { Stands hub }
+        requires { HasNobody hub }
         ensures { IfOk result (λ events. hub_of events ≡ hub) }
     {
         let poll = Poll::new(rt)?;
         let mut listener = TcpListener::bind(rt, address)?;
         poll.registry()
             .register(&mut listener, LISTENER, Interest::READABLE)?;
-        let events = Events::with_capacity(alloc, SESSIONS_MAX + 1)?;
+        let events = Events::with_capacity(alloc, SESSIONS_MAX + LINGERING_MAX + 1)?;
+        let lingering = Lingering::new(alloc)?;
         Ok(EventLoop {
             poll,
             events,
-            listener,
+            port: Port::new(listener),
             backlog: Backlog::Empty,
+            lingering,
             hub,
             next: 0,
             table: Slab::new(alloc),
@@ -73,7 +83,7 @@ impl<D: Sectors> EventLoop<D> {
 
     /// The address that it listens at. A fault is the system's. Takes no memory.
     pub fn address(&self) -> io::Result<SocketAddr> {
-        self.listener.local_addr()
+        self.port.address()
     }
 
     /// Has the store stopped? Takes no memory.
@@ -83,45 +93,66 @@ impl<D: Sectors> EventLoop<D> {
         self.hub.stopped()
     }
 
-    /// One turn: polls, drives each session that is ready once, closes the connections of those that have left, and accepts at most 128
-    /// connections, which the next turn drives.
+    /// One turn: polls, drives each session that is ready once, takes out those that have left, and accepts at most 128 connections,
+    /// which the next turn drives.
+    ///
+    /// It drives before it accepts: so an event of this poll can't be taken for one of a connection that came since under the same key,
+    /// and the places of those that left are free for those that come.
     ///
     /// It waits for no more than `timeout`, without end where none is given, and not at all where a session is still ready or 128
     /// connections were accepted last time. After an accept that fails, the next turn waits for no more than `RETRY_AFTER_MILLIS` and
-    /// accepts again. A connection beyond 128 sessions, or for which memory or registration is refused, is closed without a byte.
+    /// accepts again. A connection beyond 128 sessions, or for which memory, registration or an option of the socket is refused, is
+    /// closed without a byte.
+    ///
+    /// The connection of a session that left is closed. Where none of its calls failed and its peer has not ended, it lingers first: it is
+    /// shut down for writing, and what comes in is dropped, at most `LINGERING_BYTES_A_TURN` a turn, so that the last replies arrive. It is
+    /// closed where the peer ends, after `LINGERING_BYTES` bytes or `LINGERING_SECONDS` seconds, where `LINGERING_MAX` others have come to
+    /// linger since, or where an accept fails, which may be for want of descriptors. While some linger, a turn may wait no longer than the
+    /// oldest may.
     ///
     /// It answers a fault exactly where the poll failed; nothing else was done then. It may grow the table, and what the sessions'
     /// requests grow.
-    pub fn turn(&mut self, timeout: Option<Duration>) -> io::Result<()> {
-        let wait = longest_wait(self.backlog, any_ready(&self.table), timeout);
+    pub fn turn<C: Clock>(&mut self, clock: &C, timeout: Option<Duration>) -> io::Result<()> {
+        let patience = self.lingering.patience(Instant::now(clock).ok());
+        let wait = longest_wait(
+            self.backlog,
+            any_ready(&self.table),
+            shorter(patience, timeout),
+        );
         self.poll.poll(&mut self.events, wait)?;
-        self.drive();
-        if self.backlog != Backlog::Empty || self.is_called() {
+        let now = Instant::now(clock).ok();
+        self.drive(now);
+        let comes_more = self.is_told(LINGERER);
+        self.lingering.turn(comes_more, now);
+        if self.backlog != Backlog::Empty || self.is_told(LISTENER) {
             self.accept();
         }
         Ok(())
     }
 
-    // Accepts connections.
+    // Accepts connections. After an accept that failed, as for want of descriptors, none lingers.
     fn accept(&mut self) {
         self.backlog = accept_some(
             &self.poll,
-            &self.listener,
+            &mut self.port,
             &mut self.hub,
             &mut self.next,
             &mut self.table,
         );
+        if self.backlog == Backlog::Failed {
+            self.lingering.close();
+        }
     }
 
     // Drives the sessions that are ready, those that the last poll told of among them.
-    fn drive(&mut self) {
-        make_polled_ready(&self.hub, self.next, &self.events, &mut self.table);
+    fn drive(&mut self, now: Option<Instant>) {
+        make_polled_ready(&self.events, &mut self.table);
         drive_ready(&mut self.hub, &mut self.table);
-        take_gone_out(&self.hub, self.next, &mut self.table);
+        take_gone_out(&self.poll, now, &mut self.table, &mut self.lingering);
     }
 
-    // Did the last poll tell of the listener?
-    fn is_called(&self) -> bool {
-        self.events.iter().any(|event| event.token() == LISTENER)
+    // Did the last poll tell of this token?
+    fn is_told(&self, token: Token) -> bool {
+        self.events.iter().any(|event| event.token() == token)
     }
 }

@@ -1,8 +1,10 @@
 //! A connection of the system.
 
 use mio::net::TcpStream;
-use std::io::{ErrorKind, Read, Write};
-use stream_driver::{ReadAnswer, Stream, WriteAnswer};
+use mio::{Interest, Poll, Token};
+use std::io::{self, ErrorKind, Read, Write};
+use std::net::Shutdown;
+use stream_driver::{Call, ReadAnswer, Stream, WriteAnswer};
 
 /// A TCP connection as a stream. It leaves open which bytes it moves. An interrupted call, and a write that takes no byte, are
 /// `Failed`; a read that gives none is `Ended`.
@@ -14,6 +16,7 @@ pub struct Socket {
     read_ended: u64,
     write_blocked: u64,
     write_failed: u64,
+    last: Option<Call>,
 }
 
 impl Socket {
@@ -26,7 +29,20 @@ impl Socket {
             read_ended: 0,
             write_blocked: 0,
             write_failed: 0,
+            last: None,
         }
+    }
+
+    /// Has no call failed, and no read ended?
+    pub(crate) fn is_in_order(&self) -> bool {
+        self.read_failed == 0 && self.read_ended == 0 && self.write_failed == 0
+    }
+
+    /// Shuts the connection down for writing once what was written has gone, and has the poll tell under this token of what still comes.
+    pub(crate) fn half_close(&mut self, poll: &Poll, token: Token) -> io::Result<()> {
+        self.stream.shutdown(Shutdown::Write)?;
+        poll.registry()
+            .reregister(&mut self.stream, token, Interest::READABLE)
     }
 }
 
@@ -43,10 +59,11 @@ impl Stream for Socket {
       read_ended = s.read_ended;
       write_blocked = s.write_blocked;
       write_failed = s.write_failed;
+      last = s.last;
     } };
 
     fn read(&mut self, into: &mut [u8]) -> ReadAnswer {
-        match self.stream.read(into) {
+        let answer = match self.stream.read(into) {
             Ok(0) => {
                 self.read_ended = self.read_ended.saturating_add(1);
                 ReadAnswer::Ended
@@ -60,11 +77,13 @@ impl Stream for Socket {
                 self.read_failed = self.read_failed.saturating_add(1);
                 ReadAnswer::Failed
             }
-        }
+        };
+        self.last = Some(Call::Read(answer));
+        answer
     }
 
     fn write(&mut self, from: &[u8]) -> WriteAnswer {
-        match self.stream.write(from) {
+        let answer = match self.stream.write(from) {
             Ok(0) => {
                 self.write_failed = self.write_failed.saturating_add(1);
                 WriteAnswer::Failed
@@ -78,6 +97,8 @@ impl Stream for Socket {
                 self.write_failed = self.write_failed.saturating_add(1);
                 WriteAnswer::Failed
             }
-        }
+        };
+        self.last = Some(Call::Write(answer));
+        answer
     }
 }

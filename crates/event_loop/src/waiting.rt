@@ -1,6 +1,6 @@
 //! How long a poll may wait.
 ghost use Rattle.std.specs.Prelude.{◌≡◌};
-ghost use Rattle.event_loop.specs.Waits.{nanos_of, own_limit, shorter};
+ghost use Rattle.event_loop.specs.Waits.{nanos_of, own_limit, shorter as shorter_of};
 
 use crate::connections::Backlog;
 use std::time::Duration;
@@ -15,7 +15,7 @@ pub(crate) fn longest_wait(
     is_ready: bool,
     timeout: Option<Duration>,
 ) -> Option<Duration>
-    ensures { nanos_of result ≡ shorter (own_limit backlog is_ready) (nanos_of timeout) }
+    ensures { nanos_of result ≡ shorter_of (own_limit backlog is_ready) (nanos_of timeout) }
 {
     let most = match backlog {
         _ if is_ready => Duration::ZERO,
@@ -23,8 +23,16 @@ pub(crate) fn longest_wait(
         Backlog::Failed => Duration::from_millis(RETRY_AFTER_MILLIS),
         Backlog::Empty => return timeout,
     };
-    Some(match timeout {
-        Some(timeout) => timeout.min(most),
-        None => most,
-    })
+    shorter(Some(most), timeout)
+}
+
+/// The shorter of two waits, where `None` is without end.
+pub(crate) fn shorter(one: Option<Duration>, other: Option<Duration>) -> Option<Duration>
+    ensures { nanos_of result ≡ shorter_of (nanos_of one) (nanos_of other) }
+{
+    match (one, other) {
+        (Some(one), Some(other)) => Some(one.min(other)),
+        (Some(wait), None) | (None, Some(wait)) => Some(wait),
+        (None, None) => None,
+    }
 }

@@ -1,0 +1,233 @@
+-- Each session that is present has an entry that isn't gone.
+use Rattle.std.proofs.Common.{◌≡◌, ◌≢◌, inl, inr, ℕ, zero, suc, ◌<◌, ◌≤◌, Bool, true, false, cond, List, [], ◌∷◌, length, get_or, Option, Some, None, unwrap_or, option_map, refl, sym, ap, subst, ◌∙◌, arith}
+use Rattle.std.proofs.lemmas.Bool.{cases_eq}
+use Rattle.std.proofs.Math.ListN.{get_or-eq_default}
+use Rattle.std.proofs.Math.Logic.{∥∥₁_elim, ∥∥₁_map}
+use Rattle.std.specs.Map.{lookup}
+use Rattle.sector.specs.declared.device.Sectors.{Ghosts}
+use Rattle.sessions.specs.declared.events.Status.{Status}
+use Rattle.sessions.specs.declared.events.Status.TheVariants.{Absent, Open, Ending, Refused}
+use Rattle.sessions.specs.declared.hub.Hub.{Hub}
+use Rattle.sessions.specs.SessionStreams.{HubState, SessionStream, IsReachedHub, Continued, Leaves, stream_of}
+use Rattle.sessions.specs.StandsFor.{StandsFor, at_hand, failures, status_in}
+use Rattle.stream_driver.specs.declared.answers.Progress.{Progress}
+use Rattle.stream_driver.specs.declared.answers.Progress.TheVariants.{Waiting, Again, Gone}
+use Rattle.stream_driver.specs.declared.entries.EntryState.{EntryState}
+use Rattle.stream_driver.specs.declared.entries.EntryState.TheVariants.{Idle, Ready, Gone as EntryGone}
+use Rattle.stream_driver.specs.declared.entries.Entry.{Entry}
+use Rattle.stream_driver.specs.Traffic.{Traffic}
+use Rattle.stream_driver.specs.Sessions.{Point, Leads, InSomeState, IsPresent, Stands, status_at}
+use Rattle.stream_driver.specs.Drives.{EndsAs}
+use Rattle.stream_driver.specs.Entries.{DrivenAll, DrivenIn, DrivenSlot, DrivenOnce, HaveSessions, state_after}
+use Rattle.event_loop.specs.Numbers.{AreBelow}
+use Rattle.event_loop.specs.Tables.{HasNobody, HaveEntries, IsWithoutEntry, after_poll, readied, slot_at, unless, unless_gone}
+use Rattle.event_loop.proofs.Present.{test, reached-run, absent_then, others_then}
+
+-- ---- the states that one hub stands for
+
+lookup-at_hand : (s : ℕ) (es : List (ℕ × SessionStream)) → lookup (test s) (at_hand es) ≡ option_map (λ st. st.now) (lookup (test s) es)
+lookup-at_hand s [] = refl
+lookup-at_hand s (e ∷ es) =
+    elim (test s e.0) as (λ b. cond b (Some e.1.now) (lookup (test s) (at_hand es)) ≡ option_map (λ st. st.now) (cond b (Some e.1) (lookup (test s) es))) [ true ↦ refl | false ↦ lookup-at_hand s es ]
+
+status_alike : (o p : Option SessionStream) → option_map (λ st. st.now) o ≡ option_map (λ st. st.now) p → status_in o ≡ status_in p
+status_alike None None e = refl
+status_alike None (Some q) e = absurd (cc)
+status_alike (Some p) None e = absurd (cc)
+status_alike (Some p) (Some q) e = cc
+
+stable : (v : Status) → ((v ≡ Absent → ⊥) → ⊥) → v ≡ Absent
+stable Absent f = refl
+stable Open f = absurd (f (λ e. cc))
+stable Ending f = absurd (f (λ e. cc))
+stable Refused f = absurd (f (λ e. cc))
+
+never : IsProp ⊥
+never = λ x y. absurd x
+
+module _ {D : Type 0} {g : Ghosts D} (hub : Hub D g) where
+  -- they agree on the status of a session
+  alike : (h k : HubState) (s : ℕ) → StandsFor hub h → StandsFor hub k → status_at h s ≡ status_at k s
+  alike h k s p q =
+      status_alike (stream_of h s) (stream_of k s)
+      (sym (lookup-at_hand s h.present) ∙ ap (lookup (test s)) (sym p.sessions ∙ q.sessions) ∙ lookup-at_hand s k.present)
+
+  -- absent in some state, and so in each
+  pub absent_in_each : (s : ℕ) → InSomeState hub (λ h. status_at h s ≡ Absent) → (k : HubState) → StandsFor hub k → status_at k s ≡ Absent
+  absent_in_each s some k stands = stable (status_at k s) (λ other. ∥∥₁_elim some never (λ w. other (alike k w.0 s stands w.1 ∙ w.2)))
+
+  pub nobody_entries : {T : Type 0} (slots : List (Option (Entry T))) → HasNobody hub → HaveEntries hub slots
+  nobody_entries slots nobody = λ k stands s without. stable (status_at k s) (λ other. ∥∥₁_elim nobody never (λ w. other (alike k w.0 s stands w.1 ∙ ap (λ es. status_in (lookup (test s) es)) w.2.0)))
+
+-- ---- drives
+
+ends_other : (s : ℕ) (last new : Point) (answer : Progress) (t : ℕ) → t ≢ s → EndsAs s last new answer → stream_of new.hub t ≡ stream_of last.hub t
+ends_other s last new Waiting t d e = ap (λ p. stream_of p.hub t) e
+ends_other s last new Again t d e = ap (λ p. stream_of p.hub t) e
+ends_other s last new Gone t d e = ap (λ h. stream_of h t) e.leaves ∙ others_then last.hub s e.choice t d
+
+ends_reached : (s : ℕ) (last new : Point) (answer : Progress) → EndsAs s last new answer → IsReachedHub last.hub → IsReachedHub new.hub
+ends_reached s last new Waiting e reached = subst (λ p. IsReachedHub p.hub) (sym e) reached
+ends_reached s last new Again e reached = subst (λ p. IsReachedHub p.hub) (sym e) reached
+ends_reached s last new Gone e reached = subst (λ h. IsReachedHub h) (sym e.leaves) (Continued last.hub (Leaves s) e.choice tt reached)
+
+-- an entry is gone only where its session has left
+ends_absent : (s : ℕ) (last new : Point) (answer : Progress) → state_after answer ≡ EntryGone → EndsAs s last new answer → IsReachedHub last.hub → status_at new.hub s ≡ Absent
+ends_absent s last new Waiting gone e reached = absurd (let bad : Idle ≡ EntryGone = gone in cc)
+ends_absent s last new Again gone e reached = absurd (let bad : Ready ≡ EntryGone = gone in cc)
+ends_absent s last new Gone gone e reached = ap (λ h. status_at h s) e.leaves ∙ absent_then last.hub s e.choice reached
+
+readied_gone : (state : EntryState) → readied state ≡ EntryGone → state ≡ EntryGone
+readied_gone Idle e = absurd (let bad : Ready ≡ EntryGone = e in cc)
+readied_gone Ready e = e
+readied_gone EntryGone e = refl
+
+gone_readied : (state : EntryState) → state ≡ EntryGone → readied state ≡ EntryGone
+gone_readied state e = ap readied e
+
+module _ {T : Type 0} where
+  some_inj : {a b : Entry T} → Some a ≡ Some b → a ≡ b
+  some_inj {a} e = ap (λ (o : Option (Entry T)). unwrap_or o a) e
+
+  none_past : (slots : List (Option (Entry T))) (key : ℕ) → length slots ≤ key → get_or slots key None ≡ None
+  none_past slots key le = get_or-eq_default slots None le
+
+  without-nil : (s : ℕ) → IsWithoutEntry {T = T} s []
+  without-nil s key entry e = absurd (let bad : None ≡ Some entry = sym (none_past [] key (omega arith)) ∙ e in cc)
+
+  without-cons : (s : ℕ) (slot : Option (Entry T)) (slots : List (Option (Entry T))) → ((entry : Entry T) → slot ≡ Some entry → entry.session ≡ s → entry.state ≡ EntryGone)
+      → IsWithoutEntry s slots → IsWithoutEntry s (slot ∷ slots)
+  without-cons s slot slots head rest zero entry e same = head entry e same
+  without-cons s slot slots head rest (suc key) entry e same = rest key entry e same
+
+  -- a table with no entry
+  no_entry : (slots : List (Option (Entry T))) → slots ≡ [] → (key : ℕ) (entry : Entry T) → slot_at slots key ≡ Some entry → ⊥
+  no_entry slots is key entry e = let le : length slots ≤ key = rw is (omega arith) in let bad : None ≡ Some entry = sym (none_past slots key le) ∙ e in cc
+
+  pub empty_sessions : {D : Type 0} {g : Ghosts D} (hub : Hub D g) (slots : List (Option (Entry T))) → slots ≡ [] → HaveSessions hub slots
+  empty_sessions hub slots is = record { present = λ key entry e alive. absurd (no_entry slots is key entry e); own = λ one two first second e f alive too same. absurd (no_entry slots is one first e) }
+
+  pub empty_numbers : (next : ℕ) (slots : List (Option (Entry T))) → slots ≡ [] → AreBelow next slots
+  empty_numbers next slots is = λ key entry e. absurd (no_entry slots is key entry e)
+
+  module _ (tells : Bool) (traffic : T → Traffic) (s : ℕ) where
+    last_reached : (earlier : Point) (old : Entry T) (later : Point) (new : Entry T) (d : DrivenOnce tells traffic earlier old later new) → IsReachedHub earlier.hub → IsReachedHub d.drove.last.hub
+    last_reached earlier old later new d reached =
+        let runs = d.drove.carried.runs in subst (λ h. IsReachedHub h) (sym runs.run_is) (reached-run earlier.hub runs.events runs.possible reached)
+
+    entry_reached : (state : EntryState) (earlier : Point) (old : Entry T) (later : Point) (new : Entry T) → DrivenIn tells traffic state earlier old later new → IsReachedHub earlier.hub → IsReachedHub later.hub
+    entry_reached Ready earlier old later new d reached = ends_reached old.session d.drove.last later d.answer d.drove.ends (last_reached earlier old later new d reached)
+    entry_reached Idle earlier old later new d reached = subst (λ p. IsReachedHub p.hub) (sym d.1) reached
+    entry_reached EntryGone earlier old later new d reached = subst (λ p. IsReachedHub p.hub) (sym d.1) reached
+
+    slot_reached : (earlier : Point) (slot : Option (Entry T)) (later : Point) (new : Option (Entry T)) → DrivenSlot tells traffic earlier slot later new → IsReachedHub earlier.hub → IsReachedHub later.hub
+    slot_reached earlier None later new d reached = subst (λ p. IsReachedHub p.hub) (sym d.1) reached
+    slot_reached earlier (Some old) later new d reached = entry_reached old.state earlier old later d.0 d.2 reached
+
+    entry_absent : (state : EntryState) (earlier : Point) (old : Entry T) (later : Point) (new : Entry T) → old.state ≡ state → DrivenIn tells traffic state earlier old later new → IsReachedHub earlier.hub
+        → (new.session ≡ s → new.state ≡ EntryGone) → ((old.session ≡ s → old.state ≡ EntryGone) → status_at earlier.hub s ≡ Absent) → status_at later.hub s ≡ Absent
+    entry_absent Idle earlier old later new is d reached without before =
+        ap (λ p. status_at p.hub s) d.1 ∙ before (subst (λ (x : Entry T). x.session ≡ s → x.state ≡ EntryGone) d.0 without)
+    entry_absent EntryGone earlier old later new is d reached without before = ap (λ p. status_at p.hub s) d.1 ∙ before (λ same. is)
+    entry_absent Ready earlier old later new is d reached without before = elim (cases_eq s old.session) [
+      | inl same ↦
+          let gone : state_after d.answer ≡ EntryGone = sym d.state ∙ without (d.session ∙ sym same) in
+          subst (λ t. status_at later.hub t ≡ Absent) (sym same) (ends_absent old.session d.drove.last later d.answer gone d.drove.ends (last_reached earlier old later new d reached))
+      | inr differs ↦
+          ap status_in (ends_other old.session d.drove.last later d.answer s differs d.drove.ends ∙ d.drove.carried.runs.others s differs)
+          ∙ before (λ same. absurd (differs (sym same)))
+    ]
+
+    slot_absent : (earlier : Point) (slot : Option (Entry T)) (later : Point) (new : Option (Entry T)) → DrivenSlot tells traffic earlier slot later new → IsReachedHub earlier.hub
+        → ((entry : Entry T) → new ≡ Some entry → entry.session ≡ s → entry.state ≡ EntryGone)
+        → (((entry : Entry T) → slot ≡ Some entry → entry.session ≡ s → entry.state ≡ EntryGone) → status_at earlier.hub s ≡ Absent) → status_at later.hub s ≡ Absent
+    slot_absent earlier None later new d reached without before = ap (λ p. status_at p.hub s) d.1 ∙ before (λ entry e. absurd (let bad : None ≡ Some entry = e in cc))
+    slot_absent earlier (Some old) later new d reached without before =
+        entry_absent old.state earlier old later d.0 refl d.2 reached (without d.0 d.1)
+        (λ head. before (λ entry e. subst (λ (x : Entry T). x.session ≡ s → x.state ≡ EntryGone) (some_inj e) head))
+
+    driven_absent : (earlier : Point) (slots : List (Option (Entry T))) (later : Point) (new : List (Option (Entry T))) → DrivenAll tells traffic earlier slots later new → IsReachedHub earlier.hub → IsWithoutEntry s new
+        → (IsWithoutEntry s slots → status_at earlier.hub s ≡ Absent) → status_at later.hub s ≡ Absent
+    driven_absent earlier [] later new (is, same) reached without before = ap (λ p. status_at p.hub s) same ∙ before (without-nil s)
+    driven_absent earlier (slot ∷ slots) later new (first, mid, others, is, d, rest) reached without before =
+        let w : IsWithoutEntry s (first ∷ others) = subst (λ l. IsWithoutEntry s l) is without in
+        driven_absent mid slots later others rest (slot_reached earlier slot mid first d reached) (λ key entry e. w (suc key) entry e)
+        (λ none. slot_absent earlier slot mid first d reached (λ entry e. w zero entry e) (λ head. before (without-cons s slot slots head none)))
+
+  module _ {D : Type 0} {g : Ghosts D} (hub later : Hub D g) where
+    pub driven_entries : (tells : Bool) (traffic : T → Traffic) (slots new : List (Option (Entry T))) → Stands hub → Leads hub later (λ h k. DrivenAll tells traffic h slots k new) → HaveEntries hub slots → HaveEntries later new
+    driven_entries tells traffic slots new some leads has = λ k stands s without.
+        absent_in_each later s
+        (∥∥₁_map some (λ w. (
+        let p = leads (record { hub = w.0; failures = failures hub }) (record { state = w.1; count = refl }) in
+        (p.0.hub, p.1.state, driven_absent tells traffic s (record { hub = w.0; failures = failures hub }) slots p.0 new p.2 w.1.reached without (λ none. has w.0 w.1 s none))
+        ))) k stands
+
+  -- ---- the table alone changes
+
+  -- each entry was there under its key, with its session, and was not gone where it isn't now
+  abbrev Remain : List (Option (Entry T)) → List (Option (Entry T)) → Type 0
+  Remain old new = (key : ℕ) (entry : Entry T) → slot_at new key ≡ Some entry → (before : Entry T) × (slot_at old key ≡ Some before) × (before.session ≡ entry.session) × (entry.state ≢ EntryGone → before.state ≢ EntryGone)
+
+  remain_sessions : {D : Type 0} {g : Ghosts D} (hub : Hub D g) (old new : List (Option (Entry T))) → Remain old new → HaveSessions hub old → HaveSessions hub new
+  remain_sessions hub old new remain has = record {
+    present = λ key entry e alive. let b = remain key entry e in subst (λ s. IsPresent hub s) b.2 (has.present key b.0 b.1 (b.3 alive));
+    own = λ one two first second e f alive too same.
+        let a = remain one first e in
+        let b = remain two second f in
+        has.own one two a.0 b.0 a.1 b.1 (a.3 alive) (b.3 too) (a.2 ∙ same ∙ sym b.2);
+  }
+
+  remain_numbers : (next : ℕ) (old new : List (Option (Entry T))) → Remain old new → AreBelow next old → AreBelow next new
+  remain_numbers next old new remain numbers = λ key entry e. let b = remain key entry e in subst (λ s. s < next) b.2 (numbers key b.0 b.1)
+
+  module _ (old new : List (Option (Entry T))) (told : ℕ → Bool) (polled : (key : ℕ) → slot_at new key ≡ after_poll (told key) (slot_at old key)) where
+    polled_remain : Remain old new
+    polled_remain key entry e = by (told key) (slot_at old key) refl (sym (polled key) ∙ e)
+      where
+        by : (b : Bool) (slot : Option (Entry T)) → slot_at old key ≡ slot → after_poll b slot ≡ Some entry → (before : Entry T) × (slot_at old key ≡ Some before) × (before.session ≡ entry.session) × (entry.state ≢ EntryGone → before.state ≢ EntryGone)
+        by true None is f = absurd (let bad : None ≡ Some entry = f in cc)
+        by true (Some was) is f =
+            let same : record was { state = readied was.state } ≡ entry = some_inj f in
+            (was, is, ap (λ (x : Entry T). x.session) same, λ alive gone. alive (sym (ap (λ (x : Entry T). x.state) same) ∙ gone_readied was.state gone))
+        by false slot is f = (entry, is ∙ f, refl, λ alive. alive)
+
+    pub polled_sessions : {D : Type 0} {g : Ghosts D} (hub : Hub D g) → HaveSessions hub old → HaveSessions hub new
+    polled_sessions hub has = remain_sessions hub old new polled_remain has
+
+    pub polled_numbers : (next : ℕ) → AreBelow next old → AreBelow next new
+    polled_numbers next numbers = remain_numbers next old new polled_remain numbers
+
+    pub polled_entries : {D : Type 0} {g : Ghosts D} (hub : Hub D g) → HaveEntries hub old → HaveEntries hub new
+    polled_entries hub has = λ h stands s without. has h stands s (λ key entry e same. by key entry (told key) (polled key ∙ ap (after_poll (told key)) e) (λ x f. without key x f) same)
+      where
+        by : (key : ℕ) (entry : Entry T) (b : Bool) → slot_at new key ≡ after_poll b (Some entry) → {s : ℕ} → ((x : Entry T) → slot_at new key ≡ Some x → x.session ≡ s → x.state ≡ EntryGone) → entry.session ≡ s → entry.state ≡ EntryGone
+        by key entry true f without same = readied_gone entry.state (without (record entry { state = readied entry.state }) f same)
+        by key entry false f without same = without entry f same
+
+  module _ (old new : List (Option (Entry T))) (taken : (key : ℕ) → slot_at new key ≡ unless_gone (slot_at old key)) where
+    taken_slot : (slot : Option (Entry T)) (entry : Entry T) → unless_gone slot ≡ Some entry → slot ≡ Some entry
+    taken_slot None entry e = absurd (let bad : None ≡ Some entry = e in cc)
+    taken_slot (Some was) entry e = by was.state e
+      where
+        by : (state : EntryState) → unless state was ≡ Some entry → Some was ≡ Some entry
+        by Idle f = f
+        by Ready f = f
+        by EntryGone f = absurd (let bad : None ≡ Some entry = f in cc)
+
+    taken_remain : Remain old new
+    taken_remain key entry e = (entry, taken_slot (slot_at old key) entry (sym (taken key) ∙ e), refl, λ alive. alive)
+
+    pub taken_sessions : {D : Type 0} {g : Ghosts D} (hub : Hub D g) → HaveSessions hub old → HaveSessions hub new
+    taken_sessions hub has = remain_sessions hub old new taken_remain has
+
+    pub taken_numbers : (next : ℕ) → AreBelow next old → AreBelow next new
+    taken_numbers next numbers = remain_numbers next old new taken_remain numbers
+
+    pub taken_entries : {D : Type 0} {g : Ghosts D} (hub : Hub D g) → HaveEntries hub old → HaveEntries hub new
+    taken_entries hub has = λ h stands s without. has h stands s (λ key entry e same. by key entry entry.state refl (taken key ∙ ap unless_gone e) (λ f. without key entry f same))
+      where
+        by : (key : ℕ) (entry : Entry T) (state : EntryState) → entry.state ≡ state → slot_at new key ≡ unless state entry → (slot_at new key ≡ Some entry → entry.state ≡ EntryGone) → entry.state ≡ EntryGone
+        by key entry Idle is f without = without f
+        by key entry Ready is f without = without f
+        by key entry EntryGone is f without = is

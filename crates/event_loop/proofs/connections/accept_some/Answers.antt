@@ -1,0 +1,13 @@
+use Rattle.event_loop.proofs.Admits.{admits_entries, admits_numbers, admits_sessions, admits_stands}
+use Rattle.event_loop.proofs.Counts.{taken_one}
+use Rattle.event_loop.proofs.connections.accept_some.Goals as goal
+
+pub loop-accepted-preserved : goal.loop-accepted-preserved
+loop-accepted-preserved g c =
+    let before = c.loop-accepted.invariant in (
+      admits_stands c.loop-accepted.hub c.admit.new.hub c.loop-accepted.next c.admit.new.next c.loop-accepted.table.slots c.admit.new.table.slots c.admit.ensures before.0,
+      admits_sessions c.loop-accepted.hub c.admit.new.hub c.loop-accepted.next c.admit.new.next c.loop-accepted.table.slots c.admit.new.table.slots c.admit.ensures before.0 before.2 before.1,
+      admits_numbers c.loop-accepted.hub c.admit.new.hub c.loop-accepted.next c.admit.new.next c.loop-accepted.table.slots c.admit.new.table.slots c.admit.ensures before.2,
+      admits_entries c.loop-accepted.hub c.admit.new.hub c.loop-accepted.next c.admit.new.next c.loop-accepted.table.slots c.admit.new.table.slots c.admit.ensures before.0 before.3,
+      taken_one c.loop-accepted._accepted (g.L.Listener.accepts c.args.listener.now) (g.L.Listener.accepts c.loop-accepted.listener) (g.L.Listener.accepts c.accept.new.self) before.4 c.in-Taken.ensures,
+    )

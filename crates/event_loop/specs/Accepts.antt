@@ -1,0 +1,39 @@
+-- What a listener has answered so far, and what a turn's accepts come to.
+use Rattle.std.specs.Prelude.{◌≡◌, ℕ, ◌+◌, ◌<◌, ◌-◌, ◌^◌, min, max}
+use Rattle.stream_driver.specs.Traffic.{one_more}
+use Rattle.event_loop.specs.declared.listener.AcceptAnswer.{AcceptAnswer}
+use Rattle.event_loop.specs.declared.listener.AcceptAnswer.TheVariants.{Taken, Blocked, Failed}
+use Rattle.event_loop.specs.declared.connections.Backlog.{Backlog}
+use Rattle.event_loop.specs.declared.connections.Backlog.TheVariants.{Empty, Full, Failed as BacklogFailed}
+
+-- how often each answer was given
+pub record Accepts : Type 0 where
+  pub taken : ℕ
+  pub blocked : ℕ
+  pub failed : ℕ
+
+-- the counts after this answer
+abbrev pub after_accept : AcceptAnswer → Accepts → Accepts
+after_accept (Taken stream) a = record a { taken = one_more a.taken }
+after_accept Blocked a = record a { blocked = one_more a.blocked }
+after_accept Failed a = record a { failed = one_more a.failed }
+
+-- a u64 count after so many more: the highest stays
+abbrev pub more : ℕ → ℕ → ℕ
+more n count = max count (min (count + n) (2 ^ 64 - 1))
+
+-- the counts after so many connections
+abbrev pub after_taken : ℕ → Accepts → Accepts
+after_taken n a = record a { taken = more n a.taken }
+
+-- why a turn's accepts ended after so many connections: as many were taken as a turn takes, or none waits, or a call failed
+abbrev pub WhyStopped : ℕ → Accepts → Accepts → Backlog → Type 0
+WhyStopped n old new Full = (n ≡ 128) × (new ≡ after_taken n old)
+WhyStopped n old new Empty = (n < 128) × (new ≡ after_accept Blocked (after_taken n old))
+WhyStopped n old new BacklogFailed = (n < 128) × (new ≡ after_accept Failed (after_taken n old))
+
+-- the accepts of a turn
+pub record TurnAccepts (old : Accepts) (backlog : Backlog) (new : Accepts) : Type 0 where
+  -- so many connections were taken
+  pub taken : ℕ
+  pub why : WhyStopped taken old new backlog

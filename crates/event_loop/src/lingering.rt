@@ -1,0 +1,185 @@
+//! Connections whose session has left while the peer may still be sending.
+//!
+//! The system resets a connection that is closed while input is unread, and then replies that are under way are lost. So a connection
+//! that ended in good order is shut down for writing, and what still comes in is read and dropped until the peer ends, within bounds
+//! of number, bytes and time.
+ghost use Rattle.std.specs.Prelude.{◌≡◌, ◌≤◌, min, length, true, IsTrue};
+ghost use Rattle.std.specs.VecDeque.{deque_len, deque_capacity};
+ghost use Rattle.event_loop.specs.declared.lingering.TheConstants.{LINGERING_MAX};
+ghost use Rattle.event_loop.specs.Drops.{GivesAtMost, WhyDropped, left_after, newest};
+
+use crate::socket::Socket;
+use mio::{Poll, Token};
+use std::alloc::{AllocError, Global};
+use std::collections::VecDeque;
+use std::time::{Duration, Instant};
+use stream_driver::{ReadAnswer, Stream};
+
+/// The most connections that linger. Where one more comes, the one that has lingered longest is closed.
+pub const LINGERING_MAX: usize = 64;
+
+/// The most bytes that are dropped of one connection.
+pub const LINGERING_BYTES: usize = 67_108_864;
+
+/// For how many seconds a connection lingers at the most.
+pub const LINGERING_SECONDS: u64 = 10;
+
+/// The most bytes that one turn drops of one connection.
+pub const LINGERING_BYTES_A_TURN: usize = 65_536;
+
+// The most bytes that one read asks for.
+const READ_MAX: usize = 4_096;
+
+/// How the dropping of input came out.
+#[derive(Clone, Copy, PartialEq, Eq, Debug)]
+pub enum Dropped {
+    /// So many bytes were dropped, and none can come now.
+    Blocked(usize),
+    /// As many as were asked for; there may be more.
+    All,
+    /// A call failed, or no more will come.
+    Over,
+}
+
+/// Reads at most so many bytes and drops them. Takes no memory.
+pub fn drop_input<S: Stream>(stream: &mut S, most: usize) -> Dropped
+    ensures given { IsTrue S.tells → GivesAtMost result most (length (S.traffic stream.old).given) (length (S.traffic stream.new).given) }
+    ensures taken { IsTrue S.tells → (S.traffic stream.new).taken ≡ (S.traffic stream.old).taken }
+    ensures why { WhyDropped result most (S.traffic stream.old) (S.traffic stream.new) }
+{
+    let mut buffer = [0u8; READ_MAX];
+    let mut left = most;
+    while left > 0 {
+        let part = &mut buffer[..left.min(READ_MAX)];
+        match stream.read(part) {
+            ReadAnswer::Moved(n) => left -= n,
+            ReadAnswer::Blocked => return Dropped::Blocked(most - left),
+            ReadAnswer::Failed | ReadAnswer::Ended => return Dropped::Over,
+        }
+    }
+    Dropped::All
+}
+
+// A connection that lingers: how many bytes may still be dropped, and until when.
+#[derive(Drop)]
+struct Lingerer {
+    socket: Socket,
+    left: usize,
+    until: Instant,
+}
+
+impl Lingerer {
+    // Drops what came in, as far as one turn goes.
+    fn turn(&mut self) -> Dropped
+        ensures left { self.new.left ≡ left_after result (min self.old.left LINGERING_BYTES_A_TURN) self.old.left }
+        ensures until { self.new.until ≡ self.old.until }
+    {
+        let most = self.left.min(LINGERING_BYTES_A_TURN);
+        let dropped = drop_input(&mut self.socket, most);
+        match dropped {
+            Dropped::Blocked(n) => self.left -= n,
+            Dropped::All => self.left -= most,
+            Dropped::Over => self.left = 0,
+        }
+        dropped
+    }
+
+    // Were as many bytes dropped as may be, or is the time over?
+    fn is_over(&self, now: Option<Instant>) -> bool
+        ensures spent { self.now.left ≡ 0 → result ≡ true }
+    {
+        match now {
+            Some(now) => self.left == 0 || self.until <= now,
+            None => true,
+        }
+    }
+}
+
+/// The connections that linger, oldest first.
+#[derive(Drop)]
+pub(crate) struct Lingering {
+    queue: VecDeque<Lingerer>,
+    /// There may be input that no poll will tell of.
+    has_more: bool,
+    ghost few: { deque_len queue ≤ LINGERING_MAX },
+    ghost room: { LINGERING_MAX ≤ deque_capacity queue },
+}
+
+impl Lingering {
+    /// None lingers. Takes the memory for all.
+    pub(crate) fn new(alloc: Global) -> Result<Lingering, AllocError> {
+        Ok(Lingering {
+            queue: VecDeque::with_capacity(alloc, LINGERING_MAX)?,
+            has_more: false,
+        })
+    }
+
+    /// How long the next poll may wait: without end where none lingers, not at all where there may be more input or the clock can't be
+    /// read, and else until the oldest has lingered long enough.
+    pub(crate) fn patience(&self, now: Option<Instant>) -> Option<Duration> {
+        let oldest = self.queue.front()?;
+        match now {
+            Some(now) if !self.has_more => Some(oldest.until.duration_since(now)),
+            _ => Some(Duration::ZERO),
+        }
+    }
+
+    /// A connection's session has left. It lingers where it ended in good order, and else is closed.
+    pub(crate) fn begin(
+        &mut self,
+        poll: &Poll,
+        mut socket: Socket,
+        now: Option<Instant>,
+        token: Token,
+    ) {
+        let lasting = Duration::from_secs(LINGERING_SECONDS);
+        let Some(until) = now.and_then(|now| now.checked_add(lasting)) else {
+            return;
+        };
+        if !socket.is_in_order() || socket.half_close(poll, token).is_err() {
+            return;
+        }
+        self.has_more = true;
+        self.push(Lingerer {
+            socket,
+            left: LINGERING_BYTES,
+            until,
+        });
+    }
+
+    /// Closes all that linger.
+    pub(crate) fn close(&mut self) {
+        self.queue.clear();
+        self.has_more = false;
+    }
+
+    // One more lingers. Where there are as many as may be, the oldest is closed.
+    fn push(&mut self, lingerer: Lingerer)
+        ensures { self.new.queue.items ≡ newest LINGERING_MAX self.old.queue.items lingerer }
+    {
+        if self.queue.len() >= LINGERING_MAX {
+            let _ = self.queue.pop_front();
+        }
+        self.queue.push_back_reserved(lingerer);
+    }
+
+    /// Drops what came in where the poll told of it or there may be more, and closes those that are over.
+    pub(crate) fn turn(&mut self, is_told: bool, now: Option<Instant>) {
+        let reads = is_told || self.has_more;
+        self.has_more = false;
+        for _ in 0..self.queue.len() {
+            let Some(mut lingerer) = self.queue.pop_front() else {
+                return;
+            };
+            let dropped = if reads {
+                lingerer.turn()
+            } else {
+                Dropped::Blocked(0)
+            };
+            if !lingerer.is_over(now) {
+                self.has_more = self.has_more || dropped == Dropped::All;
+                self.queue.push_back_reserved(lingerer);
+            }
+        }
+    }
+}
