@@ -5,3 +5,4 @@ pub mod Labels
 pub mod Steps
 pub mod Reading
 pub mod Runs
+pub mod Writing

@@ -1,7 +1,7 @@
 -- A script's lines, one after the other.
-use Rattle.std.proofs.Common.{◌≡◌, ◌≢◌, ℕ, ◌+◌, true, false, List, [], ◌∷◌, ◌++◌, Option, Some, None, Result, Ok, Err, refl, sym, ap, subst, ◌∙◌, append_assoc, arith, length-append}
-use Rattle.std.specs.Prelude.{IfSome, IsErrAnd, MatchResult}
-use Rattle.std.specs.Io.KnownBytes.{Appends}
+use Rattle.std.proofs.Common.{◌≡◌, ◌≢◌, ℕ, ◌+◌, true, false, List, [], ◌∷◌, ◌++◌, Option, Some, None, Result, Ok, Err, refl, sym, ap, subst, ◌∙◌, append_assoc, arith, length-append, inl, inr}
+use Rattle.std.specs.Prelude.{IfSome, IsErrAnd, MatchResult, ◌⊎◌}
+use Rattle.std.specs.Io.KnownBytes.{Appends, Keeps}
 use Rattle.std.specs.Io.BufRead.{drop_through}
 use Rattle.std.proofs.lemmas.List.{append-nil}
 use Rattle.sector.specs.declared.device.Sectors.{Ghosts}
@@ -12,10 +12,10 @@ use Rattle.sessions.specs.StandsFor.{StandsFor}
 use Rattle.scripts.specs.declared.faults.ScriptFault.{ScriptFault}
 use Rattle.scripts.specs.declared.faults.ScriptFault.TheVariants.{BadLine, Crowded, File, Log, Memory}
 use Rattle.scripts.specs.declared.playing.Script.{Script}
-use Rattle.scripts.specs.Faults.{IsPlain}
+use Rattle.scripts.specs.Faults.{IsFromReading, IsOpening}
 use Rattle.scripts.specs.Lines.{ScriptLine, IsLine, lines_of}
-use Rattle.scripts.specs.Transcript.{Scene, Transcript, Begun, Continued, IsCrowded, LinePrints, TextPrints, Plays}
-use Rattle.scripts.specs.Calls.{IsAt, ReadsLine, Answers, Runs, RunSoFar}
+use Rattle.scripts.specs.Transcript.{Scene, Transcript, Begun, Continued, IsCrowded, LinePrints, TextPrints, RunsSome, Plays}
+use Rattle.scripts.specs.Calls.{IsAt, ReadsLine, Answers, Ends, Runs, RunSoFar}
 use Rattle.scripts.proofs.Texts.{first_of_lines}
 
 pub lift : {A : Type 0} (o : Option A) (P Q : A → Type 0) → ((x : A) → P x → Q x) → IfSome o P → IfSome o Q
@@ -26,6 +26,10 @@ pub err_is : {A E : Type 0} (r : Result A E) (e : E) → IsErrAnd r (λ x. x ≡
 err_is (Ok x) e is = absurd is
 err_is (Err x) e is = ap (λ y. Err y) is
 
+pub always : {A : Type 0} (o : Option A) (P : A → Type 0) → ((x : A) → P x) → IfSome o P
+always None P by = tt
+always (Some x) P by = by x
+
 pub appends_nothing : (held : Option Bytes) → Appends held held []
 appends_nothing None = tt
 appends_nothing (Some xs) = sym (append-nil xs)
@@ -35,6 +39,16 @@ appends_then None b c p q first then = tt
 appends_then (Some xs) None c p q first then = absurd first
 appends_then (Some xs) (Some ys) None p q first then = absurd then
 appends_then (Some xs) (Some ys) (Some zs) p q first then = then ∙ ap (λ l. l ++ q) first ∙ append_assoc xs p q
+
+none_run : (first : Scene) (texts : List Bytes) → RunsSome first texts []
+none_run first texts = record { before = []; behind = texts; texts_are = refl; scene = first; so_far = Begun }
+
+-- known bytes that stay
+pub keeps_on : (a b c : Option Bytes) (p : Bytes) → Appends a b p → Keeps b c → Appends a c p
+keeps_on None b c p first then = tt
+keeps_on (Some xs) None c p first then = absurd first
+keeps_on (Some xs) (Some ys) None p first then = absurd then
+keeps_on (Some xs) (Some ys) (Some zs) p first then = then ∙ first
 
 module _ {D : Type 0} {g : Ghosts D} (first : Scene) where
   pub run_none : (script : Script D g) (left held : Option Bytes) → IsAt script first → IfSome left (λ xs. RunSoFar first (lines_of xs) 1 script left held held)
@@ -53,6 +67,17 @@ module _ {D : Type 0} {g : Ghosts D} (first : Scene) where
   }
 
   module _ (texts : List Bytes) (number : ℕ) (script : Script D g) (left before held : Option Bytes) (r : RunSoFar first texts number script left before held) where
+    some_run : RunsSome first texts r.printed
+    some_run = record { before = r.done; behind = lines_of r.rest; texts_are = r.texts_are; scene = r.scene; so_far = r.so_far }
+
+    -- the next line was not read
+    pub run_unread : (fault : ScriptFault) → IsFromReading fault → Plays first texts (Err fault) before held
+    run_unread (BadLine n) from = absurd from
+    run_unread (Crowded n) from = absurd from
+    run_unread (Log fault) from = absurd from
+    run_unread Memory from = (r.printed, some_run, r.appends)
+    run_unread File from = (r.printed, inl some_run, r.appends)
+
     -- no line is left
     pub run_ends : (text : Bytes) (left' : Option Bytes) → IfSome left (λ xs. ReadsLine xs false text left') → ((h : HubState) → StandsFor script.hub h → IsLawful h) → Plays first texts (Ok tt) before held
     run_ends text left' reads lawful =
@@ -101,9 +126,16 @@ module _ {D : Type 0} {g : Ghosts D} (first : Scene) where
             record { before = r.done; text = text; behind = lines_of behind; texts_are = texts_split; number_is = why.0 ∙ r.number_is; scene = r.scene; so_far = r.so_far; why = why.1 },
             subst (λ held'. Appends before held' r.printed) (sym why.2) r.appends,
           )
-      run_stops new after File runs = tt
-      run_stops new after (Log fault) runs = tt
-      run_stops new after Memory runs = tt
+      run_stops new after Memory runs =
+          let why = runs r.scene r.at in
+          (r.printed, some_run, subst (λ held'. Appends before held' r.printed) (sym why.1) r.appends)
+      run_stops new after File runs =
+          let why = runs r.scene r.at in (
+            r.printed ++ why.part,
+            inr (record { before = r.done; text = text; behind = lines_of behind; texts_are = texts_split; scene = r.scene; front = r.printed; so_far = r.so_far; new = why.scene; part = why.part; rest = why.rest; prints = why.prints; printed_is = refl }),
+            appends_then before held after r.printed why.part r.appends why.appends,
+          )
+      run_stops new after (Log fault) runs = absurd (runs r.scene r.at)
 
 text_prints : (scene : Scene) (line : ScriptLine) (text : Bytes) → text ≢ [] → IsLine text line → (IsCrowded scene line.label → ⊥) → (new : Scene) (printed : Bytes) → LinePrints scene line new printed → TextPrints scene text new printed
 text_prints scene line [] some is place new printed prints = absurd (some refl)
@@ -111,7 +143,7 @@ text_prints scene line (byte ∷ bytes) some is place new printed prints = (line
 
 -- a line of a session was run as its answer says
 pub text_runs : {D : Type 0} {g : Ghosts D} (scene : Scene) (number : ℕ) (text : Bytes) (line : ScriptLine) (script : Script D g) (before after : Option Bytes) → text ≢ [] → IsLine text line → (IsCrowded scene line.label → ⊥)
-    → (r : Result (Unit {0}) ScriptFault) → MatchResult r (λ _. Answers script before after (LinePrints scene line)) IsPlain → Runs scene number text r script before after
+    → (r : Result (Unit {0}) ScriptFault) → MatchResult r (λ _. Answers script before after (LinePrints scene line)) (λ fault. Ends fault before after (LinePrints scene line)) → Runs scene number text r script before after
 text_runs scene number text line script before after some is place (Ok done) answered = record {
   scene = answered.scene;
   printed = answered.printed;
@@ -119,8 +151,27 @@ text_runs scene number text line script before after some is place (Ok done) ans
   prints = text_prints scene line text some is place answered.scene answered.printed answered.prints;
   appends = answered.appends;
 }
-text_runs scene number text line script before after some is place (Err (BadLine n)) plain = absurd plain
-text_runs scene number text line script before after some is place (Err (Crowded n)) plain = absurd plain
-text_runs scene number text line script before after some is place (Err File) plain = tt
-text_runs scene number text line script before after some is place (Err (Log fault)) plain = tt
-text_runs scene number text line script before after some is place (Err Memory) plain = tt
+text_runs scene number text line script before after some is place (Err (BadLine n)) ends = absurd ends
+text_runs scene number text line script before after some is place (Err (Crowded n)) ends = absurd ends
+text_runs scene number text line script before after some is place (Err (Log fault)) ends = absurd ends
+text_runs scene number text line script before after some is place (Err Memory) ends = ((line, is, place), ends)
+text_runs scene number text line script before after some is place (Err File) ends = record {
+  scene = ends.scene;
+  part = ends.part;
+  rest = ends.rest;
+  prints = text_prints scene line text some is place ends.scene (ends.part ++ ends.rest) ends.prints;
+  appends = ends.appends;
+}
+
+-- a script that ended before its first line
+pub unbegun : (first : Scene) (texts : List Bytes) (fault : ScriptFault) (held : Option Bytes) → IsOpening fault ⊎ IsFromReading fault → Plays first texts (Err fault) held held
+unbegun first texts (BadLine n) held from = elim from [ inl e ↦ absurd e | inr e ↦ absurd e ]
+unbegun first texts (Crowded n) held from = elim from [ inl e ↦ absurd e | inr e ↦ absurd e ]
+unbegun first texts (Log fault) held from = appends_nothing held
+unbegun first texts Memory held from = ([], none_run first texts, appends_nothing held)
+unbegun first texts File held from = ([], inl (none_run first texts), appends_nothing held)
+
+-- and one whose reader got no memory, or failed
+pub unread : (A B : Type 0) (first : Scene) (texts : List Bytes) (r : Result (Unit {0}) ScriptFault) (held : Option Bytes) → IsErrAnd r (λ fault. (A × (fault ≡ Memory)) ⊎ (B × (fault ≡ File))) → Plays first texts r held held
+unread A B first texts (Ok done) held is = absurd is
+unread A B first texts (Err fault) held is = unbegun first texts fault held (inr (elim is [ inl m ↦ subst IsFromReading (sym m.1) tt | inr f ↦ subst IsFromReading (sym f.1) tt ]))

@@ -1,5 +1,5 @@
 -- What the calls of a script do.
-use Rattle.std.specs.Prelude.{◌≡◌, ◌≢◌, ℕ, ◌+◌, Bool, true, false, List, [], ◌++◌, length, Option, Some, None, Result, Ok, Err, ⊤}
+use Rattle.std.specs.Prelude.{◌≡◌, ◌≢◌, ℕ, ◌+◌, Bool, true, false, List, [], ◌++◌, length, Option, Some, None, Result, Ok, Err}
 use Rattle.std.specs.Io.BufRead.{first_piece, drop_through}
 use Rattle.std.specs.Io.KnownBytes.{Appends}
 use Rattle.sector.specs.declared.device.Sectors.{Ghosts}
@@ -8,9 +8,9 @@ use Rattle.sessions.specs.declared.hub.Hub.{Hub}
 use Rattle.sessions.specs.SessionStreams.{HubState, Serves, Front, IsPossible, hub_step}
 use Rattle.sessions.specs.StandsFor.{StandsFor}
 use Rattle.scripts.specs.declared.faults.ScriptFault.{ScriptFault}
-use Rattle.scripts.specs.declared.faults.ScriptFault.TheVariants.{BadLine, Crowded}
+use Rattle.scripts.specs.declared.faults.ScriptFault.TheVariants.{BadLine, Crowded, File, Log, Memory}
 use Rattle.scripts.specs.declared.playing.Script.{Script}
-use Rattle.scripts.specs.Lines.{lines_of}
+use Rattle.scripts.specs.Lines.{ScriptLine, IsLine, lines_of}
 use Rattle.scripts.specs.Transcript.{Scene, granted, session_of, with_label, IsCrowded, TextPrints, Transcript, IsBad, NamesOneTooMany}
 
 -- the code's script is at this scene
@@ -43,12 +43,32 @@ pub record Answers {D : Type 0} {g : Ghosts D} (script : Script D g) (before aft
   pub prints : Prints scene printed
   pub appends : Appends before after printed
 
+-- of what a line prints, a beginning was written
+pub record PrintsPart (before after : Option Bytes) (Prints : Scene → Bytes → Type 0) : Type 0 where
+  pub scene : Scene
+  pub part : Bytes
+  pub rest : Bytes
+  pub prints : Prints scene (part ++ rest)
+  pub appends : Appends before after part
+
+-- why a line was not answered: the writer failed, or memory was refused before anything was printed
+abbrev pub Ends : ScriptFault → Option Bytes → Option Bytes → (Scene → Bytes → Type 0) → Type 0
+Ends File before after Prints = PrintsPart before after Prints
+Ends Memory before after Prints = after ≡ before
+Ends other before after Prints = ⊥
+
+-- the text is a line of a session that there is or that has a place
+abbrev pub IsGood : Scene → Bytes → Type 0
+IsGood scene text = (line : ScriptLine) × IsLine text line × (IsCrowded scene line.label → ⊥)
+
 -- the text of a line of this number was run, or why it was not
 abbrev pub Runs : {D : Type 0} {g : Ghosts D} → Scene → ℕ → Bytes → Result (Unit {0}) ScriptFault → Script D g → Option Bytes → Option Bytes → Type 0
 Runs old number text (Ok done) script before after = Answers script before after (TextPrints old text)
 Runs old number text (Err (BadLine n)) script before after = (n ≡ number) × IsBad old text × (after ≡ before)
 Runs old number text (Err (Crowded n)) script before after = (n ≡ number) × NamesOneTooMany old text × (after ≡ before)
-Runs old number text (Err other) script before after = ⊤
+Runs old number text (Err Memory) script before after = IsGood old text × (after ≡ before)
+Runs old number text (Err File) script before after = PrintsPart before after (TextPrints old text)
+Runs old number text (Err (Log fault)) script before after = ⊥
 
 -- some lines were run, and the others are still to be read
 pub record RunSoFar {D : Type 0} {g : Ghosts D} (first : Scene) (texts : List Bytes) (number : ℕ) (script : Script D g) (left : Option Bytes) (before after : Option Bytes) : Type 0 where

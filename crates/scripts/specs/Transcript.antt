@@ -1,5 +1,5 @@
 -- What a script prints: a run of the sessions over a store of its own.
-use Rattle.std.specs.Prelude.{◌≡◌, ◌≢◌, ℕ, ◌+◌, ◌≤◌, ◌==◌, Bool, false, List, [], ◌∷◌, ◌++◌, length, take, position, Option, Some, None, Result, Ok, Err, ⊤}
+use Rattle.std.specs.Prelude.{◌≡◌, ◌≢◌, ℕ, ◌+◌, ◌≤◌, ◌==◌, Bool, false, List, [], ◌∷◌, ◌++◌, length, take, position, Option, Some, None, Result, Ok, Err, ◌⊎◌}
 use Rattle.std.specs.Io.KnownBytes.{Appends}
 use Rattle.model.specs.Machine.{opened}
 use Rattle.model.specs.Map.{Bytes}
@@ -9,7 +9,7 @@ use Rattle.sessions.specs.Laws.{IsLawful}
 use Rattle.sessions.specs.SessionStreams.{HubState, HubEvent, Joins, Receives, Serves, Sends, Front, More, Choice, IsPossible, hub_over, hub_step, stream_of}
 use Rattle.sessions.specs.StandsFor.{status_in, room_in, pending_in}
 use Rattle.scripts.specs.declared.faults.ScriptFault.{ScriptFault}
-use Rattle.scripts.specs.declared.faults.ScriptFault.TheVariants.{BadLine, Crowded}
+use Rattle.scripts.specs.declared.faults.ScriptFault.TheVariants.{BadLine, Crowded, File, Log, Memory}
 use Rattle.scripts.specs.Lines.{ScriptLine, IsLine, IsNoLine, frame_of, printed_line}
 
 -- a script under way: its sessions, and the labels that have come, each once. The session of a label is its place
@@ -111,10 +111,39 @@ pub record StopsAt (first : Scene) (texts : List Bytes) (number : ℕ) (printed 
   pub so_far : Transcript first before scene printed
   pub why : Why scene text
 
+-- a beginning of the bytes was appended
+abbrev pub AppendsPart : Option Bytes → Option Bytes → Bytes → Type 0
+AppendsPart old new bytes = (part : Bytes) × (rest : Bytes) × (bytes ≡ part ++ rest) × Appends old new part
+
+-- so many of the first texts were run, and this is what they print
+pub record RunsSome (first : Scene) (texts : List Bytes) (printed : Bytes) : Type 0 where
+  pub before : List Bytes
+  pub behind : List Bytes
+  pub texts_are : texts ≡ before ++ behind
+  pub scene : Scene
+  pub so_far : Transcript first before scene printed
+
+-- and of what the next text prints, a beginning
+pub record BreaksOff (first : Scene) (texts : List Bytes) (printed : Bytes) : Type 0 where
+  pub before : List Bytes
+  pub text : Bytes
+  pub behind : List Bytes
+  pub texts_are : texts ≡ before ++ text ∷ behind
+  pub scene : Scene
+  pub front : Bytes
+  pub so_far : Transcript first before scene front
+  pub new : Scene
+  pub part : Bytes
+  pub rest : Bytes
+  pub prints : TextPrints scene text new (part ++ rest)
+  pub printed_is : printed ≡ front ++ part
+
 -- A script ends once all was printed, with sessions of which the laws hold; or before a line that is none or names one session too
--- many. Of another fault nothing is said.
+-- many; or for want of memory before some line, or where reading or writing fails, or before the first line where the log fails.
 abbrev pub Plays : Scene → List Bytes → Result (Unit {0}) ScriptFault → Option Bytes → Option Bytes → Type 0
 Plays first texts (Ok done) before after = (printed : Bytes) × (last : Scene) × Transcript first texts last printed × IsLawful last.hub × Appends before after printed
 Plays first texts (Err (BadLine number)) before after = (printed : Bytes) × StopsAt first texts number printed IsBad × Appends before after printed
 Plays first texts (Err (Crowded number)) before after = (printed : Bytes) × StopsAt first texts number printed NamesOneTooMany × Appends before after printed
-Plays first texts (Err other) before after = ⊤
+Plays first texts (Err Memory) before after = (printed : Bytes) × RunsSome first texts printed × Appends before after printed
+Plays first texts (Err File) before after = (printed : Bytes) × (RunsSome first texts printed ⊎ BreaksOff first texts printed) × Appends before after printed
+Plays first texts (Err (Log fault)) before after = Appends before after []

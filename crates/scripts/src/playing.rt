@@ -1,11 +1,12 @@
 //! A script over a device in memory.
 ghost use Rattle.std.specs.Prelude.{◌≡◌, ◌≤◌, IfSome, IfOk, IfErr, MatchResult};
+ghost use Rattle.std.specs.Io.KnownBytes.{Appends};
 ghost use Rattle.sessions.specs.SessionStreams.{HubState, stream_of};
 ghost use Rattle.sessions.specs.StandsFor.{StandsFor, status_in};
 ghost use Rattle.scripts.specs.Lines.{lines_of};
-ghost use Rattle.scripts.specs.Faults.{IsPlain};
-ghost use Rattle.scripts.specs.Transcript.{Scene, opening, place_of, received, PrintsIn, Plays};
-ghost use Rattle.scripts.specs.Calls.{IsAt, Finds, ReadsLine, Served, Answers, Runs};
+ghost use Rattle.scripts.specs.Faults.{IsFromReading, IsOpening};
+ghost use Rattle.scripts.specs.Transcript.{Scene, opening, place_of, received, IsCrowded, AppendsPart, PrintsIn, Plays};
+ghost use Rattle.scripts.specs.Calls.{IsAt, Finds, ReadsLine, Served, Answers, Ends, Runs};
 
 use crate::faults::ScriptFault;
 use crate::lines::{Line, write_reply};
@@ -14,16 +15,17 @@ use engine::Engine;
 use sector::{MemSectors, Sectors};
 use sessions::{Event, Hub, Outcome, SESSIONS_MAX, Status};
 use std::alloc::Global;
-use std::io::{BufRead, BufReader, Read, Write};
+use std::io::{BufRead, BufReader, ErrorKind, Read, Write};
 
 /// Runs the lines of a reader over a formatted device in memory, which has so many sectors, and prints each reply.
 ///
 /// A line is a label, a decimal from 0 to 999999, and one to four words, parted by spaces. It is one request of the label's session,
-/// which joins at its first line. An empty line is skipped, and one of a session that is `Ending` prints nothing. The replies before a
-/// fault are printed.
+/// which joins at its first line. An empty line is skipped, and one of a session that is `Ending` prints nothing.
 ///
 /// A fault is `BadLine`, `Crowded` for the 129th label, `File` where the reader or the writer fails, `Memory`, or `Log` where the
-/// device has no room for a log. It takes the memory of the device, of one line and its frame, and of the sessions and their requests.
+/// device has no room for a log or fails before the first line. What was printed is then what the lines before print; where the writer
+/// failed, a beginning of the next line's may follow. It takes the memory of the device, of one line and its frame, and of the sessions
+/// and their requests.
 pub fn play<R: Read + Drop, O: Write>(
     alloc: Global,
     sectors: u64,
@@ -41,7 +43,7 @@ pub fn play<R: Read + Drop, O: Write>(
 // A script over an empty log.
 fn open(alloc: Global, sectors: u64) -> Result<Script<MemSectors>, ScriptFault>
     ensures at { IfOk result (λ script. IsAt script (opening sectors)) }
-    ensures plain { IfErr result IsPlain }
+    ensures faults { IfErr result IsOpening }
 {
     let mut device = MemSectors::new(alloc, sectors)?;
     format(&mut device)?;
@@ -107,7 +109,7 @@ impl<D: Sectors> Script<D> {
 
     // The session of a label, which joins where the label is new. None where it is one too many.
     fn session(&mut self, label: usize) -> Result<Option<u64>, ScriptFault>
-        ensures { (scene : Scene) → IsAt self.old scene → MatchResult result (λ found. Finds scene label found self.new) IsPlain }
+        ensures { (scene : Scene) → IsAt self.old scene → MatchResult result (λ found. Finds scene label found self.new) (λ fault. (fault ≡ ScriptFault.Memory) × (IsCrowded scene label → ⊥)) }
     {
         if let Some(place) = place_of(&self.labels, label) {
             return Ok(Some(place as u64));
@@ -131,7 +133,8 @@ impl<D: Sectors> Script<D> {
         out: &mut O,
     ) -> Result<(), ScriptFault>
         ensures { (here : Scene) → IsAt self.old here → MatchResult result
-            (λ _. Answers self.new (O.contents out.old) (O.contents out.new) (PrintsIn (status_in (stream_of here.hub session)) here session line.now)) IsPlain }
+            (λ _. Answers self.new (O.contents out.old) (O.contents out.new) (PrintsIn (status_in (stream_of here.hub session)) here session line.now))
+            (λ fault. Ends fault (O.contents out.old) (O.contents out.new) (PrintsIn (status_in (stream_of here.hub session)) here session line.now)) }
     {
         match self.hub.status(session) {
             Status::Open => {}
@@ -144,7 +147,7 @@ impl<D: Sectors> Script<D> {
         let pending = self.hub.pending(session);
         let sent = pending.len();
         write_reply(line.label(), pending, &mut self.reply)?;
-        out.write_all(&self.reply)?;
+        write_out(&self.reply, out)?;
         let _ = self.hub.step(&Event::Sent(session, sent));
         Ok(())
     }
@@ -153,7 +156,7 @@ impl<D: Sectors> Script<D> {
 // Reads the next line, without its end. False where none is left.
 fn next_line<R: BufRead>(reader: &mut R, text: &mut Vec<u8>) -> Result<bool, ScriptFault>
     ensures read { IfSome (R.remaining reader.old) (λ script. IfOk result (λ some. ReadsLine script some text.new.items (R.remaining reader.new))) }
-    ensures plain { IfErr result IsPlain }
+    ensures faults { IfErr result IsFromReading }
 {
     text.clear();
     if reader.read_until(b'\n', text)? == 0 {
@@ -174,7 +177,7 @@ fn place_of(labels: &[usize], label: usize) -> Option<usize>
 
 // A frame comes in, as far as the inbox takes it, and is served.
 fn serve<D: Sectors>(hub: &mut Hub<D>, session: u64, frame: &[u8]) -> Result<(), ScriptFault>
-    ensures { (h : HubState) → StandsFor hub.old h → MatchResult result (λ _. Served hub.new (received h session frame.now) session) IsPlain }
+    ensures { (h : HubState) → StandsFor hub.old h → MatchResult result (λ _. Served hub.new (received h session frame.now) session) (λ fault. fault ≡ ScriptFault.Memory) }
 {
     let given = hub.room(session).min(frame.len());
     let _ = hub.step(&Event::Bytes(session, &frame[..given]));
@@ -182,4 +185,27 @@ fn serve<D: Sectors>(hub: &mut Hub<D>, session: u64, frame: &[u8]) -> Result<(),
         Outcome::Memory => Err(ScriptFault::Memory),
         _ => Ok(()),
     }
+}
+
+// Writes all of the bytes. Where that fails, the writer may have taken some of the first.
+fn write_out<O: Write>(bytes: &[u8], out: &mut O) -> Result<(), ScriptFault>
+    ensures { MatchResult result (λ _. Appends (O.contents out.old) (O.contents out.new) bytes.now)
+        (λ fault. (fault ≡ ScriptFault.File) × AppendsPart (O.contents out.old) (O.contents out.new) bytes.now) }
+{
+    let mut rest = bytes;
+    for _ in 0..u64::MAX {
+        if rest.is_empty() {
+            return Ok(());
+        }
+        match out.write(rest) {
+            Ok(0) => return Err(ScriptFault::File),
+            Ok(n) => rest = &rest[n..],
+            Err(error) => {
+                if error.kind() != ErrorKind::Interrupted {
+                    return Err(ScriptFault::File);
+                }
+            }
+        }
+    }
+    Err(ScriptFault::File)
 }

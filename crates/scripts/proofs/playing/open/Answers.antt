@@ -12,6 +12,6 @@ returns-clause-at c =
     c.in_ok-format.ensures.size ∙ sym (length-map c.in_ok-device.device.slots.items _) ∙ ap length c.in_ok-device.ensures.image ∙ length-replicate c.args.sectors (replicate 512 0) in
     let found = c.in_ok-engine.ensures.found tt formatted.0 [] formatted.1.size_is formatted.1.read formatted.2 in
     record {
-      hub = subst (λ n. StandsFor c.new-2.result (hub_over (opened [] 2 n))) size (c.new-2.ensures _ found);
+      hub = subst (λ n. StandsFor c.new-2.result (hub_over (opened [] 2 n))) size (c.new-2.ensures.stands _ found);
       labels = c.new-3.ensures.items;
     }

@@ -2,9 +2,10 @@ use Rattle.std.proofs.Common.{◌≡◌, ◌+◌, Option, Ok, Err, true, false, 
 use Rattle.std.specs.Prelude.{IfSome}
 use Rattle.model.specs.Map.{Bytes}
 use Rattle.scripts.specs.Lines.{lines_of}
+use Rattle.scripts.specs.declared.faults.ScriptFault.TheVariants.{File}
 use Rattle.scripts.specs.Transcript.{Plays}
 use Rattle.scripts.specs.Calls.{ReadsLine, Runs, RunSoFar}
-use Rattle.scripts.proofs.Runs.{lift, err_is, run_none, run_ends, run_more, run_stops}
+use Rattle.scripts.proofs.Runs.{lift, err_is, run_none, run_ends, run_more, run_stops, run_unread}
 use Rattle.scripts.proofs.playing.Script.play_lines.Goals as goal
 
 pub loop-number-init : goal.loop-number-init
@@ -51,3 +52,23 @@ loop-number-preserved g c first is_at =
     lift known (λ script. RunSoFar first (lines_of script) c.loop-number.number c.loop-number.self left before held) (λ script. RunSoFar first (lines_of script) (c.loop-number.number + 1) c.play_text.new.self after before printed)
     (λ script so_far. run_more first (lines_of script) c.loop-number.number c.loop-number.self left before held so_far text after reads c.play_text.new.self printed
     (λ scene at. subst (λ t. Runs scene c.loop-number.number t (Ok tt) c.play_text.new.self held printed) c.deref.ensures.value (c.in_ok-play_text.ensures scene at))) (c.loop-number.invariant first is_at)
+
+pub returns-in_err-next_line : goal.returns-in_err-next_line
+returns-in_err-next_line g c first is_at =
+    let known : Option Bytes = g.R.Read.remaining c.args.reader.now in
+    let left : Option Bytes = g.R.Read.remaining c.loop-number.reader in
+    let before : Option Bytes = g.O.Write.contents c.args.out.now in
+    let held : Option Bytes = g.O.Write.contents c.loop-number.out in
+    let fault = c.in_err-next_line.field-0.0 in
+    let is : c.from_residual.result ≡ Err fault = err_is c.from_residual.result fault c.from_residual.ensures.1 in
+    lift known (λ script. RunSoFar first (lines_of script) c.loop-number.number c.loop-number.self left before held) (λ script. Plays first (lines_of script) c.from_residual.result before held)
+    (λ script so_far. subst (λ r. Plays first (lines_of script) r before held) (sym is) (run_unread first (lines_of script) c.loop-number.number c.loop-number.self left before held so_far fault c.in_err-next_line.ensures.faults)) (c.loop-number.invariant first is_at)
+
+pub returns : goal.returns
+returns g c first is_at =
+    let known : Option Bytes = g.R.Read.remaining c.args.reader.now in
+    let left : Option Bytes = g.R.Read.remaining c.loop-number.reader in
+    let before : Option Bytes = g.O.Write.contents c.args.out.now in
+    let held : Option Bytes = g.O.Write.contents c.loop-number.out in
+    lift known (λ script. RunSoFar first (lines_of script) c.loop-number.number c.loop-number.self left before held) (λ script. Plays first (lines_of script) (Err File) before held)
+    (λ script so_far. run_unread first (lines_of script) c.loop-number.number c.loop-number.self left before held so_far File tt) (c.loop-number.invariant first is_at)

@@ -1,4 +1,4 @@
-use Rattle.std.proofs.Common.{◌≡◌, ◌≤◌, ◌∷◌, [], ◌++◌, length, false, Some, None, sym, ap, subst, ◌∙◌, arith}
+use Rattle.std.proofs.Common.{◌≡◌, ◌≤◌, ◌∷◌, [], ◌++◌, length, false, Some, None, refl, sym, ap, subst, ◌∙◌, arith}
 use Rattle.sessions.specs.Calls.{is_memory}
 use Rattle.scripts.specs.declared.playing.Script.{Script}
 use Rattle.sessions.specs.SessionStreams.{Joins, hub_step}
@@ -7,6 +7,8 @@ use Rattle.scripts.specs.Transcript.{place_of, after}
 use Rattle.scripts.specs.Calls.{IsAt}
 use Rattle.scripts.proofs.Steps.{joins_alike}
 use Rattle.scripts.proofs.Labels.{known_session, known_not_crowded, known_scene, fresh_session, fresh_scene}
+use Rattle.scripts.specs.declared.faults.ScriptFault.TheVariants.{Memory}
+use Rattle.scripts.proofs.Runs.{err_is}
 use Rattle.scripts.proofs.playing.Script.session.Goals as goal
 
 pub returns-in-Some : goal.returns-in-Some
@@ -45,3 +47,8 @@ returns-in-Done g c scene is_at =
         labels = c.in_ok-push.ensures.items ∙ ap (λ ls. ls ++ c.args.label ∷ []) is_at.labels;
       }),
     )
+
+pub returns-in_err-push : goal.returns-in_err-push
+returns-in_err-push g c scene is_at =
+    let same : length c.args.self.now.labels.items ≡ length scene.labels = ap length is_at.labels in
+    rw (err_is c.from_residual.result Memory c.from_residual.ensures.1) (refl, λ crowded. let many : 128 ≤ length scene.labels = crowded.1 in omega arith)

@@ -1,0 +1,35 @@
+-- What a writer took so far.
+use Rattle.std.proofs.Common.{◌≡◌, ℕ, [], ◌∷◌, ◌++◌, length, take, drop, Option, refl, sym, ap, subst, ◌∙◌, append_assoc, arith}
+use Rattle.std.proofs.lemmas.List.{append-nil, take-append-drop}
+use Rattle.std.specs.Io.KnownBytes.{Appends, Keeps}
+use Rattle.model.specs.Map.{Bytes}
+use Rattle.scripts.specs.Transcript.{AppendsPart}
+use Rattle.scripts.proofs.Runs.{appends_nothing, appends_then, keeps_on}
+
+-- it took the first bytes, and `rest` is left
+abbrev pub Written : Option Bytes → Option Bytes → Bytes → Bytes → Type 0
+Written old new bytes rest = (part : Bytes) × (bytes ≡ part ++ rest) × Appends old new part
+
+pub written_none : (held : Option Bytes) (bytes : Bytes) → Written held held bytes bytes
+written_none held bytes = ([], refl, appends_nothing held)
+
+-- it took more of them
+pub written_more : (a b c : Option Bytes) (bytes rest left : Bytes) (n : ℕ) → left ≡ drop n rest → Appends b c (take n rest) → Written a b bytes rest → Written a c bytes left
+written_more a b c bytes rest left n is more w = (
+  w.0 ++ take n rest,
+  w.1 ∙ ap (λ l. w.0 ++ l) (sym (take-append-drop n rest)) ∙ sym (append_assoc w.0 (take n rest) (drop n rest)) ∙ ap (λ l. w.0 ++ take n rest ++ l) (sym is),
+  appends_then a b c w.0 (take n rest) w.2 more,
+)
+
+-- it took none
+pub written_kept : (a b c : Option Bytes) (bytes rest : Bytes) → Keeps b c → Written a b bytes rest → Written a c bytes rest
+written_kept a b c bytes rest kept w = (w.0, w.1, keeps_on a b c w.0 w.2 kept)
+
+-- none is left
+pub written_all : (a b : Option Bytes) (bytes rest : Bytes) → length rest ≡ 0 → Written a b bytes rest → Appends a b bytes
+written_all a b bytes [] none w = subst (Appends a b) (sym (append-nil w.0) ∙ sym w.1) w.2
+written_all a b bytes (x ∷ rest) none w = absurd (omega arith)
+
+-- some are left
+pub written_part : (a b : Option Bytes) (bytes rest : Bytes) → Written a b bytes rest → AppendsPart a b bytes
+written_part a b bytes rest w = (w.0, rest, w.1, w.2)
