@@ -1,7 +1,7 @@
 -- Which numbers of sectors the commands work on.
 use Rattle.std.specs.Prelude.{◌≤◌}
 use Rattle.command_line.specs.declared.asked.Asked.{Asked}
-use Rattle.command_line.specs.declared.asked.Asked.TheVariants.{Create, Serve, Check, Play}
+use Rattle.command_line.specs.declared.asked.Asked.TheVariants.{Create, Play}
 
 abbrev pub IsInRange : Asked → Type 0
 IsInRange (Create file n) = (2 ≤ n) × (n ≤ 4194304)

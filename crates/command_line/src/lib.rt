@@ -4,6 +4,8 @@
 mod asked;
 mod commands;
 mod reading;
+mod refusals;
 
 pub use asked::Asked;
 pub use reading::parse;
+pub use refusals::Refusal;

@@ -1,9 +1,12 @@
 //! Reading a command line.
 ghost use Rattle.std.specs.Prelude.{◌≡◌, ◌≤◌, IfOk, IfSome};
+ghost use Rattle.clap.specs.Values.{kind_of};
 ghost use Rattle.command_line.specs.Ranges.{IsInRange};
+ghost use Rattle.command_line.specs.Refusals.{IsRefusalOf};
 
 use crate::asked::{Asked, FILE_SECTORS_MAX, MEMORY_SECTORS_MAX, SECTORS_MIN};
 use crate::commands::command;
+use crate::refusals::Refusal;
 use clap::error::ErrorKind;
 use clap::{ArgMatches, Error};
 use std::alloc::Global;
@@ -56,11 +59,21 @@ fn asked<'a>(name: &str, found: &ArgMatches<'a>) -> Option<Asked<'a>>
 /// Reads the words of a command line, the program's name first.
 ///
 /// A number of sectors is one of its command's range: 2 to 4,194,304 for `create`, 2 to 65,536 for `play`, which takes 4,096 where
-/// none is given. An error is `clap`'s, of which `use_stderr` tells whether the line was refused or help was asked for; it is
-/// `OutOfMemory` where memory was refused.
+/// none is given. A refusal is `Help` where help was asked for, `Refused` where the words name no command or not all that it needs,
+/// and `Memory`.
 ///
-/// It may grow what `clap` keeps of the commands, the words and the error.
-pub fn parse<'a>(alloc: Global, words: &'a [&'a str]) -> Result<Asked<'a>, Error>
+/// It may grow what `clap` keeps of the commands, the words and the error, and the refusal's text.
+pub fn parse<'a>(alloc: Global, words: &'a [&'a str]) -> Result<Asked<'a>, Refusal>
+    ensures { IfOk result IsInRange }
+{
+    match read(alloc, words) {
+        Ok(asked) => Ok(asked),
+        Err(error) => Err(refusal(alloc, &error)),
+    }
+}
+
+// What the words ask for, or `clap`'s error.
+fn read<'a>(alloc: Global, words: &'a [&'a str]) -> Result<Asked<'a>, Error>
     ensures { IfOk result IsInRange }
 {
     let mut command = command(alloc)?;
@@ -72,5 +85,22 @@ pub fn parse<'a>(alloc: Global, words: &'a [&'a str]) -> Result<Asked<'a>, Error
     match asked {
         Some(asked) => Ok(asked),
         None => Err(command.error(ErrorKind::InvalidValue, "no such command")?),
+    }
+}
+
+// What an error of `clap` is to the caller. Its text may be refused memory.
+fn refusal(alloc: Global, error: &Error) -> Refusal
+    ensures { IsRefusalOf (kind_of error.now) result }
+{
+    if error.kind() == ErrorKind::OutOfMemory {
+        return Refusal::Memory;
+    }
+    let Ok(text) = format!(in alloc; "{error}") else {
+        return Refusal::Memory;
+    };
+    if error.use_stderr() {
+        Refusal::Refused(text)
+    } else {
+        Refusal::Help(text)
     }
 }

@@ -4,12 +4,23 @@ use Rattle.std.specs.Fmt.{decimal}
 use Rattle.model.specs.Map.{Bytes, KeyWrite}
 use Rattle.commit_log.specs.LogImage.{span}
 use Rattle.commit_log.specs.Recovery.{map_after}
+use Rattle.commands.specs.declared.data.Counts.{Counts}
 
--- the line of so many records, keys, and sectors of which so many are used
-abbrev pub counts_line : ℕ → ℕ → ℕ → ℕ → Bytes
-counts_line records keys used count =
-    codes "records " ++ decimal records ++ codes " keys " ++ decimal keys ++ codes " sectors " ++ decimal used ++ codes " of " ++ decimal count ++ 10 ∷ []
+-- the line of these counts
+abbrev pub line_of : Counts → Bytes
+line_of counts =
+    codes "records " ++ decimal counts.records ++ codes " keys " ++ decimal counts.keys ++ codes " sectors " ++ decimal counts.used ++ codes " of "
+    ++ decimal counts.count ++ 10 ∷ []
 
--- the line of a log of these write sets on a device of so many sectors
+-- the counts of a log of these write sets on a device of so many sectors
+abbrev pub counts_of : List (List KeyWrite) → ℕ → Counts
+counts_of lists count = record {
+  records = length lists;
+  keys = length (map_after [] lists);
+  used = 2 + span lists;
+  count = count;
+}
+
+-- its line
 abbrev pub log_line : List (List KeyWrite) → ℕ → Bytes
-log_line lists count = counts_line (length lists) (length (map_after [] lists)) (2 + span lists) count
+log_line lists count = line_of (counts_of lists count)

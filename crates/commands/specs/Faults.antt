@@ -1,6 +1,7 @@
 -- The faults of commands.
-use Rattle.std.specs.Prelude.{ℕ, List, ◌++◌, codes}
+use Rattle.std.specs.Prelude.{◌≡◌, ℕ, List, [], ◌∷◌, ◌++◌, Result, MatchResult, codes}
 use Rattle.std.specs.Fmt.{decimal}
+use Rattle.sector.specs.Failures.{Rose}
 use Rattle.commit_log.specs.declared.faults.LogFault.{LogFault}
 use Rattle.commit_log.specs.declared.faults.LogFault.TheVariants as logs
 use Rattle.scripts.specs.declared.faults.ScriptFault.{ScriptFault}
@@ -25,6 +26,18 @@ of_script scripts.File = File
 of_script (scripts.Log fault) = of_log fault
 of_script scripts.Memory = Memory
 
+-- the device failed, or memory was refused
+abbrev pub IsFromDevice : Fault → Type 0
+IsFromDevice Device = Unit {0}
+IsFromDevice Memory = Unit {0}
+IsFromDevice other = ⊥
+
+-- the output failed, or refused memory
+abbrev pub IsFromOutput : Fault → Type 0
+IsFromOutput File = Unit {0}
+IsFromOutput Memory = Unit {0}
+IsFromOutput other = ⊥
+
 -- a file or the device failed, or memory was refused
 abbrev pub IsFromOutside : Fault → Type 0
 IsFromOutside Device = Unit {0}
@@ -45,8 +58,16 @@ text_of Memory = codes "ssikvd: out of memory"
 text_of (BadLine number) = codes "line " ++ decimal number ++ codes ": bad line"
 text_of (Crowded number) = codes "line " ++ decimal number ++ codes ": crowded"
 
+-- the line of a fault
+abbrev pub line_of : Fault → List ℕ
+line_of fault = text_of fault ++ 10 ∷ []
+
 -- the exit status that tells a fault
 abbrev pub status_of : Fault → ℕ
 status_of (BadLine number) = 2
 status_of (Crowded number) = 2
 status_of other = 3
+
+-- `Device` is told exactly where a call of the device failed
+abbrev pub DeviceIs : {T : Type 0} → ℕ → ℕ → Result T Fault → Type 0
+DeviceIs before now result = MatchResult result (λ _. now ≡ before) (λ e. (e ≡ Device → Rose before now) × ((e ≡ Device → ⊥) → now ≡ before))

@@ -1,2 +1,5 @@
 pub mod Faults
 pub mod Counts
+pub mod Endings
+pub mod Notices
+pub mod Openings

@@ -1,29 +1,52 @@
 //! Making and checking a data file.
-ghost use Rattle.std.specs.Prelude.{◌≡◌, ◌≤◌, ◌⊎◌, ℕ, List, length, MatchResult, OnOk, IsErrAnd};
+ghost use Rattle.std.specs.Prelude.{◌≡◌, ◌≢◌, ◌<◌, ◌≤◌, ◌⊎◌, ◌↔◌, ℕ, List, [], length, MatchResult, OnOk, IfErr, IsErrOf, IsErrAnd};
 ghost use Rattle.std.specs.Io.KnownBytes.{Appends};
 ghost use Rattle.model.specs.Map.{KeyWrite};
+ghost use Rattle.sector.specs.SectorModel.{IsSettled};
+ghost use Rattle.sector.specs.Failures.{Stayed};
+ghost use Rattle.commit_log.specs.LogFaults.{IsDeviceOrMemory, IsOpenFault};
 ghost use Rattle.commit_log.specs.LogImage.{IsLogImage, IsDamaged, IsNoLog};
 ghost use Rattle.commit_log.specs.Reading.{ReadsAs};
-ghost use Rattle.commands.specs.Counts.{counts_line, log_line};
-ghost use Rattle.commands.specs.Faults.{IsFromOutside};
+ghost use Rattle.commands.specs.Counts.{counts_of, line_of, log_line};
+ghost use Rattle.commands.specs.Faults.{IsFromDevice, IsFromOutput, IsFromOutside, DeviceIs};
 
+use crate::LINE_MAX;
 use crate::faults::Fault;
-use commit_log::{Log, format};
+use arrayvec::ArrayVec;
+use commit_log::{Log, LogFault, format};
 use sector::{FileSectors, Sectors};
 use std::alloc::Global;
 use std::fs::File;
-use std::io;
-use std::io::Write;
+use std::io::{self, Write};
 use std::rt::Files;
 
 /// Makes a data file of so many sectors, 2 to 4,194,304, and formats it. The name must be free. Prints nothing.
 ///
-/// A fault is `File`, after which no file is there that it made, or `Device`, after which the file stays. Takes no memory.
+/// A fault is `File`, or `Memory` where that was what a call of the system lacked, after which no file is there that it made, or
+/// `Device`, after which the file stays. Takes no memory.
 pub fn create<R: Files<File = File>>(rt: &R, data: &str, sectors: u64) -> Result<(), Fault>
-    requires { sectors ≤ 4194304 }
+    requires at_least { 2 ≤ sectors }
+    requires at_most { sectors ≤ 4194304 }
+    ensures { IfErr result IsFromOutside }
 {
     let mut device = FileSectors::create(rt, data, sectors)?;
-    format(&mut device)?;
+    format_device(&mut device)
+}
+
+/// Makes a device an empty log.
+///
+/// `LogFull` exactly where there are fewer than two sectors; the device is then not called. `Device` exactly where a call of the device
+/// failed. Takes no memory.
+pub fn format_device<D: Sectors>(device: &mut D) -> Result<(), Fault>
+    ensures full { IsErrOf result Fault.LogFull ↔ (D.size device.old < 2) }
+    ensures unchanged { IsErrOf result Fault.LogFull → device.new ≡ device.old }
+    ensures errors { IfErr result (λ e. e ≢ Fault.LogFull → e ≡ Fault.Device) }
+    ensures fault { DeviceIs (D.failures device.old) (D.failures device.new) result }
+    ensures no_fault { OnOk result (Stayed (D.failures device.old) (D.failures device.new)) }
+    ensures size { D.size device.new ≡ D.size device.old }
+    ensures formatted { D.keeps_model → OnOk result ((image : List (List ℕ)) × IsSettled (D.size device.new) (D.may_read device.new) (D.may_leave device.new) image × IsLogImage [] image) }
+{
+    format(device)?;
     Ok(())
 }
 
@@ -41,7 +64,8 @@ pub fn check<R: Files<File = File>, O: Write>(
 
 /// Opens the log of a device and prints, on one line, how many records, keys and sectors it holds, and how many sectors there are.
 ///
-/// A fault is the log's, or `File` where the writer fails. It takes the memory of one record and of the map.
+/// A fault is the log's, beside which nothing is printed, or `File` or `Memory` where the writer fails. It takes the memory of one
+/// record and of the map.
 pub fn check_device<D: Sectors, O: Write>(
     alloc: Global,
     device: D,
@@ -50,28 +74,59 @@ pub fn check_device<D: Sectors, O: Write>(
     ensures found { D.keeps_model → (disk : List (List ℕ)) (lists : List (List KeyWrite)) → length disk ≡ D.size device → ReadsAs (D.may_read device) disk → IsLogImage lists disk
         → MatchResult result (λ _. Appends (O.contents out.old) (O.contents out.new) (log_line lists (D.size device))) IsFromOutside }
     ensures damaged { D.keeps_model → (disk : List (List ℕ)) (lists : List (List KeyWrite)) → length disk ≡ D.size device → ReadsAs (D.may_read device) disk → IsDamaged lists disk
-        → IsErrAnd result (λ fault. (fault ≡ Fault.Damaged (length lists)) ⊎ IsFromOutside fault) }
+        → IsErrAnd result (λ fault. ((fault ≡ Fault.Damaged (length lists)) ⊎ IsFromDevice fault) × (O.contents out.new ≡ O.contents out.old)) }
     ensures no_log { D.keeps_model → (disk : List (List ℕ)) → length disk ≡ D.size device → ReadsAs (D.may_read device) disk → IsNoLog disk
-        → IsErrAnd result (λ fault. (fault ≡ Fault.NotALog) ⊎ IsFromOutside fault) }
+        → IsErrAnd result (λ fault. ((fault ≡ Fault.NotALog) ⊎ IsFromDevice fault) × (O.contents out.new ≡ O.contents out.old)) }
+    ensures beside { IfErr result (λ fault. IsFromOutput fault ⊎ (O.contents out.new ≡ O.contents out.old)) }
 {
-    let count = device.count();
-    let (log, map) = Log::open(alloc, device)?;
-    print_counts(log.records(), map.len(), log.used(), count, out)?;
+    let counts = count_device(alloc, device)?;
+    print_counts(counts, out)?;
     Ok(())
 }
 
-// Prints the line of so many records, keys, sectors used, and sectors.
-fn print_counts<O: Write>(
+// What the log of a device holds.
+#[derive(Clone, Copy, PartialEq, Eq, Debug)]
+struct Counts {
     records: u64,
     keys: usize,
     used: u64,
     count: u64,
-    out: &mut O,
-) -> io::Result<()>
-    ensures { OnOk result (Appends (O.contents out.old) (O.contents out.new) (counts_line records keys used count)) }
+}
+
+// Opens the log of a device and counts what it holds.
+fn count_device<D: Sectors>(alloc: Global, device: D) -> Result<Counts, LogFault>
+    ensures found { D.keeps_model → (disk : List (List ℕ)) (lists : List (List KeyWrite)) → length disk ≡ D.size device → ReadsAs (D.may_read device) disk → IsLogImage lists disk
+        → MatchResult result (λ counts. counts ≡ counts_of lists (D.size device)) IsDeviceOrMemory }
+    ensures damaged { D.keeps_model → (disk : List (List ℕ)) (lists : List (List KeyWrite)) → length disk ≡ D.size device → ReadsAs (D.may_read device) disk → IsDamaged lists disk
+        → IsErrAnd result (λ fault. (fault ≡ LogFault.Damaged (length lists)) ⊎ IsDeviceOrMemory fault) }
+    ensures no_log { D.keeps_model → (disk : List (List ℕ)) → length disk ≡ D.size device → ReadsAs (D.may_read device) disk → IsNoLog disk
+        → IsErrAnd result (λ fault. (fault ≡ LogFault.NotALog) ⊎ IsDeviceOrMemory fault) }
+    ensures faults { IfErr result IsOpenFault }
 {
+    let count = device.count();
+    let (log, map) = Log::open(alloc, device)?;
+    Ok(Counts {
+        records: log.records(),
+        keys: map.len(),
+        used: log.used(),
+        count,
+    })
+}
+
+// Prints the line of these counts, in one write.
+fn print_counts<O: Write>(counts: Counts, out: &mut O) -> io::Result<()>
+    ensures { OnOk result (Appends (O.contents out.old) (O.contents out.new) (line_of counts)) }
+{
+    let Counts {
+        records,
+        keys,
+        used,
+        count,
+    } = counts;
+    let mut line: ArrayVec<u8, LINE_MAX> = ArrayVec::new();
     writeln!(
-        out,
+        line,
         "records {records} keys {keys} sectors {used} of {count}"
-    )
+    )?;
+    out.write_all(line.as_slice())
 }

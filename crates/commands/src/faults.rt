@@ -1,13 +1,11 @@
 //! Why a command ends early.
 ghost use Rattle.std.specs.Prelude.{◌≡◌, ◌≢◌, ◌⊎◌};
 ghost use Rattle.std.specs.IoError.{error_kind};
-ghost use Rattle.commands.specs.Faults.{status_of};
 
-use crate::{BAD_LINE, FAULT};
 use commit_log::LogFault;
 use scripts::ScriptFault;
 use std::fmt::{Display, Formatter};
-use std::io::{ErrorKind, Write};
+use std::io::ErrorKind;
 use std::{fmt, io};
 
 /// Why a command ends early.
@@ -112,16 +110,5 @@ pub(crate) fn or_memory(error: &io::Error, fault: Fault) -> Fault
     match error.kind() {
         ErrorKind::OutOfMemory => Fault::Memory,
         _ => fault,
-    }
-}
-
-/// Writes the text of a fault on its own line, and answers the exit status. Where the text can't be written, nothing more is done.
-pub fn report<E: Write>(fault: Fault, err: &mut E) -> u8
-    ensures { result ≡ status_of fault }
-{
-    let _ = writeln!(err, "{fault}");
-    match fault {
-        Fault::BadLine(_) | Fault::Crowded(_) => BAD_LINE,
-        _ => FAULT,
     }
 }

@@ -2,14 +2,18 @@
 #![tactic(auto)]
 
 mod data;
+mod endings;
 mod faults;
 mod running;
 mod serving;
+mod streams;
 
-pub use data::{check, check_device, create};
-pub use faults::{Fault, report};
+pub use data::{check, check_device, create, format_device};
+pub use endings::{Ending, Told, report, tell};
+pub use faults::Fault;
 pub use running::run;
-pub use serving::serve;
+pub use serving::{Turns, serve, serve_turns};
+pub use streams::{NullDevice, Opener, keep_standard};
 
 /// The status of a command that was done, or of help that was asked for.
 pub const DONE: u8 = 0;
@@ -22,3 +26,6 @@ pub const BAD_LINE: u8 = 2;
 
 /// The status of every other fault.
 pub const FAULT: u8 = 3;
+
+/// The most bytes of a line that is told: the longest has four numbers of twenty digits.
+pub(crate) const LINE_MAX: usize = 128;

@@ -1,11 +1,9 @@
 //! The command that a line names.
 
 use crate::data::{check, create};
-use crate::faults::{Fault, report};
+use crate::endings::{Ending, tell};
+use crate::faults::Fault;
 use crate::serving::serve;
-use crate::{DONE, REFUSED};
-use clap::Error;
-use clap::error::ErrorKind;
 use command_line::{Asked, parse};
 use scripts::play;
 use std::alloc::Global;
@@ -14,12 +12,13 @@ use std::io::{Read, Write};
 use std::net::Net;
 use std::rt::Files;
 use std::sync::Wait;
+use std::time::Clock;
 
 /// Runs the command that the words ask for, the program's name first, and answers the exit status: `DONE`, `REFUSED` for a command line
 /// that was refused, `BAD_LINE` for a line of a script that was, `FAULT` otherwise. What went wrong is written on `err`.
 ///
 /// It takes the memory of the command and of reading the words.
-pub fn run<R: Files<File = File> + Net + Wait, I: Read + Drop, O: Write, E: Write>(
+pub fn run<R: Files<File = File> + Net + Wait + Clock, I: Read + Drop, O: Write, E: Write>(
     rt: &R,
     alloc: Global,
     words: &[&str],
@@ -32,25 +31,7 @@ pub fn run<R: Files<File = File> + Net + Wait, I: Read + Drop, O: Write, E: Writ
         Ok(Asked::Serve { data, listen }) => serve(rt, alloc, data, listen, out, err),
         Ok(Asked::Check { data }) => check(rt, alloc, data, out),
         Ok(Asked::Play { sectors }) => play(alloc, sectors, reader, out).map_err(Fault::from),
-        Err(error) => return refuse(&error, out, err),
+        Err(refusal) => return tell(&Ending::from(refusal), out, err).status,
     };
-    match done {
-        Ok(()) => DONE,
-        Err(fault) => report(fault, err),
-    }
-}
-
-// Help goes to the output with `DONE`, and what is refused to the error output with `REFUSED`.
-fn refuse<O: Write, E: Write>(error: &Error, out: &mut O, err: &mut E) -> u8 {
-    if error.kind() == ErrorKind::OutOfMemory {
-        return report(Fault::Memory, err);
-    }
-    if error.use_stderr() {
-        let _ = write!(err, "{error}");
-        return REFUSED;
-    }
-    match write!(out, "{error}") {
-        Ok(()) => DONE,
-        Err(_) => report(Fault::File, err),
-    }
+    tell(&Ending::from(done), out, err).status
 }

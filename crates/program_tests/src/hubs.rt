@@ -1,6 +1,7 @@
 //! Hubs over devices in memory.
 ghost use Rattle.std.specs.Prelude.{◌≤◌, IfOk};
 ghost use Rattle.stream_driver.specs.Sessions.{Stands};
+ghost use Rattle.event_loop.specs.Tables.{HasNobody};
 
 use commit_log::format;
 use engine::Engine;
@@ -14,7 +15,8 @@ use std::test::Fail;
 /// A hub over a formatted device of so many sectors.
 pub(crate) fn new_hub(alloc: Global, sectors: u64) -> Result<Hub<MemSectors>, Fail>
     requires { sectors ≤ 65536 }
-    ensures { IfOk result (λ hub. Stands hub) }
+    ensures stands { IfOk result (λ hub. Stands hub) }
+    ensures nobody { IfOk result (λ hub. HasNobody hub) }
 {
     let mut device = MemSectors::new(alloc, sectors)?;
     format(&mut device)?;
@@ -23,7 +25,8 @@ pub(crate) fn new_hub(alloc: Global, sectors: u64) -> Result<Hub<MemSectors>, Fa
 
 /// A hub over a formatted device.
 pub(crate) fn opened<D: Sectors>(alloc: Global, device: D) -> Result<Hub<D>, Fail>
-    ensures { IfOk result (λ hub. Stands hub) }
+    ensures stands { IfOk result (λ hub. Stands hub) }
+    ensures nobody { IfOk result (λ hub. HasNobody hub) }
 {
     let engine = Engine::open(alloc, device)?;
     Ok(Hub::new(alloc, engine))

@@ -8,10 +8,11 @@ use std::fs;
 use std::io::{self, Read, Write};
 use std::net::{Ipv4Addr, SocketAddr, TcpStream};
 use std::test::Fail;
-use std::time::Duration;
+use std::time::{Clock, Duration};
 
 /// Sends a request, and runs turns until a reply of this length is there or the turns are over. Is it this reply?
-fn asks<D: Sectors>(
+fn asks<D: Sectors, C: Clock>(
+    clock: &C,
     events: &mut EventLoop<D>,
     client: &mut TcpStream,
     request: &[u8],
@@ -21,7 +22,7 @@ fn asks<D: Sectors>(
     let mut got = [0u8; 64];
     let mut len = 0usize;
     for _ in 0..200u32 {
-        events.turn(Some(Duration::from_millis(10)))?;
+        events.turn(clock, Some(Duration::from_millis(10)))?;
         if len < 64
             && let Ok(n) = client.read(&mut got[len..])
         {
@@ -63,7 +64,7 @@ fn write_skew(rt: HostRuntime) -> Result<(), Fail> {
     for (client, request, reply) in lines {
         let client = &mut clients[client];
         client.set_nonblocking(true)?;
-        assert!(rt; asks(&mut events, client, request, reply)?);
+        assert!(rt; asks(&rt, &mut events, client, request, reply)?);
     }
     assert!(rt; !events.stopped());
     Ok(())
@@ -82,7 +83,15 @@ fn data_file(rt: HostRuntime) -> Result<(), Fail> {
     client.set_nonblocking(true)?;
     let request =
         b"*1\r\n$5\r\nBEGIN\r\n*3\r\n$3\r\nSET\r\n$1\r\na\r\n$1\r\n1\r\n*1\r\n$6\r\nCOMMIT\r\n";
-    assert!(rt; asks(&mut events, &mut client, request, b"+OK\r\n+OK\r\n:1\r\n")?);
+    assert!(rt;
+        asks(
+            &rt,
+            &mut events,
+            &mut client,
+            request,
+            b"+OK\r\n+OK\r\n:1\r\n"
+        )?
+    );
     drop(events);
     let mut out = Vec::new(rt.alloc());
     let mut err = Vec::new(rt.alloc());

@@ -1,13 +1,19 @@
 //! The program's commands: their texts and statuses.
-use commands::{BAD_LINE, DONE, FAULT, Fault, REFUSED, report, run};
+use command_line::{Asked, Refusal, parse};
+use commands::{
+    BAD_LINE, DONE, Ending, FAULT, Fault, Opener, REFUSED, Told, Turns, check_device,
+    format_device, keep_standard, report, run, serve_turns, tell,
+};
 use scripts::{ScriptFault, play};
+use sector::MemSectors;
 use std::alloc::Global;
-use std::fs::File;
-use std::io::{self, Read, Write};
-use std::net::Net;
+use std::fs::{self, File};
+use std::io::{self, ErrorKind, Read, Write};
+use std::net::{Net, TcpListener};
 use std::rt::Files;
 use std::sync::Wait;
 use std::test::Fail;
+use std::time::Clock;
 
 /// A text that is due.
 #[derive(Clone, Copy)]
@@ -37,7 +43,7 @@ struct Case {
     err: Due,
 }
 
-fn is_met<R: Files<File = File> + Net + Wait>(rt: &R, alloc: Global, case: Case) -> bool {
+fn is_met<R: Files<File = File> + Net + Wait + Clock>(rt: &R, alloc: Global, case: Case) -> bool {
     let mut out = Vec::new(alloc);
     let mut err = Vec::new(alloc);
     let status = run(rt, alloc, case.words, case.input, &mut out, &mut err);
@@ -146,6 +152,16 @@ fn faults_and_help(rt: HostRuntime) -> Result<(), Fail> {
             Due::Is(b"ssikvd: listen fault\n"),
         ),
         refused(
+            &["ssikvd", "serve", "--data", "none", "--listen", "127.0.0.1"],
+            FAULT,
+            Due::Is(b"ssikvd: listen fault\n"),
+        ),
+        refused(
+            &["ssikvd", "serve", "--data", "none", "--listen", ""],
+            FAULT,
+            Due::Is(b"ssikvd: listen fault\n"),
+        ),
+        refused(
             &[
                 "ssikvd",
                 "serve",
@@ -173,7 +189,7 @@ fn faults_and_help(rt: HostRuntime) -> Result<(), Fail> {
 
 #[test]
 fn data_files(rt: HostRuntime) -> Result<(), Fail> {
-    let _ = std::fs::remove_file(&rt, "made.data");
+    let _ = fs::remove_file(&rt, "made.data");
     let create = &["ssikvd", "create", "--data", "made.data", "--sectors", "4"];
     let cases = [
         refused(create, DONE, Due::Nothing),
@@ -228,8 +244,13 @@ fn texts_of_faults(rt: HostRuntime) -> Result<(), Fail> {
     ];
     for (fault, status, text) in faults {
         let mut err = Vec::new(rt.alloc());
-        let answered = report(fault, &mut err);
-        assert!(rt; answered == status && err.as_slice() == text);
+        let told = report(fault, &mut err);
+        assert!(rt;
+            told == (Told {
+                status,
+                is_written: true
+            }) && err.as_slice() == text
+        );
     }
     Ok(())
 }
@@ -260,5 +281,440 @@ fn failing_input_and_output(rt: HostRuntime) -> Result<(), Fail> {
     let input = play(rt.alloc(), 16, Broken, &mut out);
     let output = play(rt.alloc(), 16, b"1 PING".as_slice(), &mut Broken);
     assert!(rt; input == Err(ScriptFault::File) && output == Err(ScriptFault::File));
+    Ok(())
+}
+
+/// What the words ask for, in short: a command's letter and its number of sectors, 0 where it has none.
+fn asked(alloc: Global, words: &[&str]) -> Result<(char, u64), Refusal> {
+    match parse(alloc, words)? {
+        Asked::Create { data, sectors } if data == "f" => Ok(('c', sectors)),
+        Asked::Serve { data, listen } if data == "f" && listen == "a" => Ok(('s', 0)),
+        Asked::Check { data } if data == "f" => Ok(('k', 0)),
+        Asked::Play { sectors } => Ok(('p', sectors)),
+        _ => Ok(('?', 0)),
+    }
+}
+
+fn created(alloc: Global, number: &str) -> Result<(char, u64), Refusal> {
+    let words = ["ssikvd", "create", "--data", "f", "--sectors", number];
+    asked(alloc, words.as_slice())
+}
+
+fn played_over(alloc: Global, number: &str) -> Result<(char, u64), Refusal> {
+    let words = ["ssikvd", "play", "--sectors", number];
+    asked(alloc, words.as_slice())
+}
+
+fn is_refused(answer: Result<(char, u64), Refusal>) -> bool {
+    match answer {
+        Err(Refusal::Refused(_)) => true,
+        _ => false,
+    }
+}
+
+const SERVE_F: &[&str] = &["ssikvd", "serve", "--listen", "a", "--data", "f"];
+
+const CHECK_F: &[&str] = &["ssikvd", "check", "--data", "f"];
+
+const PLAY_NINE: &[&str] = &["ssikvd", "play", "--sectors=9"];
+
+/// Each command, and the numbers that it takes, at both bounds.
+#[test]
+fn what_words_ask_for(rt: HostRuntime) -> Result<(), Fail> {
+    for (number, sectors) in [("2", 2), ("+2", 2), ("02", 2), ("4194304", 4_194_304)] {
+        assert!(rt; created(rt.alloc(), number) == Ok(('c', sectors)));
+    }
+    for (number, sectors) in [("2", 2), ("+3", 3), ("0065", 65), ("65536", 65_536)] {
+        assert!(rt; played_over(rt.alloc(), number) == Ok(('p', sectors)));
+    }
+    assert!(rt; asked(rt.alloc(), PLAY) == Ok(('p', 4_096)));
+    assert!(rt; asked(rt.alloc(), PLAY_NINE) == Ok(('p', 9)));
+    assert!(rt; asked(rt.alloc(), SERVE_F) == Ok(('s', 0)));
+    assert!(rt; asked(rt.alloc(), CHECK_F) == Ok(('k', 0)));
+    Ok(())
+}
+
+/// The numbers that no command takes.
+#[test]
+fn numbers_that_are_refused(rt: HostRuntime) -> Result<(), Fail> {
+    let odd = [
+        "0",
+        "1",
+        "",
+        " 2",
+        "2 ",
+        "2.0",
+        "0x10",
+        "two",
+        "18446744073709551616",
+    ];
+    for number in odd {
+        assert!(rt; is_refused(created(rt.alloc(), number)));
+        assert!(rt; is_refused(played_over(rt.alloc(), number)));
+    }
+    assert!(rt; is_refused(created(rt.alloc(), "4194305")));
+    assert!(rt; is_refused(played_over(rt.alloc(), "65537")));
+    Ok(())
+}
+
+const CHECK_ODD: &[&str] = &["ssikvd", "check", "--data", "odd.data"];
+
+const SERVE_ODD: &[&str] = &[
+    "ssikvd",
+    "serve",
+    "--data",
+    "odd.data",
+    "--listen",
+    "127.0.0.1:0",
+];
+
+/// The head of a log, and behind it an open gate with no record.
+fn damaged_log(alloc: Global) -> io::Result<Vec<u8>> {
+    let mut bytes = b"SSIKVLG1".to_vec(alloc)?;
+    for at in 8..2_048 {
+        bytes.push(if at == 512 { 1 } else { 0 })?;
+    }
+    Ok(bytes)
+}
+
+/// What `check` and `serve` tell of a file that is no log, and that they leave it as it is.
+#[test]
+fn files_that_are_no_logs(rt: HostRuntime) -> Result<(), Fail> {
+    let damaged = damaged_log(rt.alloc())?;
+    let zeros = [0u8; 2_048];
+    let cases = [
+        (b"".as_slice(), b"ssikvd: not a log\n".as_slice()),
+        (&zeros[..512], b"ssikvd: not a log\n"),
+        (&zeros[..2_048], b"ssikvd: not a log\n"),
+        (&zeros[..1_000], b"ssikvd: file fault\n"),
+        (damaged.as_slice(), b"ssikvd: damaged record 0\n"),
+    ];
+    for (bytes, text) in cases {
+        for words in [CHECK_ODD, SERVE_ODD] {
+            fs::write(&rt, "odd.data", bytes)?;
+            assert!(rt; is_met(&rt, rt.alloc(), refused(words, FAULT, Due::Is(text))));
+            assert!(rt; fs::read(&rt, "odd.data")?.as_slice() == bytes);
+        }
+    }
+    fs::remove_file(&rt, "odd.data")?;
+    Ok(())
+}
+
+const CREATE_LISTEN: &[&str] = &[
+    "ssikvd",
+    "create",
+    "--data",
+    "listen.data",
+    "--sectors",
+    "2",
+];
+
+const SERVE_LISTEN: &[&str] = &[
+    "ssikvd",
+    "serve",
+    "--data",
+    "listen.data",
+    "--listen",
+    "127.0.0.1:0",
+];
+
+/// An address that another listens at is a fault, and so is an output that fails before the first turn.
+#[test]
+fn listening_fails(rt: HostRuntime) -> Result<(), Fail> {
+    let _ = fs::remove_file(&rt, "listen.data");
+    assert!(rt; is_met(&rt, rt.alloc(), refused(CREATE_LISTEN, DONE, Due::Nothing)));
+    let taken = TcpListener::bind(&rt, "127.0.0.1:0")?;
+    let address = format!(in rt.alloc(); "{}", taken.local_addr()?)?;
+    let words = [
+        "ssikvd",
+        "serve",
+        "--data",
+        "listen.data",
+        "--listen",
+        address.as_str(),
+    ];
+    let mut out = Vec::new(rt.alloc());
+    let mut err = Vec::new(rt.alloc());
+    let status = run(
+        &rt,
+        rt.alloc(),
+        words.as_slice(),
+        b"".as_slice(),
+        &mut out,
+        &mut err,
+    );
+    assert!(rt;
+        status == FAULT && out.is_empty() && err.as_slice() == b"ssikvd: listen fault\n".as_slice()
+    );
+    let mut err = Vec::new(rt.alloc());
+    let status = run(
+        &rt,
+        rt.alloc(),
+        SERVE_LISTEN,
+        b"".as_slice(),
+        &mut Broken,
+        &mut err,
+    );
+    assert!(rt; status == FAULT && err.as_slice() == b"ssikvd: file fault\n".as_slice());
+    fs::remove_file(&rt, "listen.data")?;
+    Ok(())
+}
+
+const HELP: &[&str] = &["ssikvd", "--help"];
+
+const PLAY_HELP: &[&str] = &["ssikvd", "play", "--help"];
+
+const COMPACT: &[&str] = &["ssikvd", "compact"];
+
+const CHECK_NONE: &[&str] = &["ssikvd", "check", "--data", "none"];
+
+/// What fails to be written: help is then a fault, and a status stays where its text can't be told.
+#[test]
+fn outputs_that_fail(rt: HostRuntime) -> Result<(), Fail> {
+    for words in [HELP, PLAY_HELP] {
+        let mut err = Vec::new(rt.alloc());
+        let status = run(
+            &rt,
+            rt.alloc(),
+            words,
+            b"".as_slice(),
+            &mut Broken,
+            &mut err,
+        );
+        assert!(rt; status == FAULT && err.as_slice() == b"ssikvd: file fault\n".as_slice());
+    }
+    let told = [
+        (REFUSED, COMPACT, b"".as_slice()),
+        (FAULT, CHECK_NONE, b""),
+        (BAD_LINE, PLAY, b"x PING"),
+        (FAULT, PLAY, b"1 PING"),
+    ];
+    for (due, words, input) in told {
+        let status = run(&rt, rt.alloc(), words, input, &mut Broken, &mut Broken);
+        assert!(rt; status == due);
+    }
+    Ok(())
+}
+
+/// A writer that counts the calls that it takes.
+#[derive(Drop)]
+struct Counting {
+    writes: u64,
+}
+
+impl Write for Counting {
+    fn write(&mut self, from: &[u8]) -> io::Result<usize> {
+        self.writes = self.writes.saturating_add(1);
+        Ok(from.len())
+    }
+
+    fn flush(&mut self) -> io::Result<()> {
+        Ok(())
+    }
+}
+
+const CREATE_LINES: &[&str] = &["ssikvd", "create", "--data", "lines.data", "--sectors", "2"];
+
+const CHECK_LINES: &[&str] = &["ssikvd", "check", "--data", "lines.data"];
+
+/// Each line leaves in one write.
+#[test]
+fn one_write_a_line(rt: HostRuntime) -> Result<(), Fail> {
+    let _ = fs::remove_file(&rt, "lines.data");
+    assert!(rt; is_met(&rt, rt.alloc(), refused(CREATE_LINES, DONE, Due::Nothing)));
+    let cases = [
+        (CHECK_LINES, b"".as_slice(), 1, 0),
+        (HELP, b"", 1, 0),
+        (COMPACT, b"", 0, 1),
+        (CHECK_NONE, b"", 0, 1),
+        (PLAY, b"1 BEGIN\n1 RANGE a z\n10\n", 2, 1),
+    ];
+    for (words, input, lines, faults) in cases {
+        let mut out = Counting { writes: 0 };
+        let mut err = Counting { writes: 0 };
+        let _ = run(&rt, rt.alloc(), words, input, &mut out, &mut err);
+        assert!(rt; out.writes == lines && err.writes == faults);
+    }
+    fs::remove_file(&rt, "lines.data")?;
+    Ok(())
+}
+
+/// What is told of an ending whose text can't be written, or can.
+#[test]
+fn endings(rt: HostRuntime) -> Result<(), Fail> {
+    let long = Fault::Damaged(u64::MAX);
+    let mut err = Vec::new(rt.alloc());
+    let told = tell(&Ending::Failed(long), &mut Broken, &mut err);
+    assert!(rt;
+        told == (Told {
+            status: FAULT,
+            is_written: true
+        })
+    );
+    assert!(rt; err.as_slice() == b"ssikvd: damaged record 18446744073709551615\n".as_slice());
+    let told = tell(
+        &Ending::Failed(Fault::BadLine(u64::MAX)),
+        &mut Broken,
+        &mut Broken,
+    );
+    assert!(rt;
+        told == (Told {
+            status: BAD_LINE,
+            is_written: false
+        })
+    );
+    let told = tell(&Ending::Done, &mut Broken, &mut Broken);
+    assert!(rt;
+        told == (Told {
+            status: DONE,
+            is_written: true
+        })
+    );
+    Ok(())
+}
+
+/// A device in memory is formatted and counted as a file is.
+#[test]
+fn devices_in_memory(rt: HostRuntime) -> Result<(), Fail> {
+    for (sectors, made) in [
+        (0, Err(Fault::LogFull)),
+        (1, Err(Fault::LogFull)),
+        (2, Ok(())),
+        (9, Ok(())),
+    ] {
+        let mut device = MemSectors::new(rt.alloc(), sectors)?;
+        assert!(rt; format_device(&mut device) == made);
+        let mut out = Vec::new(rt.alloc());
+        let counted = check_device(rt.alloc(), device, &mut out);
+        if made.is_ok() {
+            let line = format!(in rt.alloc(); "records 0 keys 0 sectors 2 of {sectors}\n")?;
+            assert!(rt; counted == Ok(()) && out.as_slice() == line.as_bytes());
+        } else {
+            assert!(rt; counted == Err(Fault::NotALog) && out.is_empty());
+        }
+    }
+    let mut device = MemSectors::new(rt.alloc(), 2)?;
+    assert!(rt; format_device(&mut device) == Ok(()));
+    assert!(rt; check_device(rt.alloc(), device, &mut Broken) == Err(Fault::File));
+    Ok(())
+}
+
+/// A server of which the store stops at a turn, and whose poll fails at another.
+#[derive(Drop)]
+struct Turning {
+    turns: u64,
+    stops_at: u64,
+    fails_at: u64,
+    kind: ErrorKind,
+}
+
+impl Turns for Turning {
+    fn next_turn<C: Clock>(&mut self, _clock: &C) -> io::Result<()> {
+        self.turns = self.turns.saturating_add(1);
+        if self.turns == self.fails_at {
+            return Err(self.kind.into());
+        }
+        Ok(())
+    }
+
+    fn is_stopped(&self) -> bool {
+        self.turns >= self.stops_at
+    }
+}
+
+/// That the store has stopped is told once, whether it stops at the first turn or later, or not at all where the poll fails before.
+#[test]
+fn a_stop_is_told_once(rt: HostRuntime) -> Result<(), Fail> {
+    let line = b"ssikvd: store stopped\n".as_slice();
+    let cases = [
+        (1, 9, line),
+        (4, 9, line),
+        (8, 9, line),
+        (9, 9, b""),
+        (1, 1, b""),
+    ];
+    for (stops_at, fails_at, text) in cases {
+        for (kind, fault) in [
+            (ErrorKind::Other, Fault::Poll),
+            (ErrorKind::OutOfMemory, Fault::Memory),
+        ] {
+            let mut server = Turning {
+                turns: 0,
+                stops_at,
+                fails_at,
+                kind,
+            };
+            let mut err = Vec::new(rt.alloc());
+            let ended = serve_turns(&rt, &mut server, &mut err);
+            assert!(rt; ended == Err(fault) && err.as_slice() == text && server.turns == fails_at);
+        }
+    }
+    let mut server = Turning {
+        turns: 0,
+        stops_at: 2,
+        fails_at: 5,
+        kind: ErrorKind::Other,
+    };
+    let mut err = Counting { writes: 0 };
+    assert!(rt; serve_turns(&rt, &mut server, &mut err) == Err(Fault::Poll) && err.writes == 1);
+    let mut server = Turning {
+        turns: 0,
+        stops_at: 2,
+        fails_at: 5,
+        kind: ErrorKind::Other,
+    };
+    assert!(rt;
+        serve_turns(&rt, &mut server, &mut Broken) == Err(Fault::Poll) && server.turns == 5
+    );
+    Ok(())
+}
+
+/// An opener that gives these numbers in turn, and then fails.
+#[derive(Drop)]
+struct Numbers<'a> {
+    given: &'a [i32],
+    at: usize,
+}
+
+impl Opener for Numbers<'_> {
+    type File = i32;
+
+    fn open(&mut self) -> io::Result<i32> {
+        let Some(number) = self.given.get(self.at) else {
+            return Err(ErrorKind::Other.into());
+        };
+        self.at = self.at.saturating_add(1);
+        Ok(*number)
+    }
+}
+
+/// Files are opened until one is above the standard streams, and the ones before it are kept.
+#[test]
+fn standard_streams(rt: HostRuntime) -> Result<(), Fail> {
+    let cases = [
+        ([3, 9].as_slice(), 0),
+        ([7].as_slice(), 0),
+        ([2, 3, 9].as_slice(), 1),
+        ([1, 3, 9].as_slice(), 1),
+        ([0, 2, 5, 9].as_slice(), 2),
+        ([0, 1, 2, 3, 9].as_slice(), 3),
+    ];
+    for (given, kept) in cases {
+        let mut numbers = Numbers { given, at: 0 };
+        let files = keep_standard(&mut numbers)?;
+        assert!(rt; files.len() == kept && numbers.at == files.len() + 1);
+        for (file, number) in files.as_slice().iter().zip(given) {
+            assert!(rt; *file == Some(*number));
+        }
+    }
+    let failing = [
+        [].as_slice(),
+        [0].as_slice(),
+        [0, 1, 2].as_slice(),
+        [0, 1, 2, 2, 3].as_slice(),
+    ];
+    for given in failing {
+        assert!(rt; keep_standard(&mut Numbers { given, at: 0 }).is_err());
+    }
     Ok(())
 }

@@ -1,7 +1,7 @@
 //! A peer in memory.
 ghost use Rattle.std.specs.Prelude.{◌≡◌, ◌≤◌, ◌<◌, ◌+◌, length, vec_len};
 
-use stream_driver::{ReadAnswer, Stream, WriteAnswer};
+use stream_driver::{Call, ReadAnswer, Stream, WriteAnswer};
 
 /// What goes wrong at one call of a stream.
 #[derive(Clone, Copy, PartialEq, Eq, Debug)]
@@ -28,6 +28,7 @@ pub struct Script {
     read_ended: u64,
     write_blocked: u64,
     write_failed: u64,
+    last: Option<Call>,
     ghost within: { at ≤ vec_len input },
 }
 
@@ -46,6 +47,7 @@ impl Script {
             read_ended: 0,
             write_blocked: 0,
             write_failed: 0,
+            last: None,
         }
     }
 
@@ -88,6 +90,7 @@ impl Stream for Script {
       read_ended = s.read_ended;
       write_blocked = s.write_blocked;
       write_failed = s.write_failed;
+      last = s.last;
     } };
 
     fn read(&mut self, into: &mut [u8]) -> ReadAnswer {
@@ -96,20 +99,24 @@ impl Stream for Script {
             Some(Trouble::Fewer) => 1,
             Some(Trouble::Blocked) => {
                 self.read_blocked = self.read_blocked.saturating_add(1);
+                self.last = Some(Call::Read(ReadAnswer::Blocked));
                 return ReadAnswer::Blocked;
             }
             Some(Trouble::Failed) => {
                 self.read_failed = self.read_failed.saturating_add(1);
+                self.last = Some(Call::Read(ReadAnswer::Failed));
                 return ReadAnswer::Failed;
             }
         };
         let n = most.min(self.input.len() - self.at);
         if n == 0 {
             self.read_ended = self.read_ended.saturating_add(1);
+            self.last = Some(Call::Read(ReadAnswer::Ended));
             return ReadAnswer::Ended;
         }
         into[..n].copy_from_slice(&self.input[self.at..self.at + n]);
         self.at += n;
+        self.last = Some(Call::Read(ReadAnswer::Moved(n)));
         ReadAnswer::Moved(n)
     }
 
@@ -119,17 +126,21 @@ impl Stream for Script {
             Some(Trouble::Fewer) => 1,
             Some(Trouble::Blocked) => {
                 self.write_blocked = self.write_blocked.saturating_add(1);
+                self.last = Some(Call::Write(WriteAnswer::Blocked));
                 return WriteAnswer::Blocked;
             }
             Some(Trouble::Failed) => {
                 self.write_failed = self.write_failed.saturating_add(1);
+                self.last = Some(Call::Write(WriteAnswer::Failed));
                 return WriteAnswer::Failed;
             }
         };
         if self.taken.extend_from_slice(&from[..n]).is_err() {
             self.write_failed = self.write_failed.saturating_add(1);
+            self.last = Some(Call::Write(WriteAnswer::Failed));
             return WriteAnswer::Failed;
         }
+        self.last = Some(Call::Write(WriteAnswer::Moved(n)));
         WriteAnswer::Moved(n)
     }
 }

@@ -48,8 +48,24 @@ const OPEN_TRANSACTION: &[u8] =
 
 const REPLIES: &[u8] = b"+OK\r\n+OK\r\n$1\r\n1\r\n";
 
-/// The n-th call of the stream moves one byte, blocks or fails, for each n: no other bytes come out, and the transaction is aborted, since
-/// more than 64 may begin one after another.
+/// How many bytes of the replies are written before each call: the first reads all, then each of three writes a reply, and the last reads
+/// on.
+const WRITTEN_BEFORE: [usize; 5] = [0, 0, 5, 10, 17];
+
+/// What the first drive comes to where the n-th call meets trouble, and how many bytes are written by then.
+fn first_drive(trouble: Trouble, nth: u64) -> (Progress, usize) {
+    let before = (1..=5u64)
+        .zip(WRITTEN_BEFORE)
+        .find(|(call, _)| *call == nth);
+    match (trouble, before) {
+        (Trouble::Blocked, Some((_, written))) => (Progress::Waiting, written),
+        (Trouble::Failed, Some((_, written))) => (Progress::Gone, written),
+        _ => (Progress::Gone, REPLIES.len()),
+    }
+}
+
+/// The n-th call of the stream moves one byte, blocks or fails, for each n: no other bytes come out, a call that fails is the last, and the
+/// transaction is aborted, since more than 64 may begin one after another.
 #[test]
 fn a_call_in_trouble(rt: HostRuntime) -> Result<(), Fail> {
     for trouble in [Trouble::Fewer, Trouble::Blocked, Trouble::Failed] {
@@ -58,14 +74,43 @@ fn a_call_in_trouble(rt: HostRuntime) -> Result<(), Fail> {
             driven.join(nth);
             let input = OPEN_TRANSACTION.to_vec(rt.alloc())?;
             let mut stream = Script::new(input, Vec::new(rt.alloc()), nth, trouble);
-            for _ in 0..8u32 {
-                let _ = driven.drive(nth, &mut stream);
+            let (progress, written) = first_drive(trouble, nth);
+            assert!(rt;
+                driven.drive(nth, &mut stream) == progress,
+                "{trouble:?} at {nth}"
+            );
+            assert!(rt;
+                REPLIES.get(..written) == Some(stream.taken()),
+                "{trouble:?} at {nth}"
+            );
+            if progress == Progress::Waiting {
+                assert!(rt; driven.drive(nth, &mut stream) == Progress::Gone);
+                assert!(rt; stream.taken() == REPLIES);
             }
-            let may_end_early = trouble == Trouble::Failed && stream.is_troubled();
-            let taken = stream.taken();
-            let is_right = taken == REPLIES || may_end_early && REPLIES.starts_with(taken);
-            assert!(rt; is_right && !driven.is_present(nth));
+            assert!(rt; !driven.is_present(nth));
         }
+    }
+    Ok(())
+}
+
+/// A broken frame is read together with requests: those before it are answered, then it is, and the session leaves once its reply is
+/// written. No call of the stream but the n-th meets trouble, which blocks.
+#[test]
+fn a_broken_frame_among_requests(rt: HostRuntime) -> Result<(), Fail> {
+    let due = b"+PONG\r\n+PONG\r\n-ERR frame\r\n".as_slice();
+    for (nth, written) in [(0u64, 26usize), (4, 14)] {
+        let mut driven = Driven::new(rt.alloc())?;
+        driven.join(1);
+        let mut input = PING.to_vec(rt.alloc())?;
+        input.extend_from_slice(PING)?;
+        input.extend_from_slice(b"*01\r\n")?;
+        input.extend_from_slice(PING)?;
+        let mut stream = Script::new(input, Vec::new(rt.alloc()), nth, Trouble::Blocked);
+        let progress = driven.drive(1, &mut stream);
+        assert!(rt; (progress == Progress::Waiting) == (nth == 4));
+        assert!(rt; due.get(..written) == Some(stream.taken()));
+        assert!(rt; driven.drive(1, &mut stream) == Progress::Gone);
+        assert!(rt; stream.taken() == due && !driven.is_present(1));
     }
     Ok(())
 }

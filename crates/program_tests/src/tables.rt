@@ -3,13 +3,17 @@ ghost use Rattle.std.specs.Prelude.{◌≤◌};
 
 use crate::hubs::{Pieces, new_hub};
 use rows::worked::{
-    COMMITTED_WRITE_IS_SEEN, Counted, DELETED_KEY, FIRST_COMMITTER_WINS,
+    COMMITTED_WRITE_IS_SEEN, Counted, DELETED_KEY, EARLIER_READER_IS_HARMLESS,
+    FIRST_COMMITTER_WINS, FULL_PAGE_ENDS_AT_ITS_LAST_KEY, LAST_KEY_OF_A_PAGE_IS_MARKED,
     LEAST_OVERWRITTEN_KEY_IS_NAMED, LOG_FULL, LOG_FULL_SECTORS, Line, OLD_VERSION_IS_KEPT,
     ONE_AFTER_THE_OTHER, OWN_WRITE_IS_PRIVATE, PHANTOM_SKEW,
-    PIVOT_AFTER_ITS_NEIGHBOUR_WAS_FORGOTTEN, RANGE_BOUNDS_AND_LIMITS, RANGE_OVER_OWN_WRITES,
-    READ_ONLY_ANOMALY, READER_FINDS_A_COMMITTED_PIVOT, REFUSALS_OUTSIDE_A_TRANSACTION, SECTORS,
-    SERIAL_ORDER_IS_NOT_COMMIT_ORDER, SIXTY_FOUR_TRANSACTIONS, SIXTY_FOUR_WRITES, SNAPSHOT_IS_KEPT,
-    TWO_HUNDRED_FIFTY_SIX_MARKS, WRITE_SKEW, WRITER_FINDS_A_COMMITTED_PIVOT,
+    PIVOT_AFTER_ITS_NEIGHBOUR_WAS_FORGOTTEN, PIVOT_AFTER_ITS_TARGET_WAS_FORGOTTEN,
+    PIVOT_BEFORE_ITS_TARGET_IS_HARMLESS, PIVOT_WITH_A_LATER_WRITER_IS_HARMLESS,
+    RANGE_AT_ITS_LIMIT_MARKS_LESS, RANGE_BELOW_ITS_LIMIT_MARKS_ALL, RANGE_BOUNDS_AND_LIMITS,
+    RANGE_OVER_OWN_WRITES, READ_ONLY_ANOMALY, READER_FINDS_A_COMMITTED_PIVOT,
+    REFUSALS_OUTSIDE_A_TRANSACTION, SECTORS, SERIAL_ORDER_IS_NOT_COMMIT_ORDER,
+    SIXTY_FOUR_TRANSACTIONS, SIXTY_FOUR_WRITES, SNAPSHOT_IS_KEPT, TWO_HUNDRED_FIFTY_SIX_MARKS,
+    WRITE_SKEW, WRITER_FINDS_A_COMMITTED_PIVOT,
 };
 use rows::{Store, first_difference, with_number};
 use scripts::play;
@@ -18,7 +22,7 @@ use std::io::Write;
 use std::test::Fail;
 
 /// How many rows there are over a device with room for all.
-const ROWS: usize = 18;
+const ROWS: usize = 26;
 
 /// The row of this place with its name.
 fn row(place: usize) -> Option<(&'static str, &'static [Line])> {
@@ -59,6 +63,35 @@ fn row(place: usize) -> Option<(&'static str, &'static [Line])> {
         ),
         16 => ("range over own writes", &RANGE_OVER_OWN_WRITES),
         17 => ("old version is kept", &OLD_VERSION_IS_KEPT),
+        18 => (
+            "pivot after its target was forgotten",
+            &PIVOT_AFTER_ITS_TARGET_WAS_FORGOTTEN,
+        ),
+        19 => ("earlier reader is harmless", &EARLIER_READER_IS_HARMLESS),
+        20 => (
+            "pivot before its target is harmless",
+            &PIVOT_BEFORE_ITS_TARGET_IS_HARMLESS,
+        ),
+        21 => (
+            "pivot with a later writer is harmless",
+            &PIVOT_WITH_A_LATER_WRITER_IS_HARMLESS,
+        ),
+        22 => (
+            "range at its limit marks less",
+            &RANGE_AT_ITS_LIMIT_MARKS_LESS,
+        ),
+        23 => (
+            "last key of a page is marked",
+            &LAST_KEY_OF_A_PAGE_IS_MARKED,
+        ),
+        24 => (
+            "full page ends at its last key",
+            &FULL_PAGE_ENDS_AT_ITS_LAST_KEY,
+        ),
+        25 => (
+            "range below its limit marks all",
+            &RANGE_BELOW_ITS_LIMIT_MARKS_ALL,
+        ),
         _ => return None,
     })
 }

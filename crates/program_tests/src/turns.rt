@@ -7,7 +7,7 @@ use crate::driven::Driven;
 use crate::hubs::new_hub;
 use crate::{Script, Trouble};
 use sector::MemSectors;
-use sessions::{Event, Hub, Outcome};
+use sessions::{Event, Hub, Outcome, Status};
 use slab::Slab;
 use std::alloc::Global;
 use std::test::Fail;
@@ -159,5 +159,32 @@ fn a_turn(rt: HostRuntime) -> Result<(), Fail> {
         assert!(rt; stands && is_driven, "session {session}");
     }
     assert!(rt; crowd.table.len() == peers.len());
+    Ok(())
+}
+
+/// A connection whose peer sends one PING and ends.
+fn pinged(alloc: Global) -> Result<Script, Fail> {
+    let input = b"*1\r\n$4\r\nPING\r\n".to_vec(alloc)?;
+    Ok(Script::new(input, Vec::new(alloc), 0, Trouble::Fewer))
+}
+
+/// The first and the third of three connections are ready: they are answered, and gone at their ends, and the second is left alone.
+#[test]
+fn one_of_three_is_idle(rt: HostRuntime) -> Result<(), Fail> {
+    let (idle, ready, gone) = (EntryState::Idle, EntryState::Ready, EntryState::Gone);
+    let mut crowd = Crowd::new(rt.alloc())?;
+    for state in [ready, idle, ready] {
+        crowd = crowd.join(pinged(rt.alloc())?, state)?;
+    }
+    crowd.turn();
+    let pong = b"+PONG\r\n".as_slice();
+    let due = [(gone, pong), (idle, b"".as_slice()), (gone, pong)];
+    assert!(rt; crowd.table.len() == due.len());
+    for ((_, entry), (state, taken)) in crowd.table.iter().zip(due) {
+        assert!(rt; entry.state == state && entry.stream.taken() == taken);
+    }
+    for (session, (state, _)) in (FIRST..u64::MAX).zip(due) {
+        assert!(rt; (crowd.hub.status(session) == Status::Absent) == (state == gone));
+    }
     Ok(())
 }

@@ -1,26 +1,27 @@
 // The program: its words, its standard streams, and the exit status that the command answers.
 #![tactic(auto)]
 
-use commands::{Fault, REFUSED, report, run};
-use std::alloc::Alloc;
+use commands::{Ending, Fault, NullDevice, keep_standard, report, run, tell};
+use std::alloc::{Alloc, AllocError, Global};
 use std::env::{self, Env};
-use std::io::{self, ErrorKind, Write};
+use std::io::{self, ErrorKind};
 use std::process::ExitCode;
 
 fn main(rt: HostRuntime) -> ExitCode {
     let mut err = rt.stderr();
-    let words = match words(&rt) {
-        Ok(words) => words,
-        Err(error) => return ExitCode::from(refuse(&error, &mut err)),
+    // Before anything is opened: no file of the program's gets the descriptor of a standard stream that is closed.
+    let Ok(kept) = keep_standard(&mut NullDevice::new(&rt)) else {
+        return ExitCode::from(report(Fault::File, &mut err).status);
     };
-    let mut texts = Vec::new(rt.alloc());
-    for word in &words {
-        if texts.push(word.as_str()).is_err() {
-            return ExitCode::from(report(Fault::Memory, &mut err));
-        }
-    }
     let mut out = io::writer(&rt);
-    let status = run(&rt, rt.alloc(), &texts, rt.reader(), &mut out, &mut err);
+    let status = match words(&rt) {
+        Ok(words) => match texts(rt.alloc(), &words) {
+            Ok(texts) => run(&rt, rt.alloc(), &texts, rt.reader(), &mut out, &mut err),
+            Err(_) => report(Fault::Memory, &mut err).status,
+        },
+        Err(error) => tell(&refused(rt.alloc(), &error), &mut out, &mut err).status,
+    };
+    drop(kept);
     ExitCode::from(status)
 }
 
@@ -29,11 +30,22 @@ fn words<R: Env + Alloc>(rt: &R) -> io::Result<Vec<String<R::A>, R::A>> {
     Ok(env::args(rt)?.collect(rt.alloc())?)
 }
 
-// There was no memory for the words, or one is no text.
-fn refuse<E: Write>(error: &io::Error, err: &mut E) -> u8 {
-    if error.kind() == ErrorKind::OutOfMemory {
-        return report(Fault::Memory, err);
+// The words as texts.
+fn texts(alloc: Global, words: &[String]) -> Result<Vec<&str>, AllocError> {
+    let mut texts = Vec::new(alloc);
+    for word in words {
+        texts.push(word.as_str())?;
     }
-    let _ = writeln!(err, "error: {error}");
-    REFUSED
+    Ok(texts)
+}
+
+// There was no memory for the words, or one is no text.
+fn refused(alloc: Global, error: &io::Error) -> Ending {
+    if error.kind() == ErrorKind::OutOfMemory {
+        return Ending::Failed(Fault::Memory);
+    }
+    match format!(in alloc; "error: {error}\n") {
+        Ok(text) => Ending::Refused(text),
+        Err(_) => Ending::Failed(Fault::Memory),
+    }
 }
