@@ -69,12 +69,11 @@ impl Fill {
     }
 }
 
-/// Is the commit found that is under way, where so many of its device calls have ended? Its gate is unsettled from the fourth call to
-/// the end of the fifth, and the record stands where byte 0 of the gate is 1.
+/// Is the commit found that is under way, where so many of its device calls have ended? Its gate is unsettled from within the fourth
+/// call to the end of the fifth, and the record stands where byte 0 of the gate is 1.
 fn is_found(ended: u8, within_next: bool, fill: Fill) -> bool {
     match fill {
-        Fill::Ones => ended == 4 || ended == 3 && within_next,
-        Fill::New => ended == 4,
+        Fill::Ones | Fill::New => ended == 4 || ended == 3 && within_next,
         Fill::Zeros | Fill::Highest | Fill::Old => false,
     }
 }

@@ -8,7 +8,6 @@ mod crashes;
 #[cfg(test)]
 mod hub_store;
 mod lines;
-#[cfg(test)]
 mod plain;
 #[cfg(test)]
 mod replays;
@@ -23,5 +22,6 @@ mod tests;
 pub mod worked;
 
 pub use lines::{frame_of, shown, with_number};
+pub use plain::PlainStore;
 pub use stored::EngineStore;
 pub use stores::{Decoding, Serves, Store, first_difference, reply_to};

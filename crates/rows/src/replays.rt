@@ -117,12 +117,27 @@ fn is_within(lo: Text, hi: Text, key: Text) -> bool {
     lo.as_bytes() <= key.as_bytes() && (hi == "\"\"" || key.as_bytes() < hi.as_bytes())
 }
 
+/// The last key of a reply to RANGE that has as many pairs as its limit.
+fn last_of_full(reply: Text, limit: usize) -> Option<Text> {
+    let place = limit.saturating_mul(4).saturating_sub(2);
+    reply.split_whitespace().nth(place)
+}
+
+/// Does a RANGE with this reply read the key? Up to the last key of its reply, where that is full.
+fn is_in_reach(lo: Text, hi: Text, limit: usize, reply: Text, key: Text) -> bool {
+    let is_before_end = match last_of_full(reply, limit) {
+        Some(last) => key.as_bytes() <= last.as_bytes(),
+        None => true,
+    };
+    is_within(lo, hi, key) && is_before_end
+}
+
 /// Does the transaction read the key of the map that it began with?
 fn is_read(steps: &[(Asked, Text)], key: Text) -> bool {
     for (i, step) in steps.iter().enumerate() {
         let reads = match step.0 {
             Asked::Get(k) => k == key && !is_written(&steps[..i], key),
-            Asked::Range(lo, hi, _) => is_within(lo, hi, key),
+            Asked::Range(lo, hi, limit) => is_in_reach(lo, hi, limit, step.1, key),
             _ => false,
         };
         if reads {
@@ -297,7 +312,7 @@ fn is_replayed(alloc: Global, sectors: u64, row: &[Line]) -> Result<bool, Fail> 
 
 #[test]
 fn serial_order_gives_the_same_replies_and_map(rt: HostRuntime) -> Result<(), Fail> {
-    let rows: [&[Line]; 15] = [
+    let rows: [&[Line]; 23] = [
         &worked::COMMITTED_WRITE_IS_SEEN,
         &worked::SNAPSHOT_IS_KEPT,
         &worked::OWN_WRITE_IS_PRIVATE,
@@ -305,11 +320,19 @@ fn serial_order_gives_the_same_replies_and_map(rt: HostRuntime) -> Result<(), Fa
         &worked::LEAST_OVERWRITTEN_KEY_IS_NAMED,
         &worked::WRITE_SKEW,
         &worked::PHANTOM_SKEW,
+        &worked::RANGE_AT_ITS_LIMIT_MARKS_LESS,
+        &worked::LAST_KEY_OF_A_PAGE_IS_MARKED,
+        &worked::FULL_PAGE_ENDS_AT_ITS_LAST_KEY,
+        &worked::RANGE_BELOW_ITS_LIMIT_MARKS_ALL,
         &worked::READ_ONLY_ANOMALY,
         &worked::READER_FINDS_A_COMMITTED_PIVOT,
         &worked::WRITER_FINDS_A_COMMITTED_PIVOT,
         &worked::ONE_AFTER_THE_OTHER,
         &worked::PIVOT_AFTER_ITS_NEIGHBOUR_WAS_FORGOTTEN,
+        &worked::PIVOT_AFTER_ITS_TARGET_WAS_FORGOTTEN,
+        &worked::EARLIER_READER_IS_HARMLESS,
+        &worked::PIVOT_BEFORE_ITS_TARGET_IS_HARMLESS,
+        &worked::PIVOT_WITH_A_LATER_WRITER_IS_HARMLESS,
         &worked::DELETED_KEY,
         &worked::SERIAL_ORDER_IS_NOT_COMMIT_ORDER,
         &worked::OLD_VERSION_IS_KEPT,

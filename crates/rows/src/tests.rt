@@ -113,6 +113,18 @@ fn phantom_skew(rt: HostRuntime) -> Result<(), Fail> {
 }
 
 #[test]
+fn range_at_its_limit_marks_less(rt: HostRuntime) -> Result<(), Fail> {
+    run(&rt, &worked::RANGE_AT_ITS_LIMIT_MARKS_LESS)?;
+    run(&rt, &worked::LAST_KEY_OF_A_PAGE_IS_MARKED)
+}
+
+#[test]
+fn range_below_its_limit_marks_all(rt: HostRuntime) -> Result<(), Fail> {
+    run(&rt, &worked::FULL_PAGE_ENDS_AT_ITS_LAST_KEY)?;
+    run(&rt, &worked::RANGE_BELOW_ITS_LIMIT_MARKS_ALL)
+}
+
+#[test]
 fn read_only_anomaly(rt: HostRuntime) -> Result<(), Fail> {
     run(&rt, &worked::READ_ONLY_ANOMALY)
 }
@@ -135,6 +147,26 @@ fn one_after_the_other(rt: HostRuntime) -> Result<(), Fail> {
 #[test]
 fn pivot_after_its_neighbour_was_forgotten(rt: HostRuntime) -> Result<(), Fail> {
     run(&rt, &worked::PIVOT_AFTER_ITS_NEIGHBOUR_WAS_FORGOTTEN)
+}
+
+#[test]
+fn pivot_after_its_target_was_forgotten(rt: HostRuntime) -> Result<(), Fail> {
+    run(&rt, &worked::PIVOT_AFTER_ITS_TARGET_WAS_FORGOTTEN)
+}
+
+#[test]
+fn earlier_reader_is_harmless(rt: HostRuntime) -> Result<(), Fail> {
+    run(&rt, &worked::EARLIER_READER_IS_HARMLESS)
+}
+
+#[test]
+fn pivot_before_its_target_is_harmless(rt: HostRuntime) -> Result<(), Fail> {
+    run(&rt, &worked::PIVOT_BEFORE_ITS_TARGET_IS_HARMLESS)
+}
+
+#[test]
+fn pivot_with_a_later_writer_is_harmless(rt: HostRuntime) -> Result<(), Fail> {
+    run(&rt, &worked::PIVOT_WITH_A_LATER_WRITER_IS_HARMLESS)
 }
 
 #[test]
@@ -197,11 +229,13 @@ fn broken_frame_aborts(rt: HostRuntime) -> Result<(), Fail> {
 #[test]
 fn kept_versions_and_records(rt: HostRuntime) -> Result<(), Fail> {
     let row = &worked::OLD_VERSION_IS_KEPT;
-    let forgetting = &worked::PIVOT_AFTER_ITS_NEIGHBOUR_WAS_FORGOTTEN;
+    let reader = &worked::PIVOT_AFTER_ITS_NEIGHBOUR_WAS_FORGOTTEN;
+    let target = &worked::PIVOT_AFTER_ITS_TARGET_WAS_FORGOTTEN;
     for (lines, due) in [
         (&row[..10], (2, 2)),
         (&row[..], (1, 0)),
-        (&forgetting[..8], (0, 1)),
+        (&reader[..8], (0, 1)),
+        (&target[..8], (0, 1)),
     ] {
         assert_eq!(rt; kept_behind(rt.alloc(), lines)?, due);
     }

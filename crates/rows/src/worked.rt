@@ -76,6 +76,72 @@ pub static PHANTOM_SKEW: [Line; 8] = [
     ("2 COMMIT", "-CONFLICT pivot self"),
 ];
 
+/// A reader of a first page, and a writer behind it.
+pub static RANGE_AT_ITS_LIMIT_MARKS_LESS: [Line; 13] = [
+    ("9 BEGIN", "+OK"),
+    ("9 SET a 1", "+OK"),
+    ("9 SET b 1", "+OK"),
+    ("9 SET c 1", "+OK"),
+    ("9 COMMIT", ":1"),
+    ("1 BEGIN", "+OK"),
+    ("2 BEGIN", "+OK"),
+    ("1 RANGE a \"\" 1", "*2 $1 a $1 1"),
+    ("1 SET z 1", "+OK"),
+    ("2 RANGE z \"\" 5", "*0"),
+    ("2 SET b 2", "+OK"),
+    ("1 COMMIT", ":2"),
+    ("2 COMMIT", ":3"),
+];
+
+/// The same, and a writer of the page's last key.
+pub static LAST_KEY_OF_A_PAGE_IS_MARKED: [Line; 13] = [
+    ("9 BEGIN", "+OK"),
+    ("9 SET a 1", "+OK"),
+    ("9 SET b 1", "+OK"),
+    ("9 SET c 1", "+OK"),
+    ("9 COMMIT", ":1"),
+    ("1 BEGIN", "+OK"),
+    ("2 BEGIN", "+OK"),
+    ("1 RANGE a \"\" 1", "*2 $1 a $1 1"),
+    ("1 SET z 1", "+OK"),
+    ("2 RANGE z \"\" 5", "*0"),
+    ("2 SET a 2", "+OK"),
+    ("1 COMMIT", ":2"),
+    ("2 COMMIT", "-CONFLICT pivot self"),
+];
+
+/// A range that found as many pairs as its limit, though there are no more, and a writer behind the last of them.
+pub static FULL_PAGE_ENDS_AT_ITS_LAST_KEY: [Line; 12] = [
+    ("9 BEGIN", "+OK"),
+    ("9 SET a 1", "+OK"),
+    ("9 SET b 1", "+OK"),
+    ("9 COMMIT", ":1"),
+    ("1 BEGIN", "+OK"),
+    ("2 BEGIN", "+OK"),
+    ("1 RANGE a c 2", "*4 $1 a $1 1 $1 b $1 1"),
+    ("1 SET z 1", "+OK"),
+    ("2 GET z", "$-1"),
+    ("2 SET b0 1", "+OK"),
+    ("1 COMMIT", ":2"),
+    ("2 COMMIT", ":3"),
+];
+
+/// The same with a greater limit: the range is marked whole.
+pub static RANGE_BELOW_ITS_LIMIT_MARKS_ALL: [Line; 12] = [
+    ("9 BEGIN", "+OK"),
+    ("9 SET a 1", "+OK"),
+    ("9 SET b 1", "+OK"),
+    ("9 COMMIT", ":1"),
+    ("1 BEGIN", "+OK"),
+    ("2 BEGIN", "+OK"),
+    ("1 RANGE a c 3", "*4 $1 a $1 1 $1 b $1 1"),
+    ("1 SET z 1", "+OK"),
+    ("2 GET z", "$-1"),
+    ("2 SET b0 1", "+OK"),
+    ("1 COMMIT", ":2"),
+    ("2 COMMIT", "-CONFLICT pivot self"),
+];
+
 pub static READ_ONLY_ANOMALY: [Line; 13] = [
     ("1 BEGIN", "+OK"),
     ("1 GET x", "$-1"),
@@ -105,6 +171,7 @@ pub static READER_FINDS_A_COMMITTED_PIVOT: [Line; 10] = [
     ("3 COMMIT", "-CONFLICT pivot 2"),
 ];
 
+/// The pivot is harmless, since the one whose key it read has not committed yet.
 pub static WRITER_FINDS_A_COMMITTED_PIVOT: [Line; 10] = [
     ("1 BEGIN", "+OK"),
     ("2 BEGIN", "+OK"),
@@ -115,7 +182,7 @@ pub static WRITER_FINDS_A_COMMITTED_PIVOT: [Line; 10] = [
     ("2 SET k 1", "+OK"),
     ("2 COMMIT", ":2"),
     ("3 SET m 1", "+OK"),
-    ("3 COMMIT", "-CONFLICT pivot 2"),
+    ("3 COMMIT", ":3"),
 ];
 
 pub static ONE_AFTER_THE_OTHER: [Line; 10] = [
@@ -142,7 +209,64 @@ pub static PIVOT_AFTER_ITS_NEIGHBOUR_WAS_FORGOTTEN: [Line; 10] = [
     ("2 SET k 1", "+OK"),
     ("2 COMMIT", ":2"),
     ("3 SET m 1", "+OK"),
+    ("3 COMMIT", ":3"),
+];
+
+/// A store that reclaims has forgotten the record of commit 1 before the last commit, and still knows that the pivot read its key: behind
+/// the eighth line it keeps one record.
+pub static PIVOT_AFTER_ITS_TARGET_WAS_FORGOTTEN: [Line; 10] = [
+    ("1 BEGIN", "+OK"),
+    ("2 BEGIN", "+OK"),
+    ("2 SET m 1", "+OK"),
+    ("2 COMMIT", ":1"),
+    ("3 BEGIN", "+OK"),
+    ("1 GET m", "$-1"),
+    ("1 SET k 1", "+OK"),
+    ("1 COMMIT", ":2"),
+    ("3 GET k", "$-1"),
     ("3 COMMIT", "-CONFLICT pivot 2"),
+];
+
+/// The last to commit is a pivot, but the reader before it committed earlier than the writer behind it.
+pub static EARLIER_READER_IS_HARMLESS: [Line; 10] = [
+    ("1 BEGIN", "+OK"),
+    ("2 BEGIN", "+OK"),
+    ("3 BEGIN", "+OK"),
+    ("1 GET k", "$-1"),
+    ("1 COMMIT", ":1"),
+    ("2 SET m 1", "+OK"),
+    ("2 COMMIT", ":2"),
+    ("3 GET m", "$-1"),
+    ("3 SET k 1", "+OK"),
+    ("3 COMMIT", ":3"),
+];
+
+/// The first to commit is a pivot, but the writer behind it commits after it.
+pub static PIVOT_BEFORE_ITS_TARGET_IS_HARMLESS: [Line; 10] = [
+    ("1 BEGIN", "+OK"),
+    ("2 BEGIN", "+OK"),
+    ("3 BEGIN", "+OK"),
+    ("1 GET m", "$-1"),
+    ("1 SET k 1", "+OK"),
+    ("1 COMMIT", ":1"),
+    ("2 SET m 1", "+OK"),
+    ("2 COMMIT", ":2"),
+    ("3 GET k", "$-1"),
+    ("3 COMMIT", ":3"),
+];
+
+/// The first to commit is a pivot, but the writer behind it commits last.
+pub static PIVOT_WITH_A_LATER_WRITER_IS_HARMLESS: [Line; 10] = [
+    ("1 BEGIN", "+OK"),
+    ("2 BEGIN", "+OK"),
+    ("3 BEGIN", "+OK"),
+    ("1 GET m", "$-1"),
+    ("1 SET k 1", "+OK"),
+    ("1 COMMIT", ":1"),
+    ("2 GET k", "$-1"),
+    ("2 COMMIT", ":2"),
+    ("3 SET m 1", "+OK"),
+    ("3 COMMIT", ":3"),
 ];
 
 pub static RANGE_BOUNDS_AND_LIMITS: [Line; 14] = [
