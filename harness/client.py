@@ -15,8 +15,10 @@ import time
 HERE = os.path.dirname(os.path.abspath(__file__))
 PROGRAM = os.environ.get("SSIKVD") or os.path.join(HERE, "..", "crates", "ssikvd", "out", "ssikvd")
 SHIM = os.path.join(HERE, "out", "refuse.so")
+TRACER = os.path.join(HERE, "out", "trace.so")
 PATIENCE = 20.0
 ALL = 2 ** 64 - 1
+NOTHING = 2 ** 32
 
 OUT_OF_MEMORY = b"ssikvd: out of memory\n"
 DEVICE_FAULT = b"ssikvd: device fault\n"
@@ -27,10 +29,28 @@ class Deviation(Exception):
     """The program did what it should not."""
 
 
+def need(*files):
+    """Ends the harness with a message where a program or a library that it needs is missing."""
+    for name in files or (PROGRAM, SHIM):
+        if not os.access(name, os.R_OK if name.endswith(".so") else os.X_OK) or os.path.isdir(name):
+            harness = os.path.basename(sys.argv[0]).removesuffix(".py")
+            raise SystemExit(f"{harness}: there is no {os.path.normpath(name)}; harness/README.md says how to build it")
+
+
+def run_harness(main):
+    """Plays a harness and ends with its status. A deviation outside its runs, as of a program that doesn't start, ends it with a message."""
+    try:
+        sys.exit(main())
+    except (Deviation, OSError, subprocess.SubprocessError) as found:
+        harness = os.path.basename(sys.argv[0]).removesuffix(".py")
+        raise SystemExit(f"{harness}: given up, {type(found).__name__}: {found}") from None
+
+
 class Tally:
-    """What a harness found. Deviations of one text are counted together."""
+    """What a harness found. Deviations of one text are counted together, and it is given up where there are too many."""
 
     TEXT_MAX = 600
+    DEVIATIONS_MAX = 200
 
     def __init__(self, name):
         self.name, self.runs, self.deviations = name, 0, {}
@@ -43,17 +63,23 @@ class Tally:
             yield
         except Deviation as found:
             self._add(str(found), what)
-        except OSError as found:
+        except (OSError, ValueError, subprocess.SubprocessError) as found:
             self._add(f"{type(found).__name__}: {found}", what)
 
     def _add(self, text, what):
         self.deviations.setdefault(text[:self.TEXT_MAX], []).append(what)
+        if self.count() >= self.DEVIATIONS_MAX:
+            self.end("; given up")
+            raise SystemExit(1)
+
+    def count(self):
+        return sum(len(places) for places in self.deviations.values())
 
     def end(self, more=""):
         """Prints the line of the harness, behind its deviations, and answers whether all held."""
         for text, places in self.deviations.items():
             print(f"  DEVIATION in {len(places)} runs, first {places[0]}, last {places[-1]}: {text}")
-        count = sum(len(places) for places in self.deviations.values())
+        count = self.count()
         verdict = f"{count} DEVIATIONS" if count else "all held"
         print(f"{self.name}: {self.runs} runs, {verdict}{more}", flush=True)
         return not count
@@ -66,7 +92,7 @@ def expect(holds, text):
 
 # Calls that fail
 
-MEMORY, DEVICE, RECEIVE, SEND, ACCEPT = range(5)
+MEMORY, DEVICE, RECEIVE, SEND, ACCEPT, POLL = range(6)
 
 
 class Calls:
@@ -93,7 +119,8 @@ class Calls:
         return self._get(1)
 
     def fail(self, first, last=None, error=errno.ENOMEM):
-        """The calls from the first to the last, counted from 1, fail with this error; where it is 0 they move one byte."""
+        """The calls from the first to the last, counted from 1, fail with this error; where it is 0 they move one byte, and where it is
+        NOTHING none."""
         self._put(3, 0)
         self._put(2, first)
         self._put(4, error)
@@ -111,15 +138,20 @@ class Refusals:
 
     def __init__(self, folder_name):
         self.name = os.path.join(folder_name, "refusals")
-        size = Calls.SIZE * (ACCEPT + 1)
+        self.held_at = Calls.SIZE * (POLL + 1)
+        size = self.held_at + 8
         with open(self.name, "wb") as file:
             file.write(bytes(size))
         with open(self.name, "r+b") as file:
             self.shared = mmap.mmap(file.fileno(), size)
-        self.kinds = [Calls(self.shared, kind) for kind in range(ACCEPT + 1)]
+        self.kinds = [Calls(self.shared, kind) for kind in range(POLL + 1)]
 
     def of(self, kind):
         return self.kinds[kind]
+
+    def held(self):
+        """How many bytes of memory the process holds."""
+        return struct.unpack_from("=q", self.shared, self.held_at)[0]
 
     def environment(self):
         return {**os.environ, "LD_PRELOAD": SHIM, "REFUSE_CONTROL": self.name}
@@ -137,14 +169,31 @@ def folder():
         shutil.rmtree(name, ignore_errors=True)
 
 
-def run(words, stdin=b"", environment=None):
-    """A command that ends by itself: its status, output and error output."""
-    ran = subprocess.run([PROGRAM, *words], input=stdin, capture_output=True, env=environment, timeout=PATIENCE)
+def run(words, stdin=b"", environment=None, closed=(), seconds=PATIENCE):
+    """A command that ends by itself, some of whose standard streams may be closed: its status, output and error output."""
+    ran = subprocess.run(
+        [PROGRAM, *words], input=stdin, capture_output=True, env=environment, timeout=seconds, preexec_fn=closing(closed))
     return ran.returncode, ran.stdout, ran.stderr
 
 
+def closing(descriptors):
+    """What closes these descriptors in a new process, before the program runs in it."""
+    def close():
+        for descriptor in descriptors:
+            os.close(descriptor)
+
+    return close if descriptors else None
+
+
+def free_port():
+    """A port of 127.0.0.1 that nothing listens at now."""
+    with socket.socket() as probe:
+        probe.bind(("127.0.0.1", 0))
+        return probe.getsockname()[1]
+
+
 def create(data, sectors):
-    found = run(["create", "--data", data, "--sectors", str(sectors)])
+    found = run(["create", "--data", data, "--sectors", str(sectors)], seconds=6 * PATIENCE)
     expect(found == (0, b"", b""), f"create answered {found}")
 
 
@@ -158,25 +207,51 @@ def check(data):
 
 
 class Server:
-    """A running `serve`. It is ended by its own handle."""
+    """A running `serve`. It is ended by its own handle. Standard streams of its may be closed; where its output is, the address must
+    name a port."""
 
-    def __init__(self, data, environment=None, limit=None):
-        words = [PROGRAM, "serve", "--data", data, "--listen", "127.0.0.1:0"]
+    def __init__(self, data, environment=None, limit=None, listen="127.0.0.1:0", closed=()):
+        words = [PROGRAM, "serve", "--data", data, "--listen", listen]
+        close = closing(closed)
+
+        def before():
+            for change in (limit, close):
+                if change:
+                    change()
+
         self.errors = tempfile.TemporaryFile()
         self.process = subprocess.Popen(
-            words, stdin=subprocess.DEVNULL, stdout=subprocess.PIPE, stderr=self.errors, env=environment, preexec_fn=limit)
+            words, stdin=subprocess.DEVNULL, stdout=subprocess.PIPE, stderr=self.errors, env=environment,
+            preexec_fn=before if limit or close else None)
+        self.pieces = []
         self.line = self._first_line()
         self.port = int(self.line.rsplit(b":", 1)[1]) if self.is_listening() else None
+        if 1 in closed:
+            self.port = self._port_that_answers(int(listen.rsplit(":", 1)[1]))
 
     def _first_line(self):
-        line, end = b"", time.monotonic() + PATIENCE
-        while not line.endswith(b"\n"):
+        """The first line that it prints, of which each piece that was read is kept."""
+        end = time.monotonic() + PATIENCE
+        while not self.pieces or not self.pieces[-1].endswith(b"\n"):
             ready, _, _ = select.select([self.process.stdout], [], [], max(0.0, end - time.monotonic()))
             piece = os.read(self.process.stdout.fileno(), 4_096) if ready else b""
             if not piece:
                 break
-            line += piece
-        return line
+            self.pieces.append(piece)
+        return b"".join(self.pieces)
+
+    def _port_that_answers(self, port):
+        """This port, once a client is served; None where the server has ended."""
+        end = time.monotonic() + PATIENCE
+        while self.is_alive() and time.monotonic() < end:
+            with socket.socket() as probe, contextlib.suppress(OSError):
+                probe.settimeout(PATIENCE)
+                probe.connect(("127.0.0.1", port))
+                probe.sendall(b"*1\r\n$4\r\nPING\r\n")
+                if probe.recv(100) == b"+PONG\r\n":
+                    return port
+            time.sleep(0.01)
+        return None
 
     def is_listening(self):
         return self.line.startswith(b"listening 127.0.0.1:") and self.line.endswith(b"\n")
@@ -199,6 +274,10 @@ class Server:
         """A line of the process's status, in bytes, such as VmHWM."""
         with open(f"/proc/{self.process.pid}/status", encoding="ascii") as file:
             return next(1_024 * int(line.split()[1]) for line in file if line.startswith(name + ":"))
+
+    def descriptors(self):
+        """How many descriptors the process has."""
+        return len(os.listdir(f"/proc/{self.process.pid}/fd"))
 
     def processor_seconds(self):
         with open(f"/proc/{self.process.pid}/stat", encoding="ascii") as file:
@@ -225,6 +304,7 @@ class Connection:
     """A client. Whole replies are taken out of what came in."""
 
     def __init__(self, port, timeout=PATIENCE, receive_buffer=None):
+        expect(port is not None, "no server listens")
         self.socket = socket.socket()
         self.socket.settimeout(timeout)
         if receive_buffer:

@@ -1,20 +1,22 @@
 """Clients that don't behave, against `serve`, while a good client is served.
 
-Half frames and silence, urgent bytes, floods of pipelined requests, peers that don't read, as many connections as there are and more, resets
-within a reply, random bytes, and every session at its limits at once. The good client's slowest reply stays under a bound, the server
-doesn't end, what may be answered is the model's, and the memory of the process stays under the bound that its limits give.
+Half frames and silence, urgent bytes, broken frames with much before and behind them, floods of pipelined requests, peers that don't read,
+as many connections as there are and more, also all at once, resets within a reply, random bytes, and every session at its limits at once.
+The good client's slowest reply stays under a bound, the server doesn't end, what may be answered is the model's, and the memory of the
+process stays under the bound that its limits give.
 
 `quick` does each once and small.
 """
+import contextlib
+import errno
 import os
 import random
 import select
 import signal
 import socket
-import sys
 import time
 
-from client import Connection, Server, Tally, create, expect, folder, is_long
+from client import Connection, Deviation, Server, Tally, create, expect, folder, is_long, need, run_harness
 from good_client import KEY as GOOD_KEY, VALUE as GOOD_VALUE, GoodClient
 from model import (
     BROKEN_FRAME, Broken, INBOX_MAX, KEY_MAX, LARGEST_REPLY, MARKS_MAX, OK, OPEN_MAX, PONG, SESSIONS_MAX, Store, VALUE_MAX, WRITES_MAX,
@@ -127,6 +129,86 @@ def broken_frames(siege):
                 came = client.rest()
             expect(came == due, f"{data!r} in pieces of {size} was answered {came!r}")
     all_transactions_are_free(siege)
+
+
+MEGABYTE = 1_000_000
+SLOW_PIECE, PAUSE_OF_SLOW = 1 << 17, 0.0005
+
+
+def exchange(siege, data, waits_for_end, receive_buffer=None):
+    """All that comes for these bytes until the end. They are sent while it is read slowly, or before anything is read. A reset, and a send
+    that fails, are deviations."""
+    with siege.join(receive_buffer=receive_buffer) as client:
+        left, came, piece = memoryview(data), bytearray(), b"more"
+        client.socket.setblocking(False)
+        quiet = time.monotonic() + 4 * SLOWEST_REPLY
+        while piece or left:
+            may_read = piece and not (waits_for_end and left)
+            expect(time.monotonic() < quiet, f"nothing moves, with {len(left):,} bytes to be sent and {len(came):,} read")
+            ready, writable, _ = select.select([client.socket] * bool(may_read), [client.socket] * bool(left), [], 1.0)
+            waits_for_end &= bool(ready or writable)    # where nothing can be sent it reads
+            try:
+                if writable:
+                    left = left[client.socket.send(left[:1 << 16]):]
+                if ready:
+                    piece = client.socket.recv(SLOW_PIECE)
+                    came += piece
+                    time.sleep(PAUSE_OF_SLOW)
+            except OSError as found:
+                text = f"{type(found).__name__} behind {len(came):,} bytes that came, with {len(left):,} left to be sent"
+                raise Deviation(f"{text}; the last were {bytes(came[-20:])!r}") from None
+            if ready or writable:
+                quiet = time.monotonic() + 4 * SLOWEST_REPLY
+    return bytes(came)
+
+
+def expect_all(came, due):
+    expect(came == due, f"{len(came):,} bytes came, ending in {came[-20:]!r}, due are {len(due):,}, ending in {due[-20:]!r}")
+
+
+def broken_frame_behind_much(siege):
+    """Megabytes of requests, a broken frame, and much behind it: every reply comes, then the refusal, and the end, which is no reset."""
+    write, replies = frame("SET", "much", VALUE), pairs([(key, VALUE) for key in KEYS])
+    for megabytes, ranges, behind, receive_buffer in (
+            (siege.times(10, 25), 10, 100_000, 4_096), (1, 3, 0, 4_096), (1, 3, 10, 4_096), (1, 3, 5_000, 4_096), (1, 3, 100_000, None),
+            (1, 1, siege.times(2, 30) * MEGABYTE, 4_096)):
+        sets = megabytes * MEGABYTE // len(write)
+        requests = BEGIN + write * sets + LARGEST_RANGE * ranges + PING
+        came = exchange(siege, requests + b"*0" + b"x" * behind, False, receive_buffer)
+        expect_all(came, OK + OK * sets + replies * ranges + PONG + BROKEN_FRAME)
+    all_transactions_are_free(siege)
+
+
+def value_above_the_bound(siege):
+    """A value of a length above the bound, which is sent whole, before anything is read and while it is."""
+    for size in (VALUE_MAX + 1, 100_000, MEGABYTE, siege.times(5, 30) * MEGABYTE):
+        for reads_late in (False, True):
+            came = exchange(siege, BEGIN + frame("SET", "above", b"v" * size), reads_late)
+            expect_all(came, OK + BROKEN_FRAME)
+    all_transactions_are_free(siege)
+
+
+LINGER, LINGERING_MAX = 10.0, 64    # how long and how many connections behind a broken frame are kept, at most
+
+
+def held_behind_broken_frames(siege):
+    """Peers that hold on behind their broken frame: they take no place, few descriptors, and these not for long."""
+    time.sleep(0.2)    # those that left have been taken out
+    before = siege.server.descriptors()
+    clients = take_every_place(siege)
+    for client in clients:
+        client.send(BEGIN + b"*0")
+        came = client.rest()
+        expect(came == OK + BROKEN_FRAME, f"a broken frame was answered {came!r}")
+    all_transactions_are_free(siege)
+    time.sleep(0.2)
+    kept = siege.server.descriptors() - before
+    expect(kept <= LINGERING_MAX, f"{kept} descriptors of {len(clients)} are kept")
+    if siege.is_long:
+        time.sleep(LINGER + 2.0)
+        kept = siege.server.descriptors() - before
+        expect(kept <= 0, f"{kept} descriptors are kept for more than {LINGER:.0f} seconds")
+    close_all(clients)
 
 
 # Floods
@@ -242,6 +324,48 @@ def two_hundred_connections(siege):
     all_transactions_are_free(siege)
 
 
+BURST = 400
+
+
+def burst(siege):
+    """400 connections while the server is stopped: once it goes on, each is served or closed without a byte, soon."""
+    all_transactions_are_free(siege)
+    for _ in range(siege.times(1, 10)):
+        time.sleep(0.2)    # those that left have been taken out
+        siege.server.process.send_signal(signal.SIGSTOP)
+        clients = [socket.socket() for _ in range(BURST)]
+        try:
+            for client in clients:
+                client.setblocking(False)
+                expect(client.connect_ex(("127.0.0.1", siege.server.port)) in (0, errno.EINPROGRESS), "no connection can be made")
+            time.sleep(0.1)
+        finally:
+            siege.server.process.send_signal(signal.SIGCONT)
+        judge_burst(clients)
+
+
+def judge_burst(clients):
+    """Each asks as soon as it is connected; some are served and the others closed, within the time of the slowest reply."""
+    asking, waiting, answers, end = set(clients), set(clients), [], time.monotonic() + SLOWEST_REPLY
+    while waiting and time.monotonic() < end:
+        ready, writable, _ = select.select(list(waiting), list(asking), [], 0.1)
+        for client in writable:
+            asking.discard(client)
+            with contextlib.suppress(OSError):    # what is closed is told by the read
+                client.send(PING)
+        for client in ready:
+            waiting.discard(client)
+            asking.discard(client)
+            try:
+                answers.append(client.recv(100))
+            except ConnectionError:
+                answers.append(b"")
+    close_all(clients)
+    served = answers.count(PONG)
+    expect(not waiting, f"{len(waiting)} of {len(clients)} hang; {served} were served")
+    expect(served + answers.count(b"") == len(clients) and served == SESSIONS_MAX - 1, f"{served} of {len(clients)} were served")
+
+
 # Bytes that are no frames
 
 def random_request(chance):
@@ -354,8 +478,9 @@ def judge_memory(tally, peak, idle, commits):
 
 
 SCENES = (
-    half_a_frame, one_byte_at_a_time, urgent_bytes, broken_frames, flood_of_transactions, flood_before_reading, flood_of_commits,
-    never_reads, resets, two_hundred_connections, random_bytes, every_session_at_its_limits)
+    half_a_frame, one_byte_at_a_time, urgent_bytes, broken_frames, broken_frame_behind_much, value_above_the_bound,
+    held_behind_broken_frames, flood_of_transactions, flood_before_reading, flood_of_commits, never_reads, resets, two_hundred_connections,
+    burst, random_bytes, every_session_at_its_limits)
 
 
 def play(tally, siege, scene):
@@ -376,6 +501,7 @@ def play(tally, siege, scene):
 
 
 def main():
+    need()
     tally = Tally("hostile clients")
     with folder() as place:
         data = os.path.join(place, "data")
@@ -394,4 +520,4 @@ def main():
 
 
 if __name__ == "__main__":
-    sys.exit(main())
+    run_harness(main)

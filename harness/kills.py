@@ -9,11 +9,10 @@ killed is the process, not the machine: what it had written stays with the syste
 """
 import os
 import random
-import sys
 import threading
 import time
 
-from client import Connection, Server, Tally, check, create, expect, folder, is_long
+from client import Connection, Server, Tally, check, create, expect, folder, is_long, need, run_harness
 from model import OK, body_sectors, frame, payload, refusal
 
 WRITERS = 6
@@ -149,6 +148,7 @@ class Store:
 
 
 def main():
+    need()
     kills, chance = 100 if is_long() else 10, random.Random(2_008)
     tally, acknowledged, more, files, store = Tally("kill -9"), 0, 0, 0, None
     with folder() as place:
@@ -165,4 +165,4 @@ def main():
 
 
 if __name__ == "__main__":
-    sys.exit(main())
+    run_harness(main)

@@ -15,10 +15,9 @@ import json
 import os
 import select
 import subprocess
-import sys
 from collections import Counter
 
-from client import HERE, MEMORY, PATIENCE, Deviation, Refusals, Tally, expect, folder
+from client import HERE, MEMORY, PATIENCE, SHIM, Deviation, Refusals, Tally, expect, folder, need, run_harness
 from model import SECTOR, Store, log_image
 from rows import ROWS, request_of, shown
 
@@ -26,7 +25,7 @@ PROGRAM = os.environ.get("REFUSED_MEMORY") or os.path.join(HERE, "..", "crates",
 SECTORS = 64
 OUT_OF_MEMORY = b"refused_memory: out of memory\n"
 ROUNDS = 3
-CALLS_MAX = 10_000
+CALLS_MAX, ERRORS_MAX = 10_000, 10
 
 OPEN, REFUSED, ABSENT = "Open", "Refused", "Absent"
 
@@ -240,12 +239,13 @@ def one_run(level, row, n, stops, counts):
 
 def run_in_turn(tally, level, name, row, counts):
     """The example with the n-th allocation refused, for rising n until none was."""
+    at_first = tally.count()
     for n in range(1, CALLS_MAX):
         has_met, here = True, Counter()
         with tally.run(f"{level}, {name} at allocation {n}"):
             has_met = one_run(level, row, n, False, here)
         counts += here
-        if not has_met:
+        if not has_met or tally.count() - at_first >= ERRORS_MAX:
             return
         if here and not here.keys() & {"the lines", "an opening"}:
             with tally.run(f"{level}, {name} up to allocation {n}"):
@@ -258,7 +258,7 @@ def run_in_turn(tally, level, name, row, counts):
 BEFORE = (
     "1 BEGIN", "1 SET a 1", "1 SET b 22", "1 SET c 333", "1 COMMIT",
     "1 BEGIN", "1 SET own mine",
-    "2 BEGIN", "2 SET own mine", "2 DEL b", "2 GET a", "2 GET absent", "2 RANGE a c 10", '2 RANGE a "" 128')
+    "2 BEGIN", "2 SET own mine", "2 DEL b", "2 GET a", "2 GET absent", "2 RANGE a c 10", "2 RANGE a c 1", '2 RANGE a "" 128', '2 RANGE a "" 2')
 AGAIN = (
     "2 GET own", "2 GET b", "2 GET a", "2 GET absent", "2 RANGE a c 10", "2 RANGE a c 1", '2 RANGE a "" 128', '2 RANGE a "" 2',
     "2 RANGE c a 5", "2 RANGE b b 5", "2 PING", "2 BEGIN", '2 GET ""', "2 FOO")
@@ -317,8 +317,7 @@ def reads(tally, level):
 
 
 def main():
-    if not os.path.exists(PROGRAM):
-        raise SystemExit(f"memory_calls: there is no {PROGRAM}")
+    need(PROGRAM, SHIM)
     holds = True
     for level in RUNS:
         tally, counts = Tally(f"{level}, the n-th allocation refused"), Counter()
@@ -332,4 +331,4 @@ def main():
 
 
 if __name__ == "__main__":
-    sys.exit(main())
+    run_harness(main)

@@ -4,11 +4,12 @@ Each command is run with its n-th allocation refused, n = 1, 2, 3 .. until a run
 A run ends with status 3 and `ssikvd: out of memory`, after a beginning of the right output, or as if nothing had been refused.
 """
 import os
-import sys
 
-from client import ALL, MEMORY, OUT_OF_MEMORY, Refusals, Tally, check, create, expect, folder, run
+from client import ALL, MEMORY, OUT_OF_MEMORY, Refusals, Tally, check, create, expect, folder, need, run, run_harness
 from model import log_image, sectors_used
 from rows import ROWS, model_agrees, script_of
+
+CALLS_MAX, ERRORS_MAX = 10_000, 10
 
 
 class Counts:
@@ -29,26 +30,35 @@ class Counts:
         return True
 
 
+def one_run(counts, n, is_lasting, words, stdin, due, before, after):
+    """The command with its n-th allocation refused. Was there one?"""
+    with folder() as place:
+        refusals = Refusals(place)
+        refusals.of(MEMORY).fail(n, ALL if is_lasting else n)
+        if before:
+            before(place)
+        found = run(words(place), stdin, refusals.environment())
+        has_met = refusals.of(MEMORY).failed > 0
+        if has_met:
+            has_ended = counts.judge(found, due)
+        else:
+            expect(found == (0, due, b""), f"with no refusal: {found}")
+            has_ended = False
+        if after:
+            after(place, has_ended)
+        return has_met
+
+
 def refuse_in_turn(tally, counts, name, is_lasting, words, stdin, due, before=None, after=None):
-    """Runs the command with the n-th allocation refused, for each n until none was."""
-    n, met = 0, True
-    while met:
-        n += 1
-        with folder() as place, tally.run(f"{name} at allocation {n}"):
-            refusals = Refusals(place)
-            refusals.of(MEMORY).fail(n, ALL if is_lasting else n)
-            arguments = words(place)
-            if before:
-                before(place)
-            found = run(arguments, stdin, refusals.environment())
-            met = refusals.of(MEMORY).failed > 0
-            if met:
-                has_ended = counts.judge(found, due)
-            else:
-                expect(found == (0, due, b""), f"with no refusal: {found}")
-                has_ended = False
-            if after:
-                after(place, has_ended)
+    """Runs the command with the n-th allocation refused, for each n until none was, or until it was wrong too often."""
+    at_first = tally.count()
+    for n in range(1, CALLS_MAX):
+        has_met = True
+        with tally.run(f"{name} at allocation {n}"):
+            has_met = one_run(counts, n, is_lasting, words, stdin, due, before, after)
+        if not has_met or tally.count() - at_first >= ERRORS_MAX:
+            return
+    raise SystemExit(f"{name}: {CALLS_MAX} allocations are too many for it")
 
 
 def play(tally, counts, is_lasting):
@@ -98,6 +108,7 @@ def create_command(tally, counts, is_lasting):
 
 
 def main():
+    need()
     holds = True
     for is_lasting, what in ((False, "the n-th allocation refused"), (True, "the n-th and all later ones refused")):
         tally, counts = Tally(f"commands, {what}"), Counts()
@@ -109,4 +120,4 @@ def main():
 
 
 if __name__ == "__main__":
-    sys.exit(main())
+    run_harness(main)

@@ -4,9 +4,8 @@ A session reads keys and ranges, which marks them and makes its output large eno
 again: each reply is the model's, and none has asked for memory. What does need memory closes its connection, and no other.
 """
 import os
-import sys
 
-from client import MEMORY, Connection, Refusals, Server, Tally, create, expect, folder
+from client import MEMORY, Connection, Refusals, Server, Tally, create, expect, folder, need, run_harness
 from model import KEY_MAX, LARGEST_REPLY, Store, VALUE_MAX, frame
 
 SECTORS = 4_096
@@ -22,6 +21,8 @@ FIRST = [
     [b"GET", KEYS[1]],
     [b"RANGE", b"0", b"1", b"128"],
     [b"RANGE", b"001", b"", b"128"],
+    # A reply that reaches another limit asks for another mark.
+    [b"RANGE", b"001", b"", b"7"],
     [b"RANGE", b"own", b"owo", b"1"],
 ]
 
@@ -98,6 +99,7 @@ def starve(server, allocations, store, tally):
 
 
 def main():
+    need()
     tally, store = Tally("reads with all memory refused"), Store(SECTORS)
     with folder() as place:
         data = os.path.join(place, "data")
@@ -129,4 +131,4 @@ def main():
 
 
 if __name__ == "__main__":
-    sys.exit(main())
+    run_harness(main)

@@ -108,11 +108,17 @@ class Transaction:
     def __init__(self, begin, contents):
         self.begin, self.copy, self.written, self.marks = begin, dict(contents), set(), set()
 
-    def reads(self, key):
-        return any(lo == key if hi is None else lo <= key and (not hi or key < hi) for lo, hi in self.marks)
+    COVERS = {
+        "key": lambda key, lo, _: lo == key,
+        "range": lambda key, lo, hi: lo <= key and (not hi or key < hi),
+        "closed": lambda key, lo, last: lo <= key <= last,
+    }
 
-    def mark(self, mark):
-        """Is the mark there, or is there room for it? A mark is a key and None, or the bounds of a range."""
+    def reads(self, key):
+        return any(self.COVERS[kind](key, lo, end) for kind, lo, end in self.marks)
+
+    def mark(self, *mark):
+        """Is the mark there, or is there room for it? A mark is a key, a range, or a range that is closed at both ends."""
         if mark not in self.marks and len(self.marks) == MARKS_MAX:
             return False
         self.marks.add(mark)
@@ -132,8 +138,8 @@ class Record:
         return self.begin < other.number and other.begin < self.number
 
     def reads_from_before(self, other):
-        """Has it read a key that the other, which is concurrent, writes?"""
-        return self.is_concurrent(other) and any(self.reads(k) for k in other.written)
+        """Has it read a key that another one, which is concurrent, writes?"""
+        return other is not self and self.is_concurrent(other) and any(self.reads(k) for k in other.written)
 
 
 def apply(contents, writes):
@@ -190,7 +196,7 @@ class Store:
 
     @staticmethod
     def _get(t, key):
-        if key not in t.written and not t.mark((key, None)):
+        if key not in t.written and not t.mark("key", key, None):
             return refusal("FULL marks")
         return bulk(t.copy.get(key))
 
@@ -198,10 +204,10 @@ class Store:
     def _range(t, lo, hi, limit):
         if hi and hi <= lo:
             return pairs([])
-        if not t.mark((lo, hi)):
-            return refusal("FULL marks")
-        found = sorted((k, v) for k, v in t.copy.items() if lo <= k and (not hi or k < hi))
-        return pairs(found[:int(limit)])
+        found = sorted((k, v) for k, v in t.copy.items() if lo <= k and (not hi or k < hi))[:int(limit)]
+        # A reply that reached its limit says nothing of the keys behind its last.
+        marked = t.mark("closed", lo, found[-1][0]) if len(found) == int(limit) else t.mark("range", lo, hi)
+        return pairs(found) if marked else refusal("FULL marks")
 
     @staticmethod
     def _write(t, key, value=None):
@@ -214,6 +220,11 @@ class Store:
             t.copy[key] = value
         return OK
 
+    @staticmethod
+    def _is_dangerous(source, pivot, target):
+        """Is a pivot between these two, which may be one, dangerous? Where the target committed before it, and not after the source."""
+        return target.number < pivot.number and target.number <= source.number
+
     def _conflict(self, record):
         """The text of the conflict that committing this record would be, if it would be one."""
         overwritten = [k for r in self.records if r.number > record.begin for k in r.written if k in record.written]
@@ -221,8 +232,9 @@ class Store:
             return "CONFLICT overwritten " + min(overwritten).hex()
         history = self.records + [record]
         for pivot in [record] + self.records:
-            others = [r for r in history if r is not pivot]
-            if any(x.reads_from_before(pivot) for x in others) and any(pivot.reads_from_before(y) for y in others):
+            sources = [r for r in history if r.reads_from_before(pivot)]
+            targets = [r for r in history if pivot.reads_from_before(r)]
+            if any(self._is_dangerous(source, pivot, target) for source in sources for target in targets):
                 return "CONFLICT pivot self" if pivot is record else "CONFLICT pivot %d" % pivot.number
         return None
 
@@ -276,3 +288,70 @@ def log_image(log, sectors):
         body = len(content).to_bytes(4, "big") + place + digest + content
         out += b"\1".ljust(SECTOR, b"\0") + body.ljust(SECTOR * body_sectors(content), b"\0")
     return out.ljust(SECTOR * sectors, b"\0")
+
+
+class NotALog(Exception):
+    """What the device holds is no log."""
+
+
+class Damaged(Exception):
+    """The record of this index isn't the one that it should be."""
+
+
+def _entry(content, at):
+    """The write at this place of a payload, and the place behind it. Raises ValueError or IndexError where there is none."""
+    size, at = int.from_bytes(content[at:at + 2], "big"), at + 2
+    key, at = content[at:at + size], at + size
+    if not 1 <= len(key) == size <= KEY_MAX or content[at] > 1:
+        raise ValueError
+    if content[at] == 0:
+        return (key, None), at + 1
+    size, at = int.from_bytes(content[at + 1:at + 5], "big"), at + 5
+    value = content[at:at + size]
+    if len(value) != size or size > VALUE_MAX:
+        raise ValueError
+    return (key, value), at + size
+
+
+def writes_of(content):
+    """The writes of a payload. None where it has another form."""
+    count, at, writes = int.from_bytes(content[:4], "big"), 4, []
+    try:
+        for _ in range(count if count <= WRITES_MAX else 0):
+            write, at = _entry(content, at)
+            writes.append(write)
+    except (ValueError, IndexError):
+        return None
+    keys = [key for key, _ in writes]
+    return writes if writes and at == len(content) and keys == sorted(set(keys)) else None
+
+
+BODY_MAX = 545
+
+
+AT_FIRST = ((), 1, bytes(32))
+
+
+def read_log(sector, sectors, known=AT_FIRST):
+    """What the log of a device of so many sectors holds, of which `sector` gives each: the write sets, the place of the closed gate, and
+    the last digest. Of a beginning all of this may be known. Raises NotALog, or Damaged with an index."""
+    if sectors < 2 or sector(0) != b"SSIKVLG1".ljust(SECTOR, b"\0"):
+        raise NotALog
+    log, place, digest = list(known[0]), *known[1:]
+    while sector(place)[0] == 1:
+        if place + 2 >= sectors:
+            raise Damaged(len(log))
+        first = sector(place + 1)
+        size = int.from_bytes(first[:4], "big")
+        bodies = -(-(44 + size) // SECTOR)
+        if bodies > BODY_MAX or place + bodies + 1 >= sectors:
+            raise Damaged(len(log))
+        body = first + b"".join(sector(place + 2 + i) for i in range(bodies - 1))
+        index, content = len(log).to_bytes(8, "big"), body[44:44 + size]
+        digest = hashlib.sha256(digest + index + content).digest()
+        writes = writes_of(content)
+        if body[4:44] != index + digest or writes is None or any(body[44 + size:]):
+            raise Damaged(len(log))
+        log.append(writes)
+        place += bodies + 1
+    return log, place, digest

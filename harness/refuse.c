@@ -2,38 +2,49 @@
  *
  * Preloaded into a program. The file named by REFUSE_CONTROL is shared with whoever drives the test, who may read and write it at any
  * moment. It holds, for each kind of call, five numbers of 64 bits: how many calls were made, how many failed, the first and the last call
- * to fail, counted from 1, and the errno that they fail with, or 0 where they move one byte in place of all. Without that variable, and
+ * to fail, counted from 1, and the errno that they fail with, or 0 where they move one byte in place of all, or 2^32 where they move none
+ * and answer 0. Behind these stands how many bytes of memory are held: what was taken less what was freed. Without that variable, and
  * before the program's own code runs, all calls are passed on and none is counted.
  */
 #define _GNU_SOURCE
 #include <errno.h>
 #include <fcntl.h>
+#include <malloc.h>
 #include <stdint.h>
 #include <stdlib.h>
+#include <sys/epoll.h>
 #include <sys/mman.h>
 #include <sys/socket.h>
 #include <sys/syscall.h>
 #include <unistd.h>
 
-enum kind { MEMORY, DEVICE, RECEIVE, SEND, ACCEPT, KINDS };
+enum kind { MEMORY, DEVICE, RECEIVE, SEND, ACCEPT, POLL, KINDS };
+
+static const uint64_t NOTHING = (uint64_t)1 << 32;
 
 struct calls {
     uint64_t made, failed, first, last, error;
 };
 
-static volatile struct calls *control;
+struct control {
+    struct calls calls[KINDS];
+    int64_t held;
+};
+
+static volatile struct control *control;
 
 extern void *__libc_malloc(size_t size);
 extern void *__libc_calloc(size_t count, size_t size);
 extern void *__libc_realloc(void *block, size_t size);
 extern void *__libc_memalign(size_t alignment, size_t size);
+extern void __libc_free(void *block);
 
 __attribute__((constructor)) static void open_control(void) {
     const char *name = getenv("REFUSE_CONTROL");
     int file = name ? open(name, O_RDWR | O_CLOEXEC) : -1;
     if (file < 0)
         return;
-    void *shared = mmap(NULL, KINDS * sizeof(struct calls), PROT_READ | PROT_WRITE, MAP_SHARED, file, 0);
+    void *shared = mmap(NULL, sizeof(struct control), PROT_READ | PROT_WRITE, MAP_SHARED, file, 0);
     close(file);
     if (shared != MAP_FAILED)
         control = shared;
@@ -42,7 +53,7 @@ __attribute__((constructor)) static void open_control(void) {
 static int is_chosen(enum kind kind) {
     if (!control)
         return 0;
-    volatile struct calls *calls = &control[kind];
+    volatile struct calls *calls = &control->calls[kind];
     uint64_t call = ++calls->made;
     if (call < calls->first || call > calls->last)
         return 0;
@@ -55,40 +66,61 @@ static int is_chosen(enum kind kind) {
 static ssize_t allowed(enum kind kind, size_t size) {
     if (!is_chosen(kind))
         return (ssize_t)size;
+    if (control->calls[kind].error == NOTHING)
+        return 0;
     return errno ? -1 : size > 0;
 }
 
+/* The block, which is counted, if there is one. */
+static void *held(void *block) {
+    if (control && block)
+        control->held += (int64_t)malloc_usable_size(block);
+    return block;
+}
+
 void *malloc(size_t size) {
-    return is_chosen(MEMORY) ? NULL : __libc_malloc(size);
+    return is_chosen(MEMORY) ? NULL : held(__libc_malloc(size));
 }
 
 void *calloc(size_t count, size_t size) {
-    return is_chosen(MEMORY) ? NULL : __libc_calloc(count, size);
+    return is_chosen(MEMORY) ? NULL : held(__libc_calloc(count, size));
 }
 
 void *realloc(void *block, size_t size) {
-    return is_chosen(MEMORY) ? NULL : __libc_realloc(block, size);
+    if (is_chosen(MEMORY))
+        return NULL;
+    int64_t before = block ? (int64_t)malloc_usable_size(block) : 0;
+    void *found = __libc_realloc(block, size);
+    if (control && (found || size == 0))
+        control->held -= before;
+    return held(found);
+}
+
+void free(void *block) {
+    if (control && block)
+        control->held -= (int64_t)malloc_usable_size(block);
+    __libc_free(block);
 }
 
 void *aligned_alloc(size_t alignment, size_t size) {
-    return is_chosen(MEMORY) ? NULL : __libc_memalign(alignment, size);
+    return is_chosen(MEMORY) ? NULL : held(__libc_memalign(alignment, size));
 }
 
 int posix_memalign(void **block, size_t alignment, size_t size) {
     if (is_chosen(MEMORY))
         return ENOMEM;
-    *block = __libc_memalign(alignment, size);
+    *block = held(__libc_memalign(alignment, size));
     return *block ? 0 : ENOMEM;
 }
 
 ssize_t pread(int file, void *into, size_t size, off_t at) {
     ssize_t most = allowed(DEVICE, size);
-    return most < 0 ? -1 : syscall(SYS_pread64, file, into, (size_t)most, at);
+    return most <= 0 && size ? most : syscall(SYS_pread64, file, into, (size_t)most, at);
 }
 
 ssize_t pwrite(int file, const void *from, size_t size, off_t at) {
     ssize_t most = allowed(DEVICE, size);
-    return most < 0 ? -1 : syscall(SYS_pwrite64, file, from, (size_t)most, at);
+    return most <= 0 && size ? most : syscall(SYS_pwrite64, file, from, (size_t)most, at);
 }
 
 int fsync(int file) {
@@ -101,14 +133,18 @@ int fdatasync(int file) {
 
 ssize_t recv(int file, void *into, size_t size, int flags) {
     ssize_t most = allowed(RECEIVE, size);
-    return most < 0 ? -1 : syscall(SYS_recvfrom, file, into, (size_t)most, flags, NULL, NULL);
+    return most <= 0 && size ? most : syscall(SYS_recvfrom, file, into, (size_t)most, flags, NULL, NULL);
 }
 
 ssize_t send(int file, const void *from, size_t size, int flags) {
     ssize_t most = allowed(SEND, size);
-    return most < 0 ? -1 : syscall(SYS_sendto, file, from, (size_t)most, flags, NULL, 0);
+    return most <= 0 && size ? most : syscall(SYS_sendto, file, from, (size_t)most, flags, NULL, 0);
 }
 
 int accept4(int file, struct sockaddr *address, socklen_t *length, int flags) {
     return allowed(ACCEPT, 0) < 0 ? -1 : (int)syscall(SYS_accept4, file, address, length, flags);
+}
+
+int epoll_wait(int poll, struct epoll_event *events, int most, int timeout) {
+    return is_chosen(POLL) ? -1 : (int)syscall(SYS_epoll_wait, poll, events, most, timeout);
 }

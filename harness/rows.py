@@ -1,28 +1,27 @@
-"""Worked examples: each line is a session's label with a request, and the reply as `play` prints it."""
+"""Worked examples: each line is a session's label with a request, and the reply as `play` prints it. Those of the folder examples are read
+from there."""
+import os
+
 from model import Store
 
-FIRST_COMMITTER_WINS = [
-    ("1 BEGIN", "+OK"),
-    ("2 BEGIN", "+OK"),
-    ("1 SET k 1", "+OK"),
-    ("2 SET k 2", "+OK"),
-    ("1 COMMIT", ":1"),
-    ("2 COMMIT", "-CONFLICT overwritten 6b"),
-    ("2 GET k", "-ERR none"),
-]
+FOLDER = os.path.join(os.path.dirname(os.path.abspath(__file__)), "..", "examples")
+EXAMPLES = sorted(name.removesuffix(".play") for name in os.listdir(FOLDER) if name.endswith(".play"))
 
-WRITE_SKEW = [
-    ("1 BEGIN", "+OK"),
-    ("1 GET x", "$-1"),
-    ("1 GET y", "$-1"),
-    ("2 BEGIN", "+OK"),
-    ("2 GET x", "$-1"),
-    ("2 GET y", "$-1"),
-    ("1 SET x 1", "+OK"),
-    ("2 SET y 1", "+OK"),
-    ("1 COMMIT", ":1"),
-    ("2 COMMIT", "-CONFLICT pivot self"),
-]
+
+def example_files(name):
+    """What `play` reads of an example, and what it prints."""
+    content = []
+    for end in (".play", ".out"):
+        with open(os.path.join(FOLDER, name + end), "rb") as file:
+            content.append(file.read())
+    return tuple(content)
+
+
+def example(name):
+    """An example of the folder, line by line."""
+    script, due = (content.decode().splitlines() for content in example_files(name))
+    return [(line, reply.split(" ", 1)[1]) for line, reply in zip(script, due, strict=True)]
+
 
 READER_FINDS_A_COMMITTED_PIVOT = [
     ("1 BEGIN", "+OK"),
@@ -79,8 +78,8 @@ RANGE_OVER_OWN_WRITES = [
 ]
 
 ROWS = {
-    "first_committer_wins": FIRST_COMMITTER_WINS,
-    "write_skew": WRITE_SKEW,
+    "first_committer_wins": example("first_committer_wins"),
+    "write_skew": example("write_skew"),
     "reader_finds_a_committed_pivot": READER_FINDS_A_COMMITTED_PIVOT,
     "sixty_four_writes": SIXTY_FOUR_WRITES,
     "deleted_key": DELETED_KEY,

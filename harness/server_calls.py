@@ -4,7 +4,8 @@ A server is started with its n-th call of one kind failing, n = 1, 2, 3 .. until
 and syncs of the data file), reads and writes of sockets, accepts. Some calls move one byte in place of failing. Before it listens, memory
 and the device may end it with status 3. From then on it goes on, and
 
-- the connection that met a refusal of memory or a failing socket is closed, which aborts its transaction;
+- the connection that met a refusal of memory is closed, which aborts its transaction; so is, each time, the one whose socket failed, was
+  interrupted, or moved nothing;
 - the COMMIT in which the device failed is answered `-STORE fault`, and later ones `-STORE stopped`;
 - each other reply is the model's; a new session is served; and the data file is byte for byte the log of the commits that
   were answered a number or, after a fault of the device, opens with them and at most the one more.
@@ -14,18 +15,17 @@ and the device may end it with status 3. From then on it goes on, and
 import errno
 import os
 import select
-import sys
 from dataclasses import dataclass
 
 from client import (
-    ACCEPT, ALL, Connection, DEVICE, DEVICE_FAULT, MEMORY, OUT_OF_MEMORY, RECEIVE, Refusals, SEND, STORE_STOPPED, Server, Tally, check,
-    create, expect, folder, is_long)
+    ACCEPT, ALL, DEVICE, DEVICE_FAULT, MEMORY, NOTHING, OUT_OF_MEMORY, RECEIVE, SEND, STORE_STOPPED, Connection, Refusals, Server, Tally,
+    check, create, expect, folder, is_long, need, run_harness)
 from model import PONG, Store, apply, frame, log_image
 from rows import ROWS, request_of
 
 SECTORS = 512
 STEP_OF_QUICK = 7
-CALLS_MAX = 10_000
+CALLS_MAX, ERRORS_MAX = 10_000, 10
 WAIT = 0.5
 
 
@@ -41,6 +41,10 @@ class Failure:
     def stops_the_store(self):
         return self.kind == DEVICE and self.error == errno.EIO
 
+    def closes(self):
+        """Is the connection of such a call closed?"""
+        return self.kind in (RECEIVE, SEND) and self.error != 0
+
     def step(self):
         return 1 if is_long() or self.kind in (DEVICE, ACCEPT) else STEP_OF_QUICK
 
@@ -53,7 +57,11 @@ FAILURES = (
     Failure("the n-th call of the device interrupted, which is made up for", DEVICE, errno.EINTR),
     Failure("the n-th read of a socket failing", RECEIVE, errno.ECONNRESET),
     Failure("the n-th read of a socket moving one byte", RECEIVE, 0),
+    Failure("the n-th read of a socket interrupted", RECEIVE, errno.EINTR),
+    Failure("the n-th read of a socket giving none", RECEIVE, NOTHING),
     Failure("the n-th write of a socket failing", SEND, errno.EPIPE),
+    Failure("the n-th write of a socket interrupted", SEND, errno.EINTR),
+    Failure("the n-th write of a socket taking none", SEND, NOTHING),
     Failure("the n-th write of a socket moving one byte", SEND, 0),
     Failure("the n-th accept failing", ACCEPT, errno.ECONNABORTED),
 )
@@ -172,9 +180,11 @@ def one_run(row, n, failure, counts):
             clients = Clients(server, failure, calls)
             for line, _ in row:
                 clients.play(line)
-            has_met = calls.failed > 0
             calls.pass_on()
             clients.probe()
+            has_met = calls.failed > 0
+            closed = clients.closed if failure.closes() else calls.failed
+            expect(closed == calls.failed, f"{calls.failed} calls failed, and {closed} connections were closed")
             due = STORE_STOPPED if clients.store.is_stopped else b""
             expect(server.error_text() == due, f"it wrote {server.error_text()!r}")
             clients.close()
@@ -187,16 +197,18 @@ def one_run(row, n, failure, counts):
 
 def run_in_turn(tally, counts, name, row, failure):
     """The example with the n-th call failing, for rising n until none was."""
+    at_first = tally.count()
     for n in range(1, CALLS_MAX, failure.step()):
         has_met = True
         with tally.run(f"{name} at call {n}"):
             has_met = one_run(row, n, failure, counts)
-        if not has_met:
+        if not has_met or tally.count() - at_first >= ERRORS_MAX:
             return
     raise SystemExit(f"{name}: {CALLS_MAX} calls are too many for it")
 
 
 def main():
+    need()
     holds = True
     for failure in FAILURES:
         tally, counts = Tally(f"serve, {failure.name}"), Counts()
@@ -207,4 +219,4 @@ def main():
 
 
 if __name__ == "__main__":
-    sys.exit(main())
+    run_harness(main)

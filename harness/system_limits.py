@@ -10,10 +10,9 @@ is closed, sessions that need none are served, and once the old transaction ends
 import os
 import resource
 import select
-import sys
 import time
 
-from client import Connection, Server, Tally, create, expect, folder, is_long
+from client import Connection, Server, Tally, create, expect, folder, is_long, need, run_harness
 from model import KEY_MAX, MARKS_MAX, OK, PONG, frame
 
 DESCRIPTORS, CONNECTIONS = 24, 40
@@ -141,6 +140,7 @@ def scene(tally, place, name, play, limit):
 
 
 def main():
+    need()
     tally = Tally("limits of the system")
     with folder() as place:
         scene(tally, place, "few descriptors", few_descriptors, with_limit(resource.RLIMIT_NOFILE, DESCRIPTORS))
@@ -150,4 +150,4 @@ def main():
 
 
 if __name__ == "__main__":
-    sys.exit(main())
+    run_harness(main)

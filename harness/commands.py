@@ -1,0 +1,487 @@
+"""The commands as processes: each text and status, each bound of a number, and each fault, as they stand in this file.
+
+Also that a line leaves in one write, which a reader of a pipe sees as a whole: the writes on the output and the error output are written
+down by the library of trace.c, and a server's first line is read from a pipe, once, of 30 servers.
+
+`quick` leaves out the files and scripts that are large.
+"""
+import errno
+import os
+import socket
+import subprocess
+
+from client import (
+    PATIENCE, POLL, PROGRAM, SHIM, TRACER, Connection, Refusals, Server, Tally, check, create, expect, folder, free_port, is_long, need,
+    run, run_harness)
+from model import (
+    KEY_MAX, LARGEST_REPLY, OK, SECTOR, SESSIONS_MAX, Store, VALUE_MAX, WRITES_MAX, body_sectors, frame, log_image, payload, sectors_used)
+from rows import EXAMPLES, example_files, request_of, shown
+from tracing import Trace, printed
+
+MORE = "\nFor more information, try '--help'.\n"
+OF_PROGRAM = "\nUsage: ssikvd <COMMAND>\n"
+OF_CREATE = "\nUsage: ssikvd create --data <F> --sectors <N>\n"
+OF_SERVE = "\nUsage: ssikvd serve --data <F> --listen <A>\n"
+OF_CHECK = "\nUsage: ssikvd check --data <F>\n"
+OF_PLAY = "\nUsage: ssikvd play [OPTIONS]\n"
+OF_HELP = "  -h, --help         Print help\n"
+
+HELP = """An ordered store whose transactions are serializable
+""" + OF_PROGRAM + """
+Commands:
+  create  Makes a data file and formats it
+  serve   Serves a data file
+  check   Opens a data file and counts what it holds
+  play    Runs the lines of standard input over a device in memory
+  help    Print this message or the help of the given subcommand(s)
+
+Options:
+  -h, --help  Print help
+"""
+HELP_OF_CREATE = "Makes a data file and formats it\n" + OF_CREATE + """
+Options:
+      --data <F>     The file, which must not exist
+      --sectors <N>  How many sectors of 512 bytes, 2 to 4194304
+""" + OF_HELP
+
+HELPS = {
+    "help": HELP, "--help": HELP, "-h": HELP, "help create": HELP_OF_CREATE, "create --help": HELP_OF_CREATE, "create -h": HELP_OF_CREATE}
+
+
+def out_of_range(value, most):
+    return f"error: invalid value '{value}' for '--sectors <N>': {value} is not in 2..={most}\n" + MORE
+
+
+def no_number(value, why):
+    return f"error: invalid value '{value}' for '--sectors <N>': {why}\n" + MORE
+
+
+def unexpected(word, usage):
+    return f"error: unexpected argument '{word}' found\n" + usage + MORE
+
+
+def required(usage, *options):
+    return "error: the following required arguments were not provided:\n" + "".join(f"  {o}\n" for o in options) + usage + MORE
+
+
+REFUSED = {
+    "": "error: 'ssikvd' requires a subcommand but one was not provided\n  [subcommands: create, serve, check, play, help]\n"
+        + OF_PROGRAM + MORE,
+    "bogus": "error: unrecognized subcommand 'bogus'\n" + OF_PROGRAM + MORE,
+    "help bogus": "error: unrecognized subcommand 'bogus'\n" + OF_PROGRAM + MORE,
+    "Create": "error: unrecognized subcommand 'Create'\n\n  tip: a similar subcommand exists: 'create'\n" + OF_PROGRAM + MORE,
+    "--version": unexpected("--version", OF_PROGRAM),
+    "-V": unexpected("-V", OF_PROGRAM),
+    "create": required(OF_CREATE, "--data <F>", "--sectors <N>"),
+    "create --data DATA --sectors 0": out_of_range(0, 4_194_304),
+    "create --data DATA --sectors 1": out_of_range(1, 4_194_304),
+    "create --data DATA --sectors 4194305": out_of_range(4_194_305, 4_194_304),
+    "create --data DATA --sectors 18446744073709551615": out_of_range(2 ** 64 - 1, 4_194_304),
+    "create --data DATA --sectors 18446744073709551616": no_number(2 ** 64, "number too large to fit in target type"),
+    "create --data DATA --sectors 2x": no_number("2x", "invalid digit found in string"),
+    "create --data DATA --sectors 2.0": no_number("2.0", "invalid digit found in string"),
+    "create --data DATA --sectors 0x10": no_number("0x10", "invalid digit found in string"),
+    "create --data DATA --sectors=": no_number("", "cannot parse integer from empty string"),
+    "create --data DATA --sectors": "error: a value is required for '--sectors <N>' but none was supplied\n" + MORE,
+    "create --data DATA --sectors 2 --bogus": unexpected("--bogus", OF_CREATE),
+    "create --data DATA --data DATA --sectors 2": "error: the argument '--data <F>' cannot be used multiple times\n" + OF_CREATE + MORE,
+    "serve": required(OF_SERVE, "--data <F>", "--listen <A>"),
+    "check": required(OF_CHECK, "--data <F>"),
+    "check --data": "error: a value is required for '--data <F>' but none was supplied\n" + MORE,
+    "check --data DATA more": unexpected("more", OF_CHECK),
+    "play --sectors 1": out_of_range(1, 65_536),
+    "play --sectors 65537": out_of_range(65_537, 65_536),
+    "play --sectors -2": unexpected("-2", OF_PLAY),
+    "play more": unexpected("more", OF_PLAY),
+}
+NO_TEXT = ([b"\xff"], [b"check", b"--data", b"\xff\xfe"], [b"create", b"--data", b"a\xc3", b"--sectors", b"8"])
+
+
+def words_of(line, data):
+    return [data if word == "DATA" else word for word in line.split()]
+
+
+def expect_found(found, status, out="", err=""):
+    out, err = (text if isinstance(text, bytes) else text.encode() for text in (out, err))
+    ends = [(code, first[-300:], second[-300:]) for code, first, second in (found, (status, out, err))]
+    expect(found == (status, out, err), f"it ended with {ends[0]}, due is {ends[1]}")
+
+
+def command_lines(tally):
+    with folder() as place:
+        data = os.path.join(place, "data")
+        for line, text in HELPS.items():
+            with tally.run(line):
+                expect_found(run(words_of(line, data)), 0, text)
+        for line, text in REFUSED.items():
+            with tally.run(f"the words {line!r}"):
+                expect_found(run(words_of(line, data)), 1, "", text)
+        for words in NO_TEXT:
+            with tally.run(f"{words}"):
+                expect_found(run(words), 1, "", "error: invalid data\n")
+        with tally.run("what refused lines left behind"):
+            expect(os.listdir(place) == [], f"{os.listdir(place)}")
+
+
+# Data files
+
+def create_at_bounds(tally):
+    sizes = {"2": 2, "3": 3, "00002": 2, "+5": 5, "1000": 1_000, **({"4194304": 4_194_304} if is_long() else {})}
+    for text, sectors in sizes.items():
+        with folder() as place, tally.run(f"create of {text} sectors"):
+            data = os.path.join(place, "data")
+            if os.statvfs(place).f_bavail * os.statvfs(place).f_frsize < 3 * SECTOR * sectors:
+                print(f"  create of {text} sectors: not run, for want of room on the disk")
+                continue
+            expect_found(run(["create", "--data", data, "--sectors", text], seconds=300), 0)
+            with open(data, "rb") as file:
+                expect(os.path.getsize(data) == SECTOR * sectors, f"the file has {os.path.getsize(data)} bytes")
+                expect(file.read(SECTOR * min(sectors, 1_000)) == log_image([], min(sectors, 1_000)), "the file is no empty log")
+            expect_found(run(["check", "--data", data]), 0, f"records 0 keys 0 sectors 2 of {sectors}\n")
+
+
+LOG = [[(b"a", b"1"), (b"b", bytes(2_000))], [(b"a", None)]]
+IMAGE = log_image(LOG, 16)
+
+
+def with_byte(image, at, value):
+    return image[:at] + bytes([value]) + image[at + 1:]
+
+
+PLACE_OF_SECOND = SECTOR * (1 + body_sectors(payload(LOG[0])) + 1)
+FILES = {
+    "a log": (IMAGE, None),
+    "an empty log": (log_image([], 2), None),
+    "a full log": (log_image([[(b"a", b"1")]], 4), None),
+    "no byte": (b"", "not a log"),
+    "one sector": (IMAGE[:SECTOR], "not a log"),
+    "another head": (with_byte(IMAGE, 7, ord("2")), "not a log"),
+    "a head with a byte behind it": (with_byte(IMAGE, 511, 1), "not a log"),
+    "bytes of something else": (b"\x7fELF".ljust(16 * SECTOR, b"x"), "not a log"),
+    "513 bytes": (IMAGE[:SECTOR + 1], "file fault"),
+    "a byte too few": (IMAGE[:-1], "file fault"),
+    "a damaged length": (with_byte(IMAGE, 2 * SECTOR, 1), "damaged record 0"),
+    "a damaged index": (with_byte(IMAGE, 2 * SECTOR + 11, 1), "damaged record 0"),
+    "a damaged digest": (with_byte(IMAGE, 2 * SECTOR + 12, IMAGE[2 * SECTOR + 12] ^ 1), "damaged record 0"),
+    "a damaged payload": (with_byte(IMAGE, 2 * SECTOR + 60, IMAGE[2 * SECTOR + 60] ^ 1), "damaged record 0"),
+    "a byte behind a payload": (with_byte(IMAGE, PLACE_OF_SECOND - 1, 1), "damaged record 0"),
+    "a second record that is damaged": (with_byte(IMAGE, PLACE_OF_SECOND + SECTOR + 44, 9), "damaged record 1"),
+    "a gate too many": (with_byte(IMAGE, SECTOR * (sectors_used(LOG) - 1), 1), "damaged record 2"),
+    "a file cut behind a gate": (IMAGE[:2 * SECTOR], "damaged record 0"),
+}
+COUNTS = {"a log": (2, 1, LOG, 16), "an empty log": (0, 0, [], 2), "a full log": (1, 1, [[(b"a", b"1")]], 4)}
+
+
+def data_files(tally):
+    """`check` and `serve` of each file, which neither changes."""
+    for name, (image, fault) in FILES.items():
+        with folder() as place:
+            data = os.path.join(place, "data")
+            with open(data, "wb") as file:
+                file.write(image)
+            with tally.run(f"check of {name}"):
+                if fault:
+                    expect_found(run(["check", "--data", data]), 3, "", f"ssikvd: {fault}\n")
+                else:
+                    records, keys, log, sectors = COUNTS[name]
+                    line = f"records {records} keys {keys} sectors {sectors_used(log)} of {sectors}\n"
+                    expect_found(run(["check", "--data", data]), 0, line)
+            with tally.run(f"serve of {name}"):
+                if fault:
+                    expect_found(run(["serve", "--data", data, "--listen", "127.0.0.1:0"]), 3, "", f"ssikvd: {fault}\n")
+                else:
+                    with Server(data) as server:
+                        expect(server.is_listening(), f"no server: {server.error_text()!r}")
+            with tally.run(f"{name} behind it"), open(data, "rb") as file:
+                expect(file.read() == image, "the file was changed")
+
+
+def names(tally):
+    """Files that are none, and addresses that are none."""
+    with folder() as place, socket.socket() as other:
+        data, missing = os.path.join(place, "data"), os.path.join(place, "missing")
+        with open(data, "wb") as file:
+            file.write(IMAGE)
+        other.bind(("127.0.0.1", 0))
+        other.listen()
+        taken = "127.0.0.1:%d" % other.getsockname()[1]
+        for name in (missing, place, os.path.join(missing, "data"), os.path.join(data, "data"), ""):
+            with tally.run(f"check of {name!r}"):
+                expect_found(run(["check", "--data", name]), 3, "", "ssikvd: file fault\n")
+            with tally.run(f"serve of {name!r}"):
+                expect_found(run(["serve", "--data", name, "--listen", "127.0.0.1:0"]), 3, "", "ssikvd: file fault\n")
+        for name in (data, place, os.path.join(missing, "data"), ""):
+            with tally.run(f"create of {name!r}"):
+                expect_found(run(["create", "--data", name, "--sectors", "8"]), 3, "", "ssikvd: file fault\n")
+        for address in ("127.0.0.1", "localhost:7777", ":7777", "", "127.0.0.1:65536", "127.0.0.1:-1", "127.0.0:1", "::1:0", "1"):
+            for name in (data, missing):
+                with tally.run(f"serve at {address!r}"):
+                    expect_found(run(["serve", "--data", name, "--listen", address]), 3, "", "ssikvd: listen fault\n")
+        for address in (taken, "203.0.113.1:0"):
+            with tally.run(f"serve at {address}"):
+                expect_found(run(["serve", "--data", data, "--listen", address]), 3, "", "ssikvd: listen fault\n")
+        with tally.run("serve of a missing file at a taken address"):
+            expect_found(run(["serve", "--data", missing, "--listen", taken]), 3, "", "ssikvd: file fault\n")
+        with tally.run("the files behind it"), open(data, "rb") as file:
+            expect(os.listdir(place) == ["data"] and file.read() == IMAGE, "a file was changed or made")
+
+
+def file_in_folder(tally):
+    """A file named by itself, in the folder where the program runs."""
+    with folder() as place, tally.run("create of a name without a folder"):
+        words = [PROGRAM, "create", "--data", "data", "--sectors", "8"]
+        ran = subprocess.run(words, cwd=place, capture_output=True, timeout=PATIENCE)
+        expect_found((ran.returncode, ran.stdout, ran.stderr), 0)
+        expect(check(os.path.join(place, "data")) == (0, 0, 2, 8), "it is no empty log")
+
+
+# Output that fails
+
+def closed_pipe():
+    """The writing end of a pipe that nobody reads."""
+    reader, writer = os.pipe()
+    os.close(reader)
+    return writer
+
+
+def failing_output(tally):
+    """An output that takes nothing is a fault, but not of a command that prints nothing; one of errors changes no status."""
+    with folder() as place:
+        data = os.path.join(place, "data")
+        with open(data, "wb") as file:
+            file.write(IMAGE)
+        commands = ("help", "create --help", "check --data DATA", "serve --data DATA --listen 127.0.0.1:0", "play")
+        for line in commands:
+            for name, opened in (("a full device", lambda: os.open("/dev/full", os.O_WRONLY)), ("a closed pipe", closed_pipe)):
+                with tally.run(f"{line} into {name}"):
+                    found = run_into(words_of(line, data), opened(), subprocess.PIPE)
+                    expect(found == (3, None, b"ssikvd: file fault\n"), f"it ended with {found}")
+        for line, status in (("bogus", 1), ("check --data missing", 3), ("play", 2)):
+            with tally.run(f"{line} with its error output into a full device"):
+                found = run_into(words_of(line, data), subprocess.PIPE, os.open("/dev/full", os.O_WRONLY), b"bad\n")
+                expect(found == (status, b"", None), f"it ended with {found}")
+        with tally.run("create with its output into a full device"):
+            made = os.path.join(place, "made")
+            found = run_into(["create", "--data", made, "--sectors", "8"], os.open("/dev/full", os.O_WRONLY), subprocess.PIPE)
+            expect(found == (0, None, b"") and check(made) == (0, 0, 2, 8), f"it ended with {found}")
+        with tally.run("the data file behind it"), open(data, "rb") as file:
+            expect(file.read() == IMAGE, "the file was changed")
+
+
+def run_into(words, out, err, stdin=b"1 BEGIN\n"):
+    """A command whose output or error output is such a descriptor, which is closed here."""
+    try:
+        ran = subprocess.run([PROGRAM, *words], input=stdin, stdout=out, stderr=err, timeout=PATIENCE)
+    finally:
+        for descriptor in (out, err):
+            if descriptor >= 0:
+                os.close(descriptor)
+    return ran.returncode, ran.stdout, ran.stderr
+
+
+# Scripts
+
+BAD_LINES = (
+    b"\x00", b" 1 PING", b"1 PING ", b" ", b"01 PING", b"1000000 PING", b"-1 PING", b"+1 PING", b"1", b"PING", b"x PING", b"1 a b c d e",
+    b"1x PING", b"1\tPING", b"\xff PING", b"99999999999999999999 PING")
+LINES = {
+    b"": b"", b"\n": b"", b"\n\n\n": b"", b"1 PING": b"1 +PONG\n", b"1   PING\n": b"1 +PONG\n", b"0 PING\n": b"0 +PONG\n",
+    b"999999 PING\n": b"999999 +PONG\n", b"1 BEGIN\r\n": b"1 -ERR command\n", b"1 \xff\xfe\n": b"1 -ERR command\n",
+    b"1 PING\0\n": b"1 -ERR command\n", b'1 ""\n': b"1 -ERR command\n",
+    b'1 begin\n1 SET a ""\n1 GET a\n1 GET ""\n': b"1 +OK\n1 +OK\n1 $0 \n1 -ERR key\n",
+    b"1 a b c d\n": b"1 -ERR command\n", b"1 BEGIN\n\n1 BEGIN": b"1 +OK\n1 -ERR open\n",
+    b"1 SET k " + b"v" * (VALUE_MAX + 1) + b"\n2 PING\n": b"1 -ERR frame\n2 +PONG\n",
+    b"1 BEGIN\n1 SET " + b"k" * (KEY_MAX + 1) + b" v\n": b"1 +OK\n1 -ERR key\n"}
+
+
+def played(tally, name, script, sectors=4_096, words=()):
+    """A script, whose lines are right, prints what the model answers."""
+    store, due = Store(sectors), []
+    for line in script:
+        label, parts = request_of(line)
+        due.append(label.encode() + b" " + shown(store.request(label, parts)) + b"\n")
+    with tally.run(f"play of {name}"):
+        found = run(["play", *words], "".join(line + "\n" for line in script).encode(), seconds=120)
+        expect(found[0] == 0 and found[2] == b"", f"it ended with {found[0]}, {found[2]!r}")
+        lines = found[1].splitlines(keepends=True)
+        wrong = next((i for i, (a, b) in enumerate(zip(lines, due)) if a != b), min(len(lines), len(due)))
+        expect(lines == due, f"line {wrong + 1} of {len(due)}: {lines[wrong:wrong + 1]!r:.100}, due is {due[wrong:wrong + 1]!r:.100}")
+    return due
+
+
+def largest_pairs(label="1"):
+    for half in range(2):
+        yield f"{label} BEGIN"
+        for i in range(64 * half, 64 * half + 64):
+            yield f"{label} SET {i:03}{'k' * (KEY_MAX - 3)} {'v' * VALUE_MAX}"
+        yield f"{label} COMMIT"
+
+
+def filling(body):
+    """A transaction whose record has so many body sectors."""
+    count = max(1, min(WRITES_MAX, body // 8))
+    lines, left = ["1 BEGIN"], SECTOR * body - 44 - 4 - count * (2 + 2 + 1 + 4)
+    for i in range(count):
+        size = min(VALUE_MAX, left // (count - i))
+        left -= size
+        lines.append(f"1 SET {i:02} {'v' * size}")
+    return [*lines, "1 COMMIT"]
+
+
+def log_of_default_size():
+    """A script at whose end a log of 4,096 sectors is full: a record that leaves one sector is taken, a larger one isn't."""
+    script, place = [], 1
+    while place + 500 + 2 < 4_096:
+        script += filling(499)
+        place += 500
+    return [*script, *filling(4_096 - place - 1), *filling(4_096 - place - 2), *filling(1), "1 BEGIN", "1 COMMIT"]
+
+
+def scripts(tally):
+    for name in EXAMPLES:
+        script, due = example_files(name)
+        with tally.run(f"play of the example {name}"):
+            expect_found(run(["play"], script), 0, due)
+    for script, due in LINES.items():
+        with tally.run(f"play of {script[:40]!r}"):
+            expect_found(run(["play"], script), 0, due)
+    for line in BAD_LINES:
+        for before in (b"", b"\n\n", b"1 PING\n\n2 PING\n"):
+            with tally.run(f"play of {before + line!r}"):
+                number, pongs = before.count(b"\n") + 1, before.replace(b"\n\n", b"\n").strip(b"\n").replace(b"PING", b"+PONG")
+                for end in (b"", b"\n1 PING\n"):
+                    expect_found(run(["play"], before + line + end), 2, pongs + b"\n" * bool(pongs), f"line {number}: bad line\n")
+    crowd = b"".join(b"%d PING\n" % label for label in range(SESSIONS_MAX))
+    pongs = crowd.replace(b"PING", b"+PONG")
+    with tally.run("play of 128 labels"):
+        expect_found(run(["play"], crowd + b"7 PING\n"), 0, pongs + b"7 +PONG\n")
+    with tally.run("play of 129 labels"):
+        expect_found(run(["play"], crowd + b"\n128 PING\n7 PING\n"), 2, pongs, f"line {SESSIONS_MAX + 2}: crowded\n")
+    for sectors, last in ((2, "-FULL log"), (3, "-FULL log"), (4, ":1"), (65_536, ":1")):
+        with tally.run(f"play over {sectors} sectors"):
+            found = run(["play", "--sectors", str(sectors)], b"1 BEGIN\n1 SET a 1\n1 COMMIT\n")
+            expect_found(found, 0, f"1 +OK\n1 +OK\n1 {last}\n")
+    due = played(
+        tally, "the largest reply", [*largest_pairs(), "2 BEGIN", '2 RANGE 0 "" 128', f"2 GET 000{'k' * (KEY_MAX - 3)}", "2 COMMIT"])
+    with tally.run("the length of the largest reply"):
+        expect(len(due[-3]) == LARGEST_REPLY - 2 * 2 * 128 + 1, f"it has {len(due[-3])} bytes")
+    played(tally, "a log of 4,096 sectors up to its end", log_of_default_size())
+    short = ["1 BEGIN", "1 SET a 1", "2 PING", '1 RANGE a "" 5', "1 ABORT", "1 GET a"]
+    played(tally, "a long script", short * (100_000 if is_long() else 5_000))
+
+
+# Servers
+
+def servers(tally):
+    with folder() as place:
+        data = os.path.join(place, "data")
+        with open(data, "wb") as file:
+            file.write(IMAGE)
+        for host, text in (("127.0.0.1", "127.0.0.1"), ("0.0.0.0", "0.0.0.0"), ("[::1]", "[::1]")):
+            port = free_port()
+            with tally.run(f"serve at a port of {host}"), Server(data, listen=f"{host}:{port}") as server:
+                ended = server.status() if not server.line else None
+                if host == "[::1]" and ended == 3 and server.error_text() == b"ssikvd: listen fault\n":
+                    continue    # a machine without it
+                expect(server.line == f"listening {text}:{port}\n".encode(), f"it printed {server.line!r}")
+    full_log(tally)
+    refused_poll(tally)
+
+
+def full_log(tally):
+    """A server over a full log reads, commits what writes nothing, and refuses what writes."""
+    with folder() as place, tally.run("serve of a full log"):
+        data, log = os.path.join(place, "data"), [[(b"a", b"1")]]
+        image, store = log_image(log, 4), Store(4, log)
+        with open(data, "wb") as file:
+            file.write(image)
+        with Server(data) as server, Connection(server.port) as client:
+            for line in (
+                    "1 BEGIN", "1 GET a", "1 COMMIT", "1 BEGIN", "1 SET a 2", "1 GET a", "1 COMMIT", "1 COMMIT", "1 BEGIN", "1 DEL a",
+                    "1 COMMIT", "1 BEGIN", '1 RANGE a "" 5', "1 COMMIT"):
+                _, parts = request_of(line)
+                due, found = store.request("1", parts), client.ask(frame(*parts))
+                expect(found == due, f"{line} was answered {found!r}, due is {due!r}")
+        expect(server.line.startswith(b"listening "), f"it printed {server.line!r}")
+        with open(data, "rb") as file:
+            expect(file.read() == image, "the file was changed")
+
+
+def refused_poll(tally):
+    """A poll that a signal cuts short changes nothing; one that fails ends the server, with its text, and what was committed stands."""
+    with folder() as place, tally.run("serve with a poll that is refused"):
+        data, refusals = os.path.join(place, "data"), Refusals(place)
+        create(data, 8)
+        with Server(data, environment=refusals.environment()) as server, Connection(server.port) as client:
+            polls, lines = refusals.of(POLL), ("BEGIN", "SET a 1", "COMMIT")
+            polls.fail(polls.made + 2, polls.made + 20, errno.EINTR)
+            replies = [client.ask(frame(*line.split(" "))) for line in lines]
+            expect(replies == [b"+OK\r\n", b"+OK\r\n", b":1\r\n"], f"beside polls that were cut short it answered {replies}")
+            polls.fail_all(errno.EBADF)
+            client.send(frame("PING"))
+            found = server.status(), server.error_text()
+            expect(found == (3, b"ssikvd: poll fault\n"), f"it ended with {found}")
+        expect(check(data) == (1, 1, 4, 8), "the commit is not there")
+
+
+# Lines in one write
+
+LONGEST_LINE = 4_096
+
+
+def expect_lines(pieces, out, what):
+    """What was printed left in whole lines."""
+    expect(b"".join(pieces) == out, f"{what}: the writes are {pieces}, but {out!r} came")
+    lines = out.splitlines(keepends=True)
+    if not lines:
+        return
+    cut = [piece for piece in pieces if not piece.endswith(b"\n") and max(map(len, lines)) <= LONGEST_LINE]
+    text = f"{what}: {len(lines)} lines left in {len(pieces)} writes, one of which is {(cut or pieces)[0][-60:]!r}"
+    expect(not cut and len(pieces) <= len(lines), text)
+
+
+def whole_lines(tally):
+    """Each line that the program prints leaves in one write."""
+    script = b'1 BEGIN\n1 SET a 1\n2 PING\n1 GET a\n1 RANGE a "" 5\n1 COMMIT\n1 GET a\n'
+    with folder() as place:
+        data = os.path.join(place, "data")
+        with open(data, "wb") as file:
+            file.write(IMAGE)
+        crowd = b"".join(b"%d PING\n" % label for label in range(SESSIONS_MAX + 1))
+        lines = ["help", "create --help", "check --data DATA", "check --data missing", "bogus", "create --data DATA --sectors 1",
+                 "serve --data DATA --listen 1"]
+        runs = [*((line, b"") for line in lines), *(("play", stdin) for stdin in (script, script + b"bad\n", crowd))]
+        for number, (line, stdin) in enumerate(runs):
+            trace = Trace(place, f"trace{number}")
+            with tally.run(f"the writes of {line}, {len(stdin)} bytes of input"):
+                _, out, err = run(words_of(line, data), stdin, trace.environment())
+                calls = trace.calls()
+                expect_lines(printed(calls, 1), out, "output")
+                expect_lines(printed(calls, 2), err, "error output")
+        trace = Trace(place, "serve")
+        with tally.run("the writes of serve"), Server(data, trace.environment()) as server:
+            expect(server.is_listening(), f"no server: {server.error_text()!r}")
+            with Connection(server.port) as client:
+                expect(client.ask(frame("BEGIN")) == OK, "BEGIN was refused")
+            expect_lines(printed(trace.calls(), 1), server.line, "output")
+        for again in range(30):
+            with tally.run(f"the pipe of serve, {again}"), Server(data) as server:
+                expect(server.is_listening(), f"no server: {server.error_text()!r}")
+                expect(len(server.pieces) == 1, f"its first line came in {len(server.pieces)} pieces")
+
+
+def main():
+    need(PROGRAM, SHIM, TRACER)
+    holds = True
+    for name, parts in (
+            ("command lines", [command_lines]), ("data files and addresses", [create_at_bounds, data_files, names, file_in_folder]),
+            ("output that fails", [failing_output]), ("scripts", [scripts]), ("servers", [servers]), ("lines in one write", [whole_lines])):
+        tally = Tally(name)
+        for part in parts:
+            part(tally)
+        holds &= tally.end()
+    return 0 if holds else 1
+
+
+if __name__ == "__main__":
+    run_harness(main)

@@ -1,0 +1,120 @@
+"""The model against all worked rows, and then random scripts of a few sessions over a few keys, by `play` and by the plain engine: each line
+is compared with the model.
+
+A script is made from its number alone, so one that deviates is found again by its number.
+"""
+import os
+import random
+import re
+import subprocess
+import sys
+
+from client import HERE, PROGRAM, Deviation, Tally
+from model import Store
+from rows import request_of, shown
+
+PLAIN_PLAY = os.environ.get("PLAIN_PLAY") or os.path.join(HERE, "..", "crates", "plain_play", "out", "plain_play")
+SCRIPTS = {"quick": range(300), "long": range(300, 12_300)}
+EMPTY = '""'
+WORKED = os.path.join(HERE, "..", "crates", "rows", "src", "worked.rt")
+ROW = re.compile(r"pub static (\w+): \[(?:Line|Counted); \d+\] = \[(.*?)\n\];", re.DOTALL)
+LINE = re.compile(r'(?:\((\d+), (\d+), )?\("((?:[^"\\]|\\.)*)", "((?:[^"\\]|\\.)*)"\)')
+LOG_FULL_SECTORS = 4
+
+
+def request(chance, keys, ranges):
+    """A request within a transaction, of which this share are ranges."""
+    kind, key, other = chance.random(), chance.choice(keys), chance.choice(keys)
+    rest = 1 - ranges
+    if kind < 0.67 * rest:
+        return f"GET {key}"
+    if kind < 0.92 * rest:
+        return f"SET {key} {chance.randrange(10)}"
+    if kind < rest:
+        return f"DEL {key}"
+    low, high = sorted([key, other])
+    return f"RANGE {low} {chance.choice([high, EMPTY])} {chance.randrange(1, 6)}"
+
+
+def script_of(number):
+    """The lines of the script of this number: each session begins, asks some requests, and mostly commits. Half of the scripts have many ranges."""
+    chance = random.Random(number)
+    sessions, length = chance.randrange(3, 9), chance.randrange(10, 120)
+    keys = [chr(ord("a") + i) for i in range(chance.randrange(3, 11))]
+    ranges = 0.5 if number % 2 else 0.1
+    is_open, lines = set(), []
+    for _ in range(length):
+        session = chance.randrange(1, sessions + 1)
+        asked = request(chance, keys, ranges)
+        if session not in is_open:
+            is_open.add(session)
+            asked = "BEGIN"
+        elif chance.randrange(6) == 0:
+            is_open.remove(session)
+            asked = "ABORT" if chance.randrange(12) == 0 else "COMMIT"
+        lines.append(f"{session} {asked}")
+    return lines
+
+
+def worked_rows():
+    """The worked rows of the tests: their names, and their lines with the replies. A line that counts is one line for each number."""
+    with open(WORKED, encoding="utf-8") as source:
+        for name, text in ROW.findall(source.read()):
+            lines = []
+            for first, end, asked, due in LINE.findall(text):
+                numbers = range(int(first), int(end)) if end else range(1)
+                lines += [(asked.replace('\\"', '"').replace("#", str(number)), due) for number in numbers]
+            yield name, lines
+
+
+def expect_row(name, lines):
+    """The model answers a row as it is worked."""
+    store = Store(LOG_FULL_SECTORS) if name == "LOG_FULL" else Store()
+    for line, due in lines:
+        got = shown(store.request(*request_of(line), fails=name == "DEVICE_FAULT")).decode()
+        if got != due:
+            raise Deviation(f"the model answers {line}: {got}, not {due}")
+
+
+def by_model(lines):
+    """What the model answers to the lines, as `play` prints it."""
+    store = Store()
+    return [f"{line.split(' ')[0]} {shown(store.request(*request_of(line))).decode()}" for line in lines]
+
+
+def by_program(words, lines):
+    """What a program prints for the lines."""
+    done = subprocess.run(words, input="".join(line + "\n" for line in lines), capture_output=True, text=True, timeout=120)
+    if done.returncode != 0:
+        raise Deviation(f"status {done.returncode} {done.stderr.strip()}")
+    return done.stdout.splitlines()
+
+
+def expect_alike(lines, due, printed):
+    """Each line is answered as is due."""
+    if len(printed) != len(due):
+        raise Deviation(f"{len(printed)} answers to {len(due)} lines")
+    for place, (line, wanted, got) in enumerate(zip(lines, due, printed), 1):
+        if wanted != got:
+            raise Deviation(f"line {place}, {line}: {got}, not {wanted}")
+
+
+def main(form):
+    tally, commits, pivots = Tally(f"random_scripts {form}"), 0, 0
+    programs = {"play": [PROGRAM, "play"], "plain engine": [PLAIN_PLAY]}
+    for name, lines in worked_rows():
+        with tally.run(f"row {name}"):
+            expect_row(name, lines)
+    for number in SCRIPTS[form]:
+        lines = script_of(number)
+        due = by_model(lines)
+        commits += sum(" :" in line for line in due)
+        pivots += sum("CONFLICT pivot" in line for line in due)
+        for name, words in programs.items():
+            with tally.run(f"script {number} by the {name}"):
+                expect_alike(lines, due, by_program(words, lines))
+    return tally.end(f"; {commits} commits, {pivots} refused for a pivot")
+
+
+if __name__ == "__main__":
+    sys.exit(0 if main(sys.argv[1] if len(sys.argv) > 1 else "quick") else 1)

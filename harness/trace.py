@@ -1,0 +1,394 @@
+"""The order of the system's calls, and what a crash between any two of them leaves.
+
+A library that is preloaded writes down what the program does to the data file and its directory, and what it sends. `create` must write
+zeros, sync file and directory, and format; an opening syncs once, then reads, and writes nothing; a COMMIT that writes makes the calls of
+docs/LOG_FORMAT.md and no other, and its reply is sent behind them; all other requests make none.
+
+From the calls the file is built up again. Behind each call a crash may leave each sector that was written since the last sync, and no
+other, with any bytes. Of these images are taken: all written, none, each one alone, all but one, and one with zeros or ones. A reader of
+the log's format, in plain Python, must find in each a beginning of the commits with every one that was answered.
+
+That the two can fail is shown each time: with a library that answers for syncs that it doesn't make, and by calls that are dropped or moved
+in what was written down. `long` plays more and larger transactions.
+"""
+import os
+import random
+
+from client import PROGRAM, TRACER, Connection, Deviation, Server, Tally, expect, folder, is_long, need, run, run_harness
+from model import (
+    AT_FIRST, KEY_MAX, PONG, SECTOR, VALUE_MAX, WRITES_MAX, Damaged, NotALog, Store, body_sectors, frame, log_image, payload, read_log)
+from tracing import CLOSE, OPEN, READ_AT, REMOVE, SEND, SYNC, SYNC_DATA, WRITE, WRITE_AT, Trace
+
+SECTORS_OF_CREATE = 40
+ZEROS, ONES = bytes(SECTOR), b"\1" * SECTOR
+HEAD, CLOSED_GATE, OPEN_GATE = b"SSIKVLG1".ljust(SECTOR, b"\0"), ZEROS, b"\1".ljust(SECTOR, b"\0")
+MOST_SINGLES = 24    # of more sectors that are unsettled, so many are taken alone
+
+
+# What is done
+
+def small_steps():
+    """Transactions of several sessions: a conflict, one that writes nothing, deletions, values of several sectors, and a full log."""
+    steps = ["1 BEGIN", "2 BEGIN", "1 SET a 1", "1 COMMIT", "2 SET a 2", "2 COMMIT", "1 BEGIN", "1 GET a", "1 COMMIT", "1 PING"]
+    steps = [(line.split()[0], [word.encode() for word in line.split()[1:]]) for line in steps]
+    for writes in ([(b"b", b"v" * 2_000), (b"a", None)], [(b"%02d" % i, b"w") for i in range(WRITES_MAX)], [(b"c", b"w" * VALUE_MAX)],
+                   [(b"d", b"")], [(b"e", b"v" * 463)], [(b"e", b"v" * 464)], [(b"full", b"v" * VALUE_MAX)], [(b"f", b"1")]):
+        steps += transaction("3", writes)
+    return steps
+
+
+def random_steps(chance, count):
+    """Transactions of random writes."""
+    for _ in range(count):
+        keys = {b"%02d" % chance.randrange(90) for _ in range(chance.choice((1, 1, 2, 5, WRITES_MAX)))}
+        yield from transaction("1", [(key, chance.choice((None, b"", b"x" * chance.randrange(2_000)))) for key in sorted(keys)])
+
+
+def transaction(label, writes):
+    asked = [[b"DEL", key] if value is None else [b"SET", key, value] for key, value in writes]
+    return [(label, parts) for parts in ([b"BEGIN"], *asked, [b"COMMIT"])]
+
+
+LARGEST = [(b"%02d" % i + b"k" * (KEY_MAX - 2), b"v" * VALUE_MAX) for i in range(WRITES_MAX)]
+
+
+class Answered:
+    """What a server was asked: each reply, and the writes that it committed, or None."""
+
+    def __init__(self, log, sectors):
+        self.before, self.sectors, self.store, self.replies = list(log), sectors, Store(sectors, log), []
+
+    def ask(self, connections, label, parts):
+        count = len(self.store.log)
+        due = self.store.request(label, parts)
+        found = connections[label].ask(frame(*parts))
+        expect(found == due, f"{label} {parts[:2]!r} was answered {found!r}, due is {due!r}")
+        self.replies.append((due, self.store.log[-1] if len(self.store.log) > count else None))
+
+
+def serve(data, trace, log, sectors, steps):
+    """Serves these requests, one behind the other, and kills the server."""
+    answered = Answered(log, sectors)
+    with Server(data, trace.environment()) as server:
+        expect(server.is_listening(), f"no server: {server.error_text()!r}")
+        connections = {label: Connection(server.port) for label in {label for label, _ in steps}}
+        for label, parts in steps:
+            answered.ask(connections, label, parts)
+        with Connection(server.port) as last:    # what was sent before its reply has been written down
+            expect(last.ask(frame("PING")) == PONG, "PING was refused")
+        server.process.kill()
+        server.process.wait()
+        for connection in connections.values():
+            connection.close()
+    return answered
+
+
+# The calls on the data file
+
+def own_calls(calls, data):
+    """The calls on the file, those on its directory behind its opening, and what is sent."""
+    files, found = {}, []
+    for call in calls:
+        if call.kind == OPEN and call.result >= 0:
+            files[call.result] = os.path.realpath(call.data.decode())
+        name = files.get(call.file if call.kind != OPEN else call.result)
+        if name == data or call.kind == SEND or call.kind == REMOVE and os.path.realpath(call.data.decode()) == data:
+            found.append(call)
+        elif name == os.path.dirname(data) and call.kind in (SYNC, SYNC_DATA):
+            found.append(call)
+        if call.kind == CLOSE:
+            files.pop(call.file, None)
+    expect(any(call.kind == OPEN for call in found), "the data file isn't opened by a call that is seen")
+    return found
+
+
+def sector_writes(call):
+    """The sectors that a call writes, each with its bytes."""
+    whole = call.at % SECTOR == 0 and len(call.data) % SECTOR == 0 and call.result == len(call.data)
+    expect(call.kind == WRITE_AT and whole, f"a call that writes no whole sectors: {call}")
+    at = call.at // SECTOR
+    return [(at + i, call.data[SECTOR * i:SECTOR * (i + 1)]) for i in range(len(call.data) // SECTOR)]
+
+
+def steps_of(calls):
+    """What these calls do to the file: sectors that are written, and syncs."""
+    steps = []
+    for call in calls:
+        if call.kind in (SYNC, SYNC_DATA):
+            expect(call.result == 0, "a sync failed")
+            steps.append("sync")
+        else:
+            steps += sector_writes(call)
+    return steps
+
+
+def shown(steps):
+    return ", ".join(step if step == "sync" else f"{step[0]}: {step[1][:4].hex()}.." for step in steps) or "nothing"
+
+
+def expect_steps(found, due, what):
+    expect(found == due, f"{what}: it does {shown(found)[:200]}, due is {shown(due)[:200]}")
+
+
+def due_steps(log, writes):
+    """The steps of a COMMIT of these writes behind this log."""
+    image = log_image([*log, writes], place_behind([*log, writes]) + 1)
+    at, end = place_behind(log), place_behind([*log, writes])
+    body = [(i, image[SECTOR * i:SECTOR * (i + 1)]) for i in range(at + 1, end)]
+    return [*body, (end, CLOSED_GATE), "sync", (at, OPEN_GATE), "sync"]
+
+
+def place_behind(log):
+    """The place of the closed gate."""
+    return 1 + sum(body_sectors(payload(writes)) + 1 for writes in log)
+
+
+# Their order
+
+def judge_create(calls, data):
+    """Zeros all over, both synced, and the format."""
+    own = own_calls(calls, data)
+    expect(own[0].kind == OPEN and own[0].at & os.O_EXCL, "the file isn't opened as a new one")
+    writes = [call for call in own if call.kind == WRITE]
+    content = b"".join(call.data for call in writes)
+    expect(content == bytes(SECTOR * SECTORS_OF_CREATE), f"{len(content)} bytes are written, or not all are zeros")
+    rest = [call for call in own[1:] if call.kind not in (WRITE, CLOSE)]
+    expect(own[1:len(writes) + 1] == writes, "there is another call between those that write zeros")
+    syncs = [call.file for call in rest[:2] if call.kind == SYNC and call.result == 0]
+    expect(len(syncs) == 2 and syncs[0] == own[0].result != syncs[1], f"behind the zeros file and directory aren't synced: {rest[:2]}")
+    expect_steps(steps_of(rest[2:]), [(1, CLOSED_GATE), "sync", (0, HEAD), "sync"], "the format")
+    return rest[2:]
+
+
+def judge_order(calls, data, answered):
+    """An opening, and then the calls of each request before its reply."""
+    own = [call for call in own_calls(calls, data) if call.kind != CLOSE]
+    expect(own[0].kind == OPEN and not own[0].at & (os.O_CREAT | os.O_TRUNC), "the file is opened as a new one")
+    reads = [i for i, call in enumerate(own) if call.kind == READ_AT]
+    at_front = reads == list(range(2, 2 + len(reads)))
+    expect(reads and own[1].kind in (SYNC, SYNC_DATA) and at_front, "an opening isn't one sync and then reads")
+    log, since, sent, replies = list(answered.before), [], b"", list(answered.replies)
+    for call in own[2 + len(reads):]:
+        if call.kind != SEND:
+            since.append(call)
+            continue
+        if not replies:
+            expect(call.data == PONG and not since, "more is done than was asked for")
+            continue
+        if not sent:
+            writes = replies[0][1]
+            expect_steps(steps_of(since), due_steps(log, writes) if writes else [], f"before the reply {replies[0][0][:20]!r}")
+            log, since = log + [writes] * bool(writes), []
+        expect(not since, "calls between the pieces of a reply")
+        sent += call.data
+        expect(replies[0][0].startswith(sent), f"{sent[:20]!r} is sent, due is {replies[0][0][:20]!r}")
+        if sent == replies[0][0]:
+            sent = b""
+            replies.pop(0)
+    expect(not replies and not since and not sent, f"{len(replies)} replies are not sent")
+
+
+# Crashes
+
+class Crashes:
+    """The file as the calls leave it, and all that is found in the images of crashes."""
+
+    def __init__(self, image, sectors):
+        self.settled = {i: image[SECTOR * i:SECTOR * (i + 1)] for i in range(len(image) // SECTOR)}
+        self.sectors, self.unsettled, self.known, self.images = sectors, {}, AT_FIRST, 0
+
+    def apply(self, call):
+        if call.kind in (SYNC, SYNC_DATA):
+            self.settled.update(self.unsettled)
+            self.unsettled = {}
+            self._learn()
+        elif call.kind == WRITE_AT:
+            self.unsettled.update(sector_writes(call))
+        else:
+            expect(call.kind in (OPEN, READ_AT, CLOSE), f"a call that no log needs: {call}")
+
+    def _learn(self):
+        """What is settled of the log is not read again."""
+        try:
+            self.known = read_log(lambda at: self.settled.get(at, ZEROS), self.sectors, self.known)
+        except (NotALog, Damaged):
+            self.known = AT_FIRST
+
+    def _images(self):
+        """What a crash now may leave of the unsettled sectors: all as they are in one of two forms, but for one."""
+        new, old = self.unsettled, {at: self.settled.get(at, ZEROS) for at in self.unsettled}
+        places, few = list(new), MOST_SINGLES // 2
+        yield new, None, b""
+        yield old, None, b""
+        for at in places[:few] + places[max(few, len(places) - few):]:
+            yield old, at, new[at]
+            yield new, at, old[at]
+            for fill in (ZEROS, ONES):
+                yield old, at, fill
+                yield new, at, fill
+
+    def judge(self, allowed):
+        """Each image is read as one of these logs, or not as a log where None is among them."""
+        known = self.known if all(at >= self.known[1] for at in self.unsettled) else AT_FIRST
+        for form, place, content in self._images():
+            self.images += 1
+            try:
+                found = read_log(
+                    lambda at: content if at == place else form[at] if at in form else self.settled.get(at, ZEROS), self.sectors, known)[0]
+            except NotALog:
+                found = None
+            except Damaged as damage:
+                raise Deviation(f"a crash leaves a damaged record {damage}") from None
+            if found not in allowed:
+                count = "no log" if found is None else f"{len(found)} records"
+                raise Deviation(f"a crash leaves {count}, allowed are {[log and len(log) for log in allowed]}")
+
+
+def judge_crashes(calls, data, answered):
+    """Behind each call a crash leaves the commits that were answered, or these and the one that was asked for."""
+    crashes = Crashes(log_image(answered.before, answered.sectors), answered.sectors)
+    replies = [(len(due), writes) for due, writes in answered.replies]
+    log, left, at = list(answered.before), 0, -1
+    crashes.judge([log])
+    for call in own_calls(calls, data):
+        if call.kind == SEND and left == 0 and at + 1 == len(replies):
+            continue    # the reply behind all
+        if call.kind == SEND:
+            if left == 0:    # the reply of the next request begins
+                at += 1
+                left, writes = replies[at]
+                log += [writes] * bool(writes)
+            left -= len(call.data)
+        else:
+            crashes.apply(call)
+        asked = replies[at + 1][1] if at + 1 < len(replies) else None
+        crashes.judge([log, log + [asked]] if asked else [log])
+    return crashes.images
+
+
+def judge_crashes_of_create(calls):
+    """Once the zeros and the name are settled a crash leaves no log or an empty one, and the second once all is done."""
+    crashes = Crashes(bytes(SECTOR * SECTORS_OF_CREATE), SECTORS_OF_CREATE)
+    crashes.judge([None])
+    for call in calls:
+        crashes.apply(call)
+        crashes.judge([None, []])
+    crashes.judge([[]])
+    return crashes.images
+
+
+# That they can fail
+
+def is_reported(judge, *arguments):
+    try:
+        judge(*arguments)
+    except Deviation:
+        return True
+    return False
+
+
+def behind_commits(calls, data, answered):
+    """Of each COMMIT that wrote: the places of its calls and of its reply's first piece."""
+    found, since, sent, replies = [], [], 0, list(answered.replies)
+    places = {id(call): place for place, call in enumerate(calls)}
+    for call in own_calls(calls, data):
+        if not replies:
+            break
+        place = places[id(call)]
+        if call.kind == SEND:
+            if sent == 0 and replies[0][1]:
+                found.append((since, place))
+            sent, since = sent + len(call.data), []
+            if sent == len(replies[0][0]):
+                sent = 0
+                replies.pop(0)
+        elif call.kind in (WRITE_AT, SYNC, SYNC_DATA):
+            since.append(place)
+    return found
+
+
+def changed(calls, data, answered):
+    """Calls of another order: a sync is dropped, a write is dropped, a reply is sent before the last sync, the gate opens first."""
+    for places, reply in behind_commits(calls, data, answered):
+        syncs = [i for i in places if calls[i].kind != WRITE_AT]
+        for i in syncs:
+            yield "a sync that isn't made", calls[:i] + calls[i + 1:]
+        first, last = places[0], places[-1]
+        yield "a body that isn't written", calls[:first] + calls[first + 1:]
+        yield "a reply before the last sync", calls[:last] + [calls[reply]] + calls[last:reply] + calls[reply + 1:]
+        gate = last - 1
+        yield "a gate that opens before the body", calls[:first] + [calls[gate]] + calls[first:gate] + calls[gate + 1:]
+
+
+def show_that_they_fail(tally, calls, data, answered):
+    for what, others in changed(calls, data, answered):
+        for judge in (judge_order, judge_crashes):
+            with tally.run(f"{what}, which {judge.__name__.replace('_', ' ')} is to report"):
+                expect(is_reported(judge, others, data, answered), f"{what} isn't reported by {judge.__name__.replace('_', ' ')}")
+
+
+# All of it
+
+def make(tally, place, data):
+    """Creates the file. How many images of crashes were there?"""
+    trace, images = Trace(place, "create"), 0
+    with tally.run("create"):
+        found = run(["create", "--data", data, "--sectors", str(SECTORS_OF_CREATE)], environment=trace.environment())
+        expect(found == (0, b"", b""), f"create answered {found}")
+        own = judge_create(trace.calls(), data)
+        images = judge_crashes_of_create(own)
+    return images
+
+
+def one_server(tally, place, data, log, sectors, steps, name):
+    """A server: the order of its calls, and what crashes leave. The log behind it, and how many images there were."""
+    trace, answered, images = Trace(place, name), None, 0
+    with tally.run(f"{name}, its replies"):
+        answered = serve(data, trace, log, sectors, steps)
+    if answered is None:
+        return log, 0
+    calls = trace.calls()
+    with tally.run(f"{name}, the order of calls"):
+        judge_order(calls, data, answered)
+    with tally.run(f"{name}, crashes"):
+        images = judge_crashes(calls, data, answered)
+    if len(calls) < 2_000:
+        show_that_they_fail(tally, calls, data, answered)
+    return answered.store.log, images
+
+
+def without_syncs(tally, place, data, sectors, steps):
+    """A server whose syncs of the file succeed and aren't made: both must report it."""
+    trace = Trace(place, "without syncs", skips_sync=True)
+    with tally.run("a server whose syncs aren't made"):
+        answered = serve(data, trace, [], sectors, steps)
+        for judge in (judge_order, judge_crashes):
+            expect(is_reported(judge, trace.calls(), data, answered), f"{judge.__name__} doesn't report that no sync is made")
+
+
+def main():
+    need(PROGRAM, TRACER)
+    tally, chance = Tally("order of calls, and crashes"), random.Random(2_008)
+    with folder() as place:
+        place = os.path.realpath(place)
+        data = os.path.join(place, "data")
+        images = make(tally, place, data)
+        log, more = one_server(tally, place, data, [], SECTORS_OF_CREATE, small_steps(), "first server")
+        images += more
+        _, more = one_server(tally, place, data, log, SECTORS_OF_CREATE, transaction("1", [(b"g", b"2")]), "second server")
+        images += more
+        lying = os.path.join(place, "lying")
+        with open(lying, "wb") as file:
+            file.write(log_image([], SECTORS_OF_CREATE))
+        without_syncs(tally, place, lying, SECTORS_OF_CREATE, small_steps()[:20])
+        sectors = 8_192 if is_long() else 1_200
+        large = os.path.join(place, "large")
+        with open(large, "wb") as file:
+            file.write(log_image([], sectors))
+        steps = [*random_steps(chance, 60 if is_long() else 6), *transaction("1", LARGEST), *transaction("1", [(b"a", b"1")])]
+        images += one_server(tally, place, large, [], sectors, steps, "large transactions")[1]
+    return 0 if tally.end(f"; {images} images of crashes") else 1
+
+
+if __name__ == "__main__":
+    run_harness(main)

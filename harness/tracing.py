@@ -1,0 +1,53 @@
+"""The system's calls of a process, as the library of trace.c writes them down."""
+import os
+import struct
+from dataclasses import dataclass
+
+from client import TRACER
+
+OPEN, WRITE, WRITE_AT, READ_AT, SYNC, SYNC_DATA, CLOSE, REMOVE, TRUNCATE, SEND = range(10)
+NAMES = ("open", "write", "write at", "read at", "sync", "sync of data", "close", "remove", "truncate", "send")
+
+
+@dataclass(frozen=True)
+class Call:
+    """A call: its kind, descriptor, place and result, and the bytes that it moved out, or its path."""
+
+    kind: int
+    file: int
+    at: int
+    result: int
+    data: bytes
+
+    def __str__(self):
+        return f"{NAMES[self.kind]} {self.at} {self.data[:24]!r}, which gave {self.result}"
+
+
+class Trace:
+    """The calls of the processes that run in its environment."""
+
+    HEAD = struct.Struct("=5q")
+
+    def __init__(self, place, name="trace", skips_sync=False):
+        self.name, self.skips_sync = os.path.join(place, name), skips_sync
+
+    def environment(self):
+        more = {"TRACE_SKIP": "fdatasync"} if self.skips_sync else {}
+        return {**os.environ, "LD_PRELOAD": TRACER, "TRACE_LOG": self.name, **more}
+
+    def calls(self):
+        """All calls so far, in their order."""
+        with open(self.name, "rb") as file:
+            content = file.read()
+        calls, at = [], 0
+        while at < len(content):
+            kind, file, place, result, size = self.HEAD.unpack_from(content, at)
+            at += self.HEAD.size
+            calls.append(Call(kind, file, place, result, content[at:at + size]))
+            at += size
+        return calls
+
+
+def printed(calls, file):
+    """What was written on a descriptor, call by call."""
+    return [call.data for call in calls if call.kind == WRITE and call.file == file]
