@@ -1,0 +1,48 @@
+"""Whether each wrong body still applies: each of its `old:` texts stands exactly once in its file, once those before it were changed.
+
+`applies.py [CRATE..]`, all crates where none is named: those of the folder `must-fail` of each crate, and those beside this file. Nothing is
+proved. Prints each that does not apply, and ends with status 1 where there is one.
+"""
+import sys
+from pathlib import Path
+
+TOP = Path(__file__).resolve().parent.parent
+
+
+def fault_of(edit, crate):
+    """Why the edit does not apply, if it does not."""
+    texts, path, old, pairs = {}, None, None, 0
+    for line in edit.read_text().split("\n"):
+        word, _, rest = line.partition(" ")
+        if word == "file:":
+            path = crate / rest.strip()
+        elif word == "old:":
+            old = rest
+        elif word == "new:":
+            if path is None or not old:
+                return "a 'new:' line stands before any 'file:' or 'old:' line"
+            if path not in texts and not path.is_file():
+                return f"there is no file {path.relative_to(crate)}"
+            text = texts.get(path) or path.read_text()
+            if text.count(old) != 1:
+                return f"an 'old:' text is in {path.relative_to(crate)} {text.count(old)} times, and not once"
+            texts[path], old, pairs = text.replace(old, rest), None, pairs + 1
+    return None if pairs else "it has no 'old:' and 'new:' pair"
+
+
+def edits_of(crate):
+    return sorted((crate / "must-fail").glob("*.edit")) + sorted((TOP / "wrong_bodies" / crate.name).glob("*.edit"))
+
+
+def main(names):
+    crates = [TOP / "crates" / name for name in names] or sorted((TOP / "crates").iterdir())
+    edits = [(edit, fault_of(edit, crate)) for crate in crates for edit in edits_of(crate)]
+    faults = [(edit, fault) for edit, fault in edits if fault]
+    for edit, fault in faults:
+        print(f"{edit.relative_to(TOP)}: {fault}")
+    print(f"{len(edits)} wrong bodies, {len(faults)} do not apply")
+    return 1 if faults else 0
+
+
+if __name__ == "__main__":
+    sys.exit(main(sys.argv[1:]))
