@@ -12,6 +12,7 @@ use Rattle.commit_log.specs.Opening.{IsOpened}
 use Rattle.commit_log.specs.declared.read.Found.{Found}
 use Rattle.commit_log.specs.LogState.{StandsFor, IsNextRecord}
 use Rattle.commit_log.proofs.Encoding.{payload_size_is}
+use Rattle.commit_log.specs.Format.{current}
 
 pub sectors_of_is : (writes : List KeyWrite) (len : ℕ) → len ≡ length (payload_bytes writes) → sectors_of writes ≡ sectors_for len
 unfolding sectors_of
@@ -43,7 +44,7 @@ pub machine_sectors : (writes : List KeyWrite) → body_sectors writes ≡ secto
 machine_sectors writes = ap sectors_for (payload_size_is writes) ∙ sym (sectors_of_is writes (length (payload_bytes writes)) refl)
 
 -- the body that was made is that of the log's next record
-pub next_record : {D : Type 0} {g : Ghosts D} (log : Log D g) (lists : List (List KeyWrite)) (writes : List KeyWrite) (body bytes : List ℕ) → StandsFor log lists → IsWriteSet writes
+pub next_record : {D : Type 0} {g : Ghosts D} (log : Log D g) (lists : List (List KeyWrite)) (writes : List KeyWrite) (body bytes : List ℕ) → StandsFor log lists → IsWriteSet current writes
     → body ≡ padded_body log.digest log.records writes → length body ≡ 512 * sectors_of writes → bytes ≡ body → IsNextRecord lists writes log.gate bytes
 next_record log lists writes body bytes stands proper is size same = record {
   proper = proper;
@@ -57,7 +58,7 @@ next_record log lists writes body bytes stands proper is size same = record {
 -- the log with a record more
 pub stands_after : {D : Type 0} {g : Ghosts D} (old new : Log D g) (lists : List (List KeyWrite)) (writes : List KeyWrite) → StandsFor old lists → new.stopped ≡ false
     → new.gate ≡ old.gate + 1 + sectors_of writes → new.records ≡ old.records + 1 → new.digest ≡ record_digest old.digest old.records writes
-    → ((image : List (List ℕ)) × IsSettled (g.size new.device) (g.may_read new.device) (g.may_leave new.device) image × IsLogImage (lists ++ writes ∷ []) image) → StandsFor new (lists ++ writes ∷ [])
+    → ((image : List (List ℕ)) × IsSettled (g.size new.device) (g.may_read new.device) (g.may_leave new.device) image × IsLogImage current (lists ++ writes ∷ []) image) → StandsFor new (lists ++ writes ∷ [])
 stands_after old new lists writes stands running gate records digest settled = record {
   running = running;
   gate = omega (arith, stands.gate, gate, span-push lists writes);
@@ -67,11 +68,11 @@ stands_after old new lists writes stands running gate records digest settled = r
       digest ∙ ap (λ (d : List ℕ). record_digest d old.records writes) stands.digest ∙ ap (λ (n : ℕ). record_digest (last_digest lists 0 first_digest) n writes) index
       ∙ sym (last_digest-push lists writes 0 first_digest);
   settled = settled;
-  left = λ c left. subst (IsLogImage (lists ++ writes ∷ [])) (sym (settled.1.left c left)) settled.2;
+  left = λ c left. subst (IsLogImage current (lists ++ writes ∷ [])) (sym (settled.1.left c left)) settled.2;
 }
 
 -- a log made of what was found
-pub log_opened : {D : Type 0} {g : Ghosts D} (log : Log D g) (image : List (List ℕ)) (found : Found) (opened : IsOpened (g.size log.device) (g.may_read log.device) (g.may_leave log.device) image found) → log.stopped ≡ false → log.gate ≡ found.gate → log.records ≡ found.records
+pub log_opened : {D : Type 0} {g : Ghosts D} (log : Log D g) (image : List (List ℕ)) (found : Found) (opened : IsOpened current (g.size log.device) (g.may_read log.device) (g.may_leave log.device) image found) → log.stopped ≡ false → log.gate ≡ found.gate → log.records ≡ found.records
     → log.digest ≡ found.digest.bytes → StandsFor log opened.lists
 log_opened log image found opened running gate records digest = record {
   running = running;
@@ -79,5 +80,5 @@ log_opened log image found opened running gate records digest = record {
   records = records ∙ opened.tells.records;
   digest = digest ∙ opened.tells.digest;
   settled = (image, opened.settled, opened.holds);
-  left = λ c left. subst (IsLogImage opened.lists) (sym (opened.settled.left c left)) opened.holds;
+  left = λ c left. subst (IsLogImage current opened.lists) (sym (opened.settled.left c left)) opened.holds;
 }

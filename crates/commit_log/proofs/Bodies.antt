@@ -9,6 +9,8 @@ use Rattle.commit_log.specs.RecordFormat.{IsWriteSet, payload_bytes, record_dige
 use Rattle.commit_log.proofs.Limits.{length-payload_le, length-body}
 use Rattle.commit_log.proofs.Parsing.{same_front, same_number}
 use Rattle.commit_log.proofs.Appending.{sectors_of_is}
+use Rattle.commit_log.specs.declared.formats.LogFormat.{LogFormat}
+use Rattle.commit_log.proofs.Limits.{value_small}
 
 pub split_joins : (xs a b : List ℕ) (n : ℕ) → a ≡ take n xs → b ≡ drop n xs → xs ≡ a ++ b
 split_joins xs a b n front back = sym (take-append-drop n xs) ∙ ap (λ (l : List ℕ). l ++ drop n xs) (sym front) ∙ ap (λ (l : List ℕ). a ++ l) (sym back)
@@ -34,36 +36,36 @@ pub length-digest : (before : List ℕ) (index : ℕ) (writes : List KeyWrite) �
 unfolding record_digest
 length-digest before index writes = length-sha256 ((before ++ big_bytes 8 index) ++ payload_bytes writes)
 
-module _ (before : List ℕ) (index len : ℕ) (body number digest payload zeros : List ℕ) (is : body ≡ big_bytes 4 len ++ (number ++ (digest ++ (payload ++ zeros)))) (fits : len < 2 ^ 32)
+module _ (f : LogFormat) (before : List ℕ) (index len : ℕ) (body number digest payload zeros : List ℕ) (is : body ≡ big_bytes 4 len ++ (number ++ (digest ++ (payload ++ zeros)))) (fits : len < 2 ^ 32)
     (number_length : length number ≡ 8) (digest_length : length digest ≡ 32) (payload_length : length payload ≡ len) where
   -- each reading of the body has these parts
-  pub parts : (writes : List KeyWrite) → IsWriteSet writes → padded_body before index writes ≡ body
+  pub parts : (writes : List KeyWrite) → IsWriteSet f writes → padded_body before index writes ≡ body
       → (big_bytes 8 index ≡ number) × (record_digest before index writes ≡ digest) × (payload_bytes writes ≡ payload) × (zeros_of before index writes ≡ zeros)
   parts writes proper same =
       let joined = sym (padded_split before index writes) ∙ same ∙ is in
-      let first = same_number 4 (length (payload_bytes writes)) len (big_bytes 8 index ++ (record_digest before index writes ++ (payload_bytes writes ++ zeros_of before index writes))) (number ++ (digest ++ (payload ++ zeros))) (omega (arith, length-payload_le writes proper)) (omega arith) joined in
+      let first = same_number 4 (length (payload_bytes writes)) len (big_bytes 8 index ++ (record_digest before index writes ++ (payload_bytes writes ++ zeros_of before index writes))) (number ++ (digest ++ (payload ++ zeros))) (omega (arith, length-payload_le f writes proper, value_small f)) (omega arith) joined in
       let second = same_front (big_bytes 8 index) number (record_digest before index writes ++ (payload_bytes writes ++ zeros_of before index writes)) (digest ++ (payload ++ zeros)) (omega (arith, number_length)) first.1 in
       let third = same_front (record_digest before index writes) digest (payload_bytes writes ++ zeros_of before index writes) (payload ++ zeros) (omega (arith, digest_length, length-digest before index writes)) second.1 in
       let fourth = same_front (payload_bytes writes) payload (zeros_of before index writes) zeros (omega (arith, payload_length, first.0)) third.1 in
       (second.0, third.0, fourth.0, fourth.1)
 
-  pub not_index : (number ≡ big_bytes 8 index → ⊥) → (writes : List KeyWrite) → IsWriteSet writes → padded_body before index writes ≡ body → ⊥
+  pub not_index : (number ≡ big_bytes 8 index → ⊥) → (writes : List KeyWrite) → IsWriteSet f writes → padded_body before index writes ≡ body → ⊥
   not_index other writes proper same = other (sym (parts writes proper same).0)
 
-  pub not_digest : (right : List ℕ) → right ≡ sha256 ((before ++ big_bytes 8 index) ++ payload) → (digest ≡ right → ⊥) → (writes : List KeyWrite) → IsWriteSet writes → padded_body before index writes ≡ body → ⊥
+  pub not_digest : (right : List ℕ) → right ≡ sha256 ((before ++ big_bytes 8 index) ++ payload) → (digest ≡ right → ⊥) → (writes : List KeyWrite) → IsWriteSet f writes → padded_body before index writes ≡ body → ⊥
   unfolding record_digest
   not_digest right right_is other writes proper same =
       let found = parts writes proper same in
       other (sym found.1 ∙ ap (λ (l : List ℕ). sha256 ((before ++ big_bytes 8 index) ++ l)) found.2 ∙ sym right_is)
 
-  pub not_zero : (((k : ℕ) → k < length zeros → get_or zeros k 0 ≡ 0) → ⊥) → (writes : List KeyWrite) → IsWriteSet writes → padded_body before index writes ≡ body → ⊥
+  pub not_zero : (((k : ℕ) → k < length zeros → get_or zeros k 0 ≡ 0) → ⊥) → (writes : List KeyWrite) → IsWriteSet f writes → padded_body before index writes ≡ body → ⊥
   unfolding zeros_of
   not_zero other writes proper same =
       let found = (parts writes proper same).3 in
       let n = 512 * sectors_of writes - length (body_bytes before index writes) in
       other (λ k lt. ap (λ (l : List ℕ). get_or l k 0) (sym found) ∙ get_or-replicate n k 0 0 (omega (arith, ap length found, length-replicate {A = ℕ} n 0)))
 
-  pub not_payload : ((writes : List KeyWrite) → IsWriteSet writes → payload_bytes writes ≡ payload → ⊥) → (writes : List KeyWrite) → IsWriteSet writes → padded_body before index writes ≡ body → ⊥
+  pub not_payload : ((writes : List KeyWrite) → IsWriteSet f writes → payload_bytes writes ≡ payload → ⊥) → (writes : List KeyWrite) → IsWriteSet f writes → padded_body before index writes ≡ body → ⊥
   not_payload none writes proper same = none writes proper (parts writes proper same).2
 
   module _ (writes : List KeyWrite) (right : List ℕ) (size : length body ≡ 512 * sectors_for len) (number_is : number ≡ big_bytes 8 index) (right_is : right ≡ sha256 ((before ++ big_bytes 8 index) ++ payload)) (payload_is : payload_bytes writes ≡ payload) where

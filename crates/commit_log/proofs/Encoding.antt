@@ -9,9 +9,10 @@ use Rattle.sha2.proofs.Facts256.{length-sha256}
 use Rattle.model.specs.Map.{KeyWrite}
 use Rattle.model.specs.Machine.{payload_size, write_size}
 use Rattle.commit_log.specs.RecordFormat.{IsWithinLimits, value_bytes, entry_bytes, payload_bytes, record_digest, body_bytes, sectors_of, padded_body}
+use Rattle.commit_log.specs.Format.{current}
 
-pub limits_at : (ws : List KeyWrite) (i : ℕ) (w : KeyWrite) → w ≡ get_or ws i w → i < length ws → All IsWithinLimits ws → IsWithinLimits w
-limits_at ws i w is lt limits = subst IsWithinLimits (sym is) (limits i w lt)
+pub limits_at : (ws : List KeyWrite) (i : ℕ) (w : KeyWrite) → w ≡ get_or ws i w → i < length ws → All (IsWithinLimits current) ws → IsWithinLimits current w
+limits_at ws i w is lt limits = subst (IsWithinLimits current) (sym is) (limits i w lt)
 
 pub payload_is : (ws : List KeyWrite) (i : ℕ) → length ws ≤ i → big_bytes 4 (length ws) ++ flat_map entry_bytes (take i ws) ≡ payload_bytes ws
 unfolding payload_bytes

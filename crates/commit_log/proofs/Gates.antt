@@ -1,7 +1,9 @@
 -- The two gates.
 use Rattle.std.proofs.Common.{◌≡◌, true, false, refl, ℕ, List, [], ◌∷◌, ◌≤◌, length, slice_get, Some, arith}
-use Rattle.commit_log.specs.RecordFormat.{is_open, open_gate, closed_gate, head_sector}
+use Rattle.commit_log.specs.RecordFormat.{is_open, open_gate, closed_gate}
 use Rattle.commit_log.specs.LogImage.{IsLogImage}
+use Rattle.commit_log.specs.Format.{current}
+use Rattle.commit_log.specs.Format.{head_sector}
 
 pub closed_gate_shut : is_open closed_gate ≡ false
 unfolding closed_gate
@@ -12,7 +14,7 @@ unfolding open_gate
 open_gate_open = refl
 
 -- a head and a closed gate make an empty log
-pub formatted : (image : List (List ℕ)) → 2 ≤ length image → ((s : List ℕ) → slice_get image 0 ≡ Some s → s ≡ head_sector) → ((s : List ℕ) → slice_get image 1 ≡ Some s → is_open s ≡ false) → IsLogImage [] image
+pub formatted : (image : List (List ℕ)) → 2 ≤ length image → ((s : List ℕ) → slice_get image 0 ≡ Some s → s ≡ head_sector current) → ((s : List ℕ) → slice_get image 1 ≡ Some s → is_open s ≡ false) → IsLogImage current [] image
 formatted [] some head gate = absurd (omega arith)
 formatted (h ∷ []) some head gate = absurd (omega arith)
 formatted (h ∷ g ∷ rest) some head gate = (head h refl, gate g refl)

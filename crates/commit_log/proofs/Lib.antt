@@ -14,3 +14,9 @@ pub mod Making
 pub mod Protocol
 pub mod Unique
 pub mod Writes
+pub mod Putting
+pub mod NextSets
+pub mod CopiedSectors
+pub mod CopyProtocol
+pub mod CopyRuns
+pub mod CopyEnds

@@ -1,34 +1,65 @@
 -- How long a record is, and what its first bytes say.
-use Rattle.std.proofs.Common.{◌≡◌, ℕ, suc, ◌<◌, ◌≤◌, ◌+◌, ◌-◌, ◌*◌, ◌^◌, List, [], ◌∷◌, ◌++◌, length, replicate, All, Some, None, ◌∙◌, ap, arith, append_assoc, length-append}
+use Rattle.std.proofs.Common.{◌≡◌, ℕ, suc, ◌<◌, ◌≤◌, ◌+◌, ◌-◌, ◌*◌, ◌^◌, List, [], ◌∷◌, ◌++◌, length, replicate, All, Some, None, ◌∙◌, ap, arith, lit<, lit≤, get_or, Option, IfSome, append_assoc, length-append}
 use Rattle.std.proofs.lemmas.List.{length-replicate}
+use Rattle.std.proofs.lemmas.Nat.{mul-le}
 use Rattle.std.specs.List.{flat_map}
 use Rattle.byteorder.specs.Endian.{big_bytes, big_number}
 use Rattle.byteorder.specs.Numbers.{big_number-reads_back}
 use Rattle.sha2.proofs.Facts256.{length-sha256}
 use Rattle.model.specs.Map.{KeyWrite}
-use Rattle.commit_log.specs.RecordFormat.{IsWithinLimits, IsWriteSet, entry_bytes, value_bytes, payload_bytes, record_digest, body_bytes, sectors_of, padded_body}
+use Rattle.commit_log.specs.RecordFormat.{IsValueIn, IsWithinLimits, IsWriteSet, entry_bytes, value_bytes, payload_bytes, record_digest, body_bytes, sectors_of, padded_body}
+use Rattle.commit_log.specs.declared.formats.LogFormat.{LogFormat}
+use Rattle.commit_log.specs.Format.{current, value_bound}
+use Rattle.model.specs.Bounds.{value_max, entry_bound, payload_bound, body_bound}
+use Rattle.commit_log.specs.declared.formats.LogFormat.TheVariants.{One, Two}
 
-length-value_le : (write : KeyWrite) → IsWithinLimits write → length (value_bytes write.1) ≤ 4101
-length-value_le (key, None) limits = omega arith
-length-value_le (key, Some value) limits = omega (arith, limits.value)
+-- a value's length takes four bytes, and a payload's as well
+pub value_small : (f : LogFormat) → value_bound f < 2 ^ 16
+value_small One = lit< tt
+value_small Two = lit< tt
 
-length-entry_le : (write : KeyWrite) → IsWithinLimits write → length (entry_bytes write) ≤ 4359
-length-entry_le write limits =
-    omega (arith, limits.key.1, length-value_le write limits, length-append (big_bytes 2 (length write.0) ++ write.0) (value_bytes write.1), length-append (big_bytes 2 (length write.0)) write.0)
+-- a map takes the values of every format
+pub value_known : (f : LogFormat) → value_bound f ≤ value_max
+value_known One = lit≤ tt
+value_known Two = lit≤ tt
 
-pub length-entries_le : (writes : List KeyWrite) → All IsWithinLimits writes → length (flat_map entry_bytes writes) ≤ 4359 * length writes
-length-entries_le [] limits = omega arith
-length-entries_le (w ∷ writes) limits =
-    omega (arith, length-append (entry_bytes w) (flat_map entry_bytes writes), length-entry_le w (limits 0 w (omega arith)), length-entries_le writes (λ k d lt. limits (suc k) d (omega arith)))
+pub limits_known : (f : LogFormat) (writes : List KeyWrite) → All (IsWithinLimits f) writes → All (IsWithinLimits current) writes
+limits_known f writes limits k d lt =
+    let here = limits k d lt in
+    record { key = here.key; value = known f (get_or writes k d).1 here.value }
+  where
+    known : (f : LogFormat) (v : Option (List ℕ)) → IfSome v (IsValueIn f) → IfSome v (IsValueIn current)
+    known f None is = is
+    known f (Some v) is = omega (arith, is, value_known f)
 
-pub length-payload_le : (writes : List KeyWrite) → IsWriteSet writes → length (payload_bytes writes) ≤ 278980
+length-value_le : (f : LogFormat) (write : KeyWrite) → IsWithinLimits f write → length (value_bytes write.1) ≤ 5 + value_bound f
+length-value_le f (key, None) limits = omega arith
+length-value_le f (key, Some value) limits = omega (arith, limits.value)
+
+length-entry_le : (f : LogFormat) (write : KeyWrite) → IsWithinLimits f write → length (entry_bytes write) ≤ entry_bound (value_bound f)
+length-entry_le f write limits =
+    omega (arith, limits.key.1, length-value_le f write limits, length-append (big_bytes 2 (length write.0) ++ write.0) (value_bytes write.1), length-append (big_bytes 2 (length write.0)) write.0)
+
+-- a sum of so many numbers of this size
+times_more : (e n : ℕ) → e * suc n ≡ e + e * n
+times_more e n = grind arith
+
+times_le : (e m n : ℕ) → m ≤ n → e * m ≤ e * n
+times_le e m n le = mul-le e m e n (omega arith) le
+
+length-entries_le : (f : LogFormat) (writes : List KeyWrite) → All (IsWithinLimits f) writes → length (flat_map entry_bytes writes) ≤ entry_bound (value_bound f) * length writes
+length-entries_le f [] limits = omega arith
+length-entries_le f (w ∷ writes) limits =
+    omega (arith, length-append (entry_bytes w) (flat_map entry_bytes writes), length-entry_le f w (limits 0 w (omega arith)), length-entries_le f writes (λ k d lt. limits (suc k) d (omega arith)), times_more (entry_bound (value_bound f)) (length writes))
+
+pub length-payload_le : (f : LogFormat) (writes : List KeyWrite) → IsWriteSet f writes → length (payload_bytes writes) ≤ payload_bound (value_bound f)
 unfolding payload_bytes
-length-payload_le writes proper =
-    omega (arith, proper.at_most, length-entries_le writes proper.limits, length-append (big_bytes 4 (length writes)) (flat_map entry_bytes writes))
+length-payload_le f writes proper =
+    omega (arith, times_le (entry_bound (value_bound f)) (length writes) 64 proper.at_most, length-entries_le f writes proper.limits, length-append (big_bytes 4 (length writes)) (flat_map entry_bytes writes))
 
-pub sectors_of_bounds : (writes : List KeyWrite) → IsWriteSet writes → (1 ≤ sectors_of writes) × (sectors_of writes ≤ 545)
+pub sectors_of_bounds : (f : LogFormat) (writes : List KeyWrite) → IsWriteSet f writes → (1 ≤ sectors_of writes) × (sectors_of writes ≤ body_bound (value_bound f))
 unfolding sectors_of
-sectors_of_bounds writes proper = let le = length-payload_le writes proper in (omega arith, omega arith)
+sectors_of_bounds f writes proper = let le = length-payload_le f writes proper in (omega arith, omega arith)
 
 pub length-body : (before : List ℕ) (index : ℕ) (writes : List KeyWrite) → length (body_bytes before index writes) ≡ 44 + length (payload_bytes writes)
 unfolding body_bytes record_digest
@@ -44,12 +75,12 @@ length-padded_body before index writes =
     omega (arith, length-body before index writes, length-append bytes (replicate (512 * sectors_of writes - length bytes) 0), length-replicate {A = ℕ} (512 * sectors_of writes - length bytes) 0)
 
 -- the first four bytes give the payload's length
-pub number-padded_body : (before : List ℕ) (index : ℕ) (writes : List KeyWrite) → IsWriteSet writes → big_number 4 (padded_body before index writes) ≡ length (payload_bytes writes)
+pub number-padded_body : (f : LogFormat) (before : List ℕ) (index : ℕ) (writes : List KeyWrite) → IsWriteSet f writes → big_number 4 (padded_body before index writes) ≡ length (payload_bytes writes)
 unfolding padded_body body_bytes
-number-padded_body before index writes proper =
+number-padded_body f before index writes proper =
     let len = length (payload_bytes writes) in
     let digest = record_digest before index writes in
     let zeros : List ℕ = replicate (512 * sectors_of writes - length (body_bytes before index writes)) 0 in
-    let fits : len < 256 ^ 4 = omega (arith, length-payload_le writes proper) in
+    let fits : len < 256 ^ 4 = omega (arith, length-payload_le f writes proper, value_small f) in
     let split : padded_body before index writes ≡ big_bytes 4 len ++ (big_bytes 8 index ++ (digest ++ (payload_bytes writes ++ zeros))) = simp append_assoc in
     ap (λ (l : List ℕ). big_number 4 l) split ∙ big_number-reads_back 4 len (big_bytes 8 index ++ (digest ++ (payload_bytes writes ++ zeros))) fits

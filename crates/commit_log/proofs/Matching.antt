@@ -10,6 +10,9 @@ use Rattle.commit_log.specs.LogImage.{IsRecordAt}
 use Rattle.commit_log.proofs.Limits.{sectors_of_bounds, length-padded_body, number-padded_body}
 use Rattle.commit_log.proofs.Records.{begins, slice_get-drop, length-sectors_in, get_or-sectors_in}
 use Rattle.commit_log.proofs.Appending.{sectors_of_is}
+use Rattle.commit_log.specs.declared.formats.LogFormat.{LogFormat}
+use Rattle.commit_log.specs.Format.{value_bound}
+use Rattle.model.specs.Bounds.{body_bound}
 
 -- whole sectors joined are their bytes
 concat-sectors_in : (n : ℕ) (bytes : List ℕ) → length bytes ≡ 512 * n → concat (sectors_in n bytes) ≡ bytes
@@ -41,33 +44,33 @@ first_number (suc n) bytes (s ∷ rest) first some same at =
     ap (λ (l : List ℕ). big_number 4 l) (sym is ∙ head) ∙ big_from-take 0 4 512 bytes (omega arith)
 
 -- a record's length stands in its first sector
-pub length_read : (index : ℕ) (before : List ℕ) (rest : List (List ℕ)) (writes : List KeyWrite) (first : List ℕ) → IsRecordAt index before rest writes → slice_get rest 0 ≡ Some first → big_number 4 first ≡ length (payload_bytes writes)
+pub length_read : (f : LogFormat) (index : ℕ) (before : List ℕ) (rest : List (List ℕ)) (writes : List KeyWrite) (first : List ℕ) → IsRecordAt f index before rest writes → slice_get rest 0 ≡ Some first → big_number 4 first ≡ length (payload_bytes writes)
 unfolding record_body
-length_read index before rest writes first right at =
-    first_number (sectors_of writes) (padded_body before index writes) rest first (sectors_of_bounds writes right.proper).0 right.body at
-    ∙ number-padded_body before index writes right.proper
+length_read f index before rest writes first right at =
+    first_number (sectors_of writes) (padded_body before index writes) rest first (sectors_of_bounds f writes right.proper).0 right.body at
+    ∙ number-padded_body f before index writes right.proper
 
-module _ (image : List (List ℕ)) (at count n : ℕ) (first bytes : List ℕ) (index : ℕ) (before : List ℕ) (size : length image ≡ count) (there : slice_get image at ≡ Some first) where
+module _ (f : LogFormat) (image : List (List ℕ)) (at count n : ℕ) (first bytes : List ℕ) (index : ℕ) (before : List ℕ) (size : length image ≡ count) (there : slice_get image at ≡ Some first) where
   first_there : slice_get (drop at image) 0 ≡ Some first
   first_there =
       let e : at + 0 ≡ at = omega arith in
       slice_get-drop at image 0 ∙ ap (λ (i : ℕ). slice_get image i) e ∙ there
 
   -- the length leads past a record's limit or past the image
-  pub no_room : sectors_for (big_number 4 first) ≡ n → (n ≤ 545 → count ≤ at + n) → (writes : List KeyWrite) → IsRecordAt index before (drop at image) writes → ⊥
+  pub no_room : sectors_for (big_number 4 first) ≡ n → (n ≤ body_bound (value_bound f) → count ≤ at + n) → (writes : List KeyWrite) → IsRecordAt f index before (drop at image) writes → ⊥
   no_room is long writes right =
-      let len : big_number 4 first ≡ length (payload_bytes writes) = length_read index before (drop at image) writes first right first_there in
+      let len : big_number 4 first ≡ length (payload_bytes writes) = length_read f index before (drop at image) writes first right first_there in
       let sectors : sectors_of writes ≡ n = sectors_of_is writes (big_number 4 first) len ∙ is in
-      let bounds = sectors_of_bounds writes right.proper in
+      let bounds = sectors_of_bounds f writes right.proper in
       omega (arith, sectors, bounds.1, long (omega (arith, sectors, bounds.1)), right.room, length-drop at image)
 
   module _ (is : sectors_for (big_number 4 first) ≡ n) (len : length bytes ≡ 512 * n) (each : (k : ℕ) → k < n → slice_get image (at + k) ≡ Some (take 512 (drop (512 * k) bytes))) where
-    pub is_record : (writes : List KeyWrite) → at + n < count → IsWriteSet writes → 1 ≤ n → padded_body before index writes ≡ bytes → IsRecordAt index before (drop at image) writes × (n ≡ sectors_of writes)
+    pub is_record : (writes : List KeyWrite) → at + n < count → IsWriteSet f writes → 1 ≤ n → padded_body before index writes ≡ bytes → IsRecordAt f index before (drop at image) writes × (n ≡ sectors_of writes)
     unfolding record_body
     is_record writes room proper some same =
         let read : take n (drop at image) ≡ sectors_in n bytes = sectors_read image at n bytes each in
         let number : big_number 4 first ≡ length (payload_bytes writes) =
-        first_number n bytes (drop at image) first some read first_there ∙ ap (λ (l : List ℕ). big_number 4 l) (sym same) ∙ number-padded_body before index writes proper in
+        first_number n bytes (drop at image) first some read first_there ∙ ap (λ (l : List ℕ). big_number 4 l) (sym same) ∙ number-padded_body f before index writes proper in
         let sectors : sectors_of writes ≡ n = sectors_of_is writes (big_number 4 first) number ∙ is in (
           record {
             proper = proper;
@@ -77,10 +80,10 @@ module _ (image : List (List ℕ)) (at count n : ℕ) (first bytes : List ℕ) (
           sym sectors,
         )
 
-    pub no_record : ((writes : List KeyWrite) → IsWriteSet writes → padded_body before index writes ≡ bytes → ⊥) → (writes : List KeyWrite) → IsRecordAt index before (drop at image) writes → ⊥
+    pub no_record : ((writes : List KeyWrite) → IsWriteSet f writes → padded_body before index writes ≡ bytes → ⊥) → (writes : List KeyWrite) → IsRecordAt f index before (drop at image) writes → ⊥
     unfolding record_body
     no_record none writes right =
-        let number : big_number 4 first ≡ length (payload_bytes writes) = length_read index before (drop at image) writes first right first_there in
+        let number : big_number 4 first ≡ length (payload_bytes writes) = length_read f index before (drop at image) writes first right first_there in
         let sectors : sectors_of writes ≡ n = sectors_of_is writes (big_number 4 first) number ∙ is in
         let read : take n (drop at image) ≡ sectors_in n bytes = sectors_read image at n bytes each in
         let padded = padded_body before index writes in
@@ -88,9 +91,9 @@ module _ (image : List (List ℕ)) (at count n : ℕ) (first bytes : List ℕ) (
         ap (λ (m : ℕ). sectors_in m padded) (sym sectors) ∙ sym right.body ∙ ap (λ (m : ℕ). take m (drop at image)) sectors ∙ read in
         none writes right.proper (same_bytes n padded bytes (omega (arith, length-padded_body before index writes, sectors)) len same)
 
-pub too_short : (image : List (List ℕ)) (at count index : ℕ) (before : List ℕ) → length image ≡ count → count ≤ at + 1 → (writes : List KeyWrite) → IsRecordAt index before (drop at image) writes → ⊥
-too_short image at count index before size short writes right =
-    omega (arith, (sectors_of_bounds writes right.proper).0, right.room, length-drop at image, size)
+pub too_short : (f : LogFormat) (image : List (List ℕ)) (at count index : ℕ) (before : List ℕ) → length image ≡ count → count ≤ at + 1 → (writes : List KeyWrite) → IsRecordAt f index before (drop at image) writes → ⊥
+too_short f image at count index before size short writes right =
+    omega (arith, (sectors_of_bounds f writes right.proper).0, right.room, length-drop at image, size)
 
 -- the first sector that was read, as all bytes so far
 pub first_read : (image : List (List ℕ)) (at : ℕ) (empty first : List ℕ) → empty ≡ [] → length first ≡ length empty + 512 * 1 → slice_get image (at + 0) ≡ Some (take 512 (drop (length empty + 512 * 0) first)) → slice_get image at ≡ Some first

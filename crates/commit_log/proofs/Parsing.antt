@@ -9,10 +9,13 @@ use Rattle.std.specs.declared.cmp.Ordering.TheVariants.{Less}
 use Rattle.std.specs.List.{flat_map}
 use Rattle.byteorder.specs.Endian.{big_bytes, big_number}
 use Rattle.byteorder.specs.Numbers.{big_number-reads_back, length-bytes_high_first}
-use Rattle.model.specs.Key.{IsKey, IsValue}
+use Rattle.model.specs.Key.{IsKey}
 use Rattle.model.specs.Map.{KeyWrite}
 use Rattle.commit_log.specs.RecordFormat.{IsWithinLimits, IsWriteSet, entry_bytes, value_bytes, payload_bytes}
 use Rattle.commit_log.proofs.Rising.{adjacent}
+use Rattle.commit_log.specs.declared.formats.LogFormat.{LogFormat}
+use Rattle.commit_log.specs.RecordFormat.{IsValueIn}
+use Rattle.commit_log.proofs.Limits.{value_small}
 
 pub same_front : (xs ys r s : List ℕ) → length xs ≡ length ys → xs ++ r ≡ ys ++ s → (xs ≡ ys) × (r ≡ s)
 same_front xs ys r s len same = (
@@ -26,15 +29,15 @@ same_number n x y r s x_fits y_fits same = (
   (same_front (big_bytes n x) (big_bytes n y) r s (length-bytes_high_first n x ∙ sym (length-bytes_high_first n y)) same).1,
 )
 
-pub same_value : (v w : Option (List ℕ)) (r s : List ℕ) → IfSome v IsValue → IfSome w IsValue → value_bytes v ++ r ≡ value_bytes w ++ s → (v ≡ w) × (r ≡ s)
-same_value None None r s v_is w_is same = (refl, cc same)
-same_value None (Some w) r s v_is w_is same = absurd (cc same)
-same_value (Some v) None r s v_is w_is same = absurd (cc same)
-same_value (Some v) (Some w) r s v_is w_is same =
+pub same_value : (f : LogFormat) (v w : Option (List ℕ)) (r s : List ℕ) → IfSome v (IsValueIn f) → IfSome w (IsValueIn f) → value_bytes v ++ r ≡ value_bytes w ++ s → (v ≡ w) × (r ≡ s)
+same_value f None None r s v_is w_is same = (refl, cc same)
+same_value f None (Some w) r s v_is w_is same = absurd (cc same)
+same_value f (Some v) None r s v_is w_is same = absurd (cc same)
+same_value f (Some v) (Some w) r s v_is w_is same =
     let tails : (big_bytes 4 (length v) ++ v) ++ r ≡ (big_bytes 4 (length w) ++ w) ++ s = cc same in
     let regrouped : big_bytes 4 (length v) ++ (v ++ r) ≡ big_bytes 4 (length w) ++ (w ++ s) =
     sym (append_assoc (big_bytes 4 (length v)) v r) ∙ tails ∙ append_assoc (big_bytes 4 (length w)) w s in
-    let number = same_number 4 (length v) (length w) (v ++ r) (w ++ s) (omega (arith, v_is)) (omega (arith, w_is)) regrouped in
+    let number = same_number 4 (length v) (length w) (v ++ r) (w ++ s) (omega (arith, v_is, value_small f)) (omega (arith, w_is, value_small f)) regrouped in
     let parts = same_front v w r s number.0 number.1 in
     (ap (λ (l : List ℕ). Some l) parts.0, parts.1)
 
@@ -42,38 +45,38 @@ entry_split : (w : KeyWrite) (r : List ℕ) → entry_bytes w ++ r ≡ big_bytes
 entry_split w r =
     append_assoc (big_bytes 2 (length w.0) ++ w.0) (value_bytes w.1) r ∙ append_assoc (big_bytes 2 (length w.0)) w.0 (value_bytes w.1 ++ r)
 
-pub same_entry : (w x : KeyWrite) (r s : List ℕ) → IsWithinLimits w → IsWithinLimits x → entry_bytes w ++ r ≡ entry_bytes x ++ s → (w ≡ x) × (r ≡ s)
-same_entry w x r s w_is x_is same =
+pub same_entry : (f : LogFormat) (w x : KeyWrite) (r s : List ℕ) → IsWithinLimits f w → IsWithinLimits f x → entry_bytes w ++ r ≡ entry_bytes x ++ s → (w ≡ x) × (r ≡ s)
+same_entry f w x r s w_is x_is same =
     let regrouped : big_bytes 2 (length w.0) ++ (w.0 ++ (value_bytes w.1 ++ r)) ≡ big_bytes 2 (length x.0) ++ (x.0 ++ (value_bytes x.1 ++ s)) =
     sym (entry_split w r) ∙ same ∙ entry_split x s in
     let number = same_number 2 (length w.0) (length x.0) (w.0 ++ (value_bytes w.1 ++ r)) (x.0 ++ (value_bytes x.1 ++ s)) (omega (arith, w_is.key.1)) (omega (arith, x_is.key.1)) regrouped in
     let key = same_front w.0 x.0 (value_bytes w.1 ++ r) (value_bytes x.1 ++ s) number.0 number.1 in
-    let value = same_value w.1 x.1 r s w_is.value x_is.value key.1 in
+    let value = same_value f w.1 x.1 r s w_is.value x_is.value key.1 in
     ((λ i. (key.0 i, value.0 i)), value.1)
 
 -- no value stands behind the key
-pub no_value : (bytes key rest : List ℕ) → bytes ≡ (big_bytes 2 (length key) ++ key) ++ rest → IsKey key → ((v : Option (List ℕ)) (r : List ℕ) → IfSome v IsValue → rest ≡ value_bytes v ++ r → ⊥)
-    → (w : KeyWrite) (r : List ℕ) → IsWithinLimits w → bytes ≡ entry_bytes w ++ r → ⊥
-no_value bytes key rest is key_is none w r w_is same =
+pub no_value : (f : LogFormat) (bytes key rest : List ℕ) → bytes ≡ (big_bytes 2 (length key) ++ key) ++ rest → IsKey key → ((v : Option (List ℕ)) (r : List ℕ) → IfSome v (IsValueIn f) → rest ≡ value_bytes v ++ r → ⊥)
+    → (w : KeyWrite) (r : List ℕ) → IsWithinLimits f w → bytes ≡ entry_bytes w ++ r → ⊥
+no_value f bytes key rest is key_is none w r w_is same =
     let regrouped : big_bytes 2 (length key) ++ (key ++ rest) ≡ big_bytes 2 (length w.0) ++ (w.0 ++ (value_bytes w.1 ++ r)) =
     sym (append_assoc (big_bytes 2 (length key)) key rest) ∙ sym is ∙ same ∙ entry_split w r in
     let number = same_number 2 (length key) (length w.0) (key ++ rest) (w.0 ++ (value_bytes w.1 ++ r)) (omega (arith, key_is.1)) (omega (arith, w_is.key.1)) regrouped in
     let there = same_front key w.0 rest (value_bytes w.1 ++ r) number.0 number.1 in
     none w.1 r w_is.value there.1
 
-limits_after : (w : KeyWrite) (writes : List KeyWrite) → All IsWithinLimits (w ∷ writes) → All IsWithinLimits writes
-limits_after w writes limits k d lt = limits (suc k) d (omega arith)
+limits_after : (f : LogFormat) (w : KeyWrite) (writes : List KeyWrite) → All (IsWithinLimits f) (w ∷ writes) → All (IsWithinLimits f) writes
+limits_after f w writes limits k d lt = limits (suc k) d (omega arith)
 
 -- what was read first is the front of each reading
-pub same_entries : (done writes : List KeyWrite) (rest : List ℕ) → All IsWithinLimits done → All IsWithinLimits writes → length done ≤ length writes
+pub same_entries : (f : LogFormat) (done writes : List KeyWrite) (rest : List ℕ) → All (IsWithinLimits f) done → All (IsWithinLimits f) writes → length done ≤ length writes
     → flat_map entry_bytes writes ≡ flat_map entry_bytes done ++ rest → (take (length done) writes ≡ done) × (flat_map entry_bytes (drop (length done) writes) ≡ rest)
-same_entries [] writes rest done_is writes_is le same = (refl, same)
-same_entries (w ∷ done) [] rest done_is writes_is le same = absurd (omega arith)
-same_entries (w ∷ done) (x ∷ writes) rest done_is writes_is le same =
+same_entries f [] writes rest done_is writes_is le same = (refl, same)
+same_entries f (w ∷ done) [] rest done_is writes_is le same = absurd (omega arith)
+same_entries f (w ∷ done) (x ∷ writes) rest done_is writes_is le same =
     let regrouped : entry_bytes x ++ flat_map entry_bytes writes ≡ entry_bytes w ++ (flat_map entry_bytes done ++ rest) =
     same ∙ append_assoc (entry_bytes w) (flat_map entry_bytes done) rest in
-    let first = same_entry x w (flat_map entry_bytes writes) (flat_map entry_bytes done ++ rest) (writes_is 0 x (omega arith)) (done_is 0 w (omega arith)) regrouped in
-    let others = same_entries done writes rest (limits_after w done done_is) (limits_after x writes writes_is) (omega arith) first.1 in
+    let first = same_entry f x w (flat_map entry_bytes writes) (flat_map entry_bytes done ++ rest) (writes_is 0 x (omega arith)) (done_is 0 w (omega arith)) regrouped in
+    let others = same_entries f done writes rest (limits_after f w done done_is) (limits_after f x writes writes_is) (omega arith) first.1 in
     ((λ i. first.0 i ∷ others.0 i), others.1)
 
 drop_there : (n : ℕ) (writes : List KeyWrite) → n < length writes → (w : KeyWrite) × (rest : List KeyWrite) × (drop n writes ≡ w ∷ rest) × ((d : KeyWrite) → get_or writes n d ≡ w)
@@ -81,35 +84,35 @@ drop_there n [] lt = absurd (omega arith)
 drop_there zero (w ∷ writes) lt = (w, writes, refl, (λ d. refl))
 drop_there (suc n) (x ∷ writes) lt = drop_there n writes (omega arith)
 
-module _ (bytes rest : List ℕ) (count : ℕ) (done : List KeyWrite) (is : bytes ≡ big_bytes 4 count ++ (flat_map entry_bytes done ++ rest)) (fits : count < 256 ^ 4) (done_is : All IsWithinLimits done) where
+module _ (f : LogFormat) (bytes rest : List ℕ) (count : ℕ) (done : List KeyWrite) (is : bytes ≡ big_bytes 4 count ++ (flat_map entry_bytes done ++ rest)) (fits : count < 256 ^ 4) (done_is : All (IsWithinLimits f) done) where
   -- each reading has that count, and what was read in front
-  pub reading : (writes : List KeyWrite) → IsWriteSet writes → payload_bytes writes ≡ bytes → length done ≤ count
+  pub reading : (writes : List KeyWrite) → IsWriteSet f writes → payload_bytes writes ≡ bytes → length done ≤ count
       → (length writes ≡ count) × (take (length done) writes ≡ done) × (flat_map entry_bytes (drop (length done) writes) ≡ rest)
   unfolding payload_bytes
   reading writes proper same le =
       let number = same_number 4 (length writes) count (flat_map entry_bytes writes) (flat_map entry_bytes done ++ rest) (omega (arith, proper.at_most)) fits (same ∙ is) in
-      let front = same_entries done writes rest done_is proper.limits (omega (arith, number.0)) number.1 in
+      let front = same_entries f done writes rest done_is proper.limits (omega (arith, number.0)) number.1 in
       (number.0, front.0, front.1)
 
   -- there is no entry where one should be
-  pub no_entry : ((w : KeyWrite) (after : List ℕ) → IsWithinLimits w → rest ≡ entry_bytes w ++ after → ⊥) → length done < count → (writes : List KeyWrite) → IsWriteSet writes → payload_bytes writes ≡ bytes → ⊥
+  pub no_entry : ((w : KeyWrite) (after : List ℕ) → IsWithinLimits f w → rest ≡ entry_bytes w ++ after → ⊥) → length done < count → (writes : List KeyWrite) → IsWriteSet f writes → payload_bytes writes ≡ bytes → ⊥
   no_entry none lt writes proper same =
       let read = reading writes proper same (omega arith) in
       let there = drop_there (length done) writes (omega (arith, read.0)) in
       let w = there.0 in
-      let limits : IsWithinLimits w = subst IsWithinLimits (there.3 w) (proper.limits (length done) w (omega (arith, read.0))) in
+      let limits : IsWithinLimits f w = subst (IsWithinLimits f) (there.3 w) (proper.limits (length done) w (omega (arith, read.0))) in
       none w (flat_map entry_bytes there.1) limits (sym read.2 ∙ ap (λ (l : List KeyWrite). flat_map entry_bytes l) there.2)
 
   -- an entry follows that isn't above the one before it
-  pub not_rising : (w : KeyWrite) (after : List ℕ) → rest ≡ entry_bytes w ++ after → IsWithinLimits w → 1 ≤ length done
-      → ((d : KeyWrite) → slice_cmp nat_cmp (get_or done (length done - 1) d).0 w.0 ≡ Less → ⊥) → length done < count → (writes : List KeyWrite) → IsWriteSet writes → payload_bytes writes ≡ bytes → ⊥
+  pub not_rising : (w : KeyWrite) (after : List ℕ) → rest ≡ entry_bytes w ++ after → IsWithinLimits f w → 1 ≤ length done
+      → ((d : KeyWrite) → slice_cmp nat_cmp (get_or done (length done - 1) d).0 w.0 ≡ Less → ⊥) → length done < count → (writes : List KeyWrite) → IsWriteSet f writes → payload_bytes writes ≡ bytes → ⊥
   not_rising w after entry limits some falls lt writes proper same =
       let read = reading writes proper same (omega arith) in
       let there = drop_there (length done) writes (omega (arith, read.0)) in
-      let its : IsWithinLimits there.0 = subst IsWithinLimits (there.3 w) (proper.limits (length done) w (omega (arith, read.0))) in
+      let its : IsWithinLimits f there.0 = subst (IsWithinLimits f) (there.3 w) (proper.limits (length done) w (omega (arith, read.0))) in
       let both : entry_bytes there.0 ++ flat_map entry_bytes there.1 ≡ entry_bytes w ++ after =
       sym (ap (λ (l : List KeyWrite). flat_map entry_bytes l) there.2) ∙ read.2 ∙ entry in
-      let next : there.0 ≡ w = (same_entry there.0 w (flat_map entry_bytes there.1) after its limits both).0 in
+      let next : there.0 ≡ w = (same_entry f there.0 w (flat_map entry_bytes there.1) after its limits both).0 in
       let at_last : get_or writes (length done - 1) w ≡ get_or done (length done - 1) w =
       sym (get_or-take (length done) writes (length done - 1) w (omega arith)) ∙ ap (λ (l : List KeyWrite). get_or l (length done - 1) w) read.1 in
       let place : length done - 1 + 1 ≡ length done = omega arith in
@@ -118,7 +121,7 @@ module _ (bytes rest : List ℕ) (count : ℕ) (done : List KeyWrite) (is : byte
       falls w (ap (λ (k : List ℕ). slice_cmp nat_cmp k w.0) (ap (λ (x : KeyWrite). x.0) (sym at_last)) ∙ ap (λ (k : List ℕ). slice_cmp nat_cmp (get_or writes (length done - 1) w).0 k) (ap (λ (x : KeyWrite). x.0) (sym at_next)) ∙ rises)
 
   -- bytes are left behind the last entry
-  pub left_over : length done ≡ count → 1 ≤ length rest → (writes : List KeyWrite) → IsWriteSet writes → payload_bytes writes ≡ bytes → ⊥
+  pub left_over : length done ≡ count → 1 ≤ length rest → (writes : List KeyWrite) → IsWriteSet f writes → payload_bytes writes ≡ bytes → ⊥
   left_over all some writes proper same =
       let read = reading writes proper same (omega arith) in
       let none : drop (length done) writes ≡ [] = drop_all (length done) writes (omega (arith, read.0)) in
@@ -133,15 +136,15 @@ module _ (bytes rest : List ℕ) (count : ℕ) (done : List KeyWrite) (is : byte
       ∙ sym is
 
 -- a count that no write set has
-pub no_count : (bytes rest : List ℕ) (count : ℕ) → bytes ≡ big_bytes 4 count ++ rest → count < 256 ^ 4 → (1 ≤ count → count ≤ 64 → ⊥) → (writes : List KeyWrite) → IsWriteSet writes → payload_bytes writes ≡ bytes → ⊥
+pub no_count : (f : LogFormat) (bytes rest : List ℕ) (count : ℕ) → bytes ≡ big_bytes 4 count ++ rest → count < 256 ^ 4 → (1 ≤ count → count ≤ 64 → ⊥) → (writes : List KeyWrite) → IsWriteSet f writes → payload_bytes writes ≡ bytes → ⊥
 unfolding payload_bytes
-no_count bytes rest count is fits out writes proper same =
+no_count f bytes rest count is fits out writes proper same =
     let number = same_number 4 (length writes) count (flat_map entry_bytes writes) rest (omega (arith, proper.at_most)) fits (same ∙ is) in
     out (omega (arith, number.0, proper.some)) (omega (arith, number.0, proper.at_most))
 
-pub too_few : (bytes : List ℕ) → length bytes < 4 → (writes : List KeyWrite) → IsWriteSet writes → payload_bytes writes ≡ bytes → ⊥
+pub too_few : (f : LogFormat) (bytes : List ℕ) → length bytes < 4 → (writes : List KeyWrite) → IsWriteSet f writes → payload_bytes writes ≡ bytes → ⊥
 unfolding payload_bytes
-too_few bytes short writes proper same = omega (arith, ap length same, length-append (big_bytes 4 (length writes)) (flat_map entry_bytes writes))
+too_few f bytes short writes proper same = omega (arith, ap length same, length-append (big_bytes 4 (length writes)) (flat_map entry_bytes writes))
 
 -- one entry more was read
 pub read_more : (bytes front rest after : List ℕ) (done : List KeyWrite) (w : KeyWrite) → bytes ≡ front ++ (flat_map entry_bytes done ++ rest) → rest ≡ entry_bytes w ++ after → bytes ≡ front ++ (flat_map entry_bytes (done ++ w ∷ []) ++ after)

@@ -10,26 +10,27 @@ use Rattle.commit_log.specs.LogImage.{IsLogImage, span, last_digest, next_index}
 use Rattle.commit_log.specs.LogState.{IsNextRecord, IsBeforeOrAfter, IsSameBefore}
 use Rattle.commit_log.proofs.Records.{same_log, IsStaged, image_staged-set, image_staged_gate, image_staged_open, image_staged_from, slice_get_there}
 use Rattle.std.proofs.lemmas.List.{take-set-le}
+use Rattle.commit_log.specs.Format.{current}
 
 module _ {D : Type 0} (S : Ghosts D) (lists : List (List KeyWrite)) (writes : List KeyWrite) (start : D) where
   -- a crash leaves the old log, and has so far left the old one or the new one
   pub record Writing (now : D) : Type 0 where
-    pub left : (c : List (List ℕ)) → S.may_leave now c → IsLogImage lists c
+    pub left : (c : List (List ℕ)) → S.may_leave now c → IsLogImage current lists c
     pub time : LeavesOnly S.moment S.left_since start now (IsBeforeOrAfter lists writes)
 
   -- the body is settled
   pub record Opening (now : D) : Type 0 where
-    pub left : (c : List (List ℕ)) → S.may_leave now c → IsStaged lists writes c
+    pub left : (c : List (List ℕ)) → S.may_leave now c → IsStaged current lists writes c
     pub time : LeavesOnly S.moment S.left_since start now (IsBeforeOrAfter lists writes)
 
 module _ {D : Type 0} (S : Ghosts D) (lists : List (List KeyWrite)) (writes : List KeyWrite) (start now next : D) where
-  pub after_body : (at : ℕ) → at ≡ 2 + span lists → ((c : List (List ℕ)) → S.may_leave start c → IsLogImage lists c)
+  pub after_body : (at : ℕ) → at ≡ 2 + span lists → ((c : List (List ℕ)) → S.may_leave start c → IsLogImage current lists c)
       → ((c : List (List ℕ)) → S.may_leave next c → IsSameBefore at (S.may_leave start) c)
       → LeavesOnly S.moment S.left_since start next (IsSameBefore at (S.may_leave start)) → Writing S lists writes start next
   after_body at is here follows time =
       let P : List (List ℕ) → Type 0 = IsBeforeOrAfter lists writes in
       let size : at ≡ suc (suc (span lists)) = omega arith in
-      let kept = λ (c : List (List ℕ)) (same : IsSameBefore at (S.may_leave start) c). same_log lists at c same.0 size same.2 (here same.0 same.1) in
+      let kept = λ (c : List (List ℕ)) (same : IsSameBefore at (S.may_leave start) c). same_log current lists at c same.0 size same.2 (here same.0 same.1) in
       record {
         left = λ c left. kept c (follows c left);
         time = record {
@@ -42,9 +43,9 @@ module _ {D : Type 0} (S : Ghosts D) (lists : List (List KeyWrite)) (writes : Li
   pub after_gate : (at : ℕ) → 2 + span lists ≤ at → Writing S lists writes start now → FollowsWrite at (S.may_leave now) (S.may_leave next)
       → Elapses (S.moment now) (S.moment next) (S.left_since now) (S.left_since next) (S.may_leave next) → Writing S lists writes start next
   after_gate at le so_far follows time =
-      let kept : (c : List (List ℕ)) → S.may_leave next c → IsLogImage lists c = λ c left.
+      let kept : (c : List (List ℕ)) → S.may_leave next c → IsLogImage current lists c = λ c left.
       let from = follows c left in
-      same_log lists (2 + span lists) c from.0 (omega arith)
+      same_log current lists (2 + span lists) c from.0 (omega arith)
       (ap (λ (l : List (List ℕ)). take (2 + span lists) l) from.2.1 ∙ take-set-le (2 + span lists) from.0 at from.2.0 le) (so_far.left from.0 from.1) in
       record {
         left = kept;
@@ -69,8 +70,8 @@ module _ {D : Type 0} (S : Ghosts D) (lists : List (List KeyWrite)) (writes : Li
   settled gate size bytes shut at is room body behind closed so_far settles time =
       let image = settles.image in
       let read : (i : ℕ) → i < size → (s : List ℕ) × (slice_get image i ≡ Some s) = λ i lt. slice_get_there image i (omega (arith, settles.settled.size_is)) in
-      let staged : IsStaged lists writes image =
-      image_staged_from lists writes image bytes shut is (so_far.left image settles.was_left)
+      let staged : IsStaged current lists writes image =
+      image_staged_from current lists writes image bytes shut is (so_far.left image settles.was_left)
       (λ k lt.
       let place : gate + 1 + k ≡ 1 + span lists + 1 + k = omega arith in
       let there = read (gate + 1 + k) (omega arith) in
@@ -88,33 +89,33 @@ module _ {D : Type 0} (S : Ghosts D) (lists : List (List KeyWrite)) (writes : Li
             (λ c left. let only : c ≡ image = settles.settled.left c left in inl (rw only (so_far.left image settles.was_left)));
       }
 
-  pub after_open : (gate : ℕ) → gate ≡ 1 + span lists → IsWriteSet writes → Opening S lists writes start now → FollowsWrite gate (S.may_leave now) (S.may_leave next)
+  pub after_open : (gate : ℕ) → gate ≡ 1 + span lists → IsWriteSet current writes → Opening S lists writes start now → FollowsWrite gate (S.may_leave now) (S.may_leave next)
       → Elapses (S.moment now) (S.moment next) (S.left_since now) (S.left_since next) (S.may_leave next) → Opening S lists writes start next
   after_open gate at proper so_far follows time =
-      let kept : (c : List (List ℕ)) → S.may_leave next c → IsStaged lists writes c = λ c left.
+      let kept : (c : List (List ℕ)) → S.may_leave next c → IsStaged current lists writes c = λ c left.
       let from = follows c left in
-      rw from.2.1 (image_staged-set lists writes from.0 gate from.2.0 at (so_far.left from.0 from.1)) in
+      rw from.2.1 (image_staged-set current lists writes from.0 gate from.2.0 at (so_far.left from.0 from.1)) in
       record {
         left = kept;
-        time = goes_on S.moment S.left_since start now next (IsBeforeOrAfter lists writes) (S.may_leave next) so_far.time time (λ c left. image_staged_gate lists writes c proper (kept c left));
+        time = goes_on S.moment S.left_since start now next (IsBeforeOrAfter lists writes) (S.may_leave next) so_far.time time (λ c left. image_staged_gate current lists writes c proper (kept c left));
       }
 
-  pub after_last_sync : IsWriteSet writes → Opening S lists writes start now → ((c : List (List ℕ)) → S.may_leave next c → S.may_leave now c)
+  pub after_last_sync : IsWriteSet current writes → Opening S lists writes start now → ((c : List (List ℕ)) → S.may_leave next c → S.may_leave now c)
       → Elapses (S.moment now) (S.moment next) (S.left_since now) (S.left_since next) (S.may_leave next) → Opening S lists writes start next
   after_last_sync proper so_far fewer time = record {
     left = λ c left. so_far.left c (fewer c left);
-    time = goes_on S.moment S.left_since start now next (IsBeforeOrAfter lists writes) (S.may_leave next) so_far.time time (λ c left. image_staged_gate lists writes c proper (so_far.left c (fewer c left)));
+    time = goes_on S.moment S.left_since start now next (IsBeforeOrAfter lists writes) (S.may_leave next) so_far.time time (λ c left. image_staged_gate current lists writes c proper (so_far.left c (fewer c left)));
   }
 
   -- the sync that settles the gate
-  pub acknowledged : (gate size : ℕ) (opened : List ℕ) → gate ≡ 1 + span lists → IsWriteSet writes → gate < size → ((s : List ℕ) → S.may_read now gate s → s ≡ opened) → is_open opened ≡ true
+  pub acknowledged : (gate size : ℕ) (opened : List ℕ) → gate ≡ 1 + span lists → IsWriteSet current writes → gate < size → ((s : List ℕ) → S.may_read now gate s → s ≡ opened) → is_open opened ≡ true
       → Opening S lists writes start now → Settles size (S.may_read now) (S.may_read next) (S.may_leave now) (S.may_leave next)
-      → (image : List (List ℕ)) × IsSettled size (S.may_read next) (S.may_leave next) image × IsLogImage (lists ++ writes ∷ []) image
+      → (image : List (List ℕ)) × IsSettled size (S.may_read next) (S.may_leave next) image × IsLogImage current (lists ++ writes ∷ []) image
   acknowledged gate size opened at proper room written is so_far settles =
       let image = settles.image in
       let there : (s : List ℕ) × (slice_get image gate ≡ Some s) = slice_get_there image gate (omega (arith, settles.settled.size_is)) in
       let found : there.0 ≡ opened = written there.0 (settles.was_read gate there.0 there.1) in
-      (image, settles.settled, image_staged_open lists writes image gate there.0 at proper (so_far.left image settles.was_left) there.1 (ap is_open found ∙ is))
+      (image, settles.settled, image_staged_open current lists writes image gate there.0 at proper (so_far.left image settles.was_left) there.1 (ap is_open found ∙ is))
 
 -- the same, by the writes before it
 pub staged_by : {D : Type 0} (S : Ghosts D) (lists : List (List KeyWrite)) (writes : List KeyWrite) (start mid now next : D) (gate size : ℕ) (bytes shut : List ℕ) → IsNextRecord lists writes gate bytes

@@ -3,20 +3,21 @@ use Rattle.std.proofs.Common.{◌≡◌, ◌⊎◌, inl, inr, ⊎_elim, ℕ, zer
 use Rattle.std.proofs.lemmas.List.{take-take, drop-take, drop-drop, take-set-le, drop-set-add}
 use Rattle.std.proofs.lemmas.Bool.{cases_Bool}
 use Rattle.model.specs.Map.{KeyWrite}
-use Rattle.commit_log.specs.RecordFormat.{IsWriteSet, is_open, head_sector, first_digest, sectors_of, record_body, record_digest, padded_body, sectors_in}
+use Rattle.commit_log.specs.RecordFormat.{IsWriteSet, is_open, first_digest, sectors_of, record_body, record_digest, padded_body, sectors_in}
 use Rattle.commit_log.specs.LogImage.{HoldsRecords, IsLogImage, span, last_digest, next_index}
-use Rattle.commit_log.specs.LogState.{IsBeforeOrAfter}
+use Rattle.commit_log.specs.declared.formats.LogFormat.{LogFormat}
+use Rattle.commit_log.specs.Format.{head_sector}
 
 -- the sectors up to the closed gate decide
-pub same_records : (lists : List (List KeyWrite)) (index : ℕ) (before : List ℕ) (c d : List (List ℕ)) → take (suc (span lists)) c ≡ take (suc (span lists)) d → HoldsRecords lists index before d → HoldsRecords lists index before c
-same_records [] index before c [] same holds = absurd holds
-same_records [] index before [] (gate ∷ d) same holds = absurd (cc same)
-same_records [] index before (x ∷ c) (gate ∷ d) same holds =
+pub same_records : (f : LogFormat) (lists : List (List KeyWrite)) (index : ℕ) (before : List ℕ) (c d : List (List ℕ)) → take (suc (span lists)) c ≡ take (suc (span lists)) d → HoldsRecords f lists index before d → HoldsRecords f lists index before c
+same_records f [] index before c [] same holds = absurd holds
+same_records f [] index before [] (gate ∷ d) same holds = absurd (cc same)
+same_records f [] index before (x ∷ c) (gate ∷ d) same holds =
     let is : x ≡ gate = cc same in
     rw is holds
-same_records (writes ∷ lists) index before c [] same holds = absurd holds
-same_records (writes ∷ lists) index before [] (gate ∷ d) same holds = absurd (cc same)
-same_records (writes ∷ lists) index before (x ∷ c) (gate ∷ d) same holds =
+same_records f (writes ∷ lists) index before c [] same holds = absurd holds
+same_records f (writes ∷ lists) index before [] (gate ∷ d) same holds = absurd (cc same)
+same_records f (writes ∷ lists) index before (x ∷ c) (gate ∷ d) same holds =
     let b = sectors_of writes in
     let is : x ≡ gate = cc same in
     let rest : take (suc (b + span lists)) c ≡ take (suc (b + span lists)) d = cc same in
@@ -26,32 +27,32 @@ same_records (writes ∷ lists) index before (x ∷ c) (gate ∷ d) same holds =
     let behind : take (suc (span lists)) (drop b c) ≡ take (suc (span lists)) (drop b d) =
     sym (drop-take b (suc (span lists)) c) ∙ ap (λ (k : ℕ). drop b (take k c)) (sym n) ∙ ap (λ (l : List (List ℕ)). drop b l) rest
     ∙ ap (λ (k : ℕ). drop b (take k d)) n ∙ drop-take b (suc (span lists)) d in
-    (ap is_open is ∙ holds.0, holds.1, body ∙ holds.2, same_records lists (index + 1) (record_digest before index writes) (drop b c) (drop b d) behind holds.3)
+    (ap is_open is ∙ holds.0, holds.1, body ∙ holds.2, same_records f lists (index + 1) (record_digest before index writes) (drop b c) (drop b d) behind holds.3)
 
-pub same_log : (lists : List (List KeyWrite)) (n : ℕ) (c d : List (List ℕ)) → n ≡ suc (suc (span lists)) → take n c ≡ take n d → IsLogImage lists d → IsLogImage lists c
-same_log lists n c [] is same holds = absurd holds
-same_log lists n [] (h ∷ d) is same holds =
+pub same_log : (f : LogFormat) (lists : List (List KeyWrite)) (n : ℕ) (c d : List (List ℕ)) → n ≡ suc (suc (span lists)) → take n c ≡ take n d → IsLogImage f lists d → IsLogImage f lists c
+same_log f lists n c [] is same holds = absurd holds
+same_log f lists n [] (h ∷ d) is same holds =
     let at : take (suc (suc (span lists))) [] ≡ h ∷ take (suc (span lists)) d = subst (λ (k : ℕ). take k [] ≡ take k (h ∷ d)) is same in
     absurd (cc at)
-same_log lists n (x ∷ c) (h ∷ d) is same holds =
+same_log f lists n (x ∷ c) (h ∷ d) is same holds =
     let at : x ∷ take (suc (span lists)) c ≡ h ∷ take (suc (span lists)) d = subst (λ (k : ℕ). take k (x ∷ c) ≡ take k (h ∷ d)) is same in
     let head : x ≡ h = cc at in
     let rest : take (suc (span lists)) c ≡ take (suc (span lists)) d = cc at in
-    (head ∙ holds.0, same_records lists 0 first_digest c d rest holds.1)
+    (head ∙ holds.0, same_records f lists 0 first_digest c d rest holds.1)
 
 -- records of these write sets, then a gate, the body of one more record, and a closed gate
-abbrev pub Staged : List (List KeyWrite) → List KeyWrite → ℕ → List ℕ → List (List ℕ) → Type 0
-Staged lists writes index before [] = ⊥
-Staged [] writes index before (gate ∷ rest) =
+abbrev pub Staged : LogFormat → List (List KeyWrite) → List KeyWrite → ℕ → List ℕ → List (List ℕ) → Type 0
+Staged f lists writes index before [] = ⊥
+Staged f [] writes index before (gate ∷ rest) =
     (take (sectors_of writes) rest ≡ record_body before index writes)
-    × HoldsRecords [] (index + 1) (record_digest before index writes) (drop (sectors_of writes) rest)
-Staged (x ∷ lists) writes index before (gate ∷ rest) =
-    (is_open gate ≡ true) × IsWriteSet x × (take (sectors_of x) rest ≡ record_body before index x)
-    × Staged lists writes (index + 1) (record_digest before index x) (drop (sectors_of x) rest)
+    × HoldsRecords f [] (index + 1) (record_digest before index writes) (drop (sectors_of writes) rest)
+Staged f (x ∷ lists) writes index before (gate ∷ rest) =
+    (is_open gate ≡ true) × IsWriteSet f x × (take (sectors_of x) rest ≡ record_body before index x)
+    × Staged f lists writes (index + 1) (record_digest before index x) (drop (sectors_of x) rest)
 
-abbrev pub IsStaged : List (List KeyWrite) → List KeyWrite → List (List ℕ) → Type 0
-IsStaged lists writes [] = ⊥
-IsStaged lists writes (head ∷ rest) = (head ≡ head_sector) × Staged lists writes 0 first_digest rest
+abbrev pub IsStaged : LogFormat → List (List KeyWrite) → List KeyWrite → List (List ℕ) → Type 0
+IsStaged f lists writes [] = ⊥
+IsStaged f lists writes (head ∷ rest) = (head ≡ head_sector f) × Staged f lists writes 0 first_digest rest
 
 pub slice_get-drop : {X : Type 0} (n : ℕ) (xs : List X) (i : ℕ) → slice_get (drop n xs) i ≡ slice_get xs (n + i)
 slice_get-drop zero xs i = let e : 0 + i ≡ i = omega arith in ap (λ (k : ℕ). slice_get xs k) (sym e)
@@ -70,80 +71,80 @@ begins (x ∷ xs) (y ∷ ys) each =
     let rest : take (length ys) xs ≡ ys = begins xs ys (λ k lt. each (suc k) (omega arith)) in
     cc
 
-closed_at : (rest : List (List ℕ)) (n : ℕ) (s : List ℕ) (index : ℕ) (before : List ℕ) → slice_get rest n ≡ Some s → is_open s ≡ false → HoldsRecords [] index before (drop n rest)
-closed_at [] zero s index before is shut = absurd (cc is)
-closed_at [] (suc n) s index before is shut = absurd (cc is)
-closed_at (x ∷ rest) zero s index before is shut = let e : x ≡ s = cc is in ap is_open e ∙ shut
-closed_at (x ∷ rest) (suc n) s index before is shut = closed_at rest n s index before is shut
+closed_at : (f : LogFormat) (rest : List (List ℕ)) (n : ℕ) (s : List ℕ) (index : ℕ) (before : List ℕ) → slice_get rest n ≡ Some s → is_open s ≡ false → HoldsRecords f [] index before (drop n rest)
+closed_at f [] zero s index before is shut = absurd (cc is)
+closed_at f [] (suc n) s index before is shut = absurd (cc is)
+closed_at f (x ∷ rest) zero s index before is shut = let e : x ≡ s = cc is in ap is_open e ∙ shut
+closed_at f (x ∷ rest) (suc n) s index before is shut = closed_at f rest n s index before is shut
 
-pub staged_from : (lists : List (List KeyWrite)) (writes : List KeyWrite) (index : ℕ) (before : List ℕ) (rest : List (List ℕ)) (shut : List ℕ) → length (record_body (last_digest lists index before) (next_index lists index) writes) ≡ sectors_of writes → HoldsRecords lists index before rest
+pub staged_from : (f : LogFormat) (lists : List (List KeyWrite)) (writes : List KeyWrite) (index : ℕ) (before : List ℕ) (rest : List (List ℕ)) (shut : List ℕ) → length (record_body (last_digest lists index before) (next_index lists index) writes) ≡ sectors_of writes → HoldsRecords f lists index before rest
     → ((k i : ℕ) → k < sectors_of writes → i ≡ suc (span lists + k) → slice_get rest i ≡ Some (get_or (record_body (last_digest lists index before) (next_index lists index) writes) k []))
-    → ((i : ℕ) → i ≡ suc (span lists + sectors_of writes) → slice_get rest i ≡ Some shut) → is_open shut ≡ false → Staged lists writes index before rest
-staged_from lists writes index before [] shut size holds body behind closed = absurd holds
-staged_from [] writes index before (gate ∷ rest) shut size holds body behind closed =
+    → ((i : ℕ) → i ≡ suc (span lists + sectors_of writes) → slice_get rest i ≡ Some shut) → is_open shut ≡ false → Staged f lists writes index before rest
+staged_from f lists writes index before [] shut size holds body behind closed = absurd holds
+staged_from f [] writes index before (gate ∷ rest) shut size holds body behind closed =
     let b = sectors_of writes in
     let is = record_body before index writes in
     let found : take (length is) rest ≡ is = begins rest is (λ k lt. body k (suc k) (omega (arith, size)) (omega arith)) in
-    (ap (λ (n : ℕ). take n rest) (sym size) ∙ found, closed_at rest b shut (index + 1) (record_digest before index writes) (behind (suc b) (omega arith)) closed)
-staged_from (x ∷ lists) writes index before (gate ∷ rest) shut size holds body behind closed =
+    (ap (λ (n : ℕ). take n rest) (sym size) ∙ found, closed_at f rest b shut (index + 1) (record_digest before index writes) (behind (suc b) (omega arith)) closed)
+staged_from f (x ∷ lists) writes index before (gate ∷ rest) shut size holds body behind closed =
     let b = sectors_of x in (
       holds.0,
       holds.1,
       holds.2,
-      staged_from lists writes (index + 1) (record_digest before index x) (drop b rest) shut size holds.3
+      staged_from f lists writes (index + 1) (record_digest before index x) (drop b rest) shut size holds.3
           (λ k i lt is. slice_get-drop b rest i ∙ body k (suc (b + i)) lt (omega arith))
           (λ i is. slice_get-drop b rest i ∙ behind (suc (b + i)) (omega arith)) closed,
     )
 
 -- any gate before the staged body
-pub staged-set : (lists : List (List KeyWrite)) (writes : List KeyWrite) (index : ℕ) (before : List ℕ) (rest : List (List ℕ)) (n : ℕ) (s : List ℕ) → n ≡ span lists → Staged lists writes index before rest → Staged lists writes index before (set rest n s)
-staged-set lists writes index before [] n s is staged = absurd staged
-staged-set [] writes index before (gate ∷ rest) zero s is staged = staged
-staged-set [] writes index before (gate ∷ rest) (suc n) s is staged = absurd (omega arith)
-staged-set (x ∷ lists) writes index before (gate ∷ rest) zero s is staged = absurd (omega arith)
-staged-set (x ∷ lists) writes index before (gate ∷ rest) (suc n) s is staged =
+pub staged-set : (f : LogFormat) (lists : List (List KeyWrite)) (writes : List KeyWrite) (index : ℕ) (before : List ℕ) (rest : List (List ℕ)) (n : ℕ) (s : List ℕ) → n ≡ span lists → Staged f lists writes index before rest → Staged f lists writes index before (set rest n s)
+staged-set f lists writes index before [] n s is staged = absurd staged
+staged-set f [] writes index before (gate ∷ rest) zero s is staged = staged
+staged-set f [] writes index before (gate ∷ rest) (suc n) s is staged = absurd (omega arith)
+staged-set f (x ∷ lists) writes index before (gate ∷ rest) zero s is staged = absurd (omega arith)
+staged-set f (x ∷ lists) writes index before (gate ∷ rest) (suc n) s is staged =
     let b = sectors_of x in
     let split : n ≡ b + span lists = omega arith in
     let front : take b (set rest n s) ≡ take b rest = take-set-le b rest n s (omega arith) in
     let back : drop b (set rest n s) ≡ set (drop b rest) (span lists) s =
     ap (λ (k : ℕ). drop b (set rest k s)) split ∙ drop-set-add b rest (span lists) s in
-    (staged.0, staged.1, front ∙ staged.2, rw back (staged-set lists writes (index + 1) (record_digest before index x) (drop b rest) (span lists) s refl staged.3))
+    (staged.0, staged.1, front ∙ staged.2, rw back (staged-set f lists writes (index + 1) (record_digest before index x) (drop b rest) (span lists) s refl staged.3))
 
 -- a staged record counts where its gate is open
-pub staged_gate : (lists : List (List KeyWrite)) (writes : List KeyWrite) (index : ℕ) (before : List ℕ) (rest : List (List ℕ)) → IsWriteSet writes → Staged lists writes index before rest → HoldsRecords lists index before rest ⊎ HoldsRecords (lists ++ writes ∷ []) index before rest
-staged_gate lists writes index before [] proper staged = absurd staged
-staged_gate [] writes index before (gate ∷ rest) proper staged = elim (cases_Bool (is_open gate)) [
+pub staged_gate : (f : LogFormat) (lists : List (List KeyWrite)) (writes : List KeyWrite) (index : ℕ) (before : List ℕ) (rest : List (List ℕ)) → IsWriteSet f writes → Staged f lists writes index before rest → HoldsRecords f lists index before rest ⊎ HoldsRecords f (lists ++ writes ∷ []) index before rest
+staged_gate f lists writes index before [] proper staged = absurd staged
+staged_gate f [] writes index before (gate ∷ rest) proper staged = elim (cases_Bool (is_open gate)) [
   | inl opened ↦ inr (opened, proper, staged.0, staged.1)
   | inr shut ↦ inl shut
 ]
-staged_gate (x ∷ lists) writes index before (gate ∷ rest) proper staged =
+staged_gate f (x ∷ lists) writes index before (gate ∷ rest) proper staged =
     ⊎_elim (λ holds. inl (staged.0, staged.1, staged.2, holds)) (λ holds. inr (staged.0, staged.1, staged.2, holds))
-    (staged_gate lists writes (index + 1) (record_digest before index x) (drop (sectors_of x) rest) proper staged.3)
+    (staged_gate f lists writes (index + 1) (record_digest before index x) (drop (sectors_of x) rest) proper staged.3)
 
-pub staged_open : (lists : List (List KeyWrite)) (writes : List KeyWrite) (index : ℕ) (before : List ℕ) (rest : List (List ℕ)) (gate : List ℕ) → IsWriteSet writes → Staged lists writes index before rest → slice_get rest (span lists) ≡ Some gate → is_open gate ≡ true → HoldsRecords (lists ++ writes ∷ []) index before rest
-staged_open lists writes index before [] gate proper staged at opened = absurd staged
-staged_open [] writes index before (g ∷ rest) gate proper staged at opened =
+pub staged_open : (f : LogFormat) (lists : List (List KeyWrite)) (writes : List KeyWrite) (index : ℕ) (before : List ℕ) (rest : List (List ℕ)) (gate : List ℕ) → IsWriteSet f writes → Staged f lists writes index before rest → slice_get rest (span lists) ≡ Some gate → is_open gate ≡ true → HoldsRecords f (lists ++ writes ∷ []) index before rest
+staged_open f lists writes index before [] gate proper staged at opened = absurd staged
+staged_open f [] writes index before (g ∷ rest) gate proper staged at opened =
     let same : g ≡ gate = cc at in
     (ap is_open same ∙ opened, proper, staged.0, staged.1)
-staged_open (x ∷ lists) writes index before (g ∷ rest) gate proper staged at opened =
-    (staged.0, staged.1, staged.2, staged_open lists writes (index + 1) (record_digest before index x) (drop (sectors_of x) rest) gate proper staged.3 (slice_get-drop (sectors_of x) rest (span lists) ∙ at) opened)
+staged_open f (x ∷ lists) writes index before (g ∷ rest) gate proper staged at opened =
+    (staged.0, staged.1, staged.2, staged_open f lists writes (index + 1) (record_digest before index x) (drop (sectors_of x) rest) gate proper staged.3 (slice_get-drop (sectors_of x) rest (span lists) ∙ at) opened)
 
-pub image_staged-set : (lists : List (List KeyWrite)) (writes : List KeyWrite) (c : List (List ℕ)) (n : ℕ) (s : List ℕ) → n ≡ 1 + span lists → IsStaged lists writes c → IsStaged lists writes (set c n s)
-image_staged-set lists writes [] n s is staged = absurd staged
-image_staged-set lists writes (head ∷ rest) zero s is staged = absurd (omega arith)
-image_staged-set lists writes (head ∷ rest) (suc n) s is staged = (staged.0, staged-set lists writes 0 first_digest rest n s (omega arith) staged.1)
+pub image_staged-set : (f : LogFormat) (lists : List (List KeyWrite)) (writes : List KeyWrite) (c : List (List ℕ)) (n : ℕ) (s : List ℕ) → n ≡ 1 + span lists → IsStaged f lists writes c → IsStaged f lists writes (set c n s)
+image_staged-set f lists writes [] n s is staged = absurd staged
+image_staged-set f lists writes (head ∷ rest) zero s is staged = absurd (omega arith)
+image_staged-set f lists writes (head ∷ rest) (suc n) s is staged = (staged.0, staged-set f lists writes 0 first_digest rest n s (omega arith) staged.1)
 
-pub image_staged_gate : (lists : List (List KeyWrite)) (writes : List KeyWrite) (c : List (List ℕ)) → IsWriteSet writes → IsStaged lists writes c → IsBeforeOrAfter lists writes c
-image_staged_gate lists writes [] proper staged = absurd staged
-image_staged_gate lists writes (head ∷ rest) proper staged =
-    ⊎_elim (λ holds. inl (staged.0, holds)) (λ holds. inr (staged.0, holds)) (staged_gate lists writes 0 first_digest rest proper staged.1)
+pub image_staged_gate : (f : LogFormat) (lists : List (List KeyWrite)) (writes : List KeyWrite) (c : List (List ℕ)) → IsWriteSet f writes → IsStaged f lists writes c → IsLogImage f lists c ⊎ IsLogImage f (lists ++ writes ∷ []) c
+image_staged_gate f lists writes [] proper staged = absurd staged
+image_staged_gate f lists writes (head ∷ rest) proper staged =
+    ⊎_elim (λ holds. inl (staged.0, holds)) (λ holds. inr (staged.0, holds)) (staged_gate f lists writes 0 first_digest rest proper staged.1)
 
-pub image_staged_open : (lists : List (List KeyWrite)) (writes : List KeyWrite) (c : List (List ℕ)) (n : ℕ) (gate : List ℕ) → n ≡ 1 + span lists → IsWriteSet writes → IsStaged lists writes c → slice_get c n ≡ Some gate → is_open gate ≡ true → IsLogImage (lists ++ writes ∷ []) c
-image_staged_open lists writes [] n gate is proper staged at opened = absurd staged
-image_staged_open lists writes (head ∷ rest) zero gate is proper staged at opened = absurd (omega arith)
-image_staged_open lists writes (head ∷ rest) (suc n) gate is proper staged at opened =
+pub image_staged_open : (f : LogFormat) (lists : List (List KeyWrite)) (writes : List KeyWrite) (c : List (List ℕ)) (n : ℕ) (gate : List ℕ) → n ≡ 1 + span lists → IsWriteSet f writes → IsStaged f lists writes c → slice_get c n ≡ Some gate → is_open gate ≡ true → IsLogImage f (lists ++ writes ∷ []) c
+image_staged_open f lists writes [] n gate is proper staged at opened = absurd staged
+image_staged_open f lists writes (head ∷ rest) zero gate is proper staged at opened = absurd (omega arith)
+image_staged_open f lists writes (head ∷ rest) (suc n) gate is proper staged at opened =
     let same : n ≡ span lists = omega arith in
-    (staged.0, staged_open lists writes 0 first_digest rest gate proper staged.1 (subst (λ (k : ℕ). slice_get rest k ≡ Some gate) same at) opened)
+    (staged.0, staged_open f lists writes 0 first_digest rest gate proper staged.1 (subst (λ (k : ℕ). slice_get rest k ≡ Some gate) same at) opened)
 
 pub length-sectors_in : (n : ℕ) (bytes : List ℕ) → length (sectors_in n bytes) ≡ n
 length-sectors_in zero bytes = refl
@@ -156,15 +157,15 @@ get_or-sectors_in (suc n) bytes (suc k) lt =
     let e : 512 + 512 * k ≡ 512 * suc k = omega arith in
     get_or-sectors_in n (drop 512 bytes) k (omega arith) ∙ ap (λ (l : List ℕ). take 512 l) (drop-drop (512 * k) 512 bytes ∙ ap (λ (m : ℕ). drop m bytes) e)
 
-pub image_staged_from : (lists : List (List KeyWrite)) (writes : List KeyWrite) (c : List (List ℕ)) (bytes shut : List ℕ) → bytes ≡ padded_body (last_digest lists 0 first_digest) (next_index lists 0) writes → IsLogImage lists c
+pub image_staged_from : (f : LogFormat) (lists : List (List KeyWrite)) (writes : List KeyWrite) (c : List (List ℕ)) (bytes shut : List ℕ) → bytes ≡ padded_body (last_digest lists 0 first_digest) (next_index lists 0) writes → IsLogImage f lists c
     → ((k : ℕ) → k < sectors_of writes → slice_get c (1 + span lists + 1 + k) ≡ Some (take 512 (drop (512 * k) bytes)))
-    → slice_get c (1 + span lists + 1 + sectors_of writes) ≡ Some shut → is_open shut ≡ false → IsStaged lists writes c
+    → slice_get c (1 + span lists + 1 + sectors_of writes) ≡ Some shut → is_open shut ≡ false → IsStaged f lists writes c
 unfolding record_body
-image_staged_from lists writes [] bytes shut is holds body behind closed = absurd holds
-image_staged_from lists writes (head ∷ rest) bytes shut is holds body behind closed =
+image_staged_from f lists writes [] bytes shut is holds body behind closed = absurd holds
+image_staged_from f lists writes (head ∷ rest) bytes shut is holds body behind closed =
     let padded = padded_body (last_digest lists 0 first_digest) (next_index lists 0) writes in (
       holds.0,
-      staged_from lists writes 0 first_digest rest shut (length-sectors_in (sectors_of writes) padded) holds.1
+      staged_from f lists writes 0 first_digest rest shut (length-sectors_in (sectors_of writes) padded) holds.1
           (λ k i lt at.
           let place : 1 + span lists + 1 + k ≡ suc i = omega arith in
           subst (λ (n : ℕ). slice_get (head ∷ rest) n ≡ Some (take 512 (drop (512 * k) bytes))) place (body k lt)

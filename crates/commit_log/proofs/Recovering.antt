@@ -9,14 +9,15 @@ use Rattle.commit_log.specs.Recovery.{map_after, map_after-push}
 use Rattle.commit_log.specs.Opening.{IsDamagedAt}
 use Rattle.commit_log.proofs.Records.{slice_get-drop}
 use Rattle.commit_log.proofs.Appending.{span-push, next_index-is, last_digest-push}
+use Rattle.commit_log.specs.declared.formats.LogFormat.{LogFormat}
 
 -- right records of these write sets stand in front
-abbrev pub Front : List (List KeyWrite) → ℕ → List ℕ → List (List ℕ) → Type 0
-Front [] index before rest = Unit {0}
-Front (writes ∷ lists) index before [] = ⊥
-Front (writes ∷ lists) index before (gate ∷ rest) =
-    (is_open gate ≡ true) × IsWriteSet writes × (take (sectors_of writes) rest ≡ record_body before index writes)
-    × Front lists (index + 1) (record_digest before index writes) (drop (sectors_of writes) rest)
+abbrev pub Front : LogFormat → List (List KeyWrite) → ℕ → List ℕ → List (List ℕ) → Type 0
+Front f [] index before rest = Unit {0}
+Front f (writes ∷ lists) index before [] = ⊥
+Front f (writes ∷ lists) index before (gate ∷ rest) =
+    (is_open gate ≡ true) × IsWriteSet f writes × (take (sectors_of writes) rest ≡ record_body before index writes)
+    × Front f lists (index + 1) (record_digest before index writes) (drop (sectors_of writes) rest)
 
 pub is_open_if : (gate : List ℕ) → get_or gate 0 0 ≡ 1 → is_open gate ≡ true
 is_open_if gate is = grind (arith, nat_tests)
@@ -30,52 +31,52 @@ behind b n gate rest =
     let e : suc (b + n) ≡ b + suc n = omega arith in
     ap (λ (k : ℕ). drop k rest) e ∙ sym (drop-drop (suc n) b rest)
 
-pub front_end : (lists : List (List KeyWrite)) (index : ℕ) (before : List ℕ) (rest : List (List ℕ)) (gate : List ℕ) → Front lists index before rest → slice_get rest (span lists) ≡ Some gate → is_open gate ≡ false → HoldsRecords lists index before rest
-front_end [] index before [] gate front at shut = absurd (cc at)
-front_end [] index before (g ∷ rest) gate front at shut = let same : g ≡ gate = cc at in ap is_open same ∙ shut
-front_end (w ∷ lists) index before [] gate front at shut = absurd front
-front_end (w ∷ lists) index before (g ∷ rest) gate front at shut =
-    (front.0, front.1, front.2, front_end lists (index + 1) (record_digest before index w) (drop (sectors_of w) rest) gate front.3 (slice_get-drop (sectors_of w) rest (span lists) ∙ at) shut)
+pub front_end : (f : LogFormat) (lists : List (List KeyWrite)) (index : ℕ) (before : List ℕ) (rest : List (List ℕ)) (gate : List ℕ) → Front f lists index before rest → slice_get rest (span lists) ≡ Some gate → is_open gate ≡ false → HoldsRecords f lists index before rest
+front_end f [] index before [] gate front at shut = absurd (cc at)
+front_end f [] index before (g ∷ rest) gate front at shut = let same : g ≡ gate = cc at in ap is_open same ∙ shut
+front_end f (w ∷ lists) index before [] gate front at shut = absurd front
+front_end f (w ∷ lists) index before (g ∷ rest) gate front at shut =
+    (front.0, front.1, front.2, front_end f lists (index + 1) (record_digest before index w) (drop (sectors_of w) rest) gate front.3 (slice_get-drop (sectors_of w) rest (span lists) ∙ at) shut)
 
-pub front_damage : (lists : List (List KeyWrite)) (index : ℕ) (before : List ℕ) (rest : List (List ℕ)) (gate : List ℕ) → Front lists index before rest → slice_get rest (span lists) ≡ Some gate → is_open gate ≡ true
-    → ((w : List KeyWrite) → IsRecordAt (next_index lists index) (last_digest lists index before) (drop (suc (span lists)) rest) w → ⊥) → HoldsDamage lists index before rest
-front_damage [] index before [] gate front at opened none = absurd (cc at)
-front_damage [] index before (g ∷ rest) gate front at opened none = let same : g ≡ gate = cc at in (ap is_open same ∙ opened, none)
-front_damage (w ∷ lists) index before [] gate front at opened none = absurd front
-front_damage (w ∷ lists) index before (g ∷ rest) gate front at opened none = (
+pub front_damage : (f : LogFormat) (lists : List (List KeyWrite)) (index : ℕ) (before : List ℕ) (rest : List (List ℕ)) (gate : List ℕ) → Front f lists index before rest → slice_get rest (span lists) ≡ Some gate → is_open gate ≡ true
+    → ((w : List KeyWrite) → IsRecordAt f (next_index lists index) (last_digest lists index before) (drop (suc (span lists)) rest) w → ⊥) → HoldsDamage f lists index before rest
+front_damage f [] index before [] gate front at opened none = absurd (cc at)
+front_damage f [] index before (g ∷ rest) gate front at opened none = let same : g ≡ gate = cc at in (ap is_open same ∙ opened, none)
+front_damage f (w ∷ lists) index before [] gate front at opened none = absurd front
+front_damage f (w ∷ lists) index before (g ∷ rest) gate front at opened none = (
   front.0,
   front.1,
   front.2,
-  front_damage lists (index + 1) (record_digest before index w) (drop (sectors_of w) rest) gate front.3 (slice_get-drop (sectors_of w) rest (span lists) ∙ at) opened
+  front_damage f lists (index + 1) (record_digest before index w) (drop (sectors_of w) rest) gate front.3 (slice_get-drop (sectors_of w) rest (span lists) ∙ at) opened
       (λ x right. none x (rw (behind (sectors_of w) (span lists) g rest) right)),
 )
 
-pub front_more : (lists : List (List KeyWrite)) (writes : List KeyWrite) (index : ℕ) (before : List ℕ) (rest : List (List ℕ)) (gate : List ℕ) → Front lists index before rest → slice_get rest (span lists) ≡ Some gate → is_open gate ≡ true
-    → IsRecordAt (next_index lists index) (last_digest lists index before) (drop (suc (span lists)) rest) writes → Front (lists ++ writes ∷ []) index before rest
-front_more [] writes index before [] gate front at opened right = absurd (cc at)
-front_more [] writes index before (g ∷ rest) gate front at opened right = let same : g ≡ gate = cc at in (ap is_open same ∙ opened, right.proper, right.body, tt)
-front_more (w ∷ lists) writes index before [] gate front at opened right = absurd front
-front_more (w ∷ lists) writes index before (g ∷ rest) gate front at opened right = (
+pub front_more : (f : LogFormat) (lists : List (List KeyWrite)) (writes : List KeyWrite) (index : ℕ) (before : List ℕ) (rest : List (List ℕ)) (gate : List ℕ) → Front f lists index before rest → slice_get rest (span lists) ≡ Some gate → is_open gate ≡ true
+    → IsRecordAt f (next_index lists index) (last_digest lists index before) (drop (suc (span lists)) rest) writes → Front f (lists ++ writes ∷ []) index before rest
+front_more f [] writes index before [] gate front at opened right = absurd (cc at)
+front_more f [] writes index before (g ∷ rest) gate front at opened right = let same : g ≡ gate = cc at in (ap is_open same ∙ opened, right.proper, right.body, tt)
+front_more f (w ∷ lists) writes index before [] gate front at opened right = absurd front
+front_more f (w ∷ lists) writes index before (g ∷ rest) gate front at opened right = (
   front.0,
   front.1,
   front.2,
-  front_more lists writes (index + 1) (record_digest before index w) (drop (sectors_of w) rest) gate front.3 (slice_get-drop (sectors_of w) rest (span lists) ∙ at) opened
+  front_more f lists writes (index + 1) (record_digest before index w) (drop (sectors_of w) rest) gate front.3 (slice_get-drop (sectors_of w) rest (span lists) ∙ at) opened
       (rw (behind (sectors_of w) (span lists) g rest) at right),
 )
 
 -- what has been read so far
-pub record HasRead (rest : List (List ℕ)) (gate : ℕ) (records : ℕ) (digest : List ℕ) (contents : KeyMap) : Type 0 where
+pub record HasRead (f : LogFormat) (rest : List (List ℕ)) (gate : ℕ) (records : ℕ) (digest : List ℕ) (contents : KeyMap) : Type 0 where
   pub lists : List (List KeyWrite)
-  pub front : Front lists 0 first_digest rest
+  pub front : Front f lists 0 first_digest rest
   pub gate_is : gate ≡ 1 + span lists
   pub records_are : records ≡ length lists
   pub digest_is : digest ≡ last_digest lists 0 first_digest
   pub map_is : contents ≡ map_after [] lists
 
-pub nothing_read : (rest : List (List ℕ)) (digest : List ℕ) (contents : KeyMap) → digest ≡ first_digest → contents ≡ [] → HasRead rest 1 0 digest contents
-nothing_read rest digest contents is empty = record { lists = []; front = tt; gate_is = refl; records_are = refl; digest_is = is; map_is = empty }
+pub nothing_read : (f : LogFormat) (rest : List (List ℕ)) (digest : List ℕ) (contents : KeyMap) → digest ≡ first_digest → contents ≡ [] → HasRead f rest 1 0 digest contents
+nothing_read f rest digest contents is empty = record { lists = []; front = tt; gate_is = refl; records_are = refl; digest_is = is; map_is = empty }
 
-module _ (image : List (List ℕ)) (gate index : ℕ) (digest : List ℕ) (contents : KeyMap) (sector : List ℕ) (read : HasRead (drop 1 image) gate index digest contents) (there : slice_get image gate ≡ Some sector) where
+module _ (f : LogFormat) (image : List (List ℕ)) (gate index : ℕ) (digest : List ℕ) (contents : KeyMap) (sector : List ℕ) (read : HasRead f (drop 1 image) gate index digest contents) (there : slice_get image gate ≡ Some sector) where
   gate_there : slice_get (drop 1 image) (span read.lists) ≡ Some sector
   gate_there =
       let e : 1 + span read.lists ≡ gate = sym read.gate_is in
@@ -89,23 +90,23 @@ module _ (image : List (List ℕ)) (gate index : ℕ) (digest : List ℕ) (conte
       let e : gate + 1 ≡ 1 + suc (span read.lists) = omega (arith, read.gate_is) in
       ap (λ (n : ℕ). drop n image) e ∙ sym (drop-drop (suc (span read.lists)) 1 image)
 
-  pub ended : (get_or sector 0 0 ≡ 1 → ⊥) → HoldsRecords read.lists 0 first_digest (drop 1 image)
-  ended shut = front_end read.lists 0 first_digest (drop 1 image) sector read.front gate_there (is_shut_if sector shut)
+  pub ended : (get_or sector 0 0 ≡ 1 → ⊥) → HoldsRecords f read.lists 0 first_digest (drop 1 image)
+  ended shut = front_end f read.lists 0 first_digest (drop 1 image) sector read.front gate_there (is_shut_if sector shut)
 
-  pub damaged : get_or sector 0 0 ≡ 1 → ((w : List KeyWrite) → IsRecordAt index digest (drop (gate + 1) image) w → ⊥) → IsDamagedAt (drop 1 image) index
+  pub damaged : get_or sector 0 0 ≡ 1 → ((w : List KeyWrite) → IsRecordAt f index digest (drop (gate + 1) image) w → ⊥) → IsDamagedAt f (drop 1 image) index
   damaged opened none = record {
     lists = read.lists;
     count = sym read.records_are;
     holds =
-        front_damage read.lists 0 first_digest (drop 1 image) sector read.front gate_there (is_open_if sector opened)
+        front_damage f read.lists 0 first_digest (drop 1 image) sector read.front gate_there (is_open_if sector opened)
         (λ w right. none w (rw (place, index_is, read.digest_is) right));
   }
 
-  pub more : get_or sector 0 0 ≡ 1 → (w : List KeyWrite) (sectors : ℕ) (next : List ℕ) (after : KeyMap) → IsRecordAt index digest (drop (gate + 1) image) w → sectors ≡ sectors_of w → next ≡ record_digest digest index w
-      → after ≡ after_writes contents w → HasRead (drop 1 image) (gate + (1 + sectors)) (index + 1) next after
+  pub more : get_or sector 0 0 ≡ 1 → (w : List KeyWrite) (sectors : ℕ) (next : List ℕ) (after : KeyMap) → IsRecordAt f index digest (drop (gate + 1) image) w → sectors ≡ sectors_of w → next ≡ record_digest digest index w
+      → after ≡ after_writes contents w → HasRead f (drop 1 image) (gate + (1 + sectors)) (index + 1) next after
   more opened w sectors next after right sectors_are next_is after_is = record {
     lists = read.lists ++ w ∷ [];
-    front = front_more read.lists w 0 first_digest (drop 1 image) sector read.front gate_there (is_open_if sector opened) (rw (place, index_is, read.digest_is) at right);
+    front = front_more f read.lists w 0 first_digest (drop 1 image) sector read.front gate_there (is_open_if sector opened) (rw (place, index_is, read.digest_is) at right);
     gate_is = omega (arith, read.gate_is, sectors_are, span-push read.lists w);
     records_are = omega (arith, read.records_are, length-append read.lists (w ∷ []));
     digest_is =

@@ -1,4 +1,5 @@
 -- The log: its format, what an image holds, what a log stands for, and what opening finds.
+pub mod Format
 pub mod RecordFormat
 pub mod LogImage
 pub mod Recovery
@@ -6,3 +7,5 @@ pub mod LogState
 pub mod LogFaults
 pub mod Reading
 pub mod Opening
+pub mod Copying
+pub mod MapReading

@@ -3,6 +3,7 @@ use Rattle.std.specs.Prelude.{◌≡◌, ◌⊎◌, ℕ, ◌+◌, ◌/◌, Bool,
 use Rattle.sector.specs.declared.device.Sectors.{Ghosts}
 use Rattle.sector.specs.SectorModel.{IsSettled, IsSameElsewhere}
 use Rattle.model.specs.Map.{KeyWrite}
+use Rattle.commit_log.specs.Format.{current}
 use Rattle.commit_log.specs.RecordFormat.{IsWriteSet, sectors_of, padded_body, first_digest, closed_gate}
 use Rattle.commit_log.specs.LogImage.{IsLogImage, span, last_digest, next_index}
 use Rattle.commit_log.specs.declared.log.Log.{Log}
@@ -34,12 +35,12 @@ pub record StandsFor {D : Type 0} {g : Ghosts D} (log : Log D g) (lists : List (
   pub gate : log.gate ≡ 1 + span lists
   pub records : log.records ≡ length lists
   pub digest : log.digest ≡ last_digest lists 0 first_digest
-  pub settled : (image : List (List ℕ)) × IsSettled (g.size log.device) (g.may_read log.device) (g.may_leave log.device) image × IsLogImage lists image
-  pub left : (c : List (List ℕ)) → g.may_leave log.device c → IsLogImage lists c
+  pub settled : (image : List (List ℕ)) × IsSettled (g.size log.device) (g.may_read log.device) (g.may_leave log.device) image × IsLogImage current lists image
+  pub left : (c : List (List ℕ)) → g.may_leave log.device c → IsLogImage current lists c
 
 -- the image is a log of these write sets, or of them and one more
 abbrev pub IsBeforeOrAfter : List (List KeyWrite) → List KeyWrite → List (List ℕ) → Type 0
-IsBeforeOrAfter lists writes c = IsLogImage lists c ⊎ IsLogImage (lists ++ writes ∷ []) c
+IsBeforeOrAfter lists writes c = IsLogImage current lists c ⊎ IsLogImage current (lists ++ writes ∷ []) c
 
 -- an image that is the same as one of these before this sector
 abbrev pub IsSameBefore : ℕ → (List (List ℕ) → Type 0) → List (List ℕ) → Type 0
@@ -51,7 +52,7 @@ IsBeingMade may_leave c = (d : List (List ℕ)) × may_leave d × (IsSameElsewhe
 
 -- these bytes are the body of this write set's record behind those of the others, and this is its gate
 pub record IsNextRecord (lists : List (List KeyWrite)) (writes : List KeyWrite) (gate : ℕ) (bytes : List ℕ) : Type 0 where
-  pub proper : IsWriteSet writes
+  pub proper : IsWriteSet current writes
   pub gate_is : gate ≡ 1 + span lists
   pub sectors : length bytes / 512 ≡ sectors_of writes
   pub bytes_are : bytes ≡ padded_body (last_digest lists 0 first_digest) (next_index lists 0) writes

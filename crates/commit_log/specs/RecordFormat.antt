@@ -1,4 +1,4 @@
--- The bytes of the log's sectors, format 1. All numbers are big-endian.
+-- The bytes of the log's sectors. All numbers are big-endian.
 use Rattle.std.specs.Prelude.{ℕ, zero, suc, ◌+◌, ◌-◌, ◌*◌, ◌/◌, ◌≤◌, Bool, T, ◌==◌, List, [], ◌∷◌, ◌++◌, length, take, drop, replicate, All, IfSome, Option, Some, None, slice_index}
 use Rattle.std.specs.List.{flat_map}
 use Rattle.std.specs.Cmp.Lexicographic.{slice_cmp}
@@ -6,8 +6,10 @@ use Rattle.std.specs.Ordering.{nat_cmp}
 use Rattle.std.specs.FinMap.Entries.{is_sorted}
 use Rattle.byteorder.specs.Endian.{big_bytes}
 use Rattle.sha2.specs.Sha256.{sha256}
-use Rattle.model.specs.Key.{IsKey, IsValue}
+use Rattle.model.specs.Key.{IsKey}
 use Rattle.model.specs.Map.{KeyWrite}
+use Rattle.commit_log.specs.Format.{value_bound}
+use Rattle.commit_log.specs.declared.formats.LogFormat.{LogFormat}
 
 -- what stands behind an entry's key: a put with its value, or a deletion
 abbrev pub value_bytes : Option (List ℕ) → List ℕ
@@ -68,22 +70,22 @@ closed_gate = replicate 512 0
 unfoldable pub open_gate : List ℕ
 open_gate = 1 ∷ replicate 511 0
 
--- the first sector: `SSIKVLG1`, and zeros
-unfoldable pub head_sector : List ℕ
-head_sector = (83 ∷ 83 ∷ 73 ∷ 75 ∷ 86 ∷ 76 ∷ 71 ∷ 49 ∷ []) ++ replicate 504 0
+-- what a record of this format may hold as a value
+abbrev pub IsValueIn : LogFormat → List ℕ → Type 0
+IsValueIn f value = length value ≤ value_bound f
 
 -- a write of a key, with a value or with none
-pub record IsWithinLimits (write : KeyWrite) : Type 0 where
+pub record IsWithinLimits (f : LogFormat) (write : KeyWrite) : Type 0 where
   pub key : IsKey write.0
-  pub value : IfSome write.1 IsValue
+  pub value : IfSome write.1 (IsValueIn f)
 
 -- each key is below those behind it
 abbrev pub IsRising : List KeyWrite → Type 0
 IsRising writes = T (is_sorted (slice_cmp nat_cmp) writes)
 
--- what a record may hold: 1 to 64 writes by strictly rising key
-pub record IsWriteSet (writes : List KeyWrite) : Type 0 where
+-- what a record of this format may hold: 1 to 64 writes by strictly rising key
+pub record IsWriteSet (f : LogFormat) (writes : List KeyWrite) : Type 0 where
   pub some : 1 ≤ length writes
   pub at_most : length writes ≤ 64
-  pub limits : All IsWithinLimits writes
+  pub limits : All (IsWithinLimits f) writes
   pub rising : IsRising writes

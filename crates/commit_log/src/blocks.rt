@@ -15,6 +15,7 @@ pub fn write_sectors<D: Sectors>(device: &mut D, at: u64, bytes: &[u8]) -> Resul
     ensures ok { OnOk result (D.failures device.new ≡ D.failures device.old) }
     ensures fault { OnErr result (Rose (D.failures device.old) (D.failures device.new)) }
     ensures written { D.keeps_model → OnOk result ((k : ℕ) (s : List ℕ) → k < length bytes.now / 512 → D.may_read device.new (at + k) s → s ≡ take 512 (drop (512 * k) bytes.now)) }
+    ensures others { D.keeps_model → OnOk result ((i : ℕ) (s : List ℕ) → i < at → D.may_read device.new i s → D.may_read device.old i s) }
     ensures crash { D.keeps_model → (c : List (List ℕ)) → D.may_leave device.new c → IsSameBefore at (D.may_leave device.old) c }
     ensures time { D.keeps_model → LeavesOnly D.moment D.left_since device.old device.new (IsSameBefore at (D.may_leave device.old)) }
 {

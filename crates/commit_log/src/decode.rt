@@ -3,13 +3,14 @@ ghost use Rattle.std.specs.Prelude.{◌≡◌, ◌<◌, ◌≤◌, ◌+◌, ◌*
 ghost use Rattle.std.specs.Option.{option_map};
 ghost use Rattle.std.specs.declared.cmp.Ordering.TheVariants.{Less};
 ghost use Rattle.byteorder.specs.Endian.{big_bytes, big_number};
-ghost use Rattle.model.specs.Key.{IsKey, IsValue};
+ghost use Rattle.model.specs.Key.{IsKey};
 ghost use Rattle.model.specs.Map.{KeyWrite, key_cmp};
-ghost use Rattle.commit_log.specs.RecordFormat.{IsWithinLimits, IsRising, IsWriteSet, value_bytes, entry_bytes, payload_bytes, padded_body, record_digest, sectors_for};
+ghost use Rattle.commit_log.specs.RecordFormat.{IsValueIn, IsWithinLimits, IsRising, IsWriteSet, value_bytes, entry_bytes, payload_bytes, padded_body, record_digest, sectors_for};
 
 use crate::encode::digest_of;
+use crate::formats::LogFormat;
 use byteorder::{BigEndian, ByteOrder};
-use model::{Key, KeyRef, Memory, VALUE_MAX, Write};
+use model::{Key, KeyRef, Memory, Write};
 use std::alloc::Global;
 use std::cmp::Ordering;
 
@@ -43,10 +44,14 @@ fn take_u32(bytes: &[u8]) -> Option<(u32, &[u8])>
 }
 
 /// A value at the front, or the mark of a deletion.
-fn take_value(alloc: Global, bytes: &[u8]) -> Result<Option<(Option<Vec<u8>>, &[u8])>, Memory>
+fn take_value(
+    alloc: Global,
+    format: LogFormat,
+    bytes: &[u8],
+) -> Result<Option<(Option<Vec<u8>>, &[u8])>, Memory>
     ensures some { IfOk result (λ o. IfSome o (λ r. bytes.now ≡ value_bytes (option_map (λ v. v.items) r.0) ++ r.1.now)) }
-    ensures limits { IfOk result (λ o. IfSome o (λ r. IfSome (option_map (λ v. v.items) r.0) IsValue)) }
-    ensures none { IfOk result (λ o. IfNone o ((value : Option (List ℕ)) (rest : List ℕ) → IfSome value IsValue → bytes.now ≡ value_bytes value ++ rest → ⊥)) }
+    ensures limits { IfOk result (λ o. IfSome o (λ r. IfSome (option_map (λ v. v.items) r.0) (IsValueIn format))) }
+    ensures none { IfOk result (λ o. IfNone o ((value : Option (List ℕ)) (rest : List ℕ) → IfSome value (IsValueIn format) → bytes.now ≡ value_bytes value ++ rest → ⊥)) }
 {
     let Some((kind, rest)) = bytes.split_first() else {
         return Ok(None);
@@ -60,7 +65,7 @@ fn take_value(alloc: Global, bytes: &[u8]) -> Result<Option<(Option<Vec<u8>>, &[
     let Some((len, rest)) = take_u32(rest) else {
         return Ok(None);
     };
-    if len as usize > VALUE_MAX || rest.len() < len as usize {
+    if len as usize > format.value_max() || rest.len() < len as usize {
         return Ok(None);
     }
     let (value, rest) = rest.split_at(len as usize);
@@ -81,15 +86,19 @@ fn take_key(bytes: &[u8]) -> Option<(KeyRef<'_>, &[u8])>
 }
 
 /// An entry at the front.
-fn take_entry(alloc: Global, bytes: &[u8]) -> Result<Option<(Write, &[u8])>, Memory>
+fn take_entry(
+    alloc: Global,
+    format: LogFormat,
+    bytes: &[u8],
+) -> Result<Option<(Write, &[u8])>, Memory>
     ensures some { IfOk result (λ o. IfSome o (λ r. bytes.now ≡ entry_bytes r.0 ++ r.1.now)) }
-    ensures limits { IfOk result (λ o. IfSome o (λ r. IsWithinLimits r.0)) }
-    ensures none { IfOk result (λ o. IfNone o ((write : KeyWrite) (rest : List ℕ) → IsWithinLimits write → bytes.now ≡ entry_bytes write ++ rest → ⊥)) }
+    ensures limits { IfOk result (λ o. IfSome o (λ r. IsWithinLimits format r.0)) }
+    ensures none { IfOk result (λ o. IfNone o ((write : KeyWrite) (rest : List ℕ) → IsWithinLimits format write → bytes.now ≡ entry_bytes write ++ rest → ⊥)) }
 {
     let Some((key, rest)) = take_key(bytes) else {
         return Ok(None);
     };
-    let Some((value, rest)) = take_value(alloc, rest)? else {
+    let Some((value, rest)) = take_value(alloc, format, rest)? else {
         return Ok(None);
     };
     Ok(Some((Write::new(Key::from_ref(alloc, key)?, value), rest)))
@@ -108,10 +117,14 @@ fn rises(writes: &[Write], write: &Write) -> bool
 }
 
 /// The writes of a payload, or none where it isn't one.
-fn decode_payload(alloc: Global, bytes: &[u8]) -> Result<Option<Vec<Write>>, Memory>
+fn decode_payload(
+    alloc: Global,
+    format: LogFormat,
+    bytes: &[u8],
+) -> Result<Option<Vec<Write>>, Memory>
     ensures some { IfOk result (λ o. IfSome o (λ v. payload_bytes v.items ≡ bytes.now)) }
-    ensures proper { IfOk result (λ o. IfSome o (λ v. IsWriteSet v.items)) }
-    ensures none { IfOk result (λ o. IfNone o ((writes : List KeyWrite) → IsWriteSet writes → payload_bytes writes ≡ bytes.now → ⊥)) }
+    ensures proper { IfOk result (λ o. IfSome o (λ v. IsWriteSet format v.items)) }
+    ensures none { IfOk result (λ o. IfNone o ((writes : List KeyWrite) → IsWriteSet format writes → payload_bytes writes ≡ bytes.now → ⊥)) }
 {
     let Some((count, mut rest)) = take_u32(bytes) else {
         return Ok(None);
@@ -121,7 +134,7 @@ fn decode_payload(alloc: Global, bytes: &[u8]) -> Result<Option<Vec<Write>>, Mem
     }
     let mut writes: Vec<Write> = Vec::new(alloc);
     for i in 0..count {
-        let Some((write, after)) = take_entry(alloc, rest)? else {
+        let Some((write, after)) = take_entry(alloc, format, rest)? else {
             return Ok(None);
         };
         if !rises(&writes, &write) {
@@ -155,15 +168,16 @@ fn is_zero(bytes: &[u8]) -> bool
 /// the one with that digest.
 pub fn decode_body(
     alloc: Global,
+    format: LogFormat,
     body: &[u8],
     before: &[u8; 32],
     index: u64,
 ) -> Result<Option<(Vec<Write>, Digest)>, Memory>
     requires { length body.now ≡ 512 * sectors_for (big_number 4 body.now) }
     ensures some { IfOk result (λ o. IfSome o (λ r. padded_body before.now index r.0.items ≡ body.now)) }
-    ensures proper { IfOk result (λ o. IfSome o (λ r. IsWriteSet r.0.items)) }
+    ensures proper { IfOk result (λ o. IfSome o (λ r. IsWriteSet format r.0.items)) }
     ensures digest { IfOk result (λ o. IfSome o (λ r. r.1.bytes ≡ record_digest before.now index r.0.items)) }
-    ensures none { IfOk result (λ o. IfNone o ((writes : List KeyWrite) → IsWriteSet writes → padded_body before.now index writes ≡ body.now → ⊥)) }
+    ensures none { IfOk result (λ o. IfNone o ((writes : List KeyWrite) → IsWriteSet format writes → padded_body before.now index writes ≡ body.now → ⊥)) }
 {
     let Some((len, rest)) = take_u32(body) else {
         return Ok(None);
@@ -183,7 +197,7 @@ pub fn decode_body(
     if !is_zero(zeros) {
         return Ok(None);
     }
-    match decode_payload(alloc, payload)? {
+    match decode_payload(alloc, format, payload)? {
         Some(writes) => Ok(Some((
             writes,
             Digest {

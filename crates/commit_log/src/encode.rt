@@ -1,8 +1,10 @@
 //! The bytes of a record.
-ghost use Rattle.std.specs.Prelude.{◌≡◌, ◌<◌, ◌≤◌, ◌+◌, ◌*◌, ◌/◌, ◌%◌, ◌^◌, ℕ, [], ◌∷◌, ◌++◌, List, length, OnOk, OnErr, IfOk, map, take, drop};
+ghost use Rattle.std.specs.Prelude.{◌≡◌, ◌<◌, ◌≤◌, ◌+◌, ◌*◌, ◌/◌, ◌%◌, ◌^◌, ℕ, [], ◌∷◌, ◌++◌, List, length, vec_capacity, OnOk, OnErr, IfOk, map, take, drop};
 ghost use Rattle.byteorder.specs.Endian.{big_bytes};
 ghost use Rattle.sha2.specs.Sha256.{sha256};
+ghost use Rattle.model.specs.Bounds.{value_max, entry_bound, payload_bound};
 ghost use Rattle.model.specs.Machine.{payload_size, write_size};
+ghost use Rattle.commit_log.specs.Format.{current};
 ghost use Rattle.commit_log.specs.RecordFormat.{IsWithinLimits, IsWriteSet, entry_bytes, payload_bytes, record_digest, padded_body, sectors_for, sectors_of};
 
 use byteorder::{BigEndian, ByteOrder};
@@ -19,9 +21,9 @@ pub fn sectors_for(len: u32) -> u64
 }
 
 fn entry_len(write: &Write) -> u32
-    requires { IsWithinLimits write.now }
+    requires { IsWithinLimits current write.now }
     ensures len { result ≡ write_size write.now.0 write.now.1 }
-    ensures bound { result ≤ 4359 }
+    ensures bound { result ≤ entry_bound value_max }
 {
     let value = match write.value() {
         Some(value) => 4 + value.len(),
@@ -32,9 +34,9 @@ fn entry_len(write: &Write) -> u32
 
 /// How many bytes the payload of a record of these writes has, as `Log::room` takes them. Takes no memory.
 pub fn payload_len(writes: &[Write]) -> u32
-    requires { IsWriteSet writes.now }
+    requires { IsWriteSet current writes.now }
     ensures len { result ≡ payload_size writes.now }
-    ensures bound { result ≤ 278980 }
+    ensures bound { result ≤ payload_bound value_max }
 {
     let mut len = 4;
     for write in writes {
@@ -68,7 +70,7 @@ fn push_u64(out: &mut Vec<u8>, n: u64) -> Result<(), AllocError>
 }
 
 fn push_entry(out: &mut Vec<u8>, write: &Write) -> Result<(), AllocError>
-    requires { IsWithinLimits write.now }
+    requires { IsWithinLimits current write.now }
     ensures { OnOk result (out.new.items ≡ out.old.items ++ entry_bytes write.now) }
 {
     let key = write.lend_key().bytes();
@@ -86,7 +88,7 @@ fn push_entry(out: &mut Vec<u8>, write: &Write) -> Result<(), AllocError>
 }
 
 fn push_payload(out: &mut Vec<u8>, writes: &[Write]) -> Result<(), AllocError>
-    requires { IsWriteSet writes.now }
+    requires { IsWriteSet current writes.now }
     ensures { OnOk result (out.new.items ≡ out.old.items ++ payload_bytes writes.now) }
 {
     push_u32(out, writes.len() as u32)?;
@@ -110,10 +112,11 @@ pub fn digest_of(before: &[u8; 32], index: u64, payload: &[u8]) -> [u8; 32]
 }
 
 /// Puts the digest of the payload that the body ends with into its place, and answers it.
-fn seal(body: &mut Vec<u8>, before: &[u8; 32], index: u64) -> [u8; 32]
+pub fn seal(body: &mut Vec<u8>, before: &[u8; 32], index: u64) -> [u8; 32]
     requires { 44 ≤ length body.old.items }
     ensures digest { result ≡ sha256 ((before.now ++ big_bytes 8 index) ++ drop 44 body.old.items) }
     ensures body { body.new.items ≡ (take 12 body.old.items ++ result) ++ drop 44 body.old.items }
+    ensures capacity { vec_capacity body.new ≡ vec_capacity body.old }
 {
     let digest = digest_of(before, index, &body[44..]);
     body[12..44].copy_from_slice(&digest);
@@ -128,9 +131,9 @@ pub fn encode(
     writes: &[Write],
     len: u32,
 ) -> Result<(Vec<u8>, [u8; 32]), AllocError>
-    requires proper { IsWriteSet writes.now }
+    requires proper { IsWriteSet current writes.now }
     requires len { len ≡ payload_size writes.now }
-    requires bound { len ≤ 278980 }
+    requires bound { len ≤ payload_bound value_max }
     ensures body { IfOk result (λ r. r.0.items ≡ padded_body before.now index writes.now) }
     ensures sectors { IfOk result (λ r. length r.0.items ≡ 512 * sectors_of writes.now) }
     ensures digest { IfOk result (λ r. r.1 ≡ record_digest before.now index writes.now) }

@@ -8,7 +8,7 @@ use thiserror::Error;
 /// Why a call of the log gave up.
 #[derive(Clone, Copy, Debug, PartialEq, Eq, Error)]
 pub enum LogFault {
-    /// The device has fewer than two sectors, or its first isn't the head of a log.
+    /// The device has fewer than two sectors, or its first isn't the head of a log of any format.
     #[error("not a log")]
     NotALog,
     /// Behind this many right records stands an open gate, and not the record that belongs there.
@@ -26,6 +26,12 @@ pub enum LogFault {
     /// Memory was refused.
     #[error("out of memory")]
     Memory,
+    /// The device holds the head of an older format of the log.
+    #[error("the log has an old format")]
+    OldFormat,
+    /// The device's first sector is not all zeros.
+    #[error("the device is not empty")]
+    NotEmpty,
 }
 
 impl From<AllocError> for LogFault {

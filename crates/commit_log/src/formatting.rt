@@ -2,11 +2,13 @@
 ghost use Rattle.std.specs.Prelude.{◌≡◌, ◌≢◌, ◌<◌, ◌≤◌, ◌↔◌, [], List, ℕ, OnOk, OnErr, IsErrOf, IfErr};
 ghost use Rattle.sector.specs.SectorModel.{IsSettled, LeavesOnly};
 ghost use Rattle.sector.specs.Failures.{Rose, Stayed};
+ghost use Rattle.commit_log.specs.Format.{current};
 ghost use Rattle.commit_log.specs.LogImage.{IsLogImage};
 ghost use Rattle.commit_log.specs.LogState.{IsBeingMade};
 ghost use Rattle.commit_log.specs.Reading.{FaultIs};
 
 use crate::faults::LogFault;
+use crate::formats::CURRENT;
 use crate::read::head_sector;
 use crate::record::closed_gate;
 use sector::{DeviceFault, Sectors};
@@ -22,7 +24,7 @@ pub fn format<D: Sectors>(device: &mut D) -> Result<(), LogFault>
     ensures fault { FaultIs (D.failures device.old) (D.failures device.new) result }
     ensures no_fault { OnOk result (Stayed (D.failures device.old) (D.failures device.new)) }
     ensures size { D.size device.new ≡ D.size device.old }
-    ensures formatted { D.keeps_model → OnOk result ((image : List (List ℕ)) × IsSettled (D.size device.new) (D.may_read device.new) (D.may_leave device.new) image × IsLogImage [] image) }
+    ensures formatted { D.keeps_model → OnOk result ((image : List (List ℕ)) × IsSettled (D.size device.new) (D.may_read device.new) (D.may_leave device.new) image × IsLogImage current [] image) }
 
     // A crash at any moment of the call finds the head only where it finds the closed gate, and no other sector changed.
     ensures any_moment { D.keeps_model → LeavesOnly D.moment D.left_since device.old device.new (IsBeingMade (D.may_leave device.old)) }
@@ -42,14 +44,14 @@ fn write_head<D: Sectors>(device: &mut D) -> Result<(), DeviceFault>
     ensures size { D.size device.new ≡ D.size device.old }
     ensures ok { OnOk result (Stayed (D.failures device.old) (D.failures device.new)) }
     ensures fault { OnErr result (Rose (D.failures device.old) (D.failures device.new)) }
-    ensures formatted { D.keeps_model → OnOk result ((image : List (List ℕ)) × IsSettled (D.size device.new) (D.may_read device.new) (D.may_leave device.new) image × IsLogImage [] image) }
+    ensures formatted { D.keeps_model → OnOk result ((image : List (List ℕ)) × IsSettled (D.size device.new) (D.may_read device.new) (D.may_leave device.new) image × IsLogImage current [] image) }
     // A crash at any moment of the call finds the head only where it finds the closed gate, and no other sector changed.
     ensures any_moment { D.keeps_model → LeavesOnly D.moment D.left_since device.old device.new (IsBeingMade (D.may_leave device.old)) }
     ensures others { D.keeps_model → (i : ℕ) (s : List ℕ) → 2 ≤ i → D.may_read device.new i s → D.may_read device.old i s }
 {
     device.write(1, &closed_gate())?;
     device.sync()?;
-    device.write(0, &head_sector())?;
+    device.write(0, &head_sector(CURRENT))?;
     device.sync()?;
     Ok(())
 }

@@ -1,4 +1,4 @@
-//! A log of write sets on a row of sectors, format 1.
+//! A log of write sets on a row of sectors.
 //!
 //! Sector 0 is the head. Behind it stand the records, each a gate sector and the sectors of its body, and then a closed gate. A record
 //! is appended with its gate closed; once its body and the closed gate behind it are settled, its gate is opened. So a crash leaves
@@ -6,19 +6,24 @@
 #![tactic(auto)]
 
 mod blocks;
+mod copying;
 mod decode;
 mod encode;
 mod faults;
+mod formats;
 mod formatting;
 mod laws;
 mod log;
+mod pairs;
 mod read;
 mod record;
 mod state;
 
+pub use copying::{copy_into, copy_sectors};
 pub use encode::payload_len;
 pub use faults::LogFault;
+pub use formats::LogFormat;
 pub use formatting::format;
 pub use laws::image_has_one_list;
 pub use log::Log;
-pub use read::{Found, read_log};
+pub use read::{Found, read_log, read_map};

@@ -29,8 +29,11 @@ impl<D: Sectors> Log<D> {
     ghost use Rattle.sector.specs.SectorModel.{IsSettled, LeavesOnly};
     ghost use Rattle.model.specs.Map.{KeyWrite};
     ghost use Rattle.model.specs.Machine.{body_sectors};
+    ghost use Rattle.commit_log.specs.declared.formats.LogFormat.{LogFormat};
+    ghost use Rattle.commit_log.specs.declared.formats.LogFormat.TheVariants.{One};
+    ghost use Rattle.commit_log.specs.Format.{current};
     ghost use Rattle.commit_log.specs.RecordFormat.{IsWriteSet};
-    ghost use Rattle.commit_log.specs.LogImage.{IsLogImage, IsDamaged, IsNoLog};
+    ghost use Rattle.commit_log.specs.LogImage.{IsLogImage, IsDamaged, HasHead, IsNoLog};
     ghost use Rattle.commit_log.specs.Recovery.{map_after};
     ghost use Rattle.commit_log.specs.LogFaults.{IsDeviceOrMemory, IsOpenFault, IsAppendFault};
     ghost use Rattle.commit_log.specs.Reading.{ReadsAs};
@@ -41,7 +44,7 @@ impl<D: Sectors> Log<D> {
     /// each sector up to the last closed gate once.
     ///
     /// The first fault met is answered: `Device` where a call of the device fails, `NotALog` where it has fewer than two sectors or the
-    /// first isn't the head, `Damaged` where an open gate has not its record behind it, `Memory` where memory is refused, for the map or
+    /// first is no head, `OldFormat` where it is the head of format 1, `Damaged` where an open gate has not its record behind it, `Memory` where memory is refused, for the map or
     /// for one record. After a fault the device has been given up; `read_log`, which borrows it, says what it leaves.
     pub fn open(alloc: Global, mut device: D) -> Result<(Self, Map), LogFault>
         ensures size { IfOk result (λ r. sector_count r.0 ≡ D.size device) }
@@ -55,7 +58,7 @@ impl<D: Sectors> Log<D> {
 
         // The log stands for an image that a crash before the call might have left; the device now holds it, and nothing else.
         ensures stands { D.keeps_model → IfOk result (λ r. (lists : List (List KeyWrite)) × StandsFor r.0 lists × (r.1 ≡ map_after [] lists)
-            × (image : List (List ℕ)) × IsLogImage lists image × CanSettle (D.size device) (D.may_read device) (D.may_leave device) image
+            × (image : List (List ℕ)) × IsLogImage current lists image × CanSettle (D.size device) (D.may_read device) (D.may_leave device) image
             × IsSettled (sector_count r.0) (D.may_read (device_of r.0)) (D.may_leave (device_of r.0)) image) }
 
         // During the call a crash leaves what one before it could have left.
@@ -63,14 +66,16 @@ impl<D: Sectors> Log<D> {
 
         // A log is read as what it is.
         ensures found { D.keeps_model → (disk : List (List ℕ)) (lists : List (List KeyWrite)) → length disk ≡ D.size device → ReadsAs (D.may_read device) disk
-            → IsLogImage lists disk → MatchResult result (λ r. StandsFor r.0 lists × (r.1 ≡ map_after [] lists)) IsDeviceOrMemory }
+            → IsLogImage current lists disk → MatchResult result (λ r. StandsFor r.0 lists × (r.1 ≡ map_after [] lists)) IsDeviceOrMemory }
         ensures damaged { D.keeps_model → (disk : List (List ℕ)) (lists : List (List KeyWrite)) → length disk ≡ D.size device → ReadsAs (D.may_read device) disk
-            → IsDamaged lists disk → IsErrAnd result (λ e. (e ≡ LogFault.Damaged (length lists)) ⊎ IsDeviceOrMemory e) }
+            → IsDamaged current lists disk → IsErrAnd result (λ e. (e ≡ LogFault.Damaged (length lists)) ⊎ IsDeviceOrMemory e) }
         ensures no_log { D.keeps_model → (disk : List (List ℕ)) → length disk ≡ D.size device → ReadsAs (D.may_read device) disk
-            → IsNoLog disk → IsErrAnd result (λ e. (e ≡ LogFault.NotALog) ⊎ IsDeviceOrMemory e) }
+            → ((f : LogFormat) → IsNoLog f disk) → IsErrAnd result (λ e. (e ≡ LogFault.NotALog) ⊎ IsDeviceOrMemory e) }
+        ensures older { D.keeps_model → (disk : List (List ℕ)) → length disk ≡ D.size device → ReadsAs (D.may_read device) disk
+            → HasHead One disk → IsErrAnd result (λ e. (e ≡ LogFault.OldFormat) ⊎ IsDeviceOrMemory e) }
 
         // Where each crash leaves some log, one is found.
-        ensures undamaged { D.keeps_model → ((c : List (List ℕ)) → D.may_leave device c → (lists : List (List KeyWrite)) × IsLogImage lists c) → IfErr result IsDeviceOrMemory }
+        ensures undamaged { D.keeps_model → ((c : List (List ℕ)) → D.may_leave device c → (lists : List (List KeyWrite)) × IsLogImage current lists c) → IfErr result IsDeviceOrMemory }
     {
         let found = read_log(alloc, &mut device)?;
         let digest = found.digest.bytes;
@@ -90,7 +95,7 @@ impl<D: Sectors> Log<D> {
     /// `Memory` where the memory for the record's body is refused; `Device` where a call of the device fails, and the log is then stopped.
     /// The first three leave the log as it was, and make no call of the device.
     pub fn append(&mut self, alloc: Global, writes: &[Write]) -> Result<u64, LogFault>
-        requires { IsWriteSet writes.now }
+        requires { IsWriteSet current writes.now }
         ensures index { IfOk result (λ index. index ≡ record_count self.old) }
         ensures counted { OnOk result (record_count self.new ≡ record_count self.old + 1) }
         ensures used { OnOk result (used_sectors self.new ≡ used_sectors self.old + (body_sectors writes.now + 1)) }

@@ -1,18 +1,22 @@
 //! Reading records back.
-ghost use Rattle.std.specs.Prelude.{All, ◌≡◌, ◌⊎◌, ◌<◌, ◌≤◌, ◌+◌, ◌*◌, ◌/◌, ◌%◌, ◌^◌, ℕ, List, length, take, drop, slice_get, Some, OnOk, OnErr, IfOk, IfErr, IsErrAnd, IfSome, IfNone, MatchResult};
-ghost use Rattle.sector.specs.SectorModel.{LeavesOnly};
+ghost use Rattle.std.specs.Prelude.{All, ◌≡◌, ◌⊎◌, ◌<◌, ◌≤◌, ◌+◌, ◌*◌, ◌/◌, ◌%◌, ◌^◌, ℕ, List, length, take, drop, slice_get, Some, OnOk, OnErr, IfOk, IfErr, IsErrAnd, IfSome, IfNone, MatchOption, MatchResult};
+ghost use Rattle.sector.specs.SectorModel.{IsSettled, LeavesOnly};
 ghost use Rattle.sector.specs.Failures.{Rose, Stayed};
 ghost use Rattle.byteorder.specs.Endian.{big_number};
 ghost use Rattle.model.specs.Map.{KeyWrite, after_write, after_writes};
-ghost use Rattle.commit_log.specs.RecordFormat.{IsWithinLimits, IsWriteSet, head_sector, sectors_in, sectors_for, sectors_of, record_digest, padded_body};
-ghost use Rattle.commit_log.specs.LogImage.{IsRecordAt};
+ghost use Rattle.commit_log.specs.declared.formats.LogFormat.{LogFormat};
+ghost use Rattle.commit_log.specs.Format.{current, head_sector};
+ghost use Rattle.commit_log.specs.RecordFormat.{IsWithinLimits, IsWriteSet, sectors_in, sectors_for, sectors_of, record_digest, padded_body};
+ghost use Rattle.commit_log.specs.LogImage.{IsRecordAt, HasHead, IsNoLog};
 ghost use Rattle.commit_log.specs.Reading.{ReadsAs, FaultIs, OnlyReads};
-ghost use Rattle.commit_log.specs.LogFaults.{IsDeviceOrMemory, IsOpenFault};
+ghost use Rattle.commit_log.specs.LogFaults.{IsDeviceOrMemory, IsOpenFault, IsReadMapFault};
 ghost use Rattle.commit_log.specs.Opening.{IsFound, IsReadFault, CanSettle, IsOpened, IsRefusal};
+ghost use Rattle.commit_log.specs.MapReading.{IsMapOf, IsMapRefusal};
 
 use crate::decode::{Digest, decode_body, is_same};
 use crate::encode::sectors_for;
 use crate::faults::LogFault;
+use crate::formats::LogFormat;
 use byteorder::{BigEndian, ByteOrder};
 use model::{Map, Memory, Write};
 use sector::{Sector, Sectors};
@@ -47,9 +51,6 @@ fn read_sectors<D: Sectors>(
     Ok(())
 }
 
-/// The most sectors that the body of a record has.
-const BODY_MAX: u64 = 545;
-
 #[derive(Drop)]
 struct Record {
     writes: Vec<Write>,
@@ -61,6 +62,7 @@ struct Record {
 fn read_record<D: Sectors>(
     alloc: Global,
     device: &mut D,
+    format: LogFormat,
     at: u64,
     count: u64,
     before: &[u8; 32],
@@ -73,14 +75,14 @@ fn read_record<D: Sectors>(
     ensures only_reads { D.keeps_model → OnlyReads D.may_read D.may_leave D.moment D.left_since device.old device.new }
     ensures errors { IfErr result IsDeviceOrMemory }
     ensures sectors { IfOk result (λ o. IfSome o (λ r. at + r.sectors < count)) }
-    ensures proper { IfOk result (λ o. IfSome o (λ r. IsWriteSet r.writes.items)) }
+    ensures proper { IfOk result (λ o. IfSome o (λ r. IsWriteSet format r.writes.items)) }
     ensures some { D.keeps_model → (image : List (List ℕ)) → length image ≡ count → ReadsAs (D.may_read device.old) image
-        → IfOk result (λ o. IfSome o (λ r. IsRecordAt index before.now (drop at image) r.writes.items)) }
+        → IfOk result (λ o. IfSome o (λ r. IsRecordAt format index before.now (drop at image) r.writes.items)) }
     ensures counted { D.keeps_model → (image : List (List ℕ)) → length image ≡ count → ReadsAs (D.may_read device.old) image
         → IfOk result (λ o. IfSome o (λ r. r.sectors ≡ sectors_of r.writes.items)) }
     ensures digest { IfOk result (λ o. IfSome o (λ r. r.digest.bytes ≡ record_digest before.now index r.writes.items)) }
     ensures none { D.keeps_model → (image : List (List ℕ)) → length image ≡ count → ReadsAs (D.may_read device.old) image
-        → IfOk result (λ o. IfNone o ((writes : List KeyWrite) → IsRecordAt index before.now (drop at image) writes → ⊥)) }
+        → IfOk result (λ o. IfNone o ((writes : List KeyWrite) → IsRecordAt format index before.now (drop at image) writes → ⊥)) }
 {
     if count - at < 2 {
         return Ok(None);
@@ -88,11 +90,12 @@ fn read_record<D: Sectors>(
     let mut body = Vec::new(alloc);
     read_sectors(device, at, 1, &mut body)?;
     let sectors = sectors_for(BigEndian::read_u32(&body));
-    if sectors > BODY_MAX || sectors >= count - at {
+    let body_max = format.body_max();
+    if sectors > body_max || sectors >= count - at {
         return Ok(None);
     }
     read_sectors(device, at + 1, sectors - 1, &mut body)?;
-    match decode_body(alloc, &body, before, index)? {
+    match decode_body(alloc, format, &body, before, index)? {
         Some((writes, digest)) => Ok(Some(Record {
             writes,
             sectors,
@@ -103,7 +106,7 @@ fn read_record<D: Sectors>(
 }
 
 fn apply_write(map: &mut Map, write: Write) -> Result<(), Memory>
-    requires { IsWithinLimits write }
+    requires { IsWithinLimits current write }
     ensures { OnOk result (map.new ≡ after_write map.old write.0 write.1) }
 {
     let (key, value) = write.into_parts();
@@ -118,7 +121,7 @@ fn apply_write(map: &mut Map, write: Write) -> Result<(), Memory>
 
 /// Puts the writes into the map, one after another.
 fn apply(map: &mut Map, writes: Vec<Write>) -> Result<(), Memory>
-    requires { All IsWithinLimits writes.items }
+    requires { All (IsWithinLimits current) writes.items }
     ensures { OnOk result (map.new ≡ after_writes map.old writes.items) }
 {
     for write in writes {
@@ -137,16 +140,21 @@ pub struct Found {
 }
 
 /// Reads records up to the first closed gate.
-fn read_records<D: Sectors>(alloc: Global, device: &mut D, count: u64) -> Result<Found, LogFault>
+pub(crate) fn read_records<D: Sectors>(
+    alloc: Global,
+    device: &mut D,
+    format: LogFormat,
+    count: u64,
+) -> Result<Found, LogFault>
     requires some { 2 ≤ count }
     requires count { count ≡ D.size device.old }
     ensures fault { FaultIs (D.failures device.old) (D.failures device.new) result }
     ensures size { D.size device.new ≡ D.size device.old }
     ensures only_reads { D.keeps_model → OnlyReads D.may_read D.may_leave D.moment D.left_since device.old device.new }
     ensures range { IfOk result (λ found. (found.gate < count) × (found.records ≤ found.gate)) }
-    ensures errors { IfErr result IsOpenFault }
+    ensures errors { IfErr result IsReadMapFault }
     ensures found { D.keeps_model → (image : List (List ℕ)) → length image ≡ count → ReadsAs (D.may_read device.old) image
-        → MatchResult result (IsFound (drop 1 image)) (IsReadFault (drop 1 image)) }
+        → MatchResult result (IsFound format (drop 1 image)) (IsReadFault format (drop 1 image)) }
 {
     let mut gate = 1;
     let mut records = 0;
@@ -166,7 +174,15 @@ fn read_records<D: Sectors>(alloc: Global, device: &mut D, count: u64) -> Result
                 map,
             });
         }
-        match read_record(alloc, device, gate + 1, count, &digest.bytes, records)? {
+        match read_record(
+            alloc,
+            device,
+            format,
+            gate + 1,
+            count,
+            &digest.bytes,
+            records,
+        )? {
             Some(record) => {
                 apply(&mut map, record.writes)?;
                 gate += 1 + record.sectors;
@@ -178,8 +194,9 @@ fn read_records<D: Sectors>(alloc: Global, device: &mut D, count: u64) -> Result
     }
 }
 
-pub fn head_sector() -> Sector
-    ensures { result ≡ head_sector }
+/// The first sector of a log of this format.
+pub fn head_sector(format: LogFormat) -> Sector
+    ensures { result ≡ head_sector format }
 {
     let mut head = [0; 512];
     head[0] = b'S';
@@ -189,8 +206,51 @@ pub fn head_sector() -> Sector
     head[4] = b'V';
     head[5] = b'L';
     head[6] = b'G';
-    head[7] = b'1';
+    head[7] = format.version();
     head
+}
+
+/// The format of the log whose head this sector is, if it is one.
+pub(crate) fn format_of(sector: &Sector) -> Option<LogFormat>
+    ensures some { IfSome result (λ f. sector.now ≡ head_sector f) }
+    ensures none { IfNone result ((f : LogFormat) → sector.now ≡ head_sector f → ⊥) }
+{
+    if is_same(sector, &head_sector(LogFormat::Two)) {
+        return Some(LogFormat::Two);
+    }
+    if is_same(sector, &head_sector(LogFormat::One)) {
+        return Some(LogFormat::One);
+    }
+    None
+}
+
+/// Settles a device, and reads the format of the log whose head its first sector is, if it is one and there is room for a gate behind
+/// it. Answers it with the number of sectors. Takes no memory.
+fn read_head<D: Sectors>(device: &mut D) -> Result<(Option<LogFormat>, u64), LogFault>
+    ensures fault { FaultIs (D.failures device.old) (D.failures device.new) result }
+    ensures no_fault { OnOk result (Stayed (D.failures device.old) (D.failures device.new)) }
+    ensures errors { IfErr result (λ e. e ≡ LogFault.Device) }
+    ensures size { D.size device.new ≡ D.size device.old }
+    ensures count { IfOk result (λ r. r.1 ≡ D.size device.new) }
+    ensures room { IfOk result (λ r. IfSome r.0 (λ f. 2 ≤ r.1)) }
+    ensures during { D.keeps_model → LeavesOnly D.moment D.left_since device.old device.new (D.may_leave device.old) }
+    ensures head { D.keeps_model → IfOk result (λ r. (image : List (List ℕ)) × CanSettle (D.size device.old) (D.may_read device.old) (D.may_leave device.old) image × IsSettled (D.size device.new) (D.may_read device.new) (D.may_leave device.new) image
+        × MatchOption r.0 ((f : LogFormat) → IsNoLog f image) (λ f. HasHead f image)) }
+{
+    match device.sync() {
+        Ok(()) => {}
+        Err(_) => return Err(LogFault::Device),
+    }
+    let count = device.count();
+    if count < 2 {
+        return Ok((None, count));
+    }
+    let mut sector = [0; 512];
+    match device.read(0, &mut sector) {
+        Ok(()) => {}
+        Err(_) => return Err(LogFault::Device),
+    }
+    Ok((format_of(&sector), count))
 }
 
 /// Settles a device, and reads the log that it holds, as `Log::open` says. `Device` is answered exactly where a call of the device
@@ -207,24 +267,41 @@ pub fn read_log<D: Sectors>(alloc: Global, device: &mut D) -> Result<Found, LogF
     ensures during { D.keeps_model → LeavesOnly D.moment D.left_since device.old device.new (D.may_leave device.old) }
 
     // The call tells of one image that the device might have held.
-    ensures opened { D.keeps_model → IfOk result (λ found. (image : List (List ℕ)) × CanSettle (D.size device.old) (D.may_read device.old) (D.may_leave device.old) image × IsOpened (D.size device.new) (D.may_read device.new) (D.may_leave device.new) image found) }
+    ensures opened { D.keeps_model → IfOk result (λ found. (image : List (List ℕ)) × CanSettle (D.size device.old) (D.may_read device.old) (D.may_leave device.old) image × IsOpened current (D.size device.new) (D.may_read device.new) (D.may_leave device.new) image found) }
     ensures refused { D.keeps_model → IfErr result (λ e. IsDeviceOrMemory e ⊎ ((image : List (List ℕ)) × CanSettle (D.size device.old) (D.may_read device.old) (D.may_leave device.old) image × IsRefusal image e)) }
 {
-    match device.sync() {
-        Ok(()) => {}
-        Err(_) => return Err(LogFault::Device),
+    let (head, count) = read_head(device)?;
+    match head {
+        Some(LogFormat::Two) => read_records(alloc, device, LogFormat::Two, count),
+        Some(LogFormat::One) => Err(LogFault::OldFormat),
+        None => Err(LogFault::NotALog),
     }
-    let count = device.count();
-    if count < 2 {
+}
+
+/// Settles a device, and reads the log that it holds, of either format: answers the map that its write sets make of the empty one, and
+/// the number of its format, 1 or 2. It writes no sector, and reads each up to the last closed gate once.
+///
+/// The first fault met is answered: `Device` where a call of the device fails, `NotALog` where it has fewer than two sectors or the
+/// first is the head of no format, `Damaged` where an open gate has not its record behind it, `Memory` where memory is refused, for the
+/// map or for one record. After each the device may be read again.
+pub fn read_map<D: Sectors>(alloc: Global, device: &mut D) -> Result<(Map, u8), LogFault>
+    ensures fault { FaultIs (D.failures device.old) (D.failures device.new) result }
+    ensures no_fault { OnOk result (Stayed (D.failures device.old) (D.failures device.new)) }
+    ensures size { D.size device.new ≡ D.size device.old }
+    ensures errors { IfErr result IsReadMapFault }
+
+    // During the call a crash leaves what one before it could have left.
+    ensures during { D.keeps_model → LeavesOnly D.moment D.left_since device.old device.new (D.may_leave device.old) }
+
+    // The call tells of one image that the device might have held; at `Ok` the device holds it, and nothing else.
+    ensures map { D.keeps_model → IfOk result (λ r. (image : List (List ℕ)) × CanSettle (D.size device.old) (D.may_read device.old) (D.may_leave device.old) image × IsMapOf image r.0 r.1
+        × IsSettled (D.size device.new) (D.may_read device.new) (D.may_leave device.new) image) }
+    ensures refused { D.keeps_model → IfErr result (λ e. IsDeviceOrMemory e ⊎ ((image : List (List ℕ)) × CanSettle (D.size device.old) (D.may_read device.old) (D.may_leave device.old) image × IsMapRefusal image e)) }
+{
+    let (head, count) = read_head(device)?;
+    let Some(format) = head else {
         return Err(LogFault::NotALog);
-    }
-    let mut sector = [0; 512];
-    match device.read(0, &mut sector) {
-        Ok(()) => {}
-        Err(_) => return Err(LogFault::Device),
-    }
-    if !is_same(&sector, &head_sector()) {
-        return Err(LogFault::NotALog);
-    }
-    read_records(alloc, device, count)
+    };
+    let found = read_records(alloc, device, format, count)?;
+    Ok((found.map, format.number()))
 }

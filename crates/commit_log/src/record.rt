@@ -3,6 +3,7 @@ ghost use Rattle.std.specs.Prelude.{◌≡◌, ◌<◌, ◌≤◌, ◌+◌, ◌*
 ghost use Rattle.sector.specs.SectorModel.{IsSettled, LeavesOnly};
 ghost use Rattle.sector.specs.Failures.{Rose, Stayed};
 ghost use Rattle.model.specs.Map.{KeyWrite};
+ghost use Rattle.commit_log.specs.Format.{current};
 ghost use Rattle.commit_log.specs.RecordFormat.{open_gate, closed_gate};
 ghost use Rattle.commit_log.specs.LogImage.{IsLogImage};
 ghost use Rattle.commit_log.specs.LogState.{IsNextRecord, IsBeforeOrAfter};
@@ -16,7 +17,7 @@ pub fn closed_gate() -> Sector
     [0; 512]
 }
 
-fn open_gate() -> Sector
+pub fn open_gate() -> Sector
     ensures { result ≡ open_gate }
 {
     let mut gate = [0; 512];
@@ -35,12 +36,12 @@ pub fn write_record<D: Sectors>(device: &mut D, gate: u64, body: &[u8]) -> Resul
 
     // At `Ok` reads give the log with the record, and a crash leaves it.
     ensures acknowledged { D.keeps_model → (lists : List (List KeyWrite)) (writes : List KeyWrite) → IsNextRecord lists writes gate body.now
-        → ((c : List (List ℕ)) → D.may_leave device.old c → IsLogImage lists c)
-        → OnOk result ((image : List (List ℕ)) × IsSettled (D.size device.new) (D.may_read device.new) (D.may_leave device.new) image × IsLogImage (lists ++ writes ∷ []) image) }
+        → ((c : List (List ℕ)) → D.may_leave device.old c → IsLogImage current lists c)
+        → OnOk result ((image : List (List ℕ)) × IsSettled (D.size device.new) (D.may_read device.new) (D.may_leave device.new) image × IsLogImage current (lists ++ writes ∷ []) image) }
 
     // A crash at any moment of the call leaves the log with the record or without it.
     ensures any_moment { D.keeps_model → (lists : List (List KeyWrite)) (writes : List KeyWrite) → IsNextRecord lists writes gate body.now
-        → ((c : List (List ℕ)) → D.may_leave device.old c → IsLogImage lists c)
+        → ((c : List (List ℕ)) → D.may_leave device.old c → IsLogImage current lists c)
         → LeavesOnly D.moment D.left_since device.old device.new (IsBeforeOrAfter lists writes) }
 {
     let next = gate + 1 + (body.len() / SECTOR_SIZE) as u64;

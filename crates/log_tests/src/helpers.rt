@@ -1,6 +1,8 @@
 //! Write sets, logs and devices for the tests.
+ghost use Rattle.model.specs.Bounds.{value_max};
 ghost use Rattle.std.specs.Prelude.{◌≡◌, ◌<◌, ◌≤◌, ◌^◌, ◌-◌, length, IfOk, OnOk, OnErr};
 ghost use Rattle.sector.specs.Failures.{Rose, Stayed};
+ghost use Rattle.commit_log.specs.Format.{current};
 ghost use Rattle.commit_log.specs.RecordFormat.{IsWriteSet};
 
 use commit_log::{Log, format};
@@ -11,8 +13,8 @@ use std::test::Fail;
 
 /// The write set that puts this value.
 pub fn put(alloc: Global, key: &[u8], value: &[u8]) -> Result<Vec<Write>, Fail>
-    requires { length value.now ≤ 4096 }
-    ensures { IfOk result (λ v. IsWriteSet v.items) }
+    requires { length value.now ≤ value_max }
+    ensures { IfOk result (λ v. IsWriteSet current v.items) }
 {
     let key = Key::from_ref(alloc, KeyRef::new(key).ok_or("no key")?)?;
     let mut writes = Vec::new(alloc);
@@ -22,7 +24,7 @@ pub fn put(alloc: Global, key: &[u8], value: &[u8]) -> Result<Vec<Write>, Fail>
 
 /// The write set that deletes the key.
 pub fn delete(alloc: Global, key: &[u8]) -> Result<Vec<Write>, Fail>
-    ensures { IfOk result (λ v. IsWriteSet v.items) }
+    ensures { IfOk result (λ v. IsWriteSet current v.items) }
 {
     let key = Key::from_ref(alloc, KeyRef::new(key).ok_or("no key")?)?;
     let mut writes = Vec::new(alloc);

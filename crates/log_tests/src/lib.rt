@@ -4,6 +4,8 @@
 #[cfg(test)]
 mod changed;
 #[cfg(test)]
+mod copies;
+#[cfg(test)]
 mod crashes;
 #[cfg(test)]
 mod files;

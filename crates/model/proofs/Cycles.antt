@@ -5,9 +5,9 @@ use Rattle.std.specs.List.{AllByRecursion, list_any}
 use Rattle.std.proofs.lemmas.Bool.{ltb-true, leb-true, eqb-false, not-true, le-leb, lt-ltb, or_cases, and_parts, and_from, cases_lt}
 use Rattle.std.proofs.lemmas.List.Elements.{All-contains, All-contains_itself, recursion_from_All, All-from_recursion}
 use Rattle.model.specs.History.{Record}
-use Rattle.model.specs.Dependency.{is_concurrent, write_alike, reads_from, write_write_dependency, write_read_dependency, read_write_dependency, dependency, concurrent_read_write, makes_pivot, is_pivot, makes_dangerous_pivot, is_dangerous_pivot, NoConcurrentWriters}
+use Rattle.model.specs.Dependency.{is_concurrent, write_alike, reads_from, write_write_dependency, write_read_dependency, read_write_dependency, dependency, concurrent_read_write, makes_pivot, makes_dangerous_pivot, is_dangerous_pivot, NoConcurrentWriters}
 use Rattle.model.specs.Cycle.{IsPath, IsCycle, PivotInCycle, CycleLaw, DangerousPivotLaw, DangerousCycleLaw}
-use Rattle.model.proofs.Members.{In, in_from_Contains, any_from_in, Witness, any_witness}
+use Rattle.model.proofs.Members.{In, in_from_Contains, any_from_in, any_witness}
 
 -- ---- what the tests say
 

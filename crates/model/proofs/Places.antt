@@ -1,6 +1,6 @@
 -- Each dependency leads to a later place in the serial order.
-use Rattle.std.proofs.Common.{◌≡◌, ◌≢◌, ◌⊎◌, ◌<◌, ◌≤◌, false, ◌&&◌, List, Option, Some, None, refl, ap, arith, inl, inr}
-use Rattle.std.specs.Prelude.{IsTrue, nat_lt, ◌==◌}
+use Rattle.std.proofs.Common.{◌≡◌, ◌⊎◌, ◌<◌, ◌≤◌, false, ◌&&◌, List, Option, Some, None, refl, ap, arith, inl, inr}
+use Rattle.std.specs.Prelude.{IsTrue, nat_lt}
 use Rattle.std.specs.List.{list_any}
 use Rattle.std.proofs.lemmas.Bool.{le-leb, ltb-true, eq-eqb, lt-ltb, or_left, or_right, and_parts, and_from, cases_lt, cases_Bool, cases_order, both_ways}
 use Rattle.std.proofs.lemmas.List.Elements.{All-contains}

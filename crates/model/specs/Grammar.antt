@@ -3,6 +3,7 @@
 use Rattle.std.specs.Prelude.{◌≡◌, ℕ, ◌<◌, ◌≤◌, List, [], ◌∷◌, ◌++◌, length, take, All}
 use Rattle.std.specs.List.{flat_map}
 use Rattle.std.specs.Fmt.{decimal}
+use Rattle.model.specs.Bounds.{value_max}
 
 -- carriage return, line feed
 abbrev pub crlf : List ℕ
@@ -16,9 +17,9 @@ bulk bytes = 36 ∷ decimal (length bytes) ++ crlf ++ bytes ++ crlf
 abbrev pub array_of_bulks : List (List ℕ) → List ℕ
 array_of_bulks parts = 42 ∷ decimal (length parts) ++ crlf ++ flat_map bulk parts
 
--- a part has 0 to 4,096 bytes of any value
+-- a part may be empty, and has no more bytes than a value may have
 pub record IsPart (part : List ℕ) : Type 0 where
-  pub short : length part ≤ 4096
+  pub short : length part ≤ value_max
   pub bytes : All (λ b. b < 256) part
 
 -- a request has 1 to 4 parts

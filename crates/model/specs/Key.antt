@@ -1,10 +1,11 @@
--- Which byte strings are keys, and which are values. The bounds are this project's own.
+-- Which byte strings are keys, and which are values.
 use Rattle.std.specs.Prelude.{ℕ, ◌≤◌, List, length}
+use Rattle.model.specs.Bounds.{key_max, value_max}
 
--- a key has 1 to 256 bytes
+-- a key has one byte at least
 abbrev pub IsKey : List ℕ → Type 0
-IsKey bytes = (1 ≤ length bytes) × (length bytes ≤ 256)
+IsKey bytes = (1 ≤ length bytes) × (length bytes ≤ key_max)
 
--- a value has 0 to 4,096 bytes
+-- a value may be empty
 abbrev pub IsValue : List ℕ → Type 0
-IsValue bytes = length bytes ≤ 4096
+IsValue bytes = length bytes ≤ value_max

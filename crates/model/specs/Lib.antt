@@ -1,4 +1,5 @@
 -- The definitions of the store.
+pub mod Bounds
 pub mod Key
 pub mod KeyBytes
 pub mod Map

@@ -10,7 +10,7 @@ pub enum Command<'a> {
     Begin,
     /// Reads a key.
     Get(KeyRef<'a>),
-    /// Writes a value of 0 to 4,096 bytes to a key.
+    /// Writes a value of 0 to `VALUE_MAX` bytes to a key.
     Set(KeyRef<'a>, &'a [u8]),
     /// Deletes a key, present or not.
     Del(KeyRef<'a>),

@@ -23,5 +23,5 @@ pub use maps::Map;
 pub use pairs::Pairs;
 pub use ranges::{Range, RangeRef};
 pub use refusals::{Memory, Refusal};
-pub use values::VALUE_MAX;
+pub use values::{FRAME_MAX, PART_MAX, RANGE_REPLY_MAX, VALUE_MAX};
 pub use writes::Write;

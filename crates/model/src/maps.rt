@@ -10,7 +10,7 @@ use std::alloc::Global;
 use std::collections::BTreeMap;
 use std::marker::Model;
 
-/// A finite map from keys to values of at most 4,096 bytes. A clause sees its pairs by rising key.
+/// A finite map from keys to values of at most `VALUE_MAX` bytes. A clause sees its pairs by rising key.
 #[derive(Drop)]
 pub struct Map {
     pairs: BTreeMap<Vec<u8>, Vec<u8>>,
@@ -41,6 +41,7 @@ impl Map {
     pub fn len(&self) -> usize
         ensures len { result ≡ length self.now }
         ensures is_map { IsMap self.now }
+        ensures in_bounds { IsInBounds self.now }
     {
         self.pairs.len()
     }

@@ -6,7 +6,7 @@ use crate::keys::{Key, KeyRef};
 use std::cmp::Ordering;
 use std::marker::Model;
 
-/// A written key with its last value, of at most 4,096 bytes, or `None` where it was deleted. A clause sees the pair.
+/// A written key with its last value, of at most `VALUE_MAX` bytes, or `None` where it was deleted. A clause sees the pair.
 #[derive(Drop)]
 pub struct Write {
     pub key: Key,

@@ -3,6 +3,7 @@ use Rattle.std.proofs.Common.{◌≡◌, ℕ, ◌+◌, ◌-◌, ◌^◌, ◌<◌
 use Rattle.std.specs.Fmt.{decimal}
 use Rattle.std.proofs.lemmas.Fmt.{decimal_digit, decimal_injective}
 use Rattle.std.proofs.lemmas.List.{append-nil, take_rest}
+use Rattle.model.specs.Bounds.{value_max}
 use Rattle.resp.specs.declared.decoding.Stop.{Stop}
 use Rattle.resp.specs.declared.decoding.Stop.TheVariants.{More, Bad}
 use Rattle.model.specs.Grammar.{crlf}
@@ -76,7 +77,7 @@ nothing_of_length (x ∷ bytes) none = absurd (omega arith)
 abbrev pub NoDigitFirst : List ℕ → Type 0
 NoDigitFirst rest = 1 ≤ length rest → IsDigit (get_or rest 0 0) → ⊥
 
-pub no_length : (bytes digits rest : List ℕ) → bytes ≡ digits ++ rest → AreDigits digits → NoDigitFirst rest → 1 ≤ length bytes → ((n : ℕ) → n ≤ 4096 → digits ≡ decimal n → ⊥) → Stops LengthLine bytes Bad
+pub no_length : (bytes digits rest : List ℕ) → bytes ≡ digits ++ rest → AreDigits digits → NoDigitFirst rest → 1 ≤ length bytes → ((n : ℕ) → n ≤ value_max → digits ≡ decimal n → ⊥) → Stops LengthLine bytes Bad
 no_length bytes digits [] is run last some none = λ text more others n h e.
     let same : digits ++ more ≡ decimal n ++ 13 ∷ (10 ∷ others) = ap (λ (xs : List ℕ). xs ++ more) (sym (append-nil digits) ∙ sym is) ∙ e ∙ ap (λ (xs : List ℕ). xs ++ others) h.1 ∙ line_text n others in
     let front = is_front digits (decimal n) more (10 ∷ others) 13 run not_return same in
@@ -87,7 +88,7 @@ no_length bytes digits (c ∷ rest) is run last some none = λ text more others 
     let same : digits ++ c ∷ (rest ++ more) ≡ decimal n ++ 13 ∷ (10 ∷ others) = sym (append_assoc digits (c ∷ rest) more) ∙ ap (λ (xs : List ℕ). xs ++ more) (sym is) ∙ e ∙ ap (λ (xs : List ℕ). xs ++ others) h.1 ∙ line_text n others in
     none n h.0 (same_digits digits (decimal n) c 13 (rest ++ more) (10 ∷ others) run (decimal_digits n (omega (arith, h.0))) (last (omega arith)) not_return same).0
 
-pub length_behind : (bytes digits rest : List ℕ) (len : ℕ) (e : Stop) → bytes ≡ digits ++ rest → digits ≡ decimal len → len ≤ 4096 → NoDigitFirst rest → Stops (Only crlf) rest e → Stops LengthLine bytes e
+pub length_behind : (bytes digits rest : List ℕ) (len : ℕ) (e : Stop) → bytes ≡ digits ++ rest → digits ≡ decimal len → len ≤ value_max → NoDigitFirst rest → Stops (Only crlf) rest e → Stops LengthLine bytes e
 length_behind bytes digits rest len e is number fits last stopped =
     stops_behind (Only crlf) LengthLine digits rest bytes e is (crlf, tt, refl)
     (λ t v same. ([], len, (fits, ap (λ (xs : List ℕ). digits ++ xs) (append-nil t ∙ same) ∙ ap (λ (xs : List ℕ). xs ++ crlf) number)))
@@ -99,6 +100,6 @@ length_behind bytes digits rest len e is number fits last stopped =
     must (c ∷ rest) some last text more others n h joined =
         (same_digits digits (decimal n) c 13 (rest ++ more) (10 ∷ others) (subst AreDigits (sym number) (decimal_digits len (omega arith))) (decimal_digits n (omega (arith, h.0))) (last (omega arith)) not_return (joined ∙ ap (λ (xs : List ℕ). xs ++ others) h.1 ∙ line_text n others)).1
 
-pub length_text : (bytes digits rest after : List ℕ) (len : ℕ) → bytes ≡ digits ++ rest → digits ≡ decimal len → len ≤ 4096 → rest ≡ crlf ++ after → (text : List ℕ) × LengthLine text len × (bytes ≡ text ++ after)
+pub length_text : (bytes digits rest after : List ℕ) (len : ℕ) → bytes ≡ digits ++ rest → digits ≡ decimal len → len ≤ value_max → rest ≡ crlf ++ after → (text : List ℕ) × LengthLine text len × (bytes ≡ text ++ after)
 length_text bytes digits rest after len is number fits ended =
     (decimal len ++ crlf, (fits, refl), is ∙ ap (λ (xs : List ℕ). digits ++ xs) ended ∙ sym (append_assoc digits crlf after) ∙ ap (λ (xs : List ℕ). (xs ++ crlf) ++ after) number)

@@ -5,6 +5,7 @@ use Rattle.std.specs.Fmt.{decimal}
 use Rattle.std.proofs.lemmas.List.{append-nil, length-replicate}
 use Rattle.std.proofs.lemmas.List.Concat.{flat_map-append}
 use Rattle.std.proofs.lemmas.List.Elements.{All-append, All-replicate, All-nil, All-cons, All-head, All-tail, All-push}
+use Rattle.model.specs.Bounds.{value_max}
 use Rattle.resp.specs.declared.decoding.Stop.{Stop}
 use Rattle.resp.specs.declared.decoding.Stop.TheVariants.{More}
 use Rattle.model.specs.Grammar.{crlf, bulk, array_of_bulks, IsPart, IsRequest, Spells}
@@ -45,7 +46,7 @@ joined_text digits front back = ap (λ (xs : List ℕ). 36 ∷ xs) (regroup digi
     regroup : (d c f b : List ℕ) → ((d ++ c) ++ f) ++ (b ++ c) ≡ ((d ++ c) ++ (f ++ b)) ++ c
     regroup d c f b = simp append_assoc
 
-zeros_part : (n : ℕ) → n ≤ 4096 → IsPart (replicate n 0)
+zeros_part : (n : ℕ) → n ≤ value_max → IsPart (replicate n 0)
 zeros_part n le = record { short = omega (arith, length-replicate {A = ℕ} n 0); bytes = All-replicate (λ b. b < 256) n 0 (omega arith) }
 
 empty_part : IsPart []

@@ -2,6 +2,7 @@
 use Rattle.std.specs.Prelude.{◌≡◌, ℕ, ◌≤◌, List, ◌++◌, length, Result, Ok, Err}
 use Rattle.std.specs.Borrow.{Bor}
 use Rattle.std.specs.Fmt.{decimal}
+use Rattle.model.specs.Bounds.{value_max}
 use Rattle.model.specs.Grammar.{crlf, bulk, IsPart}
 use Rattle.resp.specs.declared.decoding.Stop.{Stop}
 use Rattle.resp.specs.declared.decoding.Stop.TheVariants.{More, Bad}
@@ -39,7 +40,7 @@ Passes word bytes (Err e) = Stops (Only word) bytes e
 
 -- the line with a part's length
 abbrev pub LengthLine : Grammar ℕ
-LengthLine text n = (n ≤ 4096) × (text ≡ decimal n ++ crlf)
+LengthLine text n = (n ≤ value_max) × (text ≡ decimal n ++ crlf)
 
 -- the line with the number of parts
 abbrev pub CountLine : Grammar ℕ

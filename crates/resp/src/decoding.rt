@@ -150,7 +150,7 @@ fn request_at(input: &[u8]) -> Result<(Request<'_>, &[u8]), Stop>
     Ok((request, rest))
 }
 
-/// Reads the request at the front of the input, a RESP2 array of 1 to 4 bulk strings of 0 to 4,096 bytes each. What follows it may
+/// Reads the request at the front of the input, a RESP2 array of 1 to 4 bulk strings of 0 to `VALUE_MAX` bytes each. What follows it may
 /// be anything. Takes no memory.
 pub fn decode(input: &[u8]) -> Decoded<'_>
     // A request exactly where the first n bytes spell it.

@@ -63,7 +63,7 @@ impl<'a> Request<'a> {
         self.parts()[0]
     }
 
-    /// Part `i`, counted from 0: 0 to 4,096 bytes, which may outlive this value. Takes no memory.
+    /// Part `i`, counted from 0: 0 to `VALUE_MAX` bytes, which may outlive this value. Takes no memory.
     pub fn part(&self, i: usize) -> &'a [u8]
         requires { i < length self.now }
         ensures value { slice_get self.now i ≡ Some result.now }

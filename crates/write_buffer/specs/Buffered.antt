@@ -4,6 +4,7 @@ use Rattle.std.specs.List.{AllByRecursion}
 use Rattle.std.specs.Ordering.{nat_cmp}
 use Rattle.std.specs.Cmp.Lexicographic.{slice_cmp}
 use Rattle.std.specs.FinMap.Entries.{find, put, is_sorted}
+use Rattle.model.specs.Bounds.{value_max}
 use Rattle.model.specs.Map.{Bytes, KeyWrite}
 
 -- the last write of the key
@@ -20,7 +21,7 @@ is_full_for ws k = not (is_some (written ws k)) && not (nat_lt (length ws) 64)
 
 abbrev pub IsShortValue : Option Bytes → Type 0
 IsShortValue None = ⊤
-IsShortValue (Some v) = length v ≤ 4096
+IsShortValue (Some v) = length v ≤ value_max
 
 abbrev pub IsWithinLimits : KeyWrite → Type 0
 IsWithinLimits w = (1 ≤ length w.0) × (length w.0 ≤ 256) × IsShortValue w.1

@@ -8,6 +8,6 @@ abbrev pub invariant-loop-i : goal.invariant-loop-i
 invariant-loop-i l = record {
   read : l.bytes ≡ big_bytes 4 l.count ++ (flat_map entry_bytes l.writes.items ++ l.rest);
   number : length l.writes.items ≡ l.i;
-  limits : All IsWithinLimits l.writes.items;
+  limits : All (IsWithinLimits l.format) l.writes.items;
   rising : IsRising l.writes.items;
 }

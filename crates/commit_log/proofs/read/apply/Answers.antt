@@ -1,13 +1,14 @@
 use Rattle.std.proofs.Common.{◌≡◌, ◌∷◌, ◌∙◌, List, ap, sym, suc, All, arith}
 use Rattle.model.specs.Map.{KeyMap, KeyWrite, after_write, after_writes}
 use Rattle.commit_log.specs.RecordFormat.{IsWithinLimits}
+use Rattle.commit_log.specs.Format.{current}
 use Rattle.commit_log.proofs.read.apply.Goals as goal
 
 applied : (m after all : KeyMap) (writes rest : List KeyWrite) (w : KeyWrite) → writes ≡ w ∷ rest → after_writes m writes ≡ all → after ≡ after_write m w.0 w.1 → after_writes after rest ≡ all
 applied m after all writes rest w is so_far next =
     ap (λ (n : KeyMap). after_writes n rest) next ∙ ap (λ (l : List KeyWrite). after_writes m l) (sym is) ∙ so_far
 
-limits_left : (writes rest : List KeyWrite) (w : KeyWrite) → writes ≡ w ∷ rest → All IsWithinLimits writes → All IsWithinLimits rest
+limits_left : (writes rest : List KeyWrite) (w : KeyWrite) → writes ≡ w ∷ rest → All (IsWithinLimits current) writes → All (IsWithinLimits current) rest
 limits_left writes rest w is limits k d lt = (rw is at limits) (suc k) d (omega arith)
 
 pub loop-write-preserved : goal.loop-write-preserved

@@ -1,10 +1,11 @@
 use Rattle.std.proofs.Common.{◌≡◌, All}
 use Rattle.model.specs.Map.{after_writes}
 use Rattle.commit_log.specs.RecordFormat.{IsWithinLimits}
+use Rattle.commit_log.specs.Format.{current}
 use Rattle.commit_log.proofs.read.apply.Given as goal
 
 abbrev pub invariant-loop-write : goal.invariant-loop-write
 invariant-loop-write l = record {
   map : after_writes l.map l.write-iterator.rest.items ≡ after_writes l.fn.map l.fn.writes.items;
-  limits : All IsWithinLimits l.write-iterator.rest.items;
+  limits : All (IsWithinLimits current) l.write-iterator.rest.items;
 }

@@ -13,7 +13,7 @@ records-init g c = record {
   only_reads = λ keeps. no_reads g.D.Sectors c.args.device.now (g.met.D.Sectors.only_now keeps c.args.device.now);
   in_range = omega arith;
   counted = omega arith;
-  found = λ keeps image size reads. nothing_read (drop 1 image) _ _ (sym first_digest_is) c.new-map.ensures;
+  found = λ keeps image size reads. nothing_read c.args.format (drop 1 image) _ _ (sym first_digest_is) c.new-map.ensures;
 }
 
 pub returns-then-sector-ne1-clause-found : goal.returns-then-sector-ne1-clause-found
@@ -22,14 +22,14 @@ returns-then-sector-ne1-clause-found g c keeps image size reads =
     let read = c.records.invariant.found keeps image size reads in
     record {
       lists = read.lists;
-      holds = ended image _ _ _ _ _ read there c.if-sector-ne1.true;
+      holds = ended c.args.format image _ _ _ _ _ read there c.if-sector-ne1.true;
       tells = record { gate = read.gate_is; records = read.records_are; digest = read.digest_is; map = read.map_is };
     }
 
 pub returns-in_err-record-clause-found : goal.returns-in_err-record-clause-found
 returns-in_err-record-clause-found g c keeps image size reads =
     let p = err_from_is_err_and c.from_residual.result c.from_residual.ensures.1 in
-    rw (p.1, p.2) (read_fault (drop 1 image) _ c.in_err-record.ensures.errors)
+    rw (p.1, p.2) (read_fault c.args.format (drop 1 image) _ c.in_err-record.ensures.errors)
 
 pub records-preserved : goal.records-preserved
 records-preserved g c = record {
@@ -42,7 +42,7 @@ records-preserved g c = record {
       let there = reads _ _ ((c.records.invariant.only_reads keeps).reads _ _ (c.in-Ok.ensures.gives keeps)) in
       let mid : ReadsAs (g.D.Sectors.may_read c.read.new.self) image = λ i s read. reads i s ((c.records.invariant.only_reads keeps).reads i s (c.read.ensures.reads keeps i s read)) in
       let read = c.records.invariant.found keeps image size reads in
-      more image _ _ _ _ _ read there c.if-sector-ne1.false c.in-Some.record.writes.items c.in-Some.record.sectors c.in-Some.record.digest.bytes _
+      more c.args.format image _ _ _ _ _ read there c.if-sector-ne1.false c.in-Some.record.writes.items c.in-Some.record.sectors c.in-Some.record.digest.bytes _
       (rw c.in-Some.is at (c.in_ok-record.ensures.some keeps image size mid)) (rw c.in-Some.is at (c.in_ok-record.ensures.counted keeps image size mid)) (rw c.in-Some.is at c.in_ok-record.ensures.digest) c.in_ok-apply-in-Some.ensures;
 }
 
@@ -51,4 +51,4 @@ returns-in-None-clause-found g c keeps image size reads =
     let there = reads _ _ ((c.records.invariant.only_reads keeps).reads _ _ (c.in-Ok.ensures.gives keeps)) in
     let mid : ReadsAs (g.D.Sectors.may_read c.read.new.self) image = λ i s read. reads i s ((c.records.invariant.only_reads keeps).reads i s (c.read.ensures.reads keeps i s read)) in
     let read = c.records.invariant.found keeps image size reads in
-    damaged image _ _ _ _ _ read there c.if-sector-ne1.false (rw c.in-None.is at (c.in_ok-record.ensures.none keeps image size mid))
+    damaged c.args.format image _ _ _ _ _ read there c.if-sector-ne1.false (rw c.in-None.is at (c.in_ok-record.ensures.none keeps image size mid))

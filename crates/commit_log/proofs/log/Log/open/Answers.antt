@@ -1,7 +1,8 @@
 use Rattle.std.proofs.Common.{◌≡◌, refl}
 use Rattle.std.proofs.lemmas.Result.{err_from_is_err_and}
 use Rattle.commit_log.proofs.Appending.{log_opened}
-use Rattle.commit_log.proofs.Unique.{log_unique, log_not_damaged, log_is_log, settles_as, device_refused_log, device_refused_damaged, device_refused_no_log, device_refused_left}
+use Rattle.commit_log.proofs.Unique.{log_unique, log_not_damaged, log_is_log, log_not_old, settles_as, device_refused_log, device_refused_damaged, device_refused_no_log, device_refused_old, device_refused_left}
+use Rattle.commit_log.specs.Format.{current}
 use Rattle.commit_log.proofs.log.Log.open.Goals as goal
 
 pub returns-in_err-found-clause-found : goal.returns-in_err-found-clause-found
@@ -19,6 +20,17 @@ returns-in_err-found-clause-no_log g c keeps disk len reads no_log =
     let p = err_from_is_err_and c.from_residual.result c.from_residual.ensures.1 in
     rw (p.1, p.2) (device_refused_no_log _ _ _ _ (c.in_err-found.ensures.refused keeps) disk len reads no_log)
 
+pub returns-in_err-found-clause-older : goal.returns-in_err-found-clause-older
+returns-in_err-found-clause-older g c keeps disk len reads has =
+    let p = err_from_is_err_and c.from_residual.result c.from_residual.ensures.1 in
+    rw (p.1, p.2) (device_refused_old _ _ _ _ (c.in_err-found.ensures.refused keeps) disk len reads has)
+
+pub returns-clause-older : goal.returns-clause-older
+returns-clause-older g c keeps disk len reads has =
+    let opened = c.in_ok-found.ensures.opened keeps in
+    let same : opened.0 ≡ disk = settles_as _ _ _ opened.0 disk opened.1 len reads in
+    log_not_old opened.2.lists disk (rw same at opened.2.holds) has
+
 pub returns-in_err-found-clause-undamaged : goal.returns-in_err-found-clause-undamaged
 returns-in_err-found-clause-undamaged g c keeps all_logs =
     let p = err_from_is_err_and c.from_residual.result c.from_residual.ensures.1 in
@@ -33,20 +45,20 @@ pub returns-clause-found : goal.returns-clause-found
 returns-clause-found g c keeps disk lists len reads holds =
     let opened = c.in_ok-found.ensures.opened keeps in
     let same : opened.0 ≡ disk = settles_as _ _ _ opened.0 disk opened.1 len reads in
-    let is : opened.2.lists ≡ lists = log_unique opened.2.lists lists disk (rw same at opened.2.holds) holds in
+    let is : opened.2.lists ≡ lists = log_unique current opened.2.lists lists disk (rw same at opened.2.holds) holds in
     rw (← is) (log_opened _ _ _ opened.2 refl refl refl refl, opened.2.tells.map)
 
 pub returns-clause-damaged : goal.returns-clause-damaged
 returns-clause-damaged g c keeps disk lists len reads holds =
     let opened = c.in_ok-found.ensures.opened keeps in
     let same : opened.0 ≡ disk = settles_as _ _ _ opened.0 disk opened.1 len reads in
-    log_not_damaged opened.2.lists lists disk (rw same at opened.2.holds) holds
+    log_not_damaged current opened.2.lists lists disk (rw same at opened.2.holds) holds
 
 pub returns-clause-no_log : goal.returns-clause-no_log
 returns-clause-no_log g c keeps disk len reads no_log =
     let opened = c.in_ok-found.ensures.opened keeps in
     let same : opened.0 ≡ disk = settles_as _ _ _ opened.0 disk opened.1 len reads in
-    log_is_log opened.2.lists disk (rw same at opened.2.holds) no_log
+    log_is_log current opened.2.lists disk (rw same at opened.2.holds) (no_log current)
 
 pub returns-in_err-found-clause-cause : goal.returns-in_err-found-clause-cause
 returns-in_err-found-clause-cause g c =

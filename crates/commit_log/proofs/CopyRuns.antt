@@ -1,0 +1,111 @@
+-- How far a copy of a map has come.
+use Rattle.std.proofs.Common.{◌≡◌, ◌≢◌, ℕ, ◌<◌, ◌≤◌, ◌+◌, ◌*◌, ◌/◌, List, [], ◌∷◌, ◌++◌, length, take, drop, get_or, replicate, refl, sym, ◌∙◌, ap, subst, arith}
+use Rattle.std.proofs.lemmas.List.{append-nil}
+use Rattle.sector.specs.declared.device.Sectors.{Ghosts}
+use Rattle.model.specs.Map.{KeyMap, KeyWrite}
+use Rattle.commit_log.specs.RecordFormat.{first_digest, open_gate, sectors_for, sectors_of, sectors_in, padded_body, record_body, record_digest}
+use Rattle.commit_log.specs.LogImage.{span, last_digest, next_index}
+use Rattle.commit_log.specs.Copying.{puts, write_sets_of, log_sectors, ReadsFrom}
+use Rattle.commit_log.proofs.Appending.{next_index-is}
+use Rattle.commit_log.proofs.CopiedSectors.{length-log_sectors, log_sectors-push, reads_more, record_sectors}
+use Rattle.commit_log.proofs.CopyProtocol.{Behind, nothing_yet}
+use Rattle.commit_log.proofs.Putting.{no_sets}
+use Rattle.commit_log.proofs.NextSets.{NextSet, done_more}
+
+-- these write sets' records are written; those of the pairs that are left come next
+pub record Copied {D : Type 0} (S : Ghosts D) (start : D) (m : KeyMap) (now : D) (pairs : KeyMap) (gate records : ℕ) (digest : List ℕ) : Type 0 where
+  pub done : List (List KeyWrite)
+  pub joined : done ++ write_sets_of pairs ≡ write_sets_of m
+  pub gate_is : gate ≡ 1 + span done
+  pub records_are : records ≡ length done
+  pub digest_is : digest ≡ last_digest done 0 first_digest
+  pub reads : S.keeps_model → ReadsFrom (S.may_read now) 1 (log_sectors done 0 first_digest)
+  pub behind : S.keeps_model → Behind S start 1 now
+
+pub none_copied : {D : Type 0} (S : Ghosts D) (start : D) (m pairs : KeyMap) → pairs ≡ m → (S.keeps_model → (c : List (List ℕ)) → S.left_since start (S.moment start) c → S.may_leave start c)
+    → Copied S start m start pairs 1 0 (replicate 32 0)
+unfolding first_digest
+none_copied S start m pairs same only_now = record {
+  done = [];
+  joined = ap write_sets_of same;
+  gate_is = refl;
+  records_are = refl;
+  digest_is = refl;
+  reads = λ keeps k s lt read. absurd (omega arith);
+  behind = λ keeps. nothing_yet S start 1 (only_now keeps);
+}
+
+-- one record more
+pub copied_more : {D : Type 0} (S : Ghosts D) (start : D) (m : KeyMap) (now next : D) (pairs after : KeyMap) (gate records n len : ℕ) (digest body made : List ℕ) → Copied S start m now pairs gate records digest
+    → NextSet pairs n len → after ≡ drop n pairs → body ≡ padded_body digest records (puts (take n pairs)) → length body ≡ 512 * sectors_of (puts (take n pairs)) → made ≡ record_digest digest records (puts (take n pairs))
+    → (S.keeps_model → ReadsFrom (S.may_read next) gate (open_gate ∷ sectors_in (length body / 512) body))
+    → (S.keeps_model → (i : ℕ) (s : List ℕ) → i < gate → S.may_read next i s → S.may_read now i s)
+    → (S.keeps_model → Behind S start 1 next) → Copied S start m next after (gate + (1 + sectors_for len)) (records + 1) made
+copied_more S start m now next pairs after gate records n len digest body made copied set after_is body_is size made_is reads kept behind =
+    let writes : List KeyWrite = puts (take n pairs) in
+    let done : List (List KeyWrite) = copied.done in
+    let more = done_more done pairs n len gate records digest set copied.gate_is copied.records_are copied.digest_is in
+    let index : records ≡ next_index done 0 = omega (arith, copied.records_are, next_index-is done 0) in
+    let padded : body ≡ padded_body (last_digest done 0 first_digest) (next_index done 0) writes =
+    body_is ∙ ap (λ (d : List ℕ). padded_body d records writes) copied.digest_is ∙ ap (λ (k : ℕ). padded_body (last_digest done 0 first_digest) k writes) index in
+    let sectors : sectors_in (length body / 512) body ≡ record_body (last_digest done 0 first_digest) (next_index done 0) writes =
+    record_sectors (last_digest done 0 first_digest) (next_index done 0) writes body padded (omega (arith, size)) in
+    let place : gate ≡ 1 + length (log_sectors done 0 first_digest) = omega (arith, copied.gate_is, length-log_sectors done 0 first_digest) in
+    record {
+      done = done ++ writes ∷ [];
+      joined = ap (λ (l : KeyMap). (done ++ writes ∷ []) ++ write_sets_of l) after_is ∙ more.joined ∙ copied.joined;
+      gate_is = more.gate_is;
+      records_are = more.records_are;
+      digest_is = made_is ∙ more.digest_is;
+      reads = λ keeps.
+          let here : ReadsFrom (S.may_read next) (1 + length (log_sectors done 0 first_digest)) (open_gate ∷ record_body (last_digest done 0 first_digest) (next_index done 0) writes) =
+          subst (λ (i : ℕ). ReadsFrom (S.may_read next) i (open_gate ∷ record_body (last_digest done 0 first_digest) (next_index done 0) writes)) place
+          (subst (λ (l : List (List ℕ)). ReadsFrom (S.may_read next) gate (open_gate ∷ l)) sectors (reads keeps)) in
+          subst (λ (l : List (List ℕ)). ReadsFrom (S.may_read next) 1 l) (sym (log_sectors-push done writes 0 first_digest))
+          (reads_more (S.may_read now) (S.may_read next) 1 (log_sectors done 0 first_digest) (open_gate ∷ record_body (last_digest done 0 first_digest) (next_index done 0) writes) (copied.reads keeps) here
+          (λ i s lt read. kept keeps i s (omega (arith, place)) read));
+      behind = behind;
+    }
+
+span-append : (xs ys : List (List KeyWrite)) → span (xs ++ ys) ≡ span xs + span ys
+span-append [] ys = omega arith
+span-append (x ∷ xs) ys = omega (arith, span-append xs ys)
+
+length_le_span : (lists : List (List KeyWrite)) → length lists ≤ span lists
+length_le_span [] = omega arith
+length_le_span (x ∷ lists) = omega (arith, length_le_span lists)
+
+module _ {D : Type 0} (S : Ghosts D) (start : D) (m : KeyMap) (now : D) (pairs : KeyMap) (gate records : ℕ) (digest : List ℕ) (copied : Copied S start m now pairs gate records digest) where
+  pub gate_le : gate ≤ 1 + span (write_sets_of m)
+  gate_le = omega (arith, copied.gate_is, ap span copied.joined, span-append copied.done (write_sets_of pairs))
+
+  pub records_lt : records < gate
+  records_lt = omega (arith, copied.gate_is, copied.records_are, length_le_span copied.done)
+
+  -- the next record's end is in range
+  pub next_gate_le : (n len : ℕ) → NextSet pairs n len → gate + (1 + sectors_for len) ≤ 1 + span (write_sets_of m)
+  next_gate_le n len next = omega (arith, copied.gate_is, next.span_is, ap span copied.joined, span-append copied.done (write_sets_of pairs))
+
+  -- no pair is left
+  module _ (none : length pairs ≡ 0) where
+    pub done_are_all : copied.done ≡ write_sets_of m
+    done_are_all = sym (append-nil copied.done) ∙ ap (λ (l : List (List KeyWrite)). copied.done ++ l) (sym (no_sets pairs none)) ∙ copied.joined
+
+    pub records_are_all : records ≡ length (write_sets_of m)
+    records_are_all = copied.records_are ∙ ap length done_are_all
+
+    pub gate_is_last : gate ≡ 1 + span (write_sets_of m)
+    gate_is_last = copied.gate_is ∙ ap (λ (l : List (List KeyWrite)). 1 + span l) done_are_all
+
+    pub all_read : (next : D) → S.keeps_model → ((i : ℕ) (s : List ℕ) → i ≢ gate → S.may_read next i s → S.may_read now i s) → ReadsFrom (S.may_read next) 1 (log_sectors (write_sets_of m) 0 first_digest)
+    all_read next keeps others =
+        subst (λ (l : List (List KeyWrite)). ReadsFrom (S.may_read next) 1 (log_sectors l 0 first_digest)) done_are_all
+        (λ k s lt read.
+        let other : 1 + k ≢ gate = omega (arith, length-log_sectors copied.done 0 first_digest, copied.gate_is) in
+        copied.reads keeps k s lt (others (1 + k) s other read))
+
+    pub shut_read : (next : D) (shut : List ℕ) → ((s : List ℕ) → S.may_read next gate s → s ≡ shut) → ReadsFrom (S.may_read next) (1 + span (write_sets_of m)) (shut ∷ [])
+    shut_read next shut written k s lt read =
+        let place : 1 + span (write_sets_of m) + k ≡ gate = omega (arith, gate_is_last) in
+        let first : k ≡ 0 = omega arith in
+        written s (subst (λ (i : ℕ). S.may_read next i s) place read) ∙ ap (λ (i : ℕ). get_or (shut ∷ []) i []) (sym first)

@@ -1,0 +1,29 @@
+-- What reading the map of a log of either format finds.
+use Rattle.std.specs.Prelude.{◌≡◌, ℕ, List, []}
+use Rattle.model.specs.Map.{KeyMap, KeyWrite}
+use Rattle.commit_log.specs.Format.{format_number}
+use Rattle.commit_log.specs.LogImage.{IsLogImage, IsNoLog}
+use Rattle.commit_log.specs.Opening.{IsDamagedImage}
+use Rattle.commit_log.specs.Recovery.{map_after}
+use Rattle.commit_log.specs.declared.formats.LogFormat.{LogFormat}
+use Rattle.commit_log.specs.declared.faults.LogFault.{LogFault}
+use Rattle.commit_log.specs.declared.faults.LogFault.TheVariants.{NotALog, Damaged, Full, Device, Stopped, Memory, OldFormat, NotEmpty}
+
+-- the image is a log of write sets that give this map, in the format of this number
+pub record IsMapOf (image : List (List ℕ)) (m : KeyMap) (number : ℕ) : Type 0 where
+  pub format : LogFormat
+  pub number_is : number ≡ format_number format
+  pub lists : List (List KeyWrite)
+  pub holds : IsLogImage format lists image
+  pub gives : m ≡ map_after [] lists
+
+-- reading the map fails by the device, for want of memory, or for what this image is
+abbrev pub IsMapRefusal : List (List ℕ) → LogFault → Type 0
+IsMapRefusal image NotALog = (f : LogFormat) → IsNoLog f image
+IsMapRefusal image (Damaged index) = (f : LogFormat) × IsDamagedImage f image index
+IsMapRefusal image Full = ⊥
+IsMapRefusal image Device = Unit {0}
+IsMapRefusal image Stopped = ⊥
+IsMapRefusal image Memory = Unit {0}
+IsMapRefusal image OldFormat = ⊥
+IsMapRefusal image NotEmpty = ⊥

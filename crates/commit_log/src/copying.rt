@@ -1,0 +1,202 @@
+//! Copying a map into a log of its own.
+ghost use Rattle.std.specs.Prelude.{◌≡◌, ◌≢◌, ◌⊎◌, ◌<◌, ◌≤◌, ◌+◌, ◌*◌, ◌/◌, ◌%◌, ◌^◌, ◌↔◌, ℕ, [], ◌∷◌, List, length, slice_get, Some, vec_capacity, OnOk, OnErr, IfOk, IfErr, IfSome, IfNone, IsErrOf};
+ghost use Rattle.sector.specs.SectorModel.{IsSettled, LeavesOnly};
+ghost use Rattle.sector.specs.Failures.{Rose, Stayed};
+ghost use Rattle.model.specs.Bounds.{value_max, body_bound};
+ghost use Rattle.model.specs.Map.{IsMap, IsInBounds};
+ghost use Rattle.commit_log.specs.Format.{current};
+ghost use Rattle.commit_log.specs.RecordFormat.{open_gate, closed_gate, first_digest, sectors_in};
+ghost use Rattle.commit_log.specs.LogImage.{IsLogImage, span};
+ghost use Rattle.commit_log.specs.LogState.{IsSameBefore};
+ghost use Rattle.commit_log.specs.Reading.{FaultIs, OnlyReads};
+ghost use Rattle.commit_log.specs.Opening.{CanSettle};
+ghost use Rattle.commit_log.specs.Recovery.{map_after};
+ghost use Rattle.commit_log.specs.Copying.{write_sets_of, set_count, copy_size, log_sectors, ReadsFrom, LeavesZeros, zero_sector, IsCopyOrNoLog, IsCopyFault};
+
+use crate::blocks::write_sectors;
+use crate::decode::is_same;
+use crate::encode::sectors_for;
+use crate::faults::LogFault;
+use crate::formats::CURRENT;
+use crate::pairs::{encode_pairs, next_payload_len};
+use crate::read::head_sector;
+use crate::record::{closed_gate, open_gate};
+use model::Map;
+use sector::{DeviceFault, SECTOR_SIZE, Sectors};
+use std::alloc::Global;
+
+/// The most puts of a record.
+const PUTS_MAX: usize = 64;
+
+/// How many sectors the log takes that `copy_into` writes of this map: a head, a record for each 64 keys, and a closed gate. `None`
+/// exactly where that is above 2^64 - 1. Takes no memory.
+pub fn copy_sectors(map: &Map) -> Option<u64>
+    ensures some { IfSome result (λ n. n ≡ copy_size map.now) }
+    ensures none { IfNone result (2 ^ 64 ≤ copy_size map.now) }
+    // The write sets of its records, and the map that they give.
+    ensures lists { length (write_sets_of map.now) ≡ set_count (length map.now) }
+    ensures gives { map_after [] (write_sets_of map.now) ≡ map.now }
+{
+    let mut pairs = map.pairs();
+    let mut left = map.len();
+    let mut sectors: u64 = 2;
+    while left > 0 {
+        let count = left.min(PUTS_MAX);
+        let len = next_payload_len(&mut pairs, count as u32);
+        sectors = sectors.checked_add(sectors_for(len) + 1)?;
+        left -= count;
+    }
+    Some(sectors)
+}
+
+/// Writes a record's open gate, and its body behind it.
+fn write_open_record<D: Sectors>(device: &mut D, gate: u64, body: &[u8]) -> Result<(), DeviceFault>
+    requires whole { length body.now % 512 ≡ 0 }
+    requires room { gate + 1 + length body.now / 512 < D.size device.old }
+    requires fits { gate + 1 + length body.now / 512 < 2 ^ 64 }
+    ensures size { D.size device.new ≡ D.size device.old }
+    ensures ok { OnOk result (Stayed (D.failures device.old) (D.failures device.new)) }
+    ensures fault { OnErr result (Rose (D.failures device.old) (D.failures device.new)) }
+    ensures written { D.keeps_model → OnOk result (ReadsFrom (D.may_read device.new) gate (open_gate ∷ sectors_in (length body.now / 512) body.now)) }
+    ensures before { D.keeps_model → OnOk result ((i : ℕ) (s : List ℕ) → i < gate → D.may_read device.new i s → D.may_read device.old i s) }
+    ensures crash { D.keeps_model → (c : List (List ℕ)) → D.may_leave device.new c → IsSameBefore gate (D.may_leave device.old) c }
+    ensures time { D.keeps_model → LeavesOnly D.moment D.left_since device.old device.new (IsSameBefore gate (D.may_leave device.old)) }
+{
+    device.write(gate, &open_gate())?;
+    write_sectors(device, gate + 1, body)
+}
+
+/// Writes the records of a map with their gates open, and a closed gate behind them, and answers how many records there are.
+fn write_records<D: Sectors>(
+    device: &mut D,
+    map: &Map,
+    body: &mut Vec<u8>,
+) -> Result<u64, DeviceFault>
+    requires room { copy_size map.now ≤ D.size device.old }
+    requires fits { D.size device.old < 2 ^ 64 }
+    requires memory { 512 * body_bound value_max ≤ vec_capacity body.old }
+    ensures size { D.size device.new ≡ D.size device.old }
+    ensures ok { OnOk result (D.failures device.new ≡ D.failures device.old) }
+    ensures fault { OnErr result (Rose (D.failures device.old) (D.failures device.new)) }
+    ensures number { IfOk result (λ n. n ≡ length (write_sets_of map.now)) }
+    ensures is_map { IsMap map.now }
+    ensures in_bounds { IsInBounds map.now }
+    ensures records { D.keeps_model → OnOk result (ReadsFrom (D.may_read device.new) 1 (log_sectors (write_sets_of map.now) 0 first_digest)) }
+    ensures behind { D.keeps_model → OnOk result (ReadsFrom (D.may_read device.new) (1 + span (write_sets_of map.now)) (closed_gate ∷ [])) }
+    ensures crash { D.keeps_model → (c : List (List ℕ)) → D.may_leave device.new c → IsSameBefore 1 (D.may_leave device.old) c }
+    ensures time { D.keeps_model → LeavesOnly D.moment D.left_since device.old device.new (IsSameBefore 1 (D.may_leave device.old)) }
+{
+    let mut ahead = map.pairs();
+    let mut pairs = map.pairs();
+    let mut left = map.len();
+    let mut gate: u64 = 1;
+    let mut records: u64 = 0;
+    let mut digest = [0; 32];
+    while left > 0 {
+        let count = left.min(PUTS_MAX);
+        let len = next_payload_len(&mut ahead, count as u32);
+        digest = encode_pairs(body, &mut pairs, count as u32, len, &digest, records);
+        write_open_record(device, gate, body)?;
+        gate += 1 + sectors_for(len);
+        records += 1;
+        left -= count;
+    }
+    device.write(gate, &closed_gate())?;
+    Ok(records)
+}
+
+/// Writes the records of a map behind a first sector of zeros, and once they are settled the head.
+fn write_log<D: Sectors>(device: &mut D, map: &Map, body: &mut Vec<u8>) -> Result<u64, DeviceFault>
+    requires room { copy_size map.now ≤ D.size device.old }
+    requires fits { D.size device.old < 2 ^ 64 }
+    requires memory { 512 * body_bound value_max ≤ vec_capacity body.old }
+    ensures size { D.size device.new ≡ D.size device.old }
+    ensures ok { OnOk result (Stayed (D.failures device.old) (D.failures device.new)) }
+    ensures fault { OnErr result (Rose (D.failures device.old) (D.failures device.new)) }
+    ensures number { IfOk result (λ n. n ≡ length (write_sets_of map.now)) }
+    ensures copied { D.keeps_model → OnOk result ((image : List (List ℕ)) × IsSettled (D.size device.new) (D.may_read device.new) (D.may_leave device.new) image × IsLogImage current (write_sets_of map.now) image) }
+    ensures any_moment { D.keeps_model → LeavesZeros (D.may_leave device.old) → LeavesOnly D.moment D.left_since device.old device.new (IsCopyOrNoLog (write_sets_of map.now)) }
+{
+    let records = write_records(device, map, body)?;
+    device.sync()?;
+    device.write(0, &head_sector(CURRENT))?;
+    device.sync()?;
+    Ok(records)
+}
+
+/// Settles a device, and sees that its first sector holds zeros.
+fn settle_zeros<D: Sectors>(device: &mut D) -> Result<(), LogFault>
+    requires { 1 ≤ D.size device.old }
+    ensures fault { FaultIs (D.failures device.old) (D.failures device.new) result }
+    ensures no_fault { OnOk result (Stayed (D.failures device.old) (D.failures device.new)) }
+    ensures errors { IfErr result (λ e. (e ≡ LogFault.Device) ⊎ (e ≡ LogFault.NotEmpty)) }
+    ensures size { D.size device.new ≡ D.size device.old }
+    ensures only_reads { D.keeps_model → OnlyReads D.may_read D.may_leave D.moment D.left_since device.old device.new }
+    ensures zeros { D.keeps_model → OnOk result (LeavesZeros (D.may_leave device.new)) }
+    ensures not_empty { D.keeps_model → IsErrOf result LogFault.NotEmpty → (image : List (List ℕ)) × CanSettle (D.size device.old) (D.may_read device.old) (D.may_leave device.old) image × (slice_get image 0 ≡ Some zero_sector → ⊥) }
+    ensures empty { D.keeps_model → OnOk result ((image : List (List ℕ)) × CanSettle (D.size device.old) (D.may_read device.old) (D.may_leave device.old) image × (slice_get image 0 ≡ Some zero_sector)) }
+{
+    match device.sync() {
+        Ok(()) => {}
+        Err(_) => return Err(LogFault::Device),
+    }
+    let mut sector = [0; 512];
+    match device.read(0, &mut sector) {
+        Ok(()) => {}
+        Err(_) => return Err(LogFault::Device),
+    }
+    if is_same(&sector, &[0; 512]) {
+        Ok(())
+    } else {
+        Err(LogFault::NotEmpty)
+    }
+}
+
+/// Writes a log whose records put the pairs of a map, by rising key, 64 to a record and the rest in the last, and answers how many
+/// records there are. The device is synced, and its first sector read. Then each sector of the log but the first is written once, and
+/// settled; the head is written last, and settled.
+///
+/// Faults come in this order: `Full` exactly where the device has fewer sectors than `copy_sectors` tells; `Memory` where the memory
+/// for one record is refused; `NotEmpty` where the first sector isn't all zeros; `Device` where a call of the device fails. After
+/// `Full` and `Memory` the device wasn't called, and after `NotEmpty` it holds what it held. After `Device` its first sector may hold
+/// anything if the head was being written, and else what it held. All memory is made before the first call of the device.
+pub fn copy_into<D: Sectors>(alloc: Global, device: &mut D, map: &Map) -> Result<u64, LogFault>
+    // When each fault comes, and what it leaves.
+    ensures errors { IfErr result IsCopyFault }
+    ensures full { IsErrOf result LogFault.Full ↔ (D.size device.old < copy_size map.now) }
+    ensures fault { FaultIs (D.failures device.old) (D.failures device.new) result }
+    ensures no_fault { OnOk result (Stayed (D.failures device.old) (D.failures device.new)) }
+    ensures unchanged { IsErrOf result LogFault.Full ⊎ IsErrOf result LogFault.Memory → device.new ≡ device.old }
+    ensures size { D.size device.new ≡ D.size device.old }
+    ensures untouched { D.keeps_model → IsErrOf result LogFault.NotEmpty → OnlyReads D.may_read D.may_leave D.moment D.left_since device.old device.new }
+
+    // `NotEmpty` is told of an image that the device might have held, by its first sector.
+    ensures not_empty { D.keeps_model → IsErrOf result LogFault.NotEmpty → (image : List (List ℕ)) × CanSettle (D.size device.old) (D.may_read device.old) (D.may_leave device.old) image × (slice_get image 0 ≡ Some zero_sector → ⊥) }
+    ensures empty { D.keeps_model → OnOk result ((image : List (List ℕ)) × CanSettle (D.size device.old) (D.may_read device.old) (D.may_leave device.old) image × (slice_get image 0 ≡ Some zero_sector)) }
+
+    // The records, and the map that they give.
+    ensures number { IfOk result (λ n. n ≡ set_count (length map.now)) }
+    ensures lists { length (write_sets_of map.now) ≡ set_count (length map.now) }
+    ensures gives { map_after [] (write_sets_of map.now) ≡ map.now }
+
+    // At `Ok` reads give their log, and a crash leaves it.
+    ensures copied { D.keeps_model → OnOk result ((image : List (List ℕ)) × IsSettled (D.size device.new) (D.may_read device.new) (D.may_leave device.new) image × IsLogImage current (write_sets_of map.now) image) }
+
+    // Where the first sector was settled and held zeros, a crash at any moment of the call leaves the finished log, or no log.
+    ensures any_moment { D.keeps_model → LeavesZeros (D.may_leave device.old) → LeavesOnly D.moment D.left_since device.old device.new (IsCopyOrNoLog (write_sets_of map.now)) }
+{
+    let count = device.count();
+    let fits = match copy_sectors(map) {
+        Some(needed) => needed <= count,
+        None => false,
+    };
+    if !fits {
+        return Err(LogFault::Full);
+    }
+    let mut body = Vec::with_capacity(alloc, CURRENT.body_max() as usize * SECTOR_SIZE)?;
+    settle_zeros(device)?;
+    match write_log(device, map, &mut body) {
+        Ok(records) => Ok(records),
+        Err(_) => Err(LogFault::Device),
+    }
+}
