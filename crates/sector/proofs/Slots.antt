@@ -8,6 +8,7 @@ use Rattle.sector.specs.declared.memory.Slot.{Slot}
 use Rattle.sector.specs.declared.memory.MemSectors.{MemSectors}
 use Rattle.sector.specs.Slots.{written, settled_slot, MayLeave, IsLeft, IsSettledSlot, settled_content, is_settled, HasSameSectors}
 use Rattle.sector.specs.SectorModel.{Settles, FollowsWrite}
+use Rattle.sector.specs.Settled.{AreSettledBefore, AreSettledFrom}
 
 pub written-settled : (slots : List Slot) → written (map settled_slot slots) ≡ written slots
 written-settled [] = refl
@@ -134,3 +135,30 @@ settled_after old slots at slot d same is = map-set_same settled_content slots a
 
 pub which_after : (old slots : List Slot) (at : ℕ) (slot : Slot) → slots ≡ old → map is_settled (set slots at slot) ≡ set (map is_settled old) at (is_settled slot)
 which_after old slots at slot same = map-set is_settled slots at slot ∙ ap (λ (l : List Slot). set (map is_settled l) at (is_settled slot)) same
+
+-- ---- slots of which those outside a span are settled
+
+settled-same : (slot : Slot) → slot.settled ≡ None → settled_slot slot ≡ slot
+settled-same slot e = λ i. record slot { settled = sym e i }
+
+pub settled-front : (n : ℕ) (slots : List Slot) → AreSettledBefore n slots → map settled_slot (take n slots) ++ drop n slots ≡ slots
+settled-front zero slots h = refl
+settled-front (suc n) [] h = refl
+settled-front (suc n) (slot ∷ slots) h =
+    let rest = settled-front n slots (λ k d lt before. h (suc k) d (omega arith) (omega arith)) in
+    let here = settled-same slot (h 0 slot (omega arith) (omega arith)) in
+    λ i. here i ∷ rest i
+
+settled-all : (slots : List Slot) → AreSettledFrom 0 slots → slots ≡ map settled_slot slots
+settled-all [] h = refl
+settled-all (slot ∷ slots) h =
+    let rest = settled-all slots (λ k d lt from. h (suc k) d (omega arith) (omega arith)) in
+    let here = settled-same slot (h 0 slot (omega arith) (omega arith)) in
+    λ i. sym here i ∷ rest i
+
+pub settled-back : (n : ℕ) (slots : List Slot) → AreSettledFrom n slots → map settled_slot (take n slots) ++ drop n slots ≡ map settled_slot slots
+settled-back zero slots h = settled-all slots h
+settled-back (suc n) [] h = refl
+settled-back (suc n) (slot ∷ slots) h =
+    let rest = settled-back n slots (λ k d lt from. h (suc k) d (omega arith) (omega arith)) in
+    ap (λ (l : List Slot). settled_slot slot ∷ l) rest

@@ -1,4 +1,5 @@
 -- What a device of sectors gives back, and what a crash leaves of it.
 pub mod SectorModel
 pub mod Failures
+pub mod Settled
 pub mod Slots

@@ -53,15 +53,14 @@ impl FileSectors {
     pub fn open<R: Files<File = File>>(rt: &R, path: &str) -> io::Result<Self>
         ensures { IfOk result (λ f. f.failures ≡ 0) }
     {
-        let file = options().open(rt, path)?;
-        match whole_sectors(file.metadata()?.len()) {
-            Some(count) => Ok(FileSectors {
-                file,
-                count,
-                failures: 0,
-            }),
-            None => Err(io::Error::from(ErrorKind::InvalidData)),
-        }
+        with_whole_sectors(options().open(rt, path)?)
+    }
+
+    /// Opens a file of whole sectors to be read alone, with the errors of `open`: the system refuses each write to it. Takes no memory.
+    pub fn open_to_read<R: Files<File = File>>(rt: &R, path: &str) -> io::Result<Self>
+        ensures { IfOk result (λ f. f.failures ≡ 0) }
+    {
+        with_whole_sectors(File::open(rt, Path::new(path))?)
     }
 
     /// Counts a call of the file, and tells how it ended. Where the count stands at its end, each call fails.
@@ -76,6 +75,20 @@ impl FileSectors {
         }
         self.failures = self.failures.saturating_add(1);
         Err(DeviceFault)
+    }
+}
+
+/// A device over an open file, with an error where its length is no multiple of 512.
+fn with_whole_sectors(file: File) -> io::Result<FileSectors>
+    ensures { IfOk result (λ f. f.failures ≡ 0) }
+{
+    match whole_sectors(file.metadata()?.len()) {
+        Some(count) => Ok(FileSectors {
+            file,
+            count,
+            failures: 0,
+        }),
+        None => Err(io::Error::from(ErrorKind::InvalidData)),
     }
 }
 

@@ -2,7 +2,7 @@
 ghost use Rattle.std.specs.Prelude.{◌≡◌, ◌≢◌, ◌<◌, ◌≤◌, ◌*◌, ◌%◌, ◌^◌, ◌↔◌, ℕ, List, length, false, IfOk, IfSome, OnOk, OnErr, IsErr, IsTrue, MatchBool, MatchResult, slice_index_or, slice_set, map, replicate};
 ghost use Rattle.std.specs.List.{concat};
 ghost use Rattle.sector.specs.Failures.{Rose, Stayed};
-ghost use Rattle.sector.specs.Slots.{IsLeft, settled_slot};
+ghost use Rattle.sector.specs.Settled.{AreSettledBefore, AreSettledFrom};
 
 use crate::{DeviceFault, SECTOR_SIZE, Sector, Sectors};
 use std::alloc::{AllocError, Global};
@@ -15,13 +15,58 @@ pub struct Slot {
     settled: Option<Sector>,
 }
 
-/// A device in memory that keeps the sector model. A test can make a call of it fail, and can let it crash.
+// The places from `start` on and before `end`.
+#[derive(Clone, Copy)]
+struct Span {
+    start: usize,
+    end: usize,
+    ghost ordered: { start ≤ end },
+}
+
+impl Span {
+    ghost use Rattle.std.specs.Prelude.{◌≡◌, ◌⊎◌, ◌≤◌, ◌<◌, ◌^◌, ◌-◌, ◌+◌};
+
+    // No place.
+    fn empty() -> Span
+        ensures start { result.start ≡ 0 }
+        ensures end { result.end ≡ 0 }
+    {
+        Span { start: 0, end: 0 }
+    }
+
+    // The shortest span with these places and one more.
+    fn with(self, at: usize) -> Span
+        requires { at < 2 ^ 64 - 1 }
+        ensures start { (result.start ≤ at) × ((result.start ≤ self.start) ⊎ (self.end ≤ self.start)) }
+        ensures end { (at < result.end) × ((self.end ≤ result.end) ⊎ (self.end ≤ self.start)) }
+        ensures within { (result.end ≤ at + 1) ⊎ (result.end ≤ self.end) }
+    {
+        if self.start == self.end {
+            return Span {
+                start: at,
+                end: at + 1,
+            };
+        }
+        Span {
+            start: self.start.min(at),
+            end: self.end.max(at + 1),
+        }
+    }
+}
+
+/// A device in memory that keeps the sector model. A test can make a call of it fail, and can let it crash. A sync takes the time of the
+/// sectors from the first to the last that was written since the sync before, however many the device has.
 #[derive(Drop)]
 pub struct MemSectors {
     slots: Vec<Slot>,
+    /// Where sectors may be unsettled: from the first to the last that was written since the last sync.
+    unsettled: Span,
     failures: u64,
     /// The call that is to fail, counted from the next one as 1; 0 for none.
     failing_call: u64,
+    ghost before: { AreSettledBefore unsettled.start slots.items },
+    ghost from: { AreSettledFrom unsettled.end slots.items },
+    ghost within: { unsettled.end ≤ length slots.items },
 }
 
 impl MemSectors {
@@ -45,6 +90,7 @@ impl MemSectors {
         }
         Ok(MemSectors {
             slots,
+            unsettled: Span::empty(),
             failures: 0,
             failing_call: 0,
         })
@@ -73,6 +119,7 @@ impl MemSectors {
         }
         Ok(MemSectors {
             slots,
+            unsettled: Span::empty(),
             failures: 0,
             failing_call: 0,
         })
@@ -89,7 +136,7 @@ impl MemSectors {
 
     /// What a crash leaves, all settled: `fill` gives what each unsettled sector then holds, from its place and its settled and its
     /// last written content. No call of it has failed yet, and none is to. Takes no memory.
-    pub fn crash<F: Fn(u64, &Sector, &Sector) -> Sector + Drop>(mut self, fill: F) -> Self
+    pub fn crash<F: Fn(u64, &Sector, &Sector) -> Sector + Drop>(self, fill: F) -> Self
         requires { F.IsAlwaysCallable fill }
         ensures possible { MayLeave self.slots.items (image result) }
         ensures settled { IsAllSettled result }
@@ -98,12 +145,16 @@ impl MemSectors {
         ensures failures { result.failures ≡ 0 }
         ensures failing { calls_to_failure result ≡ 0 }
     {
-        for i in 0..self.slots.len() {
-            self.slots[i] = slot_left(i as u64, self.slots[i], &fill);
+        let mut slots = self.slots;
+        for i in 0..slots.len() {
+            slots[i] = slots[i].left(i as u64, &fill);
         }
-        self.failures = 0;
-        self.failing_call = 0;
-        self
+        MemSectors {
+            slots,
+            unsettled: Span::empty(),
+            failures: 0,
+            failing_call: 0,
+        }
     }
 
     /// Counts a call, and says whether it fails.
@@ -125,27 +176,35 @@ impl MemSectors {
     }
 }
 
-/// What a crash leaves of a sector.
-fn slot_left<F: Fn(u64, &Sector, &Sector) -> Sector>(at: u64, slot: Slot, fill: &F) -> Slot
-    requires { F.IsAlwaysCallable fill.now }
-    ensures left { IsLeft slot result }
-    ensures filled { IfSome slot.settled (λ settled. (old : _) × (new : _) × (old.now ≡ settled) × (new.now ≡ slot.written) × F.post fill.now at old new result.written) }
-{
-    match slot.settled {
-        Some(settled) => Slot {
-            written: fill(at, &settled, &slot.written),
-            settled: None,
-        },
-        None => slot,
-    }
-}
+impl Slot {
+    ghost use Rattle.std.specs.Prelude.{◌≡◌, ◌≤◌, length, map, IfSome};
+    ghost use Rattle.sector.specs.Slots.{IsLeft, settled_slot};
 
-/// Settles each sector as it was last written.
-fn settle_all(slots: &mut Vec<Slot>)
-    ensures { slots.new.items ≡ map settled_slot slots.old.items }
-{
-    for i in 0..slots.len() {
-        slots[i].settled = None;
+    // What a crash leaves of the sector at this place.
+    fn left<F: Fn(u64, &Sector, &Sector) -> Sector>(self, at: u64, fill: &F) -> Slot
+        requires { F.IsAlwaysCallable fill.now }
+        ensures left { IsLeft self result }
+        ensures filled { IfSome self.settled (λ settled. (old : _) × (new : _) × (old.now ≡ settled) × (new.now ≡ self.written) × F.post fill.now at old new result.written) }
+    {
+        match self.settled {
+            Some(settled) => Slot {
+                written: fill(at, &settled, &self.written),
+                settled: None,
+            },
+            None => self,
+        }
+    }
+
+    // Settles each sector as it was last written, where outside the span each is settled.
+    fn settle_all(slots: &mut Vec<Slot>, unsettled: Span)
+        requires before { AreSettledBefore unsettled.start slots.old.items }
+        requires from { AreSettledFrom unsettled.end slots.old.items }
+        requires within { unsettled.end ≤ length slots.old.items }
+        ensures { slots.new.items ≡ map settled_slot slots.old.items }
+    {
+        for i in unsettled.start..unsettled.end {
+            slots[i].settled = None;
+        }
     }
 }
 
@@ -222,6 +281,7 @@ impl Sectors for MemSectors {
         ensures unsettled { settled_sectors self.new ≡ slice_set (settled_sectors self.old) at false }
     {
         let fails = self.fails();
+        self.unsettled = self.unsettled.with(at as usize);
         let slot = &mut self.slots[at as usize];
         let settled = slot.settled.unwrap_or(slot.written);
         slot.settled = Some(settled);
@@ -251,7 +311,8 @@ impl Sectors for MemSectors {
         if self.fails() {
             Err(DeviceFault)
         } else {
-            settle_all(&mut self.slots);
+            Slot::settle_all(&mut self.slots, self.unsettled);
+            self.unsettled = Span::empty();
             Ok(())
         }
     }

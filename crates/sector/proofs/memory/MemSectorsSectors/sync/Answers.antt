@@ -1,5 +1,5 @@
-use Rattle.std.proofs.Common.{◌≡◌, ◌∙◌, ap, map}
-use Rattle.sector.specs.Slots.{written, settled_slot}
+use Rattle.std.proofs.Common.{◌≡◌, ◌∙◌, All, ap, arith, map}
+use Rattle.sector.specs.Slots.{written, settled_slot, IsSettledSlot}
 use Rattle.sector.proofs.Slots.{settles, fewer, written-settled, all_settled}
 use Rattle.sector.proofs.memory.MemSectorsSectors.sync.Goals as goal
 
@@ -17,3 +17,12 @@ pub returns-else-fails-clause-sectors : goal.returns-else-fails-clause-sectors
 returns-else-fails-clause-sectors c =
     let is : c.settle_all.new.slots.items ≡ map settled_slot c.args.self.now.slots.items = rw c.fails.ensures.slots at c.settle_all.ensures in
     (ap written is ∙ written-settled c.args.self.now.slots.items, rw is (all_settled c.args.self.now.slots.items))
+
+pub invariant_of-self : goal.invariant_of-self
+invariant_of-self c =
+    let all : All IsSettledSlot c.settle_all.new.slots.items = rw c.settle_all.ensures (all_settled c.fails.new.self.slots.items) in
+    record {
+      before = λ k d lt less. all k d lt;
+      from = λ k d lt le. all k d lt;
+      within = omega (arith, c.empty-self.ensures.end);
+    }
