@@ -1,23 +1,25 @@
 -- All chains: what is made, what more room leaves, what an install adds and what a reclaim leaves.
-use Rattle.std.proofs.Common.{◌≡◌, ℕ, zero, suc, ◌+◌, ◌-◌, ◌<◌, ◌≤◌, Bool, true, false, T, cond, ◌&&◌, ◌||◌, List, [], ◌∷◌, ◌++◌, length, take, get_or, set, Option, Some, None, refl, sym, ap, subst, ◌∙◌, arith, inl, inr, length-append}
-use Rattle.std.specs.Prelude.{option_map, nat_le, if◌then◌else◌, IfSome, swap_remove}
+use Rattle.std.proofs.Common.{◌≡◌, ℕ, zero, suc, ◌+◌, ◌-◌, ◌<◌, ◌≤◌, Bool, true, false, T, cond, ◌&&◌, ◌||◌, List, [], ◌∷◌, ◌++◌, length, take, get_or, set, Option, Some, None, IsSome, Result, Ok, Err, refl, sym, ap, subst, ◌∙◌, arith, inl, inr, length-append}
+use Rattle.std.specs.Prelude.{option_map, nat_le, is_some, if◌then◌else◌, IfSome, OnOk, option_copied, swap_remove}
+use Rattle.std.specs.Borrow.{Bor}
 use Rattle.std.specs.List.{AllByRecursion}
 use Rattle.std.specs.declared.cmp.Ordering.{Ordering}
 use Rattle.std.specs.declared.cmp.Ordering.TheVariants.{Less, Equal, Greater}
-use Rattle.std.specs.Ordering.{is_eq, is_lt, nat_cmp}
+use Rattle.std.specs.Ordering.{is_eq, is_lt, nat_cmp, ordering_reverse}
 use Rattle.std.specs.Cmp.Lexicographic.{slice_cmp}
 use Rattle.std.specs.FinMap.Entries.{put, below_all, by_order}
-use Rattle.std.proofs.lemmas.Bool.{cases_Bool, le-leb, leb-true}
+use Rattle.std.proofs.lemmas.Bool.{both_ways, cases_Bool, le-leb, leb-true}
+use Rattle.std.proofs.lemmas.Map.Lookups.{exact_bytes}
+use Rattle.sorted_pages.specs.Pages.{Page, room_at}
 use Rattle.model.specs.Map.{Bytes, KeyMap, KeyWrite, IsMap, key_cmp, is_same_key, value_at, after_write, after_writes}
-use Rattle.model.proofs.Lookups.{same_key, same_key_comm, same_map}
-use Rattle.model.specs.Entries.{IsAt, IsGap}
-use Rattle.versions.specs.Chains.{Stamped, ChainValue, Chains, ChainsValue, find_chain, seen, seen_in, version_at, value_of, visible, with_value, added, stamped, fresh_chain, IsReady, HasRoom, IsPrepared, one_if_new, new_keys, reclaimed, IsReclaimedAt, base_chains, IsKept, IsRisingChain, IsRisingTo, IsRoomier, IsRoomierChain}
+use Rattle.model.proofs.Lookups.{same_key, same_key_itself, same_key_comm, same_map}
+use Rattle.versions.specs.Chains.{Stamped, ChainValue, Chains, ChainsValue, find_chain, seen, seen_in, version_at, value_of, visible, with_value, added, stamped, fresh_chain, IsReady, HasPlace, HasRoom, IsPrepared, reclaimed, IsReclaimedAt, base_chains, IsKept, IsRisingChain, IsRisingTo, IsRoomier, IsRoomierChain}
 use Rattle.versions.specs.Meaning.{kept_in, is_written_by, is_among, IsSameMeaning, IsReclaimed, IsTightChain, writes_of}
 use Rattle.versions.proofs.ChainLaws.{seen-added, rising-added, version_at-reclaimed, version_at-newest, tight-reclaimed, rising-seen_by, reclaimed_twice}
-use Rattle.model.proofs.Entries.{IsSorted, IsBelowAll, parts}
+use Rattle.model.proofs.Entries.{IsSorted, IsBelowAll, turned, parts}
 use Rattle.versions.proofs.Visibles.{IsMap-visible, value-visible, visible-put, visible-put_same, find_chain-put, sorted-put}
 
-both : (a b : Bool) → T a → T b → T (a && b)
+pub both : (a b : Bool) → T a → T b → T (a && b)
 both true b h g = g
 both false b h g = h
 
@@ -50,7 +52,7 @@ below_base : (k : Bytes) (m : KeyMap) → T (below_all (slice_cmp nat_cmp) k m) 
 below_base k [] h = tt
 below_base k (p ∷ ps) h = let q = parts _ _ h in both _ _ q.0 (below_base k ps q.1)
 
-sorted_base : (m : KeyMap) → IsMap m → IsSorted (base_chains m)
+pub sorted_base : (m : KeyMap) → IsMap m → IsSorted (base_chains m)
 sorted_base [] h = tt
 sorted_base (p ∷ ps) h = let q = parts _ _ h in both _ _ (below_base p.0 ps q.0) (sorted_base ps q.1)
 
@@ -88,10 +90,42 @@ roomier-trans (e ∷ es) (f ∷ fs) (x ∷ gs) h g =
     let a = h.1 in let b = g.1 in
     (g.0 ∙ h.0, record { older = b.older ∙ a.older; newest = b.newest ∙ a.newest; room = omega (arith, a.room, b.room) }, roomier-trans es fs gs h.2 g.2)
 
-pub roomier-set : (es : Chains) (i : ℕ) (e f : Bytes × ChainValue) → i < length es → e ≡ get_or es i e → f.0 ≡ e.0 → IsRoomierChain e.1 f.1 → IsRoomier es (set es i f)
-roomier-set [] i e f lt at k r = tt
-roomier-set (x ∷ es) zero e f lt at k r = (k ∙ ap (λ (p : Bytes × ChainValue). p.0) at, subst (λ (p : Bytes × ChainValue). IsRoomierChain p.1 f.1) at r, roomier-refl es)
-roomier-set (x ∷ es) (suc i) e f lt at k r = (refl, record { older = refl; newest = refl; room = omega arith }, roomier-set es i e f (omega arith) at k r)
+less : (o : Ordering) → T (is_lt o) → o ≡ Less
+less Less h = refl
+less Equal h = absurd h
+less Greater h = absurd h
+
+found_above : (x k : Bytes) (es : Chains) → IsBelowAll x es → IsSome (find_chain k es) → key_cmp x k ≡ Less
+found_above x k [] h s = absurd (both_ways false refl s)
+found_above x k (e ∷ es) h s =
+    let p = parts _ _ h in
+    elim (key_cmp k e.0) as (λ o. key_cmp k e.0 ≡ o → is_some (cond (is_eq o) (Some e.1) (find_chain k es)) ≡ true → key_cmp x k ≡ Less) [
+      | Less ↦ λ g t. found_above x k es p.1 t
+      | Equal ↦ λ g t. subst (λ (q : Bytes). key_cmp x q ≡ Less) (sym (exact_bytes k e.0 g)) (less _ p.0)
+      | Greater ↦ λ g t. found_above x k es p.1 t
+    ] refl s
+
+pub find-put_itself : (k : Bytes) (c : ChainValue) (es : Chains) → find_chain k (put (slice_cmp nat_cmp) k c es) ≡ Some c
+find-put_itself k c es = find_chain-put k k c es ∙ ap (λ b. cond b (Some c) (find_chain k es)) (same_key_itself k)
+
+-- what is lent is there
+pub present : (o : Option (Bor ChainValue)) (f : Option ChainValue) → option_copied o ≡ f → is_some o ≡ true → is_some f ≡ true
+present None f e h = absurd (both_ways false refl h)
+present (Some x) f e h = sym (ap is_some e)
+
+-- the key's chain with more room in its place
+pub roomier-put : (k : Bytes) (c d : ChainValue) (es : Chains) → IsSorted es → find_chain k es ≡ Some c → IsRoomierChain c d → IsRoomier es (put (slice_cmp nat_cmp) k d es)
+roomier-put k c d [] h e r = absurd (not_some e)
+  where
+    not_some : ◌≡◌ {A = Option ChainValue} None (Some c) → ⊥
+    not_some e = cc
+roomier-put k c d (f ∷ es) h e r =
+    let p = parts _ _ h in
+    elim (key_cmp k f.0) as (λ o. key_cmp k f.0 ≡ o → cond (is_eq o) (Some f.1) (find_chain k es) ≡ Some c → IsRoomier (f ∷ es) (by_order o ((k, d) ∷ f ∷ es) ((f.0, d) ∷ es) (f ∷ put (slice_cmp nat_cmp) k d es))) [
+      | Less ↦ λ g t. absurd (both_ways true (ap is_lt (sym g ∙ turned f.0 k ∙ ap ordering_reverse (found_above f.0 k es p.0 (ap is_some t)))) refl)
+      | Equal ↦ λ g t. (let same : f.1 ≡ c = cc in (refl, subst (λ (q : ChainValue). IsRoomierChain q d) (sym same) r, roomier-refl es))
+      | Greater ↦ λ g t. (refl, record { older = refl; newest = refl; room = omega arith }, roomier-put k c d es p.1 t r)
+    ] refl e
 
 same_version : (n : ℕ) (c d : ChainValue) → IsRoomierChain c d → seen n d ≡ seen n c
 same_version n c d r = λ i. value_of (if nat_le (r.newest i).number n then Some (r.newest i) else Rattle.versions.specs.Chains.last_at n None (r.older i))
@@ -127,12 +161,6 @@ kept_roomier None None h = refl
 kept_roomier None (Some d) h = absurd h
 kept_roomier (Some c) None h = absurd h
 kept_roomier (Some c) (Some d) h = ap (λ l. length l + 1) h.older
-
-one_roomier : (o p : Option ChainValue) → RoomierFound o p → one_if_new p ≡ one_if_new o
-one_roomier None None h = refl
-one_roomier None (Some d) h = absurd h
-one_roomier (Some c) None h = absurd h
-one_roomier (Some c) (Some d) h = refl
 
 pub room_roomier : (o p : Option ChainValue) → RoomierFound o p → HasRoom o → HasRoom p
 room_roomier None None h r = tt
@@ -177,18 +205,39 @@ pub room-roomier : (ws : List KeyWrite) (es fs : Chains) → IsRoomier es fs →
 room-roomier [] es fs h g = tt
 room-roomier (w ∷ ws) es fs h g = (room_roomier (find_chain w.0 es) (find_chain w.0 fs) (find-roomier w.0 es fs h) g.0, room-roomier ws es fs h g.1)
 
-pub new_keys-roomier : (ws : List KeyWrite) (es fs : Chains) → IsRoomier es fs → new_keys fs ws ≡ new_keys es ws
-new_keys-roomier [] es fs h = refl
-new_keys-roomier (w ∷ ws) es fs h = λ i. one_roomier (find_chain w.0 es) (find_chain w.0 fs) (find-roomier w.0 es fs h) i + new_keys-roomier ws es fs h i
+place_roomier : (n r s : ℕ) (o p : Option ChainValue) → RoomierFound o p → r ≤ s → HasPlace n r o → HasPlace n s p
+place_roomier n r s None None h le g = omega arith
+place_roomier n r s None (Some d) h le g = absurd h
+place_roomier n r s (Some c) None h le g = absurd h
+place_roomier n r s (Some c) (Some d) h le g = tt
+
+pub place-found : (n r : ℕ) (o p : Option ChainValue) → RoomierFound o p → is_some o ≡ true → HasPlace n r p
+place-found n r None p h t = absurd (both_ways false refl t)
+place-found n r (Some c) None h t = absurd h
+place-found n r (Some c) (Some d) h t = tt
+
+pub on_ok : {A E : Type 0} (r : Result A E) (P : Type 0) → P → OnOk r P
+on_ok (Ok x) P p = p
+on_ok (Err e) P p = tt
+
+abbrev pub HavePlaces : ℕ → Chains → List (Page ChainValue) → List KeyWrite → Type 0
+HavePlaces n es ps ws = AllByRecursion (λ w. HasPlace n (room_at w.0 ps) (find_chain w.0 es)) ws
+
+pub place-roomier : (n : ℕ) (k : Bytes) (es fs : Chains) (ps qs : List (Page ChainValue)) → IsRoomier es fs → ((q : Bytes) → room_at q ps ≤ room_at q qs) → HasPlace n (room_at k ps) (find_chain k es) → HasPlace n (room_at k qs) (find_chain k fs)
+place-roomier n k es fs ps qs h more g = place_roomier n (room_at k ps) (room_at k qs) (find_chain k es) (find_chain k fs) (find-roomier k es fs h) (more k) g
+
+pub places-roomier : (n : ℕ) (ws : List KeyWrite) (es fs : Chains) (ps qs : List (Page ChainValue)) → IsRoomier es fs → ((q : Bytes) → room_at q ps ≤ room_at q qs) → HavePlaces n es ps ws → HavePlaces n fs qs ws
+places-roomier n [] es fs ps qs h more g = tt
+places-roomier n (w ∷ ws) es fs ps qs h more g = (place-roomier n w.0 es fs ps qs h more g.0, places-roomier n ws es fs ps qs h more g.1)
 
 -- one more of the writes
 pub room-more : (ws : List KeyWrite) (es : Chains) (w : KeyWrite) → AllByRecursion (λ w. HasRoom (find_chain w.0 es)) ws → HasRoom (find_chain w.0 es) → AllByRecursion (λ w. HasRoom (find_chain w.0 es)) (ws ++ w ∷ [])
 room-more [] es w h r = (r, tt)
 room-more (x ∷ ws) es w h r = (h.0, room-more ws es w h.1 r)
 
-pub new_keys-more : (ws : List KeyWrite) (es : Chains) (w : KeyWrite) → new_keys es (ws ++ w ∷ []) ≡ new_keys es ws + one_if_new (find_chain w.0 es)
-new_keys-more [] es w = omega arith
-new_keys-more (x ∷ ws) es w = omega (arith, new_keys-more ws es w)
+pub places-more : (n : ℕ) (ws : List KeyWrite) (es : Chains) (ps : List (Page ChainValue)) (w : KeyWrite) → HavePlaces n es ps ws → HasPlace n (room_at w.0 ps) (find_chain w.0 es) → HavePlaces n es ps (ws ++ w ∷ [])
+places-more n [] es ps w h r = (r, tt)
+places-more n (x ∷ ws) es ps w h r = (h.0, places-more n ws es ps w h.1 r)
 
 -- ---- an install
 
@@ -222,9 +271,17 @@ pub ready-apart : (n : ℕ) (k : Bytes) (c : ChainValue) (es : Chains) (ws : Lis
 ready-apart n k c es [] h r = tt
 ready-apart n k c es (w ∷ ws) h r = let p = parts _ _ h in (subst (IsReady n) (sym (find_apart k c es w.0 p.0)) r.0, ready-apart n k c es ws p.1 r.1)
 
-pub new_keys-apart : (k : Bytes) (c : ChainValue) (es : Chains) (ws : List KeyWrite) → T (below_all (slice_cmp nat_cmp) k ws) → new_keys (put (slice_cmp nat_cmp) k c es) ws ≡ new_keys es ws
-new_keys-apart k c es [] h = refl
-new_keys-apart k c es (w ∷ ws) h = let p = parts _ _ h in λ i. one_if_new (find_apart k c es w.0 p.0 i) + new_keys-apart k c es ws p.1 i
+less_place : (n r s : ℕ) (o : Option ChainValue) → r ≤ s + 1 → HasPlace (suc n) r o → HasPlace n s o
+less_place n r s None le h = omega arith
+less_place n r s (Some c) le h = tt
+
+-- a new chain takes one place
+pub places-apart : (n : ℕ) (k : Bytes) (c : ChainValue) (es : Chains) (ps qs : List (Page ChainValue)) (ws : List KeyWrite) → T (below_all (slice_cmp nat_cmp) k ws) → ((q : Bytes) → room_at q ps ≤ room_at q qs + 1)
+    → HavePlaces (suc n) es ps ws → HavePlaces n (put (slice_cmp nat_cmp) k c es) qs ws
+places-apart n k c es ps qs [] h rooms r = tt
+places-apart n k c es ps qs (w ∷ ws) h rooms r =
+    let p = parts _ _ h in
+    (subst (HasPlace n (room_at w.0 qs)) (sym (find_apart k c es w.0 p.0)) (less_place n (room_at w.0 ps) (room_at w.0 qs) (find_chain w.0 es) (rooms w.0) r.0), places-apart n k c es ps qs ws p.1 rooms r.1)
 
 -- what m sees once the writes are in
 abbrev pub written_map : ℕ → ℕ → List KeyWrite → KeyMap → KeyMap
@@ -335,20 +392,16 @@ reclaimed-whole old new bs h g e is = record {
 }
 
 -- one chain reclaimed in its place
-pub reclaimed-at : (bs : List ℕ) (k : Bytes) (es : Chains) (i : ℕ) (e f : Bytes × ChainValue) → IsAt es k i → e ≡ get_or es i e → f ≡ (e.0, reclaimed bs e.1) → IsReclaimedAt bs k es (set es i f)
-reclaimed-at bs k es i e f at is made =
-    let key : e.0 ≡ k = ap (λ (p : Bytes × ChainValue). p.0) is ∙ at.key e in
-    let there : find_chain k es ≡ Some e.1 = at.found e ∙ ap (λ (p : Bytes × ChainValue). Some p.1) (sym is) in
-    let whole : set es i f ≡ put (slice_cmp nat_cmp) k (reclaimed bs e.1) es = ap (set es i) (made ∙ ap (λ (q : Bytes). (q, reclaimed bs e.1)) key) ∙ at.written (reclaimed bs e.1) in
-    record {
-      found = λ q. ap (find_chain q) whole ∙ find_chain-put q k (reclaimed bs e.1) es ∙ ap (λ o. if is_same_key q k then option_map (reclaimed bs) o else find_chain q es) (sym there);
-      kept = λ last h. subst (λ (l : Chains). IsKept l last) (sym whole) (kept-put k (reclaimed bs e.1) es last h (let r = all-find (IsRisingChain last) k e.1 es h.rising there in (rising-seen_by bs e.1.newest.number e.1.older r.0, r.1)));
-    }
+pub reclaimed-put : (bs : List ℕ) (k : Bytes) (c : ChainValue) (es fs : Chains) → find_chain k es ≡ Some c → fs ≡ put (slice_cmp nat_cmp) k (reclaimed bs c) es → IsReclaimedAt bs k es fs
+reclaimed-put bs k c es fs there whole = record {
+  found = λ q. ap (find_chain q) whole ∙ find_chain-put q k (reclaimed bs c) es ∙ ap (λ o. if is_same_key q k then option_map (reclaimed bs) o else find_chain q es) (sym there);
+  kept = λ last h. subst (λ (l : Chains). IsKept l last) (sym whole) (kept-put k (reclaimed bs c) es last h (let r = all-find (IsRisingChain last) k c es h.rising there in (rising-seen_by bs c.newest.number c.older r.0, r.1)));
+}
 
-pub reclaimed-gap : (bs : List ℕ) (k : Bytes) (es : Chains) (i : ℕ) → IsGap es k i → IsReclaimedAt bs k es es
-reclaimed-gap bs k es i gap = record {
+pub reclaimed-none : (bs : List ℕ) (k : Bytes) (es : Chains) → find_chain k es ≡ None → IsReclaimedAt bs k es es
+reclaimed-none bs k es none = record {
   found = λ q. elim (is_same_key q k) as (λ b. is_same_key q k ≡ b → find_chain q es ≡ (if b then option_map (reclaimed bs) (find_chain k es) else find_chain q es)) [
-    | true ↦ λ t. ap (λ (j : Bytes). find_chain j es) (same_key q k t) ∙ gap.absent ∙ ap (option_map (reclaimed bs)) (sym gap.absent)
+    | true ↦ λ t. ap (λ (j : Bytes). find_chain j es) (same_key q k t) ∙ none ∙ ap (option_map (reclaimed bs)) (sym none)
     | false ↦ λ f. refl
   ] refl;
   kept = λ last h. h;

@@ -5,6 +5,7 @@ use Rattle.std.specs.Ordering.{nat_cmp}
 use Rattle.std.specs.Cmp.Lexicographic.{slice_cmp}
 use Rattle.std.specs.FinMap.Entries.{find, is_sorted}
 use Rattle.model.specs.Map.{Bytes, KeyMap, KeyWrite, is_same_key}
+use Rattle.sorted_pages.specs.Pages.{Page, room_at}
 
 -- the commit number of a version and its value, `None` for a deletion
 pub record Stamped : Type 0 where
@@ -21,10 +22,10 @@ pub record ChainValue : Type 0 where
 abbrev pub Chains : Type 0
 Chains = List (Bytes × ChainValue)
 
--- the chains by rising key, how many more fit without memory, and the greatest number that was installed, or 0
+-- the chains by rising key, the pages that they stand in, and the greatest number that was installed, or 0
 pub record ChainsValue : Type 0 where
   pub chains : Chains
-  pub spare : ℕ
+  pub pages : List (Page ChainValue)
   -- how many more older versions, and groups of them, are listed without memory
   pub listed_spare : ℕ
   pub groups_spare : ℕ
@@ -88,19 +89,15 @@ abbrev pub HasRoom : Option ChainValue → Type 0
 HasRoom None = ⊤
 HasRoom (Some c) = 0 < c.room
 
-abbrev pub one_if_new : Option ChainValue → ℕ
-one_if_new None = 1
-one_if_new (Some c) = 0
-
--- how many of the writes are of keys that have no chain
-abbrev pub new_keys : Chains → List KeyWrite → ℕ
-new_keys es [] = 0
-new_keys es (w ∷ ws) = one_if_new (find_chain w.0 es) + new_keys es ws
+-- so many new chains fit without memory where the key would stand, if it has none
+abbrev pub HasPlace : ℕ → ℕ → Option ChainValue → Type 0
+HasPlace n room None = n ≤ room
+HasPlace n room (Some c) = ⊤
 
 -- the writes can be installed without memory
 pub record IsPrepared (v : ChainsValue) (ws : List KeyWrite) : Type 0 where
   pub chains : AllByRecursion (λ w. HasRoom (find_chain w.0 v.chains)) ws
-  pub spare : new_keys v.chains ws ≤ v.spare
+  pub places : AllByRecursion (λ w. HasPlace (length ws) (room_at w.0 v.pages) (find_chain w.0 v.chains)) ws
   pub listed : length ws ≤ v.listed_spare
   pub groups : 1 ≤ v.groups_spare
 

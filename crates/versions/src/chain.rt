@@ -1,12 +1,9 @@
 //! The versions of one key.
 ghost use Rattle.std.specs.Prelude.{◌≡◌, ◌+◌, ◌<◌, ◌≤◌, length, IsOk, OnOk, option_copied};
-ghost use Rattle.model.specs.Map.{key_cmp};
 ghost use Rattle.versions.specs.Chains.{seen, longer_chain, fresh_chain, reclaimed, is_between};
 ghost use Rattle.versions.specs.Listings.{has_version};
 
-use model::{Key, KeyRef};
 use std::alloc::{AllocError, Global};
-use std::cmp::Ordering;
 use std::marker::Model;
 use std::mem;
 
@@ -29,70 +26,55 @@ impl Model for Version {
 /// The newest version of a key, and those before it by rising number.
 #[derive(Drop)]
 pub(crate) struct Chain {
-    key: Key,
     newest: Version,
     older: Vec<Version>,
 }
 
 impl Model for Chain {
-    ghost use Rattle.std.specs.Prelude.{ℕ, List, ◌-◌};
+    ghost use Rattle.std.specs.Prelude.{◌-◌};
     ghost use Rattle.std.specs.Vec.{vec_len, vec_capacity};
     ghost use Rattle.versions.specs.Chains.{ChainValue};
 
-    ghost Value = { List ℕ × ChainValue };
+    ghost Value = { ChainValue };
 
-    ghost view = { λ c. (c.key, record { older = c.older.items; newest = c.newest; room = vec_capacity c.older - vec_len c.older }) };
+    ghost view = { λ c. record { older = c.older.items; newest = c.newest; room = vec_capacity c.older - vec_len c.older } };
 }
 
 impl Chain {
     // A chain of one version. Takes no memory.
-    pub(crate) fn new(alloc: Global, key: Key, version: Version) -> Chain
-        ensures { result ≡ (key, fresh_chain version 0) }
+    pub(crate) fn new(alloc: Global, version: Version) -> Chain
+        ensures { result ≡ fresh_chain version 0 }
     {
         Chain {
-            key,
             newest: version,
             older: Vec::new(alloc),
         }
     }
 
-    pub(crate) fn key(&self) -> KeyRef<'_>
-        ensures { result.bytes.now ≡ self.now.0 }
-    {
-        self.key.lend()
-    }
-
-    // Which of the chain's key and another stands first.
-    pub(crate) fn compare(&self, key: &[u8]) -> Ordering
-        ensures { result ≡ key_cmp self.now.0 key.now }
-    {
-        self.key.lend().bytes().cmp(key)
-    }
-
     // The number of the newest version.
     pub(crate) fn number(&self) -> u64
-        ensures { result ≡ self.now.1.newest.number }
+        ensures { result ≡ self.now.newest.number }
     {
         self.newest.number
     }
 
     // How many versions are kept.
     pub(crate) fn len(&self) -> usize
-        ensures { result ≡ length self.now.1.older + 1 }
+        ensures { result ≡ length self.now.older + 1 }
     {
         self.older.len() + 1
     }
 
     // Is there a version of this number before the newest?
     pub(crate) fn has_version(&self, n: u64) -> bool
-        ensures { result ≡ has_version n (Some self.now.1) }
+        ensures { result ≡ has_version n (Some self.now) }
     {
         self.older.iter().any(|version| version.number == n)
     }
 
     // What number `n` sees. The walk starts at the newest, which most readers see.
     pub(crate) fn seen(&self, n: u64) -> Option<&[u8]>
-        ensures { option_copied result ≡ seen n self.now.1 }
+        ensures { option_copied result ≡ seen n self.now }
     {
         if self.newest.number <= n {
             return lend_value(&self.newest);
@@ -107,20 +89,19 @@ impl Chain {
 
     // Makes room for a version.
     pub(crate) fn reserve(&mut self) -> Result<(), AllocError>
-        ensures key { self.new.0 ≡ self.old.0 }
-        ensures older { self.new.1.older ≡ self.old.1.older }
-        ensures newest { self.new.1.newest ≡ self.old.1.newest }
-        ensures room { self.old.1.room ≤ self.new.1.room }
-        ensures made { OnOk result (0 < self.new.1.room) }
-        ensures known { 0 < self.old.1.room → IsOk result }
+        ensures older { self.new.older ≡ self.old.older }
+        ensures newest { self.new.newest ≡ self.old.newest }
+        ensures room { self.old.room ≤ self.new.room }
+        ensures made { OnOk result (0 < self.new.room) }
+        ensures known { 0 < self.old.room → IsOk result }
     {
         self.older.reserve(1)
     }
 
     // Adds a version in the room that was made for it.
     pub(crate) fn add(&mut self, version: Version)
-        requires { 0 < self.old.1.room }
-        ensures { self.new ≡ (self.old.0, longer_chain self.old.1 version self.new.1.room) }
+        requires { 0 < self.old.room }
+        ensures { self.new ≡ longer_chain self.old version self.new.room }
     {
         let before = mem::replace(&mut self.newest, version);
         match self.older.push(before) {
@@ -131,7 +112,7 @@ impl Chain {
 
     // Drops the older versions that none of the numbers sees.
     pub(crate) fn reclaim(&mut self, begins: &[u64])
-        ensures { self.new ≡ (self.old.0, reclaimed begins.now self.old.1) }
+        ensures { self.new ≡ reclaimed begins.now self.old }
     {
         let last = self.newest.number;
         let mut i = 0;

@@ -10,7 +10,6 @@ mod laws;
 mod listing;
 mod pairs;
 mod reclaiming;
-mod searching;
 mod versions;
 
 pub use laws::{history_has_maps, numbers_change, read_only_record_follows};

@@ -1,23 +1,25 @@
 //! Lent pairs of a key and a value.
 use crate::chain::Chain;
 use model::KeyRef;
+use sorted_pages::Entries;
 
 /// The pairs of a range that one number sees, by rising key. Its calls take no memory.
 #[derive(Clone, Copy)]
 pub struct Pairs<'a> {
-    chains: &'a [Chain],
+    entries: Entries<'a, Chain>,
     n: u64,
 }
 
 impl<'a> Pairs<'a> {
     ghost use Rattle.std.specs.Prelude.{◌≡◌};
+    ghost use Rattle.sorted_pages.specs.Ranges.{entries_left};
     ghost use Rattle.versions.specs.Chains.{visible};
     ghost use Rattle.versions.specs.Lent.{range_pairs};
 
-    pub(crate) fn new(chains: &'a [Chain], n: u64) -> Pairs<'a>
-        ensures { range_pairs result ≡ visible n chains.now }
+    pub(crate) fn new(entries: Entries<'a, Chain>, n: u64) -> Pairs<'a>
+        ensures { range_pairs result ≡ visible n (entries_left entries.entry) }
     {
-        Pairs { chains, n }
+        Pairs { entries, n }
     }
 }
 
@@ -33,10 +35,9 @@ impl<'a> Iterator for Pairs<'a> {
     ghost remaining = { item_count range_pairs };
 
     fn next(&mut self) -> Option<(KeyRef<'a>, &'a [u8])> {
-        while let Some((first, rest)) = self.chains.split_first() {
-            self.chains = rest;
-            if let Some(value) = first.seen(self.n) {
-                return Some((first.key(), value));
+        while let Some((key, chain)) = self.entries.next() {
+            if let Some(value) = chain.seen(self.n) {
+                return Some((key, value));
             }
         }
         None

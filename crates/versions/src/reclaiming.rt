@@ -1,54 +1,70 @@
 //! Old versions go.
-ghost use Rattle.std.specs.Prelude.{◌≡◌, ◌↔◌, ℕ, T, false, IfSome, IsTrue, ◌<◌, ◌+◌, ◌^◌, ◌++◌, length, take, drop, option_map};
+ghost use Rattle.std.specs.Prelude.{◌≡◌, ◌↔◌, ℕ, T, false, IfSome, IsSome, IsTrue, ◌<◌, ◌+◌, ◌^◌, ◌++◌, length, take, drop, option_map};
 ghost use Rattle.std.specs.List.{AllByRecursion};
 ghost use Rattle.std.specs.Ordering.{nat_cmp};
 ghost use Rattle.std.specs.Cmp.Lexicographic.{slice_cmp};
 ghost use Rattle.std.specs.FinMap.Entries.{is_sorted};
 ghost use Rattle.std.specs.Vec.{vec_len};
 ghost use Rattle.model.specs.Map.{Bytes};
+ghost use Rattle.sorted_pages.specs.Pages.{entries};
 ghost use Rattle.versions.specs.Chains.{IsKept, IsReclaimedAt, find_chain, reclaimed};
 ghost use Rattle.versions.specs.Listings.{AreFound, AreKept, AreSeenFrom, CanJoin, IsListed, IsPartReclaimed, IsSettled, has_version, versions_in};
 ghost use Rattle.versions.specs.Meaning.{is_among};
 
 use crate::chain::Chain;
 use crate::listing::{Group, OldVersion, are_empty, are_seen_from, greatest_below, is_among};
-use crate::searching::search;
+use model::KeyRef;
+use sorted_pages::SortedPages;
 use std::collections::LinkedList;
 use std::mem;
 
 // One more than the most lists that a group can have.
 const LISTS_END: usize = 0x8000_0000_0000_0000;
 
-// Drops the older versions of the key that none of the numbers sees. Is this one still there?
-fn reclaim_version(chains: &mut [Chain], version: &OldVersion, begins: &[u64]) -> bool
-    requires { T (is_sorted (slice_cmp nat_cmp) chains.old) }
-    ensures reclaimed { IsReclaimedAt begins.now version.now.key chains.old chains.new }
-    ensures left { result ≡ has_version version.now.number (find_chain version.now.key chains.new) }
+// Drops the older versions of a key that has a chain which none of the numbers sees. Is the one of this number still there?
+fn reclaim_chain(
+    chains: &mut SortedPages<Chain>,
+    key: KeyRef<'_>,
+    number: u64,
+    begins: &[u64],
+) -> bool
+    requires sorted { T (is_sorted (slice_cmp nat_cmp) (entries chains.old)) }
+    requires present { IsSome (find_chain key.bytes.now (entries chains.old)) }
+    ensures reclaimed { IsReclaimedAt begins.now key.entry.bytes.now (entries chains.old) (entries chains.new) }
+    ensures left { result ≡ has_version number (find_chain key.entry.bytes.now (entries chains.new)) }
 {
-    match search(chains, version.key.lend().bytes()) {
-        Ok(i) => {
-            let chain = &mut chains[i];
-            chain.reclaim(begins);
-            chain.has_version(version.number)
-        }
-        Err(_) => false,
+    let chain = chains.value_mut(key);
+    chain.reclaim(begins);
+    chain.has_version(number)
+}
+
+// Drops the older versions of the key that none of the numbers sees. Is this one still there?
+fn reclaim_version(chains: &mut SortedPages<Chain>, version: &OldVersion, begins: &[u64]) -> bool
+    requires { T (is_sorted (slice_cmp nat_cmp) (entries chains.old)) }
+    ensures reclaimed { IsReclaimedAt begins.now version.now.key (entries chains.old) (entries chains.new) }
+    ensures left { result ≡ has_version version.now.number (find_chain version.now.key (entries chains.new)) }
+{
+    let key = version.key.lend();
+    match chains.get(key) {
+        None => false,
+        Some(_) => reclaim_chain(chains, key, version.number, begins),
     }
 }
 
 // Looks after those of the versions that `next`, one of the numbers, doesn't see: what none of the numbers sees goes from their
 // chains, and they from the list where they went.
 fn drop_unseen(
-    chains: &mut [Chain],
+    chains: &mut SortedPages<Chain>,
     versions: &mut Vec<OldVersion>,
     begins: &[u64],
     next: Option<u64>,
 )
-    requires kept { (last : ℕ) × IsKept chains.old last }
+    requires kept { (last : ℕ) × IsKept (entries chains.old) last }
     requires next { IfSome next (λ n. IsTrue (is_among begins.now n)) }
-    ensures part { IsPartReclaimed begins.now chains.old chains.new }
-    ensures kept { (last : ℕ) → IsKept chains.old last → IsKept chains.new last }
-    ensures settled { AllByRecursion (IsSettled begins.now chains.new) versions.new.items }
-    ensures left { AreKept versions.old.items versions.new.items chains.new }
+    ensures part { IsPartReclaimed begins.now (entries chains.old) (entries chains.new) }
+    ensures kept { (last : ℕ) → IsKept (entries chains.old) last → IsKept (entries chains.new) last }
+    ensures settled { AllByRecursion (IsSettled begins.now (entries chains.new)) versions.new.items }
+    ensures left { AreKept versions.old.items versions.new.items (entries chains.new) }
     ensures seen { (n : ℕ) → AreSeenFrom n versions.old.items → AreSeenFrom n versions.new.items }
 {
     let mut left = versions.len();
@@ -87,19 +103,19 @@ fn append(lists: &mut LinkedList<Vec<OldVersion>>, more: LinkedList<Vec<OldVersi
 
 // Looks after the versions of the one list, as `drop_unseen`.
 fn settle_first(
-    chains: &mut [Chain],
+    chains: &mut SortedPages<Chain>,
     lists: &mut LinkedList<Vec<OldVersion>>,
     begins: &[u64],
     next: Option<u64>,
 )
     requires one { length lists.old ≡ 1 }
-    requires kept { (last : ℕ) × IsKept chains.old last }
+    requires kept { (last : ℕ) × IsKept (entries chains.old) last }
     requires next { IfSome next (λ n. IsTrue (is_among begins.now n)) }
     ensures one { length lists.new ≡ 1 }
-    ensures part { IsPartReclaimed begins.now chains.old chains.new }
-    ensures kept { (last : ℕ) → IsKept chains.old last → IsKept chains.new last }
-    ensures settled { AllByRecursion (IsSettled begins.now chains.new) (versions_in lists.new) }
-    ensures left { AreKept (versions_in lists.old) (versions_in lists.new) chains.new }
+    ensures part { IsPartReclaimed begins.now (entries chains.old) (entries chains.new) }
+    ensures kept { (last : ℕ) → IsKept (entries chains.old) last → IsKept (entries chains.new) last }
+    ensures settled { AllByRecursion (IsSettled begins.now (entries chains.new)) (versions_in lists.new) }
+    ensures left { AreKept (versions_in lists.old) (versions_in lists.new) (entries chains.new) }
     ensures seen { (n : ℕ) → AreSeenFrom n (versions_in lists.old) → AreSeenFrom n (versions_in lists.new) }
 {
     match lists.front_mut() {
@@ -110,17 +126,17 @@ fn settle_first(
 
 // Looks after the versions of each list, as `drop_unseen`, and drops the lists that are empty then.
 fn settle_lists(
-    chains: &mut [Chain],
+    chains: &mut SortedPages<Chain>,
     lists: &mut LinkedList<Vec<OldVersion>>,
     begins: &[u64],
     next: Option<u64>,
 )
-    requires kept { (last : ℕ) × IsKept chains.old last }
+    requires kept { (last : ℕ) × IsKept (entries chains.old) last }
     requires next { IfSome next (λ n. IsTrue (is_among begins.now n)) }
-    ensures part { IsPartReclaimed begins.now chains.old chains.new }
-    ensures kept { (last : ℕ) → IsKept chains.old last → IsKept chains.new last }
-    ensures settled { AllByRecursion (IsSettled begins.now chains.new) (versions_in lists.new) }
-    ensures left { AreKept (versions_in lists.old) (versions_in lists.new) chains.new }
+    ensures part { IsPartReclaimed begins.now (entries chains.old) (entries chains.new) }
+    ensures kept { (last : ℕ) → IsKept (entries chains.old) last → IsKept (entries chains.new) last }
+    ensures settled { AllByRecursion (IsSettled begins.now (entries chains.new)) (versions_in lists.new) }
+    ensures left { AreKept (versions_in lists.old) (versions_in lists.new) (entries chains.new) }
     ensures seen { (n : ℕ) → AreSeenFrom n (versions_in lists.old) → AreSeenFrom n (versions_in lists.new) }
 {
     let alloc = *lists.allocator();
@@ -136,12 +152,12 @@ fn settle_lists(
 
 impl Group {
     // Looks after the group, whose witness is held no more: the greatest number below takes its place where it sees all that is left.
-    fn settle(&mut self, chains: &mut [Chain], begins: &[u64])
-        requires kept { (last : ℕ) × IsKept chains.old last }
-        ensures part { IsPartReclaimed begins.now chains.old chains.new }
-        ensures kept { (last : ℕ) → IsKept chains.old last → IsKept chains.new last }
-        ensures settled { AllByRecursion (IsSettled begins.now chains.new) self.new.versions }
-        ensures left { AreKept self.old.versions self.new.versions chains.new }
+    fn settle(&mut self, chains: &mut SortedPages<Chain>, begins: &[u64])
+        requires kept { (last : ℕ) × IsKept (entries chains.old) last }
+        ensures part { IsPartReclaimed begins.now (entries chains.old) (entries chains.new) }
+        ensures kept { (last : ℕ) → IsKept (entries chains.old) last → IsKept (entries chains.new) last }
+        ensures settled { AllByRecursion (IsSettled begins.now (entries chains.new)) self.new.versions }
+        ensures left { AreKept self.old.versions self.new.versions (entries chains.new) }
     {
         let next = greatest_below(begins, self.witness);
         settle_lists(chains, &mut self.lists, begins, next);
@@ -170,12 +186,12 @@ impl Group {
 }
 
 // Drops the older versions that none of the numbers sees. Only the groups are looked at whose witness is none of them.
-pub(crate) fn reclaim_listed(chains: &mut [Chain], groups: &mut [Group], begins: &[u64])
-    requires kept { (last : ℕ) × IsKept chains.old last }
-    requires listed { IsListed chains.old groups.old }
-    ensures reclaimed { (k : Bytes) → find_chain k chains.new ≡ option_map (reclaimed begins.now) (find_chain k chains.old) }
-    ensures kept { (last : ℕ) → IsKept chains.old last → IsKept chains.new last }
-    ensures listed { IsListed chains.new groups.new }
+pub(crate) fn reclaim_listed(chains: &mut SortedPages<Chain>, groups: &mut [Group], begins: &[u64])
+    requires kept { (last : ℕ) × IsKept (entries chains.old) last }
+    requires listed { IsListed (entries chains.old) groups.old }
+    ensures reclaimed { (k : Bytes) → find_chain k (entries chains.new) ≡ option_map (reclaimed begins.now) (find_chain k (entries chains.old)) }
+    ensures kept { (last : ℕ) → IsKept (entries chains.old) last → IsKept (entries chains.new) last }
+    ensures listed { IsListed (entries chains.new) groups.new }
 {
     for i in 0..groups.len() {
         if !is_among(begins, groups[i].witness()) {

@@ -3,32 +3,33 @@ ghost use Rattle.std.specs.Prelude.{◌≡◌, ◌≢◌, ℕ, T, true, ◌+◌,
 ghost use Rattle.std.specs.Ordering.{nat_cmp};
 ghost use Rattle.std.specs.Cmp.Lexicographic.{slice_cmp};
 ghost use Rattle.std.specs.FinMap.Entries.{put, is_sorted, where_key};
-ghost use Rattle.model.specs.Map.{KeyMap, IsMap, value_at, pairs_in_range, is_below};
+ghost use Rattle.model.specs.Map.{Bytes, KeyMap, IsMap, value_at, pairs_in_range, is_below};
 ghost use Rattle.model.specs.History.{Record};
-ghost use Rattle.versions.specs.Chains.{IsPrepared, IsReady, HasRoom, IsRoomier, find_chain, one_if_new, added, stamped};
+ghost use Rattle.versions.specs.Chains.{IsPrepared, IsReady, HasPlace, HasRoom, IsRoomier, find_chain, added, stamped};
 ghost use Rattle.versions.specs.Meaning.{map_seen, newest_of, kept_of, is_among, IsSameMeaning, IsInstalled, IsReclaimed};
+ghost use Rattle.sorted_pages.specs.Pages.{room_at};
 ghost use Rattle.versions.specs.Lent.{range_pairs};
 ghost use Rattle.versions.specs.StandsFor.{StandsFor};
 
 use crate::chain::{Chain, Version};
-use crate::installing::add_all;
+use crate::installing::{add_all, make_room};
 use crate::listing::{Group, OldVersion, reserve_list};
 use crate::pairs::Pairs;
 use crate::reclaiming::{join_groups, reclaim_listed};
-use crate::searching::{search, split_place};
 use model::{KeyRef, Map, Memory, RangeRef, Write};
+use sorted_pages::SortedPages;
 use std::alloc::{AllocError, Global};
 use std::collections::LinkedList;
 use std::marker::Model;
 use std::mem;
 
-/// The versions of all keys, found by binary search. A clause sees the map that each number sees (`map_seen`), the number of each
+/// The versions of all keys, in sorted pages. A clause sees the map that each number sees (`map_seen`), the number of each
 /// key's newest version (`newest_of`), how many versions of it are kept (`kept_of`), and the histories that these stand for
 /// (`StandsFor`).
 #[derive(Drop)]
 pub struct Versions {
     // by rising key
-    chains: Vec<Chain>,
+    chains: SortedPages<Chain>,
     // the older versions, each under a number that sees it, so that a reclaim need not look at all keys
     groups: Vec<Group>,
     // at most one list, empty, with room for the older versions that the next commit makes
@@ -40,14 +41,15 @@ pub struct Versions {
 impl Model for Versions {
     ghost use Rattle.std.specs.Prelude.{◌≡◌, ◌-◌, []};
     ghost use Rattle.std.specs.Vec.{vec_len, vec_capacity};
+    ghost use Rattle.sorted_pages.specs.Pages.{entries};
     ghost use Rattle.versions.specs.Chains.{ChainsValue, IsKept};
     ghost use Rattle.versions.specs.Listings.{IsListed, spare_in, versions_in};
 
     ghost Value = { ChainsValue };
 
-    ghost view = { λ v. record { chains = v.chains.items; spare = vec_capacity v.chains - vec_len v.chains; listed_spare = spare_in v.listed; groups_spare = vec_capacity v.groups - vec_len v.groups; last = v.last } };
+    ghost view = { λ v. record { chains = entries v.chains; pages = v.chains; listed_spare = spare_in v.listed; groups_spare = vec_capacity v.groups - vec_len v.groups; last = v.last } };
 
-    ghost invariant = { λ v. IsKept v.chains.items v.last × IsListed v.chains.items v.groups.items × (versions_in v.listed ≡ []) };
+    ghost invariant = { λ v. IsKept (entries v.chains) v.last × IsListed (entries v.chains) v.groups.items × (versions_in v.listed ≡ []) };
 }
 
 impl Versions {
@@ -56,13 +58,15 @@ impl Versions {
         ensures { IfOk result (λ v. StandsFor v (λ _. true) map []) }
     {
         let mut rest = map;
-        let mut chains = Vec::with_capacity(alloc, rest.len())?;
+        // a map's keys rise
+        let _ = rest.len();
+        let mut chains = SortedPages::new(alloc);
         while let Some((key, value)) = rest.pop_first() {
             let newest = Version {
                 number: 0,
                 value: Some(value),
             };
-            chains.push(Chain::new(alloc, key, newest))?;
+            chains.push(key, Chain::new(alloc, newest))?;
         }
         Ok(Versions {
             chains,
@@ -76,9 +80,9 @@ impl Versions {
     pub fn at(&self, n: u64, key: KeyRef<'_>) -> Option<&[u8]>
         ensures { option_copied result ≡ value_at (map_seen self.now n) key.entry.bytes.now }
     {
-        match search(&self.chains, key.bytes()) {
-            Ok(i) => self.chains[i].seen(n),
-            Err(_) => None,
+        match self.chains.get(key) {
+            Some(chain) => chain.seen(n),
+            None => None,
         }
     }
 
@@ -86,21 +90,7 @@ impl Versions {
     pub fn range(&self, n: u64, range: RangeRef<'_>) -> Pairs<'_>
         ensures { range_pairs result ≡ pairs_in_range (map_seen self.now n) range.entry.lo.bytes.now (option_map (λ k. k.bytes.now) range.entry.hi) }
     {
-        let below = self.below(range.hi);
-        let start = split_place(below, range.lo.bytes());
-        Pairs::new(&below[start..], n)
-    }
-
-    // The chains below the upper end, where there is one.
-    fn below(&self, hi: Option<KeyRef<'_>>) -> &[Chain]
-        ensures below { result.now ≡ where_key (slice_cmp nat_cmp) (λ q. is_below q (option_map (λ k. k.bytes.now) hi.entry)) self.now.chains }
-        ensures sorted { T (is_sorted (slice_cmp nat_cmp) result.now) }
-    {
-        let chains = self.chains.as_slice();
-        match hi {
-            None => chains,
-            Some(hi) => &chains[..split_place(chains, hi.bytes())],
-        }
+        Pairs::new(self.chains.range(range), n)
     }
 
     /// The number of the key's newest version, be it a value or a deletion: that of its last commit, and 0 for a value of the opened
@@ -108,9 +98,9 @@ impl Versions {
     pub fn newest(&self, key: KeyRef<'_>) -> Option<u64>
         ensures { result ≡ newest_of self.now key.entry.bytes.now }
     {
-        match search(&self.chains, key.bytes()) {
-            Ok(i) => Some(self.chains[i].number()),
-            Err(_) => None,
+        match self.chains.get(key) {
+            Some(chain) => Some(chain.number()),
+            None => None,
         }
     }
 
@@ -118,34 +108,28 @@ impl Versions {
     pub fn kept(&self, key: KeyRef<'_>) -> usize
         ensures { result ≡ kept_of self.now key.entry.bytes.now }
     {
-        match search(&self.chains, key.bytes()) {
-            Ok(i) => self.chains[i].len(),
-            Err(_) => 0,
+        match self.chains.get(key) {
+            Some(chain) => chain.len(),
+            None => 0,
         }
     }
 
-    // Makes room in the key's chain, and says how many chains the key needs.
-    fn make_room(&mut self, key: &[u8]) -> Result<usize, AllocError>
+    // Makes room for a version in the key's chain, or for `n` new chains where it would stand.
+    fn make_room(&mut self, key: KeyRef<'_>, n: usize) -> Result<(), AllocError>
         ensures chains { IsRoomier self.old.chains self.new.chains }
-        ensures spare { self.new.spare ≡ self.old.spare }
+        ensures rooms { (q : Bytes) → room_at q self.old.pages ≤ room_at q self.new.pages }
         ensures listed_spare { self.new.listed_spare ≡ self.old.listed_spare }
         ensures groups_spare { self.new.groups_spare ≡ self.old.groups_spare }
         ensures last { self.new.last ≡ self.old.last }
-        ensures room { OnOk result (HasRoom (find_chain key.now self.new.chains)) }
-        ensures new { IfOk result (λ count. count ≡ one_if_new (find_chain key.now self.new.chains)) }
-        ensures known { HasRoom (find_chain key.now self.old.chains) → IsOk result }
+        ensures room { OnOk result (HasRoom (find_chain key.entry.bytes.now self.new.chains)) }
+        ensures place { OnOk result (HasPlace n (room_at key.entry.bytes.now self.new.pages) (find_chain key.entry.bytes.now self.new.chains)) }
+        ensures known { HasRoom (find_chain key.entry.bytes.now self.old.chains) → HasPlace n (room_at key.entry.bytes.now self.old.pages) (find_chain key.entry.bytes.now self.old.chains) → IsOk result }
     {
-        match search(&self.chains, key) {
-            Ok(i) => {
-                self.chains[i].reserve()?;
-                Ok(0)
-            }
-            Err(_) => Ok(1),
-        }
+        make_room(&mut self.chains, key, n)
     }
 
-    /// Makes the room in which these writes can be installed: once for all chains of new keys, once in the chain of each other key,
-    /// and for a list of the keys. What the versions mean stays, also where memory is refused, which is answered by `Memory`.
+    /// Makes the room in which these writes can be installed: in the pages of new keys, where a full page is split, once in the chain
+    /// of each other key, and for a list of the keys. What the versions mean stays, also where memory is refused, which is answered by `Memory`.
     /// Where the room is there already, it takes none and succeeds.
     pub fn prepare(&mut self, writes: &[Write]) -> Result<(), Memory>
         ensures prepared { OnOk result (IsPrepared self.new writes.now) }
@@ -153,11 +137,9 @@ impl Versions {
         ensures same { IsSameMeaning self.old self.new }
         ensures stands { (held : ℕ → Bool) (base : KeyMap) (history : List Record) → StandsFor self.old held base history → StandsFor self.new held base history }
     {
-        let mut new_chains = 0;
         for write in writes {
-            new_chains += self.make_room(write.lend_key().bytes())?;
+            self.make_room(write.lend_key(), writes.len())?;
         }
-        self.chains.reserve(new_chains)?;
         reserve_list(&mut self.listed, writes.len())?;
         self.groups.reserve(1)?;
         Ok(())

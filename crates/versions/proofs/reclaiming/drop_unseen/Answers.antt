@@ -1,4 +1,5 @@
-use Rattle.std.proofs.Common.{◌-◌, sym, subst, ◌∙◌, arith}
+use Rattle.std.proofs.Common.{◌-◌, sym, ap, subst, ◌∙◌, arith}
+use Rattle.sorted_pages.specs.Pages.{entries}
 use Rattle.versions.proofs.Stores.{swap_remove-default}
 use Rattle.versions.proofs.Groups.{dropping-seen, dropping-stays, dropping-leaves}
 use Rattle.versions.specs.Chains.{Chains}
@@ -13,7 +14,7 @@ pub loop-left-preserved-then-not-reclaim_version : goal.loop-left-preserved-then
 loop-left-preserved-then-not-reclaim_version c =
     let vs = c.loop-left.versions.items in
     let v = c.index-version.result.now in
-    dropping-leaves c.args.begins.now c.args.chains.now c.loop-left.chains c.reclaim_version.new.chains c.args.versions.now.items vs (c.loop-left.left - 1) c.loop-left.left c.requires.kept.0 v (omega arith) c.index-version.ensures c.requires.kept.1
+    dropping-leaves c.args.begins.now (entries c.args.chains.now) (entries c.loop-left.chains) (entries c.reclaim_version.new.chains) c.args.versions.now.items vs (c.loop-left.left - 1) c.loop-left.left c.requires.kept.0 v (omega arith) c.index-version.ensures c.requires.kept.1
     c.if-not-reclaim_version.ensures.reclaimed c.loop-left.invariant c.swap_remove.new.self.items (c.swap_remove.ensures.items ∙ swap_remove-default vs (c.loop-left.left - 1) c.swap_remove.result v (omega (arith, c.loop-left.invariant.in_range))) (sym c.if-not-reclaim_version.ensures.left)
 
 pub loop-left-preserved : goal.loop-left-preserved
@@ -21,8 +22,8 @@ loop-left-preserved c =
     let vs = c.loop-left.versions.items in
     let v = c.index-version.result.now in
     elim c.else-not-is_seen_by.branch [
-      | else-not-is_seen_by-via-then-not-is_seen_by+else-not-reclaim_version w ↦ subst (λ (es : Chains). Dropping c.args.begins.now c.args.chains.now es c.args.versions.now.items vs (c.loop-left.left - 1)) (sym w.chains-is)
-          (dropping-stays c.args.begins.now c.args.chains.now c.loop-left.chains w.reclaim_version.new.chains c.args.versions.now.items vs (c.loop-left.left - 1) c.loop-left.left c.requires.kept.0 v (omega arith) c.index-version.ensures c.requires.kept.1 w.reclaim_version.ensures.reclaimed c.loop-left.invariant)
-      | else-not-is_seen_by-via-else-not-is_seen_by w ↦ subst (λ (es : Chains). Dropping c.args.begins.now c.args.chains.now es c.args.versions.now.items vs (c.loop-left.left - 1)) (sym w.chains-is)
-          (dropping-seen c.args.begins.now c.args.chains.now c.loop-left.chains c.args.versions.now.items vs (c.loop-left.left - 1) c.loop-left.left v c.args.next (omega arith) c.index-version.ensures c.requires.next (sym (w.if-not-is_seen_by.ensures)) c.loop-left.invariant)
+      | else-not-is_seen_by-via-then-not-is_seen_by+else-not-reclaim_version w ↦ subst (λ (es : Chains). Dropping c.args.begins.now (entries c.args.chains.now) es c.args.versions.now.items vs (c.loop-left.left - 1)) (sym (ap entries w.chains-is))
+          (dropping-stays c.args.begins.now (entries c.args.chains.now) (entries c.loop-left.chains) (entries w.reclaim_version.new.chains) c.args.versions.now.items vs (c.loop-left.left - 1) c.loop-left.left c.requires.kept.0 v (omega arith) c.index-version.ensures c.requires.kept.1 w.reclaim_version.ensures.reclaimed c.loop-left.invariant)
+      | else-not-is_seen_by-via-else-not-is_seen_by w ↦ subst (λ (es : Chains). Dropping c.args.begins.now (entries c.args.chains.now) es c.args.versions.now.items vs (c.loop-left.left - 1)) (sym (ap entries w.chains-is))
+          (dropping-seen c.args.begins.now (entries c.args.chains.now) (entries c.loop-left.chains) c.args.versions.now.items vs (c.loop-left.left - 1) c.loop-left.left v c.args.next (omega arith) c.index-version.ensures c.requires.next (sym (w.if-not-is_seen_by.ensures)) c.loop-left.invariant)
     ]

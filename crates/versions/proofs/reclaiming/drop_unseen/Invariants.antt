@@ -1,9 +1,10 @@
+use Rattle.sorted_pages.specs.Pages.{entries}
 use Rattle.versions.proofs.Groups.{Dropping}
 use Rattle.versions.proofs.reclaiming.drop_unseen.Given as goal
 
 -- those from `left` on were looked after
 abbrev pub invariant-loop-left : goal.invariant-loop-left
-invariant-loop-left l = Dropping l.begins l.initial.chains l.chains l.initial.versions.items l.versions.items l.left
+invariant-loop-left l = Dropping l.begins (entries l.initial.chains) (entries l.chains) l.initial.versions.items l.versions.items l.left
 
 abbrev pub decreases-loop-left : goal.decreases-loop-left
 decreases-loop-left l = l.left

@@ -1,5 +1,6 @@
 use Rattle.std.proofs.Common.{◌≡◌, ◌≤◌, ◌<◌, ◌+◌, ◌++◌, length, sym, ap, subst, ◌∙◌, arith}
 use Rattle.std.proofs.lemmas.List.{append-nil, length-append}
+use Rattle.sorted_pages.specs.Pages.{entries}
 use Rattle.versions.specs.Listings.{AreKept, AreSeenFrom, versions_in}
 use Rattle.versions.proofs.Lists.{in-append, in-empty, in-none, one-less, settled-list}
 use Rattle.versions.proofs.reclaiming.settle_lists.Goals.{then-not-are_empty, else-not-are_empty}
@@ -24,12 +25,12 @@ loop-preserved c =
     record {
       left = omega (arith, shorter);
       counted = omega (arith, shorter, counted);
-      settled = settled-list c.args.begins.now c.args.chains.now c.loop.chains c.settle_first.new.chains (versions_in c.args.lists.now) c.loop.lists c.if-not-are_empty.lists c.loop.rest c.take_first-first.result left c.take_first-first.new.lists
+      settled = settled-list c.args.begins.now (entries c.args.chains.now) (entries c.loop.chains) (entries c.settle_first.new.chains) (versions_in c.args.lists.now) c.loop.lists c.if-not-are_empty.lists c.loop.rest c.take_first-first.result left c.take_first-first.new.lists
           c.requires.kept.0 c.requires.kept.1 c.take_first-first.ensures.first c.take_first-first.ensures.rest is c.settle_first.ensures.part c.settle_first.ensures.kept c.settle_first.ensures.settled c.settle_first.ensures.left c.settle_first.ensures.seen c.loop.invariant.settled;
     }
 
 pub returns-clause-left : goal.returns-clause-left
-returns-clause-left c = subst (λ l. AreKept (versions_in c.args.lists.now) l c.loop.chains) (in-none (versions_in c.loop.lists) c.loop.rest (omega arith)) c.loop.invariant.settled.left_out
+returns-clause-left c = subst (λ l. AreKept (versions_in c.args.lists.now) l (entries c.loop.chains)) (in-none (versions_in c.loop.lists) c.loop.rest (omega arith)) c.loop.invariant.settled.left_out
 
 pub returns-clause-seen : goal.returns-clause-seen
 returns-clause-seen c = λ n h. subst (AreSeenFrom n) (in-none (versions_in c.loop.lists) c.loop.rest (omega arith)) (c.loop.invariant.settled.seen n h)

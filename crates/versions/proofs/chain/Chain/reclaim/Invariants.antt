@@ -8,7 +8,6 @@ abbrev pub invariant-loop-i : goal.invariant-loop-i
 invariant-loop-i l = record {
   kept : take l.i l.self-inside.older.items ++ seen_by l.begins l.last (drop l.i l.self-inside.older.items) ≡ seen_by l.begins l.last l.initial.self-inside.older.items;
   newest : l.self-inside.newest ≡ l.initial.self-inside.newest;
-  key : l.self-inside.key ≡ l.initial.self-inside.key;
   capacity : vec_capacity l.self-inside.older ≡ vec_capacity l.initial.self-inside.older;
   shorter : length l.self-inside.older.items ≤ length l.initial.self-inside.older.items;
 }

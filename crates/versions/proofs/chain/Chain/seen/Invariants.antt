@@ -4,4 +4,4 @@ use Rattle.versions.proofs.chain.Chain.seen.Given as goal
 
 -- the versions that were passed by are too new
 abbrev pub invariant-loop-version : goal.invariant-loop-version
-invariant-loop-version l = last_at l.n None l.version-iterator.iter.rest.now ≡ version_at l.n l.self.1
+invariant-loop-version l = last_at l.n None l.version-iterator.iter.rest.now ≡ version_at l.n l.self

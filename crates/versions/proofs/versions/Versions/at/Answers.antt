@@ -1,20 +1,16 @@
-use Rattle.std.proofs.Common.{ap, subst, ◌∙◌}
+use Rattle.std.proofs.Common.{Some, None, ap, ◌∙◌}
 use Rattle.model.specs.Map.{value_at}
-use Rattle.model.specs.Entries.{IsAt, IsGap}
-use Rattle.versions.specs.Chains.{Chains, ChainsValue, visible}
-use Rattle.versions.proofs.Calls.{seen_at, seen_gap}
+use Rattle.sorted_pages.specs.Pages.{entries}
+use Rattle.versions.specs.Chains.{ChainsValue, visible}
+use Rattle.versions.proofs.Calls.{seen_found}
 use Rattle.versions.proofs.versions.Versions.at.Goals as goal
 
-pub returns-in-Ok : goal.returns-in-Ok
-returns-in-Ok c =
-    let es = c.self.inside.chains.items in
-    let at = subst (λ (l : Chains). IsAt l c.bytes.result.now c.in-Ok.i) c.deref.ensures.value c.in-Ok.ensures.found in
-    c.seen.ensures ∙ seen_at c.args.n c.bytes.result.now es c.in-Ok.i c.index.result.now c.self.invariant.0.sorted at c.index.ensures
-    ∙ ap (value_at (visible c.args.n es)) c.bytes.ensures.bytes ∙ ap (λ (v : ChainsValue). value_at (visible c.args.n v.chains) c.args.key.bytes.now) c.self.view_is
+pub returns-in-Some : goal.returns-in-Some
+returns-in-Some c =
+    let k = c.args.key.bytes.now in
+    c.seen.ensures ∙ seen_found c.args.n k (entries c.self.inside.chains) (Some c.in-Some.chain.now) c.self.invariant.0.sorted c.in-Some.ensures ∙ ap (λ (v : ChainsValue). value_at (visible c.args.n v.chains) k) c.self.view_is
 
-pub returns-in-Err : goal.returns-in-Err
-returns-in-Err c =
-    let es = c.self.inside.chains.items in
-    let gap = subst (λ (l : Chains). IsGap l c.bytes.result.now c.in-Err.field-0) c.deref.ensures.value c.in-Err.ensures.absent in
-    seen_gap c.args.n c.bytes.result.now es c.in-Err.field-0 c.self.invariant.0.sorted gap
-    ∙ ap (value_at (visible c.args.n es)) c.bytes.ensures.bytes ∙ ap (λ (v : ChainsValue). value_at (visible c.args.n v.chains) c.args.key.bytes.now) c.self.view_is
+pub returns-in-None : goal.returns-in-None
+returns-in-None c =
+    let k = c.args.key.bytes.now in
+    seen_found c.args.n k (entries c.self.inside.chains) None c.self.invariant.0.sorted c.in-None.ensures ∙ ap (λ (v : ChainsValue). value_at (visible c.args.n v.chains) k) c.self.view_is

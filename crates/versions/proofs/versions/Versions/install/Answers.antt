@@ -1,5 +1,6 @@
 use Rattle.std.proofs.Common.{◌≡◌, ℕ, List, [], ◌∷◌, ◌++◌, ◌-◌, sym, subst, ap, ◌∙◌, refl}
 use Rattle.model.specs.Map.{KeyWrite}
+use Rattle.sorted_pages.specs.Pages.{entries}
 use Rattle.versions.specs.Chains.{ChainsValue}
 use Rattle.versions.specs.Listings.{AreSeenFrom, GroupValue, IsListed, unwitnessed, versions_in}
 use Rattle.versions.specs.Meaning.{AreInstalled, IsInstalled}
@@ -24,8 +25,8 @@ invariant_of-self c =
     let ls = c.add_all.new.listed.items in
     let filled = in-filled c.replace-listed.result c.add_all.new.listed (ap versions_in c.replace-listed.ensures.value ∙ c.self.invariant.2) (c.in-Some.ensures.variant.0 refl) in (
       c.add_all.ensures.kept,
-      subst (λ (l : List GroupValue). IsListed c.add_all.new.chains.items l) (sym c.in-Ok.ensures.items)
-          (groups-found c.add_all.new.chains.items (unwitnessed ls ∷ gs) (gs ++ c.new-2.result ∷ []) (found-last gs ls c.new-2.result (c.new-2.ensures ∙ filled)) (c.add_all.ensures.listed gs c.self.invariant.1)),
+      subst (λ (l : List GroupValue). IsListed (entries c.add_all.new.chains) l) (sym c.in-Ok.ensures.items)
+          (groups-found (entries c.add_all.new.chains) (unwitnessed ls ∷ gs) (gs ++ c.new-2.result ∷ []) (found-last gs ls c.new-2.result (c.new-2.ensures ∙ filled)) (c.add_all.ensures.listed gs c.self.invariant.1)),
       ap versions_in (c.replace-listed.ensures.after ∙ c.new.ensures),
     )
 

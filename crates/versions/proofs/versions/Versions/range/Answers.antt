@@ -1,19 +1,13 @@
-use Rattle.std.proofs.Common.{◌≡◌, ℕ, List, drop, take, length, sym, ap, ◌∙◌, ◌-◌}
-use Rattle.std.specs.Prelude.{not}
-use Rattle.std.proofs.Math.Seq.{take-length}
-use Rattle.std.proofs.lemmas.List.{length-drop}
-use Rattle.std.specs.Ordering.{nat_cmp, is_lt}
-use Rattle.std.specs.Cmp.Lexicographic.{slice_cmp}
-use Rattle.std.specs.FinMap.Entries.{where_key}
-use Rattle.model.specs.Map.{key_cmp}
-use Rattle.versions.proofs.Calls.{range_from}
+use Rattle.std.proofs.Common.{ap, ◌∙◌}
+use Rattle.model.specs.Map.{is_in_range, pairs_in_range}
+use Rattle.model.specs.KeyBytes.{end_bytes}
+use Rattle.sorted_pages.specs.Pages.{entries}
+use Rattle.versions.specs.Chains.{ChainsValue, visible}
+use Rattle.versions.proofs.Visibles.{visible-where}
 use Rattle.versions.proofs.versions.Versions.range.Goals as goal
-
-rest_all : {X : Type 0} (l : List X) (a : ℕ) → take (length l - a) (drop a l) ≡ drop a l
-rest_all l a = ap (λ n. take n (drop a l)) (sym (length-drop a l)) ∙ take-length (drop a l)
 
 pub returns : goal.returns
 returns c =
-    let below = c.below-below.result.now in
-    c.new.ensures ∙ range_from c.args.n c.args.range.lo.bytes.now _ c.args.self.now.chains below _ c.below-below.ensures.below
-    (rest_all below c.split_place-start.result ∙ c.split_place-start.ensures.from ∙ ap (λ (k : List ℕ). where_key (slice_cmp nat_cmp) (λ q. not (is_lt (key_cmp q k))) below) c.bytes.ensures.bytes)
+    let lo = c.args.range.lo.bytes.now in
+    let hi = end_bytes c.args.range.hi in
+    c.new.ensures ∙ ap (visible c.args.n) c.range.ensures ∙ visible-where c.args.n (is_in_range lo hi) (entries c.self.inside.chains) ∙ ap (λ (v : ChainsValue). pairs_in_range (visible c.args.n v.chains) lo hi) c.self.view_is

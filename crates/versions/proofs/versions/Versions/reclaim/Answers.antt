@@ -1,7 +1,8 @@
-use Rattle.std.proofs.Common.{ℕ, List, ◌≡◌, ◌++◌, drop, take, length, sym, subst, ◌∙◌, ap, refl, arith}
+use Rattle.std.proofs.Common.{ℕ, List, ◌≡◌, ◌++◌, drop, take, length, sym, subst, refl, arith}
 use Rattle.std.specs.Prelude.{option_map}
 use Rattle.model.specs.Map.{Bytes}
-use Rattle.versions.specs.Chains.{Chains, ChainsValue, IsKept, find_chain, reclaimed}
+use Rattle.sorted_pages.specs.Pages.{entries}
+use Rattle.versions.specs.Chains.{ChainsValue, IsKept, find_chain, reclaimed}
 use Rattle.versions.specs.Listings.{GroupValue, IsListed}
 use Rattle.versions.specs.Meaning.{IsReclaimed}
 use Rattle.versions.proofs.Stores.{reclaimed-whole}
@@ -16,24 +17,17 @@ whole old inside new bs same kept kept' last each = subst (λ (v : ChainsValue).
 
 pub invariant_of-self : goal.invariant_of-self
 invariant_of-self c =
-    let new = c.reclaim_listed.new.chains in
-    let is = all_items c.self.inside.chains.len new (drop (length new) c.self.inside.chains.items) (omega (arith, c.deref_mut.ensures.len, c.reclaim_listed.auto.chains)) in
-    let kept = c.reclaim_listed.ensures.kept c.self.inside.last (subst (λ (l : Chains). IsKept l c.self.inside.last) (sym c.deref_mut.ensures.value) c.self.invariant.0) in
+    let new = entries c.reclaim_listed.new.chains in
     let groups = c.reclaim_listed.new.groups in
-    let are = all_items c.self.inside.groups.len groups (drop (length groups) c.self.inside.groups.items) (omega (arith, c.deref_mut-2.ensures.len, c.reclaim_listed.auto.groups)) in
+    let are = all_items c.self.inside.groups.len groups (drop (length groups) c.self.inside.groups.items) (omega (arith, c.deref_mut.ensures.len, c.reclaim_listed.auto.groups)) in
     let listed = c.reclaim_listed.ensures.listed in (
-      subst (λ (l : Chains). IsKept l c.self.inside.last) (sym is) kept,
-      subst (λ (l : Chains). IsListed l c.join_groups.new.groups.items) (sym is) (groups-found new (take c.self.inside.groups.len (groups ++ drop (length groups) c.self.inside.groups.items)) c.join_groups.new.groups.items c.join_groups.ensures (subst (λ (l : List GroupValue). IsListed new l) (sym are) listed)),
+      c.reclaim_listed.ensures.kept c.self.inside.last c.self.invariant.0,
+      groups-found new (take c.self.inside.groups.len (groups ++ drop (length groups) c.self.inside.groups.items)) c.join_groups.new.groups.items c.join_groups.ensures (subst (λ (l : List GroupValue). IsListed new l) (sym are) listed),
       c.self.invariant.2,
     )
 
 pub returns-clause-reclaimed : goal.returns-clause-reclaimed
-returns-clause-reclaimed c =
-    let new = c.reclaim_listed.new.chains in
-    let is = all_items c.self.inside.chains.len new (drop (length new) c.self.inside.chains.items) (omega (arith, c.deref_mut.ensures.len, c.reclaim_listed.auto.chains)) in
-    let kept = c.reclaim_listed.ensures.kept c.self.inside.last (subst (λ (l : Chains). IsKept l c.self.inside.last) (sym c.deref_mut.ensures.value) c.self.invariant.0) in
-    whole c.args.self.now _ _ c.args.begins.now c.self.view_is c.self.invariant.0 (subst (λ (l : Chains). IsKept l c.self.inside.last) (sym is) kept) refl
-    (λ (k : Bytes). ap (find_chain k) is ∙ c.reclaim_listed.ensures.reclaimed k ∙ ap (λ (l : Chains). option_map (reclaimed c.args.begins.now) (find_chain k l)) c.deref_mut.ensures.value)
+returns-clause-reclaimed c = whole c.args.self.now _ _ c.args.begins.now c.self.view_is c.self.invariant.0 (c.reclaim_listed.ensures.kept c.self.inside.last c.self.invariant.0) refl c.reclaim_listed.ensures.reclaimed
 
 pub returns-clause-stands : goal.returns-clause-stands
 returns-clause-stands c = λ held base history s. stands-reclaimed c.args.self.now held base history _ c.args.begins.now (returns-clause-reclaimed c) s

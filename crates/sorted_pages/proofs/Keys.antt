@@ -1,0 +1,143 @@
+-- Entries by rising key in parts: what stands before a key and after it, and what `find` and `put` do in the middle.
+use Rattle.std.proofs.Common.{◌≡◌, ◌<◌, Bool, true, false, T, cond, ◌&&◌, List, [], ◌∷◌, ◌++◌, length, Some, None, refl, sym, ap, subst, ◌∙◌, arith}
+use Rattle.std.specs.declared.cmp.Ordering.{Ordering}
+use Rattle.std.specs.declared.cmp.Ordering.TheVariants.{Less, Equal, Greater}
+use Rattle.std.specs.Ordering.{is_eq, is_lt, is_le, nat_cmp, ordering_reverse}
+use Rattle.std.specs.Cmp.Lexicographic.{slice_cmp, nat_list_cmp_total}
+use Rattle.std.specs.FinMap.Entries.{find, put, by_order}
+use Rattle.std.proofs.lemmas.Bool.{both_ways}
+use Rattle.std.proofs.lemmas.Map.Lookups.{exact_bytes}
+use Rattle.model.specs.Map.{Bytes, key_cmp}
+use Rattle.model.proofs.Entries.{IsSorted, IsBelowAll, turned, parts}
+use Rattle.sorted_pages.specs.Pages.{AreBelow, starts_by}
+
+pub less : (o : Ordering) → T (is_lt o) → o ≡ Less
+less Less h = refl
+less Equal h = absurd h
+less Greater h = absurd h
+
+pub both : (a b : Bool) → T a → T b → T (a && b)
+both true b p q = q
+both false b p q = p
+
+pub below_trans : (y x k : Bytes) → key_cmp y x ≡ Less → is_le (key_cmp x k) ≡ true → key_cmp y k ≡ Less
+below_trans y x k lt le = elim (key_cmp x k) as (λ o. key_cmp x k ≡ o → is_le o ≡ true → key_cmp y k ≡ Less) [
+  | Less ↦ λ e t. nat_list_cmp_total.trans y x k lt e
+  | Equal ↦ λ e t. subst (λ (q : Bytes). key_cmp y q ≡ Less) (exact_bytes x k e) lt
+  | Greater ↦ λ e t. absurd (both_ways false refl t)
+] refl le
+
+-- a key that isn't at most k is above it
+pub above_it : (x k : Bytes) → is_le (key_cmp x k) ≡ false → key_cmp k x ≡ Less
+above_it x k f = turned x k ∙ ap ordering_reverse (greater (key_cmp x k) f)
+  where
+    greater : (o : Ordering) → is_le o ≡ false → o ≡ Greater
+    greater Less g = absurd (both_ways true g refl)
+    greater Equal g = absurd (both_ways true g refl)
+    greater Greater g = refl
+
+module _ {X : Type 0} where
+  pub below_left : (k : Bytes) (xs ys : List (Bytes × X)) → IsBelowAll k (xs ++ ys) → IsBelowAll k xs
+  below_left k [] ys h = tt
+  below_left k (x ∷ xs) ys h = let p = parts _ _ h in both _ _ p.0 (below_left k xs ys p.1)
+
+  pub below_right : (k : Bytes) (xs ys : List (Bytes × X)) → IsBelowAll k (xs ++ ys) → IsBelowAll k ys
+  below_right k [] ys h = h
+  below_right k (x ∷ xs) ys h = below_right k xs ys (parts _ _ h).1
+
+  pub sorted_left : (xs ys : List (Bytes × X)) → IsSorted (xs ++ ys) → IsSorted xs
+  sorted_left [] ys h = tt
+  sorted_left (x ∷ xs) ys h = let p = parts _ _ h in both _ _ (below_left x.0 xs ys p.0) (sorted_left xs ys p.1)
+
+  pub sorted_right : (xs ys : List (Bytes × X)) → IsSorted (xs ++ ys) → IsSorted ys
+  sorted_right [] ys h = h
+  sorted_right (x ∷ xs) ys h = sorted_right xs ys (parts _ _ h).1
+
+  pub below_later : (x y : Bytes) (es : List (Bytes × X)) → key_cmp x y ≡ Less → IsBelowAll y es → IsBelowAll x es
+  below_later x y [] p h = tt
+  below_later x y (e ∷ es) p h =
+      let q = parts _ _ h in
+      both _ _ (subst (λ o. T (is_lt o)) (sym (nat_list_cmp_total.trans x y e.0 p (less _ q.0))) tt) (below_later x y es p q.1)
+
+  -- the keys before an entry are below its key
+  pub apart : (xs : List (Bytes × X)) (e : Bytes × X) (ys : List (Bytes × X)) → IsSorted (xs ++ e ∷ ys) → AreBelow e.0 xs
+  apart [] e ys h = tt
+  apart (x ∷ xs) e ys h = let p = parts _ _ h in (less _ (parts _ _ (below_right x.0 xs (e ∷ ys) p.0)).0, apart xs e ys p.1)
+
+  weaker : (x k : Bytes) (es : List (Bytes × X)) → is_le (key_cmp x k) ≡ true → AreBelow x es → AreBelow k es
+  weaker x k [] le h = tt
+  weaker x k (e ∷ es) le h = (below_trans e.0 x k h.0 le, weaker x k es le h.1)
+
+  -- the entries before a page that starts by k are below k
+  pub below_of : (k : Bytes) (xs es rest : List (Bytes × X)) → IsSorted (xs ++ (es ++ rest)) → 0 < length es → starts_by k es ≡ true → AreBelow k xs
+  below_of k xs [] rest h f t = absurd (omega arith)
+  below_of k xs (e ∷ es) rest h f t = weaker e.0 k xs t (apart xs e (es ++ rest) h)
+
+  -- those from a page on that doesn't start by k are above k
+  pub above_of : (k : Bytes) (es rest : List (Bytes × X)) → IsSorted (es ++ rest) → 0 < length es → starts_by k es ≡ false → IsBelowAll k (es ++ rest)
+  above_of k [] rest h f n = absurd (omega arith)
+  above_of k (e ∷ es) rest h f n =
+      let up = above_it e.0 k n in
+      both _ _ (subst (λ o. T (is_lt o)) (sym up) tt) (below_later k e.0 (es ++ rest) up (parts _ _ h).0)
+
+  -- what is below all of a page that starts by k is below k
+  pub first_of : (x k : Bytes) (es : List (Bytes × X)) → IsBelowAll x es → 0 < length es → starts_by k es ≡ true → key_cmp x k ≡ Less
+  first_of x k [] h f t = absurd (omega arith)
+  first_of x k (e ∷ es) h f t = below_trans x e.0 k (less _ (parts _ _ h).0) t
+
+  -- where the upper part starts by q, the lower does
+  pub starts_lower : (q : Bytes) (lo up : List (Bytes × X)) → IsSorted (lo ++ up) → 0 < length up → starts_by q up ≡ true → starts_by q lo ≡ true
+  starts_lower q [] up h f t = refl
+  starts_lower q (e ∷ lo) up h f t = ap is_le (first_of e.0 q up (below_right e.0 lo up (parts _ _ h).0) f t)
+
+  pub starts-append : (q : Bytes) (lo up : List (Bytes × X)) → 0 < length lo → starts_by q (lo ++ up) ≡ starts_by q lo
+  starts-append q [] up f = absurd (omega arith)
+  starts-append q (e ∷ lo) up f = refl
+
+  -- an entry that comes in after the first leaves the first
+  pub starts-put : (q k : Bytes) (v : X) (es : List (Bytes × X)) → 0 < length es → starts_by k es ≡ true → starts_by q (put (slice_cmp nat_cmp) k v es) ≡ starts_by q es
+  starts-put q k v [] f t = absurd (omega arith)
+  starts-put q k v (e ∷ es) f t = elim (key_cmp k e.0) as (λ o. key_cmp k e.0 ≡ o → starts_by q (by_order o ((k, v) ∷ e ∷ es) ((e.0, v) ∷ es) (e ∷ put (slice_cmp nat_cmp) k v es)) ≡ is_le (key_cmp e.0 q)) [
+    | Less ↦ λ g. absurd (both_ways _ (ap is_le (turned k e.0 ∙ ap ordering_reverse g)) t)
+    | Equal ↦ λ g. refl
+    | Greater ↦ λ g. refl
+  ] refl
+
+  pub filled-put : (k : Bytes) (v : X) (es : List (Bytes × X)) → 0 < length (put (slice_cmp nat_cmp) k v es)
+  filled-put k v [] = omega arith
+  filled-put k v (e ∷ es) = elim (key_cmp k e.0) as (λ o. 0 < length (by_order o ((k, v) ∷ e ∷ es) ((e.0, v) ∷ es) (e ∷ put (slice_cmp nat_cmp) k v es))) [ Less ↦ omega arith | Equal ↦ omega arith | Greater ↦ omega arith ]
+
+  -- ---- in the middle
+
+  find_none : (k : Bytes) (es : List (Bytes × X)) → IsBelowAll k es → find (slice_cmp nat_cmp) k es ≡ None
+  find_none k [] h = refl
+  find_none k (e ∷ es) h = let p = parts _ _ h in ap (λ o. cond (is_eq o) (Some e.1) (find (slice_cmp nat_cmp) k es)) (less _ p.0) ∙ find_none k es p.1
+
+  find_left : (k : Bytes) (m b : List (Bytes × X)) → IsBelowAll k b → find (slice_cmp nat_cmp) k (m ++ b) ≡ find (slice_cmp nat_cmp) k m
+  find_left k [] b h = find_none k b h
+  find_left k (e ∷ m) b h = ap (λ r. cond (is_eq (key_cmp k e.0)) (Some e.1) r) (find_left k m b h)
+
+  pub find_middle : (k : Bytes) (a m b : List (Bytes × X)) → AreBelow k a → IsBelowAll k b → find (slice_cmp nat_cmp) k (a ++ (m ++ b)) ≡ find (slice_cmp nat_cmp) k m
+  find_middle k [] m b below above = find_left k m b above
+  find_middle k (e ∷ a) m b below above =
+      ap (λ o. cond (is_eq o) (Some e.1) (find (slice_cmp nat_cmp) k (a ++ (m ++ b)))) (turned e.0 k ∙ ap ordering_reverse below.0) ∙ find_middle k a m b below.1 above
+
+  put_first : (k : Bytes) (v : X) (es : List (Bytes × X)) → IsBelowAll k es → put (slice_cmp nat_cmp) k v es ≡ (k, v) ∷ es
+  put_first k v [] h = refl
+  put_first k v (e ∷ es) h = ap (λ o. by_order o ((k, v) ∷ e ∷ es) ((e.0, v) ∷ es) (e ∷ put (slice_cmp nat_cmp) k v es)) (less _ (parts _ _ h).0)
+
+  put_left : (k : Bytes) (v : X) (m b : List (Bytes × X)) → IsBelowAll k b → put (slice_cmp nat_cmp) k v (m ++ b) ≡ put (slice_cmp nat_cmp) k v m ++ b
+  put_left k v [] b h = put_first k v b h
+  put_left k v (e ∷ m) b h =
+      elim (key_cmp k e.0) as (λ o. by_order o ((k, v) ∷ e ∷ (m ++ b)) ((e.0, v) ∷ (m ++ b)) (e ∷ put (slice_cmp nat_cmp) k v (m ++ b)) ≡ by_order o ((k, v) ∷ e ∷ m) ((e.0, v) ∷ m) (e ∷ put (slice_cmp nat_cmp) k v m) ++ b) [
+        | Less ↦ refl
+        | Equal ↦ refl
+        | Greater ↦ ap (λ l. e ∷ l) (put_left k v m b h)
+      ]
+
+  pub put_middle : (k : Bytes) (v : X) (a m b : List (Bytes × X)) → AreBelow k a → IsBelowAll k b → put (slice_cmp nat_cmp) k v (a ++ (m ++ b)) ≡ a ++ (put (slice_cmp nat_cmp) k v m ++ b)
+  put_middle k v [] m b below above = put_left k v m b above
+  put_middle k v (e ∷ a) m b below above =
+      let l = a ++ (m ++ b) in
+      ap (λ o. by_order o ((k, v) ∷ e ∷ l) ((e.0, v) ∷ l) (e ∷ put (slice_cmp nat_cmp) k v l)) (turned e.0 k ∙ ap ordering_reverse below.0)
+      ∙ ap (λ l. e ∷ l) (put_middle k v a m b below.1 above)

@@ -1,0 +1,4 @@
+pub mod Keys
+pub mod Placings
+pub mod Tails
+pub mod Values

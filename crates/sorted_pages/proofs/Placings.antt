@@ -1,0 +1,382 @@
+-- Pages: where a key stands among them, and what a changed page does to all entries and to the rooms.
+use Rattle.std.proofs.Common.{◌≡◌, ℕ, zero, suc, ◌+◌, ◌-◌, ◌<◌, ◌≤◌, Bool, true, false, List, [], ◌∷◌, ◌++◌, length, get_or, set, take, drop, ◌/◌, min, refl, sym, ap, subst, ◌∙◌, arith}
+use Rattle.std.specs.Prelude.{if◌then◌else◌}
+use Rattle.std.specs.List.{AllByRecursion, insert}
+use Rattle.std.specs.List.Sorted.{IsPartitionedBy, IsPartitionPoint}
+use Rattle.std.specs.Ordering.{is_le, nat_cmp}
+use Rattle.std.specs.Cmp.Lexicographic.{slice_cmp, nat_list_cmp_total}
+use Rattle.std.specs.FinMap.Entries.{find, put, is_sorted-put}
+use Rattle.std.proofs.lemmas.Bool.{both_ways}
+use Rattle.std.proofs.lemmas.List.{append_assoc, append-nil, set_at, get_or_at, length-take, length-drop, take-append-drop}
+use Rattle.model.specs.Map.{Bytes, key_cmp}
+use Rattle.model.proofs.Entries.{IsSorted, IsBelowAll, parts}
+use Rattle.sorted_pages.specs.Pages.{Page, entries, starts_by, last_room, room_at, IsFilled, AreRestFilled, IsInOrder, AreBelow, IsPlace, IsRoomier}
+use Rattle.sorted_pages.proofs.Keys.{below_left, below_right, sorted_left, sorted_right, below_of, above_of, first_of, starts_lower, starts-append, starts-put, filled-put, find_middle, put_middle}
+
+-- ---- lists
+
+pub all_right : {Y : Type 0} (P : Y → Type 0) (us bs : List Y) → AllByRecursion P (us ++ bs) → AllByRecursion P bs
+all_right P [] bs h = h
+all_right P (a ∷ us) bs h = all_right P us bs h.1
+
+module _ {Y : Type 0} (f : Y → Bool) where
+  all_from : (ps : List Y) → ((j : ℕ) (d : Y) → j < length ps → f (get_or ps j d) ≡ false) → AllByRecursion (λ p. f p ≡ false) ps
+  all_from [] h = tt
+  all_from (p ∷ ps) h = (h 0 p (omega arith), all_from ps (λ j d lt. h (suc j) d (omega arith)))
+
+  -- the last element that passes
+  pub record Cut (ps : List Y) (i : ℕ) : Type 0 where
+    pub before : List Y
+    pub page : Y
+    pub after : List Y
+    pub is : ps ≡ before ++ page ∷ after
+    pub index : length before ≡ i
+    pub passes : f page ≡ true
+    pub later : AllByRecursion (λ p. f p ≡ false) after
+
+  cut : (ps : List Y) (i : ℕ) → i < length ps → ((j : ℕ) (d : Y) → j < suc i → f (get_or ps j d) ≡ true) → ((j : ℕ) (d : Y) → suc i ≤ j → j < length ps → f (get_or ps j d) ≡ false) → Cut ps i
+  cut [] i lt pass fail = absurd (omega arith)
+  cut (p ∷ ps) zero lt pass fail = record { before = []; page = p; after = ps; is = refl; index = refl; passes = pass 0 p (omega arith); later = all_from ps (λ j d l. fail (suc j) d (omega arith) (omega arith)) }
+  cut (p ∷ ps) (suc i) lt pass fail =
+      let r = cut ps i (omega arith) (λ j d l. pass (suc j) d (omega arith)) (λ j d l m. fail (suc j) d (omega arith) (omega arith)) in
+      record { before = p ∷ r.before; page = r.page; after = r.after; is = ap (λ l. p ∷ l) r.is; index = ap suc r.index; passes = r.passes; later = r.later }
+
+choose : (a b : Bool) (p lo up n : ℕ) → p ≤ lo → p ≤ up → (b ≡ true → a ≡ true) → (if a then p else n) ≤ (if b then up else (if a then lo else n)) + 0
+choose true true p lo up n l u h = omega arith
+choose true false p lo up n l u h = omega arith
+choose false true p lo up n l u h = absurd (both_ways false refl (h refl))
+choose false false p lo up n l u h = omega arith
+
+-- a list in two parts, each with an element
+pub record Halves {E : Type 0} (es lo up : List E) : Type 0 where
+  pub same : es ≡ lo ++ up
+  pub lower : 0 < length lo
+  pub upper : 0 < length up
+
+pub halves : {E : Type 0} (es lo up : List E) (half : ℕ) → lo ≡ take half es → up ≡ drop half es → half ≡ length es / 2 → ¬ (half ≡ 0) → Halves es lo up
+halves es lo up half l u is some =
+    let a : length lo ≡ min half (length es) = ap length l ∙ length-take half es in
+    let b : length up ≡ length es - half = ap length u ∙ length-drop half es in
+    record {
+      same = sym (ap (λ e. e ++ up) l ∙ ap (λ e. take half es ++ e) u ∙ take-append-drop half es);
+      lower = omega arith;
+      upper = omega arith;
+    }
+
+module _ {X : Type 0} where
+  -- ---- all entries
+
+  pub entries-append : (us bs : List (Page X)) → entries (us ++ bs) ≡ entries us ++ entries bs
+  entries-append [] bs = refl
+  entries-append (p ∷ us) bs = ap (λ l. p.0 ++ l) (entries-append us bs) ∙ sym (append_assoc p.0 (entries us) (entries bs))
+
+  pub sorted_parts : (before : List (Page X)) (page : Page X) (after : List (Page X)) → IsSorted (entries (before ++ page ∷ after)) → IsSorted (entries before ++ (page.0 ++ entries after))
+  sorted_parts before page after h = subst (λ (l : List (Bytes × X)). IsSorted l) (entries-append before (page ∷ after)) h
+
+  pub sorted_page : (before : List (Page X)) (page : Page X) (after : List (Page X)) → IsSorted (entries (before ++ page ∷ after)) → IsSorted page.0
+  sorted_page before page after h = sorted_left page.0 (entries after) (sorted_right (entries before) (page.0 ++ entries after) (sorted_parts before page after h))
+
+  rest_of_all : (ps : List (Page X)) → AllByRecursion IsFilled ps → AreRestFilled ps
+  rest_of_all [] h = tt
+  rest_of_all (p ∷ ps) h = h.1
+
+  after_filled : (before : List (Page X)) (page : Page X) (after : List (Page X)) → AreRestFilled (before ++ page ∷ after) → AllByRecursion IsFilled after
+  after_filled [] page after h = h
+  after_filled (b ∷ before) page after h = (all_right IsFilled before (page ∷ after) h).1
+
+  page_filled : (before : List (Page X)) (page : Page X) (after : List (Page X)) → 0 < length before → AreRestFilled (before ++ page ∷ after) → IsFilled page
+  page_filled [] page after lt h = absurd (omega arith)
+  page_filled (b ∷ before) page after lt h = (all_right IsFilled before (page ∷ after) h).0
+
+  -- ---- where a key stands
+
+  heads : (x k : Bytes) (ps : List (Page X)) (j : ℕ) (d : Page X) → IsBelowAll x (entries ps) → AllByRecursion IsFilled ps → j < length ps → starts_by k (get_or ps j d).0 ≡ true → is_le (key_cmp x k) ≡ true
+  heads x k [] j d h f lt t = absurd (omega arith)
+  heads x k (p ∷ ps) zero d h f lt t = ap is_le (first_of x k p.0 (below_left x p.0 (entries ps) h) f.0 t)
+  heads x k (p ∷ ps) (suc j) d h f lt t = heads x k ps j d (below_right x p.0 (entries ps) h) f.1 (omega arith) t
+
+  starts_too : (k : Bytes) (es : List (Bytes × X)) (ps : List (Page X)) (j : ℕ) (d : Page X) → IsSorted (es ++ entries ps) → AllByRecursion IsFilled ps → j < length ps → starts_by k (get_or ps j d).0 ≡ true → starts_by k es ≡ true
+  starts_too k [] ps j d h f lt t = refl
+  starts_too k (e ∷ es) ps j d h f lt t = heads e.0 k ps j d (below_right e.0 es (entries ps) (parts _ _ h).0) f lt t
+
+  -- the pages that start by k come first
+  pub parted : (k : Bytes) (ps : List (Page X)) → IsSorted (entries ps) → AreRestFilled ps → IsPartitionedBy (λ (p : Page X). starts_by k p.0) ps
+  parted k [] h f i j d le lt t = absurd (omega arith)
+  parted k (p ∷ ps) h f zero zero d le lt t = t
+  parted k (p ∷ ps) h f zero (suc j) d le lt t = starts_too k p.0 ps j d h f (omega arith) t
+  parted k (p ∷ ps) h f (suc i) zero d le lt t = absurd (omega arith)
+  parted k (p ∷ ps) h f (suc i) (suc j) d le lt t = parted k ps (sorted_right p.0 (entries ps) h) (rest_of_all ps f) i j d (omega arith) (omega arith) t
+
+  all_above : (k : Bytes) (ps : List (Page X)) → IsSorted (entries ps) → AllByRecursion IsFilled ps → AllByRecursion (λ (p : Page X). starts_by k p.0 ≡ false) ps → IsBelowAll k (entries ps)
+  all_above k [] h f n = tt
+  all_above k (p ∷ ps) h f n = above_of k p.0 (entries ps) h f.0 n.0
+
+  all_below : (k : Bytes) (before : List (Page X)) (page : Page X) (after : List (Page X)) → IsInOrder (before ++ page ∷ after) → starts_by k page.0 ≡ true → AreBelow k (entries before)
+  all_below k [] page after h t = tt
+  all_below k (b ∷ before) page after h t =
+      below_of k (entries (b ∷ before)) page.0 (entries after) (sorted_parts (b ∷ before) page after h.sorted) (page_filled (b ∷ before) page after (omega arith) h.filled) t
+
+  later_above : (k : Bytes) (before : List (Page X)) (page : Page X) (after : List (Page X)) → IsInOrder (before ++ page ∷ after) → AllByRecursion (λ (p : Page X). starts_by k p.0 ≡ false) after → IsBelowAll k (entries after)
+  later_above k before page after h n =
+      all_above k after (sorted_right page.0 (entries after) (sorted_right (entries before) (page.0 ++ entries after) (sorted_parts before page after h.sorted))) (after_filled before page after h.filled) n
+
+  -- the last page that starts by k, and the first where none does
+  pub placed : (k : Bytes) (ps : List (Page X)) (c i : ℕ) → IsInOrder ps → 0 < length ps → c ≤ length ps → i ≡ c - 1 → IsPartitionPoint (λ (p : Page X). starts_by k p.0 ≡ true) (λ (p : Page X). starts_by k p.0 ≡ false) ps c → IsPlace ps k i
+  placed k [] c i h some le e point = absurd (omega arith)
+  placed k (p ∷ ps) zero i h some le e point =
+      let none = all_from (λ (p : Page X). starts_by k p.0) ps (λ j d lt. point.1 (suc j) d (omega arith) (omega arith)) in
+      record { before = []; page = p; after = ps; is = refl; index = omega arith; below = tt; starts = λ lt. absurd (omega arith); later = none; above = later_above k [] p ps h none }
+  placed k (p ∷ ps) (suc c) i h some le e point =
+      let r = cut (λ (p : Page X). starts_by k p.0) (p ∷ ps) c (omega arith) (λ j d lt. point.0 j d (omega arith) (omega arith)) (λ j d l m. point.1 j d (omega arith) m) in
+      let g : IsInOrder (r.before ++ r.page ∷ r.after) = subst (λ (l : List (Page X)). IsInOrder l) r.is h in
+      record { before = r.before; page = r.page; after = r.after; is = r.is; index = (let s = r.index in omega arith); below = all_below k r.before r.page r.after g r.passes; starts = λ lt. r.passes; later = r.later; above = later_above k r.before r.page r.after g r.later }
+
+  -- ---- at a place
+
+  pub in_range : (ps : List (Page X)) (k : Bytes) (i : ℕ) → IsPlace ps k i → i < length ps
+  in_range ps k i w = let e = w.index in let n : length ps ≡ length (w.before ++ w.page ∷ w.after) = ap length w.is in let m = longer w.before w.page w.after in omega arith
+    where
+      longer : (us : List (Page X)) (p : Page X) (bs : List (Page X)) → length us < length (us ++ p ∷ bs)
+      longer [] p bs = omega arith
+      longer (a ∷ us) p bs = omega (arith, longer us p bs)
+
+  -- the page that is read there
+  pub page_is : (ps : List (Page X)) (k : Bytes) (i : ℕ) (p : Page X) → (w : IsPlace ps k i) → p ≡ get_or ps i p → p ≡ w.page
+  page_is ps k i p w is = is ∙ ap (λ (l : List (Page X)). get_or l i p) w.is ∙ get_or_at w.before w.page w.after p i w.index
+
+  pub set_is : (ps : List (Page X)) (k : Bytes) (i : ℕ) (p : Page X) (w : IsPlace ps k i) → set ps i p ≡ w.before ++ p ∷ w.after
+  set_is ps k i p w = ap (λ (l : List (Page X)). set l i p) w.is ∙ set_at w.before w.page w.after p i w.index
+
+  pub entries_at : (ps : List (Page X)) (k : Bytes) (i : ℕ) (w : IsPlace ps k i) → entries ps ≡ entries w.before ++ (w.page.0 ++ entries w.after)
+  entries_at ps k i w = ap (λ (l : List (Page X)). entries l) w.is ∙ entries-append w.before (w.page ∷ w.after)
+
+  pub page_sorted : (ps : List (Page X)) (k : Bytes) (i : ℕ) (p : Page X) (w : IsPlace ps k i) → p ≡ get_or ps i p → IsInOrder ps → IsSorted p.0
+  page_sorted ps k i p w is h =
+      subst (λ (q : Page X). IsSorted q.0) (sym (page_is ps k i p w is)) (sorted_page w.before w.page w.after (subst (λ (l : List (Page X)). IsSorted (entries l)) w.is h.sorted))
+
+  -- the key is looked for in that page
+  pub find_at : (ps : List (Page X)) (k : Bytes) (i : ℕ) (p : Page X) (w : IsPlace ps k i) → p ≡ get_or ps i p → find (slice_cmp nat_cmp) k (entries ps) ≡ find (slice_cmp nat_cmp) k p.0
+  find_at ps k i p w is =
+      ap (find (slice_cmp nat_cmp) k) (entries_at ps k i w)
+      ∙ find_middle k (entries w.before) w.page.0 (entries w.after) w.below w.above
+      ∙ sym (ap (λ (q : Page X). find (slice_cmp nat_cmp) k q.0) (page_is ps k i p w is))
+
+  -- ---- rooms
+
+  last_room-append : (r : ℕ) (k : Bytes) (us bs : List (Page X)) → last_room r k (us ++ bs) ≡ last_room (last_room r k us) k bs
+  last_room-append r k [] bs = refl
+  last_room-append r k (p ∷ us) bs = last_room-append (if starts_by k p.0 then p.1 else r) k us bs
+
+  last_room-none : (r : ℕ) (k : Bytes) (ps : List (Page X)) → AllByRecursion (λ (p : Page X). starts_by k p.0 ≡ false) ps → last_room r k ps ≡ r
+  last_room-none r k [] h = refl
+  last_room-none r k (p ∷ ps) h = ap (λ b. last_room (if b then p.1 else r) k ps) h.0 ∙ last_room-none r k ps h.1
+
+  last_room-more : (d r s : ℕ) (k : Bytes) (ps : List (Page X)) → r ≤ s + d → last_room r k ps ≤ last_room s k ps + d
+  last_room-more d r s k [] h = h
+  last_room-more d r s k (p ∷ ps) h = elim (starts_by k p.0) as (λ b. last_room (if b then p.1 else r) k ps ≤ last_room (if b then p.1 else s) k ps + d) [
+    | true ↦ last_room-more d p.1 p.1 k ps (omega arith)
+    | false ↦ last_room-more d r s k ps h
+  ]
+
+  -- the room for k is that of the page where it stands
+  pub room_here : (k : Bytes) (before : List (Page X)) (page : Page X) (after : List (Page X)) → (0 < length before → starts_by k page.0 ≡ true) → AllByRecursion (λ (p : Page X). starts_by k p.0 ≡ false) after → room_at k (before ++ page ∷ after) ≡ page.1
+  room_here k [] page after s n = last_room-none page.1 k after n
+  room_here k (b ∷ before) page after s n =
+      last_room-append b.1 k before (page ∷ after)
+      ∙ ap (λ t. last_room (if t then page.1 else last_room b.1 k before) k after) (s (omega arith))
+      ∙ last_room-none page.1 k after n
+
+  pub room_of : (ps : List (Page X)) (k : Bytes) (i : ℕ) (p : Page X) (w : IsPlace ps k i) → p ≡ get_or ps i p → room_at k ps ≡ p.1
+  room_of ps k i p w is =
+      ap (room_at k) w.is ∙ room_here k w.before w.page w.after (λ lt. w.starts (let e = w.index in omega arith)) w.later ∙ sym (ap (λ (q : Page X). q.1) (page_is ps k i p w is))
+
+  -- another page in its place, with d less room at most
+  pub room-replaced : (d : ℕ) (q : Bytes) (before : List (Page X)) (p r : Page X) (after : List (Page X)) → p.1 ≤ r.1 + d → (0 < length before → starts_by q r.0 ≡ starts_by q p.0)
+      → room_at q (before ++ p ∷ after) ≤ room_at q (before ++ r ∷ after) + d
+  room-replaced d q [] p r after h s = last_room-more d p.1 r.1 q after h
+  room-replaced d q (b ∷ before) p r after h s =
+      let n = last_room b.1 q before in
+      let old : last_room b.1 q (before ++ p ∷ after) ≡ last_room (if starts_by q p.0 then p.1 else n) q after = last_room-append b.1 q before (p ∷ after) in
+      let new : last_room b.1 q (before ++ r ∷ after) ≡ last_room (if starts_by q p.0 then r.1 else n) q after = last_room-append b.1 q before (r ∷ after) ∙ ap (λ t. last_room (if t then r.1 else n) q after) (s (omega arith)) in
+      let step : last_room (if starts_by q p.0 then p.1 else n) q after ≤ last_room (if starts_by q p.0 then r.1 else n) q after + d =
+      elim (starts_by q p.0) as (λ t. last_room (if t then p.1 else n) q after ≤ last_room (if t then r.1 else n) q after + d) [ true ↦ last_room-more d p.1 r.1 q after h | false ↦ last_room-more d n n q after (omega arith) ] in
+      omega (arith, old, new, step)
+
+  pub room-split : (q : Bytes) (before : List (Page X)) (p lo up : Page X) (after : List (Page X)) → p.1 ≤ lo.1 → p.1 ≤ up.1 → starts_by q p.0 ≡ starts_by q lo.0 → (starts_by q up.0 ≡ true → starts_by q lo.0 ≡ true)
+      → room_at q (before ++ p ∷ after) ≤ room_at q (before ++ lo ∷ up ∷ after) + 0
+  room-split q [] p lo up after l u s t = last_room-more 0 p.1 (if starts_by q up.0 then up.1 else lo.1) q after (choose true (starts_by q up.0) p.1 lo.1 up.1 0 l u (λ _. refl))
+  room-split q (b ∷ before) p lo up after l u s t =
+      let n = last_room b.1 q before in
+      let old : last_room b.1 q (before ++ p ∷ after) ≡ last_room (if starts_by q lo.0 then p.1 else n) q after = last_room-append b.1 q before (p ∷ after) ∙ ap (λ t. last_room (if t then p.1 else n) q after) s in
+      let new : last_room b.1 q (before ++ lo ∷ up ∷ after) ≡ last_room (if starts_by q up.0 then up.1 else (if starts_by q lo.0 then lo.1 else n)) q after = last_room-append b.1 q before (lo ∷ up ∷ after) in
+      let step = last_room-more 0 (if starts_by q lo.0 then p.1 else n) (if starts_by q up.0 then up.1 else (if starts_by q lo.0 then lo.1 else n)) q after (choose (starts_by q lo.0) (starts_by q up.0) p.1 lo.1 up.1 n l u t) in
+      omega (arith, old, new, step)
+
+  -- ---- a changed page
+
+  swap_all : (bs : List (Page X)) (p r : Page X) (after : List (Page X)) → (IsFilled p → IsFilled r) → AllByRecursion IsFilled (bs ++ p ∷ after) → AllByRecursion IsFilled (bs ++ r ∷ after)
+  swap_all [] p r after g h = (g h.0, h.1)
+  swap_all (b ∷ bs) p r after g h = (h.0, swap_all bs p r after g h.1)
+
+  swap_filled : (before : List (Page X)) (p r : Page X) (after : List (Page X)) → (IsFilled p → IsFilled r) → AreRestFilled (before ++ p ∷ after) → AreRestFilled (before ++ r ∷ after)
+  swap_filled [] p r after g h = h
+  swap_filled (b ∷ bs) p r after g h = swap_all bs p r after g h
+
+  two_all : (bs : List (Page X)) (p lo up : Page X) (after : List (Page X)) → IsFilled lo → IsFilled up → AllByRecursion IsFilled (bs ++ p ∷ after) → AllByRecursion IsFilled (bs ++ lo ∷ up ∷ after)
+  two_all [] p lo up after f g h = (f, (g, h.1))
+  two_all (b ∷ bs) p lo up after f g h = (h.0, two_all bs p lo up after f g h.1)
+
+  two_filled : (before : List (Page X)) (p lo up : Page X) (after : List (Page X)) → IsFilled lo → IsFilled up → AreRestFilled (before ++ p ∷ after) → AreRestFilled (before ++ lo ∷ up ∷ after)
+  two_filled [] p lo up after f g h = (g, h)
+  two_filled (b ∷ bs) p lo up after f g h = two_all bs p lo up after f g h
+
+  -- pages with more room
+  pub record Grown (old new : List (Page X)) : Type 0 where
+    pub order : IsInOrder new
+    pub roomier : IsRoomier old new
+
+  pub grown_itself : (ps : List (Page X)) → IsInOrder ps → Grown ps ps
+  grown_itself ps h = record { order = h; roomier = record { entries = refl; rooms = λ q. omega arith } }
+
+  pub grown_twice : (ps qs rs : List (Page X)) → IsRoomier ps qs → IsRoomier qs rs → IsRoomier ps rs
+  grown_twice ps qs rs h g = record { entries = g.entries ∙ h.entries; rooms = λ q. omega (arith, h.rooms q, g.rooms q) }
+
+  same_order : (old new : List (Page X)) → entries new ≡ entries old → AreRestFilled new → IsInOrder old → IsInOrder new
+  same_order old new e f h = record { sorted = subst (λ (l : List (Bytes × X)). IsSorted l) (sym e) h.sorted; filled = f }
+
+  grown_parts : (b : List (Page X)) (p r : Page X) (a : List (Page X)) → IsInOrder (b ++ p ∷ a) → r.0 ≡ p.0 → p.1 ≤ r.1 → Grown (b ++ p ∷ a) (b ++ r ∷ a)
+  grown_parts b p r a h same le =
+      let e : entries (b ++ r ∷ a) ≡ entries (b ++ p ∷ a) = entries-append b (r ∷ a) ∙ ap (λ (l : List (Bytes × X)). entries b ++ (l ++ entries a)) same ∙ sym (entries-append b (p ∷ a)) in
+      record {
+        order = same_order (b ++ p ∷ a) (b ++ r ∷ a) e (swap_filled b p r a (λ f. subst (λ (l : List (Bytes × X)). 0 < length l) (sym same) f) h.filled) h;
+        roomier = record { entries = e; rooms = λ q. omega (arith, room-replaced 0 q b p r a (omega arith) (λ lt. ap (starts_by q) same)) };
+      }
+
+  split_parts : (b : List (Page X)) (p lo up : Page X) (a : List (Page X)) → IsInOrder (b ++ p ∷ a) → p.0 ≡ lo.0 ++ up.0 → IsFilled lo → IsFilled up → p.1 ≤ lo.1 → p.1 ≤ up.1 → Grown (b ++ p ∷ a) (b ++ lo ∷ up ∷ a)
+  split_parts b p lo up a h same f g l u =
+      let e : entries (b ++ lo ∷ up ∷ a) ≡ entries (b ++ p ∷ a) =
+      entries-append b (lo ∷ up ∷ a) ∙ ap (λ (l : List (Bytes × X)). entries b ++ l) (sym (append_assoc lo.0 up.0 (entries a))) ∙ ap (λ (l : List (Bytes × X)). entries b ++ (l ++ entries a)) (sym same) ∙ sym (entries-append b (p ∷ a)) in
+      let halves : IsSorted (lo.0 ++ up.0) = subst (λ (l : List (Bytes × X)). IsSorted l) same (sorted_page b p a h.sorted) in
+      record {
+        order = same_order (b ++ p ∷ a) (b ++ lo ∷ up ∷ a) e (two_filled b p lo up a f g h.filled) h;
+        roomier = record { entries = e; rooms = λ q. omega (arith, room-split q b p lo up a l u (ap (starts_by q) same ∙ starts-append q lo.0 up.0 f) (starts_lower q lo.0 up.0 halves g)) };
+      }
+
+  -- pages with an entry more
+  pub record Inserted (k : Bytes) (v : X) (old new : List (Page X)) : Type 0 where
+    pub order : IsInOrder new
+    pub entries : entries new ≡ put (slice_cmp nat_cmp) k v (entries old)
+    pub rooms : (q : Bytes) → room_at q old ≤ room_at q new + 1
+
+  inserted_parts : (k : Bytes) (v : X) (b : List (Page X)) (p r : Page X) (a : List (Page X)) → IsInOrder (b ++ p ∷ a) → AreBelow k (entries b) → IsBelowAll k (entries a) → (0 < length b → starts_by k p.0 ≡ true)
+      → r.0 ≡ put (slice_cmp nat_cmp) k v p.0 → p.1 ≤ r.1 + 1 → Inserted k v (b ++ p ∷ a) (b ++ r ∷ a)
+  inserted_parts k v b p r a h below above starts same le =
+      let e : entries (b ++ r ∷ a) ≡ put (slice_cmp nat_cmp) k v (entries (b ++ p ∷ a)) =
+      entries-append b (r ∷ a)
+      ∙ ap (λ (l : List (Bytes × X)). entries b ++ (l ++ entries a)) same
+      ∙ sym (put_middle k v (entries b) p.0 (entries a) below above)
+      ∙ sym (ap (put (slice_cmp nat_cmp) k v) (entries-append b (p ∷ a))) in
+      record {
+        order = record {
+          sorted = subst (λ (l : List (Bytes × X)). IsSorted l) (sym e) (is_sorted-put (slice_cmp nat_cmp) nat_list_cmp_total k v (entries (b ++ p ∷ a)) h.sorted);
+          filled = swap_filled b p r a (λ f. subst (λ (l : List (Bytes × X)). 0 < length l) (sym same) (filled-put k v p.0)) h.filled;
+        };
+        entries = e;
+        rooms = λ q. room-replaced 1 q b p r a le (λ lt. ap (starts_by q) same ∙ starts-put q k v p.0 (page_filled b p a lt h.filled) (starts lt));
+      }
+
+  -- ---- the same at a place
+
+  order_parts : (ps : List (Page X)) (k : Bytes) (i : ℕ) (w : IsPlace ps k i) → IsInOrder ps → IsInOrder (w.before ++ w.page ∷ w.after)
+  order_parts ps k i w h = subst (λ (l : List (Page X)). IsInOrder l) w.is h
+
+  pub grown : (ps : List (Page X)) (k : Bytes) (i : ℕ) (p r : Page X) → IsPlace ps k i → p ≡ get_or ps i p → IsInOrder ps → r.0 ≡ p.0 → p.1 ≤ r.1 → Grown ps (set ps i r)
+  grown ps k i p r w is h same le =
+      let e = page_is ps k i p w is in
+      subst (λ (l : List (Page X)). Grown l (set ps i r)) (sym w.is) (subst (λ (l : List (Page X)). Grown (w.before ++ w.page ∷ w.after) l) (sym (set_is ps k i r w))
+      (grown_parts w.before w.page r w.after (order_parts ps k i w h) (same ∙ ap (λ (q : Page X). q.0) e) (subst (λ (q : Page X). q.1 ≤ r.1) e le)))
+
+  -- the room for the key is now that page's
+  pub room_grown : (ps : List (Page X)) (k : Bytes) (i : ℕ) (p r : Page X) → IsPlace ps k i → p ≡ get_or ps i p → r.0 ≡ p.0 → room_at k (set ps i r) ≡ r.1
+  room_grown ps k i p r w is same =
+      ap (room_at k) (set_is ps k i r w)
+      ∙ room_here k w.before r w.after (λ lt. ap (starts_by k) (same ∙ ap (λ (q : Page X). q.0) (page_is ps k i p w is)) ∙ w.starts (let e = w.index in omega arith)) w.later
+
+  pub inserted : (ps : List (Page X)) (k : Bytes) (v : X) (i : ℕ) (p r : Page X) → IsPlace ps k i → p ≡ get_or ps i p → IsInOrder ps → r.0 ≡ put (slice_cmp nat_cmp) k v p.0 → p.1 ≤ r.1 + 1 → Inserted k v ps (set ps i r)
+  inserted ps k v i p r w is h same le =
+      let e = page_is ps k i p w is in
+      subst (λ (l : List (Page X)). Inserted k v l (set ps i r)) (sym w.is) (subst (λ (l : List (Page X)). Inserted k v (w.before ++ w.page ∷ w.after) l) (sym (set_is ps k i r w))
+      (inserted_parts k v w.before w.page r w.after (order_parts ps k i w h) w.below w.above (λ lt. w.starts (let n = w.index in omega arith)) (same ∙ ap (λ (q : Page X). put (slice_cmp nat_cmp) k v q.0) e) (subst (λ (q : Page X). q.1 ≤ r.1 + 1) e le)))
+
+  insert_after : (b : List (Page X)) (lo up : Page X) (a : List (Page X)) → insert (b ++ lo ∷ a) (suc (length b)) up ≡ b ++ lo ∷ up ∷ a
+  insert_after [] lo up a = refl
+  insert_after (c ∷ b) lo up a = ap (λ l. c ∷ l) (insert_after b lo up a)
+
+  pub split_is : (ps : List (Page X)) (k : Bytes) (i n : ℕ) (lo up : Page X) (w : IsPlace ps k i) → n ≡ i + 1 → insert (set ps i lo) n up ≡ w.before ++ lo ∷ up ∷ w.after
+  split_is ps k i n lo up w e =
+      let at : n ≡ suc (length w.before) = (let s = w.index in omega arith) in
+      ap (λ (l : List (Page X)). insert l n up) (set_is ps k i lo w) ∙ ap (λ m. insert (w.before ++ lo ∷ w.after) m up) at ∙ insert_after w.before lo up w.after
+
+  pub split : (ps : List (Page X)) (k : Bytes) (i n : ℕ) (p lo up : Page X) → IsPlace ps k i → p ≡ get_or ps i p → IsInOrder ps → n ≡ i + 1 → p.0 ≡ lo.0 ++ up.0 → IsFilled lo → IsFilled up → p.1 ≤ lo.1 → p.1 ≤ up.1 → Grown ps (insert (set ps i lo) n up)
+  split ps k i n p lo up w is h at same f g l u =
+      let e = page_is ps k i p w is in
+      subst (λ (l : List (Page X)). Grown l (insert (set ps i lo) n up)) (sym w.is) (subst (λ (l : List (Page X)). Grown (w.before ++ w.page ∷ w.after) l) (sym (split_is ps k i n lo up w at))
+      (split_parts w.before w.page lo up w.after (order_parts ps k i w h) (sym (ap (λ (q : Page X). q.0) e) ∙ same) f g (subst (λ (q : Page X). q.1 ≤ lo.1) e l) (subst (λ (q : Page X). q.1 ≤ up.1) e u)))
+
+  -- ---- an entry at the end
+
+  pub pushed_page : (ps : List (Page X)) (e : Bytes × X) → IsInOrder ps → IsSorted (entries ps ++ e ∷ []) → (p : Page X) → p.0 ≡ e ∷ [] → record { order : IsInOrder (ps ++ p ∷ []); entries : entries (ps ++ p ∷ []) ≡ entries ps ++ e ∷ [] }
+  pushed_page ps e h g p is =
+      let same : entries (ps ++ p ∷ []) ≡ entries ps ++ e ∷ [] = entries-append ps (p ∷ []) ∙ ap (λ (l : List (Bytes × X)). entries ps ++ (l ++ [])) is in
+      record { order = record { sorted = subst (λ (l : List (Bytes × X)). IsSorted l) (sym same) g; filled = push_filled ps h.filled }; entries = same }
+    where
+      one : IsFilled p
+      one = subst (λ (l : List (Bytes × X)). 0 < length l) (sym is) (omega arith)
+
+      push_all : (qs : List (Page X)) → AllByRecursion IsFilled qs → AllByRecursion IsFilled (qs ++ p ∷ [])
+      push_all [] f = (one, tt)
+      push_all (q ∷ qs) f = (f.0, push_all qs f.1)
+
+      push_filled : (qs : List (Page X)) → AreRestFilled qs → AreRestFilled (qs ++ p ∷ [])
+      push_filled [] f = tt
+      push_filled (q ∷ qs) f = push_all qs f
+
+  set_all : (qs : List (Page X)) (j : ℕ) (q s : Page X) → q ≡ get_or qs j q → (IsFilled q → IsFilled s) → AllByRecursion IsFilled qs → AllByRecursion IsFilled (set qs j s)
+  set_all [] j q s is f a = tt
+  set_all (t ∷ qs) zero q s is f a = (f (subst (λ (u : Page X). IsFilled u) (sym is) a.0), a.1)
+  set_all (t ∷ qs) (suc j) q s is f a = (a.0, set_all qs j q s is f a.1)
+
+  set_filled : (qs : List (Page X)) (j : ℕ) (q s : Page X) → q ≡ get_or qs j q → (IsFilled q → IsFilled s) → AreRestFilled qs → AreRestFilled (set qs j s)
+  set_filled [] j q s is f a = tt
+  set_filled (t ∷ qs) zero q s is f a = a
+  set_filled (t ∷ qs) (suc j) q s is f a = set_all qs j q s is f a
+
+  same_list : (qs : List (Page X)) (j : ℕ) (q s : Page X) (more : List (Bytes × X)) → j + 1 ≡ length qs → q ≡ get_or qs j q → s.0 ≡ q.0 ++ more → entries (set qs j s) ≡ entries qs ++ more
+  same_list [] j q s more n is e = absurd (omega arith)
+  same_list (t ∷ []) zero q s more n is e = append-nil s.0 ∙ e ∙ ap (λ (u : Page X). u.0 ++ more) is ∙ ap (λ (l : List (Bytes × X)). l ++ more) (sym (append-nil t.0))
+  same_list (t ∷ u ∷ qs) zero q s more n is e = absurd (omega arith)
+  same_list (t ∷ qs) (suc j) q s more n is e = ap (λ (l : List (Bytes × X)). t.0 ++ l) (same_list qs j q s more (omega arith) is e) ∙ sym (append_assoc t.0 (entries qs) more)
+
+  longer_filled : (es more : List (Bytes × X)) → 0 < length es → 0 < length (es ++ more)
+  longer_filled [] more f = absurd (omega arith)
+  longer_filled (e ∷ es) more f = omega arith
+
+  pub record Pushed (ps new : List (Page X)) (more : List (Bytes × X)) : Type 0 where
+    pub order : IsInOrder new
+    pub entries : entries new ≡ entries ps ++ more
+
+  -- entries at the end of the last page
+  pub pushed_more : (ps : List (Page X)) (more : List (Bytes × X)) (i : ℕ) (p r : Page X) → i + 1 ≡ length ps → p ≡ get_or ps i p → IsInOrder ps → IsSorted (entries ps ++ more) → r.0 ≡ p.0 ++ more → Pushed ps (set ps i r) more
+  pushed_more ps more i p r at is h g same =
+      let s = same_list ps i p r more at is same in
+      record {
+        order = record { sorted = subst (λ (l : List (Bytes × X)). IsSorted l) (sym s) g; filled = set_filled ps i p r is (λ f. subst (λ (l : List (Bytes × X)). 0 < length l) (sym same) (longer_filled p.0 more f)) h.filled };
+        entries = s;
+      }
+
+  pub pushed_last : (ps : List (Page X)) (e : Bytes × X) (i : ℕ) (p r : Page X) (ok : Bool) → i + 1 ≡ length ps → p ≡ get_or ps i p → IsInOrder ps → IsSorted (entries ps ++ e ∷ []) → r.0 ≡ (if ok then p.0 ++ e ∷ [] else p.0)
+      → record { order : IsInOrder (set ps i r); entries : entries (set ps i r) ≡ (if ok then entries ps ++ e ∷ [] else entries ps) }
+  pushed_last ps e i p r true at is h g same = let s = pushed_more ps (e ∷ []) i p r at is h g same in record { order = s.order; entries = s.entries }
+  pushed_last ps e i p r false at is h g same =
+      let s = pushed_more ps [] i p r at is h (subst (λ (l : List (Bytes × X)). IsSorted l) (sym (append-nil (entries ps))) h.sorted) (same ∙ sym (append-nil p.0)) in
+      record { order = s.order; entries = s.entries ∙ append-nil (entries ps) }

@@ -1,0 +1,167 @@
+-- The entries of a range: the tail of all entries from its lower bound on, up to its upper bound.
+use Rattle.std.proofs.Common.{◌≡◌, ℕ, Bool, true, false, T, not, cond, ◌&&◌, List, [], ◌∷◌, ◌++◌, length, take, drop, get_or, suc, ◌+◌, Option, Some, None, refl, sym, ap, subst, ◌∙◌, arith}
+use Rattle.std.specs.List.{AllByRecursion}
+use Rattle.std.specs.declared.cmp.Ordering.{Ordering}
+use Rattle.std.specs.declared.cmp.Ordering.TheVariants.{Less, Equal, Greater}
+use Rattle.std.specs.Ordering.{is_lt, is_le, nat_cmp, ordering_reverse}
+use Rattle.std.specs.Cmp.Lexicographic.{slice_cmp, nat_list_cmp_total}
+use Rattle.std.specs.FinMap.Entries.{where_key}
+use Rattle.std.proofs.lemmas.Bool.{both_ways, and_parts}
+use Rattle.std.proofs.lemmas.Cmp.{tied_itself}
+use Rattle.std.proofs.lemmas.List.{take-append-drop, append_assoc}
+use Rattle.model.specs.Map.{Bytes, key_cmp, is_below, is_in_range}
+use Rattle.model.specs.Entries.{IsSplit}
+use Rattle.model.proofs.Entries.{IsSorted, IsBelowAll, turned, parts}
+use Rattle.sorted_pages.specs.Pages.{Page, entries, IsPlace, IsInOrder, AreBelow}
+use Rattle.sorted_pages.specs.Ranges.{up_to, AreFrom, IsTail, first_key}
+use Rattle.sorted_pages.proofs.Keys.{less, sorted_right, below_trans, above_it}
+use Rattle.sorted_pages.proofs.Placings.{entries_at, page_is}
+
+turned_le : (o : Ordering) → not (is_lt o) ≡ true → is_le (ordering_reverse o) ≡ true
+turned_le Less h = absurd (both_ways false refl h)
+turned_le Equal h = refl
+turned_le Greater h = refl
+
+-- what is above a key that isn't below hi isn't
+not_below : (q p : Bytes) (hi : Option Bytes) → key_cmp q p ≡ Less → is_below q hi ≡ false → is_below p hi ≡ false
+not_below q p None h e = e
+not_below q p (Some hi) h e = elim (key_cmp p hi) as (λ o. key_cmp p hi ≡ o → is_lt o ≡ false) [
+  | Less ↦ λ g. absurd (both_ways _ e (ap is_lt (nat_list_cmp_total.trans q p hi h g)))
+  | Equal ↦ λ g. refl
+  | Greater ↦ λ g. refl
+] refl
+
+false_and : (b c : Bool) → c ≡ false → (b && c) ≡ false
+false_and true c e = e
+false_and false c e = refl
+
+below_lo : (q lo : Bytes) → key_cmp q lo ≡ Less → is_le (key_cmp lo q) ≡ false
+below_lo q lo h = ap is_le (turned q lo ∙ ap ordering_reverse h)
+
+module _ {X : Type 0} where
+  abbrev pub In : Bytes → Option Bytes → List (Bytes × X) → List (Bytes × X)
+  In lo hi es = where_key (slice_cmp nat_cmp) (is_in_range lo hi) es
+
+  passing : (p : Bytes → Bool) (es : List (Bytes × X)) → AllByRecursion (λ (e : Bytes × X). p e.0 ≡ true) (where_key (slice_cmp nat_cmp) p es)
+  passing p [] = tt
+  passing p (e ∷ es) = elim (p e.0) as (λ b. p e.0 ≡ b → AllByRecursion (λ (d : Bytes × X). p d.0 ≡ true) (cond b (e ∷ where_key (slice_cmp nat_cmp) p es) (where_key (slice_cmp nat_cmp) p es))) [ true ↦ λ t. (t, passing p es) | false ↦ λ t. passing p es ] refl
+
+  all_less : (k : Bytes) (es : List (Bytes × X)) → AllByRecursion (λ (e : Bytes × X). is_lt (key_cmp e.0 k) ≡ true) es → AreBelow k es
+  all_less k [] h = tt
+  all_less k (e ∷ es) h = (less _ (subst T (sym h.0) tt), all_less k es h.1)
+
+  all_from : (k : Bytes) (es : List (Bytes × X)) → AllByRecursion (λ (e : Bytes × X). not (is_lt (key_cmp e.0 k)) ≡ true) es → AreFrom k es
+  all_from k [] h = tt
+  all_from k (e ∷ es) h = (ap is_le (turned e.0 k) ∙ turned_le (key_cmp e.0 k) h.0, all_from k es h.1)
+
+  -- a list that is split by k
+  pub tail_of : (es : List (Bytes × X)) (k : Bytes) (i : ℕ) → IsSplit es k i → IsTail es k (drop i es)
+  tail_of es k i s = record {
+    before = take i es;
+    is = sym (take-append-drop i es);
+    below = all_less k (take i es) (subst (λ (l : List (Bytes × X)). AllByRecursion (λ (e : Bytes × X). is_lt (key_cmp e.0 k) ≡ true) l) (sym s.before) (passing (λ q. is_lt (key_cmp q k)) es));
+    from = all_from k (drop i es) (subst (λ (l : List (Bytes × X)). AllByRecursion (λ (e : Bytes × X). not (is_lt (key_cmp e.0 k)) ≡ true) l) (sym s.from) (passing (λ q. not (is_lt (key_cmp q k))) es));
+  }
+
+  -- ---- the range of a tail
+
+  none_below : (lo : Bytes) (hi : Option Bytes) (es rest : List (Bytes × X)) → AreBelow lo es → In lo hi (es ++ rest) ≡ In lo hi rest
+  none_below lo hi [] rest h = refl
+  none_below lo hi (e ∷ es) rest h =
+      ap (λ b. cond (b && is_below e.0 hi) (e ∷ In lo hi (es ++ rest)) (In lo hi (es ++ rest))) (below_lo e.0 lo h.0) ∙ none_below lo hi es rest h.1
+
+  none_above : (lo q : Bytes) (hi : Option Bytes) (es : List (Bytes × X)) → IsBelowAll q es → is_below q hi ≡ false → In lo hi es ≡ []
+  none_above lo q hi [] h e = refl
+  none_above lo q hi (d ∷ es) h e =
+      let p = parts _ _ h in
+      ap (λ b. cond b (d ∷ In lo hi es) (In lo hi es)) (false_and (is_le (key_cmp lo d.0)) (is_below d.0 hi) (not_below q d.0 hi (less _ p.0) e)) ∙ none_above lo q hi es p.1 e
+
+  -- from lo on, what is in range is what stands below hi
+  pub in_tail : (lo : Bytes) (hi : Option Bytes) (es : List (Bytes × X)) → IsSorted es → AreFrom lo es → up_to hi es ≡ In lo hi es
+  in_tail lo hi [] h f = refl
+  in_tail lo hi (e ∷ es) h f =
+      let p = parts _ _ h in
+      let rest = in_tail lo hi es p.1 f.1 in
+      elim (is_below e.0 hi) as (λ b. is_below e.0 hi ≡ b → cond b (e ∷ up_to hi es) [] ≡ cond (b) (e ∷ In lo hi es) (In lo hi es)) [
+        | true ↦ λ t. ap (λ l. e ∷ l) rest
+        | false ↦ λ t. sym (none_above lo e.0 hi es p.0 t)
+      ] refl
+      ∙ sym (ap (λ b. cond (b && is_below e.0 hi) (e ∷ In lo hi es) (In lo hi es)) f.0)
+
+  from_above : (k : Bytes) (es : List (Bytes × X)) → IsBelowAll k es → AreFrom k es
+  from_above k [] h = tt
+  from_above k (e ∷ es) h = let p = parts _ _ h in (ap is_le (less _ p.0), from_above k es p.1)
+
+  from_both : (k : Bytes) (xs ys : List (Bytes × X)) → AreFrom k xs → AreFrom k ys → AreFrom k (xs ++ ys)
+  from_both k [] ys h g = g
+  from_both k (x ∷ xs) ys h g = (h.0, from_both k xs ys h.1 g)
+
+  all_both : (k : Bytes) (xs ys : List (Bytes × X)) → AreBelow k xs → AreBelow k ys → AreBelow k (xs ++ ys)
+  all_both k [] ys h g = g
+  all_both k (x ∷ xs) ys h g = (h.0, all_both k xs ys h.1 g)
+
+  -- what a page has from lo on, and the pages after it
+  pub range_from : (ps : List (Page X)) (lo : Bytes) (hi : Option Bytes) (i : ℕ) (p : Page X) (front : List (Bytes × X)) (after : List (Page X)) (w : IsPlace ps lo i) → p ≡ get_or ps i p → IsInOrder ps → IsTail p.0 lo front → after ≡ w.after
+      → up_to hi (front ++ entries after) ≡ In lo hi (entries ps)
+  range_from ps lo hi i p front after w is h t same =
+      let e : entries ps ≡ (entries w.before ++ t.before) ++ (front ++ entries w.after) =
+      entries_at ps lo i w
+      ∙ ap (λ (q : Page X). entries w.before ++ (q.0 ++ entries w.after)) (sym (page_is ps lo i p w is))
+      ∙ ap (λ (l : List (Bytes × X)). entries w.before ++ (l ++ entries w.after)) t.is
+      ∙ ap (λ (l : List (Bytes × X)). entries w.before ++ l) (append_assoc t.before front (entries w.after))
+      ∙ sym (append_assoc (entries w.before) t.before (front ++ entries w.after)) in
+      let sorted : IsSorted (front ++ entries w.after) = sorted_right (entries w.before ++ t.before) (front ++ entries w.after) (subst (λ (l : List (Bytes × X)). IsSorted l) e h.sorted) in
+      ap (λ (l : List (Page X)). up_to hi (front ++ entries l)) same
+      ∙ in_tail lo hi (front ++ entries w.after) sorted (from_both lo front (entries w.after) t.from (from_above lo (entries w.after) w.above))
+      ∙ sym (ap (In lo hi) e ∙ none_below lo hi (entries w.before ++ t.before) (front ++ entries w.after) (all_both lo (entries w.before) t.before w.below t.below))
+
+  -- the pages after a place
+  pub after_is : (ps : List (Page X)) (k : Bytes) (i : ℕ) (w : IsPlace ps k i) → drop (i + 1) ps ≡ w.after
+  after_is ps k i w =
+      let at : i + 1 ≡ suc (length w.before) = (let s = w.index in omega arith) in
+      ap (drop (i + 1)) w.is ∙ ap (λ n. drop n (w.before ++ w.page ∷ w.after)) at ∙ dropped w.before w.page w.after
+    where
+      dropped : (b : List (Page X)) (q : Page X) (a : List (Page X)) → drop (suc (length b)) (b ++ q ∷ a) ≡ a
+      dropped [] q a = refl
+      dropped (c ∷ b) q a = dropped b q a
+
+-- ---- an upper bound that is a key of the map
+
+le_not_lt : (hi q : Bytes) → is_le (key_cmp hi q) ≡ true → is_lt (key_cmp q hi) ≡ false
+le_not_lt hi q h = ap is_lt (turned hi q) ∙ by (key_cmp hi q) h
+  where
+    by : (o : Ordering) → is_le o ≡ true → is_lt (ordering_reverse o) ≡ false
+    by Less t = refl
+    by Equal t = refl
+    by Greater t = absurd (both_ways false refl t)
+
+module _ {X : Type 0} where
+  not_in : (lo : Bytes) (hi : Option Bytes) (e : Bytes × X) (es : List (Bytes × X)) → IsBelowAll e.0 es → is_below e.0 hi ≡ false → In lo hi (e ∷ es) ≡ []
+  not_in lo hi e es h f = ap (λ b. cond b (e ∷ In lo hi es) (In lo hi es)) (false_and (is_le (key_cmp lo e.0)) (is_below e.0 hi) f) ∙ none_above lo e.0 hi es h f
+
+  below_first : (q hi : Bytes) (fs : List (Bytes × X)) → AllByRecursion (λ (f : Bytes × X). is_in_range hi None f.0 ≡ true) fs → key_cmp q hi ≡ Less → is_below q (first_key fs) ≡ true
+  below_first q hi [] h lt = refl
+  below_first q hi (f ∷ fs) h lt = ap is_lt (below_trans q hi f.0 lt (and_parts _ _ h.0).0)
+
+  -- the least key that is at least hi bounds as hi does
+  pub same_range : (lo hi : Bytes) (es : List (Bytes × X)) → IsSorted es → In lo (first_key (In hi None es)) es ≡ In lo (Some hi) es
+  same_range lo hi [] h = refl
+  same_range lo hi (e ∷ es) h =
+      let p = parts _ _ h in
+      elim (is_le (key_cmp hi e.0)) as (λ b. is_le (key_cmp hi e.0) ≡ b → In lo (first_key (cond (b && true) (e ∷ In hi None es) (In hi None es))) (e ∷ es) ≡ In lo (Some hi) (e ∷ es)) [
+        | true ↦ λ t. not_in lo (Some e.0) e es p.0 (ap is_lt (tied_itself nat_list_cmp_total e.0)) ∙ sym (not_in lo (Some hi) e es p.0 (le_not_lt hi e.0 t))
+        | false ↦ λ t.
+            let lt = above_it hi e.0 t in
+            let end = first_key (In hi None es) in
+            ap (λ b. cond (is_le (key_cmp lo e.0) && b) (e ∷ In lo end es) (In lo end es)) (below_first e.0 hi (In hi None es) (passing (is_in_range hi None) es) lt)
+            ∙ ap (λ l. cond (is_le (key_cmp lo e.0) && true) (e ∷ l) l) (same_range lo hi es p.1)
+            ∙ sym (ap (λ b. cond (is_le (key_cmp lo e.0) && b) (e ∷ In lo (Some hi) es) (In lo (Some hi) es)) (ap is_lt lt))
+      ] refl
+
+-- ---- a step
+
+pub one_left : {X : Type 0} (hi : Option Bytes) (e : Bytes × X) (es : List (Bytes × X)) → is_below e.0 hi ≡ true → up_to hi (e ∷ es) ≡ e ∷ up_to hi es
+one_left hi e es t = ap (λ b. cond b (e ∷ up_to hi es) []) t
+
+pub none_left : {X : Type 0} (hi : Option Bytes) (e : Bytes × X) (es : List (Bytes × X)) → is_below e.0 hi ≡ false → up_to hi (e ∷ es) ≡ []
+none_left hi e es f = ap (λ b. cond b (e ∷ up_to hi es) []) f

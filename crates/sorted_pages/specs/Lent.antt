@@ -1,0 +1,26 @@
+-- What pages end as, where a `&mut` to a value is returned.
+use Rattle.std.specs.Prelude.{List, [], ◌∷◌, is_some, if◌then◌else◌}
+use Rattle.std.specs.Borrow.{Lends, Fml, RattleType, MutBor}
+use Rattle.std.specs.Ordering.{nat_cmp}
+use Rattle.std.specs.Cmp.Lexicographic.{slice_cmp}
+use Rattle.std.specs.FinMap.Entries.{find, put}
+use Rattle.model.specs.Map.{Bytes}
+use Rattle.sorted_pages.specs.Pages.{Page}
+use Rattle.sorted_pages.specs.contracts.page.Page.{the_row as page_row}
+use Rattle.sorted_pages.specs.contracts.pages.SortedPages.{the_row as pages_row}
+
+-- the page with this value at a key that it has
+abbrev pub with_value_in : {X : Type 0} → Page X → Bytes → X → Page X
+with_value_in p k v = (put (slice_cmp nat_cmp) k v p.0, p.1)
+
+-- the pages with this value at a key that they have
+abbrev pub with_value : {X : Type 0} → List (Page X) → Bytes → X → List (Page X)
+with_value [] k v = []
+with_value (p ∷ ps) k v = if is_some (find (slice_cmp nat_cmp) k p.0) then with_value_in p k v ∷ ps else p ∷ with_value ps k v
+
+-- once the borrow r ends, the key has the last value written through r
+abbrev pub lends_in_page : (T : RattleType) → MutBor (Page T.Denot) → Bytes → MutBor T.Denot → Fml
+lends_in_page T s k r = Lends (page_row T) T s r (with_value_in s.now k)
+
+abbrev pub lends_value : (T : RattleType) → MutBor (List (Page T.Denot)) → Bytes → MutBor T.Denot → Fml
+lends_value T s k r = Lends (pages_row T) T s r (with_value s.now k)

@@ -1,0 +1,4 @@
+-- What contracts say of pages.
+pub mod Pages
+pub mod Ranges
+pub mod Lent

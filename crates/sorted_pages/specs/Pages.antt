@@ -1,0 +1,67 @@
+-- Pages of entries, all by rising key.
+use Rattle.std.specs.Prelude.{◌≡◌, ℕ, T, ◌<◌, ◌≤◌, Bool, true, false, List, [], ◌∷◌, ◌++◌, length, if◌then◌else◌, ⊤}
+use Rattle.std.specs.List.{AllByRecursion}
+use Rattle.std.specs.Ordering.{nat_cmp, is_le}
+use Rattle.std.specs.declared.cmp.Ordering.TheVariants.{Less}
+use Rattle.std.specs.Cmp.Lexicographic.{slice_cmp}
+use Rattle.std.specs.FinMap.Entries.{below_all, is_sorted}
+use Rattle.model.specs.Map.{Bytes, key_cmp}
+
+-- the entries of a page, and how many more fit without memory
+abbrev pub Page : Type 0 → Type 0
+Page X = List (Bytes × X) × ℕ
+
+-- the entries of all pages, one page after another
+abbrev pub entries : {X : Type 0} → List (Page X) → List (Bytes × X)
+entries [] = []
+entries (p ∷ ps) = p.0 ++ entries ps
+
+-- the first key is at most k, or there is none
+abbrev pub starts_by : {X : Type 0} → Bytes → List (Bytes × X) → Bool
+starts_by k [] = true
+starts_by k (e ∷ es) = is_le (key_cmp e.0 k)
+
+-- the room of the last of the pages that starts by k, and r where none does
+abbrev pub last_room : {X : Type 0} → ℕ → Bytes → List (Page X) → ℕ
+last_room r k [] = r
+last_room r k (p ∷ ps) = last_room (if starts_by k p.0 then p.1 else r) k ps
+
+-- how many more entries fit without memory in the page where k stands or would stand
+abbrev pub room_at : {X : Type 0} → Bytes → List (Page X) → ℕ
+room_at k [] = 0
+room_at k (p ∷ ps) = last_room p.1 k ps
+
+-- the page has an entry
+abbrev pub IsFilled : {X : Type 0} → Page X → Type 0
+IsFilled p = 0 < length p.0
+
+-- each page but the first has an entry
+abbrev pub AreRestFilled : {X : Type 0} → List (Page X) → Type 0
+AreRestFilled [] = ⊤
+AreRestFilled (p ∷ ps) = AllByRecursion IsFilled ps
+
+-- the keys of all pages rise strictly
+pub record IsInOrder {X : Type 0} (ps : List (Page X)) : Type 0 where
+  pub sorted : T (is_sorted (slice_cmp nat_cmp) (entries ps))
+  pub filled : AreRestFilled ps
+
+-- the keys of the entries are below k
+abbrev pub AreBelow : {X : Type 0} → Bytes → List (Bytes × X) → Type 0
+AreBelow k es = AllByRecursion (λ e. key_cmp e.0 k ≡ Less) es
+
+-- page i is the one where k stands or would stand
+pub record IsPlace {X : Type 0} (ps : List (Page X)) (k : Bytes) (i : ℕ) : Type 0 where
+  pub before : List (Page X)
+  pub page : Page X
+  pub after : List (Page X)
+  pub is : ps ≡ before ++ page ∷ after
+  pub index : length before ≡ i
+  pub below : AreBelow k (entries before)
+  pub starts : 0 < i → starts_by k page.0 ≡ true
+  pub later : AllByRecursion (λ (p : Page X). starts_by k p.0 ≡ false) after
+  pub above : T (below_all (slice_cmp nat_cmp) k (entries after))
+
+-- the same entries, and no less room for any key
+pub record IsRoomier {X : Type 0} (old new : List (Page X)) : Type 0 where
+  pub entries : entries new ≡ entries old
+  pub rooms : (q : Bytes) → room_at q old ≤ room_at q new

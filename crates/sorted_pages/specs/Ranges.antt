@@ -1,0 +1,39 @@
+-- The entries that a range has left.
+use Rattle.std.specs.Prelude.{◌≡◌, true, List, [], ◌∷◌, ◌++◌, Option, if◌then◌else◌, Some, None}
+use Rattle.std.specs.Borrow.{Bor}
+use Rattle.std.specs.List.{AllByRecursion}
+use Rattle.std.specs.Ordering.{is_le}
+use Rattle.model.specs.Map.{Bytes, key_cmp, is_below}
+use Rattle.model.specs.KeyBytes.{key_bytes, end_bytes}
+use Rattle.model.specs.declared.keys.KeyRef.{KeyRef}
+use Rattle.sorted_pages.specs.Pages.{AreBelow, entries}
+use Rattle.sorted_pages.specs.declared.range.Entries.{Entries}
+
+-- the entries before the first whose key isn't below hi
+abbrev pub up_to : {X : Type 0} → Option Bytes → List (Bytes × X) → List (Bytes × X)
+up_to hi [] = []
+up_to hi (e ∷ es) = if is_below e.0 hi then e ∷ up_to hi es else []
+
+-- the entries that are left
+abbrev pub entries_left : {X : Type 0} → Entries X → List (Bytes × X)
+entries_left r = up_to (end_bytes r.hi) (r.front.now ++ entries r.pages.now)
+
+-- a lent entry's key and value
+abbrev pub entry_of : {X : Type 0} → KeyRef × Bor X → Bytes × X
+entry_of e = (key_bytes e.0, e.1.now)
+
+-- k is at most each of the keys
+abbrev pub AreFrom : {X : Type 0} → Bytes → List (Bytes × X) → Type 0
+AreFrom k es = AllByRecursion (λ e. is_le (key_cmp k e.0) ≡ true) es
+
+-- fs are those of the entries whose keys are at least k
+pub record IsTail {X : Type 0} (es : List (Bytes × X)) (k : Bytes) (fs : List (Bytes × X)) : Type 0 where
+  pub before : List (Bytes × X)
+  pub is : es ≡ before ++ fs
+  pub below : AreBelow k before
+  pub from : AreFrom k fs
+
+-- the key of the first entry
+abbrev pub first_key : {X : Type 0} → List (Bytes × X) → Option Bytes
+first_key [] = None
+first_key (e ∷ es) = Some e.0

@@ -1,0 +1,200 @@
+//! One page.
+ghost use Rattle.std.specs.Prelude.{◌≡◌, ◌+◌, ◌<◌, ◌≤◌, T, None, [], ◌∷◌, ◌++◌, length, take, drop, IfOk, IfErr, IsSome, OnOk, OnErr, option_copied, is_ok, if◌then◌else◌};
+ghost use Rattle.std.specs.Ordering.{nat_cmp};
+ghost use Rattle.std.specs.Cmp.Lexicographic.{slice_cmp};
+ghost use Rattle.std.specs.FinMap.Entries.{find, put, is_sorted};
+ghost use Rattle.std.specs.Borrow.{sem};
+ghost use Rattle.model.specs.Map.{key_cmp};
+ghost use Rattle.model.specs.Entries.{IsAt, IsGap, IsSplit};
+ghost use Rattle.sorted_pages.specs.Pages.{starts_by};
+
+use model::Key;
+use std::alloc::{AllocError, Global};
+use std::cmp::Ordering;
+use std::marker::Model;
+
+// How many places more than it was asked for a page gets, so that it isn't moved at each new key.
+const SPARE: usize = 64;
+
+// Entries by rising key. A clause sees them, and how many more fit without memory.
+#[derive(Drop)]
+pub(crate) struct Page<V> {
+    entries: Vec<(Key, V)>,
+}
+
+impl<V> Model for Page<V> {
+    ghost use Rattle.std.specs.Prelude.{ℕ, List, ◌-◌};
+    ghost use Rattle.std.specs.Vec.{vec_len, vec_capacity};
+
+    ghost Value = { List (List ℕ × V) × ℕ };
+
+    ghost view = { λ p. (p.entries.items, vec_capacity p.entries - vec_len p.entries) };
+}
+
+// Which of the entry's key and another stands first.
+fn compare<V>(entry: &(Key, V), key: &[u8]) -> Ordering
+    ensures { result ≡ key_cmp entry.now.0 key.now }
+{
+    entry.0.lend().bytes().cmp(key)
+}
+
+impl<V> Page<V> {
+    ghost use Rattle.sorted_pages.specs.Ranges.{IsTail};
+    ghost use Rattle.sorted_pages.specs.Lent.{lends_in_page};
+
+    // An empty page with room for so many entries.
+    pub(crate) fn with_room(alloc: Global, room: usize) -> Result<Page<V>, AllocError>
+        ensures { IfOk result (λ p. p ≡ ([], room)) }
+    {
+        Ok(Page {
+            entries: Vec::with_capacity(alloc, room)?,
+        })
+    }
+
+    pub(crate) fn len(&self) -> usize
+        ensures { result ≡ length self.now.0 }
+    {
+        self.entries.len()
+    }
+
+    // How many more entries fit without memory.
+    pub(crate) fn room(&self) -> usize
+        ensures { result ≡ self.now.1 }
+    {
+        self.entries.capacity().saturating_sub(self.entries.len())
+    }
+
+    // Is the first key at most this one?
+    pub(crate) fn starts_by(&self, key: &[u8]) -> bool
+        ensures { result ≡ starts_by key.now self.now.0 }
+    {
+        match self.entries.first() {
+            None => true,
+            Some(entry) => compare(entry, key).is_le(),
+        }
+    }
+
+    // Where the key's entry is, or where it would stand.
+    fn search(&self, key: &[u8]) -> Result<usize, usize>
+        requires { T (is_sorted (slice_cmp nat_cmp) self.now.0) }
+        ensures found { IfOk result (IsAt self.now.0 key.now) }
+        ensures absent { IfErr result (IsGap self.now.0 key.now) }
+    {
+        self.entries.binary_search_by(|entry| compare(entry, key))
+    }
+
+    // How many of the entries have keys below this one.
+    fn split_place(&self, key: &[u8]) -> usize
+        requires { T (is_sorted (slice_cmp nat_cmp) self.now.0) }
+        ensures { IsSplit self.now.0 key.now result }
+    {
+        match self.entries.binary_search_by(|entry| compare(entry, key)) {
+            Ok(i) => i,
+            Err(i) => i,
+        }
+    }
+
+    // Lends the entries.
+    pub(crate) fn entries(&self) -> &[(Key, V)]
+        ensures { result.now ≡ self.now.0 }
+    {
+        &self.entries
+    }
+
+    // Lends the entries from this key on.
+    pub(crate) fn entries_from(&self, key: &[u8]) -> &[(Key, V)]
+        requires { T (is_sorted (slice_cmp nat_cmp) self.now.0) }
+        ensures { IsTail self.now.0 key.now result.now }
+    {
+        let start = self.split_place(key);
+        &self.entries()[start..]
+    }
+
+    // Lends the key's value.
+    pub(crate) fn get(&self, key: &[u8]) -> Option<&V>
+        requires { T (is_sorted (slice_cmp nat_cmp) self.now.0) }
+        ensures { option_copied result ≡ find (slice_cmp nat_cmp) key.now self.now.0 }
+    {
+        match self.search(key) {
+            Ok(i) => Some(&self.entries[i].1),
+            Err(_) => None,
+        }
+    }
+
+    // Lends the key's value for writing.
+    pub(crate) fn value_mut(&mut self, key: &[u8]) -> &mut V
+        requires sorted { T (is_sorted (slice_cmp nat_cmp) self.old.0) }
+        requires present { IsSome (find (slice_cmp nat_cmp) key.now self.old.0) }
+        ensures* writes_back { sem 𝓛 (lends_in_page V.row self.entry key.now result) }
+        ensures value { find (slice_cmp nat_cmp) key.now self.old.0 ≡ Some result.now }
+    {
+        match self.search(key) {
+            Ok(i) => {
+                let entry = &mut self.entries[i];
+                &mut entry.1
+            }
+            Err(_) => unreachable!(),
+        }
+    }
+
+    // Makes room for `n` more entries, and where it is missing for `SPARE` more than that.
+    pub(crate) fn reserve(&mut self, n: usize) -> Result<(), AllocError>
+        ensures entries { self.new.0 ≡ self.old.0 }
+        ensures room { self.old.1 ≤ self.new.1 }
+        ensures made { OnOk result (n ≤ self.new.1) }
+    {
+        if n <= self.room() {
+            return Ok(());
+        }
+        self.entries.reserve_exact(n.saturating_add(SPARE))
+    }
+
+    // Adds an entry of a new key in the room that was made for it.
+    pub(crate) fn insert(&mut self, key: Key, value: V)
+        requires sorted { T (is_sorted (slice_cmp nat_cmp) self.old.0) }
+        requires absent { find (slice_cmp nat_cmp) key self.old.0 ≡ None }
+        requires room { 0 < self.old.1 }
+        ensures entries { self.new.0 ≡ put (slice_cmp nat_cmp) key value self.old.0 }
+        ensures room { self.old.1 ≤ self.new.1 + 1 }
+    {
+        match self.search(key.lend().bytes()) {
+            Ok(_) => unreachable!(),
+            Err(i) => match self.entries.insert(i, (key, value)) {
+                Ok(()) => {}
+                Err(_) => unreachable!(),
+            },
+        }
+    }
+}
+
+impl<V: Drop> Page<V> {
+    // Adds an entry at the end.
+    pub(crate) fn push(&mut self, key: Key, value: V) -> Result<(), AllocError>
+        ensures { self.new.0 ≡ (if is_ok result then self.old.0 ++ (key, value) ∷ [] else self.old.0) }
+    {
+        self.entries.push((key, value))?;
+        Ok(())
+    }
+
+    // Moves the entries from `at` on to a page of their own with so much room.
+    pub(crate) fn split_off(&mut self, at: usize, room: usize) -> Result<Page<V>, AllocError>
+        requires { at ≤ length self.old.0 }
+        ensures lower { OnOk result (self.new.0 ≡ take at self.old.0) }
+        ensures upper { IfOk result (λ u. u.0 ≡ drop at self.old.0) }
+        ensures upper_room { IfOk result (λ u. room ≤ u.1) }
+        ensures room { self.old.1 ≤ self.new.1 }
+        ensures failed { OnErr result (self.new.0 ≡ self.old.0) }
+    {
+        let mut upper = self.entries.split_off(at)?;
+        match upper.reserve_exact(room) {
+            Ok(()) => Ok(Page { entries: upper }),
+            Err(error) => {
+                match self.entries.append(&mut upper) {
+                    Ok(()) => {}
+                    Err(_) => unreachable!(),
+                }
+                Err(error)
+            }
+        }
+    }
+}

@@ -1,0 +1,160 @@
+//! A sorted map in pages.
+ghost use Rattle.std.specs.Prelude.{◌≡◌, ◌+◌, ◌<◌, ◌≤◌, T, None, [], ◌∷◌, ◌++◌, option_copied, is_ok, IsOk, OnOk, if◌then◌else◌};
+ghost use Rattle.std.specs.Ordering.{nat_cmp};
+ghost use Rattle.std.specs.Cmp.Lexicographic.{slice_cmp};
+ghost use Rattle.std.specs.FinMap.Entries.{find, put, is_sorted};
+ghost use Rattle.model.specs.Map.{Bytes};
+ghost use Rattle.sorted_pages.specs.Pages.{entries, room_at};
+
+use crate::changing;
+use crate::page::Page;
+use crate::placing::{self, place};
+use crate::range::Entries;
+use model::{Key, KeyRef, RangeRef};
+use std::alloc::{AllocError, Global};
+use std::marker::Model;
+
+/// A map from keys to values of `V`, in pages. A clause sees the pages, each its entries and its room; `entries` of them is the map's
+/// entries by strictly rising key.
+#[derive(Drop)]
+pub struct SortedPages<V> {
+    pub(crate) pages: Vec<Page<V>>,
+}
+
+impl<V> Model for SortedPages<V> {
+    ghost use Rattle.std.specs.Prelude.{ℕ, List};
+    ghost use Rattle.sorted_pages.specs.Pages.{IsInOrder};
+
+    ghost Value = { List (List (List ℕ × V) × ℕ) };
+
+    ghost view = { λ s. s.pages.items };
+
+    ghost invariant = { λ s. IsInOrder s.pages.items };
+}
+
+impl<V> SortedPages<V> {
+    /// An empty map. Takes no memory.
+    pub fn new(alloc: Global) -> SortedPages<V>
+        ensures { result ≡ [] }
+    {
+        SortedPages {
+            pages: Vec::new(alloc),
+        }
+    }
+
+    /// Lends the key's value, and `None` where it has none. Takes no memory.
+    pub fn get(&self, key: KeyRef<'_>) -> Option<&V>
+        ensures { option_copied result ≡ find (slice_cmp nat_cmp) key.entry.bytes.now (entries self.now) }
+    {
+        if self.pages.is_empty() {
+            return None;
+        }
+        let i = place(&self.pages, key.bytes());
+        self.pages[i].get(key.bytes())
+    }
+}
+
+impl<V> SortedPages<V> {
+    ghost use Rattle.std.specs.Prelude.{IsSome};
+    ghost use Rattle.std.specs.Borrow.{sem};
+    ghost use Rattle.sorted_pages.specs.Lent.{lends_value, with_value};
+
+    /// Lends the value of a key that has one, for writing: the map ends with what is written, and no key's room changes. Takes no
+    /// memory.
+    pub fn value_mut(&mut self, key: KeyRef<'_>) -> &mut V
+        requires { IsSome (find (slice_cmp nat_cmp) key.bytes.now (entries self.old)) }
+        ensures* writes_back { sem 𝓛 (lends_value V.row self.entry key.entry.bytes.now result) }
+        ensures value { find (slice_cmp nat_cmp) key.entry.bytes.now (entries self.old) ≡ Some result.now }
+        ensures put { (v : V) → entries (with_value self.old key.entry.bytes.now v) ≡ put (slice_cmp nat_cmp) key.entry.bytes.now v (entries self.old) }
+        ensures rooms { (v : V) (q : Bytes) → room_at q (with_value self.old key.entry.bytes.now v) ≡ room_at q self.old }
+    {
+        let i = place(&self.pages, key.bytes());
+        self.pages[i].value_mut(key.bytes())
+    }
+}
+
+impl<V> SortedPages<V> {
+    ghost use Rattle.std.specs.FinMap.Entries.{where_key};
+    ghost use Rattle.model.specs.Map.{is_in_range};
+    ghost use Rattle.model.specs.KeyBytes.{end_bytes};
+    ghost use Rattle.sorted_pages.specs.Ranges.{entries_left, first_key};
+
+    // Lends the entries from one key on, up to another.
+    fn within<'a>(&'a self, lo: KeyRef<'_>, hi: Option<KeyRef<'a>>) -> Entries<'a, V>
+        ensures { entries_left result ≡ where_key (slice_cmp nat_cmp) (is_in_range lo.entry.bytes.now (end_bytes hi.entry)) (entries self.now) }
+    {
+        let pages = self.pages.as_slice();
+        if pages.is_empty() {
+            return Entries {
+                front: &[],
+                pages,
+                hi,
+            };
+        }
+        let i = place(pages, lo.bytes());
+        Entries {
+            front: pages[i].entries_from(lo.bytes()),
+            pages: &pages[i + 1..],
+            hi,
+        }
+    }
+
+    // Lends the least key that is at least this one.
+    fn first_from(&self, key: KeyRef<'_>) -> Option<KeyRef<'_>>
+        ensures { end_bytes result ≡ first_key (where_key (slice_cmp nat_cmp) (is_in_range key.entry.bytes.now None) (entries self.now)) }
+    {
+        match self.within(key, None).next() {
+            None => None,
+            Some((first, _)) => Some(first),
+        }
+    }
+
+    /// Lends the entries of the range, by rising key. Takes no memory.
+    pub fn range(&self, range: RangeRef<'_>) -> Entries<'_, V>
+        ensures { entries_left result ≡ where_key (slice_cmp nat_cmp) (is_in_range range.entry.lo.bytes.now (end_bytes range.entry.hi)) (entries self.now) }
+    {
+        let _ = &self.pages;
+        match range.hi {
+            None => self.within(range.lo, None),
+            Some(hi) => self.within(range.lo, self.first_from(hi)),
+        }
+    }
+}
+
+impl<V: Drop> SortedPages<V> {
+    /// How many more entries fit without memory where the key stands or would stand.
+    pub fn room(&self, key: KeyRef<'_>) -> usize
+        ensures { result ≡ room_at key.entry.bytes.now self.now }
+    {
+        placing::room(&self.pages, key.bytes())
+    }
+
+    /// Makes room for `n` more entries where the key stands or would stand. The entries stay, also where memory is refused, and no
+    /// key has less room than before. Where the room is there already, it takes none and succeeds.
+    pub fn reserve(&mut self, key: KeyRef<'_>, n: usize) -> Result<(), AllocError>
+        ensures entries { entries self.new ≡ entries self.old }
+        ensures rooms { (q : Bytes) → room_at q self.old ≤ room_at q self.new }
+        ensures made { OnOk result (n ≤ room_at key.entry.bytes.now self.new) }
+        ensures known { n ≤ room_at key.entry.bytes.now self.old → IsOk result }
+    {
+        changing::reserve(&mut self.pages, key.bytes(), n)
+    }
+
+    /// Adds an entry of a new key in the room that was made for it: each key has room for one entry less, at most. Takes no memory.
+    pub fn insert(&mut self, key: Key, value: V)
+        requires absent { find (slice_cmp nat_cmp) key (entries self.old) ≡ None }
+        requires room { 0 < room_at key self.old }
+        ensures entries { entries self.new ≡ put (slice_cmp nat_cmp) key value (entries self.old) }
+        ensures rooms { (q : Bytes) → room_at q self.old ≤ room_at q self.new + 1 }
+    {
+        changing::insert(&mut self.pages, key, value);
+    }
+
+    /// Adds an entry above all others, in pages that are filled one after another. Where memory is refused the entries stay.
+    pub fn push(&mut self, key: Key, value: V) -> Result<(), AllocError>
+        requires { T (is_sorted (slice_cmp nat_cmp) (entries self.old ++ (key, value) ∷ [])) }
+        ensures { entries self.new ≡ (if is_ok result then entries self.old ++ (key, value) ∷ [] else entries self.old) }
+    {
+        changing::push(&mut self.pages, key, value)
+    }
+}

@@ -1,0 +1,95 @@
+"""A COMMIT that splits pages, with its n-th allocation refused, for each n.
+
+The versions' keys stand in pages of some hundred keys. Eight commits of 64 keys fill one, and the ninth splits it. Where memory is refused in it, its
+connection is closed and a new one finds the map as it was; it commits the same writes then. After that all keys are there, by rising key.
+"""
+import os
+
+from client import MEMORY, Connection, Refusals, Server, Tally, create, expect, folder, need, run_harness
+from model import Store, frame
+
+SECTORS = 4_096
+KEYS = 64 * 9
+N_MAX = 2_000
+
+
+def key_of(number):
+    """Keys that don't rise with their numbers, another for each below 65,536."""
+    return b"%05d" % (number * 7919 % 65536)
+
+
+class Session:
+    """A connection beside the model."""
+
+    def __init__(self, server, store, name):
+        self.connection, self.store, self.name = Connection(server.port), store, name
+
+    def ask(self, parts):
+        reply = self.connection.ask(frame(*parts))
+        due = self.store.request(self.name, parts)
+        expect(reply == due, f"{parts[:2]}: {(reply or b'closed')[:60]!r}, due is {due[:60]!r}")
+
+    def write(self, numbers):
+        for parts in ([b"BEGIN"], *([b"SET", key_of(number), b"%d" % number] for number in numbers)):
+            self.ask(parts)
+
+    def read_all(self):
+        """Every key, in ranges of 100."""
+        self.ask([b"BEGIN"])
+        for low in range(0, 65_536, 5_000):
+            self.ask([b"RANGE", b"%05d" % low, b"%05d" % (low + 5_000), b"128"])
+        self.ask([b"ABORT"])
+
+
+def commit_refused(server, store, allocations, n):
+    """Commits the last 64 keys with the n-th allocation refused. Was there one so late?"""
+    last = Session(server, store, "last")
+    last.write(range(KEYS - 64, KEYS))
+    failed = allocations.failed
+    allocations.fail(allocations.made + n)
+    reply = last.connection.ask(frame("COMMIT"))
+    was_refused = allocations.failed > failed
+    allocations.pass_on()
+    if reply is None:
+        store.leave("last")
+        again = Session(server, store, "again")
+        again.read_all()
+        again.write(range(KEYS - 64, KEYS))
+        again.ask([b"COMMIT"])
+    else:
+        due = store.request("last", [b"COMMIT"])
+        expect(reply == due, f"COMMIT: {reply[:60]!r}, due is {due[:60]!r}")
+    return was_refused
+
+
+def one_run(place, n):
+    data, store, refusals = os.path.join(place, f"data{n}"), Store(SECTORS), Refusals(place)
+    create(data, SECTORS)
+    allocations = refusals.of(MEMORY)
+    with Server(data, refusals.environment()) as server:
+        first = Session(server, store, "first")
+        for start in range(0, KEYS - 64, 64):
+            first.write(range(start, start + 64))
+            first.ask([b"COMMIT"])
+        was_refused = commit_refused(server, store, allocations, n)
+        Session(server, store, "after").read_all()
+        expect(server.is_alive() and server.error_text() == b"", "the server ended, or wrote an error")
+    os.remove(data)
+    return was_refused
+
+
+def main():
+    need()
+    tally = Tally("a COMMIT that splits pages, with each allocation refused")
+    with folder() as place:
+        for n in range(1, N_MAX):
+            was_refused = False
+            with tally.run(f"allocation {n}"):
+                was_refused = one_run(place, n)
+            if not was_refused:
+                break
+    return 0 if tally.end() else 1
+
+
+if __name__ == "__main__":
+    run_harness(main)
