@@ -1,14 +1,11 @@
 -- The first pairs of a range, and the last of their keys.
 use Rattle.std.proofs.Common.{◌≡◌, ℕ, zero, suc, ◌+◌, ◌<◌, ◌≤◌, Bool, true, false, cond, List, [], ◌∷◌, length, take, drop, Option, Some, None, refl, sym, ap, ◌∙◌, arith, add-one, eqb}
-use Rattle.std.specs.Prelude.{IfSome, IsTrue}
 use Rattle.std.specs.List.{AllByRecursion}
 use Rattle.std.specs.declared.cmp.Ordering.TheVariants.{Less, Equal, Greater}
 use Rattle.std.specs.Ordering.{is_le, nat_cmp}
 use Rattle.std.specs.Cmp.Lexicographic.{slice_cmp}
 use Rattle.std.specs.FinMap.Entries.{by_order, where_key}
 use Rattle.std.proofs.lemmas.Bool.{and_parts, eqb-true}
-use Rattle.model.specs.declared.keys.KeyRef.{KeyRef}
-use Rattle.model.specs.KeyBytes.{key_bytes, end_bytes}
 use Rattle.model.specs.Map.{Bytes, KeyMap, KeyWrite, key_cmp, is_in_range, is_below, pairs_in_range}
 use Rattle.model.specs.PrivateCopy.{last_key, page_end}
 use Rattle.snapshot.specs.View.{View}
@@ -123,8 +120,3 @@ short_page n limit all none within less =
       | true ↦ λ e. absurd (omega (arith, eqb-true k limit e))
       | false ↦ λ e. refl
     ] refl
-
--- the end of a page, as it is lent
-pub lent_end_above : (o : Option KeyRef) (t : View) (m : KeyMap) (lo : Bytes) (hi : Option Bytes) (limit : ℕ) → end_bytes o ≡ page_end limit (rows_of t m lo hi limit) → IfSome o (λ last. IsTrue (is_le (key_cmp lo (key_bytes last))))
-lent_end_above None t m lo hi limit h = tt
-lent_end_above (Some last) t m lo hi limit h = end_above t m lo hi limit (key_bytes last) (sym h)

@@ -2,28 +2,33 @@
 use Rattle.std.proofs.Common.{◌≡◌, ◌≢◌, ℕ, zero, suc, Bool, true, false, not, cond, ◌&&◌, ◌||◌, List, [], ◌∷◌, ◌++◌, take, Option, Some, None, refl, sym, ap, subst, ◌∙◌}
 use Rattle.std.specs.Prelude.{IsTrue, ◌↔◌, if◌then◌else◌}
 use Rattle.std.specs.declared.cmp.Ordering.TheVariants.{Less, Equal, Greater}
-use Rattle.std.specs.Ordering.{is_lt, is_le}
-use Rattle.std.specs.Cmp.Lexicographic.{nat_list_cmp_total}
+use Rattle.std.specs.Ordering.{is_lt, is_le, nat_cmp}
+use Rattle.std.specs.Cmp.Lexicographic.{slice_cmp, nat_list_cmp_total}
+use Rattle.std.specs.FinMap.Entries.{where_key}
 use Rattle.std.proofs.lemmas.Bool.{both_ways}
 use Rattle.std.proofs.lemmas.Map.Lookups.{exact_bytes}
 use Rattle.model.specs.declared.refusals.Refusal.TheVariants as refusal
-use Rattle.model.specs.Map.{Bytes, KeyMap, IsMap, key_cmp, after_writes, is_in_range, is_empty_range, pairs_in_range}
+use Rattle.model.specs.Map.{Bytes, KeyMap, KeyWrite, IsMap, key_cmp, after_writes, is_in_range, is_empty_range, pairs_in_range}
 use Rattle.model.specs.Operations.{Operation, Response}
 use Rattle.model.specs.Operations.Operation.{Range}
 use Rattle.model.specs.Operations.Response.{Pairs, Refused}
-use Rattle.model.specs.PrivateCopy.{PrivateCopy, copy_of, copy_after, respond, answer, after_read, mark_of_reply}
+use Rattle.model.specs.PrivateCopy.{Mark, PrivateCopy, page_end, copy_of, copy_after, respond, answer, after_read, mark_of_reply}
 use Rattle.model.proofs.Steps.{copy_after-push}
-use Rattle.marks.specs.Marked.{has_mark, is_full_for}
+use Rattle.marks.specs.Marked.{has_mark, is_full_for, with_mark}
 use Rattle.write_buffer.specs.Buffered.{AreEntries}
 use Rattle.versions.specs.Chains.{ChainsValue}
 use Rattle.versions.specs.Meaning.{map_seen}
+use Rattle.versions.specs.Lent.{range_pairs}
 use Rattle.snapshot.specs.declared.faults.SnapshotFault.{SnapshotFault}
 use Rattle.snapshot.specs.declared.faults.SnapshotFault.TheVariants.{FullWrites, FullMarks}
 use Rattle.snapshot.specs.View.{View, copy_held, marked}
-use Rattle.snapshot.specs.Merged.{all_rows, rows_of, mark_of_rows, after_range, is_full_range, is_known_range}
+use Rattle.snapshot.specs.declared.merge.MergedPairs.{MergedPairs}
+use Rattle.snapshot.specs.Ahead.{merged_pairs, with_ahead}
+use Rattle.snapshot.specs.Merged.{merged, all_rows, rows_of, mark_of_rows, after_range, is_full_range, is_known_range}
 use Rattle.snapshot.specs.Made.{HasMade, MakesOneMoreOver, IsFault, IsKnownRange, is_refused}
 use Rattle.snapshot.proofs.Copies.{marked_as, refused_as, read_fault, answer_held}
 use Rattle.snapshot.proofs.Pieces.{merged-range}
+use Rattle.snapshot.proofs.Pages.{end_above}
 
 -- no key lies in an empty range
 nothing_between : (lo h q : Bytes) → is_lt (key_cmp lo h) ≡ false → (is_le (key_cmp lo q) && is_lt (key_cmp q h)) ≡ false
@@ -109,7 +114,32 @@ module _ (t : View) (v : ChainsValue) (m : KeyMap) (qs : List Operation) (lo : B
       let rows = subst (λ (ps : KeyMap). IsTrue (is_empty_range lo hi || has_mark t.marks (mark_of_reply lo hi limit ps))) (sym (rows_are t m lo hi limit h.entries h.is_map)) held in
       subst (λ (n : KeyMap). IsTrue (is_known_range t n lo hi limit)) (sym seen) rows
 
--- the mark of a read changes no row
-pub rows-after_range : (t u : View) (v : ChainsValue) (m : KeyMap) (lo : Bytes) (hi : Option Bytes) (limit : ℕ) → u ≡ after_range t m lo hi limit → all_rows u (map_seen v u.begin) lo hi ≡ all_rows t (map_seen v t.begin) lo hi
-rows-after_range t u v m lo hi limit e = ap (λ (u : View). all_rows u (map_seen v u.begin) lo hi) e
-    ∙ elim (is_empty_range lo hi) as (λ b. all_rows (if b then t else marked t (mark_of_rows t m lo hi limit)) (map_seen v (if b then t else marked t (mark_of_rows t m lo hi limit)).begin) lo hi ≡ all_rows t (map_seen v t.begin) lo hi) [ true ↦ refl | false ↦ refl ]
+-- the pairs of a range over which the writes of the range stand, of which the first was looked at
+pub looked-rows : (t : View) (v : ChainsValue) (lo : Bytes) (hi : Option Bytes) (a b : MergedPairs) (ws : List KeyWrite) (ps : KeyMap) → b.writes ≡ a.writes
+    → with_ahead b.ahead (range_pairs b.pairs) ≡ with_ahead a.ahead (range_pairs a.pairs) → merged_pairs a ≡ merged ws ps
+    → ws ≡ where_key (slice_cmp nat_cmp) (is_in_range lo hi) t.writes → ps ≡ pairs_in_range (map_seen v t.begin) lo hi
+    → merged_pairs b ≡ all_rows t (map_seen v t.begin) lo hi
+looked-rows t v lo hi a b ws ps writes pairs is own seen = (λ i. merged (writes i).now (pairs i)) ∙ is ∙ λ i. merged (own i) (seen i)
+
+-- what a read of these pairs answers and marks, of a view and one that is equal to it
+module _ (t now : View) (v : ChainsValue) (lo : Bytes) (hi : Option Bytes) (limit : ℕ) (all : KeyMap) (is : t ≡ now) (same : all ≡ all_rows t (map_seen v t.begin) lo hi) where
+  pub rows_now : take limit all ≡ rows_of now (map_seen v now.begin) lo hi limit
+  rows_now = ap (take limit) same ∙ ap (λ (u : View). rows_of u (map_seen v u.begin) lo hi limit) is
+
+  pub page_above : (last : Bytes) → page_end limit (take limit all) ≡ Some last → is_le (key_cmp lo last) ≡ true
+  page_above last e = end_above t (map_seen v t.begin) lo hi limit last (sym (ap (λ (ps : KeyMap). page_end limit (take limit ps)) same) ∙ e)
+
+  pub full_now : (not (is_empty_range lo hi) && is_full_for t.marks (mark_of_reply lo hi limit (take limit all))) ≡ is_full_range now (map_seen v now.begin) lo hi limit
+  full_now = ap (λ (ps : KeyMap). not (is_empty_range lo hi) && is_full_for t.marks (mark_of_reply lo hi limit (take limit ps))) same ∙ ap (λ (u : View). is_full_range u (map_seen v u.begin) lo hi limit) is
+
+  pub known_now : (is_empty_range lo hi || has_mark t.marks (mark_of_reply lo hi limit (take limit all))) ≡ is_known_range now (map_seen v now.begin) lo hi limit
+  known_now = ap (λ (ps : KeyMap). is_empty_range lo hi || has_mark t.marks (mark_of_reply lo hi limit (take limit ps))) same ∙ ap (λ (u : View). is_known_range u (map_seen v u.begin) lo hi limit) is
+
+  pub after_now : (ms : List Mark) → ms ≡ (if is_empty_range lo hi then t.marks else with_mark t.marks (mark_of_reply lo hi limit (take limit all))) → record t { marks = ms } ≡ after_range now (map_seen v now.begin) lo hi limit
+  after_now ms e =
+      ap (λ (ns : List Mark). record t { marks = ns }) (e ∙ ap (λ (ps : KeyMap). if is_empty_range lo hi then t.marks else with_mark t.marks (mark_of_reply lo hi limit (take limit ps))) same)
+      ∙ elim (is_empty_range lo hi) as (λ b. record t { marks = if b then t.marks else with_mark t.marks (mark_of_rows t (map_seen v t.begin) lo hi limit) } ≡ (if b then t else marked t (mark_of_rows t (map_seen v t.begin) lo hi limit))) [ true ↦ refl | false ↦ refl ]
+      ∙ ap (λ (u : View). after_range u (map_seen v u.begin) lo hi limit) is
+
+  pub unmarked : (ms : List Mark) → ms ≡ t.marks → record t { marks = ms } ≡ now
+  unmarked ms e = ap (λ (ns : List Mark). record t { marks = ns }) e ∙ is

@@ -1,40 +1,32 @@
 //! The pairs that a range read answers.
 ghost use Rattle.std.specs.Prelude.{◌≤◌, length};
-ghost use Rattle.versions.specs.Lent.{range_pairs};
-ghost use Rattle.snapshot.specs.Merged.{merged};
+ghost use Rattle.snapshot.specs.Ahead.{merged_pairs};
 
-use crate::merge::next_pair;
-use model::{KeyRef, Write};
-use versions::Pairs;
+use crate::merge::MergedPairs;
+use model::KeyRef;
 
 /// The pairs that a range read answers, by rising key, lent from the transaction's writes and from the versions. Its calls take no
 /// memory. A clause sees the pairs that are left (`row_pairs`).
 #[derive(Drop)]
 pub struct Rows<'a> {
-    writes: &'a [Write],
-    pairs: Pairs<'a>,
+    rest: MergedPairs<'a>,
     left: usize,
-    ghost counted: { left ≤ length (merged writes.now (range_pairs pairs)) },
+    ghost counted: { left ≤ length (merged_pairs rest) },
 }
 
 impl<'a> Rows<'a> {
     ghost use Rattle.std.specs.Prelude.{◌≡◌, ◌≤◌, length, take};
     ghost use Rattle.std.specs.Iterator.{AlwaysYields, YieldsFirstBy};
     ghost use Rattle.model.specs.KeyBytes.{pair_bytes};
-    ghost use Rattle.versions.specs.Lent.{range_pairs};
-    ghost use Rattle.snapshot.specs.Merged.{merged};
+    ghost use Rattle.snapshot.specs.Ahead.{merged_pairs};
     ghost use Rattle.snapshot.specs.RowPairs.{row_pairs};
 
     // The first `left` of the pairs.
-    pub(crate) fn new(writes: &'a [Write], pairs: Pairs<'a>, left: usize) -> Rows<'a>
-        requires { left ≤ length (merged writes.now (range_pairs pairs)) }
-        ensures { row_pairs result ≡ take left (merged writes.now (range_pairs pairs.entry)) }
+    pub(crate) fn new(rest: MergedPairs<'a>, left: usize) -> Rows<'a>
+        requires { left ≤ length (merged_pairs rest) }
+        ensures { row_pairs result ≡ take left (merged_pairs rest.entry) }
     {
-        Rows {
-            writes,
-            pairs,
-            left,
-        }
+        Rows { rest, left }
     }
 
     /// How many pairs are left.
@@ -63,6 +55,6 @@ impl<'a> Iterator for Rows<'a> {
             return None;
         }
         self.left -= 1;
-        next_pair(&mut self.writes, &mut self.pairs)
+        self.rest.next()
     }
 }

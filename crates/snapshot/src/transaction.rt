@@ -19,9 +19,10 @@ ghost use Rattle.snapshot.specs.PairsReply.{IsPairsReply, IsLeftByRange};
 ghost use Rattle.snapshot.specs.contracts.transaction.Transaction.{the_row};
 
 use crate::faults::SnapshotFault;
-use crate::merge::find_page;
+use crate::first_pairs::mark_page;
+use crate::merge::MergedPairs;
 use crate::rows::Rows;
-use crate::spans::{is_empty, mark_up_to, within};
+use crate::spans::within;
 use marks::Marks;
 use model::{Key, KeyRef, RangeRef, VALUE_MAX, Write};
 use std::alloc::Global;
@@ -151,37 +152,6 @@ impl Transaction {
         }
     }
 
-    // Finds what a read of the range answers, and makes the mark that this asks for: none where the range is empty. How many pairs?
-    fn mark_range(
-        &mut self,
-        versions: &Versions,
-        range: RangeRef<'_>,
-        limit: u8,
-    ) -> Result<usize, SnapshotFault>
-        ensures ok { OnOk result (self.new ≡ after_range self.old (map_seen versions.now self.old.begin) (key_bytes range.entry.lo) (end_bytes range.entry.hi) limit) }
-        ensures len { IfOk result (λ n. n ≡ length (rows_of self.old (map_seen versions.now self.old.begin) (key_bytes range.entry.lo) (end_bytes range.entry.hi) limit)) }
-        ensures err { OnErr result (self.new ≡ self.old) }
-        ensures full { (result ≡ Err SnapshotFault.FullMarks) ↔ IsTrue (is_full_range self.old (map_seen versions.now self.old.begin) (key_bytes range.entry.lo) (end_bytes range.entry.hi) limit) }
-        ensures known { IsTrue (is_known_range self.old (map_seen versions.now self.old.begin) (key_bytes range.entry.lo) (end_bytes range.entry.hi) limit) → IsOk result }
-        ensures never { result ≢ Err SnapshotFault.FullWrites }
-    {
-        let writes = within(self.buffer.entries(), range);
-        let page = find_page(writes, versions.range(self.begin, range), limit);
-        if !is_empty(range) {
-            mark_up_to(&mut self.marks, range, page.end)?;
-        }
-        Ok(page.len)
-    }
-
-    // The first pairs that a read of the range gives, so many as there are.
-    fn rows<'a>(&'a self, versions: &'a Versions, range: RangeRef<'_>, len: usize) -> Rows<'a>
-        requires { len ≤ length (all_rows self.now (map_seen versions.now self.now.begin) (key_bytes range.lo) (end_bytes range.hi)) }
-        ensures { row_pairs result ≡ take len (all_rows self.now (map_seen versions.now self.now.begin) (key_bytes range.entry.lo) (end_bytes range.entry.hi)) }
-    {
-        let writes = within(self.entries(), range);
-        Rows::new(writes, versions.range(self.begin, range), len)
-    }
-
     /// Reads the pairs of a range by rising key, `limit` at most: those that the begin number sees, with the transaction's own writes
     /// over them. Where they are as many as the limit, the keys from `lo` to the last of them are marked, both included; else the range is
     /// marked whole, however few pairs it has, unless it is empty. It takes the memory of a new mark and no other; `FullMarks` or
@@ -198,8 +168,11 @@ impl Transaction {
         ensures reply { (m : KeyMap) (qs : List Operation) → map_seen versions.now self.old.begin ≡ m → HasMade self.old m qs → IsPairsReply result (answer m qs (Range (key_bytes range.entry.lo) (end_bytes range.entry.hi) limit)) }
         ensures* after { sem 𝓛 (Rests the_row self.entry (λ new. IsLeftByRange self.old (map_seen versions.now self.old.begin) (key_bytes range.entry.lo) (end_bytes range.entry.hi) limit result new)) }
     {
-        match self.mark_range(versions, range, limit) {
-            Ok(len) => Ok(self.rows(versions, range, len)),
+        let writes = within(self.buffer.entries(), range);
+        let mut pairs = MergedPairs::new(writes, versions.range(self.begin, range));
+        pairs.look();
+        match mark_page(&mut self.marks, pairs, range, limit) {
+            Ok(len) => Ok(Rows::new(pairs, len)),
             Err(fault) => Err(fault),
         }
     }

@@ -1,49 +1,70 @@
-use Rattle.std.proofs.Common.{◌≤◌, refl, sym, ap, subst, ◌∙◌, length, take}
+use Rattle.std.proofs.Common.{◌≡◌, ℕ, ◌≤◌, ◌↔◌, IsTrue, Result, Err, refl, sym, ap, subst, ◌∙◌, length, take}
+use Rattle.std.specs.Ordering.{nat_cmp}
+use Rattle.std.specs.Cmp.Lexicographic.{slice_cmp}
+use Rattle.std.specs.FinMap.Entries.{where_key}
 use Rattle.model.specs.KeyBytes.{key_bytes, end_bytes}
+use Rattle.model.specs.Map.{is_in_range}
 use Rattle.versions.specs.Meaning.{map_seen}
-use Rattle.snapshot.specs.Merged.{all_rows}
+use Rattle.snapshot.specs.declared.faults.SnapshotFault.{SnapshotFault}
+use Rattle.snapshot.specs.declared.faults.SnapshotFault.TheVariants.{FullMarks}
+use Rattle.snapshot.specs.View.{View}
+use Rattle.snapshot.specs.Ahead.{merged_pairs}
 use Rattle.snapshot.proofs.Copies.{err_iff, fault_iff, ok_iff, room_of, never_of}
 use Rattle.snapshot.proofs.Pages.{taken_length, taken_within}
-use Rattle.snapshot.proofs.Ranges.{range-reply, range-leaves, range-fault, range-known, rows-after_range}
+use Rattle.snapshot.proofs.Ranges.{range-reply, range-leaves, range-fault, range-known, looked-rows, rows_now, page_above, full_now, known_now, after_now, unmarked}
 use Rattle.snapshot.proofs.transaction.Transaction.range.Goals as goal
 
--- as many rows as were found are there still
-pub rows-requires : goal.rows-requires
-rows-requires c =
-    let t = c.args.self.now in
+pub mark_page-requires : goal.mark_page-requires
+mark_page-requires c =
+    let t : View = record { begin = c.self.inside.begin; writes = c.self.inside.buffer; marks = c.self.inside.marks } in
     let lo = key_bytes c.args.range.lo in
     let hi = end_bytes c.args.range.hi in
-    let all = all_rows t (map_seen c.args.versions.now t.begin) lo hi in
-    let same = rows-after_range t c.mark_range.new.self c.args.versions.now (map_seen c.args.versions.now t.begin) lo hi c.args.limit c.in-Ok.ensures.ok in
-    subst (λ es. c.in-Ok.len ≤ length es) (sym same) (subst (λ n. n ≤ length all) (sym c.in-Ok.ensures.len) (taken_within c.args.limit all))
+    let same = looked-rows t c.args.versions.now lo hi c.new-pairs.result c.look.new.self _ _ c.look.ensures.writes c.look.ensures.pairs c.new-pairs.ensures
+    (c.within-writes.ensures ∙ ap (where_key (slice_cmp nat_cmp) (is_in_range lo hi)) c.entries.ensures.writes) c.range.ensures in
+    page_above t c.args.self.now c.args.versions.now lo hi c.args.limit (merged_pairs c.look.new.self) c.self.view_is same
+
+-- as many pairs as were found are there still
+pub new-requires : goal.new-requires
+new-requires c = subst (λ n. n ≤ length (merged_pairs c.look.new.self)) (sym c.in-Ok.ensures.len) (taken_within c.args.limit (merged_pairs c.look.new.self))
 
 pub returns-in-Ok : goal.returns-in-Ok
 returns-in-Ok c =
-    let t = c.args.self.now in
+    let now = c.args.self.now in
     let v = c.args.versions.now in
     let lo = key_bytes c.args.range.lo in
     let hi = end_bytes c.args.range.hi in
-    let all = all_rows t (map_seen v t.begin) lo hi in
-    let room = room_of c.in-Ok.ensures.full in
-    let same = rows-after_range t c.mark_range.new.self v (map_seen v t.begin) lo hi c.args.limit c.in-Ok.ensures.ok in
-    let rows = c.rows.ensures ∙ ap (take c.in-Ok.len) same ∙ ap (λ n. take n all) c.in-Ok.ensures.len ∙ taken_length c.args.limit all in (
-      (refl, λ _. tt, (c.in-Ok.ensures.ok, range-leaves t (map_seen v t.begin) lo hi c.args.limit c.mark_range.new.self room c.in-Ok.ensures.ok)),
+    let all = merged_pairs c.look.new.self in
+    let t : View = record { begin = c.self.inside.begin; writes = c.self.inside.buffer; marks = c.self.inside.marks } in
+    let same = looked-rows t v lo hi c.new-pairs.result c.look.new.self _ _ c.look.ensures.writes c.look.ensures.pairs c.new-pairs.ensures
+    (c.within-writes.ensures ∙ ap (where_key (slice_cmp nat_cmp) (is_in_range lo hi)) c.entries.ensures.writes) c.range.ensures in
+    let room = sym (full_now t now v lo hi c.args.limit all c.self.view_is same) ∙ room_of c.in-Ok.ensures.full in
+    let after = after_now t now v lo hi c.args.limit all c.self.view_is same c.mark_page.new.marks c.in-Ok.ensures.ok in
+    let rows = c.new.ensures ∙ ap (λ n. take n all) c.in-Ok.ensures.len ∙ taken_length c.args.limit all ∙ rows_now t now v lo hi c.args.limit all c.self.view_is same in (
+      (refl, λ _. tt, (after, range-leaves now (map_seen v now.begin) lo hi c.args.limit _ room after)),
       record {
         known = λ m qs is h k. refl;
-        full = ok_iff c.rows.result room;
-        reply = λ m qs is h. range-reply t v m qs lo hi c.args.limit is h _ room rows;
+        full = ok_iff c.new.result room;
+        reply = λ m qs is h. range-reply now v m qs lo hi c.args.limit is h _ room rows;
         after = tt;
       },
     )
 
 pub returns-in-Err : goal.returns-in-Err
 returns-in-Err c =
-    let t = c.args.self.now in (
-      (refl, λ _. tt, c.in-Err.ensures.err),
+    let now = c.args.self.now in
+    let v = c.args.versions.now in
+    let lo = key_bytes c.args.range.lo in
+    let hi = end_bytes c.args.range.hi in
+    let all = merged_pairs c.look.new.self in
+    let t : View = record { begin = c.self.inside.begin; writes = c.self.inside.buffer; marks = c.self.inside.marks } in
+    let same = looked-rows t v lo hi c.new-pairs.result c.look.new.self _ _ c.look.ensures.writes c.look.ensures.pairs c.new-pairs.ensures
+    (c.within-writes.ensures ∙ ap (where_key (slice_cmp nat_cmp) (is_in_range lo hi)) c.entries.ensures.writes) c.range.ensures in
+    let full = subst (λ b. (◌≡◌ {A = Result ℕ SnapshotFault} (Err c.in-Err.fault) (Err FullMarks)) ↔ IsTrue b) (full_now t now v lo hi c.args.limit all c.self.view_is same) c.in-Err.ensures.full in (
+      (refl, λ _. tt, unmarked t now v lo hi c.args.limit all c.self.view_is same c.mark_page.new.marks c.in-Err.ensures.err),
       record {
-        known = λ m qs is h k. c.in-Err.ensures.known (range-known t c.args.versions.now m qs (key_bytes c.args.range.lo) (end_bytes c.args.range.hi) c.args.limit is h k);
-        full = err_iff c.in-Err.ensures.full;
-        reply = λ m qs is h. range-fault t c.args.versions.now m qs (key_bytes c.args.range.lo) (end_bytes c.args.range.hi) c.args.limit is h c.in-Err.fault (never_of c.in-Err.ensures.never) (fault_iff c.in-Err.ensures.full);
+        known = λ m qs is h k. c.in-Err.ensures.known (subst (λ b. IsTrue b) (sym (known_now t now v lo hi c.args.limit all c.self.view_is same)) (range-known now v m qs lo hi c.args.limit is h k));
+        full = err_iff full;
+        reply = λ m qs is h. range-fault now v m qs lo hi c.args.limit is h c.in-Err.fault (never_of c.in-Err.ensures.never) (fault_iff full);
         after = tt;
       },
     )

@@ -1,0 +1,10 @@
+use Rattle.std.proofs.Common.{◌≡◌, length}
+use Rattle.snapshot.specs.Ahead.{merged_pairs}
+use Rattle.snapshot.proofs.merge.MergedPairsIterator.next.Given as goal
+
+-- the writes left out so far are deletions
+abbrev pub invariant-loop-first : goal.invariant-loop-first
+invariant-loop-first l = merged_pairs l.self ≡ merged_pairs l.initial.self
+
+abbrev pub decreases-loop-first : goal.decreases-loop-first
+decreases-loop-first l = length l.self.writes.now

@@ -1,0 +1,63 @@
+//! The first pairs of a range, and the mark of a read of them.
+ghost use Rattle.std.specs.Prelude.{◌≡◌, ◌≢◌, ◌↔◌, ◌&&◌, ◌||◌, not, if◌then◌else◌, List, ℕ, Some, IfOk, IsOk, IsTrue, OnErr, OnOk, Err, length, take};
+ghost use Rattle.std.specs.Ordering.{is_le};
+ghost use Rattle.marks.specs.Marked.{has_mark, is_full_for, with_mark};
+ghost use Rattle.model.specs.KeyBytes.{key_bytes, end_bytes};
+ghost use Rattle.model.specs.Map.{key_cmp, is_empty_range};
+ghost use Rattle.model.specs.PrivateCopy.{mark_of_reply, page_end};
+ghost use Rattle.snapshot.specs.Ahead.{merged_pairs};
+
+use crate::faults::SnapshotFault;
+use crate::merge::MergedPairs;
+use crate::spans::{is_empty, mark_up_to};
+use marks::Marks;
+use model::{KeyRef, RangeRef};
+
+// The first pairs of a range: how many there are, and where they end if others may follow.
+#[derive(Drop)]
+struct Page<'a> {
+    len: usize,
+    end: Option<KeyRef<'a>>,
+}
+
+// Finds the first pairs, `limit` at most. Where there are as many, the last of their keys is their end.
+fn find_page<'a>(pairs: MergedPairs<'a>, limit: u8) -> Page<'a>
+    ensures len { result.len ≡ length (take limit (merged_pairs pairs.entry)) }
+    ensures end { end_bytes result.end ≡ page_end limit (take limit (merged_pairs pairs.entry)) }
+{
+    let mut rest = pairs;
+    let mut len: usize = 0;
+    let mut last = None;
+    for _k in 0..limit {
+        let Some((key, _value)) = rest.next() else {
+            return Page { len, end: None };
+        };
+        len += 1;
+        last = Some(key);
+    }
+    Page { len, end: last }
+}
+
+// Makes the mark that a read of the range asks for which gives the first of its pairs, `limit` at most: none where the range is empty.
+// How many pairs does it give?
+pub(crate) fn mark_page(
+    marks: &mut Marks,
+    pairs: MergedPairs<'_>,
+    range: RangeRef<'_>,
+    limit: u8,
+) -> Result<usize, SnapshotFault>
+    requires { (last : List ℕ) → page_end limit (take limit (merged_pairs pairs)) ≡ Some last → IsTrue (is_le (key_cmp (key_bytes range.lo) last)) }
+    ensures ok { OnOk result (marks.new ≡ (if is_empty_range (key_bytes range.entry.lo) (end_bytes range.entry.hi) then marks.old else with_mark marks.old (mark_of_reply (key_bytes range.entry.lo) (end_bytes range.entry.hi) limit (take limit (merged_pairs pairs.entry))))) }
+    ensures len { IfOk result (λ n. n ≡ length (take limit (merged_pairs pairs.entry))) }
+    ensures err { OnErr result (marks.new ≡ marks.old) }
+    ensures full { (result ≡ Err SnapshotFault.FullMarks) ↔ IsTrue (not (is_empty_range (key_bytes range.entry.lo) (end_bytes range.entry.hi)) && is_full_for marks.old (mark_of_reply (key_bytes range.entry.lo) (end_bytes range.entry.hi) limit (take limit (merged_pairs pairs.entry)))) }
+    ensures known { IsTrue (is_empty_range (key_bytes range.entry.lo) (end_bytes range.entry.hi) || has_mark marks.old (mark_of_reply (key_bytes range.entry.lo) (end_bytes range.entry.hi) limit (take limit (merged_pairs pairs.entry)))) → IsOk result }
+    ensures never { result ≢ Err SnapshotFault.FullWrites }
+{
+    let page = find_page(pairs, limit);
+    if is_empty(range) {
+        return Ok(page.len);
+    }
+    mark_up_to(marks, range, page.end)?;
+    Ok(page.len)
+}
