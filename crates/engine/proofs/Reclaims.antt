@@ -11,7 +11,7 @@ use Rattle.model.specs.History.{Record}
 use Rattle.model.specs.Machine.{State, Running, last}
 use Rattle.versions.specs.Meaning.{is_among}
 use Rattle.snapshot.specs.View.{View}
-use Rattle.pivot_check.specs.Kept.{Facts, KeptRecord}
+use Rattle.pivot_check.specs.Kept.{Facts, ReadRecord}
 use Rattle.sector.specs.declared.device.Sectors.{Ghosts}
 use Rattle.engine.specs.HistoryValue.{HistoryValue, HistoryStandsFor}
 use Rattle.engine.specs.declared.engine.Engine.{Engine}
@@ -95,8 +95,8 @@ module _ {D : Type 0} {g : Ghosts D} (e : Engine D g) (new : HistoryValue) (olde
   pub numbers_are : (m : State) → StandsFor e m → bs ≡ map (λ r. r.1.begin) m.running
   numbers_are m h = numbers h.few_open ∙ begins_same e.history.committed.facts h.held m.base m.history e.running.entries m.running h.running
 
-  pub none_below : (m : State) → StandsFor e m → (n : ℕ) → n ≤ last m → AllByRecursion (λ r. n ≤ r.1.begin) m.running → (rs : List KeptRecord) → All (λ r. oldest < r.commit) rs → All (λ r. n < r.commit) rs
+  pub none_below : (m : State) → StandsFor e m → (n : ℕ) → n ≤ last m → AllByRecursion (λ r. n ≤ r.1.begin) m.running → (rs : List ReadRecord) → All (λ r. oldest < r.commit) rs → All (λ r. n < r.commit) rs
   none_below m h n low each rs above =
       let is = h.history.committed.last in
       let below : n ≤ oldest = least.greatest n (omega (arith, is)) (All-from_recursion (λ t. n ≤ t.begin) (values e.running) (begins_low e.history.committed.facts h.held m.base m.history n e.running.entries m.running h.running each)) in
-      All-weaker (λ (r : KeptRecord). oldest < r.commit) (λ (r : KeptRecord). n < r.commit) (λ r k. omega arith) rs above
+      All-weaker (λ (r : ReadRecord). oldest < r.commit) (λ (r : ReadRecord). n < r.commit) (λ r k. omega arith) rs above

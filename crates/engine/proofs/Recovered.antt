@@ -22,7 +22,7 @@ none_running facts held base history [] h = refl
 none_running facts held base history (_ ∷ _) h = elim h [ ]
 
 module _ {D : Type 0} {g : Ghosts D} where
-  pub opened_stands : (e : Engine D g) (map : KeyMap) (count : ℕ) → is_stopped e.log ≡ false → sector_count e.log ≡ count → HistoryStandsFor e.history (λ _. true) map [] → e.history.committed.facts ≡ record { records = []; oldest = 0; last = 0 }
+  pub opened_stands : (e : Engine D g) (map : KeyMap) (count : ℕ) → is_stopped e.log ≡ false → sector_count e.log ≡ count → HistoryStandsFor e.history (λ _. true) map [] → e.history.committed.facts ≡ record { records = []; postings = []; oldest = 0; last = 0 }
       → e.running.entries ≡ [] → (g.keeps_model → IsStored e.log map) → StandsFor e (opened map (used_sectors e.log) count)
   opened_stands e map count running size h facts none stored = record {
     reached = reached_opened map (used_sectors e.log) count h.versions.is_map;

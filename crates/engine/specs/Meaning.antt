@@ -19,7 +19,7 @@ use Rattle.engine.specs.declared.faults.ReadFault.TheVariants as reads
 use Rattle.versions.specs.Chains.{ChainsValue}
 use Rattle.snapshot.specs.Made.{is_refused}
 use Rattle.engine.specs.Recovery.{HoldsMap, committed_map}
-use Rattle.pivot_check.specs.Kept.{KeptRecord}
+use Rattle.pivot_check.specs.Kept.{ReadRecord}
 pub use Rattle.engine.specs.StandsFor.{StandsFor}
 
 -- the device, how many of its calls have failed, and whether one failed in a commit
@@ -80,7 +80,7 @@ IsReadOnly m s = (t : Running) → running_of m s ≡ Some t → writes (snapsho
 abbrev pub versions_of : {D : Type 0} {g : Ghosts D} → Engine D g → ChainsValue
 versions_of e = e.history.versions
 
-abbrev pub records_of : {D : Type 0} {g : Ghosts D} → Engine D g → List KeptRecord
+abbrev pub records_of : {D : Type 0} {g : Ghosts D} → Engine D g → List ReadRecord
 records_of e = e.history.committed.facts.records
 
 -- what a crash may leave at a moment of a COMMIT: the map committed before it, or that with the transaction's writes; of a store that was

@@ -5,13 +5,14 @@ use Rattle.model.specs.History.{map_at}
 use Rattle.model.specs.Machine.{State}
 use Rattle.sector.specs.declared.device.Sectors.{Ghosts}
 use Rattle.commit_log.specs.declared.log.Log.{Log}
+use Rattle.commit_log.specs.Format.{current}
 use Rattle.commit_log.specs.LogImage.{IsLogImage}
 use Rattle.commit_log.specs.LogState.{StandsFor as LogStandsFor}
 use Rattle.commit_log.specs.Recovery.{map_after}
 
 -- the image is that of a log whose write sets make this map
 abbrev pub HoldsMap : List (List ℕ) → KeyMap → Type 0
-HoldsMap image map = (lists : List (List KeyWrite)) × IsLogImage lists image × (map_after [] lists ≡ map)
+HoldsMap image map = (lists : List (List KeyWrite)) × IsLogImage current lists image × (map_after [] lists ≡ map)
 
 -- the map with all that has committed
 abbrev pub committed_map : State → KeyMap

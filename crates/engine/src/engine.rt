@@ -1,4 +1,6 @@
 //! The engine.
+ghost use Rattle.model.specs.Bounds.{value_max};
+
 use crate::faults::EngineFault;
 use crate::history::History;
 use crate::reclaiming::{begins, oldest_begin};
@@ -69,7 +71,7 @@ impl<D: Sectors> Engine<D> {
     /// Refusals: `NotOpen`; `FullWrites` for a 65th written key. It may take a copy of the key and one of the value, and room for a write;
     /// `Memory` where that is refused.
     pub fn set(&mut self, s: u64, key: KeyRef<'_>, value: &[u8]) -> Result<(), EngineFault>
-        requires { length value.now ≤ 4096 }
+        requires { length value.now ≤ value_max }
         ensures step { Leads self.old self.new s (Set key.entry.bytes.now value.now) false (response_to (λ _. Done) result) }
         ensures device { device_of self.new ≡ device_of self.old }
     {

@@ -36,7 +36,7 @@ impl History {
     /// Nothing has committed over this map.
     pub(crate) fn over(alloc: Global, map: Map) -> Result<History, Memory>
         ensures stands { IfOk result (λ h. HistoryStandsFor h (λ _. true) map []) }
-        ensures empty { IfOk result (λ h. h.committed.facts ≡ record { records = []; oldest = 0; last = 0 }) }
+        ensures empty { IfOk result (λ h. h.committed.facts ≡ record { records = []; postings = []; oldest = 0; last = 0 }) }
     {
         Ok(History {
             versions: Versions::from_map(alloc, map)?,

@@ -12,7 +12,10 @@ impl<D: Sectors> Engine<D> {
     ghost use Rattle.model.specs.Machine.{State, opened};
     ghost use Rattle.sector.specs.Failures.{Rose, Stayed};
     ghost use Rattle.sector.specs.SectorModel.{LeavesOnly};
-    ghost use Rattle.commit_log.specs.LogImage.{IsLogImage, IsDamaged, IsNoLog, span};
+    ghost use Rattle.commit_log.specs.declared.formats.LogFormat.{LogFormat};
+    ghost use Rattle.commit_log.specs.declared.formats.LogFormat.TheVariants.{One};
+    ghost use Rattle.commit_log.specs.Format.{current};
+    ghost use Rattle.commit_log.specs.LogImage.{IsLogImage, IsDamaged, HasHead, IsNoLog, span};
     ghost use Rattle.commit_log.specs.LogFaults.{IsDeviceOrMemory, IsOpenFault};
     ghost use Rattle.commit_log.specs.Reading.{ReadsAs};
     ghost use Rattle.commit_log.specs.Recovery.{map_after};
@@ -35,14 +38,16 @@ impl<D: Sectors> Engine<D> {
 
         // A log is opened with the map that its write sets make.
         ensures found { D.keeps_model → (disk : List (List ℕ)) (lists : List (List KeyWrite)) → length disk ≡ D.size dev → ReadsAs (D.may_read dev) disk
-            → IsLogImage lists disk → MatchResult result (λ e. StandsFor e (opened (map_after [] lists) (2 + span lists) (D.size dev))) IsDeviceOrMemory }
+            → IsLogImage current lists disk → MatchResult result (λ e. StandsFor e (opened (map_after [] lists) (2 + span lists) (D.size dev))) IsDeviceOrMemory }
         ensures damaged { D.keeps_model → (disk : List (List ℕ)) (lists : List (List KeyWrite)) → length disk ≡ D.size dev → ReadsAs (D.may_read dev) disk
-            → IsDamaged lists disk → IsErrAnd result (λ e. (e ≡ LogFault.Damaged (length lists)) ⊎ IsDeviceOrMemory e) }
+            → IsDamaged current lists disk → IsErrAnd result (λ e. (e ≡ LogFault.Damaged (length lists)) ⊎ IsDeviceOrMemory e) }
         ensures no_log { D.keeps_model → (disk : List (List ℕ)) → length disk ≡ D.size dev → ReadsAs (D.may_read dev) disk
-            → IsNoLog disk → IsErrAnd result (λ e. (e ≡ LogFault.NotALog) ⊎ IsDeviceOrMemory e) }
+            → ((f : LogFormat) → IsNoLog f disk) → IsErrAnd result (λ e. (e ≡ LogFault.NotALog) ⊎ IsDeviceOrMemory e) }
+        ensures older { D.keeps_model → (disk : List (List ℕ)) → length disk ≡ D.size dev → ReadsAs (D.may_read dev) disk
+            → HasHead One disk → IsErrAnd result (λ e. (e ≡ LogFault.OldFormat) ⊎ IsDeviceOrMemory e) }
 
         // Where each crash leaves some log, one is found.
-        ensures undamaged { D.keeps_model → ((c : List (List ℕ)) → D.may_leave dev c → (lists : List (List KeyWrite)) × IsLogImage lists c) → IfErr result IsDeviceOrMemory }
+        ensures undamaged { D.keeps_model → ((c : List (List ℕ)) → D.may_leave dev c → (lists : List (List KeyWrite)) × IsLogImage current lists c) → IfErr result IsDeviceOrMemory }
 
         // During the call a crash leaves what one before it could have left.
         ensures during { D.keeps_model → IfOk result (λ e. LeavesOnly D.moment D.left_since dev (device_of e) (D.may_leave dev)) }

@@ -55,8 +55,13 @@ pub(crate) fn store<D: Sectors>(
         Ok(_) => Ok(()),
         Err(LogFault::Memory) => Err(StoreFault::Memory),
         Err(LogFault::Device) => Err(StoreFault::Device),
-        Err(LogFault::NotALog | LogFault::Damaged(_) | LogFault::Full | LogFault::Stopped) => {
-            unreachable!()
-        }
+        Err(
+            LogFault::NotALog
+            | LogFault::Damaged(_)
+            | LogFault::Full
+            | LogFault::Stopped
+            | LogFault::OldFormat
+            | LogFault::NotEmpty,
+        ) => { unreachable!() }
     }
 }

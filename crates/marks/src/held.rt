@@ -1,21 +1,56 @@
 //! One mark.
+ghost use Rattle.std.specs.Prelude.{◌≡◌, option_map};
+
+use crate::lent::MarkRef;
 use model::{Key, KeyRef, Memory, Range, RangeRef};
 use std::alloc::Global;
 
 /// A mark that owns its keys.
 #[derive(Drop)]
-pub(crate) enum Held {
+pub enum Held {
+    /// The key.
     Key(Key),
+    /// All keys of the range.
     Range(Range),
     /// From the first key to the last, both included.
     ClosedRange { lo: Key, last: Key },
 }
 
+// Lends the bounds of a range.
+fn lend_range(range: &Range) -> RangeRef<'_>
+    ensures lo { result.lo.bytes.now ≡ range.now.lo }
+    ensures hi { option_map (λ k. k.bytes.now) result.hi ≡ range.now.hi }
+{
+    let lo = range.lo.lend();
+    match &range.hi {
+        None => RangeRef { lo, hi: None },
+        Some(hi) => RangeRef {
+            lo,
+            hi: Some(hi.lend()),
+        },
+    }
+}
+
 impl Held {
-    ghost use Rattle.std.specs.Prelude.{◌≡◌, IfOk};
+    ghost use Rattle.std.specs.Prelude.{IfOk};
     ghost use Rattle.marks.specs.Marked.{mark_of, range_mark};
+    ghost use Rattle.marks.specs.Lent.{lent_mark};
     ghost use Rattle.model.specs.PrivateCopy.{covers, is_same_mark};
     ghost use Rattle.model.specs.PrivateCopy.Mark.{OfKey, OfClosedRange};
+
+    /// Lends the mark. Takes no memory.
+    pub fn lend(&self) -> MarkRef<'_>
+        ensures { lent_mark result ≡ mark_of self.now }
+    {
+        match self {
+            Held::Key(key) => MarkRef::Key(key.lend()),
+            Held::Range(range) => MarkRef::Range(lend_range(range)),
+            Held::ClosedRange { lo, last } => MarkRef::ClosedRange {
+                lo: lo.lend(),
+                last: last.lend(),
+            },
+        }
+    }
 
     // The same mark once more.
     pub(crate) fn copy(&self) -> Result<Held, Memory>

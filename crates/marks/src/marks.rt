@@ -6,7 +6,7 @@ ghost use Rattle.model.specs.PrivateCopy.{is_covered};
 ghost use Rattle.model.specs.Map.{key_cmp};
 ghost use Rattle.model.specs.PrivateCopy.Mark.{OfKey, OfClosedRange};
 ghost use Rattle.marks.specs.Sorted.{is_rising};
-ghost use Rattle.marks.specs.Marked.{has_mark, is_full_for, with_mark, range_mark};
+ghost use Rattle.marks.specs.Marked.{has_mark, is_full_for, marks_of, with_mark, range_mark};
 
 use crate::faults::MarksFault;
 use crate::held::Held;
@@ -44,6 +44,13 @@ impl Marks {
         Marks {
             held: Vec::new(alloc),
         }
+    }
+
+    /// Lends the marks, in the order in which they were made. Takes no memory.
+    pub fn held(&self) -> &[Held]
+        ensures { marks_of result.now ≡ self.now }
+    {
+        &self.held
     }
 
     /// Is the key among the reads, that is, does some mark cover it? Takes no memory.

@@ -17,10 +17,11 @@ use std::time::{Duration, Instant};
 use std::{env, io};
 use versions::Versions;
 
-// What one run took: the commits beside the old transaction, and its own.
+// What one run took: the commits beside the old transaction, the longest of them, and its own.
 #[derive(Clone, Copy)]
 struct Times {
     beside: Duration,
+    longest: Duration,
     own: Duration,
 }
 
@@ -52,7 +53,7 @@ fn one_beside(
     }
 }
 
-// Commits transactions of the load beside an old one: how long that took.
+// Commits transactions of the load beside an old one: how long that took, and the longest of them.
 fn all_beside(
     rt: &impl Runtime,
     alloc: Global,
@@ -60,28 +61,40 @@ fn all_beside(
     committed: &mut Committed,
     commits: u64,
     load: Load,
-) -> Result<Duration, BenchError> {
+) -> Result<(Duration, Duration), BenchError> {
     let mut beside = Duration::ZERO;
+    let mut longest = Duration::ZERO;
     for number in 0..commits {
         let took = one_beside(rt, alloc, versions, committed, number, load)?;
         beside = beside.saturating_add(took);
+        longest = longest.max(took);
     }
-    Ok(beside)
+    Ok((beside, longest))
 }
 
-// Commits `commits` transactions of the load beside one that began before them, and then that one.
-fn run(rt: &impl Runtime, alloc: Global, commits: u64, load: Load) -> Result<Times, BenchError> {
+// Commits `commits` transactions of the load beside one of its own load that began before them, and then that one.
+fn run(
+    rt: &impl Runtime,
+    alloc: Global,
+    commits: u64,
+    load: Load,
+    own_load: Load,
+) -> Result<Times, BenchError> {
     let versions = Versions::from_map(alloc, Map::new(alloc))?;
-    let old = transaction(alloc, &versions, 0, commits, load)?;
+    let old = transaction(alloc, &versions, 0, commits, own_load)?;
     let mut committed = Committed::new(alloc);
-    let beside = all_beside(rt, alloc, &versions, &mut committed, commits, load)?;
+    let (beside, longest) = all_beside(rt, alloc, &versions, &mut committed, commits, load)?;
     let kept = committed.kept();
     let (verdict, own) = timed(rt, &mut committed, &old)?;
     println!(rt;
         "{commits} commits of {} marks and {} writes: {kept} records kept, the old transaction's own commit is {verdict:?}",
         load.marks, load.writes
     )?;
-    Ok(Times { beside, own })
+    Ok(Times {
+        beside,
+        longest,
+        own,
+    })
 }
 
 fn report(rt: &impl Runtime, times: Times) -> io::Result<()> {
@@ -89,6 +102,7 @@ fn report(rt: &impl Runtime, times: Times) -> io::Result<()> {
         "  beside the old transaction: {} us",
         times.beside.as_micros()
     )?;
+    println!(rt; "  the longest of them: {} us", times.longest.as_micros())?;
     println!(rt; "  its own commit: {} us", times.own.as_micros())
 }
 
@@ -102,12 +116,18 @@ fn main(rt: HostRuntime) -> Result<(), BenchError> {
         marks: 256,
         writes: 64,
     };
+    let writer = Load {
+        marks: 0,
+        writes: 64,
+    };
     if env::args(&rt)?.nth(1).is_none() {
-        run(&rt, alloc, 20, small)?;
-        run(&rt, alloc, 2, large)?;
+        run(&rt, alloc, 20, small, small)?;
+        run(&rt, alloc, 2, large, large)?;
         return Ok(());
     }
-    report(&rt, run(&rt, alloc, 100_000, small)?)?;
-    report(&rt, run(&rt, alloc, 1_000, large)?)?;
+    report(&rt, run(&rt, alloc, 100_000, small, small)?)?;
+    report(&rt, run(&rt, alloc, 1_000, large, large)?)?;
+    report(&rt, run(&rt, alloc, 10_000, writer, large)?)?;
+    report(&rt, run(&rt, alloc, 100_000, writer, large)?)?;
     Ok(())
 }

@@ -1,15 +1,14 @@
 -- What is kept decides the verdict over the whole history, and stays what is kept of it.
 use Rattle.std.proofs.Common.{◌≡◌, ℕ, zero, suc, ◌+◌, ◌<◌, ◌≤◌, Bool, true, false, not, cond, ◌&&◌, List, [], ◌∷◌, ◌++◌, Option, Some, None, refl, sym, ap, subst, ◌∙◌, length, length-append, length-drop, drop, ◌-◌, map, arith, inl, inr}
 use Rattle.std.specs.Prelude.{nat_lt, ◌==◌, find, max}
-use Rattle.std.specs.List.{list_any, filter, position}
+use Rattle.std.specs.List.{list_any, filter}
 use Rattle.std.specs.Option.{option_map}
 use Rattle.std.proofs.lemmas.Bool.{or_left, lt-ltb, le-ltb, ltb-true, ltb-false, cases_lt, false_from_ne_true}
 use Rattle.std.proofs.lemmas.Bool.Decides.{nat_tests}
 use Rattle.std.proofs.lemmas.List.Elements.{All-contains, All-from_recursion, filter-append}
 use Rattle.std.proofs.lemmas.List.{map-append, length-map}
-use Rattle.model.specs.declared.refusals.Refusal.{Refusal}
 use Rattle.model.specs.declared.refusals.Refusal.TheVariants as refusal
-use Rattle.model.specs.Map.{Bytes, KeyWrite, is_same_key}
+use Rattle.model.specs.Map.{Bytes, is_same_key}
 use Rattle.model.specs.PrivateCopy.{is_covered}
 use Rattle.model.specs.History.{Record, IsNumberedFrom}
 use Rattle.model.specs.Dependency.{writes_key, reads_from, concurrent_read_write, is_dangerous_pivot}
@@ -18,11 +17,9 @@ use Rattle.model.proofs.Members.{In, at_in, each_in, Contains-from_in, in_from_C
 use Rattle.model.proofs.Machines.{in_append_cases, numbered-append, commit_low, clear_from}
 use Rattle.model.proofs.Pivots.{any_filter, any_same, find_alike, find_same, read_write_kept, has_earlier_target, stands_between, earlier_target-push, own_earlier_target, verdict_by_kept}
 use Rattle.snapshot.specs.View.{View}
-use Rattle.pivot_check.specs.Kept.{KeptRecord, Facts, key_of, keys_of, since, is_written, leads_to, follows, becomes_pivot, first_number, last_that, last_number, are_in_order, is_own_pivot, own_record, IsInReach}
-use Rattle.pivot_check.specs.declared.verdict.Verdict.{Verdict}
-use Rattle.pivot_check.specs.declared.verdict.Verdict.TheVariants.{Overwritten}
-use Rattle.pivot_check.specs.StandsFor.{StandsFor, IsRecordOf, IsClear, Says, verdict_found, kept_of, kept_above}
-use Rattle.pivot_check.proofs.Lists.{any-map, find-map, last_that-map, last_that_same, map_same, drop-map, drop-nil, found_at, found_nowhere}
+use Rattle.pivot_check.specs.Kept.{KeptRecord, KeptFacts, key_of, keys_of, since, is_written, leads_to, follows, becomes_pivot, first_number, last_that, last_number, are_in_order, is_own_pivot, own_record, IsKeptReach}
+use Rattle.pivot_check.specs.StandsFor.{KeptStandsFor, IsRecordOf, kept_of, kept_above}
+use Rattle.pivot_check.proofs.Lists.{any-map, find-map, last_that-map, last_that_same, map_same, drop-map, drop-nil}
 use Rattle.pivot_check.proofs.Ends.{by_ends}
 
 in_filter : {X : Type 0} (p : X → Bool) (xs : List X) (x : X) → In x (filter p xs) → In x xs
@@ -96,7 +93,7 @@ sides a b c d e b' c' d' e' = (λ i. a && b' i && not (c' i) && (d' i && e' i)) 
     by true = refl
     by false = refl
 
-module _ (f : Facts) (history : List Record) (s : StandsFor f history) (t : View) (reach : IsInReach f t) (r : Record) (own : IsRecordOf t (f.last + 1) r) where
+module _ (f : KeptFacts) (history : List Record) (s : KeptStandsFor f history) (t : View) (reach : IsKeptReach f t) (r : Record) (own : IsRecordOf t (f.last + 1) r) where
   abbrev kept : List Record
   kept = filter (λ p. nat_lt f.oldest p.commit) history
 
@@ -243,27 +240,6 @@ module _ (f : Facts) (history : List Record) (s : StandsFor f history) (t : View
   verdict_is = verdict_by_kept history r t.begin low before_new s.no_pivot
       ∙ (λ i. conflict_of (overwritten i) (cond (between i) (Some refusal.PivotSelf) (first_pivot i)))
 
-  abbrev overwrites : KeyWrite → Bool
-  overwrites w = is_written records w.0
-
-  abbrev pivots_say : Option Refusal
-  pivots_say = cond (is_own_pivot records t) (Some refusal.PivotSelf) (option_map refusal.Pivot (first_number (becomes_pivot t) records))
-
-  pub says_overwritten : (i : ℕ) → Some i ≡ position overwrites t.writes → Says (Overwritten i) t.writes (verdict history r)
-  says_overwritten i e = let at = found_at overwrites ([], None) t.writes i (sym e) in
-      (at.0, at.1, verdict_is ∙ ap (λ o. conflict_of o pivots_say) at.2)
-
-  -- what is answered where it overwrites no concurrent commit
-  pub says_found : None ≡ position overwrites t.writes → (self : Bool) → self ≡ is_own_pivot records t
-      → (other : Option ℕ) → other ≡ first_number (becomes_pivot t) records → (v : Verdict) → v ≡ verdict_found self other → Says v t.writes (verdict history r)
-  says_found none self self_is other other_is v v_is = subst (λ (v : Verdict). Says v t.writes (verdict history r)) (sym v_is) (found self other
-      (verdict_is ∙ ap (λ o. conflict_of o pivots_say) (found_nowhere overwrites t.writes (sym none)) ∙ (λ i. cond (sym self_is i) (Some refusal.PivotSelf) (option_map refusal.Pivot (sym other_is i)))))
-    where
-      found : (self : Bool) (other : Option ℕ) → verdict history r ≡ cond self (Some refusal.PivotSelf) (option_map refusal.Pivot other) → Says (verdict_found self other) t.writes (verdict history r)
-      found true other e = e
-      found false None e = e
-      found false (Some n) e = e
-
   -- ---- the transaction commits
   own_flag : has_earlier_target (history ++ r ∷ []) r ≡ list_any (λ k. follows k t) records
   own_flag = own_earlier_target history r before_new
@@ -291,7 +267,7 @@ module _ (f : Facts) (history : List Record) (s : StandsFor f history) (t : View
       new_is_kept : filter (λ p. nat_lt f.oldest p.commit) (r ∷ []) ≡ r ∷ []
       new_is_kept = ap (λ b. cond b (r ∷ []) []) (lt-ltb f.oldest r.commit (let c = own.commit in let a = reach.held in let b = reach.begun in omega arith))
 
-  pub stands_for : verdict history r ≡ None → StandsFor (record { records = f.records ++ own_record records t (f.last + 1) ∷ []; oldest = f.oldest; last = f.last + 1 }) (history ++ r ∷ [])
+  pub stands_for : verdict history r ≡ None → KeptStandsFor (record { records = f.records ++ own_record records t (f.last + 1) ∷ []; oldest = f.oldest; last = f.last + 1 }) (history ++ r ∷ [])
   stands_for clear =
       let free = clear_from history r clear in record {
         numbered = (let l = s.last in let c = own.commit in numbered-append 0 history r s.numbered (omega arith));
@@ -307,14 +283,6 @@ module _ (f : Facts) (history : List Record) (s : StandsFor f history) (t : View
         records = all_kept;
       }
 
--- the transaction commits as number n
-pub notes : (f : Facts) (history : List Record) → StandsFor f history → (t : View) → IsInReach f t → (n : ℕ) → n ≡ f.last + 1 → (r : Record) → IsRecordOf t n r → IsClear f t
-    → StandsFor (record { records = f.records ++ own_record (since f t.begin) t n ∷ []; oldest = f.oldest; last = n }) (history ++ r ∷ [])
-notes f history s t reach n next r own clear =
-    let own' : IsRecordOf t (f.last + 1) r = subst (λ m. IsRecordOf t m r) next own in
-    subst (λ m. StandsFor (record { records = f.records ++ own_record (since f t.begin) t m ∷ []; oldest = f.oldest; last = m }) (history ++ r ∷ [])) (sym next)
-    (stands_for f history s t reach r own' (clear history s r own'))
-
 -- ---- forgetting
 
 pub filter-map : {A B : Type 0} (p : B → Bool) (v : A → B) (xs : List A) → filter p (map v xs) ≡ map v (filter (λ x. p (v x)) xs)
@@ -323,15 +291,3 @@ filter-map p v (x ∷ xs) = elim (p (v x)) as (λ b. cond b (v x ∷ filter p (m
   | true ↦ ap (λ ys. v x ∷ ys) (filter-map p v xs)
   | false ↦ filter-map p v xs
 ]
-
-pub forgets : (f : Facts) (history : List Record) (oldest : ℕ) → StandsFor f history
-    → StandsFor (record { records = filter (λ k. nat_lt oldest k.commit) f.records; oldest = max f.oldest oldest; last = f.last }) history
-forgets f history oldest s = record {
-  numbered = s.numbered;
-  begun = s.begun;
-  no_pivot = s.no_pivot;
-  last = s.last;
-  records = ap (filter (λ k. nat_lt oldest k.commit)) s.records
-      ∙ filter-map (λ k. nat_lt oldest k.commit) (kept_of history) (filter (λ p. nat_lt f.oldest p.commit) history)
-      ∙ ap (map (kept_of history)) (filter_filter f.oldest oldest history);
-}

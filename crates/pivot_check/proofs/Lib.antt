@@ -3,3 +3,9 @@ pub mod Ends
 pub mod Histories
 pub mod Rising
 pub mod Above
+pub mod Order
+pub mod Writers
+pub mod Adding
+pub mod Walks
+pub mod Judging
+pub mod Joined

@@ -1,15 +1,23 @@
--- The records of a `Committed` as contracts see them.
-use Rattle.std.specs.Prelude.{List, Option, map, option_map}
+-- What a `Committed` holds as contracts see it.
+use Rattle.std.specs.Prelude.{List, [], ◌∷◌, ◌++◌, Option, map, option_map}
 use Rattle.pivot_check.specs.declared.kept.Kept.{Kept}
+use Rattle.pivot_check.specs.declared.ready.Ready.{Ready}
+use Rattle.pivot_check.specs.declared.run.Run.{Run}
 use Rattle.model.specs.Map.{Bytes}
 use Rattle.model.specs.PrivateCopy.{Mark}
-use Rattle.pivot_check.specs.Kept.{KeptRecord}
+use Rattle.pivot_check.specs.Kept.{ReadRecord}
+use Rattle.pivot_check.specs.Postings.{Posting}
 
-abbrev pub record_of : Kept → KeptRecord
-record_of r = record { begin = r.begin; commit = r.commit; marks = r.marks; keys = r.keys.items; has_earlier_target = r.has_earlier_target }
+abbrev pub record_of : Kept → ReadRecord
+record_of r = record { commit = r.commit; marks = r.marks }
 
-abbrev pub records_of : List Kept → List KeptRecord
+abbrev pub records_of : List Kept → List ReadRecord
 records_of rs = map record_of rs
 
-abbrev pub ready_of : Option Kept → Option (List Mark × List Bytes)
+-- the postings of all runs, one run after another
+abbrev pub postings_in : List Run → List Posting
+postings_in [] = []
+postings_in (r ∷ rs) = r.written.items ++ postings_in rs
+
+abbrev pub ready_of : Option Ready → Option (List Mark × List Bytes)
 ready_of ready = option_map (λ r. (r.marks, r.keys.items)) ready

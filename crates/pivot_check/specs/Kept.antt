@@ -4,8 +4,9 @@ use Rattle.std.specs.List.{list_any, AllByRecursion}
 use Rattle.model.specs.Map.{Bytes, KeyWrite, is_same_key}
 use Rattle.model.specs.PrivateCopy.{Mark, is_covered}
 use Rattle.snapshot.specs.View.{View}
+use Rattle.pivot_check.specs.Postings.{Posting}
 
--- what is kept of a committed transaction: the marks of what it read, the keys that it wrote by rising key, and whether it has a
+-- what the check needs of a committed transaction: the marks of what it read, the keys that it wrote by rising key, and whether it has a
 -- read-write dependency to a concurrent one that committed before it
 pub record KeptRecord : Type 0 where
   pub begin : ℕ
@@ -15,8 +16,21 @@ pub record KeptRecord : Type 0 where
   pub has_earlier_target : Bool
 
 -- the records with a commit number above `oldest`, in the order of their commits, and the last commit number
-pub record Facts : Type 0 where
+pub record KeptFacts : Type 0 where
   pub records : List KeptRecord
+  pub oldest : ℕ
+  pub last : ℕ
+
+-- what is kept of the reads of a committed transaction
+pub record ReadRecord : Type 0 where
+  pub commit : ℕ
+  pub marks : List Mark
+
+-- what is kept of committed transactions: the reads of those with a commit number above `oldest`, in the order of their commits; the
+-- keys that they wrote, and perhaps some that older ones wrote; and the last commit number
+pub record Facts : Type 0 where
+  pub records : List ReadRecord
+  pub postings : List Posting
   pub oldest : ℕ
   pub last : ℕ
 
@@ -27,8 +41,11 @@ abbrev pub keys_of : List KeyWrite → List Bytes
 keys_of ws = map key_of ws
 
 -- the records that committed after `begin`: the commit numbers of the records kept are the last ones, without gaps
-abbrev pub since : Facts → ℕ → List KeptRecord
+abbrev pub since : KeptFacts → ℕ → List KeptRecord
 since f begin = drop (length f.records - (f.last - begin)) f.records
+
+abbrev pub reads_since : Facts → ℕ → List ReadRecord
+reads_since f begin = drop (length f.records - (f.last - begin)) f.records
 
 -- whether one of the records has written the key
 abbrev pub is_written : List KeptRecord → Bytes → Bool
@@ -85,8 +102,16 @@ own_record rs t n = record {
   has_earlier_target = list_any (λ r. follows r t) rs;
 }
 
--- the records committed after that number
-abbrev pub AreAbove : ℕ → List KeptRecord → Type 0
+-- whether a read-write dependency leads to the transaction that commits next from the concurrent one that has these reads
+abbrev pub is_source : View → ReadRecord → Bool
+is_source t r = list_any (is_covered r.marks) (keys_of t.writes)
+
+-- the commit number of the last of the reads that pass
+abbrev pub last_read : (ReadRecord → Bool) → List ReadRecord → Option ℕ
+last_read p rs = option_map (λ r. r.commit) (last_that p rs)
+
+-- the reads of transactions that committed after that number
+abbrev pub AreAbove : ℕ → List ReadRecord → Type 0
 AreAbove oldest rs = AllByRecursion (λ r. oldest < r.commit) rs
 
 -- a transaction that may ask: it began with a commit number that was given, and with none that was forgotten
@@ -94,14 +119,19 @@ pub record IsInReach (f : Facts) (t : View) : Type 0 where
   pub begun : t.begin ≤ f.last
   pub held : f.oldest ≤ t.begin
 
--- the memory that was made ready: free places for records, and the marks and keys of a record
+pub record IsKeptReach (f : KeptFacts) (t : View) : Type 0 where
+  pub begun : t.begin ≤ f.last
+  pub held : f.oldest ≤ t.begin
+
+-- the memory that was made ready: free places for reads and for runs of written keys, and the marks and keys of a transaction
 pub record Room : Type 0 where
   pub places : ℕ
+  pub runs : ℕ
   pub ready : Option (List Mark × List Bytes)
 
--- there is room for the transaction's record
+-- there is room for what is kept of the transaction
 abbrev pub HasRoom : Room → View → Type 0
-HasRoom room t = (0 < room.places) × (room.ready ≡ Some (t.marks, keys_of t.writes))
+HasRoom room t = (0 < room.places) × (0 < room.runs) × (room.ready ≡ Some (t.marks, keys_of t.writes))
 
 pub record CommittedValue : Type 0 where
   pub facts : Facts

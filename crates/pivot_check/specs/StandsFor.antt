@@ -1,5 +1,5 @@
 -- The histories for which what is kept stands, and what the check of a commit says about them.
-use Rattle.std.specs.Prelude.{◌≡◌, ℕ, ◌<◌, ◌+◌, Bool, true, false, ◌&&◌, List, Option, Some, None, map, nat_lt, length, All, slice_get, ⊤}
+use Rattle.std.specs.Prelude.{◌≡◌, ℕ, ◌<◌, ◌+◌, Bool, true, false, ◌&&◌, List, [], ◌∷◌, ◌++◌, Option, Some, None, map, nat_lt, length, All, slice_get, ⊤}
 use Rattle.std.specs.List.{list_any, filter}
 use Rattle.model.specs.declared.refusals.Refusal.{Refusal}
 use Rattle.model.specs.declared.refusals.Refusal.TheVariants as refusal
@@ -10,7 +10,8 @@ use Rattle.model.specs.History.{Record, IsNumberedFrom}
 use Rattle.model.specs.Dependency.{concurrent_read_write}
 use Rattle.model.specs.Verdict.{verdict, HasNoDangerousPivot}
 use Rattle.snapshot.specs.View.{View}
-use Rattle.pivot_check.specs.Kept.{KeptRecord, Facts, keys_of}
+use Rattle.pivot_check.specs.Kept.{KeptRecord, KeptFacts, ReadRecord, Facts, keys_of}
+use Rattle.pivot_check.specs.Postings.{Posting, postings_by, least}
 
 -- what is kept of a record of the history, the whole of which decides its flag
 abbrev pub kept_of : List Record → Record → KeptRecord
@@ -26,13 +27,36 @@ kept_of history r = record {
 abbrev pub kept_above : ℕ → List Record → List KeptRecord
 kept_above oldest history = map (kept_of history) (filter (λ r. nat_lt oldest r.commit) history)
 
+-- the records stand for the history
+pub record KeptStandsFor (f : KeptFacts) (history : List Record) : Type 0 where
+  pub numbered : IsNumberedFrom 0 history
+  pub begun : All (λ r. r.begin < r.commit) history
+  pub no_pivot : HasNoDangerousPivot history
+  pub last : f.last ≡ length history
+  pub records : f.records ≡ kept_above f.oldest history
+
+abbrev pub reads_of : KeptRecord → ReadRecord
+reads_of r = record { commit = r.commit; marks = r.marks }
+
+abbrev pub postings_of : KeptRecord → List Posting
+postings_of r = postings_by r.commit r.has_earlier_target r.keys
+
+abbrev pub all_postings : List KeptRecord → List Posting
+all_postings [] = []
+all_postings (r ∷ rs) = postings_of r ++ all_postings rs
+
+-- above that number the postings answer each question about single ones as the records' own do
+abbrev pub AreWriters : ℕ → List Posting → List KeptRecord → Type 0
+AreWriters oldest ps rs = (c : Posting → Bool) → least (λ p. nat_lt oldest p.number && c p) ps ≡ least c (all_postings rs)
+
 -- what is kept stands for the history
 pub record StandsFor (f : Facts) (history : List Record) : Type 0 where
   pub numbered : IsNumberedFrom 0 history
   pub begun : All (λ r. r.begin < r.commit) history
   pub no_pivot : HasNoDangerousPivot history
   pub last : f.last ≡ length history
-  pub records : f.records ≡ kept_above f.oldest history
+  pub reads : f.records ≡ map reads_of (kept_above f.oldest history)
+  pub writers : AreWriters f.oldest f.postings (kept_above f.oldest history)
 
 -- the record of the transaction that commits as number n
 pub record IsRecordOf (t : View) (n : ℕ) (r : Record) : Type 0 where

@@ -2,13 +2,18 @@
 ghost use Rattle.std.specs.Prelude.{◌≡◌, ◌+◌, ◌<◌, ◌≤◌, List, [], ◌∷◌, ◌++◌, length, max, nat_lt, All, OnOk, ◌-◌};
 ghost use Rattle.std.specs.List.{filter};
 ghost use Rattle.model.specs.History.{Record};
-ghost use Rattle.pivot_check.specs.Kept.{since, IsInReach, HasRoom};
+ghost use Rattle.pivot_check.specs.Kept.{reads_since, IsInReach, HasRoom};
 ghost use Rattle.pivot_check.specs.Inside.{records_of};
+ghost use Rattle.pivot_check.specs.Index.{answer_found};
 ghost use Rattle.pivot_check.specs.StandsFor.{StandsFor, IsRecordOf, IsVerdict, IsPlaced, IsClear};
 
-use crate::kept::Kept;
-use crate::records::{Findings, first_overwritten, has_target};
+use crate::kept::{Kept, last_source};
+use crate::merges::merge_runs;
+use crate::ready::Ready;
+use crate::run::Run;
+use crate::runs::{add_run, first_overwritten, least_covered};
 use crate::verdict::Verdict;
+use crate::written::add_all;
 use model::Memory;
 use snapshot::Transaction;
 use std::alloc::Global;
@@ -16,30 +21,32 @@ use std::marker::Model;
 
 /// The committed transactions that an open one may still be concurrent with. A clause sees what is kept of them (`facts`), and the memory
 /// that was made ready (`room`). What is kept stands for histories: over each of them the answers are those of the definition, which
-/// looks at the whole history, and kept is what was noted less what was forgotten.
+/// looks at the whole history.
 ///
-/// Commit numbers have no gaps, so the records that are concurrent with a transaction are the last ones: each call looks at those alone.
+/// Kept are the marks of each, and the keys that they wrote, each with the number and the flag of its transaction. The keys stand in
+/// runs, each sorted by key, of transactions that committed one after another; runs of a like size are merged, so that few are left.
+/// Commit numbers have no gaps, so the marks of transactions that are concurrent with another are the last ones.
 #[derive(Drop)]
 pub struct Committed {
     records: Vec<Kept>,
+    runs: Vec<Run>,
     oldest: u64,
     last: u64,
-    // the next record, but for its numbers and its flag
-    ready: Option<Kept>,
+    // what the next commit needs
+    ready: Option<Ready>,
 }
 
 impl Model for Committed {
     ghost use Rattle.std.specs.Prelude.{◌-◌, ◌≤◌};
     ghost use Rattle.std.specs.Vec.{vec_len, vec_capacity};
     ghost use Rattle.pivot_check.specs.Kept.{CommittedValue, AreAbove};
+    ghost use Rattle.pivot_check.specs.Inside.{records_of, postings_in, ready_of};
 
     ghost Value = { CommittedValue };
 
-    ghost use Rattle.pivot_check.specs.Inside.{records_of, ready_of};
-
     ghost view = { λ c. record {
-      facts = record { records = records_of c.records.items; oldest = c.oldest; last = c.last };
-      room = record { places = vec_capacity c.records - vec_len c.records; ready = ready_of c.ready };
+      facts = record { records = records_of c.records.items; postings = postings_in c.runs.items; oldest = c.oldest; last = c.last };
+      room = record { places = vec_capacity c.records - vec_len c.records; runs = vec_capacity c.runs - vec_len c.runs; ready = ready_of c.ready };
     } };
 
     ghost invariant = { λ c. (c.oldest ≤ c.last) × AreAbove c.oldest (records_of c.records.items) };
@@ -48,11 +55,12 @@ impl Model for Committed {
 impl Committed {
     /// Nothing committed yet: stands for the empty history. Takes no memory.
     pub fn new(alloc: Global) -> Committed
-        ensures empty { result.facts ≡ record { records = []; oldest = 0; last = 0 } }
+        ensures empty { result.facts ≡ record { records = []; postings = []; oldest = 0; last = 0 } }
         ensures stands_for { StandsFor result.facts [] }
     {
         Committed {
             records: Vec::new(alloc),
+            runs: Vec::new(alloc),
             oldest: 0,
             last: 0,
             ready: None,
@@ -90,47 +98,107 @@ impl Committed {
         self.kept().saturating_sub(later as usize)
     }
 
-    // The records that committed after `begin`.
+    // The marks of those that committed after `begin`.
     fn since(&self, begin: u64) -> &[Kept]
-        ensures { records_of result.now ≡ since self.now.facts begin }
+        ensures { records_of result.now ≡ reads_since self.now.facts begin }
     {
         let start = self.start(begin);
         &self.records[start..]
+    }
+
+    // The answer where the transaction overwrites no concurrent commit. A transaction is a dangerous pivot where its first target committed
+    // no later than its last source.
+    fn answer(&self, tx: &Transaction) -> Verdict
+        ensures { result ≡ answer_found self.now.facts tx.now }
+    {
+        let begin = tx.begin();
+        let marks = tx.marks().held();
+        let Some(target) = least_covered(&self.runs, marks, begin, false) else {
+            return Verdict::Clear;
+        };
+        if let Some(source) = last_source(self.since(begin), tx) {
+            if target <= source {
+                return Verdict::PivotSelf;
+            }
+        }
+        match least_covered(&self.runs, marks, begin, true) {
+            Some(n) => Verdict::Pivot(n),
+            None => Verdict::Clear,
+        }
     }
 
     /// Whether the transaction may commit as the next number, by the definition over the whole history: it has overwritten no concurrent
     /// commit, and neither it nor a committed transaction would be a dangerous pivot (Cahill, Röhm, Fekete 2008; Ports, Grittner 2012). Of
     /// several reasons it names the least overwritten key, else the transaction itself, else the pivot of least commit number.
     ///
-    /// It looks at the concurrent records alone. For each it takes a binary search for each mark of the one side among the keys of the
-    /// other, and one for each written key. Takes no memory.
+    /// It takes a binary search in each run for each mark and each written key, and a walk over what was written under a mark; where the
+    /// transaction has read what a concurrent one wrote, also a search among its written keys for each mark of the concurrent ones.
+    /// Takes no memory.
     pub fn verdict(&self, tx: &Transaction) -> Verdict
         ensures verdict { IsInReach self.now.facts tx.now → IsVerdict self.now.facts tx.now result }
         ensures place { IsPlaced result tx.now.writes }
     {
-        let concurrent = self.since(tx.begin());
-        match first_overwritten(concurrent, tx.entries()) {
+        match first_overwritten(&self.runs, tx.entries(), tx.begin()) {
             Some(i) => Verdict::Overwritten(i),
-            None => Findings::of(concurrent, tx).verdict(),
+            None => self.answer(tx),
         }
     }
 
-    /// Makes room for the transaction's record, so that `note` can't fail. It takes a copy of its marks and of its written keys, and the
-    /// place of a record; where that is refused it answers `Memory`. What is kept is as it was in either case.
+    /// Makes room for what is kept of the transaction, so that `note` can't fail. It takes a copy of its marks and of its written keys, the
+    /// place of each of these keys, and the places of a record and of a run; where that is refused it answers `Memory`. What is kept is as
+    /// it was in either case.
     pub fn reserve(&mut self, tx: &Transaction) -> Result<(), Memory>
         ensures facts { self.new.facts ≡ self.old.facts }
         ensures room { OnOk result (HasRoom self.new.room tx.now) }
     {
         let alloc = *self.records.allocator();
-        let ready = Kept::copy_of(alloc, tx)?;
+        let ready = Ready::for_commit(alloc, tx)?;
         self.records.reserve(1)?;
+        self.runs.reserve(1)?;
         self.ready = Some(ready);
         Ok(())
     }
 
-    /// Keeps the record of the transaction, which commits as number `n`, the next one; the other records stay as they are. From each
-    /// history that is stood for it leads to that history with the new record. It looks at the concurrent records alone, as `verdict`
-    /// does, and no further than to the first that the transaction depends on. Takes no memory: `reserve` made room.
+    // Adds the record of the transaction, in the room that was made for it.
+    fn add_record(&mut self, tx: &Transaction, n: u64)
+        requires next { n ≡ self.old.facts.last + 1 }
+        requires room { HasRoom self.old.room tx.now }
+        ensures stands_for { IsInReach self.old.facts tx.now → IsClear self.old.facts tx.now → (h : List Record) → StandsFor self.old.facts h → (r : Record) → IsRecordOf tx.now n r → StandsFor self.new.facts (h ++ r ∷ []) }
+        ensures last { self.new.facts.last ≡ n }
+        ensures oldest { self.new.facts.oldest ≡ self.old.facts.oldest }
+    {
+        let target = least_covered(&self.runs, tx.marks().held(), tx.begin(), false);
+        let has_earlier_target = target.is_some();
+        let Some(ready) = self.ready.take() else {
+            unreachable!()
+        };
+        let Ready {
+            marks,
+            keys,
+            mut places,
+        } = ready;
+        match self.records.push(Kept { commit: n, marks }) {
+            Ok(()) => {}
+            Err(_) => unreachable!(),
+        }
+        add_all(&mut places, keys, n, has_earlier_target);
+        add_run(&mut self.runs, places, n);
+        self.last = n;
+    }
+
+    // Merges the last runs where they are of a like size.
+    fn merge(&mut self)
+        ensures stands_for { (h : List Record) → StandsFor self.old.facts h → StandsFor self.new.facts h }
+        ensures records { self.new.facts.records ≡ self.old.facts.records }
+        ensures oldest { self.new.facts.oldest ≡ self.old.facts.oldest }
+        ensures last { self.new.facts.last ≡ self.old.facts.last }
+    {
+        merge_runs(&mut self.runs);
+    }
+
+    /// Keeps what the check needs of the transaction, which commits as number `n`, the next one. From each history that is stood for it
+    /// leads to that history with the new record. It takes a binary search in each run for each mark. It can't fail: `reserve` made room.
+    /// Then it merges the last runs where they are of a like size and there is memory for that; where it is refused they stay.
     pub fn note(&mut self, tx: &Transaction, n: u64)
         requires next { n ≡ self.old.facts.last + 1 }
         requires room { HasRoom self.old.room tx.now }
@@ -138,23 +206,13 @@ impl Committed {
         ensures last { self.new.facts.last ≡ n }
         ensures oldest { self.new.facts.oldest ≡ self.old.facts.oldest }
     {
-        let has_earlier_target = has_target(self.since(tx.begin()), tx);
-        let Some(mut own) = self.ready.take() else {
-            unreachable!()
-        };
-        own.begin = tx.begin();
-        own.commit = n;
-        own.has_earlier_target = has_earlier_target;
-        match self.records.push(own) {
-            Ok(()) => {}
-            Err(_) => unreachable!(),
-        }
-        self.last = n;
+        self.add_record(tx, n);
+        self.merge();
     }
 
-    /// Drops the records of the transactions that committed at or before number `oldest`: from then on none may ask that began before it.
-    /// What is left stands for the same histories, since a record's flag was fixed when it was noted. Constant time where `oldest` isn't
-    /// above `self.oldest()`, else one pass over the records. Takes no memory.
+    /// Drops what was kept of the transactions that committed at or before number `oldest`, from the runs as soon as the whole run is as
+    /// old: from then on none may ask that began before it. What is left stands for the same histories, since a flag was fixed when it was
+    /// noted. Constant time where `oldest` isn't above `self.oldest()`, else one pass over the records and the runs. Takes no memory.
     pub fn forget(&mut self, oldest: u64)
         requires { oldest ≤ self.old.facts.last }
         ensures stands_for { (h : List Record) → StandsFor self.old.facts h → StandsFor self.new.facts h }
@@ -164,6 +222,7 @@ impl Committed {
     {
         if oldest > self.oldest {
             self.records.retain(|kept| oldest < kept.commit);
+            self.runs.retain(|run| oldest < run.last);
             self.oldest = oldest;
         }
     }

@@ -8,8 +8,13 @@
 
 mod committed;
 mod kept;
-mod records;
+mod merges;
+mod merging;
+mod ready;
+mod run;
+mod runs;
 mod verdict;
+mod written;
 
 pub use committed::Committed;
 pub use verdict::Verdict;

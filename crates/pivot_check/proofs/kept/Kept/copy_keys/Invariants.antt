@@ -1,7 +1,0 @@
-use Rattle.std.proofs.Common.{◌≡◌, take}
-use Rattle.pivot_check.specs.Kept.{keys_of}
-use Rattle.pivot_check.proofs.kept.Kept.copy_keys.Given as goal
-
--- the keys so far are those of the first writes
-abbrev pub invariant-loop-write : goal.invariant-loop-write
-invariant-loop-write l = l.keys.items ≡ keys_of (take l.write-index l.writes)

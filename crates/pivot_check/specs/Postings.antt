@@ -1,0 +1,48 @@
+-- Written keys of committed transactions, and the least number among them.
+use Rattle.std.specs.Prelude.{ℕ, min, Bool, true, not, ◌&&◌, ◌||◌, List, [], ◌∷◌, Option, Some, None, is_some, if◌then◌else◌, nat_lt}
+use Rattle.std.specs.List.{list_all}
+use Rattle.std.specs.Ordering.{is_le, is_lt}
+use Rattle.model.specs.Map.{Bytes, key_cmp}
+use Rattle.model.specs.PrivateCopy.{Mark, covers, is_covered}
+
+-- a written key, with the commit number and the flag of the transaction that wrote it
+pub record Posting : Type 0 where
+  pub key : Bytes
+  pub number : ℕ
+  pub has_earlier_target : Bool
+
+-- the keys that the transaction with this commit number and flag wrote
+abbrev pub postings_by : ℕ → Bool → List Bytes → List Posting
+postings_by n flag [] = []
+postings_by n flag (k ∷ ks) = record { key = k; number = n; has_earlier_target = flag } ∷ postings_by n flag ks
+
+-- the lesser of two numbers that may be there
+abbrev pub lesser : Option ℕ → Option ℕ → Option ℕ
+lesser None o = o
+lesser (Some n) None = Some n
+lesser (Some n) (Some m) = Some (min n m)
+
+-- the least number of the postings that pass
+abbrev pub least : (Posting → Bool) → List Posting → Option ℕ
+least c [] = None
+least c (p ∷ ps) = lesser (if c p then Some p.number else None) (least c ps)
+
+-- what is asked of a posting: its key is covered, its number above b, and it has the flag where that is asked
+abbrev pub asked_of : Mark → ℕ → Bool → Posting → Bool
+asked_of m b flagged p = covers m p.key && (nat_lt b p.number && (p.has_earlier_target || not flagged))
+
+abbrev pub covered_of : List Mark → ℕ → Bool → Posting → Bool
+covered_of ms b flagged p = is_covered ms p.key && (nat_lt b p.number && (p.has_earlier_target || not flagged))
+
+-- the postings stand by rising key, those of one key beside one another
+abbrev pub keys_rise : List Posting → Bool
+keys_rise [] = true
+keys_rise (p ∷ ps) = list_all (λ q. is_le (key_cmp p.key q.key)) ps && keys_rise ps
+
+-- whether no posting has a key below this one
+abbrev pub are_from : Bytes → List Posting → Bool
+are_from low ps = list_all (λ p. not (is_lt (key_cmp p.key low))) ps
+
+-- whether no posting has a number above this one
+abbrev pub are_upto : ℕ → List Posting → Bool
+are_upto last ps = not (is_some (least (λ p. nat_lt last p.number) ps))

@@ -1,0 +1,48 @@
+//! The memory for a commit.
+ghost use Rattle.std.specs.Prelude.{◌≡◌, ◌≤◌, ◌-◌, length, IfOk};
+ghost use Rattle.std.specs.Vec.{vec_len, vec_capacity};
+ghost use Rattle.pivot_check.specs.Kept.{keys_of};
+
+use crate::written::Written;
+use marks::Marks;
+use model::{Key, Memory, Write};
+use snapshot::Transaction;
+use std::alloc::Global;
+
+/// What was made ready for the commit of a transaction: copies of its marks and of its written keys, and places for these.
+#[derive(Drop)]
+pub(crate) struct Ready {
+    pub(crate) marks: Marks,
+    pub(crate) keys: Vec<Key>,
+    pub(crate) places: Vec<Written>,
+    ghost none: { length places.items ≡ 0 },
+    ghost room: { length keys.items ≤ vec_capacity places - vec_len places },
+}
+
+// Copies of the keys of the writes.
+fn copy_keys(alloc: Global, writes: &[Write]) -> Result<Vec<Key>, Memory>
+    ensures { IfOk result (λ keys. keys.items ≡ keys_of writes.now) }
+{
+    let mut keys = Vec::with_capacity(alloc, writes.len())?;
+    for write in writes {
+        keys.push(write.key.copy()?)?;
+    }
+    Ok(keys)
+}
+
+impl Ready {
+    // Makes it.
+    pub(crate) fn for_commit(alloc: Global, tx: &Transaction) -> Result<Ready, Memory>
+        ensures marks { IfOk result (λ r. r.marks ≡ tx.now.marks) }
+        ensures keys { IfOk result (λ r. r.keys.items ≡ keys_of tx.now.writes) }
+    {
+        let marks = tx.marks().copy()?;
+        let keys = copy_keys(alloc, tx.entries())?;
+        let places = Vec::with_capacity(alloc, keys.len())?;
+        Ok(Ready {
+            marks,
+            keys,
+            places,
+        })
+    }
+}
