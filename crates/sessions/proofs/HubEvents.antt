@@ -1,8 +1,9 @@
 -- A hub's events, evaluated by the definitions: joins that are refused, two requests in one piece, a count that is too great.
-use Rattle.std.proofs.Common.{lit≤, lit<, ◌<◌, ◌≡◌, ℕ, List, [], ◌∷◌, ◌++◌, take, false, refl}
+use Rattle.std.proofs.Common.{lit≤, lit<, ◌<◌, ◌≡◌, ℕ, suc, ◌-◌, List, [], ◌∷◌, ◌++◌, take, false, refl}
 use Rattle.std.specs.Prelude.{codes, replicate}
 use Rattle.std.specs.Fmt.{digits}
 use Rattle.std.proofs.lemmas.List.Elements.{All-from_recursion}
+use Rattle.model.specs.Bounds.{inbox_max}
 use Rattle.model.specs.CommandTable.{command_in, alone_in}
 use Rattle.model.specs.Grammar.{array_of_bulks, IsPart, IsRequest}
 use Rattle.model.specs.Machine.{opened, step}
@@ -27,7 +28,7 @@ events =
     (Joins 5, chosen More) ∷ (Joins 5, chosen More) ∷ (Joins 3, chosen More) ∷ (Serves 5, chosen More)
     ∷ (Receives 5 (ping ++ ping), chosen More) ∷ (Serves 5, chosen (Whole (codes "PING" ∷ []) 14)) ∷ (Serves 5, chosen More)
     ∷ (Sends 5 8, chosen More) ∷ (Sends 5 7, chosen More) ∷ (Serves 5, chosen (Whole (codes "PING" ∷ []) 14))
-    ∷ (Receives 5 (replicate 32769 0), chosen More) ∷ (Leaves 5, chosen More) ∷ (Sends 5 0, chosen More) ∷ []
+    ∷ (Receives 5 (replicate (suc inbox_max) 0), chosen More) ∷ (Leaves 5, chosen More) ∷ (Sends 5 0, chosen More) ∷ []
 
 abbrev after : ℕ → HubState
 after n = run start (take n events)
@@ -36,7 +37,7 @@ hub_events : outcomes start events ≡ Done ∷ Unknown ∷ Unknown ∷ Idle ∷
 unfolding start ping hub_step digits step command_in alone_in
 hub_events = refl
 
-hub_events-room : room_in (stream_of (after 5) 5) ≡ 32740
+hub_events-room : room_in (stream_of (after 5) 5) ≡ inbox_max - 28
 unfolding start ping hub_step digits step command_in alone_in
 hub_events-room = refl
 
@@ -44,7 +45,7 @@ hub_events-pending : pending_in (stream_of (after 6) 5) ≡ codes "+PONG" ++ 13 
 unfolding start ping hub_step digits step command_in alone_in
 hub_events-pending = refl
 
-hub_events-room-served : room_in (stream_of (after 6) 5) ≡ 32754
+hub_events-room-served : room_in (stream_of (after 6) 5) ≡ inbox_max - 14
 unfolding start ping hub_step digits step command_in alone_in
 hub_events-room-served = refl
 

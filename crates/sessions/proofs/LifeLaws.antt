@@ -18,7 +18,7 @@ use Rattle.sessions.specs.StandsFor.{StandsFor, device, is_stopped}
 use Rattle.sessions.specs.Crashes.{SurvivesCrash, IsStored, HoldsBeforeOrAfter, IsLeftByEvent}
 use Rattle.sessions.specs.Life.{MayFind, Holds, Survives, IsInDoubt, FoundAfter, FoundDuring}
 use Rattle.sessions.proofs.StreamLaws.{Moved, Rests, Lets, Steps, moved, by_if}
-use Rattle.sessions.proofs.RunLaws.{hub-stopped}
+use Rattle.sessions.proofs.RunLaws.{hub-stopped, stays_stopped}
 
 by_case : {A : Type 0} (P : A → Type 0) (b : Bool) (x y : A) → (b ≡ true → P x) → (b ≡ false → P y) → P (if b then x else y)
 by_case P true x y p q = p refl
@@ -144,10 +144,6 @@ module _ (h : HubState) (e : HubEvent) (c : Choice) where
       by_flag : (b : Bool) → c.failed ≡ b → c.failed ≡ true
       by_flag true is = is
       by_flag false is = let bad : false ≡ true = sym up ∙ sym (hub-quiet is) ∙ stop in absurd (cc)
-
-stays_stopped : (h : HubState) (es : List (HubEvent × Choice)) → h.machine.stopped ≡ true → (run h es).machine.stopped ≡ true
-stays_stopped h [] stop = stop
-stays_stopped h (e ∷ es) stop = stays_stopped (hub_step h e.0 e.1).0 es (hub-stopped h e.0 e.1 stop)
 
 -- ---- what may be found
 

@@ -98,6 +98,10 @@ hub-stopped h e c is = by_move (moved h e c)
     by_move (Lets s) = is
     by_move (Steps s q) = step-stopped h.machine s q c.failed is
 
+pub stays_stopped : (h : HubState) (es : List (HubEvent × Choice)) → h.machine.stopped ≡ true → (run h es).machine.stopped ≡ true
+stays_stopped h [] stop = stop
+stays_stopped h (e ∷ es) stop = stays_stopped (hub_step h e.0 e.1).0 es (hub-stopped h e.0 e.1 stop)
+
 -- the choice with this flag
 abbrev flag : Choice → Bool → Choice
 flag c b = record { front = c.front; refused = c.refused; failed = b }
@@ -192,6 +196,7 @@ no_events hub h risen law stands survives = record {
   one_failure = omega arith;
   stopped = λ some. absurd (omega (arith, some));
   risen_then = λ some. absurd (omega (arith, some));
+  none_then = λ stop. refl;
   stands = stands;
   lawful = lawful_run law h [] stands.reached tt;
   survives = survives;
@@ -224,6 +229,7 @@ module _ {D : Type 0} {g : Ghosts D} (old mid new : Hub D g) (h : HubState) (hs 
             one_failure = omega (arith, count, so_far.one_failure);
             stopped = λ some. (let P : HubState → Type 0 = λ x. x.machine.stopped ≡ true in subst P (sym (run-push h so_far.choices e n)) (hub-stopped there e n (so_far.stopped (omega (arith, count, some)))));
             risen_then = λ some. risen-later a b c ab bc (so_far.risen_then (omega (arith, count, some)));
+            none_then = λ stop. count ∙ so_far.none_then stop;
             stands = subst (StandsFor new) (sym (run-push h so_far.choices e n)) stands;
             lawful = lawful_run law h (pushed n) reached (possible-push h so_far.choices e n so_far.possible possible);
             survives = more n stands;
@@ -239,6 +245,7 @@ module _ {D : Type 0} {g : Ghosts D} (old mid new : Hub D g) (h : HubState) (hs 
             one_failure = omega (arith, count);
             stopped = λ some. (let P : HubState → Type 0 = λ y. y.machine.stopped ≡ true in subst P (sym (run-push h so_far.choices e n)) x.2);
             risen_then = λ some. risen-last a b c ab bc x.0;
+            none_then = λ stop. (let bad : false ≡ true = sym x.1 ∙ stays_stopped h so_far.choices stop in absurd (cc));
             stands = subst (StandsFor new) (sym (run-push h so_far.choices e n)) stands;
             lawful = lawful_run law h (pushed n) reached (possible-push h so_far.choices e n so_far.possible possible);
             survives = more n stands;
@@ -268,3 +275,71 @@ take_push (x ∷ xs) (suc i) d lt = ap (λ k. take k (x ∷ xs)) (let e : suc i 
 
 pub map_take_push : {A B : Type 0} (f : A → B) (xs : List A) (i : ℕ) (d : A) → i < length xs → map f (take (i + 1) xs) ≡ map f (take i xs) ++ f (get_or xs i d) ∷ []
 map_take_push f xs i d lt = ap (map f) (take_push xs i d lt) ∙ map-append f (take i xs) (get_or xs i d ∷ [])
+
+-- ---- runs that follow each other
+
+run-append : (h : HubState) (es fs : List (HubEvent × Choice)) → run h (es ++ fs) ≡ run (run h es) fs
+run-append h [] fs = refl
+run-append h (e ∷ es) fs = run-append (hub_step h e.0 e.1).0 es fs
+
+possible-append : (h : HubState) (es fs : List (HubEvent × Choice)) → ArePossible h es → ArePossible (run h es) fs → ArePossible h (es ++ fs)
+possible-append h [] fs first second = second
+possible-append h (e ∷ es) fs first second = (first.0, possible-append (hub_step h e.0 e.1).0 es fs first.1 second)
+
+failures-append : (es fs : List (HubEvent × Choice)) → failures_in (es ++ fs) ≡ failures_in es + failures_in fs
+failures-append [] fs = omega arith
+failures-append (e ∷ es) fs =
+    let rest = failures-append es fs in
+    elim e.1.failed as (λ b. (if b then failures_in (es ++ fs) + 1 else failures_in (es ++ fs)) ≡ (if b then failures_in es + 1 else failures_in es) + failures_in fs) [
+      | true ↦ omega (arith, rest)
+      | false ↦ rest
+    ]
+
+either : (m n : ℕ) → 1 ≤ m + n → (1 ≤ m) ⊎ (1 ≤ n)
+either zero n le = inr (omega (arith, le))
+either (suc m) n le = inl (omega arith)
+
+module _ {D : Type 0} {g : Ghosts D} (old mid new : Hub D g) (h : HubState) (hs gs : List HubEvent) (a b c : ℕ) (ab : a ≤ b) (bc : b ≤ c)
+    (law : MachineLaw) (reached : IsReachedHub h) (first : Runs old mid h hs (has_risen a b)) (second : Runs mid new (run h first.choices) gs (has_risen b c))
+    (survive : g.keeps_model → Survives old new h (first.choices ++ second.choices)) where
+  abbrev es : List (HubEvent × Choice)
+  es = first.choices
+
+  abbrev fs : List (HubEvent × Choice)
+  fs = second.choices
+
+  count : failures_in (es ++ fs) ≡ failures_in es + failures_in fs
+  count = failures-append es fs
+
+  at_most : (b : Bool) → (run h es).machine.stopped ≡ b → failures_in (es ++ fs) ≤ 1
+  at_most true stop = let none = second.none_then stop in omega (arith, count, none, first.one_failure)
+  at_most false up =
+      let none : failures_in es ≡ 0 = no_failure (failures_in es) (λ some. (let bad : false ≡ true = sym up ∙ first.stopped some in cc)) in
+      omega (arith, count, none, second.one_failure)
+
+  possible : ArePossible h (es ++ fs)
+  possible = possible-append h es fs first.possible second.possible
+
+  pub follow : Runs old new h (hs ++ gs) (has_risen a c)
+  follow = record {
+    choices = es ++ fs;
+    are = map-append (λ (x : HubEvent × Choice). x.0) es fs ∙ ap (λ xs. xs ++ map (λ (x : HubEvent × Choice). x.0) fs) first.are ∙ ap (λ xs. hs ++ xs) second.are;
+    possible = possible;
+    one_failure = at_most (run h es).machine.stopped refl;
+    stopped = λ some. (
+        let P : HubState → Type 0 = λ x. x.machine.stopped ≡ true in
+        subst P (sym (run-append h es fs)) (elim (either (failures_in es) (failures_in fs) (omega (arith, count, some))) [
+          | inl x ↦ stays_stopped (run h es) fs (first.stopped x)
+          | inr y ↦ second.stopped y
+        ]));
+    risen_then = λ some. elim (either (failures_in es) (failures_in fs) (omega (arith, count, some))) [
+      | inl x ↦ risen-later a b c ab bc (first.risen_then x)
+      | inr y ↦ risen-last a b c ab bc (second.risen_then y)
+    ];
+    none_then = λ stop. (
+        let one = first.none_then stop in
+        let two = second.none_then (stays_stopped h es stop) in omega (arith, count, one, two));
+    stands = subst (StandsFor new) (sym (run-append h es fs)) second.stands;
+    lawful = lawful_run law h (es ++ fs) reached possible;
+    survives = survive;
+  }

@@ -10,7 +10,8 @@ use Rattle.model.specs.ReplyText.{reply_text}
 use Rattle.sessions.specs.declared.events.Status.TheVariants.{Open}
 use Rattle.sessions.specs.declared.hub.Hub.{Hub}
 use Rattle.sessions.specs.SessionStreams.{HubState, SessionStream, HubEvent, Choice, ArePossible, run, replies_text, requests_text, asks, stream_of}
-use Rattle.sessions.specs.StandsFor.{StandsFor}
+use Rattle.engine.specs.Meaning.{has_risen}
+use Rattle.sessions.specs.StandsFor.{StandsFor, failures}
 use Rattle.sessions.specs.Life.{Survives}
 
 -- what came in is the spellings of the requests that were served and then the inbox, until it was emptied for good;
@@ -58,10 +59,20 @@ pub record Runs {D : Type 0} {g : Ghosts D} (old new : Hub D g) (h : HubState) (
   pub one_failure : failures_in choices ≤ 1
   pub stopped : 1 ≤ failures_in choices → (run h choices).machine.stopped ≡ true
   pub risen_then : 1 ≤ failures_in choices → risen ≡ true
+  pub none_then : h.machine.stopped ≡ true → failures_in choices ≡ 0
   pub stands : StandsFor new (run h choices)
   pub lawful : (n : ℕ) → IsLawful (run h (take n choices))
   -- a crash at any moment of the run leaves a map that was committed at one, or one with a COMMIT that was under way
   pub survives : g.keeps_model → Survives old new h choices
+
+-- From each state that the old hub stood for, some run leads to the new one, and each of its failures is counted.
+pub record HasRun {D : Type 0} {g : Ghosts D} (old new : Hub D g) : Type 0 where
+  pub counted : failures old ≤ failures new
+  pub run : (h : HubState) → StandsFor old h → (events : List HubEvent) × Runs old new h events (has_risen (failures old) (failures new))
+
+-- runs that follow each other are one run
+abbrev pub RunsFollow : {D : Type 0} {g : Ghosts D} → Hub D g → Type 0
+RunsFollow {D} {g} hub = (old mid new : Hub D g) → HasRun old mid → HasRun mid new → HasRun old new
 
 -- the bytes of a transaction's own replies
 abbrev pub own_bytes : Running → Bytes

@@ -4,6 +4,7 @@ use Rattle.std.specs.List.{flat_map}
 use Rattle.std.specs.Ordering.{nat_cmp}
 use Rattle.std.specs.Map.{lookup, remove_entry, set_value}
 use Rattle.std.specs.BTreeMap.{insert_entry, is_at}
+use Rattle.model.specs.Bounds.{inbox_max}
 use Rattle.model.specs.declared.refusals.Refusal.{Refusal}
 use Rattle.model.specs.declared.refusals.Refusal.TheVariants.{BadFrame}
 use Rattle.model.specs.CommandTable.{command_in}
@@ -92,7 +93,7 @@ is_open other = false
 
 -- so many bytes still fit the inbox
 abbrev pub room : SessionState → ℕ
-room n = 32768 - length n.inbox
+room n = inbox_max - length n.inbox
 
 abbrev pub stream_of : HubState → ℕ → Option SessionStream
 stream_of h s = lookup (is_at (nat_cmp s)) h.present

@@ -1,7 +1,9 @@
 //! What happens to a hub, and what it answers.
 
+use model::VALUE_MAX;
+
 /// The most bytes that an inbox holds. It is reserved when a session joins.
-pub const INBOX_MAX: usize = 32_768;
+pub const INBOX_MAX: usize = 8 * VALUE_MAX;
 
 /// The bytes of output that are reserved when a session joins. Each reply but a value and the pairs of a range fits.
 pub const OUTPUT_ROOM: usize = 536;

@@ -4,7 +4,7 @@ ghost use Rattle.engine.specs.Meaning.{has_risen, device_of};
 ghost use Rattle.engine.specs.Meaning.{StandsFor as EngineStandsFor};
 ghost use Rattle.model.specs.Machine.{State};
 ghost use Rattle.sessions.specs.Crashes.{SurvivesEvent, SurvivesCrash, IsStored};
-ghost use Rattle.sessions.specs.Laws.{IsLawful, Runs};
+ghost use Rattle.sessions.specs.Laws.{HasRun, IsLawful, Runs, RunsFollow};
 ghost use Rattle.sessions.specs.Life.{RunsGoOn, LosesNothing};
 ghost use Rattle.sessions.specs.SessionStreams.{HubState, is_above, hub_over, stream_of, Joins, Receives, Serves, Sends, Leaves};
 ghost use Rattle.sessions.specs.StandsFor.{HubLeads, StandsFor, event_of, status_in, room_in, pending_in, device, failures, is_stopped};
@@ -68,7 +68,7 @@ impl<D: Sectors> Hub<D> {
         }
     }
 
-    /// How many bytes the session's inbox still takes, from 0 to 32,768; 0 for an absent session. Takes no memory.
+    /// How many bytes the session's inbox still takes, from 0 to `INBOX_MAX`; 0 for an absent session. Takes no memory.
     pub fn room(&self, s: u64) -> usize
         ensures { (h : HubState) → StandsFor self.now h → result ≡ room_in (stream_of h s) }
     {
@@ -222,7 +222,7 @@ impl<D: Sectors> Hub<D> {
     /// Applies one event, exactly where it may be applied, and answers `Done` then. Each other outcome and what it leaves stands at
     /// `Outcome`.
     ///
-    /// `Joined` takes the session's inbox and output, 33,304 bytes, and its place; `Serve` what the engine takes for the request and
+    /// `Joined` takes the session's inbox and output, 131,608 bytes, and its place; `Serve` what the engine takes for the request and
     /// the reply's text beyond 536 bytes. `Bytes`, `Sent` and `Left` take no memory.
     ///
     /// A crash at any moment of the event leaves the map committed before it or, where it executes a COMMIT, that with the
@@ -232,8 +232,10 @@ impl<D: Sectors> Hub<D> {
         ensures crash { SurvivesCrash self.old self.new (event_of event.now) }
         ensures still { is_stopped self.old ≡ true → device self.new ≡ device self.old }
         ensures stored { IsStored self.new }
+        ensures ran { HasRun self.old self.new }
         ensures device { failures self.old ≤ failures self.new }
     {
+        machine_is_serializable();
         self.is_stored();
         let outcome = self.apply(event);
         self.is_stored();
@@ -255,6 +257,15 @@ impl<D: Sectors> Hub<D> {
         for event in events {
             let _outcome = self.step(event);
         }
+    }
+
+    /// Does nothing, and takes no memory. Its contract says that no event is a run, and that runs that follow each other are one run.
+    pub fn runs_follow(&self)
+        ensures none { HasRun self.now self.now }
+        ensures follow { RunsFollow self.now }
+    {
+        machine_is_serializable();
+        self.is_stored();
     }
 
     /// Does nothing, and takes no memory. Its contract is the law of a store's whole life: a crash at any moment after some events were

@@ -18,6 +18,7 @@ pub(crate) struct Session {
 
 impl Model for Session {
     ghost use Rattle.std.specs.Prelude.{◌≤◌, vec_len, vec_capacity};
+    ghost use Rattle.model.specs.Bounds.{inbox_max};
     ghost use Rattle.sessions.specs.Calls.{rest};
     ghost use Rattle.sessions.specs.SessionStreams.{SessionState};
 
@@ -25,7 +26,7 @@ impl Model for Session {
 
     ghost view = { λ t. record { inbox = rest t.inbox; pending = rest t.output; status = t.status } };
 
-    ghost invariant = { λ t. (t.inbox.start ≤ vec_len t.inbox.bytes) × (vec_len t.inbox.bytes ≤ 32768) × (32768 ≤ vec_capacity t.inbox.bytes)
+    ghost invariant = { λ t. (t.inbox.start ≤ vec_len t.inbox.bytes) × (vec_len t.inbox.bytes ≤ inbox_max) × (inbox_max ≤ vec_capacity t.inbox.bytes)
         × (t.output.start ≤ vec_len t.output.bytes) × (536 ≤ vec_capacity t.output.bytes) };
 }
 
@@ -36,7 +37,7 @@ impl Session {
     ghost use Rattle.sessions.specs.Crashes.{SurvivesServe};
     ghost use Rattle.sessions.specs.SessionStreams.{new_session, is_open, room, may_serve};
 
-    /// A session with an empty inbox and nothing to send. It takes 33,304 bytes; `Memory` where they are refused.
+    /// A session with an empty inbox and nothing to send. It takes `INBOX_MAX` and `OUTPUT_ROOM` bytes; `Memory` where they are refused.
     pub(crate) fn new(alloc: Global) -> Result<Session, Memory>
         ensures { IfOk result (λ t. t ≡ new_session) }
     {
