@@ -1,5 +1,5 @@
 -- Each session that is present has an entry that isn't gone.
-use Rattle.std.proofs.Common.{◌≡◌, ◌≢◌, inl, inr, ℕ, zero, suc, ◌<◌, ◌≤◌, Bool, true, false, cond, List, [], ◌∷◌, length, get_or, Option, Some, None, unwrap_or, option_map, refl, sym, ap, subst, ◌∙◌, arith}
+use Rattle.std.proofs.Common.{◌≡◌, ◌≢◌, inl, inr, ℕ, zero, suc, ◌<◌, ◌≤◌, ◌==◌, ◌&&◌, ◌||◌, Bool, true, false, cond, List, [], ◌∷◌, length, get_or, Option, Some, None, unwrap_or, option_map, refl, sym, ap, subst, ◌∙◌, arith}
 use Rattle.std.proofs.lemmas.Bool.{cases_eq}
 use Rattle.std.proofs.Math.ListN.{get_or-eq_default}
 use Rattle.std.proofs.Math.Logic.{∥∥₁_elim, ∥∥₁_map}
@@ -18,9 +18,13 @@ use Rattle.stream_driver.specs.declared.entries.Entry.{Entry}
 use Rattle.stream_driver.specs.Traffic.{Traffic}
 use Rattle.stream_driver.specs.Sessions.{Point, Leads, InSomeState, IsPresent, Stands, status_at}
 use Rattle.stream_driver.specs.Drives.{EndsAs}
-use Rattle.stream_driver.specs.Entries.{DrivenAll, DrivenIn, DrivenSlot, DrivenOnce, HaveSessions, state_after}
+use Rattle.stream_driver.specs.Entries.{DrivenAll, DrivenIn, DrivenSlot, DrivenOnce, EndsDrive, HaveSessions, is_gone, is_over, state_after}
+use Rattle.stream_driver.specs.Buffers.{is_settled}
+use Rattle.stream_driver.specs.declared.buffered.BufferedStream.{BufferedStream}
+use Rattle.mio.specs.declared.event.event.Event.{Event}
+use Rattle.mio.specs.Event.{event_token, is_priority, is_read_closed}
 use Rattle.event_loop.specs.Numbers.{AreBelow}
-use Rattle.event_loop.specs.Tables.{HasNobody, HaveEntries, IsWithoutEntry, after_poll, readied, slot_at, unless, unless_gone}
+use Rattle.event_loop.specs.Tables.{EndsTurn, HasNobody, HaveEntries, IsWithoutEntry, after_event, after_poll, readied, slot_at, told, told_slot, unless_over}
 use Rattle.event_loop.proofs.Present.{test, reached-run, absent_then, others_then}
 
 -- ---- the states that one hub stands for
@@ -181,16 +185,40 @@ module _ {T : Type 0} where
   remain_numbers : (next : ℕ) (old new : List (Option (Entry T))) → Remain old new → AreBelow next old → AreBelow next new
   remain_numbers next old new remain numbers = λ key entry e. let b = remain key entry e in subst (λ s. s < next) b.2 (numbers key b.0 b.1)
 
-  module _ (old new : List (Option (Entry T))) (told : ℕ → Bool) (polled : (key : ℕ) → slot_at new key ≡ after_poll (told key) (slot_at old key)) where
+-- what an entry was before, with its session, and not gone where it isn't now
+abbrev Before : {T : Type 0} → Option (Entry T) → Entry T → Type 0
+Before {T} slot entry = (before : Entry T) × (slot ≡ Some before) × (before.session ≡ entry.session) × (entry.state ≢ EntryGone → before.state ≢ EntryGone)
+
+module _ {T : Type 0} where
+  told_back : (b on : Bool) (slot : Option (Entry (BufferedStream T))) (entry : Entry (BufferedStream T)) → told_slot b on slot ≡ Some entry → Before slot entry
+  told_back true on None entry f = absurd (let bad : None ≡ Some entry = f in cc)
+  told_back true on (Some was) entry f =
+      let same : told on was ≡ entry = some_inj f in
+      (was, refl, ap (λ (x : Entry (BufferedStream T)). x.session) same, λ alive gone. alive (sym (ap (λ (x : Entry (BufferedStream T)). x.state) same) ∙ gone_readied was.state gone))
+  told_back false on slot entry f = (entry, f, refl, λ alive. alive)
+
+  polled_back : (events : List Event) (key : ℕ) (slot : Option (Entry (BufferedStream T))) (entry : Entry (BufferedStream T)) → after_poll events key slot ≡ Some entry → Before slot entry
+  polled_back [] key slot entry e = (entry, e, refl, λ alive. alive)
+  polled_back (event ∷ events) key slot entry e =
+      let mid = polled_back events key (after_event event key slot) entry e in
+      let was = told_back ((event_token event).0 == key) (is_priority event || is_read_closed event) slot mid.0 mid.1 in
+      (was.0, was.1, was.2 ∙ mid.2, λ alive. was.3 (mid.3 alive))
+
+  -- what an entry is after a poll, with its session, and not gone where it wasn't before
+  abbrev After : Option (Entry (BufferedStream T)) → Entry (BufferedStream T) → Type 0
+  After slot entry = (after : Entry (BufferedStream T)) × (slot ≡ Some after) × (after.session ≡ entry.session) × (after.state ≡ EntryGone → entry.state ≡ EntryGone)
+
+  polled_forth : (events : List Event) (key : ℕ) (entry : Entry (BufferedStream T)) → After (after_poll events key (Some entry)) entry
+  polled_forth [] key entry = (entry, refl, refl, λ gone. gone)
+  polled_forth (event ∷ events) key entry = by ((event_token event).0 == key) (is_priority event || is_read_closed event) (λ x. polled_forth events key x)
+    where
+      by : (b on : Bool) → ((x : Entry (BufferedStream T)) → After (after_poll events key (Some x)) x) → After (after_poll events key (told_slot b on (Some entry))) entry
+      by true on rest = let r = rest (told on entry) in (r.0, r.1, r.2, λ gone. readied_gone entry.state (r.3 gone))
+      by false on rest = rest entry
+
+  module _ (old new : List (Option (Entry (BufferedStream T)))) (events : List Event) (polled : (key : ℕ) → slot_at new key ≡ after_poll events key (slot_at old key)) where
     polled_remain : Remain old new
-    polled_remain key entry e = by (told key) (slot_at old key) refl (sym (polled key) ∙ e)
-      where
-        by : (b : Bool) (slot : Option (Entry T)) → slot_at old key ≡ slot → after_poll b slot ≡ Some entry → (before : Entry T) × (slot_at old key ≡ Some before) × (before.session ≡ entry.session) × (entry.state ≢ EntryGone → before.state ≢ EntryGone)
-        by true None is f = absurd (let bad : None ≡ Some entry = f in cc)
-        by true (Some was) is f =
-            let same : record was { state = readied was.state } ≡ entry = some_inj f in
-            (was, is, ap (λ (x : Entry T). x.session) same, λ alive gone. alive (sym (ap (λ (x : Entry T). x.state) same) ∙ gone_readied was.state gone))
-        by false slot is f = (entry, is ∙ f, refl, λ alive. alive)
+    polled_remain key entry e = polled_back events key (slot_at old key) entry (sym (polled key) ∙ e)
 
     pub polled_sessions : {D : Type 0} {g : Ghosts D} (hub : Hub D g) → HaveSessions hub old → HaveSessions hub new
     polled_sessions hub has = remain_sessions hub old new polled_remain has
@@ -199,35 +227,45 @@ module _ {T : Type 0} where
     polled_numbers next numbers = remain_numbers next old new polled_remain numbers
 
     pub polled_entries : {D : Type 0} {g : Ghosts D} (hub : Hub D g) → HaveEntries hub old → HaveEntries hub new
-    polled_entries hub has = λ h stands s without. has h stands s (λ key entry e same. by key entry (told key) (polled key ∙ ap (after_poll (told key)) e) (λ x f. without key x f) same)
+    polled_entries hub has = λ h stands s without. has h stands s (λ key entry e same.
+        let after = polled_forth events key entry in
+        after.3 (without key after.0 (polled key ∙ ap (after_poll events key) e ∙ after.1) (after.2 ∙ same)))
+
+  -- ---- the end of a turn
+
+  over_back : (b : Bool) (was mid entry : Entry (BufferedStream T)) → mid.session ≡ was.session → mid.state ≡ was.state → cond b None (Some mid) ≡ Some entry → Before (Some was) entry
+  over_back true was mid entry session state e = absurd (let bad : None ≡ Some entry = e in cc)
+  over_back false was mid entry session state e =
+      let same : mid ≡ entry = some_inj e in
+      (was, refl, sym session ∙ ap (λ (x : Entry (BufferedStream T)). x.session) same, λ alive gone. alive (sym (ap (λ (x : Entry (BufferedStream T)). x.state) same) ∙ state ∙ gone))
+
+  over_gone : (entry : Entry (BufferedStream T)) (state : EntryState) → entry.state ≡ state → (is_gone state && is_settled entry.stream) ≡ true → entry.state ≡ EntryGone
+  over_gone entry Idle is e = absurd (let bad : false ≡ true = e in cc)
+  over_gone entry Ready is e = absurd (let bad : false ≡ true = e in cc)
+  over_gone entry EntryGone is e = is
+
+  module _ (tells : Bool) (traffic : T → Traffic) (old new : List (Option (Entry (BufferedStream T)))) (ended : (key : ℕ) → EndsTurn tells traffic (slot_at old key) (slot_at new key)) where
+    ended_back : (slot after : Option (Entry (BufferedStream T))) (entry : Entry (BufferedStream T)) → EndsTurn tells traffic slot after → after ≡ Some entry → Before slot entry
+    ended_back None after entry none e = absurd (let bad : None ≡ Some entry = sym none ∙ e in cc)
+    ended_back (Some was) after entry (mid, ends, is) e = over_back (is_over mid) was mid entry ends.session ends.state (sym is ∙ e)
+
+    ended_remain : Remain old new
+    ended_remain key entry e = ended_back (slot_at old key) (slot_at new key) entry (ended key) e
+
+    pub ended_sessions : {D : Type 0} {g : Ghosts D} (hub : Hub D g) → HaveSessions hub old → HaveSessions hub new
+    ended_sessions hub has = remain_sessions hub old new ended_remain has
+
+    pub ended_numbers : (next : ℕ) → AreBelow next old → AreBelow next new
+    ended_numbers next numbers = remain_numbers next old new ended_remain numbers
+
+    ended_forth : (entry : Entry (BufferedStream T)) (after : Option (Entry (BufferedStream T))) (s : ℕ) → EndsTurn tells traffic (Some entry) after → entry.session ≡ s
+        → ((x : Entry (BufferedStream T)) → after ≡ Some x → x.session ≡ s → x.state ≡ EntryGone) → entry.state ≡ EntryGone
+    ended_forth entry after s (mid, ends, is) same without = by (is_over mid) refl
       where
-        by : (key : ℕ) (entry : Entry T) (b : Bool) → slot_at new key ≡ after_poll b (Some entry) → {s : ℕ} → ((x : Entry T) → slot_at new key ≡ Some x → x.session ≡ s → x.state ≡ EntryGone) → entry.session ≡ s → entry.state ≡ EntryGone
-        by key entry true f without same = readied_gone entry.state (without (record entry { state = readied entry.state }) f same)
-        by key entry false f without same = without entry f same
+        by : (b : Bool) → is_over mid ≡ b → entry.state ≡ EntryGone
+        by true over = sym ends.state ∙ over_gone mid mid.state refl over
+        by false over = sym ends.state ∙ without mid (is ∙ ap (λ b. cond b None (Some mid)) over) (ends.session ∙ same)
 
-  module _ (old new : List (Option (Entry T))) (taken : (key : ℕ) → slot_at new key ≡ unless_gone (slot_at old key)) where
-    taken_slot : (slot : Option (Entry T)) (entry : Entry T) → unless_gone slot ≡ Some entry → slot ≡ Some entry
-    taken_slot None entry e = absurd (let bad : None ≡ Some entry = e in cc)
-    taken_slot (Some was) entry e = by was.state e
-      where
-        by : (state : EntryState) → unless state was ≡ Some entry → Some was ≡ Some entry
-        by Idle f = f
-        by Ready f = f
-        by EntryGone f = absurd (let bad : None ≡ Some entry = f in cc)
-
-    taken_remain : Remain old new
-    taken_remain key entry e = (entry, taken_slot (slot_at old key) entry (sym (taken key) ∙ e), refl, λ alive. alive)
-
-    pub taken_sessions : {D : Type 0} {g : Ghosts D} (hub : Hub D g) → HaveSessions hub old → HaveSessions hub new
-    taken_sessions hub has = remain_sessions hub old new taken_remain has
-
-    pub taken_numbers : (next : ℕ) → AreBelow next old → AreBelow next new
-    taken_numbers next numbers = remain_numbers next old new taken_remain numbers
-
-    pub taken_entries : {D : Type 0} {g : Ghosts D} (hub : Hub D g) → HaveEntries hub old → HaveEntries hub new
-    taken_entries hub has = λ h stands s without. has h stands s (λ key entry e same. by key entry entry.state refl (taken key ∙ ap unless_gone e) (λ f. without key entry f same))
-      where
-        by : (key : ℕ) (entry : Entry T) (state : EntryState) → entry.state ≡ state → slot_at new key ≡ unless state entry → (slot_at new key ≡ Some entry → entry.state ≡ EntryGone) → entry.state ≡ EntryGone
-        by key entry Idle is f without = without f
-        by key entry Ready is f without = without f
-        by key entry EntryGone is f without = is
+    pub ended_entries : {D : Type 0} {g : Ghosts D} (hub : Hub D g) → HaveEntries hub old → HaveEntries hub new
+    ended_entries hub has = λ h stands s without. has h stands s (λ key entry e same.
+        ended_forth entry (slot_at new key) s (subst (λ slot. EndsTurn tells traffic slot (slot_at new key)) e (ended key)) same (λ x f. without key x f))

@@ -5,3 +5,4 @@ pub mod Tables
 pub mod Admits
 pub mod Polled
 pub mod Counts
+mod Turned

@@ -1,5 +1,6 @@
 pub mod Accepts
 pub mod Drops
+pub mod Lingerings
 pub mod Loops
 pub mod Numbers
 pub mod Tables

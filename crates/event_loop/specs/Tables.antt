@@ -1,7 +1,7 @@
 -- The table of connections: what a turn makes of it, and its sessions.
-use Rattle.std.specs.Prelude.{◌≡◌, ◌≢◌, ◌⊎◌, ℕ, ◌+◌, ◌<◌, ◌==◌, ◌||◌, Bool, true, false, List, [], ◌∷◌, Option, Some, None, slice_index_or}
+use Rattle.std.specs.Prelude.{◌≡◌, ◌≢◌, ◌⊎◌, ℕ, ◌+◌, ◌<◌, ◌==◌, ◌||◌, Bool, true, false, cond, List, [], ◌∷◌, Option, Some, None, slice_index_or}
 use Rattle.mio.specs.declared.event.event.Event.{Event}
-use Rattle.mio.specs.Event.{event_token}
+use Rattle.mio.specs.Event.{event_token, is_priority, is_read_closed}
 use Rattle.sector.specs.declared.device.Sectors.{Ghosts}
 use Rattle.sessions.specs.declared.events.Outcome.{Outcome}
 use Rattle.sessions.specs.declared.events.Outcome.TheVariants.{Done}
@@ -12,6 +12,9 @@ use Rattle.sessions.specs.StandsFor.{StandsFor, HubLeads}
 use Rattle.stream_driver.specs.declared.entries.EntryState.{EntryState}
 use Rattle.stream_driver.specs.declared.entries.EntryState.TheVariants.{Idle, Ready, Gone}
 use Rattle.stream_driver.specs.declared.entries.Entry.{Entry}
+use Rattle.stream_driver.specs.declared.buffered.BufferedStream.{BufferedStream}
+use Rattle.stream_driver.specs.Entries.{EndsDrive, is_over}
+use Rattle.stream_driver.specs.Traffic.{Traffic}
 use Rattle.stream_driver.specs.Sessions.{InSomeState, status_at}
 
 -- no session is present, and none has joined
@@ -28,22 +31,6 @@ module _ {T : Type 0} where
   -- what is at a key
   abbrev pub slot_at : List (Option (Entry T)) → ℕ → Option (Entry T)
   slot_at slots key = slice_index_or slots key None
-
-  abbrev pub unless : EntryState → Entry T → Option (Entry T)
-  unless Gone entry = None
-  unless Idle entry = Some entry
-  unless Ready entry = Some entry
-
-  -- what stays of a slot once the entries that are gone are taken out
-  abbrev pub unless_gone : Option (Entry T) → Option (Entry T)
-  unless_gone None = None
-  unless_gone (Some entry) = unless entry.state entry
-
-  -- a slot after a poll that told of it, or that did not
-  abbrev pub after_poll : Bool → Option (Entry T) → Option (Entry T)
-  after_poll true (Some entry) = Some (record entry { state = readied entry.state })
-  after_poll true None = None
-  after_poll false slot = slot
 
   -- each entry with this session is gone
   abbrev pub IsWithoutEntry : ℕ → List (Option (Entry T)) → Type 0
@@ -76,7 +63,31 @@ module _ {T : Type 0} where
     abbrev pub Admits : Hub D g → ℕ → List (Option (Entry T)) → Hub D g → ℕ → List (Option (Entry T)) → Type 0
     Admits hub next slots later then new = TurnsAway hub next slots later then new ⊎ LetsIn hub next slots later then new
 
--- whether an event tells of this key
-abbrev pub is_told : List Event → ℕ → Bool
-is_told [] key = false
-is_told (event ∷ events) key = (event_token event).0 == key || is_told events key
+module _ {T : Type 0} where
+  -- an entry that the poll told of: one that waited is to be driven, and is it to be read until its stream blocks?
+  abbrev pub told : Bool → Entry (BufferedStream T) → Entry (BufferedStream T)
+  told reads_on entry = record entry { state = readied entry.state; stream = record entry.stream { reads_on = reads_on || entry.stream.reads_on } }
+
+  -- a slot after an event that tells of it, or of another
+  abbrev pub told_slot : Bool → Bool → Option (Entry (BufferedStream T)) → Option (Entry (BufferedStream T))
+  told_slot true reads_on (Some entry) = Some (told reads_on entry)
+  told_slot true reads_on None = None
+  told_slot false reads_on slot = slot
+
+  -- urgent bytes, at which a read ends early, or the end of what comes: the stream is to be read until it blocks or ends
+  abbrev pub after_event : Event → ℕ → Option (Entry (BufferedStream T)) → Option (Entry (BufferedStream T))
+  after_event event key slot = told_slot ((event_token event).0 == key) (is_priority event || is_read_closed event) slot
+
+  -- a slot after the events of a poll
+  abbrev pub after_poll : List Event → ℕ → Option (Entry (BufferedStream T)) → Option (Entry (BufferedStream T))
+  after_poll [] key slot = slot
+  after_poll (event ∷ events) key slot = after_poll events key (after_event event key slot)
+
+  -- an entry that is over is taken out
+  abbrev pub unless_over : Entry (BufferedStream T) → Option (Entry (BufferedStream T))
+  unless_over entry = cond (is_over entry) None (Some entry)
+
+  -- the end of a turn at a slot: the drive of its entry has ended, and the entry is taken out if it is over
+  abbrev pub EndsTurn : Bool → (T → Traffic) → Option (Entry (BufferedStream T)) → Option (Entry (BufferedStream T)) → Type 0
+  EndsTurn tells traffic None new = new ≡ None
+  EndsTurn tells traffic (Some old) new = (entry : Entry (BufferedStream T)) × EndsDrive tells traffic old entry × (new ≡ unless_over entry)

@@ -1,22 +1,25 @@
 //! The table of connections: who comes in, who is ready, who goes.
-ghost use Rattle.std.specs.Prelude.{◌≡◌, ℕ};
+ghost use Rattle.std.specs.Prelude.{◌≡◌, ◌≢◌, ◌||◌, ℕ};
+ghost use Rattle.mio.specs.Event.{is_priority, is_read_closed};
 ghost use Rattle.mio.specs.Events.{items};
+ghost use Rattle.sessions.specs.Laws.{HasRun};
 ghost use Rattle.stream_driver.specs.Sessions.{Stands};
 ghost use Rattle.stream_driver.specs.Entries.{HaveSessions};
 ghost use Rattle.event_loop.specs.Accepts.{TurnAccepts};
 ghost use Rattle.event_loop.specs.Numbers.{AreBelow};
-ghost use Rattle.event_loop.specs.Tables.{Admits, HaveEntries, after_poll, is_told, readied, slot_at, unless_gone};
+ghost use Rattle.event_loop.specs.Tables.{Admits, EndsTurn, HaveEntries, after_poll, slot_at, told};
 
 use crate::lingering::Lingering;
 use crate::listener::{AcceptAnswer, Listener};
 use crate::socket::Socket;
 use mio::net::TcpStream;
-use mio::{Events, Interest, Poll, Token};
+use mio::{Events, Interest, Poll, Token, event};
 use sector::Sectors;
 use sessions::{Event, Hub, Outcome, SESSIONS_MAX};
 use slab::Slab;
+use std::alloc::Global;
 use std::time::Instant;
-use stream_driver::{Entry, EntryState};
+use stream_driver::{BufferedStream, Entry, EntryState, Stream, end_drive};
 
 /// The token of the connections that linger, which no key of the table is.
 pub(crate) const LINGERER: Token = Token(usize::MAX - 1);
@@ -33,51 +36,78 @@ pub enum Backlog {
 }
 
 /// Is an entry to be driven?
-pub(crate) fn any_ready(table: &Slab<Entry<Socket>>) -> bool {
+pub(crate) fn any_ready(table: &Slab<Entry<BufferedStream<Socket>>>) -> bool {
     table
         .iter()
         .any(|(_, entry)| entry.state == EntryState::Ready)
 }
 
-// An entry that waited is to be driven.
-fn make_ready(entry: &mut Entry<Socket>)
-    ensures { entry.new ≡ record entry.old { state = readied entry.old.state } }
+// Does an event tell of urgent bytes, at which a read ends early, or that what comes has an end, of which no other event may tell?
+fn tells_to_read_on(event: &event::Event) -> bool
+    ensures { result ≡ (is_priority event.now || is_read_closed event.now) }
+{
+    event.is_priority() || event.is_read_closed()
+}
+
+// The poll told of an entry: if it waited it is to be driven.
+fn make_ready(entry: &mut Entry<BufferedStream<Socket>>, reads_on: bool)
+    ensures { entry.new ≡ told reads_on entry.old }
 {
     if entry.state == EntryState::Idle {
         entry.state = EntryState::Ready;
     }
+    if reads_on {
+        entry.stream.read_on();
+    }
 }
 
-/// Makes the entries ready that wait and that the poll tells of, and no others. Takes no memory.
-pub(crate) fn make_polled_ready(events: &Events, table: &mut Slab<Entry<Socket>>)
-    ensures { (key : ℕ) → slot_at table.new.slots key ≡ after_poll (is_told (items events.now) key) (slot_at table.old.slots key) }
+/// Makes the entries ready that wait and that the poll tells of, and no others. Those of which it tells that urgent bytes came, or that no
+/// more will come, are read until their streams block or end. Takes no memory.
+pub(crate) fn make_polled_ready(events: &Events, table: &mut Slab<Entry<BufferedStream<Socket>>>)
+    ensures { (key : ℕ) → slot_at table.new.slots key ≡ after_poll (items events.now) key (slot_at table.old.slots key) }
 {
     for event in events {
         let Token(key) = event.token();
         if let Some(entry) = table.get_mut(key) {
-            make_ready(entry);
+            make_ready(entry, tells_to_read_on(event));
         }
     }
 }
 
-/// Takes the entries out that are gone, and no others. Connections that ended in good order linger, and the others are closed. Takes no
-/// memory.
-pub(crate) fn take_gone_out(
+// Ends the drive of the entry at a key, if there is one, and takes it out if it is over.
+fn end_drive_at(
     poll: &Poll,
     now: Option<Instant>,
-    table: &mut Slab<Entry<Socket>>,
+    key: usize,
+    table: &mut Slab<Entry<BufferedStream<Socket>>>,
     lingering: &mut Lingering,
 )
-    ensures { (key : ℕ) → slot_at table.new.slots key ≡ unless_gone (slot_at table.old.slots key) }
+    ensures ended { EndsTurn ⟦<Socket as Stream>⟧.tells ⟦<Socket as Stream>⟧.traffic (slot_at table.old.slots key) (slot_at table.new.slots key) }
+    ensures others { (other : ℕ) → other ≢ key → slot_at table.new.slots other ≡ slot_at table.old.slots other }
+{
+    let Some(entry) = table.get_mut(key) else {
+        return;
+    };
+    if !end_drive(entry) {
+        return;
+    }
+    if let Some(entry) = table.try_remove(key) {
+        lingering.begin(poll, entry.stream.into_inner(), now, LINGERER);
+    }
+}
+
+/// Ends the drives of a turn: writes what the streams hold, but for those that wait, and takes the entries out that are gone and whose
+/// streams hold nothing or failed, and no others. Connections that ended in good order linger, and the others are closed. Takes no memory.
+pub(crate) fn end_drives(
+    poll: &Poll,
+    now: Option<Instant>,
+    table: &mut Slab<Entry<BufferedStream<Socket>>>,
+    lingering: &mut Lingering,
+)
+    ensures { (key : ℕ) → EndsTurn ⟦<Socket as Stream>⟧.tells ⟦<Socket as Stream>⟧.traffic (slot_at table.old.slots key) (slot_at table.new.slots key) }
 {
     for key in 0..table.capacity() {
-        let gone = match table.get(key) {
-            Some(entry) => entry.state == EntryState::Gone,
-            None => false,
-        };
-        if gone && let Some(entry) = table.try_remove(key) {
-            lingering.begin(poll, entry.stream, now, LINGERER);
-        }
+        end_drive_at(poll, now, key, table, lingering);
     }
 }
 
@@ -85,27 +115,30 @@ pub(crate) fn take_gone_out(
 /// `Full` where it took that many, `Empty` where none waits, `Failed` where a call failed.
 ///
 /// A connection for which there is no place, or that memory or registration is refused for, is closed. It may grow the table, and takes
-/// the memory of the sessions.
+/// the memory of the sessions and of their streams.
 pub fn accept_some<D: Sectors, L: Listener>(
+    alloc: Global,
     poll: &Poll,
     listener: &mut L,
     hub: &mut Hub<D>,
     next: &mut u64,
-    table: &mut Slab<Entry<Socket>>,
+    table: &mut Slab<Entry<BufferedStream<Socket>>>,
 ) -> Backlog
     requires stands { Stands hub.old }
     requires sessions { HaveSessions hub.old table.old.slots }
     requires numbers { AreBelow next.old table.old.slots }
     requires entries { HaveEntries hub.old table.old.slots }
     ensures accepts { TurnAccepts (L.accepts listener.old) result (L.accepts listener.new) }
+    ensures ran { HasRun hub.old hub.new }
     ensures stands { Stands hub.new }
     ensures sessions { HaveSessions hub.new table.new.slots }
     ensures numbers { AreBelow next.new table.new.slots }
     ensures entries { HaveEntries hub.new table.new.slots }
 {
+    hub.runs_follow();
     for _accepted in 0..SESSIONS_MAX {
         match listener.accept() {
-            AcceptAnswer::Taken(stream) => admit(poll, stream, hub, next, table),
+            AcceptAnswer::Taken(stream) => admit(alloc, poll, stream, hub, next, table),
             AcceptAnswer::Blocked => return Backlog::Empty,
             AcceptAnswer::Failed => return Backlog::Failed,
         }
@@ -113,31 +146,43 @@ pub fn accept_some<D: Sectors, L: Listener>(
     Backlog::Full
 }
 
+// The stream of a connection, of which the poll tells under this key. None where memory, registration or a socket's option is refused.
+fn prepare(
+    alloc: Global,
+    poll: &Poll,
+    mut stream: TcpStream,
+    key: usize,
+) -> Option<BufferedStream<Socket>> {
+    let interest = Interest::READABLE | Interest::WRITABLE | Interest::PRIORITY;
+    stream.set_nodelay(true).ok()?;
+    poll.registry()
+        .register(&mut stream, Token(key), interest)
+        .ok()?;
+    BufferedStream::new(alloc, Socket::new(stream)).ok()
+}
+
 // A connection becomes a session. One for which there is no place, or that memory, registration or a socket's option is refused for, is
 // closed.
 fn admit<D: Sectors>(
+    alloc: Global,
     poll: &Poll,
-    mut stream: TcpStream,
+    stream: TcpStream,
     hub: &mut Hub<D>,
     next: &mut u64,
-    table: &mut Slab<Entry<Socket>>,
+    table: &mut Slab<Entry<BufferedStream<Socket>>>,
 )
-    ensures { Admits hub.old next.old table.old.slots hub.new next.new table.new.slots }
+    ensures admits { Admits hub.old next.old table.old.slots hub.new next.new table.new.slots }
+    ensures ran { HasRun hub.old hub.new }
 {
+    hub.runs_follow();
     let session = *next;
     let key = table.vacant_key();
     if session == u64::MAX || key >= SESSIONS_MAX || table.reserve(1).is_err() {
         return;
     }
-    let both = Interest::READABLE | Interest::WRITABLE;
-    if stream.set_nodelay(true).is_err()
-        || poll
-            .registry()
-            .register(&mut stream, Token(key), both)
-            .is_err()
-    {
+    let Some(stream) = prepare(alloc, poll, stream, key) else {
         return;
-    }
+    };
     match hub.step(&Event::Joined(session)) {
         Outcome::Done => {}
         _ => return,
@@ -145,7 +190,7 @@ fn admit<D: Sectors>(
     *next = session + 1;
     table.insert_reserved(Entry {
         session,
-        stream: Socket::new(stream),
+        stream,
         state: EntryState::Ready,
     });
 }

@@ -3,10 +3,12 @@
 //! The system resets a connection that is closed while input is unread, and then replies that are under way are lost. So a connection
 //! that ended in good order is shut down for writing, and what still comes in is read and dropped until the peer ends, within bounds
 //! of number, bytes and time.
-ghost use Rattle.std.specs.Prelude.{◌≡◌, ◌≤◌, min, length, true, IsTrue};
+ghost use Rattle.std.specs.Prelude.{◌≡◌, ◌≤◌, min, length, true, false, IsTrue};
 ghost use Rattle.std.specs.VecDeque.{deque_len, deque_capacity};
 ghost use Rattle.event_loop.specs.declared.lingering.TheConstants.{LINGERING_MAX};
 ghost use Rattle.event_loop.specs.Drops.{GivesAtMost, WhyDropped, left_after, newest};
+ghost use Rattle.event_loop.specs.Waits.{nanos_of};
+ghost use Rattle.event_loop.specs.Lingerings.{AllTurned, FirstTurned, MayBegin, MayLinger, oldest_waits};
 
 use crate::socket::Socket;
 use mio::{Poll, Token};
@@ -86,10 +88,11 @@ impl Lingerer {
 
     // Were as many bytes dropped as may be, or is the time over?
     fn is_over(&self, now: Option<Instant>) -> bool
-        ensures spent { self.now.left ≡ 0 → result ≡ true }
+        ensures over { result ≡ true → MayLinger now self.now → ⊥ }
+        ensures lasts { result ≡ false → MayLinger now self.now }
     {
         match now {
-            Some(now) => self.left == 0 || self.until <= now,
+            Some(now) => self.left == 0 || now.checked_duration_since(self.until).is_some(),
             None => true,
         }
     }
@@ -116,7 +119,9 @@ impl Lingering {
 
     /// How long the next poll may wait: without end where none lingers, not at all where there may be more input or the clock can't be
     /// read, and else until the oldest has lingered long enough.
-    pub(crate) fn patience(&self, now: Option<Instant>) -> Option<Duration> {
+    pub(crate) fn patience(&self, now: Option<Instant>) -> Option<Duration>
+        ensures { nanos_of result ≡ oldest_waits self.now.has_more now self.now.queue.items }
+    {
         let oldest = self.queue.front()?;
         match now {
             Some(now) if !self.has_more => Some(oldest.until.duration_since(now)),
@@ -131,7 +136,9 @@ impl Lingering {
         mut socket: Socket,
         now: Option<Instant>,
         token: Token,
-    ) {
+    )
+        ensures { MayBegin now self.old.queue.items self.new.queue.items }
+    {
         let lasting = Duration::from_secs(LINGERING_SECONDS);
         let Some(until) = now.and_then(|now| now.checked_add(lasting)) else {
             return;
@@ -164,22 +171,31 @@ impl Lingering {
     }
 
     /// Drops what came in where the poll told of it or there may be more, and closes those that are over.
-    pub(crate) fn turn(&mut self, is_told: bool, now: Option<Instant>) {
+    pub(crate) fn turn(&mut self, is_told: bool, now: Option<Instant>)
+        ensures { AllTurned now self.old.queue.items self.new.queue.items }
+    {
         let reads = is_told || self.has_more;
         self.has_more = false;
         for _ in 0..self.queue.len() {
-            let Some(mut lingerer) = self.queue.pop_front() else {
-                return;
-            };
-            let dropped = if reads {
-                lingerer.turn()
-            } else {
-                Dropped::Blocked(0)
-            };
-            if !lingerer.is_over(now) {
-                self.has_more = self.has_more || dropped == Dropped::All;
-                self.queue.push_back_reserved(lingerer);
-            }
+            self.turn_first(reads, now);
+        }
+    }
+
+    // The first is closed where it is over, and else becomes the last.
+    fn turn_first(&mut self, reads: bool, now: Option<Instant>)
+        ensures { FirstTurned now self.old.queue.items self.new.queue.items }
+    {
+        let Some(mut lingerer) = self.queue.pop_front() else {
+            return;
+        };
+        let dropped = if reads {
+            lingerer.turn()
+        } else {
+            Dropped::Blocked(0)
+        };
+        if !lingerer.is_over(now) {
+            self.has_more = self.has_more || dropped == Dropped::All;
+            self.queue.push_back_reserved(lingerer);
         }
     }
 }

@@ -5,7 +5,7 @@ ghost use Rattle.event_loop.specs.Numbers.{AreBelow};
 ghost use Rattle.event_loop.specs.Tables.{HasNobody, HaveEntries};
 
 use crate::connections::{
-    Backlog, LINGERER, accept_some, any_ready, make_polled_ready, take_gone_out,
+    Backlog, LINGERER, accept_some, any_ready, end_drives, make_polled_ready,
 };
 use crate::lingering::{LINGERING_MAX, Lingering};
 use crate::listener::Port;
@@ -20,7 +20,7 @@ use std::alloc::Global;
 use std::io;
 use std::net::{Net, SocketAddr};
 use std::time::{Clock, Duration, Instant};
-use stream_driver::{Entry, drive_ready};
+use stream_driver::{BufferedStream, Entry, drive_ready};
 
 /// The token of the listener, which no key of the table is.
 const LISTENER: Token = Token(usize::MAX);
@@ -28,6 +28,7 @@ const LISTENER: Token = Token(usize::MAX);
 /// A listener, its connections, and the hub of their sessions.
 #[derive(Drop)]
 pub struct EventLoop<D: Sectors> {
+    alloc: Global,
     poll: Poll,
     events: Events,
     port: Port,
@@ -36,7 +37,7 @@ pub struct EventLoop<D: Sectors> {
     hub: Hub<D>,
     /// The number of the next session.
     next: u64,
-    table: Slab<Entry<Socket>>,
+    table: Slab<Entry<BufferedStream<Socket>>>,
     ghost stands: { Stands hub },
     ghost sessions: { HaveSessions hub table.slots },
     ghost entries: { HaveEntries hub table.slots },
@@ -45,6 +46,7 @@ pub struct EventLoop<D: Sectors> {
 
 impl<D: Sectors> EventLoop<D> {
     ghost use Rattle.std.specs.Prelude.{◌≡◌, IfOk};
+    ghost use Rattle.sessions.specs.Laws.{HasRun};
     ghost use Rattle.sessions.specs.SessionStreams.{HubState};
     ghost use Rattle.sessions.specs.StandsFor.{StandsFor};
     ghost use Rattle.event_loop.specs.Loops.{hub_of};
@@ -70,6 +72,7 @@ impl<D: Sectors> EventLoop<D> {
         let events = Events::with_capacity(alloc, SESSIONS_MAX + LINGERING_MAX + 1)?;
         let lingering = Lingering::new(alloc)?;
         Ok(EventLoop {
+            alloc,
             poll,
             events,
             port: Port::new(listener),
@@ -93,8 +96,8 @@ impl<D: Sectors> EventLoop<D> {
         self.hub.stopped()
     }
 
-    /// One turn: polls, drives each session that is ready once, takes out those that have left, and accepts at most 128 connections,
-    /// which the next turn drives.
+    /// One turn: polls, drives each session that is ready once, writes what their streams hold, takes out those that have left and hold
+    /// nothing, and accepts at most 128 connections, which the next turn drives.
     ///
     /// It drives before it accepts: so an event of this poll can't be taken for one of a connection that came since under the same key,
     /// and the places of those that left are free for those that come.
@@ -104,7 +107,7 @@ impl<D: Sectors> EventLoop<D> {
     /// accepts again. A connection beyond 128 sessions, or for which memory, registration or an option of the socket is refused, is
     /// closed without a byte.
     ///
-    /// The connection of a session that left is closed. Where none of its calls failed and its peer has not ended, it lingers first: it is
+    /// The connection of a session that left is closed once its stream holds nothing, or has failed. Where none of its calls failed and its peer has not ended, it lingers first: it is
     /// shut down for writing, and what comes in is dropped, at most `LINGERING_BYTES_A_TURN` a turn, so that the last replies arrive. It is
     /// closed where the peer ends, after `LINGERING_BYTES` bytes or `LINGERING_SECONDS` seconds, where `LINGERING_MAX` others have come to
     /// linger since, or where an accept fails, which may be for want of descriptors. While some linger, a turn may wait no longer than the
@@ -112,7 +115,16 @@ impl<D: Sectors> EventLoop<D> {
     ///
     /// It answers a fault exactly where the poll failed; nothing else was done then. It may grow the table, and what the sessions'
     /// requests grow.
-    pub fn turn<C: Clock>(&mut self, clock: &C, timeout: Option<Duration>) -> io::Result<()> {
+    ///
+    /// Whatever the connections send, and however their bytes are cut and interleaved, what a turn does to the hub is a run of events. So
+    /// every reply between a transaction's begin and its commit or abort is what a private copy of the map committed at its begin
+    /// answers to its own requests alone, and the committed transactions, run one at a time in one order, give the same replies and the
+    /// same final map. (Serializable snapshot isolation as in Cahill, Röhm and Fekete, SIGMOD 2008.) A crash at any moment of the turn
+    /// leaves a map that was committed at one, or that with a COMMIT that was under way.
+    pub fn turn<C: Clock>(&mut self, clock: &C, timeout: Option<Duration>) -> io::Result<()>
+        ensures ran { HasRun (hub_of self.old) (hub_of self.new) }
+    {
+        self.hub.runs_follow();
         let patience = self.lingering.patience(Instant::now(clock).ok());
         let wait = longest_wait(
             self.backlog,
@@ -131,8 +143,11 @@ impl<D: Sectors> EventLoop<D> {
     }
 
     // Accepts connections. After an accept that failed, as for want of descriptors, none lingers.
-    fn accept(&mut self) {
+    fn accept(&mut self)
+        ensures { HasRun self.old.hub self.new.hub }
+    {
         self.backlog = accept_some(
+            self.alloc,
             &self.poll,
             &mut self.port,
             &mut self.hub,
@@ -145,10 +160,12 @@ impl<D: Sectors> EventLoop<D> {
     }
 
     // Drives the sessions that are ready, those that the last poll told of among them.
-    fn drive(&mut self, now: Option<Instant>) {
+    fn drive(&mut self, now: Option<Instant>)
+        ensures { HasRun self.old.hub self.new.hub }
+    {
         make_polled_ready(&self.events, &mut self.table);
         drive_ready(&mut self.hub, &mut self.table);
-        take_gone_out(&self.poll, now, &mut self.table, &mut self.lingering);
+        end_drives(&self.poll, now, &mut self.table, &mut self.lingering);
     }
 
     // Did the last poll tell of this token?

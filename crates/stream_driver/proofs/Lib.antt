@@ -7,3 +7,4 @@ pub mod Carry
 pub mod OneCall
 pub mod Loops
 pub mod Turns
+pub mod Buffering

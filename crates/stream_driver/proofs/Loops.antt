@@ -1,6 +1,9 @@
 -- The turns of the loops.
 use Rattle.std.proofs.Common.{◌≡◌, ◌≢◌, ◌⊎◌, inl, inr, ℕ, ◌+◌, ◌-◌, ◌<◌, ◌≤◌, Bool, List, [], ◌++◌, length, refl, sym, ap, subst, ◌∙◌, arith, length-append}
 use Rattle.std.proofs.lemmas.List.{nil_from_length}
+use Rattle.model.specs.Bounds.{inbox_max}
+use Rattle.std.specs.List.{flat_map}
+use Rattle.model.specs.ReplyText.{reply_text}
 use Rattle.model.specs.Grammar.{IsProperBeginning}
 use Rattle.sessions.specs.declared.events.Status.{Status}
 use Rattle.sessions.specs.declared.events.Status.TheVariants.{Absent, Open, Ending, Refused}
@@ -20,7 +23,7 @@ use Rattle.stream_driver.specs.declared.driving.Exchange.TheVariants.{Served, Br
 use Rattle.stream_driver.specs.Traffic.{Traffic, AllMoved}
 use Rattle.stream_driver.specs.Sessions.{Point, Leads, Runs, AwaitsMore, status_at, pending_at, room_at, inbox_at, inbox_in, IsPresentIn}
 use Rattle.stream_driver.specs.Drives.{Carried, Drove, Departs}
-use Rattle.stream_driver.specs.Calls.{Moves, WritesSome, ReadsSome, Flushes, Exchanges, WrittenSoFar, ReadSoFar, DrivenSoFar, served_in}
+use Rattle.stream_driver.specs.Calls.{Moves, WritesSome, ReadsSome, Flushes, Exchanges, WrittenSoFar, ReadSoFar, DrivenSoFar, DrivenOut, served_in}
 use Rattle.stream_driver.proofs.States.{leads_step}
 use Rattle.stream_driver.proofs.Inboxes.{beginning_short}
 use Rattle.stream_driver.proofs.Events.{Happens, point_after, Comes, Answered, IsBroken, IsStarved, Awaits, comes_to, serves_is, served_event, effect, open_present}
@@ -198,9 +201,9 @@ module _ (s : ℕ) (tells : Bool) where
           let inbox_now : inbox_at new.hub s ≡ st.now.inbox = ap inbox_in served.last_is ∙ ap (λ n. n.inbox) same in
           let pending_now : pending_at new.hub s ≡ [] = ap pending_in served.last_is ∙ ap (λ n. n.pending) same ∙ none in
           let status_now : status_at new.hub s ≡ Open = status_is ∙ ap (λ n. n.status) same ∙ opened in
-          let room_now : room_at new.hub s ≡ room_at mid.hub s = ap room_in served.last_is ∙ ap (λ n. 32768 - length n.inbox) same ∙ sym (ap room_in p.moves.carried.runs.last_is) in
-          let short : length st.now.inbox < 32768 = beginning_short st.now.inbox begins in
-          let room_was : room ≡ 32768 - length st.now.inbox = p.room_is ∙ ap room_in p.moves.carried.runs.last_is in (
+          let room_now : room_at new.hub s ≡ room_at mid.hub s = ap room_in served.last_is ∙ ap (λ n. inbox_max - length n.inbox) same ∙ sym (ap room_in p.moves.carried.runs.last_is) in
+          let short : length st.now.inbox < inbox_max = beginning_short st.now.inbox begins in
+          let room_was : room ≡ inbox_max - length st.now.inbox = p.room_is ∙ ap room_in p.moves.carried.runs.last_is in (
             record {
               moves = record { carried = done; none_served = how_many ∙ ap length unserved; status = status_now ∙ sym p.is_open ∙ p.moves.status };
               moved = p.moved;
@@ -238,7 +241,7 @@ module _ (s : ℕ) (tells : Bool) where
     abbrev more : (q : Carried s tells mid between new after) → served_in q ≤ 1 → served_in (further q) ≤ count + 1
     more q few = let all = total q in omega (arith, p.few)
 
-    pub driven_served : status_at mid.hub s ≡ Open → Exchanges s tells mid between Served new after → DrivenSoFar s tells old before new after (count + 1)
+    abbrev pub driven_served : status_at mid.hub s ≡ Open → Exchanges s tells mid between Served new after → DrivenSoFar s tells old before new after (count + 1)
     driven_served was_open q = record {
       carried = further q.carried;
       moved = moved_then before between after p.moved q.why.0;
@@ -250,7 +253,7 @@ module _ (s : ℕ) (tells : Bool) where
           all ∙ omega arith;
     }
 
-    pub driven_broke : Exchanges s tells mid between ExchangeBroke new after → DrivenSoFar s tells old before new after (count + 1)
+    abbrev pub driven_broke : Exchanges s tells mid between ExchangeBroke new after → DrivenSoFar s tells old before new after (count + 1)
     driven_broke q = record {
       carried = further q.carried;
       moved = moved_then before between after p.moved q.why.0;
@@ -339,14 +342,61 @@ module _ (s : ℕ) (tells : Bool) where
         why = inr (inr (inr (moved_then before between after p.moved q.why.0, closed_kinds (status_at new.hub s) q.moves.carried.runs.present is_closed q.why.1)));
       }
 
+    -- what was pending has left
+    pub flushed_out : (q : Flushes s tells mid between Empty new after) → length (pending_at mid.hub s) ≤ length q.moves.carried.runs.history.sent
+    flushed_out q =
+        let runs = q.moves.carried.runs in
+        let whole : length (runs.history.sent ++ runs.last.now.pending) ≡ length (runs.first.now.pending ++ flat_map reply_text runs.history.replies) = ap length runs.history.texts in
+        let left : length (runs.history.sent ++ runs.last.now.pending) ≡ length runs.history.sent + length runs.last.now.pending = length-append runs.history.sent runs.last.now.pending in
+        let right : length (runs.first.now.pending ++ flat_map reply_text runs.history.replies) ≡ length runs.first.now.pending + length (flat_map reply_text runs.history.replies) =
+        length-append runs.first.now.pending (flat_map reply_text runs.history.replies) in
+        let none : length runs.last.now.pending ≡ 0 = ap length (sym (ap pending_in runs.last_is) ∙ q.why.1) in
+        let was : length (pending_at mid.hub s) ≡ length runs.first.now.pending = ap (λ o. length (pending_in o)) runs.first_is in
+        omega arith
+
+    module _ (sent owed total : ℕ) (some : sent ≤ length p.carried.runs.history.sent) (owed_is : owed ≡ length (pending_at mid.hub s)) (total_is : total ≤ sent + owed) (q : Flushes s tells mid between Empty new after) where
+      pub out_flushed : total ≤ length (p.carried.runs.history.sent ++ q.moves.carried.runs.history.sent)
+      out_flushed =
+          let both : length (p.carried.runs.history.sent ++ q.moves.carried.runs.history.sent) ≡ length p.carried.runs.history.sent + length q.moves.carried.runs.history.sent =
+          length-append p.carried.runs.history.sent q.moves.carried.runs.history.sent in
+          let left = flushed_out q in
+          omega arith
+
+      pub again_full : count ≤ 64 → 262144 ≤ total → status_at new.hub s ≡ Open → Drove s tells old before Again new after
+      again_full le enough is_open = record {
+        last = new;
+        carried = further q.moves.carried;
+        few = few_flushed le q.moves;
+        ends = refl;
+        why = (moved_then before between after p.moved q.why.0, inr (let all = out_flushed in omega arith), is_open, q.why.1);
+      }
+
     pub again : Flushes s tells mid between Empty new after → count ≡ 64 → status_at new.hub s ≡ Open → Drove s tells old before Again new after
     again q all is_open = record {
       last = new;
       carried = further q.moves.carried;
       few = few_flushed (omega arith) q.moves;
       ends = refl;
-      why = (moved_then before between after p.moved q.why.0, (driven_flushed q.moves q.why.0).served_is is_open ∙ all, is_open, q.why.1);
+      why = (moved_then before between after p.moved q.why.0, inl ((driven_flushed q.moves q.why.0).served_is is_open ∙ all), is_open, q.why.1);
     }
+
+-- one more request, once what was pending has left
+module _ (s : ℕ) (tells : Bool) (old : Point) (before : Traffic) (mid : Point) (between : Traffic) (flushed : Point) (behind : Traffic) (new : Point) (after : Traffic) (count sent owed total : ℕ)
+    (p : DrivenOut s tells old before mid between count sent) (owed_is : owed ≡ length (pending_at mid.hub s)) (total_is : total ≤ sent + owed) (q : Flushes s tells mid between Empty flushed behind) where
+  more_out : (r : Carried s tells flushed behind new after) → total ≤ length ((p.driven.carried.runs.history.sent ++ q.moves.carried.runs.history.sent) ++ r.runs.history.sent)
+  more_out r =
+      let first = out_flushed s tells old before mid between flushed behind count p.driven sent owed total p.out owed_is total_is q in
+      let both = length-append (p.driven.carried.runs.history.sent ++ q.moves.carried.runs.history.sent) r.runs.history.sent in
+      omega arith
+
+  abbrev sofar : DrivenSoFar s tells old before flushed behind count
+  sofar = driven_flushed s tells old before mid between flushed behind count p.driven q.moves q.why.0
+
+  pub out_served : status_at flushed.hub s ≡ Open → Exchanges s tells flushed behind Served new after → DrivenOut s tells old before new after (count + 1) total
+  out_served is_open r = record { driven = driven_served s tells old before flushed behind new after count sofar is_open r; out = more_out r.carried }
+
+  pub out_broke : Exchanges s tells flushed behind ExchangeBroke new after → DrivenOut s tells old before new after (count + 1) total
+  out_broke r = record { driven = driven_broke s tells old before flushed behind new after count sofar r; out = more_out r.carried }
 
 -- a request was looked for, and there is only the beginning of one
 abbrev pub HasRead : ℕ → Bool → Traffic → Traffic → ℕ → Point → Point → Type 0

@@ -1,6 +1,7 @@
 -- One read and one write.
 use Rattle.std.proofs.Common.{◌≡◌, ◌≢◌, ℕ, ◌+◌, ◌-◌, ◌<◌, ◌≤◌, Bool, IsTrue, List, ◌++◌, length, take, drop, Some, refl, sym, ap, subst, ◌∙◌, arith, length-append}
 use Rattle.std.proofs.lemmas.List.{append-nil, length-drop}
+use Rattle.model.specs.Bounds.{inbox_max}
 use Rattle.model.specs.Map.{Bytes}
 use Rattle.sessions.specs.declared.events.Status.TheVariants.{Absent, Open}
 use Rattle.sessions.specs.declared.events.Outcome.TheVariants.{Done}
@@ -69,7 +70,7 @@ module _ {D : Type 0} {g : Ghosts D} (hub new : Hub D g) (s : ℕ) (tells : Bool
       let st = found (stream_of h.hub s) (open_present h.hub s (here h.hub stands.state).0) in
       let is : stream_of h.hub s ≡ Some st.0 = st.1 in
       let opened : st.0.now.status ≡ Open = sym (ap status_in is) ∙ (here h.hub stands.state).0 in
-      let fits : length piece ≤ 32768 - length st.0.now.inbox = subst (λ r. length piece ≤ r) (ap room_in is) (here h.hub stands.state).1 in
+      let fits : length piece ≤ inbox_max - length st.0.now.inbox = subst (λ r. length piece ≤ r) (ap room_in is) (here h.hub stands.state).1 in
       let step : hub_step h.hub (Receives s piece) c ≡ (with_stream h.hub s (received_by st.0 piece), Done) = receives h.hub s piece c st.0 is opened fits in
       let stays : st.0.now.status ≢ Absent = λ gone. (let bad : Open ≡ Absent = sym opened ∙ gone in cc) in
       let runs : Runs s h (point_after h (Receives s piece) c (failures new)) = one_event s h (Receives s piece) c (failures new) st.0 (received_by st.0 piece) refl happens is (ap (λ r. r.0.present) step) (bytes_came st.0 piece) stays in (
@@ -89,8 +90,8 @@ module _ {D : Type 0} {g : Ghosts D} (hub new : Hub D g) (s : ℕ) (tells : Bool
           pending = ap pending_in runs.last_is ∙ sym (ap pending_in is);
           answered = calls;
           why =
-              let after : room_at (hub_step h.hub (Receives s piece) c).0 s ≡ 32768 - length (st.0.now.inbox ++ piece) = ap room_in runs.last_is in
-              let before : room_at h.hub s ≡ 32768 - length st.0.now.inbox = ap room_in is in
+              let after : room_at (hub_step h.hub (Receives s piece) c).0 s ≡ inbox_max - length (st.0.now.inbox ++ piece) = ap room_in runs.last_is in
+              let before : room_at h.hub s ≡ inbox_max - length st.0.now.inbox = ap room_in is in
               let joined : length (st.0.now.inbox ++ piece) ≡ length st.0.now.inbox + length piece = length-append st.0.now.inbox piece in
               (some, omega arith);
         },

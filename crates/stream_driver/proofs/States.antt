@@ -3,6 +3,7 @@ use Rattle.std.proofs.Common.{◌≡◌, ℕ, ◌-◌, ◌≤◌, arith, subst, 
 use Rattle.std.specs.Map.{lookup}
 use Rattle.std.proofs.Math.Logic.{∥∥₁_elim, ∥∥₁_map}
 use Rattle.std.proofs.Math.Bridge.{le_prop}
+use Rattle.model.specs.Bounds.{inbox_max}
 use Rattle.sessions.specs.declared.events.Status.{Status}
 use Rattle.sessions.specs.declared.events.Status.TheVariants.{Absent, Open, Ending, Refused}
 use Rattle.sessions.specs.declared.events.Outcome.{Outcome}
@@ -38,7 +39,7 @@ room_alike (Some p) (Some q) e = ap (λ o. room_of o) e
   where
     room_of : Option SessionState → ℕ
     room_of None = 0
-    room_of (Some n) = 32768 - length n.inbox
+    room_of (Some n) = inbox_max - length n.inbox
 
 stable_open : (v : Status) → ((v ≡ Open → ⊥) → ⊥) → v ≡ Open
 stable_open Open f = refl
@@ -105,6 +106,14 @@ le_after a b P Q m n some q f = ∥∥₁_elim some le_prop (λ w. let h = point
 pub leads_three : {D : Type 0} {g : Ghosts D} (a b c d : Hub D g) (P Q R S : Point → Point → Type 0) → Leads a b P → Leads b c Q → Leads c d R
     → ((h k l m : Point) → StandsFor c l.hub → P h k → Q k l → R l m → S h m) → Leads a d S
 leads_three a b c d P Q R S p q r f = λ h stands. let k = p h stands in let l = q k.0 k.1 in let m = r l.0 l.1 in (m.0, m.1, f h k.0 l.0 m.0 l.1.state k.2 l.2 m.2)
+
+-- the same, with what the hub between stands for
+pub leads_two_at : {D : Type 0} {g : Ghosts D} (a b c : Hub D g) (P Q R : Point → Point → Type 0) → Leads a b P → Leads b c Q → ((h k l : Point) → StandsFor b k.hub → StandsFor c l.hub → P h k → Q k l → R h l) → Leads a c R
+leads_two_at a b c P Q R p q f = λ h stands. let k = p h stands in let l = q k.0 k.1 in (l.0, l.1, f h k.0 l.0 k.1.state l.1.state k.2 l.2)
+
+pub leads_three_at : {D : Type 0} {g : Ghosts D} (a b c d : Hub D g) (P Q R S : Point → Point → Type 0) → Leads a b P → Leads b c Q → Leads c d R
+    → ((h k l m : Point) → StandsFor b k.hub → StandsFor c l.hub → P h k → Q k l → R l m → S h m) → Leads a d S
+leads_three_at a b c d P Q R S p q r f = λ h stands. let k = p h stands in let l = q k.0 k.1 in let m = r l.0 l.1 in (m.0, m.1, f h k.0 l.0 m.0 k.1.state l.1.state k.2 l.2 m.2)
 
 pub leads_four : {D : Type 0} {g : Ghosts D} (a b c d e : Hub D g) (P Q R S T : Point → Point → Type 0) → Leads a b P → Leads b c Q → Leads c d R → Leads d e S
     → ((h k l m n : Point) → P h k → Q k l → R l m → S m n → T h n) → Leads a e T

@@ -14,7 +14,7 @@ use Rattle.stream_driver.specs.declared.entries.EntryState.TheVariants.{Idle, Re
 use Rattle.stream_driver.specs.declared.entries.Entry.{Entry}
 use Rattle.stream_driver.specs.Traffic.{Traffic}
 use Rattle.stream_driver.specs.Sessions.{Point, Leads, IsPresent, IsPresentIn}
-use Rattle.stream_driver.specs.Drives.{EndsAs}
+use Rattle.stream_driver.specs.Drives.{Drove, EndsAs}
 use Rattle.stream_driver.specs.Entries.{HaveSessions, DrivenEntry, DrivenIn, DrivenSlot, DrivenAll, EntriesSoFar, state_after}
 use Rattle.stream_driver.proofs.Events.{leaves_others}
 use Rattle.stream_driver.proofs.States.{leads_then, leads_map, some_after}
@@ -44,6 +44,13 @@ module _ {T : Type 0} (tells : Bool) (traffic : T → Traffic) where
       rw d.session (ends_present old.session d.drove.last later d.answer going d.drove.ends d.drove.carried.runs.present)
   entry_present Idle earlier old later new is d alive p = rw (d.0, d.1) p
   entry_present EntryGone earlier old later new is d alive p = absurd (alive (rw d.0 is))
+
+  -- an entry that was ready was driven
+  pub driven_once : (earlier later : Point) (old : Entry T) (answer : Progress) (stream : T) (state : EntryState) → old.state ≡ Ready → state ≡ state_after answer
+      → Drove old.session tells earlier (traffic old.stream) answer later (traffic stream) → DrivenEntry tells traffic earlier old later (record { session = old.session; stream = stream; state = state })
+  driven_once earlier later old answer stream state ready is drove =
+      let new : Entry T = record { session = old.session; stream = stream; state = state } in
+      subst (λ (s : EntryState). DrivenIn tells traffic s earlier old later new) (sym ready) (record { answer = answer; drove = drove; session = refl; state = is })
 
   -- each other session is as it was
   entry_other : (state : EntryState) (earlier : Point) (old : Entry T) (later : Point) (new : Entry T) → old.state ≡ state → DrivenIn tells traffic state earlier old later new

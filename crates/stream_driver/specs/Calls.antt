@@ -93,3 +93,8 @@ pub record DrivenSoFar (s : ℕ) (tells : Bool) (old : Point) (before : Traffic)
   pub moved : AllMoved before after
   pub few : served_in carried ≤ served
   pub served_is : status_at new.hub s ≡ Open → served_in carried ≡ served
+
+-- and at least so many bytes were sent
+pub record DrivenOut (s : ℕ) (tells : Bool) (old : Point) (before : Traffic) (new : Point) (after : Traffic) (served sent : ℕ) : Type 0 where
+  pub driven : DrivenSoFar s tells old before new after served
+  pub out : sent ≤ length driven.carried.runs.history.sent

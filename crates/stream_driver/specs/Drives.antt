@@ -19,13 +19,13 @@ pub record Carried (s : ℕ) (tells : Bool) (old : Point) (before : Traffic) (ne
   pub taken : IsTrue tells → after.taken ≡ before.taken ++ runs.history.sent
 
 -- Why a drive that has come this far answers so. Each of its calls of the stream moved bytes, but the last one where that is the reason:
--- so none follows a call that blocked, failed or ended.
-abbrev pub Why : ℕ → HubState → Traffic → Traffic → ℕ → Progress → Type 0
-Why s last before after served Waiting =
+-- so none follows a call that blocked, failed or ended. `Again` comes after 64 requests, or after 262,144 bytes.
+abbrev pub Why : ℕ → HubState → Traffic → Traffic → ℕ → ℕ → Progress → Type 0
+Why s last before after served sent Waiting =
     (EndsWith (Write WriteBlocked) before after × (pending_at last s ≢ []))
     ⊎ (EndsWith (Read ReadBlocked) before after × AwaitsMore last s)
-Why s last before after served Again = AllMoved before after × (served ≡ 64) × (status_at last s ≡ Open) × (pending_at last s ≡ [])
-Why s last before after served Gone =
+Why s last before after served sent Again = AllMoved before after × ((served ≡ 64) ⊎ (262144 ≤ sent)) × (status_at last s ≡ Open) × (pending_at last s ≡ [])
+Why s last before after served sent Gone =
     (EndsWith (Read ReadFailed) before after × AwaitsMore last s)
     ⊎ ((EndsWith (Write WriteFailed) before after × (pending_at last s ≢ []))
     ⊎ ((EndsWith (Read ReadEnded) before after × AwaitsMore last s)
@@ -50,4 +50,4 @@ pub record Drove (s : ℕ) (tells : Bool) (old : Point) (before : Traffic) (answ
   pub carried : Carried s tells old before last after
   pub few : length carried.runs.history.served ≤ 64
   pub ends : EndsAs s last new answer
-  pub why : Why s last.hub before after (length carried.runs.history.served) answer
+  pub why : Why s last.hub before after (length carried.runs.history.served) (length carried.runs.history.sent) answer

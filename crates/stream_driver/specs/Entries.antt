@@ -1,5 +1,5 @@
 -- What a turn over the table of connections does.
-use Rattle.std.specs.Prelude.{◌≡◌, ◌≢◌, ℕ, ◌≤◌, Bool, List, [], ◌∷◌, Option, Some, None, slice_index_or, take, drop, length}
+use Rattle.std.specs.Prelude.{◌≡◌, ◌≢◌, ℕ, ◌≤◌, ◌&&◌, Bool, true, false, List, [], ◌∷◌, Option, Some, None, slice_index_or, take, drop, length}
 use Rattle.sector.specs.declared.device.Sectors.{Ghosts}
 use Rattle.sessions.specs.declared.hub.Hub.{Hub}
 use Rattle.sessions.specs.StandsFor.{failures}
@@ -8,7 +8,9 @@ use Rattle.stream_driver.specs.declared.answers.Progress.TheVariants.{Waiting, A
 use Rattle.stream_driver.specs.declared.entries.EntryState.{EntryState}
 use Rattle.stream_driver.specs.declared.entries.EntryState.TheVariants.{Idle, Ready, Gone as EntryGone}
 use Rattle.stream_driver.specs.declared.entries.Entry.{Entry}
+use Rattle.stream_driver.specs.declared.buffered.BufferedStream.{BufferedStream}
 use Rattle.stream_driver.specs.Traffic.{Traffic}
+use Rattle.stream_driver.specs.Buffers.{Finishes, fresh, is_settled}
 use Rattle.stream_driver.specs.Sessions.{IsPresent, Point, Leads}
 use Rattle.stream_driver.specs.Drives.{Drove}
 
@@ -63,3 +65,27 @@ module _ {T : Type 0} (tells : Bool) (traffic : T → Traffic) where
     pub len : length new ≡ length slots
     pub sessions : HaveSessions later new
     pub numbers : KeepSessions slots new
+
+-- ---- entries whose streams hold bytes
+
+abbrev pub is_gone : EntryState → Bool
+is_gone EntryGone = true
+is_gone Idle = false
+is_gone Ready = false
+
+module _ {T : Type 0} where
+  -- it is gone, and its stream holds nothing, or failed to take it
+  abbrev pub is_over : Entry (BufferedStream T) → Bool
+  is_over entry = is_gone entry.state && is_settled entry.stream
+
+  module _ (tells : Bool) (traffic : T → Traffic) where
+    abbrev pub EndsIn : EntryState → BufferedStream T → BufferedStream T → Type 0
+    EndsIn Idle old new = new ≡ fresh old
+    EndsIn Ready old new = Finishes tells traffic (fresh old) new
+    EndsIn EntryGone old new = Finishes tells traffic (fresh old) new
+
+    -- the end of an entry's drive: what its stream holds was written as far as it goes, but for a stream that is waited for
+    pub record EndsDrive (old new : Entry (BufferedStream T)) : Type 0 where
+      pub session : new.session ≡ old.session
+      pub state : new.state ≡ old.state
+      pub stream : EndsIn old.state old.stream new.stream

@@ -1,4 +1,5 @@
 pub mod Traffic
+pub mod Buffers
 pub mod Sessions
 pub mod Drives
 pub mod Calls

@@ -1,7 +1,7 @@
 //! One drive.
-ghost use Rattle.std.specs.Prelude.{◌≡◌, ◌<◌, ◌≤◌, length, []};
+ghost use Rattle.std.specs.Prelude.{◌≡◌, ◌<◌, length, []};
 ghost use Rattle.sessions.specs.declared.events.Status.TheVariants.{Open};
-ghost use Rattle.sessions.specs.StandsFor.{failures};
+ghost use Rattle.sessions.specs.Laws.{HasRun};
 ghost use Rattle.stream_driver.specs.Sessions.{AwaitsMore, InSomeState, IsPresent, IsPresentIn, Leads, pending_at, status_at, room_at};
 ghost use Rattle.stream_driver.specs.Drives.{Drove, Departs};
 ghost use Rattle.stream_driver.specs.Calls.{WritesSome, Flushes, ReadsSome, Exchanges};
@@ -13,6 +13,9 @@ use sessions::{Event, Hub, Outcome, Status};
 
 /// The most requests that one drive serves.
 pub const REQUESTS_MAX: u32 = 64;
+
+/// Once this many bytes were sent in a drive, it serves no more requests.
+pub const OUTPUT_MAX: usize = 262_144;
 
 /// The most bytes that one read asks for.
 pub const READ_MAX: usize = 4_096;
@@ -39,9 +42,10 @@ enum Exchange {
 // One write of what is pending.
 fn write_some<D: Sectors, S: Stream>(hub: &mut Hub<D>, s: u64, stream: &mut S) -> WriteAnswer
     requires { InSomeState hub.old (λ h. IsPresentIn h s × (0 < length (pending_at h s))) }
-    ensures device { failures hub.old ≤ failures hub.new }
+    ensures ran { HasRun hub.old hub.new }
     ensures written { Leads hub.old hub.new (λ h k. WritesSome s S.tells h (S.traffic stream.old) result k (S.traffic stream.new)) }
 {
+    hub.runs_follow();
     let answer = stream.write(hub.pending(s));
     if let WriteAnswer::Moved(n) = answer {
         let _ = hub.step(&Event::Sent(s, n));
@@ -52,9 +56,10 @@ fn write_some<D: Sectors, S: Stream>(hub: &mut Hub<D>, s: u64, stream: &mut S) -
 // Writes what is pending, as far as the stream takes it.
 fn write_out<D: Sectors, S: Stream>(hub: &mut Hub<D>, s: u64, stream: &mut S) -> Flush
     requires { IsPresent hub.old s }
-    ensures device { failures hub.old ≤ failures hub.new }
+    ensures ran { HasRun hub.old hub.new }
     ensures written { Leads hub.old hub.new (λ h k. Flushes s S.tells h (S.traffic stream.old) result k (S.traffic stream.new)) }
 {
+    hub.runs_follow();
     let mut owed = hub.pending(s).len();
     while owed > 0 {
         match write_some(hub, s, stream) {
@@ -75,9 +80,10 @@ fn read_some<D: Sectors, S: Stream>(
 ) -> ReadAnswer
     requires some { 0 < room }
     requires opened { InSomeState hub.old (λ h. (status_at h s ≡ Open) × (room ≡ room_at h s)) }
-    ensures device { failures hub.old ≤ failures hub.new }
+    ensures ran { HasRun hub.old hub.new }
     ensures read { Leads hub.old hub.new (λ h k. AwaitsMore h.hub s → ReadsSome s S.tells h (S.traffic stream.old) result k (S.traffic stream.new)) }
 {
+    hub.runs_follow();
     let mut buffer = [0u8; READ_MAX];
     let most = room.min(READ_MAX);
     let piece = &mut buffer[..most];
@@ -91,9 +97,10 @@ fn read_some<D: Sectors, S: Stream>(
 // Reads until one request can be served, and serves it.
 fn serve_one<D: Sectors, S: Stream>(hub: &mut Hub<D>, s: u64, stream: &mut S) -> Exchange
     requires { InSomeState hub.old (λ h. (status_at h s ≡ Open) × (pending_at h s ≡ [])) }
-    ensures device { failures hub.old ≤ failures hub.new }
+    ensures ran { HasRun hub.old hub.new }
     ensures served { Leads hub.old hub.new (λ h k. Exchanges s S.tells h (S.traffic stream.old) result k (S.traffic stream.new)) }
 {
+    hub.runs_follow();
     let mut room = hub.room(s);
     loop {
         match hub.step(&Event::Serve(s)) {
@@ -118,7 +125,7 @@ fn serve_one<D: Sectors, S: Stream>(hub: &mut Hub<D>, s: u64, stream: &mut S) ->
 // The session leaves.
 fn depart<D: Sectors>(hub: &mut Hub<D>, s: u64) -> Progress
     ensures answer { result ≡ Progress.Gone }
-    ensures device { failures hub.old ≤ failures hub.new }
+    ensures ran { HasRun hub.old hub.new }
     ensures left { Leads hub.old hub.new (λ h k. Departs s h k) }
 {
     let _ = hub.step(&Event::Left(s));
@@ -126,25 +133,28 @@ fn depart<D: Sectors>(hub: &mut Hub<D>, s: u64) -> Progress
 }
 
 /// Carries bytes between a stream and a session that is present, until the stream blocks, the session has left, or `REQUESTS_MAX`
-/// requests were served and their replies sent.
+/// requests were served and their replies sent, or `OUTPUT_MAX` bytes of replies were.
 ///
 /// It writes what is pending; where nothing is, it serves a request; where the inbox holds only the beginning of one, it reads, at most
 /// `READ_MAX` bytes and never more than the inbox has room for. A call of the stream that moves no bytes is the last of the drive.
 ///
 /// `Waiting` where a write blocked, or a read while the inbox held only the beginning of a request. `Again` where the session is open and
-/// owes no reply after `REQUESTS_MAX` requests. `Gone` where the session has left, which aborts its transaction: a call of the stream
+/// owes no reply after `REQUESTS_MAX` requests or `OUTPUT_MAX` bytes. `Gone` where the session has left, which aborts its transaction: a call of the stream
 /// failed, the stream ended (what was read of a request is dropped), a request was refused memory, or there was a broken frame, whose reply
 /// is written. Other sessions are unchanged.
 ///
-/// The device failed in none of these requests where its count of failures did not rise.
+/// What it did is a run of the hub: lawful at each moment, with the device's failures counted, and what a crash leaves known.
 ///
 /// It may grow what the requests grow, and the output of the session.
 pub fn drive<D: Sectors, S: Stream>(hub: &mut Hub<D>, s: u64, stream: &mut S) -> Progress
     requires { IsPresent hub.old s }
-    ensures device { failures hub.old ≤ failures hub.new }
+    ensures ran { HasRun hub.old hub.new }
     ensures driven { Leads hub.old hub.new (λ h k. Drove s S.tells h (S.traffic stream.old) result k (S.traffic stream.new)) }
 {
+    hub.runs_follow();
+    let mut sent = 0usize;
     'requests: for _served in 0..REQUESTS_MAX {
+        let owed = hub.pending(s).len();
         match write_out(hub, s, stream) {
             Flush::Empty => {}
             Flush::Blocked => return Progress::Waiting,
@@ -153,6 +163,10 @@ pub fn drive<D: Sectors, S: Stream>(hub: &mut Hub<D>, s: u64, stream: &mut S) ->
         match hub.status(s) {
             Status::Open => {}
             _ => return depart(hub, s),
+        }
+        sent = sent.saturating_add(owed);
+        if sent >= OUTPUT_MAX {
+            return Progress::Again;
         }
         match serve_one(hub, s, stream) {
             Exchange::Served | Exchange::Broke => {}

@@ -1,10 +1,11 @@
 //! A table of connections.
-ghost use Rattle.std.specs.Prelude.{◌≡◌, ◌≢◌, ◌≤◌};
-ghost use Rattle.sessions.specs.StandsFor.{failures};
+ghost use Rattle.std.specs.Prelude.{◌≡◌, ◌≢◌};
+ghost use Rattle.sessions.specs.Laws.{HasRun};
 ghost use Rattle.stream_driver.specs.Sessions.{IsPresent, Leads};
-ghost use Rattle.stream_driver.specs.Entries.{DrivenEntry, DrivenAll, HaveSessions, KeepSessions};
+ghost use Rattle.stream_driver.specs.Entries.{DrivenEntry, DrivenAll, HaveSessions, KeepSessions, EndsDrive, is_over};
 
 use crate::answers::Progress;
+use crate::buffered::BufferedStream;
 use crate::driving::drive;
 use crate::stream::Stream;
 use sector::Sectors;
@@ -33,11 +34,12 @@ pub struct Entry<S: Stream> {
 // Drives an entry, if it is ready.
 fn drive_entry<D: Sectors, S: Stream>(hub: &mut Hub<D>, entry: &mut Entry<S>)
     requires { entry.old.state ≢ EntryState.Gone → IsPresent hub.old entry.old.session }
-    ensures device { failures hub.old ≤ failures hub.new }
+    ensures ran { HasRun hub.old hub.new }
     ensures driven { Leads hub.old hub.new (λ h k. DrivenEntry S.tells S.traffic h entry.old k entry.new) }
     ensures session { entry.new.session ≡ entry.old.session }
     ensures gone { entry.old.state ≡ EntryState.Gone → entry.new.state ≡ EntryState.Gone }
 {
+    hub.runs_follow();
     if let EntryState::Ready = entry.state {
         entry.state = match drive(hub, entry.session, &mut entry.stream) {
             Progress::Waiting => EntryState::Idle,
@@ -55,14 +57,30 @@ fn drive_entry<D: Sectors, S: Stream>(hub: &mut Hub<D>, entry: &mut Entry<S>)
 /// It may grow what the requests grow, and the outputs of the sessions.
 pub fn drive_ready<D: Sectors, S: Stream>(hub: &mut Hub<D>, table: &mut Slab<Entry<S>>)
     requires { HaveSessions hub.old table.old.slots }
-    ensures device { failures hub.old ≤ failures hub.new }
+    ensures ran { HasRun hub.old hub.new }
     ensures driven { Leads hub.old hub.new (λ h k. DrivenAll S.tells S.traffic h table.old.slots k table.new.slots) }
     ensures sessions { HaveSessions hub.new table.new.slots }
     ensures numbers { KeepSessions table.old.slots table.new.slots }
 {
+    hub.runs_follow();
     for key in 0..table.capacity() {
         if let Some(entry) = table.get_mut(key) {
             drive_entry(hub, entry);
         }
     }
+}
+
+/// Ends the drive of an entry: what its stream holds is written, as far as the stream behind takes it, and the next drive may read. A
+/// stream that is waited for has blocked, and is left alone. Is the entry gone, and does its stream hold nothing that may still leave?
+///
+/// Takes no memory that a caller sees.
+pub fn end_drive<S: Stream>(entry: &mut Entry<BufferedStream<S>>) -> bool
+    ensures ends { EndsDrive S.tells S.traffic entry.old entry.new }
+    ensures over { result ≡ is_over entry.new }
+{
+    entry.stream.begin_drive();
+    if entry.state != EntryState::Idle {
+        entry.stream.finish();
+    }
+    entry.state == EntryState::Gone && entry.stream.is_settled()
 }

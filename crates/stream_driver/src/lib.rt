@@ -3,11 +3,15 @@
 #![tactic(auto)]
 
 mod answers;
+mod buffered;
 mod driving;
 mod entries;
+mod held;
 mod stream;
 
 pub use answers::{Call, Progress, ReadAnswer, WriteAnswer};
-pub use driving::{READ_MAX, REQUESTS_MAX, drive};
-pub use entries::{Entry, EntryState, drive_ready};
+pub use buffered::{BufferedStream, Flushed};
+pub use driving::{OUTPUT_MAX, READ_MAX, REQUESTS_MAX, drive};
+pub use entries::{Entry, EntryState, drive_ready, end_drive};
+pub use held::HELD_MAX;
 pub use stream::Stream;

@@ -1,4 +1,5 @@
 use Rattle.std.proofs.Common.{◌≡◌}
+use Rattle.sessions.specs.Laws.{HasRun}
 use Rattle.stream_driver.specs.Sessions.{Stands}
 use Rattle.stream_driver.specs.Entries.{HaveSessions}
 use Rattle.event_loop.specs.Accepts.{after_taken}
@@ -9,4 +10,4 @@ use Rattle.event_loop.proofs.connections.accept_some.Given as goal
 abbrev pub invariant-loop-accepted : goal.invariant-loop-accepted
 invariant-loop-accepted g l =
     Stands l.hub × HaveSessions l.hub l.table.slots × AreBelow l.next l.table.slots × HaveEntries l.hub l.table.slots
-    × (g.L.Listener.accepts l.listener ≡ after_taken l._accepted (g.L.Listener.accepts l.initial.listener))
+    × (g.L.Listener.accepts l.listener ≡ after_taken l._accepted (g.L.Listener.accepts l.initial.listener)) × HasRun l.initial.hub l.hub

@@ -7,7 +7,7 @@ use Rattle.stream_driver.proofs.driving.read_some.Goals as goal
 pub returns-in-Moved : goal.returns-in-Moved
 returns-in-Moved g c =
     record {
-      device = c.step.ensures.device;
+      ran = c.step.ensures.ran;
       read =
           let len : length (take c.in-Moved.n c.read-answer.new.into) ≡ c.in-Moved.n = grind (arith, common_steps) in
           let fits : length (take c.in-Moved.n c.read-answer.new.into) ≤ c.args.room = grind (arith, common_steps) in
@@ -20,7 +20,7 @@ returns-in-Moved g c =
 pub returns-in_default : goal.returns-in_default
 returns-in_default g c =
     record {
-      device = omega arith;
+      ran = c.runs_follow.ensures.none;
       read =
           read_none c.args.hub.now c.args.s g.S.Stream.tells (g.S.Stream.traffic c.args.stream.now) (g.S.Stream.traffic c.read-answer.new.self) (λ h stands. open_at c.args.hub.now c.args.s h stands _ c.requires.opened (λ k p. p.0)) c.read-answer.new.into
           c.read-answer.ensures.taken c.read-answer.result c.in_default.not-Moved c.read-answer.ensures.given c.read-answer.ensures.answered;

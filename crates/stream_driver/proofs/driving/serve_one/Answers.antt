@@ -6,7 +6,7 @@ use Rattle.stream_driver.proofs.driving.serve_one.Goals as goal
 
 pub loop-hub-init : goal.loop-hub-init
 loop-hub-init g c = (
-  omega arith,
+  c.runs_follow.ensures.none,
   λ h stands. (
     h,
     stands,
@@ -17,7 +17,7 @@ loop-hub-init g c = (
 pub returns-in-Memory : goal.returns-in-Memory
 returns-in-Memory g c =
     record {
-      device = omega (arith, c.loop-hub.invariant.0, c.step.ensures.device);
+      ran = c.runs_follow.ensures.follow _ _ _ c.loop-hub.invariant.0 c.step.ensures.ran;
       served =
           leads_step c.args.hub.now c.loop-hub.hub c.step.new.self _ _ _ c.step.result c.loop-hub.invariant.1 c.step.ensures.step c.step.ensures.device
           (λ h k choice happens is stands p. serve_starved c.args.s g.S.Stream.tells h (g.S.Stream.traffic c.args.stream.now) k (g.S.Stream.traffic c.loop-hub.stream) c.loop-hub.room p choice (failures c.step.new.self) happens c.step.result is c.in-Memory.is);
@@ -26,7 +26,7 @@ returns-in-Memory g c =
 pub returns-in-Open : goal.returns-in-Open
 returns-in-Open g c =
     record {
-      device = omega (arith, c.loop-hub.invariant.0, c.step.ensures.device);
+      ran = c.runs_follow.ensures.follow _ _ _ c.loop-hub.invariant.0 c.step.ensures.ran;
       served =
           leads_step c.args.hub.now c.loop-hub.hub c.step.new.self _ _ _ c.step.result c.loop-hub.invariant.1 c.step.ensures.step c.step.ensures.device
           (λ h k choice happens is stands p. serve_open c.args.s g.S.Stream.tells h (g.S.Stream.traffic c.args.stream.now) k (g.S.Stream.traffic c.loop-hub.stream) c.loop-hub.room p choice (failures c.step.new.self) happens c.step.result is c.in-Done.is (sym (c.in-Open.ensures _ stands)));
@@ -35,7 +35,7 @@ returns-in-Open g c =
 pub returns-in_default-status : goal.returns-in_default-status
 returns-in_default-status g c =
     record {
-      device = omega (arith, c.loop-hub.invariant.0, c.step.ensures.device);
+      ran = c.runs_follow.ensures.follow _ _ _ c.loop-hub.invariant.0 c.step.ensures.ran;
       served =
           leads_step c.args.hub.now c.loop-hub.hub c.step.new.self _ _ _ c.step.result c.loop-hub.invariant.1 c.step.ensures.step c.step.ensures.device
           (λ h k choice happens is stands p. serve_closed c.args.s g.S.Stream.tells h (g.S.Stream.traffic c.args.stream.now) k (g.S.Stream.traffic c.loop-hub.stream) c.loop-hub.room p choice (failures c.step.new.self) happens c.step.result is c.in-Done.is (λ e. c.in_default-status.not-Open (c.status.ensures _ stands ∙ e)));
@@ -69,7 +69,7 @@ loop-hub-smaller g c =
 
 pub loop-hub-preserved : goal.loop-hub-preserved
 loop-hub-preserved g c = (
-  omega (arith, c.loop-hub.invariant.0, c.step.ensures.device, c.read_some.ensures.device),
+  c.runs_follow.ensures.follow _ _ _ (c.runs_follow.ensures.follow _ _ _ c.loop-hub.invariant.0 c.step.ensures.ran) c.read_some.ensures.ran,
   leads_then c.args.hub.now c.step.new.self c.read_some.new.hub _ _ _
       (waits c.args.hub.now c.loop-hub.hub c.step.new.self c.args.s g.S.Stream.tells (g.S.Stream.traffic c.args.stream.now) (g.S.Stream.traffic c.loop-hub.stream) c.loop-hub.room c.step.result c.loop-hub.invariant.1 c.step.ensures.step c.step.ensures.device c.in_default.not-Done c.in_default.not-Memory) c.in-Moved.ensures.read
       (λ h k l stands p q. read_then c.args.s g.S.Stream.tells h (g.S.Stream.traffic c.args.stream.now) k (g.S.Stream.traffic c.loop-hub.stream) l (g.S.Stream.traffic c.read_some.new.stream) c.loop-hub.room p.0 c.in-Moved.n (q p.1)),
@@ -78,7 +78,7 @@ loop-hub-preserved g c = (
 pub returns-in-Blocked : goal.returns-in-Blocked
 returns-in-Blocked g c =
     record {
-      device = omega (arith, c.loop-hub.invariant.0, c.step.ensures.device, c.read_some.ensures.device);
+      ran = c.runs_follow.ensures.follow _ _ _ (c.runs_follow.ensures.follow _ _ _ c.loop-hub.invariant.0 c.step.ensures.ran) c.read_some.ensures.ran;
       served =
           leads_then c.args.hub.now c.step.new.self c.read_some.new.hub _ _ _
           (waits c.args.hub.now c.loop-hub.hub c.step.new.self c.args.s g.S.Stream.tells (g.S.Stream.traffic c.args.stream.now) (g.S.Stream.traffic c.loop-hub.stream) c.loop-hub.room c.step.result c.loop-hub.invariant.1 c.step.ensures.step c.step.ensures.device c.in_default.not-Done c.in_default.not-Memory) c.in-Blocked.ensures.read
@@ -88,7 +88,7 @@ returns-in-Blocked g c =
 pub returns-in-Failed : goal.returns-in-Failed
 returns-in-Failed g c =
     record {
-      device = omega (arith, c.loop-hub.invariant.0, c.step.ensures.device, c.read_some.ensures.device);
+      ran = c.runs_follow.ensures.follow _ _ _ (c.runs_follow.ensures.follow _ _ _ c.loop-hub.invariant.0 c.step.ensures.ran) c.read_some.ensures.ran;
       served =
           leads_then c.args.hub.now c.step.new.self c.read_some.new.hub _ _ _
           (waits c.args.hub.now c.loop-hub.hub c.step.new.self c.args.s g.S.Stream.tells (g.S.Stream.traffic c.args.stream.now) (g.S.Stream.traffic c.loop-hub.stream) c.loop-hub.room c.step.result c.loop-hub.invariant.1 c.step.ensures.step c.step.ensures.device c.in_default.not-Done c.in_default.not-Memory) c.in-Failed.ensures.read
@@ -98,7 +98,7 @@ returns-in-Failed g c =
 pub returns-in-Ended : goal.returns-in-Ended
 returns-in-Ended g c =
     record {
-      device = omega (arith, c.loop-hub.invariant.0, c.step.ensures.device, c.read_some.ensures.device);
+      ran = c.runs_follow.ensures.follow _ _ _ (c.runs_follow.ensures.follow _ _ _ c.loop-hub.invariant.0 c.step.ensures.ran) c.read_some.ensures.ran;
       served =
           leads_then c.args.hub.now c.step.new.self c.read_some.new.hub _ _ _
           (waits c.args.hub.now c.loop-hub.hub c.step.new.self c.args.s g.S.Stream.tells (g.S.Stream.traffic c.args.stream.now) (g.S.Stream.traffic c.loop-hub.stream) c.loop-hub.room c.step.result c.loop-hub.invariant.1 c.step.ensures.step c.step.ensures.device c.in_default.not-Done c.in_default.not-Memory) c.in-Ended.ensures.read

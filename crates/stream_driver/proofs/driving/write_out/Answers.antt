@@ -5,7 +5,7 @@ use Rattle.stream_driver.proofs.driving.write_out.Goals as goal
 
 pub loop-owed-init : goal.loop-owed-init
 loop-owed-init g c = (
-  omega arith,
+  c.runs_follow.ensures.none,
   λ h stands.
       (h, stands, written_none c.args.s g.S.Stream.tells h (g.S.Stream.traffic c.args.stream.now) (length c.pending-owed.result.now) (present_at c.args.hub.now c.args.s h.hub stands.state _ c.requires (λ k p. p)) (ap length (c.pending-owed.ensures h.hub stands.state))),
 )
@@ -33,7 +33,7 @@ loop-owed-smaller g c =
 
 pub loop-owed-preserved : goal.loop-owed-preserved
 loop-owed-preserved g c = (
-  omega (arith, c.loop-owed.invariant.0, c.write_some.ensures.device),
+  c.runs_follow.ensures.follow _ _ _ c.loop-owed.invariant.0 c.write_some.ensures.ran,
   leads_then c.args.hub.now c.loop-owed.hub c.write_some.new.hub _ _ _ c.loop-owed.invariant.1 c.in-Moved.ensures.written
       (λ h k l stands p q. written_then c.args.s g.S.Stream.tells h (g.S.Stream.traffic c.args.stream.now) k (g.S.Stream.traffic c.loop-owed.stream) l (g.S.Stream.traffic c.write_some.new.stream) c.loop-owed.owed p c.in-Moved.n q),
 )
@@ -41,7 +41,7 @@ loop-owed-preserved g c = (
 pub returns-in-Blocked : goal.returns-in-Blocked
 returns-in-Blocked g c =
     record {
-      device = omega (arith, c.loop-owed.invariant.0, c.write_some.ensures.device);
+      ran = c.runs_follow.ensures.follow _ _ _ c.loop-owed.invariant.0 c.write_some.ensures.ran;
       written =
           leads_then c.args.hub.now c.loop-owed.hub c.write_some.new.hub _ _ _ c.loop-owed.invariant.1 c.in-Blocked.ensures.written
           (λ h k l stands p q. written_blocked c.args.s g.S.Stream.tells h (g.S.Stream.traffic c.args.stream.now) k (g.S.Stream.traffic c.loop-owed.stream) l (g.S.Stream.traffic c.write_some.new.stream) c.loop-owed.owed p c.loop-owed-test.true q);
@@ -50,7 +50,7 @@ returns-in-Blocked g c =
 pub returns-in-Failed : goal.returns-in-Failed
 returns-in-Failed g c =
     record {
-      device = omega (arith, c.loop-owed.invariant.0, c.write_some.ensures.device);
+      ran = c.runs_follow.ensures.follow _ _ _ c.loop-owed.invariant.0 c.write_some.ensures.ran;
       written =
           leads_then c.args.hub.now c.loop-owed.hub c.write_some.new.hub _ _ _ c.loop-owed.invariant.1 c.in-Failed.ensures.written
           (λ h k l stands p q. written_failed c.args.s g.S.Stream.tells h (g.S.Stream.traffic c.args.stream.now) k (g.S.Stream.traffic c.loop-owed.stream) l (g.S.Stream.traffic c.write_some.new.stream) c.loop-owed.owed p c.loop-owed-test.true q);
@@ -59,7 +59,7 @@ returns-in-Failed g c =
 pub returns : goal.returns
 returns g c =
     record {
-      device = c.loop-owed.invariant.0;
+      ran = c.loop-owed.invariant.0;
       written =
           let none : c.loop-owed.owed ≡ 0 = (let ends = c.loop-owed-test.false in omega arith) in
           leads_map c.args.hub.now c.loop-owed.hub _ _ c.loop-owed.invariant.1 (λ h k stands p. written_all c.args.s g.S.Stream.tells h (g.S.Stream.traffic c.args.stream.now) k (g.S.Stream.traffic c.loop-owed.stream) c.loop-owed.owed p none);

@@ -1,20 +1,22 @@
+use Rattle.mio.specs.Events.{items}
+use Rattle.event_loop.specs.contracts.socket.SocketStream.TheImpl.{ghosts}
 use Rattle.event_loop.proofs.Tables.{below_after, stands_after}
-use Rattle.event_loop.proofs.Entries.{driven_entries, polled_entries, polled_numbers, polled_sessions, taken_entries, taken_numbers, taken_sessions}
+use Rattle.event_loop.proofs.Entries.{driven_entries, ended_entries, ended_numbers, ended_sessions, polled_entries, polled_numbers, polled_sessions}
 use Rattle.event_loop.proofs.server.EventLoop.drive.Goals as goal
 
 pub drive_ready-requires : goal.drive_ready-requires
-drive_ready-requires g c = polled_sessions c.args.self.now.table.slots c.make_polled_ready.new.table.slots _ c.make_polled_ready.ensures c.args.self.now.hub c.args.self.now.sessions
+drive_ready-requires g c = polled_sessions c.args.self.now.table.slots c.make_polled_ready.new.table.slots (items c.args.self.now.events) c.make_polled_ready.ensures c.args.self.now.hub c.args.self.now.sessions
 
 pub invariant_of-self : goal.invariant_of-self
 invariant_of-self g c = record {
   stands = stands_after c.args.self.now.hub c.drive_ready.new.hub _ c.args.self.now.stands c.drive_ready.ensures.driven;
-  sessions = taken_sessions c.drive_ready.new.table.slots c.take_gone_out.new.table.slots c.take_gone_out.ensures c.drive_ready.new.hub c.drive_ready.ensures.sessions;
+  sessions = ended_sessions ghosts.tells ghosts.traffic c.drive_ready.new.table.slots c.end_drives.new.table.slots c.end_drives.ensures c.drive_ready.new.hub c.drive_ready.ensures.sessions;
   entries =
-      taken_entries c.drive_ready.new.table.slots c.take_gone_out.new.table.slots c.take_gone_out.ensures c.drive_ready.new.hub
+      ended_entries ghosts.tells ghosts.traffic c.drive_ready.new.table.slots c.end_drives.new.table.slots c.end_drives.ensures c.drive_ready.new.hub
       (driven_entries c.args.self.now.hub c.drive_ready.new.hub _ _ c.make_polled_ready.new.table.slots c.drive_ready.new.table.slots c.args.self.now.stands c.drive_ready.ensures.driven
-      (polled_entries c.args.self.now.table.slots c.make_polled_ready.new.table.slots _ c.make_polled_ready.ensures c.args.self.now.hub c.args.self.now.entries));
+      (polled_entries c.args.self.now.table.slots c.make_polled_ready.new.table.slots (items c.args.self.now.events) c.make_polled_ready.ensures c.args.self.now.hub c.args.self.now.entries));
   numbers =
-      taken_numbers c.drive_ready.new.table.slots c.take_gone_out.new.table.slots c.take_gone_out.ensures c.args.self.now.next
+      ended_numbers ghosts.tells ghosts.traffic c.drive_ready.new.table.slots c.end_drives.new.table.slots c.end_drives.ensures c.args.self.now.next
       (below_after c.args.self.now.next c.make_polled_ready.new.table.slots c.drive_ready.new.table.slots
-      (polled_numbers c.args.self.now.table.slots c.make_polled_ready.new.table.slots _ c.make_polled_ready.ensures c.args.self.now.next c.args.self.now.numbers) c.drive_ready.ensures.numbers);
+      (polled_numbers c.args.self.now.table.slots c.make_polled_ready.new.table.slots (items c.args.self.now.events) c.make_polled_ready.ensures c.args.self.now.next c.args.self.now.numbers) c.drive_ready.ensures.numbers);
 }

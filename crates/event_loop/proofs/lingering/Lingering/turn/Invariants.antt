@@ -1,0 +1,5 @@
+use Rattle.event_loop.proofs.Turned.{TurnedSoFar}
+use Rattle.event_loop.proofs.lingering.Lingering.turn.Given as goal
+
+abbrev pub invariant-loop : goal.invariant-loop
+invariant-loop l = TurnedSoFar l.now l.initial.self.queue.items l.counter l.self.queue.items

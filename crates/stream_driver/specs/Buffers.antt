@@ -1,0 +1,134 @@
+-- A stream that holds what it has taken, before another one.
+use Rattle.std.specs.Prelude.{◌≡◌, ◌≢◌, ◌⊎◌, ◌-◌, ◌<◌, ◌≤◌, ◌++◌, ◌||◌, ℕ, Bool, IsTrue, true, false, List, [], ◌∷◌, Option, Some, None, take, drop, length, vec_len}
+use Rattle.stream_driver.specs.declared.answers.Call.TheVariants.{Read, Write}
+use Rattle.stream_driver.specs.declared.answers.ReadAnswer.{ReadAnswer}
+use Rattle.stream_driver.specs.declared.answers.ReadAnswer.TheVariants.{Moved, Blocked, Failed, Ended}
+use Rattle.stream_driver.specs.declared.answers.WriteAnswer.{WriteAnswer}
+use Rattle.stream_driver.specs.declared.answers.WriteAnswer.TheVariants.{Moved as Wrote, Blocked as WriteBlocked, Failed as WriteFailed}
+use Rattle.stream_driver.specs.declared.held.Held.{Held}
+use Rattle.stream_driver.specs.declared.buffered.Counts.{Counts}
+use Rattle.stream_driver.specs.declared.buffered.Flushed.{Flushed}
+use Rattle.stream_driver.specs.declared.buffered.Flushed.TheVariants.{All, Blocked as FlushBlocked, Failed as FlushFailed}
+use Rattle.stream_driver.specs.declared.buffered.BufferedStream.{BufferedStream}
+use Rattle.stream_driver.specs.Traffic.{Traffic, ReadsWithin, WritesWithin, bytes_read, bytes_written}
+
+-- the bytes that are held
+abbrev pub held_in : Held → List ℕ
+held_in h = drop h.left h.bytes.items
+
+-- for how many more there is room
+abbrev pub room_in : Held → ℕ
+room_in h = 16384 - vec_len h.bytes
+
+-- counts and the last call, with the bytes that went each way
+abbrev pub counted_with : Counts → List ℕ → List ℕ → Traffic
+counted_with c given taken = record {
+  given = given;
+  taken = taken;
+  read_blocked = c.read_blocked;
+  read_failed = c.read_failed;
+  read_ended = c.read_ended;
+  write_blocked = c.write_blocked;
+  write_failed = c.write_failed;
+  last = c.last;
+}
+
+abbrev pub counted : Counts → Traffic
+counted c = counted_with c [] []
+
+-- nothing is held
+abbrev pub is_none : List ℕ → Bool
+is_none [] = true
+is_none (x ∷ xs) = false
+
+module _ {T : Type 0} where
+  -- nothing is held, or the stream behind failed to take it
+  abbrev pub is_settled : BufferedStream T → Bool
+  is_settled b = b.has_failed || is_none (held_in b.held)
+
+  -- the next drive may read
+  abbrev pub fresh : BufferedStream T → BufferedStream T
+  fresh b = record b { is_short = false; is_drained = false }
+
+  -- The traffic of a buffered stream: what it gave is what the stream behind gave, and what it took is what the stream behind took, followed
+  -- by what it holds. The answers are its own.
+  abbrev pub traffic_through : (T → Traffic) → BufferedStream T → Traffic
+  traffic_through traffic b = counted_with b.counts (traffic b.inner).given ((traffic b.inner).taken ++ held_in b.held)
+
+  -- there is room for more, or the stream behind blocked or failed last
+  abbrev pub WhyRoom : (T → Traffic) → Flushed → BufferedStream T → Type 0
+  WhyRoom traffic All new = 0 < room_in new.held
+  WhyRoom traffic FlushBlocked new = (traffic new.inner).last ≡ Some (Write WriteBlocked)
+  WhyRoom traffic FlushFailed new = (traffic new.inner).last ≡ Some (Write WriteFailed)
+
+  -- why bytes were not taken: the stream behind blocked or failed last
+  abbrev pub WhyTook : (T → Traffic) → WriteAnswer → BufferedStream T → Type 0
+  WhyTook traffic (Wrote n) new = Unit {0}
+  WhyTook traffic WriteBlocked new = (traffic new.inner).last ≡ Some (Write WriteBlocked)
+  WhyTook traffic WriteFailed new = (traffic new.inner).last ≡ Some (Write WriteFailed)
+
+  -- Why a read answers so. The stream behind was read once nothing was held, and nothing else came after; or it blocked or failed as
+  -- what is held was written; or it was not read, since it gave fewer bytes than it was asked for before.
+  abbrev pub WhyGave : (T → Traffic) → BufferedStream T → ReadAnswer → BufferedStream T → Type 0
+  WhyGave traffic old (Moved n) new = (held_in new.held ≡ []) × ((traffic new.inner).last ≡ Some (Read (Moved n)))
+  WhyGave traffic old Ended new = (held_in new.held ≡ []) × ((traffic new.inner).last ≡ Some (Read Ended))
+  WhyGave traffic old Failed new =
+      ((held_in new.held ≡ []) × ((traffic new.inner).last ≡ Some (Read Failed))) ⊎ ((traffic new.inner).last ≡ Some (Write WriteFailed))
+  WhyGave traffic old Blocked new =
+      ((held_in new.held ≡ []) × (((traffic new.inner).last ≡ Some (Read Blocked)) ⊎ (old.is_drained ≡ true)))
+      ⊎ ((traffic new.inner).last ≡ Some (Write WriteBlocked))
+
+  module _ (tells : Bool) (traffic : T → Traffic) where
+    -- no byte came or went, lost or twice
+    pub record KeepsBytes (old new : BufferedStream T) : Type 0 where
+      pub given : IsTrue tells → (traffic new.inner).given ≡ (traffic old.inner).given
+      pub taken : IsTrue tells → (traffic new.inner).taken ++ held_in new.held ≡ (traffic old.inner).taken ++ held_in old.held
+      pub counts : new.counts ≡ old.counts
+      pub short : new.is_short ≡ old.is_short
+      pub drained : new.is_drained ≡ old.is_drained
+      pub reads_on : new.reads_on ≡ old.reads_on
+
+    -- one write of what is held: so much has left, or the stream behind blocked or failed, and all is held still
+    abbrev pub WhyWroteHeld : BufferedStream T → WriteAnswer → BufferedStream T → Type 0
+    WhyWroteHeld old (Wrote n) new = (0 < n) × (n ≤ length (held_in old.held)) × (held_in new.held ≡ drop n (held_in old.held))
+    WhyWroteHeld old WriteBlocked new = (held_in new.held ≡ held_in old.held) × ((traffic new.inner).last ≡ Some (Write WriteBlocked))
+    WhyWroteHeld old WriteFailed new = (held_in new.held ≡ held_in old.held) × ((traffic new.inner).last ≡ Some (Write WriteFailed))
+
+    pub record WritesHeld (old : BufferedStream T) (answer : WriteAnswer) (new : BufferedStream T) : Type 0 where
+      pub kept : KeepsBytes old new
+      pub why : WhyWroteHeld old answer new
+
+    -- why no more of what is held was written: nothing is held, or the stream behind blocked or failed last
+    abbrev pub WhyFlushed : Flushed → BufferedStream T → Type 0
+    WhyFlushed All new = held_in new.held ≡ []
+    WhyFlushed FlushBlocked new = (traffic new.inner).last ≡ Some (Write WriteBlocked)
+    WhyFlushed FlushFailed new = (traffic new.inner).last ≡ Some (Write WriteFailed)
+
+    pub record Flushes (old : BufferedStream T) (answer : Flushed) (new : BufferedStream T) : Type 0 where
+      pub kept : KeepsBytes old new
+      pub why : WhyFlushed answer new
+
+    -- what is held is written, unless the stream behind failed to take it
+    abbrev pub Finishes : BufferedStream T → BufferedStream T → Type 0
+    Finishes old new = ((old.has_failed ≡ true) × (new ≡ old)) ⊎ ((answer : Flushed) × Flushes old answer new)
+
+    pub record TakesSome (old : BufferedStream T) (from : List ℕ) (answer : WriteAnswer) (new : BufferedStream T) : Type 0 where
+      pub within : WritesWithin answer (length from)
+      pub given : IsTrue tells → (traffic new.inner).given ≡ (traffic old.inner).given
+      pub taken : IsTrue tells → (traffic new.inner).taken ++ held_in new.held ≡ ((traffic old.inner).taken ++ held_in old.held) ++ take (bytes_written answer) from
+      pub counts : new.counts ≡ old.counts
+      pub why : WhyTook traffic answer new
+
+    -- a read is short where it gave fewer bytes than it was asked for, and that tells
+    abbrev pub FallsShort : BufferedStream T → ℕ → ReadAnswer → BufferedStream T → Type 0
+    FallsShort old len answer new =
+        (new.reads_on ≡ old.reads_on) × (new.is_drained ≡ old.is_drained)
+        × (new.is_short ≡ true → old.is_short ≡ false → (bytes_read answer < len) × (0 < bytes_read answer) × (old.reads_on ≡ false))
+
+    pub record GivesSome (old : BufferedStream T) (before : List ℕ) (answer : ReadAnswer) (new : BufferedStream T) (after : List ℕ) : Type 0 where
+      pub within : ReadsWithin answer (length before)
+      pub given : IsTrue tells → (traffic new.inner).given ≡ (traffic old.inner).given ++ take (bytes_read answer) after
+      pub taken : IsTrue tells → (traffic new.inner).taken ++ held_in new.held ≡ (traffic old.inner).taken ++ held_in old.held
+      pub counts : new.counts ≡ old.counts
+      pub why : WhyGave traffic old answer new
+      pub short : FallsShort old (length before) answer new

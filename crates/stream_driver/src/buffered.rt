@@ -1,0 +1,267 @@
+//! A stream that holds what it has taken until there is more.
+
+use crate::answers::{Call, ReadAnswer, WriteAnswer};
+use crate::held::{HELD_MAX, Held};
+use crate::stream::Stream;
+use std::alloc::{AllocError, Global};
+
+/// How the writing of what a buffered stream holds came out.
+#[derive(Clone, Copy, PartialEq, Eq, Debug)]
+pub enum Flushed {
+    /// It holds nothing.
+    All,
+    /// The stream behind it blocked, and the rest is held.
+    Blocked,
+    /// The stream behind it failed, and the rest is held.
+    Failed,
+}
+
+// How often each answer but `Moved` was given, and the last call with its answer.
+#[derive(Clone, Copy, PartialEq, Debug)]
+struct Counts {
+    read_blocked: u64,
+    read_failed: u64,
+    read_ended: u64,
+    write_blocked: u64,
+    write_failed: u64,
+    last: Option<Call>,
+}
+
+impl Counts {
+    ghost use Rattle.stream_driver.specs.Traffic.{EndsWith};
+    ghost use Rattle.stream_driver.specs.Buffers.{counted};
+
+    // Of no call.
+    fn new() -> Counts {
+        Counts {
+            read_blocked: 0,
+            read_failed: 0,
+            read_ended: 0,
+            write_blocked: 0,
+            write_failed: 0,
+            last: None,
+        }
+    }
+
+    // One more read, with this answer.
+    fn note_read(&mut self, answer: ReadAnswer)
+        ensures { EndsWith (Call.Read answer) (counted self.old) (counted self.new) }
+    {
+        match answer {
+            ReadAnswer::Moved(_) => {}
+            ReadAnswer::Blocked => self.read_blocked = self.read_blocked.saturating_add(1),
+            ReadAnswer::Failed => self.read_failed = self.read_failed.saturating_add(1),
+            ReadAnswer::Ended => self.read_ended = self.read_ended.saturating_add(1),
+        }
+        self.last = Some(Call::Read(answer));
+    }
+
+    // One more write, with this answer.
+    fn note_write(&mut self, answer: WriteAnswer)
+        ensures { EndsWith (Call.Write answer) (counted self.old) (counted self.new) }
+    {
+        match answer {
+            WriteAnswer::Moved(_) => {}
+            WriteAnswer::Blocked => self.write_blocked = self.write_blocked.saturating_add(1),
+            WriteAnswer::Failed => self.write_failed = self.write_failed.saturating_add(1),
+        }
+        self.last = Some(Call::Write(answer));
+    }
+}
+
+/// A stream before another one: it holds what it has taken, at most `HELD_MAX` bytes, and hands it on in one write once there is no room
+/// for more, before it reads, and where it is told to. So replies that were served together leave together. Where it holds nothing, a
+/// piece of `HELD_MAX` bytes or more goes straight to the stream behind it.
+///
+/// What it has taken is what the stream behind it took, followed by what it holds. A write is answered `Blocked` or `Failed` only where
+/// the stream behind it was written last, and answered so. A read is answered by the stream behind it once nothing is held; before that,
+/// `Blocked` or `Failed` only where that was written last, and answered so. After a read that gave fewer bytes than it asked for nothing
+/// more is there, until the poll tells of it: so once a reply to it was taken, a read is answered `Blocked` with no call, until the next
+/// drive begins.
+#[derive(Drop)]
+pub struct BufferedStream<S: Stream> {
+    inner: S,
+    held: Held,
+    /// The last write of what is held failed.
+    has_failed: bool,
+    /// The last read of this drive gave fewer bytes than it asked for.
+    is_short: bool,
+    /// And bytes were taken since.
+    is_drained: bool,
+    /// A short read means nothing.
+    reads_on: bool,
+    counts: Counts,
+}
+
+impl<S: Stream> BufferedStream<S> {
+    ghost use Rattle.std.specs.Prelude.{◌≡◌, ◌≢◌, ◌||◌, [], IfOk, true, false};
+    ghost use Rattle.stream_driver.specs.Buffers.{held_in, Flushes, KeepsBytes, WhyRoom, WritesHeld, TakesSome, Finishes, GivesSome, fresh, is_settled};
+
+    /// The stream before this one, holding nothing. Takes the memory for `HELD_MAX` bytes, and none later.
+    pub fn new(alloc: Global, inner: S) -> Result<BufferedStream<S>, AllocError>
+        ensures { IfOk result (λ stream. (stream.inner ≡ inner) × (held_in stream.held ≡ [])) }
+    {
+        Ok(BufferedStream {
+            inner,
+            held: Held::new(alloc)?,
+            has_failed: false,
+            is_short: false,
+            is_drained: false,
+            reads_on: false,
+            counts: Counts::new(),
+        })
+    }
+
+    /// The stream behind this one. What is held is lost. Takes no memory.
+    pub fn into_inner(self) -> S
+        ensures { result ≡ self.inner }
+    {
+        self.inner
+    }
+
+    /// Does it hold nothing, or has the stream behind it failed to take it? Takes no memory.
+    pub fn is_settled(&self) -> bool
+        ensures { result ≡ is_settled self.now }
+    {
+        self.has_failed || self.held.is_empty()
+    }
+
+    /// From now on a read that gives fewer bytes than it asked for doesn't mean that nothing more is there. Takes no memory.
+    pub fn read_on(&mut self)
+        ensures { self.new ≡ record self.old { reads_on = true } }
+    {
+        self.reads_on = true;
+    }
+
+    /// A new drive begins: there may be more to read. Takes no memory.
+    pub fn begin_drive(&mut self)
+        ensures { self.new ≡ fresh self.old }
+    {
+        self.is_short = false;
+        self.is_drained = false;
+    }
+
+    // One write of what is held.
+    fn write_held(&mut self) -> WriteAnswer
+        requires { held_in self.old.held ≢ [] }
+        ensures { WritesHeld S.tells S.traffic self.old result self.new }
+    {
+        let answer = self.inner.write(self.held.as_slice());
+        match answer {
+            WriteAnswer::Moved(n) => {
+                self.held.leave(n);
+                self.has_failed = false;
+            }
+            WriteAnswer::Blocked => {}
+            WriteAnswer::Failed => self.has_failed = true,
+        }
+        answer
+    }
+
+    /// Writes what is held, as far as the stream behind takes it. Takes no memory that a caller sees.
+    pub fn flush(&mut self) -> Flushed
+        ensures { Flushes S.tells S.traffic self.old result self.new }
+    {
+        while !self.held.is_empty() {
+            match self.write_held() {
+                WriteAnswer::Moved(_) => {}
+                WriteAnswer::Blocked => return Flushed::Blocked,
+                WriteAnswer::Failed => return Flushed::Failed,
+            }
+        }
+        Flushed::All
+    }
+
+    /// Writes what is held, as far as the stream behind takes it, unless that has failed. Takes no memory that a caller sees.
+    pub fn finish(&mut self)
+        ensures { Finishes S.tells S.traffic self.old self.new }
+    {
+        if !self.has_failed {
+            let _ = self.flush();
+        }
+    }
+
+    // Writes what is held where there is no room for more. `All` where there is some then.
+    fn make_room(&mut self) -> Flushed
+        ensures kept { KeepsBytes S.tells S.traffic self.old self.new }
+        ensures why { WhyRoom S.traffic result self.new }
+    {
+        if self.held.room() > 0 {
+            return Flushed::All;
+        }
+        self.flush()
+    }
+
+    // Takes bytes from the front. Where nothing is held and there are more than are ever held, the stream behind takes them.
+    fn take_some(&mut self, from: &[u8]) -> WriteAnswer
+        requires { from.now ≢ [] }
+        ensures { TakesSome S.tells S.traffic self.old from.now result self.new }
+    {
+        match self.make_room() {
+            Flushed::All => {}
+            Flushed::Blocked => return WriteAnswer::Blocked,
+            Flushed::Failed => return WriteAnswer::Failed,
+        }
+        if from.len() >= HELD_MAX && self.held.is_empty() {
+            return self.inner.write(from);
+        }
+        WriteAnswer::Moved(self.held.put(from))
+    }
+
+    // Gives bytes, once nothing is held.
+    fn give_some(&mut self, into: &mut [u8]) -> ReadAnswer
+        requires { into.old ≢ [] }
+        ensures { GivesSome S.tells S.traffic self.old into.old result self.new into.new }
+    {
+        match self.flush() {
+            Flushed::All => {}
+            Flushed::Blocked => return ReadAnswer::Blocked,
+            Flushed::Failed => return ReadAnswer::Failed,
+        }
+        if self.is_drained {
+            return ReadAnswer::Blocked;
+        }
+        let answer = self.inner.read(into);
+        if let ReadAnswer::Moved(n) = answer {
+            self.is_short = n < into.len() && !self.reads_on;
+        }
+        answer
+    }
+}
+
+impl<S: Stream> Stream for BufferedStream<S> {
+    ghost use Rattle.std.specs.Prelude.{◌≡◌, ◌<◌, ◌++◌, IsTrue, length, take};
+    ghost use Rattle.stream_driver.specs.Traffic.{ReadsWithin, WritesWithin, bytes_read, bytes_written, EndsWith};
+    ghost use Rattle.stream_driver.specs.Buffers.{WhyGave, WhyTook, traffic_through};
+
+    ghost tells = { S.tells };
+
+    ghost traffic = { traffic_through S.traffic };
+
+    fn read(&mut self, into: &mut [u8]) -> ReadAnswer
+        requires { 0 < length into.old }
+        ensures within { ReadsWithin result (length into.old) }
+        ensures given { IsTrue S.tells → (traffic_through S.traffic self.new).given ≡ (traffic_through S.traffic self.old).given ++ take (bytes_read result) into.new }
+        ensures taken { IsTrue S.tells → (traffic_through S.traffic self.new).taken ≡ (traffic_through S.traffic self.old).taken }
+        ensures answered { EndsWith (Call.Read result) (traffic_through S.traffic self.old) (traffic_through S.traffic self.new) }
+        ensures why { WhyGave S.traffic self.old result self.new }
+    {
+        let answer = self.give_some(into);
+        self.counts.note_read(answer);
+        answer
+    }
+
+    fn write(&mut self, from: &[u8]) -> WriteAnswer
+        requires { 0 < length from.now }
+        ensures within { WritesWithin result (length from.now) }
+        ensures given { IsTrue S.tells → (traffic_through S.traffic self.new).given ≡ (traffic_through S.traffic self.old).given }
+        ensures taken { IsTrue S.tells → (traffic_through S.traffic self.new).taken ≡ (traffic_through S.traffic self.old).taken ++ take (bytes_written result) from.now }
+        ensures answered { EndsWith (Call.Write result) (traffic_through S.traffic self.old) (traffic_through S.traffic self.new) }
+        ensures why { WhyTook S.traffic result self.new }
+    {
+        let answer = self.take_some(from);
+        self.is_drained = self.is_drained || self.is_short;
+        self.counts.note_write(answer);
+        answer
+    }
+}
