@@ -13,11 +13,27 @@ pub(crate) const MEMORY_SECTORS_MAX: u64 = 65_536;
 #[derive(Debug, Drop)]
 pub enum Asked<'a> {
     /// Make a data file of so many sectors, 2 to 4,194,304, and format it.
-    Create { data: &'a str, sectors: u64 },
+    Create {
+        data: &'a str,
+        sectors: u64,
+    },
     /// Open a data file and serve it at an address.
-    Serve { data: &'a str, listen: &'a str },
+    Serve {
+        data: &'a str,
+        listen: &'a str,
+    },
     /// Open a data file and count what it holds.
-    Check { data: &'a str },
+    Check {
+        data: &'a str,
+    },
+    /// Copy the map of the log in one file into a new file, of at least so many sectors, 2 to 4,194,304, where that is asked.
+    Compact {
+        from: &'a str,
+        to: &'a str,
+        sectors: Option<u64>,
+    },
     /// Run lines over a device in memory of so many sectors, 2 to 65,536.
-    Play { sectors: u64 },
+    Play {
+        sectors: u64,
+    },
 }

@@ -3,6 +3,9 @@
 use clap::{Arg, ArgAction, Command};
 use std::alloc::{AllocError, Global};
 
+/// The program's version, which `--version` prints behind its name.
+pub(crate) const VERSION: &str = "0.1.0";
+
 // An option that must be given, with one text.
 fn text_option<'a>(alloc: Global, name: &'a str, value: &'a str, help: &'a str) -> Arg<'a> {
     Arg::new(alloc, name)
@@ -40,6 +43,20 @@ fn check<'a>(alloc: Global) -> Result<Command<'a>, AllocError> {
         .arg(text_option(alloc, "data", "F", "The file"))
 }
 
+fn compact<'a>(alloc: Global) -> Result<Command<'a>, AllocError> {
+    let sectors = Arg::new(alloc, "sectors")
+        .long("sectors")
+        .value_name("N")
+        .help("At least how many sectors of 512 bytes, 2 to 4194304")
+        .action(ArgAction::Set)
+        .value_parser(clap::value_parser!(u64).range(2..=4_194_304));
+    Command::new(alloc, "compact")
+        .about("Copies the map of a data file into a new data file")
+        .arg(text_option(alloc, "from", "F", "The file, which is only read"))?
+        .arg(text_option(alloc, "to", "G", "The new file, which must not exist"))?
+        .arg(sectors)
+}
+
 fn play<'a>(alloc: Global) -> Result<Command<'a>, AllocError> {
     let sectors = Arg::new(alloc, "sectors")
         .long("sectors")
@@ -57,9 +74,11 @@ fn play<'a>(alloc: Global) -> Result<Command<'a>, AllocError> {
 pub(crate) fn command<'a>(alloc: Global) -> Result<Command<'a>, AllocError> {
     Command::new(alloc, "ssikvd")
         .about("An ordered store whose transactions are serializable")
+        .version(VERSION)
         .subcommand_required(true)
         .subcommand(create(alloc)?)?
         .subcommand(serve(alloc)?)?
         .subcommand(check(alloc)?)?
+        .subcommand(compact(alloc)?)?
         .subcommand(play(alloc)?)
 }

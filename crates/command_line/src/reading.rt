@@ -39,6 +39,20 @@ fn play<'a>(found: &ArgMatches<'a>) -> Option<Asked<'a>>
 }
 
 // What the command of this name was given.
+fn compact<'a>(found: &ArgMatches<'a>) -> Option<Asked<'a>>
+    ensures { IfSome result IsInRange }
+{
+    let sectors = match found.get_one::<u64>("sectors") {
+        Some(_) => Some(sectors(found, FILE_SECTORS_MAX)?),
+        None => None,
+    };
+    Some(Asked::Compact {
+        from: found.get_str("from")?,
+        to: found.get_str("to")?,
+        sectors,
+    })
+}
+
 fn asked<'a>(name: &str, found: &ArgMatches<'a>) -> Option<Asked<'a>>
     ensures { IfSome result IsInRange }
 {
@@ -51,6 +65,7 @@ fn asked<'a>(name: &str, found: &ArgMatches<'a>) -> Option<Asked<'a>>
         "check" => Some(Asked::Check {
             data: found.get_str("data")?,
         }),
+        "compact" => compact(found),
         "play" => play(found),
         _ => None,
     }
@@ -59,7 +74,7 @@ fn asked<'a>(name: &str, found: &ArgMatches<'a>) -> Option<Asked<'a>>
 /// Reads the words of a command line, the program's name first.
 ///
 /// A number of sectors is one of its command's range: 2 to 4,194,304 for `create`, 2 to 65,536 for `play`, which takes 4,096 where
-/// none is given. A refusal is `Help` where help was asked for, `Refused` where the words name no command or not all that it needs,
+/// none is given. A refusal is `Help` where help or the version was asked for, `Refused` where the words name no command or not all that it needs,
 /// and `Memory`.
 ///
 /// It may grow what `clap` keeps of the commands, the words and the error, and the refusal's text.

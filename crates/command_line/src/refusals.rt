@@ -3,7 +3,7 @@
 /// Why a command line asks for no command. A text ends with a line feed.
 #[derive(PartialEq, Eq, Debug, Drop)]
 pub enum Refusal {
-    /// Help was asked for, and this is its text.
+    /// Help or the version was asked for, and this is its text.
     Help(String),
     /// The words name no command, or not what it needs; this text says why.
     Refused(String),

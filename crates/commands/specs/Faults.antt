@@ -7,7 +7,7 @@ use Rattle.commit_log.specs.declared.faults.LogFault.TheVariants as logs
 use Rattle.scripts.specs.declared.faults.ScriptFault.{ScriptFault}
 use Rattle.scripts.specs.declared.faults.ScriptFault.TheVariants as scripts
 use Rattle.commands.specs.declared.faults.Fault.{Fault}
-use Rattle.commands.specs.declared.faults.Fault.TheVariants.{NotALog, Damaged, LogFull, Device, File, Listen, Poll, Memory, BadLine, Crowded}
+use Rattle.commands.specs.declared.faults.Fault.TheVariants.{NotALog, OldFormat, NotEmpty, Damaged, LogFull, Device, File, Listen, Poll, Memory, BadLine, Crowded}
 
 -- what a fault of the log is for a command
 abbrev pub of_log : LogFault → Fault
@@ -17,6 +17,8 @@ of_log logs.Full = LogFull
 of_log logs.Device = Device
 of_log logs.Stopped = Device
 of_log logs.Memory = Memory
+of_log logs.OldFormat = OldFormat
+of_log logs.NotEmpty = NotEmpty
 
 -- what a fault of a script is for a command
 abbrev pub of_script : ScriptFault → Fault
@@ -48,6 +50,8 @@ IsFromOutside other = ⊥
 -- the text of a fault
 abbrev pub text_of : Fault → List ℕ
 text_of NotALog = codes "ssikvd: not a log"
+text_of OldFormat = codes "ssikvd: old format"
+text_of NotEmpty = codes "ssikvd: not empty"
 text_of (Damaged index) = codes "ssikvd: damaged record " ++ decimal index
 text_of LogFull = codes "ssikvd: log full"
 text_of Device = codes "ssikvd: device fault"

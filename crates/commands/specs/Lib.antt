@@ -1,4 +1,5 @@
 pub mod Faults
+pub mod Compacting
 pub mod Counts
 pub mod Endings
 pub mod Notices

@@ -5,7 +5,10 @@ ghost use Rattle.model.specs.Map.{KeyWrite};
 ghost use Rattle.sector.specs.SectorModel.{IsSettled};
 ghost use Rattle.sector.specs.Failures.{Stayed};
 ghost use Rattle.commit_log.specs.LogFaults.{IsDeviceOrMemory, IsOpenFault};
-ghost use Rattle.commit_log.specs.LogImage.{IsLogImage, IsDamaged, IsNoLog};
+ghost use Rattle.commit_log.specs.declared.formats.LogFormat.{LogFormat};
+ghost use Rattle.commit_log.specs.declared.formats.LogFormat.TheVariants.{One};
+ghost use Rattle.commit_log.specs.Format.{current};
+ghost use Rattle.commit_log.specs.LogImage.{IsLogImage, IsDamaged, HasHead, IsNoLog};
 ghost use Rattle.commit_log.specs.Reading.{ReadsAs};
 ghost use Rattle.commands.specs.Counts.{counts_of, line_of, log_line};
 ghost use Rattle.commands.specs.Faults.{IsFromDevice, IsFromOutput, IsFromOutside, DeviceIs};
@@ -44,7 +47,7 @@ pub fn format_device<D: Sectors>(device: &mut D) -> Result<(), Fault>
     ensures fault { DeviceIs (D.failures device.old) (D.failures device.new) result }
     ensures no_fault { OnOk result (Stayed (D.failures device.old) (D.failures device.new)) }
     ensures size { D.size device.new ≡ D.size device.old }
-    ensures formatted { D.keeps_model → OnOk result ((image : List (List ℕ)) × IsSettled (D.size device.new) (D.may_read device.new) (D.may_leave device.new) image × IsLogImage [] image) }
+    ensures formatted { D.keeps_model → OnOk result ((image : List (List ℕ)) × IsSettled (D.size device.new) (D.may_read device.new) (D.may_leave device.new) image × IsLogImage current [] image) }
 {
     format(device)?;
     Ok(())
@@ -71,12 +74,14 @@ pub fn check_device<D: Sectors, O: Write>(
     device: D,
     out: &mut O,
 ) -> Result<(), Fault>
-    ensures found { D.keeps_model → (disk : List (List ℕ)) (lists : List (List KeyWrite)) → length disk ≡ D.size device → ReadsAs (D.may_read device) disk → IsLogImage lists disk
+    ensures found { D.keeps_model → (disk : List (List ℕ)) (lists : List (List KeyWrite)) → length disk ≡ D.size device → ReadsAs (D.may_read device) disk → IsLogImage current lists disk
         → MatchResult result (λ _. Appends (O.contents out.old) (O.contents out.new) (log_line lists (D.size device))) IsFromOutside }
-    ensures damaged { D.keeps_model → (disk : List (List ℕ)) (lists : List (List KeyWrite)) → length disk ≡ D.size device → ReadsAs (D.may_read device) disk → IsDamaged lists disk
+    ensures damaged { D.keeps_model → (disk : List (List ℕ)) (lists : List (List KeyWrite)) → length disk ≡ D.size device → ReadsAs (D.may_read device) disk → IsDamaged current lists disk
         → IsErrAnd result (λ fault. ((fault ≡ Fault.Damaged (length lists)) ⊎ IsFromDevice fault) × (O.contents out.new ≡ O.contents out.old)) }
-    ensures no_log { D.keeps_model → (disk : List (List ℕ)) → length disk ≡ D.size device → ReadsAs (D.may_read device) disk → IsNoLog disk
+    ensures no_log { D.keeps_model → (disk : List (List ℕ)) → length disk ≡ D.size device → ReadsAs (D.may_read device) disk → ((f : LogFormat) → IsNoLog f disk)
         → IsErrAnd result (λ fault. ((fault ≡ Fault.NotALog) ⊎ IsFromDevice fault) × (O.contents out.new ≡ O.contents out.old)) }
+    ensures older { D.keeps_model → (disk : List (List ℕ)) → length disk ≡ D.size device → ReadsAs (D.may_read device) disk → HasHead One disk
+        → IsErrAnd result (λ fault. ((fault ≡ Fault.OldFormat) ⊎ IsFromDevice fault) × (O.contents out.new ≡ O.contents out.old)) }
     ensures beside { IfErr result (λ fault. IsFromOutput fault ⊎ (O.contents out.new ≡ O.contents out.old)) }
 {
     let counts = count_device(alloc, device)?;
@@ -86,21 +91,23 @@ pub fn check_device<D: Sectors, O: Write>(
 
 // What the log of a device holds.
 #[derive(Clone, Copy, PartialEq, Eq, Debug)]
-struct Counts {
-    records: u64,
-    keys: usize,
-    used: u64,
-    count: u64,
+pub(crate) struct Counts {
+    pub records: u64,
+    pub keys: usize,
+    pub used: u64,
+    pub count: u64,
 }
 
 // Opens the log of a device and counts what it holds.
 fn count_device<D: Sectors>(alloc: Global, device: D) -> Result<Counts, LogFault>
-    ensures found { D.keeps_model → (disk : List (List ℕ)) (lists : List (List KeyWrite)) → length disk ≡ D.size device → ReadsAs (D.may_read device) disk → IsLogImage lists disk
+    ensures found { D.keeps_model → (disk : List (List ℕ)) (lists : List (List KeyWrite)) → length disk ≡ D.size device → ReadsAs (D.may_read device) disk → IsLogImage current lists disk
         → MatchResult result (λ counts. counts ≡ counts_of lists (D.size device)) IsDeviceOrMemory }
-    ensures damaged { D.keeps_model → (disk : List (List ℕ)) (lists : List (List KeyWrite)) → length disk ≡ D.size device → ReadsAs (D.may_read device) disk → IsDamaged lists disk
+    ensures damaged { D.keeps_model → (disk : List (List ℕ)) (lists : List (List KeyWrite)) → length disk ≡ D.size device → ReadsAs (D.may_read device) disk → IsDamaged current lists disk
         → IsErrAnd result (λ fault. (fault ≡ LogFault.Damaged (length lists)) ⊎ IsDeviceOrMemory fault) }
-    ensures no_log { D.keeps_model → (disk : List (List ℕ)) → length disk ≡ D.size device → ReadsAs (D.may_read device) disk → IsNoLog disk
+    ensures no_log { D.keeps_model → (disk : List (List ℕ)) → length disk ≡ D.size device → ReadsAs (D.may_read device) disk → ((f : LogFormat) → IsNoLog f disk)
         → IsErrAnd result (λ fault. (fault ≡ LogFault.NotALog) ⊎ IsDeviceOrMemory fault) }
+    ensures older { D.keeps_model → (disk : List (List ℕ)) → length disk ≡ D.size device → ReadsAs (D.may_read device) disk → HasHead One disk
+        → IsErrAnd result (λ fault. (fault ≡ LogFault.OldFormat) ⊎ IsDeviceOrMemory fault) }
     ensures faults { IfErr result IsOpenFault }
 {
     let count = device.count();
@@ -114,7 +121,7 @@ fn count_device<D: Sectors>(alloc: Global, device: D) -> Result<Counts, LogFault
 }
 
 // Prints the line of these counts, in one write.
-fn print_counts<O: Write>(counts: Counts, out: &mut O) -> io::Result<()>
+pub(crate) fn print_counts<O: Write>(counts: Counts, out: &mut O) -> io::Result<()>
     ensures { OnOk result (Appends (O.contents out.old) (O.contents out.new) (line_of counts)) }
 {
     let Counts {

@@ -13,6 +13,10 @@ use std::{fmt, io};
 pub enum Fault {
     /// What the data file holds is not a log.
     NotALog,
+    /// The log has an older format.
+    OldFormat,
+    /// The file holds something already.
+    NotEmpty,
     /// The record of this index, 0 for the first, is damaged.
     Damaged(u64),
     /// The log has no room.
@@ -42,6 +46,8 @@ impl Display for Fault {
     fn fmt<W: fmt::Write>(&self, f: &mut Formatter<W>) -> fmt::Result {
         match self {
             Fault::NotALog => f.write_str("ssikvd: not a log"),
+            Fault::OldFormat => f.write_str("ssikvd: old format"),
+            Fault::NotEmpty => f.write_str("ssikvd: not empty"),
             Fault::Damaged(index) => write!(f, "ssikvd: damaged record {index}"),
             Fault::LogFull => f.write_str("ssikvd: log full"),
             Fault::Device => f.write_str("ssikvd: device fault"),
@@ -68,6 +74,8 @@ impl From<LogFault> for Fault {
             LogFault::Full => Fault::LogFull,
             LogFault::Device | LogFault::Stopped => Fault::Device,
             LogFault::Memory => Fault::Memory,
+            LogFault::OldFormat => Fault::OldFormat,
+            LogFault::NotEmpty => Fault::NotEmpty,
         }
     }
 }

@@ -1,6 +1,7 @@
 //! The commands, each over what it is given, a reader and two writers.
 #![tactic(auto)]
 
+mod compacting;
 mod data;
 mod endings;
 mod faults;
@@ -8,10 +9,11 @@ mod running;
 mod serving;
 mod streams;
 
+pub use compacting::{compact, copy_count, copy_device};
 pub use data::{check, check_device, create, format_device};
 pub use endings::{Ending, Told, report, tell};
 pub use faults::Fault;
-pub use running::run;
+pub use running::{run, run_watched};
 pub use serving::{Turns, serve, serve_turns};
 pub use streams::{NullDevice, Opener, keep_standard};
 

@@ -1,10 +1,10 @@
 // The program: its words, its standard streams, and the exit status that the command answers.
 #![tactic(auto)]
 
-use commands::{Ending, Fault, NullDevice, keep_standard, report, run, tell};
+use commands::{Ending, Fault, NullDevice, keep_standard, report, run_watched, tell};
 use std::alloc::{Alloc, AllocError, Global};
 use std::env::{self, Env};
-use std::io::{self, ErrorKind};
+use std::io::{self, ErrorKind, IsTerminal};
 use std::process::ExitCode;
 
 fn main(rt: HostRuntime) -> ExitCode {
@@ -16,7 +16,19 @@ fn main(rt: HostRuntime) -> ExitCode {
     let mut out = io::writer(&rt);
     let status = match words(&rt) {
         Ok(words) => match texts(rt.alloc(), &words) {
-            Ok(texts) => run(&rt, rt.alloc(), &texts, rt.reader(), &mut out, &mut err),
+            Ok(texts) => {
+                let is_terminal = err.is_terminal();
+                let reader = rt.reader();
+                run_watched(
+                    &rt,
+                    rt.alloc(),
+                    &texts,
+                    reader,
+                    &mut out,
+                    &mut err,
+                    is_terminal,
+                )
+            }
             Err(_) => report(Fault::Memory, &mut err).status,
         },
         Err(error) => tell(&refused(rt.alloc(), &error), &mut out, &mut err).status,
