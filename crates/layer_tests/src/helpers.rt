@@ -1,4 +1,5 @@
 //! Maps of short keys, and a look at lent pairs.
+ghost use Rattle.model.specs.Bounds.{value_max};
 ghost use Rattle.std.specs.Prelude.{◌≤◌, length};
 ghost use Rattle.model.specs.Key.{IsKey};
 
@@ -17,7 +18,7 @@ pub fn key(bytes: &[u8]) -> KeyRef<'_>
 
 /// Puts a value to the key of these bytes, where they are one.
 pub fn put(alloc: Global, map: &mut Map, key: &[u8], value: &[u8]) -> Result<(), Memory>
-    requires { length value.now ≤ 4096 }
+    requires { length value.now ≤ value_max }
 {
     let Some(key) = KeyRef::new(key) else {
         return Err(Memory);

@@ -1,6 +1,6 @@
 //! The texts of replies.
 use crate::helpers::{key, put};
-use model::{Key, Map, Memory, Refusal, Reply};
+use model::{Key, Map, Memory, RANGE_REPLY_MAX, Refusal, Reply, VALUE_MAX};
 use resp::{BRIEF_MAX, write_pairs, write_reply};
 use std::alloc::Global;
 use std::test::Fail;
@@ -78,10 +78,12 @@ fn writes_pairs(rt: HostRuntime) {
 fn writes_the_longest_pairs(rt: HostRuntime) -> Result<(), Fail> {
     let mut key = [0u8; 256];
     let mut map = Map::new(rt.alloc());
+    let mut value = Vec::new(rt.alloc());
+    value.resize(VALUE_MAX, 1)?;
     for i in 0..128u8 {
         key[255] = i;
-        assert!(rt; put(rt.alloc(), &mut map, &key, &[1; 4096]).is_ok());
+        assert!(rt; put(rt.alloc(), &mut map, &key, &value).is_ok());
     }
-    assert!(rt; write_map(rt.alloc(), &map)?.len() == 559238);
+    assert!(rt; write_map(rt.alloc(), &map)?.len() == RANGE_REPLY_MAX);
     Ok(())
 }

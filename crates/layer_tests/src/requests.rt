@@ -1,5 +1,5 @@
 //! Requests: how input is decoded, and the commands that requests are.
-use model::{Command, Memory, Refusal};
+use model::{Command, FRAME_MAX, Memory, Refusal, VALUE_MAX};
 use resp::{Decoded, command, decode};
 use std::alloc::Global;
 use std::test::Fail;
@@ -21,7 +21,7 @@ fn answer(input: &[u8]) -> &'static str {
     }
 }
 
-static FRAMES: [(&[u8], &str); 15] = [
+static FRAMES: [(&[u8], &str); 18] = [
     (b"", "more"),
     (b"*1", "more"),
     (b"*1\r\n$409", "more"),
@@ -33,7 +33,10 @@ static FRAMES: [(&[u8], &str); 15] = [
     (b"*1\n", "bad"),
     (b"*9", "bad"),
     (b"PING\r\n", "bad"),
-    (b"*1\r\n$4097", "bad"),
+    (b"*1\r\n$4097", "more"),
+    (b"*1\r\n$16384", "more"),
+    (b"*1\r\n$16385", "bad"),
+    (b"*1\r\n$20000", "bad"),
     (b"*1\r\n$-1", "bad"),
     (b"*1\r\n$00", "bad"),
     (b"*1\r\n$2\r\nabc", "bad"),
@@ -147,15 +150,17 @@ fn decodes_requests(rt: HostRuntime) {
 
 #[test]
 fn decodes_the_largest_request(rt: HostRuntime) -> Result<(), Fail> {
-    let mut part = [7u8; 4105];
-    part[..7].copy_from_slice(b"$4096\r\n");
-    part[4103..].copy_from_slice(b"\r\n");
+    let line = format!(in rt.alloc(); "${}\r\n", VALUE_MAX)?;
+    let mut longest = Vec::new(rt.alloc());
+    longest.resize(VALUE_MAX, 7u8)?;
     let mut input = Vec::from_slice(rt.alloc(), b"*4\r\n")?;
     for _ in 0..4 {
-        input.extend_from_slice(&part)?;
+        input.extend_from_slice(line.as_bytes())?;
+        input.extend_from_slice(&longest)?;
+        input.extend_from_slice(b"\r\n")?;
     }
-    let bytes = &part[7..4103];
-    assert!(rt; is_request(&input, &[bytes, bytes, bytes, bytes], 16424));
+    let part = longest.as_slice();
+    assert!(rt; is_request(&input, &[part, part, part, part], FRAME_MAX));
     Ok(())
 }
 

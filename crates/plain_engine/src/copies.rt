@@ -1,4 +1,6 @@
 //! A transaction's private copy.
+ghost use Rattle.model.specs.Bounds.{payload_bound, value_max};
+
 use crate::commits::Commit;
 use crate::faults::EngineFault;
 use crate::marks::{Mark, copied_marks, is_among as is_marked};
@@ -123,7 +125,7 @@ impl PrivateCopy {
     }
 
     pub fn set(&mut self, alloc: Global, key: KeyRef<'_>, value: &[u8]) -> Result<(), EngineFault>
-        requires { length value.now ≤ 4096 }
+        requires { length value.now ≤ value_max }
         ensures { Answers self.old self.new (Set key.entry.bytes.now value.now) (response_of (λ _. Done) result) }
     {
         if self.is_written(key) {
@@ -158,7 +160,7 @@ impl PrivateCopy {
     /// What is kept of the transaction once it has committed.
     pub fn to_commit(&self, alloc: Global, begin: u64, commit: u64) -> Result<Commit, Memory>
         ensures is { IfOk result (λ r. r ≡ record { begin = begin; commit = commit; requests = []; replies = []; reads = self.now.marks; writes = values_at self.now.contents self.now.written }) }
-        ensures sized { IfOk result (λ r. payload_size r.writes ≤ 4 + 4363 * 64) }
+        ensures sized { IfOk result (λ r. payload_size r.writes ≤ payload_bound value_max) }
         ensures limited { IfOk result (λ r. All IsLimited r.writes) }
     {
         let writes = values_of(alloc, &self.contents, &self.written)?;

@@ -1,4 +1,5 @@
 //! The engine.
+ghost use Rattle.model.specs.Bounds.{value_max};
 ghost use Rattle.std.specs.Prelude.{◌≡◌, ◌<◌, length};
 ghost use Rattle.plain_engine.specs.Conflicts.{refusal_of, IsPlaced};
 
@@ -137,7 +138,7 @@ impl Engine {
         key: KeyRef<'_>,
         value: &[u8],
     ) -> Result<(), EngineFault>
-        requires { length value.now ≤ 4096 }
+        requires { length value.now ≤ value_max }
         ensures { Leads self.old self.new s (Set key.entry.bytes.now value.now) false (response_of (λ _. Done) result) }
     {
         match self.running.get_mut(&s) {

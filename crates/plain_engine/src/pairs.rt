@@ -1,4 +1,5 @@
 //! Maps and sets of keys as plain lists.
+ghost use Rattle.model.specs.Bounds.{entry_bound, payload_bound, value_max};
 ghost use Rattle.std.specs.Prelude.{◌≡◌, ℕ, ◌+◌, ◌*◌, ◌<◌, ◌≤◌, List, [], ◌∷◌, ◌++◌, length, Option, Some, None, IfOk, option_copied, option_map, map, All};
 ghost use Rattle.std.specs.List.{list_any};
 ghost use Rattle.std.specs.Ordering.{nat_cmp};
@@ -23,18 +24,19 @@ pub struct Value {
 }
 
 impl Model for Value {
+    ghost use Rattle.model.specs.Bounds.{value_max};
     ghost use Rattle.std.specs.Prelude.{ℕ, List, ◌≤◌, length};
 
     ghost Value = { List ℕ };
 
     ghost view = { λ v. v.bytes.items };
 
-    ghost invariant = { λ v. length v.bytes.items ≤ 4096 };
+    ghost invariant = { λ v. length v.bytes.items ≤ value_max };
 }
 
 impl Value {
     pub fn copied(alloc: Global, bytes: &[u8]) -> Result<Value, Memory>
-        requires { length bytes.now ≤ 4096 }
+        requires { length bytes.now ≤ value_max }
         ensures { IfOk result (λ v. v ≡ bytes.now) }
     {
         let bytes = bytes.to_vec(alloc)?;
@@ -43,7 +45,7 @@ impl Value {
 
     pub fn lend(&self) -> &[u8]
         ensures value { result.now ≡ self.now }
-        ensures sized { length result.now ≤ 4096 }
+        ensures sized { length result.now ≤ value_max }
     {
         &self.bytes
     }
@@ -105,7 +107,7 @@ pub fn with_value(
     key: KeyRef<'_>,
     value: &[u8],
 ) -> Result<Vec<(Key, Value)>, Memory>
-    requires { length value.now ≤ 4096 }
+    requires { length value.now ≤ value_max }
     ensures { IfOk result (λ v. v.items ≡ after_write contents.now key.entry.bytes.now (Some value.now)) }
 {
     let mut out = Vec::new(alloc);
@@ -264,7 +266,7 @@ pub fn is_empty_range(range: RangeRef<'_>) -> bool
 /// A write of the key's value, or of its deletion.
 fn write_of(alloc: Global, contents: &[(Key, Value)], key: KeyRef<'_>) -> Result<Write, Memory>
     ensures write { IfOk result (λ w. w ≡ (key.entry.bytes.now, value_at contents.now key.entry.bytes.now)) }
-    ensures sized { IfOk result (λ w. write_size w.0 w.1 ≤ 4363) }
+    ensures sized { IfOk result (λ w. write_size w.0 w.1 ≤ entry_bound value_max) }
     ensures limited { IfOk result (λ w. IsLimited w) }
 {
     let value = match value_of(contents, key) {
@@ -283,7 +285,7 @@ pub fn values_of(
     written: &[Key],
 ) -> Result<Vec<Write>, Memory>
     ensures values { IfOk result (λ v. v.items ≡ values_at contents.now written.now) }
-    ensures sized { IfOk result (λ v. payload_size v.items ≤ 4 + 4363 * length written.now) }
+    ensures sized { IfOk result (λ v. payload_size v.items ≤ 4 + entry_bound value_max * length written.now) }
     ensures limited { IfOk result (λ v. All IsLimited v.items) }
 {
     let mut out = Vec::new(alloc);

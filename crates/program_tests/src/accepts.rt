@@ -6,7 +6,7 @@ use mio::net::TcpStream;
 use slab::Slab;
 use std::net::{Ipv4Addr, SocketAddr, TcpListener};
 use std::test::Fail;
-use stream_driver::Entry;
+use stream_driver::{BufferedStream, Entry};
 
 /// A listener that gives the connections that it has, and then blocks or fails.
 #[derive(Drop)]
@@ -58,24 +58,25 @@ impl Listener for Waiting {
 /// Of 130 connections a turn takes 128 and says that there may be more; the next one takes two and says why it stopped.
 #[test]
 fn two_turns(rt: HostRuntime) -> Result<(), Fail> {
-    let mut hub = new_hub(rt.alloc(), 4096)?;
+    let alloc = rt.alloc();
+    let mut hub = new_hub(alloc, 4096)?;
     let poll = Poll::new(&rt)?;
     let listener = TcpListener::bind(&rt, SocketAddr::from((Ipv4Addr::LOCALHOST, 0)))?;
-    let mut streams = Vec::new(rt.alloc());
+    let mut streams = Vec::new(alloc);
     for _ in 0..130u32 {
         streams.push(TcpStream::connect(&rt, listener.local_addr()?)?)?;
     }
     let mut waiting = Waiting::new(streams, false);
-    let mut table = Slab::<Entry<Socket>>::new(rt.alloc());
+    let mut table = Slab::<Entry<BufferedStream<Socket>>>::new(alloc);
     let mut next = 0u64;
-    let first = accept_some(&poll, &mut waiting, &mut hub, &mut next, &mut table);
+    let first = accept_some(alloc, &poll, &mut waiting, &mut hub, &mut next, &mut table);
     assert_eq!(rt; (first, waiting.counts()), (Backlog::Full, (128, 0, 0)));
     assert_eq!(rt; (next, table.len()), (128, 128));
-    let second = accept_some(&poll, &mut waiting, &mut hub, &mut next, &mut table);
+    let second = accept_some(alloc, &poll, &mut waiting, &mut hub, &mut next, &mut table);
     assert_eq!(rt; (second, waiting.counts()), (Backlog::Empty, (130, 1, 0)));
     assert_eq!(rt; (next, table.len()), (128, 128));
     waiting.fails = true;
-    let third = accept_some(&poll, &mut waiting, &mut hub, &mut next, &mut table);
+    let third = accept_some(alloc, &poll, &mut waiting, &mut hub, &mut next, &mut table);
     assert_eq!(rt; (third, waiting.counts()), (Backlog::Failed, (130, 1, 1)));
     Ok(())
 }

@@ -1,13 +1,12 @@
 //! A hub with clients in memory.
 ghost use Rattle.stream_driver.specs.Sessions.{Stands};
 
-use crate::Script;
 use crate::hubs::new_hub;
 use sector::MemSectors;
 use sessions::{Event, Hub, Status};
 use std::alloc::Global;
 use std::test::Fail;
-use stream_driver::{Progress, drive};
+use stream_driver::{Progress, Stream, drive};
 
 /// A hub that stands for some state: the driver wants its session to be present in one.
 #[derive(Drop)]
@@ -32,7 +31,7 @@ impl Driven {
     }
 
     /// Drives a session, and tells of one that is not present that it is gone.
-    pub(crate) fn drive(&mut self, session: u64, stream: &mut Script) -> Progress {
+    pub(crate) fn drive<S: Stream>(&mut self, session: u64, stream: &mut S) -> Progress {
         if self.hub.status(session) == Status::Absent {
             return Progress::Gone;
         }

@@ -1,8 +1,8 @@
 //! The events of a hub.
 use crate::hubs::{Pieces, new_hub};
-use model::KeyRef;
+use model::{FRAME_MAX, KeyRef};
 use rows::{Store, reply_to};
-use sessions::{Event, Outcome, Status};
+use sessions::{Event, INBOX_MAX, Outcome, Status};
 use std::alloc::Global;
 use std::test::Fail;
 
@@ -10,7 +10,7 @@ const BEGIN: &[u8] = b"*1\r\n$5\r\nBEGIN\r\n";
 
 const TWO_PINGS: &[u8] = b"*1\r\n$4\r\nPING\r\n*1\r\n$4\r\nPING\r\n";
 
-static TOO_LONG: [u8; 32_769] = [0; 32_769];
+static TOO_LONG: [u8; INBOX_MAX + 1] = [0; INBOX_MAX + 1];
 
 /// Each event with its outcome, and then the bytes pending and the room of session 5.
 #[test]
@@ -19,17 +19,22 @@ fn hub_events(rt: HostRuntime) -> Result<(), Fail> {
     let pong = b"+PONG\r\n".as_slice();
     let none = b"".as_slice();
     let steps = [
-        (Event::Joined(5), Outcome::Done, none, 32_768),
-        (Event::Joined(5), Outcome::Unknown, none, 32_768),
-        (Event::Joined(3), Outcome::Unknown, none, 32_768),
-        (Event::Serve(5), Outcome::Idle, none, 32_768),
-        (Event::Bytes(5, TWO_PINGS), Outcome::Done, none, 32_740),
-        (Event::Serve(5), Outcome::Done, pong, 32_754),
-        (Event::Serve(5), Outcome::Idle, pong, 32_754),
-        (Event::Sent(5, 8), Outcome::BadCount, pong, 32_754),
-        (Event::Sent(5, 7), Outcome::Done, none, 32_754),
-        (Event::Serve(5), Outcome::Done, pong, 32_768),
-        (Event::Bytes(5, &TOO_LONG), Outcome::NoRoom, pong, 32_768),
+        (Event::Joined(5), Outcome::Done, none, INBOX_MAX),
+        (Event::Joined(5), Outcome::Unknown, none, INBOX_MAX),
+        (Event::Joined(3), Outcome::Unknown, none, INBOX_MAX),
+        (Event::Serve(5), Outcome::Idle, none, INBOX_MAX),
+        (
+            Event::Bytes(5, TWO_PINGS),
+            Outcome::Done,
+            none,
+            INBOX_MAX - 28,
+        ),
+        (Event::Serve(5), Outcome::Done, pong, INBOX_MAX - 14),
+        (Event::Serve(5), Outcome::Idle, pong, INBOX_MAX - 14),
+        (Event::Sent(5, 8), Outcome::BadCount, pong, INBOX_MAX - 14),
+        (Event::Sent(5, 7), Outcome::Done, none, INBOX_MAX - 14),
+        (Event::Serve(5), Outcome::Done, pong, INBOX_MAX),
+        (Event::Bytes(5, &TOO_LONG), Outcome::NoRoom, pong, INBOX_MAX),
         (Event::Left(5), Outcome::Done, none, 0),
         (Event::Sent(5, 0), Outcome::Unknown, none, 0),
     ];
@@ -81,7 +86,7 @@ fn expect<S: Store>(alloc: Global, store: &mut S, asked: &str, due: &str) -> Res
 
 #[test]
 fn sixty_four_transactions(rt: HostRuntime) -> Result<(), Fail> {
-    let mut store = Pieces::new(new_hub(rt.alloc(), 4096)?, 16_424);
+    let mut store = Pieces::new(new_hub(rt.alloc(), 4096)?, FRAME_MAX);
     for session in 1..65u64 {
         let asked = format!(in rt.alloc(); "{session} BEGIN")?;
         expect(rt.alloc(), &mut store, &asked, "+OK")?;
@@ -115,7 +120,7 @@ fn kept_versions_and_records(rt: HostRuntime) -> Result<(), Fail> {
         ("1 ABORT", "+OK"),
     ];
     for (lines, versions, records) in [(10usize, 2usize, 2usize), (12, 1, 0)] {
-        let mut store = Pieces::new(new_hub(rt.alloc(), 4096)?, 16_424);
+        let mut store = Pieces::new(new_hub(rt.alloc(), 4096)?, FRAME_MAX);
         for (line, due) in &asked[..lines] {
             expect(rt.alloc(), &mut store, line, due)?;
         }

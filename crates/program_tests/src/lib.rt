@@ -4,6 +4,8 @@
 #[cfg(test)]
 mod accepts;
 #[cfg(test)]
+mod buffers;
+#[cfg(test)]
 mod created;
 #[cfg(test)]
 mod driven;

@@ -4,8 +4,10 @@ use commands::{
     BAD_LINE, DONE, Ending, FAULT, Fault, Opener, REFUSED, Told, Turns, check_device,
     format_device, keep_standard, report, run, serve_turns, tell,
 };
+use model::VALUE_MAX;
 use scripts::{ScriptFault, play};
 use sector::MemSectors;
+use sessions::INBOX_MAX;
 use std::alloc::Global;
 use std::fs::{self, File};
 use std::io::{self, ErrorKind, Read, Write};
@@ -132,7 +134,7 @@ fn command_lines(rt: HostRuntime) -> Result<(), Fail> {
             Due::Begins(b"error: 'ssikvd' requires a subcommand"),
         ),
         refused(
-            &["ssikvd", "compact"],
+            &["ssikvd", "compacted"],
             REFUSED,
             Due::Begins(b"error: unrecognized subcommand"),
         ),
@@ -218,7 +220,7 @@ fn long_scripts(rt: HostRuntime) -> Result<(), Fail> {
     let mut out = Vec::new(rt.alloc());
     let ended = play(rt.alloc(), 16, many.as_slice(), &mut out);
     assert!(rt; ended == Err(ScriptFault::Crowded(129)));
-    for len in [4_097u32, 40_000] {
+    for len in [VALUE_MAX + 1, INBOX_MAX + 1] {
         let mut lines = b"1 SET a ".to_vec(rt.alloc())?;
         for _ in 0..len {
             lines.push(b'v')?;
@@ -235,6 +237,8 @@ fn long_scripts(rt: HostRuntime) -> Result<(), Fail> {
 fn texts_of_faults(rt: HostRuntime) -> Result<(), Fail> {
     let faults = [
         (Fault::NotALog, FAULT, b"ssikvd: not a log\n".as_slice()),
+        (Fault::OldFormat, FAULT, b"ssikvd: old format\n"),
+        (Fault::NotEmpty, FAULT, b"ssikvd: not empty\n"),
         (Fault::Damaged(7), FAULT, b"ssikvd: damaged record 7\n"),
         (Fault::LogFull, FAULT, b"ssikvd: log full\n"),
         (Fault::Device, FAULT, b"ssikvd: device fault\n"),
@@ -370,7 +374,7 @@ const SERVE_ODD: &[&str] = &[
 
 /// The head of a log, and behind it an open gate with no record.
 fn damaged_log(alloc: Global) -> io::Result<Vec<u8>> {
-    let mut bytes = b"SSIKVLG1".to_vec(alloc)?;
+    let mut bytes = b"SSIKVLG2".to_vec(alloc)?;
     for at in 8..2_048 {
         bytes.push(if at == 512 { 1 } else { 0 })?;
     }
@@ -381,6 +385,10 @@ fn damaged_log(alloc: Global) -> io::Result<Vec<u8>> {
 #[test]
 fn files_that_are_no_logs(rt: HostRuntime) -> Result<(), Fail> {
     let damaged = damaged_log(rt.alloc())?;
+    let mut old = damaged_log(rt.alloc())?;
+    if let Some(version) = old.get_mut(7) {
+        *version = b'1';
+    }
     let zeros = [0u8; 2_048];
     let cases = [
         (b"".as_slice(), b"ssikvd: not a log\n".as_slice()),
@@ -388,6 +396,7 @@ fn files_that_are_no_logs(rt: HostRuntime) -> Result<(), Fail> {
         (&zeros[..2_048], b"ssikvd: not a log\n"),
         (&zeros[..1_000], b"ssikvd: file fault\n"),
         (damaged.as_slice(), b"ssikvd: damaged record 0\n"),
+        (old.as_slice(), b"ssikvd: old format\n"),
     ];
     for (bytes, text) in cases {
         for words in [CHECK_ODD, SERVE_ODD] {

@@ -2,6 +2,7 @@
 ghost use Rattle.std.specs.Prelude.{◌≤◌};
 
 use crate::hubs::{Pieces, new_hub};
+use model::FRAME_MAX;
 use rows::worked::{
     COMMITTED_WRITE_IS_SEEN, Counted, DELETED_KEY, EARLIER_READER_IS_HARMLESS,
     FIRST_COMMITTER_WINS, FULL_PAGE_ENDS_AT_ITS_LAST_KEY, LAST_KEY_OF_A_PAGE_IS_MARKED,
@@ -112,7 +113,7 @@ fn expect_row<S: Store>(
 fn over_the_hub(alloc: Global, name: &str, sectors: u64, lines: &[Line]) -> Result<(), Fail>
     requires { sectors ≤ 4096 }
 {
-    for size in [1usize, 2, 3, 7, 16_424] {
+    for size in [1usize, 2, 3, 7, FRAME_MAX] {
         let hub = new_hub(alloc, sectors)?;
         expect_row(alloc, name, &mut Pieces::new(hub, size), lines)?;
     }

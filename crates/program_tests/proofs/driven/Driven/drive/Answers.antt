@@ -4,7 +4,7 @@ use Rattle.event_loop.proofs.Tables.{stands_after}
 use Rattle.program_tests.proofs.driven.Driven.drive.Goals as goal
 
 pub drive-requires : goal.drive-requires
-drive-requires c = ∥∥₁_map c.args.self.now.stands (λ w. (
+drive-requires g c = ∥∥₁_map c.args.self.now.stands (λ w. (
   w.0,
   w.1,
   λ gone. (
@@ -15,6 +15,6 @@ drive-requires c = ∥∥₁_map c.args.self.now.stands (λ w. (
 ))
 
 pub invariant_of-self : goal.invariant_of-self
-invariant_of-self c = record {
+invariant_of-self g c = record {
   stands = stands_after c.args.self.now.hub c.drive.new.hub _ c.args.self.now.stands c.drive.ensures.driven;
 }
