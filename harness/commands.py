@@ -11,10 +11,10 @@ import socket
 import subprocess
 
 from client import (
-    PATIENCE, POLL, PROGRAM, SHIM, TRACER, Connection, Refusals, Server, Tally, check, create, expect, folder, free_port, is_long, need,
+    HERE, PATIENCE, POLL, PROGRAM, SHIM, TRACER, Connection, Refusals, Server, Tally, check, create, expect, folder, free_port, is_long, need,
     run, run_harness)
 from model import (
-    KEY_MAX, LARGEST_REPLY, OK, SECTOR, SESSIONS_MAX, Store, VALUE_MAX, WRITES_MAX, body_sectors, frame, log_image, payload, sectors_used)
+    KEY_MAX, LARGEST_REPLY, OLD_HEAD, OK, SECTOR, SESSIONS_MAX, Store, VALUE_MAX, WRITES_MAX, body_sectors, frame, log_image, payload, sectors_used)
 from rows import EXAMPLES, example_files, request_of, shown
 from tracing import Trace, printed
 
@@ -23,20 +23,23 @@ OF_PROGRAM = "\nUsage: ssikvd <COMMAND>\n"
 OF_CREATE = "\nUsage: ssikvd create --data <F> --sectors <N>\n"
 OF_SERVE = "\nUsage: ssikvd serve --data <F> --listen <A>\n"
 OF_CHECK = "\nUsage: ssikvd check --data <F>\n"
+OF_COMPACT = "\nUsage: ssikvd compact [OPTIONS] --from <F> --to <G>\n"
 OF_PLAY = "\nUsage: ssikvd play [OPTIONS]\n"
 OF_HELP = "  -h, --help         Print help\n"
 
 HELP = """An ordered store whose transactions are serializable
 """ + OF_PROGRAM + """
 Commands:
-  create  Makes a data file and formats it
-  serve   Serves a data file
-  check   Opens a data file and counts what it holds
-  play    Runs the lines of standard input over a device in memory
-  help    Print this message or the help of the given subcommand(s)
+  create   Makes a data file and formats it
+  serve    Serves a data file
+  check    Opens a data file and counts what it holds
+  compact  Copies the map of a data file into a new data file
+  play     Runs the lines of standard input over a device in memory
+  help     Print this message or the help of the given subcommand(s)
 
 Options:
-  -h, --help  Print help
+  -h, --help     Print help
+  -V, --version  Print version
 """
 HELP_OF_CREATE = "Makes a data file and formats it\n" + OF_CREATE + """
 Options:
@@ -45,7 +48,7 @@ Options:
 """ + OF_HELP
 
 HELPS = {
-    "help": HELP, "--help": HELP, "-h": HELP, "help create": HELP_OF_CREATE, "create --help": HELP_OF_CREATE, "create -h": HELP_OF_CREATE}
+    "--version": "ssikvd 0.1.0\n", "-V": "ssikvd 0.1.0\n", "help": HELP, "--help": HELP, "-h": HELP, "help create": HELP_OF_CREATE, "create --help": HELP_OF_CREATE, "create -h": HELP_OF_CREATE}
 
 
 def out_of_range(value, most):
@@ -65,13 +68,12 @@ def required(usage, *options):
 
 
 REFUSED = {
-    "": "error: 'ssikvd' requires a subcommand but one was not provided\n  [subcommands: create, serve, check, play, help]\n"
+    "": "error: 'ssikvd' requires a subcommand but one was not provided\n  [subcommands: create, serve, check, compact, play, help]\n"
         + OF_PROGRAM + MORE,
     "bogus": "error: unrecognized subcommand 'bogus'\n" + OF_PROGRAM + MORE,
     "help bogus": "error: unrecognized subcommand 'bogus'\n" + OF_PROGRAM + MORE,
     "Create": "error: unrecognized subcommand 'Create'\n\n  tip: a similar subcommand exists: 'create'\n" + OF_PROGRAM + MORE,
-    "--version": unexpected("--version", OF_PROGRAM),
-    "-V": unexpected("-V", OF_PROGRAM),
+    "check --version": unexpected("--version", OF_CHECK),
     "create": required(OF_CREATE, "--data <F>", "--sectors <N>"),
     "create --data DATA --sectors 0": out_of_range(0, 4_194_304),
     "create --data DATA --sectors 1": out_of_range(1, 4_194_304),
@@ -89,6 +91,9 @@ REFUSED = {
     "check": required(OF_CHECK, "--data <F>"),
     "check --data": "error: a value is required for '--data <F>' but none was supplied\n" + MORE,
     "check --data DATA more": unexpected("more", OF_CHECK),
+    "compact": required("\nUsage: ssikvd compact --from <F> --to <G>\n", "--from <F>", "--to <G>"),
+    "compact --from DATA --to DATA --sectors 1": out_of_range(1, 4_194_304),
+    "compact --from DATA --to DATA --sectors 4194305": out_of_range(4_194_305, 4_194_304),
     "play --sectors 1": out_of_range(1, 65_536),
     "play --sectors 65537": out_of_range(65_537, 65_536),
     "play --sectors -2": unexpected("-2", OF_PLAY),
@@ -155,7 +160,9 @@ FILES = {
     "a full log": (log_image([[(b"a", b"1")]], 4), None),
     "no byte": (b"", "not a log"),
     "one sector": (IMAGE[:SECTOR], "not a log"),
-    "another head": (with_byte(IMAGE, 7, ord("2")), "not a log"),
+    "an old log": (log_image([[(b"a", b"1")]], 4, OLD_HEAD), "old format"),
+    "an old head and nothing behind it": (OLD_HEAD, "not a log"),
+    "another head": (with_byte(IMAGE, 7, ord("3")), "not a log"),
     "a head with a byte behind it": (with_byte(IMAGE, 511, 1), "not a log"),
     "bytes of something else": (b"\x7fELF".ljust(16 * SECTOR, b"x"), "not a log"),
     "513 bytes": (IMAGE[:SECTOR + 1], "file fault"),
@@ -194,6 +201,70 @@ def data_files(tally):
                         expect(server.is_listening(), f"no server: {server.error_text()!r}")
             with tally.run(f"{name} behind it"), open(data, "rb") as file:
                 expect(file.read() == image, "the file was changed")
+
+
+MANY = [[(b"k%02d" % i, b"1")] for i in range(1, 66)]
+TWO = [[write for [write] in MANY[:64]], [write for [write] in MANY[64:]]]
+PUT_AND_GONE = [[(b"a", b"1")], [(b"a", None)]]
+FULL = [[(b"a", b"1")]]
+COMPACTED = {
+    "an old log of no key": (log_image(PUT_AND_GONE, 8, OLD_HEAD), (), [], "records 0 keys 0 sectors 2 of 8\n"),
+    "an old log of many keys": (log_image(MANY, 200, OLD_HEAD), (), TWO, "records 2 keys 65 sectors 7 of 200\n"),
+    "a log of this format": (log_image(MANY, 200), (), TWO, "records 2 keys 65 sectors 7 of 200\n"),
+    "a full log": (log_image(FULL, 4), (), FULL, "records 1 keys 1 sectors 4 of 4\n"),
+    "a full log with more room": (log_image(FULL, 4), ("--sectors", "100"), FULL, "records 1 keys 1 sectors 4 of 100\n"),
+    "room for fewer than there were": (log_image(FULL, 40), ("--sectors", "4"), FULL, "records 1 keys 1 sectors 4 of 40\n")}
+NOT_COMPACTED = {
+    "too little room": (log_image(FULL, 4), ("--sectors", "3"), "log full"),
+    "no log": (bytes(4 * SECTOR), (), "not a log"),
+    "an old log that is damaged": (with_byte(log_image(FULL, 4, OLD_HEAD), 2 * SECTOR + 44, 9), (), "damaged record 0"),
+    "an old log with a value too long": (log_image([[(b"a", bytes(4_097))]], 40, OLD_HEAD), (), "damaged record 0"),
+    "half a sector": (IMAGE[:SECTOR + 256], (), "file fault")}
+
+
+def read(name):
+    with open(name, "rb") as file:
+        return file.read()
+
+
+def compactions(tally):
+    """`compact` of each file, which it never changes, and what then stands in the new one."""
+    for name, (image, words, log, line) in COMPACTED.items():
+        with folder() as place, tally.run(f"compact of {name}"):
+            data, new = os.path.join(place, "data"), os.path.join(place, "new")
+            with open(data, "wb") as file:
+                file.write(image)
+            expect_found(run(["compact", "--from", data, "--to", new, *words]), 0, line)
+            expect(read(data) == image, "the old file was changed")
+            expect(read(new) == log_image(log, int(line.split()[-1])), "the new file is another")
+            expect_found(run(["check", "--data", new]), 0, line)
+            again = read(new)
+            expect_found(run(["compact", "--from", data, "--to", new]), 3, "", "ssikvd: file fault\n")
+            expect_found(run(["compact", "--from", new, "--to", new]), 3, "", "ssikvd: file fault\n")
+            expect(read(new) == again, "the new file was changed")
+    for name, (image, words, fault) in NOT_COMPACTED.items():
+        with folder() as place, tally.run(f"compact of {name}"):
+            data = os.path.join(place, "data")
+            with open(data, "wb") as file:
+                file.write(image)
+            found = run(["compact", "--from", data, "--to", os.path.join(place, "new"), *words])
+            expect_found(found, 3, "", f"ssikvd: {fault}\n")
+            expect(read(data) == image and os.listdir(place) == ["data"], "it left something behind")
+    with folder() as place, tally.run("a full log compacted and served again"):
+        data, new = os.path.join(place, "data"), os.path.join(place, "new")
+        create(data, 4)
+        steps = (("BEGIN", "SET a 1", "COMMIT", "BEGIN", "SET a 2", "COMMIT"), [b"+OK", b"+OK", b":1", b"+OK", b"+OK", b"-FULL log"])
+        expect(asked(data, steps[0]) == steps[1], "the log is not full")
+        expect_found(run(["compact", "--from", data, "--to", new, "--sectors", "16"]), 0, "records 1 keys 1 sectors 4 of 16\n")
+        os.replace(new, data)
+        expect(asked(data, ("BEGIN", "GET a", "SET a 2", "COMMIT")) == [b"+OK", b"$1\r\n1", b"+OK", b":1"], "it is not served again")
+        expect_found(run(["check", "--data", data]), 0, "records 2 keys 1 sectors 6 of 16\n")
+
+
+def asked(data, lines):
+    """What a server over this file answers to these lines."""
+    with Server(data) as server, Connection(server.port) as client:
+        return [client.ask(frame(*line.split(" ")))[:-2] for line in lines]
 
 
 def names(tally):
@@ -342,6 +413,12 @@ def scripts(tally):
         script, due = example_files(name)
         with tally.run(f"play of the example {name}"):
             expect_found(run(["play"], script), 0, due)
+    with tally.run("the program's stored run, which is an example"):
+        stored = []
+        for name in ("stdin", "stdout"):
+            with open(os.path.join(HERE, "..", "crates", "ssikvd", name), "rb") as file:
+                stored.append(file.read())
+        expect(tuple(stored) == example_files("snapshot_is_kept"), "crates/ssikvd/stdin and stdout are not the example snapshot_is_kept")
     for script, due in LINES.items():
         with tally.run(f"play of {script[:40]!r}"):
             expect_found(run(["play"], script), 0, due)
@@ -362,9 +439,14 @@ def scripts(tally):
             found = run(["play", "--sectors", str(sectors)], b"1 BEGIN\n1 SET a 1\n1 COMMIT\n")
             expect_found(found, 0, f"1 +OK\n1 +OK\n1 {last}\n")
     due = played(
-        tally, "the largest reply", [*largest_pairs(), "2 BEGIN", '2 RANGE 0 "" 128', f"2 GET 000{'k' * (KEY_MAX - 3)}", "2 COMMIT"])
+        tally, "the largest reply", [*largest_pairs(), "2 BEGIN", '2 RANGE 0 "" 128', f"2 GET 000{'k' * (KEY_MAX - 3)}", "2 COMMIT"], 8_192,
+        ["--sectors", "8192"])
     with tally.run("the length of the largest reply"):
         expect(len(due[-3]) == LARGEST_REPLY - 2 * 2 * 128 + 1, f"it has {len(due[-3])} bytes")
+    for sectors, last in ((36, ":1"), (35, "-FULL log")):
+        due = played(tally, f"the largest value over {sectors} sectors", ["1 BEGIN", f"1 SET a {'v' * VALUE_MAX}", "1 COMMIT"], sectors,
+                     ["--sectors", str(sectors)])
+        expect(due[-1] == f"1 {last}\n".encode(), "the model answers something else")
     played(tally, "a log of 4,096 sectors up to its end", log_of_default_size())
     short = ["1 BEGIN", "1 SET a 1", "2 PING", '1 RANGE a "" 5', "1 ABORT", "1 GET a"]
     played(tally, "a long script", short * (100_000 if is_long() else 5_000))
@@ -474,7 +556,7 @@ def main():
     need(PROGRAM, SHIM, TRACER)
     holds = True
     for name, parts in (
-            ("command lines", [command_lines]), ("data files and addresses", [create_at_bounds, data_files, names, file_in_folder]),
+            ("command lines", [command_lines]), ("data files and addresses", [create_at_bounds, data_files, compactions, names, file_in_folder]),
             ("output that fails", [failing_output]), ("scripts", [scripts]), ("servers", [servers]), ("lines in one write", [whole_lines])):
         tally = Tally(name)
         for part in parts:

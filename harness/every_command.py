@@ -15,7 +15,7 @@ from client import Connection, Refusals, Server, Tally, check, create, expect, f
 from model import (
     KEY_MAX, MARKS_MAX, OK, OPEN_MAX, SECTOR, Store, VALUE_MAX, WRITES_MAX, bulk, frame, log_image, pairs, refusal, sectors_used)
 
-SECTORS = 16_384
+SECTORS = 65_536
 BEGIN, COMMIT, PING = (frame(name) for name in ("BEGIN", "COMMIT", "PING"))
 KEY, VALUE = b"k" * KEY_MAX, b"v" * VALUE_MAX
 KEPT_VALUE = 300

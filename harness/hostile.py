@@ -19,7 +19,7 @@ import time
 from client import Connection, Deviation, Server, Tally, create, expect, folder, is_long, need, run_harness
 from good_client import KEY as GOOD_KEY, VALUE as GOOD_VALUE, GoodClient
 from model import (
-    BROKEN_FRAME, Broken, INBOX_MAX, KEY_MAX, LARGEST_REPLY, MARKS_MAX, OK, OPEN_MAX, PONG, SESSIONS_MAX, Store, VALUE_MAX, WRITES_MAX,
+    BROKEN_FRAME, Broken, HELD_MAX, INBOX_MAX, KEY_MAX, LARGEST_REPLY, MARKS_MAX, OK, OPEN_MAX, PONG, SESSIONS_MAX, Store, VALUE_MAX, WRITES_MAX,
     decode, frame, pairs, refusal)
 
 SECTORS = 262_144
@@ -114,7 +114,7 @@ def urgent_bytes(siege):
             expect([client.reply(), client.reply()] == [PONG, PONG], "another reply")
 
 
-BROKEN = (b"*0", b"*5", b"*11", b"*1\n", b"PING\r\n", b"*1\r\n$4097", b"*1\r\n$-1", b"*1\r\n$00", b"*1\r\n$2\r\nabc")
+BROKEN = (b"*0", b"*5", b"*11", b"*1\n", b"PING\r\n", b"*1\r\n$%d" % (VALUE_MAX + 1), b"*1\r\n$-1", b"*1\r\n$00", b"*1\r\n$2\r\nabc")
 
 
 def broken_frames(siege):
@@ -204,11 +204,27 @@ def held_behind_broken_frames(siege):
     time.sleep(0.2)
     kept = siege.server.descriptors() - before
     expect(kept <= LINGERING_MAX, f"{kept} descriptors of {len(clients)} are kept")
-    if siege.is_long:
-        time.sleep(LINGER + 2.0)
-        kept = siege.server.descriptors() - before
-        expect(kept <= 0, f"{kept} descriptors are kept for more than {LINGER:.0f} seconds")
+    time.sleep(LINGER + 2.0)
+    kept = siege.server.descriptors() - before
+    expect(kept <= 0, f"{kept} descriptors are kept for more than {LINGER:.0f} seconds")
     close_all(clients)
+
+
+LINGERING_BYTES, IN_BUFFERS = 1 << 26, 1 << 24    # how many bytes are dropped behind a broken frame, and how many more the system may hold
+
+
+def without_end_behind_a_broken_frame(siege):
+    """A peer that sends without end behind its broken frame is cut off once so many bytes were dropped, and not before."""
+    with siege.join() as client:
+        client.send(b"*0")
+        came, sent, piece = client.rest(), 0, b"x" * (1 << 16)
+        expect(came == BROKEN_FRAME, f"a broken frame was answered {came!r}")
+        try:
+            while sent < 2 * LINGERING_BYTES:
+                sent += client.socket.send(piece)
+        except ConnectionError:
+            pass
+    expect(LINGERING_BYTES <= sent <= LINGERING_BYTES + IN_BUFFERS, f"{sent:,} bytes went behind a broken frame")
 
 
 # Floods
@@ -459,6 +475,7 @@ def memory_bound(idle, commits):
     return {
         "idle server": idle,
         f"{SESSIONS_MAX} inboxes": SESSIONS_MAX * INBOX_MAX,
+        f"{SESSIONS_MAX} streams": SESSIONS_MAX * HELD_MAX,
         f"{SESSIONS_MAX} outputs of the largest reply": SESSIONS_MAX * LARGEST_REPLY,
         f"keys and values of {OPEN_MAX} transactions": OPEN_MAX * (WRITES_MAX * pair + MARKS_MAX * 2 * KEY_MAX),
         "the map": len(KEYS) * pair,
@@ -469,9 +486,9 @@ def memory_bound(idle, commits):
 
 def judge_memory(tally, peak, idle, commits):
     parts = memory_bound(idle, commits)
-    bound, by_limits = sum(parts.values()), sum(list(parts.values())[:5])
+    bound, by_limits = sum(parts.values()), sum(list(parts.values())[:6])
     print("  memory, in bytes: " + "; ".join(f"{name} {size:,}" for name, size in parts.items()))
-    print(f"  memory: measured peak {peak:,}, bound {bound:,}, which is {100 * peak / bound:.1f} %; the first five parts alone are "
+    print(f"  memory: measured peak {peak:,}, bound {bound:,}, which is {100 * peak / bound:.1f} %; the first six parts alone are "
           f"{by_limits:,}, which is {100 * peak / by_limits:.1f} %")
     with tally.run("memory"):
         expect(peak <= bound, f"the process had {peak:,} bytes, which is above the bound")
@@ -479,8 +496,8 @@ def judge_memory(tally, peak, idle, commits):
 
 SCENES = (
     half_a_frame, one_byte_at_a_time, urgent_bytes, broken_frames, broken_frame_behind_much, value_above_the_bound,
-    held_behind_broken_frames, flood_of_transactions, flood_before_reading, flood_of_commits, never_reads, resets, two_hundred_connections,
-    burst, random_bytes, every_session_at_its_limits)
+    held_behind_broken_frames, without_end_behind_a_broken_frame, flood_of_transactions, flood_before_reading, flood_of_commits,
+    never_reads, resets, two_hundred_connections, burst, random_bytes, every_session_at_its_limits)
 
 
 def play(tally, siege, scene):

@@ -5,15 +5,19 @@ find every acknowledged set whole, at most one more for each writer, also whole,
 kill, until little room is left in it. A commit may be refused for a full log, where that is what the log is: then it isn't found. What is
 killed is the process, not the machine: what it had written stays with the system.
 
+`compact` is killed in mid-work as often. The file that it reads is then byte for byte as it was, and what it made is refused when it is
+opened, or is the whole copy.
+
 `quick` kills 10 times, else it is 100 times.
 """
 import os
 import random
+import subprocess
 import threading
 import time
 
-from client import Connection, Server, Tally, check, create, expect, folder, is_long, need, run_harness
-from model import OK, body_sectors, frame, payload, refusal
+from client import PROGRAM, Connection, Server, Tally, check, create, expect, folder, is_long, need, run, run_harness
+from model import OK, OLD_HEAD, VALUE_MAX, WRITES_MAX, body_sectors, frame, log_image, payload, refusal, sectors_used
 
 WRITERS = 6
 SECTORS = 131_072
@@ -21,6 +25,8 @@ ROOM_LEFT = 40_000
 LONGEST_LIFE = 0.4
 PAGE = 128
 FULL = refusal("FULL log")
+OLD = [[(b"%06d" % (WRITES_MAX * i + j), b"%06d" % j * 150) for j in range(WRITES_MAX)] for i in range(300)]
+OLD_SECTORS = sectors_used(OLD) + 1_000
 
 
 def key_of(writer, number, part):
@@ -28,8 +34,8 @@ def key_of(writer, number, part):
 
 
 def value_of(writer, number, part):
-    """A value that tells its key, of a length from 10 to 4,096 bytes."""
-    length = (10, 300, 469, 2_000, 4_096)[(number + part) % 5]
+    """A value that tells its key, of a length from 10 bytes to the most."""
+    length = (10, 300, 469, 2_000, VALUE_MAX)[(number + part) % 5]
     return (b"<%d.%d.%d>" % (writer, number, part)).ljust(length, b"v")
 
 
@@ -147,6 +153,43 @@ class Store:
         return acknowledged - before, sum(self.last) - acknowledged
 
 
+def compact_and_kill(place, life):
+    """`compact` of a log of format 1 killed after so long, or not where none is given. What it left: nothing, no log, or a whole one."""
+    data, new = os.path.join(place, "old"), os.path.join(place, "new")
+    process = subprocess.Popen([PROGRAM, "compact", "--from", data, "--to", new], stdout=subprocess.DEVNULL, stderr=subprocess.PIPE)
+    if life is not None:
+        time.sleep(life)
+        process.kill()
+    error = process.communicate()[1]
+    expect(error == b"", f"it told {error!r}")
+    with open(data, "rb") as file:
+        expect(file.read() == log_image(OLD, OLD_SECTORS, OLD_HEAD), "the old file was changed")
+    if not os.path.exists(new):
+        return "nothing"
+    status, _, text = run(["check", "--data", new])
+    with open(new, "rb") as file:
+        is_whole = file.read() == log_image(OLD, OLD_SECTORS)
+    os.remove(new)
+    expect((status == 0) == is_whole, f"check ended with {status}, and the copy is {'' if is_whole else 'not '}whole")
+    expect(is_whole or (status, text) in ((3, b"ssikvd: not a log\n"), (3, b"ssikvd: file fault\n")), f"it was refused by {text!r}")
+    return "a whole log" if is_whole else "no log"
+
+
+def kill_compactions(tally, place, kills, chance):
+    """How often each was left."""
+    left = {"nothing": 0, "no log": 0, "a whole log": 0}
+    with open(os.path.join(place, "old"), "wb") as file:
+        file.write(log_image(OLD, OLD_SECTORS, OLD_HEAD))
+    start = time.monotonic()
+    with tally.run("compact to its end"):
+        expect(compact_and_kill(place, None) == "a whole log", "the copy is not whole")
+    whole = time.monotonic() - start
+    for kill in range(kills):
+        with tally.run(f"kill {kill} of compact"):
+            left[compact_and_kill(place, chance.uniform(0.0, whole))] += 1
+    return ", ".join(f"{count} times {what}" for what, count in left.items())
+
+
 def main():
     need()
     kills, chance = 100 if is_long() else 10, random.Random(2_008)
@@ -160,7 +203,8 @@ def main():
             with tally.run(f"kill {kill}"):
                 noted, unnoted = current.kill_once(chance.uniform(0.0, LONGEST_LIFE))
                 acknowledged, more, store = acknowledged + noted, more + unnoted, current
-    ends = f"{acknowledged} commits acknowledged and all found, {more} found that were not, over {files} files"
+        left = kill_compactions(tally, place, kills, chance)
+    ends = f"{acknowledged} commits acknowledged and all found, {more} found that were not, over {files} files; compact left {left}"
     return 0 if tally.end("; " + ends) else 1
 
 

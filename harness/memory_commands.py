@@ -1,4 +1,4 @@
-"""Memory refused to the commands that end by themselves: `play` on the worked examples, `create` and `check`.
+"""Memory refused to the commands that end by themselves: `play` on the worked examples, `create`, `check` and `compact`.
 
 Each command is run with its n-th allocation refused, n = 1, 2, 3 .. until a run meets no refusal; and again with all from the n-th on.
 A run ends with status 3 and `ssikvd: out of memory`, after a beginning of the right output, or as if nothing had been refused.
@@ -107,6 +107,33 @@ def create_command(tally, counts, is_lasting):
     refuse_in_turn(tally, counts, "create", is_lasting, lambda place: ["create", "--data", data(place), *words], b"", b"", None, after)
 
 
+def compact_command(tally, counts, is_lasting):
+    """`compact` of a log of three records: the old file stays, and the new one is not there, no log, or the whole copy."""
+    image, kept = log_image(LOG, 40), [(b"%03d" % i, b"v" * i) for i in range(64)] + [(b"b", bytes(2_000))]
+    copy = log_image([kept[:64], kept[64:]], 40)
+    due = f"records 2 keys 65 sectors {sectors_used([kept[:64], kept[64:]])} of 40\n".encode()
+
+    def before(place):
+        with open(os.path.join(place, "old"), "wb") as file:
+            file.write(image)
+
+    def after(place, has_ended):
+        with open(os.path.join(place, "old"), "rb") as file:
+            expect(file.read() == image, "the old file was changed")
+        new = os.path.join(place, "new")
+        if not os.path.exists(new):
+            expect(has_ended, "no file was made")
+            return
+        with open(new, "rb") as file:
+            made = file.read()
+        expect(made == copy or has_ended and made[:512] == bytes(512), "the new file is neither no log nor the whole copy")
+
+    def words(place):
+        return ["compact", "--from", os.path.join(place, "old"), "--to", os.path.join(place, "new")]
+
+    refuse_in_turn(tally, counts, "compact", is_lasting, words, b"", due, before, after)
+
+
 def main():
     need()
     holds = True
@@ -115,6 +142,7 @@ def main():
         play(tally, counts, is_lasting)
         check_command(tally, counts, is_lasting)
         create_command(tally, counts, is_lasting)
+        compact_command(tally, counts, is_lasting)
         holds &= tally.end(f"; {counts.ended} ended with status 3, {counts.went_on} went on")
     return 0 if holds else 1
 

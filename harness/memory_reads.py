@@ -8,7 +8,7 @@ import os
 from client import MEMORY, Connection, Refusals, Server, Tally, create, expect, folder, need, run_harness
 from model import KEY_MAX, LARGEST_REPLY, Store, VALUE_MAX, frame
 
-SECTORS = 4_096
+SECTORS = 8_192
 KEYS = [b"%03d" % i + b"k" * (KEY_MAX - 3) for i in range(128)]
 VALUE = b"v" * VALUE_MAX
 ROUNDS = 3

@@ -6,9 +6,10 @@ slow. The harnesses compare the program with it.
 import hashlib
 
 SESSIONS_MAX, OPEN_MAX, WRITES_MAX, MARKS_MAX, PAIRS_MAX = 128, 64, 64, 256, 128
-KEY_MAX, VALUE_MAX, FRAME_MAX, INBOX_MAX = 256, 4_096, 16_424, 32_768
-LARGEST_REPLY = 6 + PAIRS_MAX * (264 + 4_105)
+KEY_MAX, VALUE_MAX, FRAME_MAX, INBOX_MAX, HELD_MAX = 256, 16_384, 65_580, 131_072, 16_384
+LARGEST_REPLY = 6 + PAIRS_MAX * (264 + 16_394)
 SECTOR = 512
+HEAD, OLD_HEAD = (head.ljust(SECTOR, b"\0") for head in (b"SSIKVLG2", b"SSIKVLG1"))
 
 
 # Frames
@@ -279,9 +280,10 @@ def sectors_used(log):
     return 2 + sum(body_sectors(payload(w)) + 1 for w in log)
 
 
-def log_image(log, sectors):
-    """The bytes of a device of so many sectors with a log of these write sets, of which nothing else was ever written."""
-    out, digest = b"SSIKVLG1".ljust(SECTOR, b"\0"), bytes(32)
+def log_image(log, sectors, head=HEAD):
+    """The bytes of a device of so many sectors with a log of these write sets, of which nothing else was ever written. With the old head
+    it is a log of format 1, as long as no value is longer than 4,096 bytes."""
+    out, digest = head, bytes(32)
     for index, writes in enumerate(log):
         content, place = payload(writes), index.to_bytes(8, "big")
         digest = hashlib.sha256(digest + place + content).digest()
@@ -292,6 +294,10 @@ def log_image(log, sectors):
 
 class NotALog(Exception):
     """What the device holds is no log."""
+
+
+class OldFormat(Exception):
+    """The device holds the head of format 1."""
 
 
 class Damaged(Exception):
@@ -326,7 +332,7 @@ def writes_of(content):
     return writes if writes and at == len(content) and keys == sorted(set(keys)) else None
 
 
-BODY_MAX = 545
+BODY_MAX = 2_081
 
 
 AT_FIRST = ((), 1, bytes(32))
@@ -334,8 +340,10 @@ AT_FIRST = ((), 1, bytes(32))
 
 def read_log(sector, sectors, known=AT_FIRST):
     """What the log of a device of so many sectors holds, of which `sector` gives each: the write sets, the place of the closed gate, and
-    the last digest. Of a beginning all of this may be known. Raises NotALog, or Damaged with an index."""
-    if sectors < 2 or sector(0) != b"SSIKVLG1".ljust(SECTOR, b"\0"):
+    the last digest. Of a beginning all of this may be known. Raises NotALog, OldFormat, or Damaged with an index."""
+    if sectors >= 2 and sector(0) == OLD_HEAD:
+        raise OldFormat
+    if sectors < 2 or sector(0) != HEAD:
         raise NotALog
     log, place, digest = list(known[0]), *known[1:]
     while sector(place)[0] == 1:

@@ -1,5 +1,4 @@
-"""Worked examples: each line is a session's label with a request, and the reply as `play` prints it. Those of the folder examples are read
-from there."""
+"""Worked examples, read from the folder examples: each line is a session's label with a request, and the reply as `play` prints it."""
 import os
 
 from model import Store
@@ -23,68 +22,9 @@ def example(name):
     return [(line, reply.split(" ", 1)[1]) for line, reply in zip(script, due, strict=True)]
 
 
-READER_FINDS_A_COMMITTED_PIVOT = [
-    ("1 BEGIN", "+OK"),
-    ("2 BEGIN", "+OK"),
-    ("3 BEGIN", "+OK"),
-    ("1 SET m 1", "+OK"),
-    ("1 COMMIT", ":1"),
-    ("2 GET m", "$-1"),
-    ("2 SET k 1", "+OK"),
-    ("2 COMMIT", ":2"),
-    ("3 GET k", "$-1"),
-    ("3 COMMIT", "-CONFLICT pivot 2"),
-]
-
-SIXTY_FOUR_WRITES = [
-    ("1 BEGIN", "+OK"),
-    *((f"1 SET k{i} v", "+OK") for i in range(64)),
-    ("1 SET k64 v", "-FULL writes"),
-    ("1 SET k7 w", "+OK"),
-    ("1 COMMIT", ":1"),
-    ("2 BEGIN", "+OK"),
-    ("2 GET k7", "$1 w"),
-]
-
-DELETED_KEY = [
-    ("9 BEGIN", "+OK"),
-    ("9 SET a 1", "+OK"),
-    ("9 COMMIT", ":1"),
-    ("1 BEGIN", "+OK"),
-    ("1 DEL a", "+OK"),
-    ("1 GET a", "$-1"),
-    ('1 RANGE a "" 9', "*0"),
-    ("2 BEGIN", "+OK"),
-    ("2 GET a", "$1 1"),
-    ("1 COMMIT", ":2"),
-    ("2 GET a", "$1 1"),
-    ("2 COMMIT", ":3"),
-]
-
-RANGE_OVER_OWN_WRITES = [
-    ("9 BEGIN", "+OK"),
-    ("9 SET b 1", "+OK"),
-    ("9 SET d 1", "+OK"),
-    ("9 COMMIT", ":1"),
-    ("1 BEGIN", "+OK"),
-    ("1 SET a 2", "+OK"),
-    ("1 DEL b", "+OK"),
-    ("1 SET d 3", "+OK"),
-    ("1 SET e 4", "+OK"),
-    ('1 RANGE a "" 9', "*6 $1 a $1 2 $1 d $1 3 $1 e $1 4"),
-    ('1 RANGE a "" 2', "*4 $1 a $1 2 $1 d $1 3"),
-    ("1 RANGE b c 5", "*0"),
-    ("1 COMMIT", ":2"),
-]
-
 ROWS = {
-    "first_committer_wins": example("first_committer_wins"),
-    "write_skew": example("write_skew"),
-    "reader_finds_a_committed_pivot": READER_FINDS_A_COMMITTED_PIVOT,
-    "sixty_four_writes": SIXTY_FOUR_WRITES,
-    "deleted_key": DELETED_KEY,
-    "range_over_own_writes": RANGE_OVER_OWN_WRITES,
-}
+    name: example(name) for name in (
+        "first_committer_wins", "write_skew", "reader_finds_a_committed_pivot", "sixty_four_writes", "deleted_key", "range_over_own_writes")}
 
 
 def request_of(line):

@@ -16,12 +16,12 @@ import random
 
 from client import PROGRAM, TRACER, Connection, Deviation, Server, Tally, expect, folder, is_long, need, run, run_harness
 from model import (
-    AT_FIRST, KEY_MAX, PONG, SECTOR, VALUE_MAX, WRITES_MAX, Damaged, NotALog, Store, body_sectors, frame, log_image, payload, read_log)
+    AT_FIRST, HEAD, KEY_MAX, PONG, SECTOR, VALUE_MAX, WRITES_MAX, Damaged, NotALog, Store, body_sectors, frame, log_image, payload, read_log)
 from tracing import CLOSE, OPEN, READ_AT, REMOVE, SEND, SYNC, SYNC_DATA, WRITE, WRITE_AT, Trace
 
 SECTORS_OF_CREATE = 40
 ZEROS, ONES = bytes(SECTOR), b"\1" * SECTOR
-HEAD, CLOSED_GATE, OPEN_GATE = b"SSIKVLG1".ljust(SECTOR, b"\0"), ZEROS, b"\1".ljust(SECTOR, b"\0")
+CLOSED_GATE, OPEN_GATE = ZEROS, b"\1".ljust(SECTOR, b"\0")
 MOST_SINGLES = 24    # of more sectors that are unsettled, so many are taken alone
 
 

@@ -1,0 +1,345 @@
+"""The documents: their commands run from a fresh copy, and how they are written.
+
+Commands stand in blocks of ```console, each behind `$ `, with what it prints on the lines below it. Those of a document are typed into one
+shell, which begins at the top of a copy of the repository's files; those of CLIENTS.md and OPERATIONS.md first start its server.
+Port 7777 is another, free one. `...` stands for anything. What isn't run is listed with the reason. `long` runs also what needs `rt` for a
+minute.
+
+Then: no table cell over 120 characters and no sentence over 40 words, no link that leads nowhere, pictures as docs/pictures/draw.py draws
+them, with the figures of docs/PERFORMANCE.md, and the crates of docs/ARCHITECTURE.md as crates.txt has them. Of each block of ```ini and
+```python: a unit that `systemd-analyze verify` takes, Python that is Python.
+"""
+import csv
+import os
+import re
+import select
+import shutil
+import subprocess
+import sys
+import time
+
+from client import PATIENCE, PROGRAM, Tally, expect, folder, free_port, is_long, need, run, run_harness
+
+TOP = os.path.normpath(os.path.join(os.path.dirname(os.path.abspath(__file__)), ".."))
+CELL_MAX, WORDS_MAX = 120, 40
+PORT = "7777"
+NOT_RUN = (
+    (r"^rt try ", "takes a minute; `long` runs it"),
+    (r"^\(?(cd \S+ && )?rt (run|ci)", "proves for minutes to an hour; the gate runs it"),
+    (r"^(SSIKVD=\S+ )?harness/run.sh", "would run this harness again"),
+    (r"^bench/", "measures for minutes"),
+    (r"^wrong_bodies/", "proves for hours"),
+    (r"^systemd-run ", "starts a unit of the system"),
+    (r".*psql", "needs a PostgreSQL; `clients.py long` starts one"),
+)
+COMMAND = r"(rt|ssikvd|python3|grep|cp|psql|\(cd|harness/|bench/|wrong_bodies/|[A-Z]+=\S+) ?"
+NOT_READ = ("docs/STATUS.md",)    # what is open, written anew with each change
+NEEDS = {"rt": "the kit"}
+# Where redis-cli is missing, this is run in its place: it sends the lines of its input, and shows replies as redis-cli does.
+REDIS_CLI = f"""#!{sys.executable}
+import shlex, sys
+sys.path.append({os.path.join(TOP, "examples", "clients")!r})
+from simple_client import Client, Refused
+def shown(reply):
+    if isinstance(reply, list):
+        return "\\n".join(shown(part) for part in reply)
+    return "" if reply is None else reply.decode() if isinstance(reply, bytes) else str(reply)
+client = Client(int(sys.argv[2]))
+for line in sys.stdin:
+    try:
+        print(shown(client.ask(*shlex.split(line))))
+    except Refused as refusal:
+        print(refusal)
+"""
+AS_README = (
+    "export PATH=$PWD/crates/ssikvd/out:$PATH", "ssikvd create --data shop.data --sectors 1024",
+    f"ssikvd serve --data shop.data --listen 127.0.0.1:{PORT} &",
+    "python3 -c \"import sys; sys.path.append('examples/clients'); from simple_client import Client; "
+    f"Client({PORT}).transact(lambda store: (store.ask('SET', 'a', 1), store.ask('SET', 'b', 22)))\"")
+BEFORE = {"docs/CLIENTS.md": AS_README, "docs/OPERATIONS.md": AS_README}
+
+
+def documents():
+    found = ["README.md", "harness/README.md"]
+    found += sorted("docs/" + name for name in os.listdir(os.path.join(TOP, "docs")) if name.endswith(".md"))
+    return found
+
+
+def text_of(name):
+    with open(os.path.join(TOP, name), encoding="utf-8") as file:
+        return file.read()
+
+
+def blocks(name, kind):
+    """The blocks of a kind in a document."""
+    return re.findall(rf"^```{kind}\n(.*?)^```$", text_of(name), re.M | re.S)
+
+
+# Commands
+
+def commands(name):
+    """The commands of a document, each with the lines that it is to print."""
+    found = []
+    for block in blocks(name, "console"):
+        for line in block.splitlines():
+            if line.startswith("$ "):
+                found.append((line[2:], []))
+            else:
+                found[-1][1].append(line)
+    return found
+
+
+def copy_of(place, crates=None):
+    """A copy of the repository's files, with the program where `rt run` leaves it; the crates may be those of another copy."""
+    copy, ignored = os.path.join(place, "copy"), ["out", ".git", ".ci", "__pycache__", *(["crates"] if crates else [])]
+    shutil.copytree(TOP, copy, ignore=shutil.ignore_patterns(*ignored))
+    if crates:
+        os.symlink(crates, os.path.join(copy, "crates"))
+    else:
+        made = os.path.join(copy, "crates", "ssikvd", "out")
+        os.makedirs(made)
+        shutil.copy(PROGRAM, os.path.join(made, "ssikvd"))
+    return copy
+
+
+class Shell:
+    """A shell that is typed into, command by command. What it starts ends with it."""
+
+    def __init__(self, copy):
+        environment = {**os.environ, "PYTHONDONTWRITEBYTECODE": "1"}
+        if not shutil.which("redis-cli"):
+            stand_in = os.path.join(copy, "redis-cli")
+            with open(stand_in, "w", encoding="utf-8") as file:
+                file.write(REDIS_CLI)
+            os.chmod(stand_in, 0o755)
+            environment["PATH"] += ":" + copy
+        self.process = subprocess.Popen(
+            ["bash", "--norc"], cwd=copy, env=environment, stdin=subprocess.PIPE, stdout=subprocess.PIPE, stderr=subprocess.STDOUT,
+            start_new_session=True)
+        self.came, self.turn = b"", 0
+
+    def _read(self, is_done, seconds):
+        end = time.monotonic() + seconds
+        while not is_done() and time.monotonic() < end:
+            ready, _, _ = select.select([self.process.stdout], [], [], max(0.0, end - time.monotonic()))
+            piece = os.read(self.process.stdout.fileno(), 65_536) if ready else b""
+            if not piece:
+                break
+            self.came += piece
+
+    def type(self, command, least=0, seconds=PATIENCE):
+        """What the command prints, and its status. Of one in the background so many lines are waited for."""
+        self.turn += 1
+        mark = b"--- %d " % self.turn
+        self.process.stdin.write(f"{command}\necho \"--- {self.turn} $?\"\n".encode())
+        self.process.stdin.flush()
+        self._read(lambda: re.search(mark + rb"\d+\n", self.came), seconds)
+        ended = re.search(mark + rb"(\d+)\n", self.came)
+        expect(ended, f"{command} did not end, it printed {self.came[-200:]!r}")
+        self.came = self.came[:ended.start()] + self.came[ended.end():]
+        if command.endswith("&"):
+            self._read(lambda: self.came.count(b"\n") >= least, seconds)
+        lines = [line for line in self.came.decode(errors="replace").splitlines() if not re.match(r"bash: line \d+: +\d+ Killed", line)]
+        self.came = b""
+        return lines, int(ended[1])
+
+    def end(self):
+        """Ends the shell, and the servers that it started, by their ids."""
+        self.process.stdin.write(b"kill -9 $(jobs -p) 2>/dev/null\nexit\n")
+        self.process.stdin.close()
+        try:
+            self.process.wait(PATIENCE)
+        finally:
+            self.process.stdout.close()
+
+
+def fits(found, due):
+    """Are these the lines that are due, in which `...` stands for any?"""
+    if "..." not in due:
+        return found == due
+    at = due.index("...")
+    return found[:at] == due[:at] and len(found) >= at
+
+
+def why_not(command):
+    for pattern, reason in NOT_RUN:
+        if re.match(pattern, command) and not (is_long() and command.startswith("rt try") and shutil.which("rt")):
+            return reason
+    for word, needed in NEEDS.items():
+        if re.search(rf"(^|[|(&] *){word} ", command) and not shutil.which(word):
+            return f"wants {needed}"
+    if "over_redis.py" in command and subprocess.run(["python3", "-c", "import redis"], capture_output=True).returncode:
+        return "wants redis-py (Debian's python3-redis)"
+    return None
+
+
+def run_commands(tally):
+    with folder() as place:
+        left_out, whole = {}, os.path.join(copy_of(place), "crates")
+        for name in documents():
+            run_document(tally, name, whole, left_out)
+    if not shutil.which("redis-cli"):
+        print("  redis-cli is missing (Debian's redis-tools): a stand-in sends the same requests")
+    for reason, found in left_out.items():
+        print(f"  not run, since it {reason}:", *found, sep="\n    ")
+
+
+def run_document(tally, name, crates, left_out):
+    """The commands of a document; those that aren't run are noted with their reason."""
+    todo = commands(name)
+    if todo:
+        with folder() as place:
+            port, shell = str(free_port()), Shell(copy_of(place, crates))
+            try:
+                for command in BEFORE.get(name, ()):
+                    lines, _ = shell.type(command.replace(PORT, port), 1)
+                for command, due in todo:
+                    if why_not(command):
+                        left_out.setdefault(why_not(command), []).append(f"{name}: {command.split('  ')[0]}")
+                        continue
+                    with tally.run(f"{name}: {command}"):
+                        due = [line.replace(PORT, port) for line in due]
+                        lines, status = shell.type(command.replace(PORT, port), len(due), 300 if command.startswith("rt") else PATIENCE)
+                        expect(fits(lines, due), f"{command} printed {lines}, due is {due}")
+                        expect(status == 0, f"{command} ended with {status}")
+            finally:
+                shell.end()
+
+
+def worked(tally):
+    """The examples of requests with their replies, in blocks that are indented, as `play` answers them."""
+    for name in documents():
+        for number, block in enumerate(re.findall(r"(?:^    \d+ [A-Z].*\n)+", text_of(name), re.M)):
+            rows = [re.fullmatch(r" {4}(\d+ .*?) {2,}(.*)", line) for line in block.splitlines()]
+            if "\\" in block or not all(rows):
+                print(f"  {name}: not played: its example {number + 1}, which `play` can't read")
+                continue
+            with tally.run(f"{name}: example {number + 1}"):
+                script = "".join(row[1] + "\n" for row in rows)
+                due = "".join(f"{row[1].split()[0]} {row[2]}\n" for row in rows)
+                found = run(["play"], script.encode())
+                expect(found == (0, due.encode(), b""), f"it printed {found}, due is {due!r}")
+
+
+# Units and Python
+
+def other_blocks(tally):
+    for name in documents():
+        for number, block in enumerate(blocks(name, "python")):
+            with tally.run(f"{name}: Python {number}"):
+                compile(block, name, "exec")
+        for block in blocks(name, "ini"):
+            if not shutil.which("systemd-analyze"):
+                print(f"  {name}: its unit isn't verified, for want of systemd-analyze")
+                continue
+            with folder() as place, tally.run(f"{name}: unit"):
+                unit = os.path.join(place, "ssikvd.service")
+                with open(unit, "w", encoding="utf-8") as file:
+                    file.write(block.replace("/usr/local/bin/ssikvd", os.path.abspath(PROGRAM)))
+                ran = subprocess.run(["systemd-analyze", "verify", unit], capture_output=True, text=True, timeout=PATIENCE)
+                said = [line for line in (ran.stdout + ran.stderr).splitlines() if "ssikvd" in line]
+                expect(ran.returncode == 0 and not said, f"systemd-analyze ended with {ran.returncode}: {said or ran.stderr[-300:]}")
+
+
+# How they are written
+
+def paragraphs(text):
+    """The paragraphs, list items and table cells of a document, without its blocks. A cell is told by True."""
+    found, here = [], []
+
+    def close():
+        if here:
+            found.append((" ".join(here), False))
+            here.clear()
+
+    is_block = False
+    for line in text.splitlines():
+        if line.startswith("```"):
+            is_block = not is_block
+        if is_block or line.startswith(("```", "    ", "#")) or not line.strip():
+            close()
+        elif line.startswith("|"):
+            close()
+            found += [(cell.strip().replace("\\|", "|"), True) for cell in re.split(r"(?<!\\)\|", line.strip().strip("|"))]
+        else:
+            if re.match(r"\s*(-|\d+\.) ", line):
+                close()
+            here.append(line.strip())
+    close()
+    return found
+
+
+def sentences(text):
+    """The sentences of a text. A link counts as its words."""
+    text = re.sub(r"\]\([^)]*\)", "]", text)
+    return re.split(r"(?<=[.!?])[*`\"”)\]]*\s+(?=[^a-z])", text)
+
+
+def style(tally):
+    for name in documents():
+        with tally.run(f"the blocks of {name}"):
+            outside = re.findall(rf"^ {{4}}{COMMAND}.*$", text_of(name), re.M)
+            expect(not outside, f"{name}: a command stands outside a block of console: {outside[:1]}")
+        if name in NOT_READ:
+            continue
+        with tally.run(f"the style of {name}"):
+            found = paragraphs(text_of(name))
+            wide = [cell for cell, is_cell in found if is_cell and len(cell) > CELL_MAX]
+            long = [it for text, _ in found for it in sentences(text) if len(it.split()) > WORDS_MAX]
+            expect(not wide, f"{name}: {len(wide)} cells over {CELL_MAX} characters, first {wide[:1]}")
+            expect(not long, f"{name}: {len(long)} sentences over {WORDS_MAX} words, first {long[:1]}")
+
+
+def anchors(name):
+    heads = re.findall(r"^#+ (.*)$", text_of(name), re.M)
+    return {re.sub(r"[^\w\- ]", "", head.lower()).replace(" ", "-") for head in heads}
+
+
+def links(tally):
+    for name in documents():
+        with tally.run(f"the links of {name}"):
+            for link in re.findall(r"\]\(([^)]+)\)", re.sub(r"`[^`]*`", "", text_of(name))):
+                path, _, anchor = link.partition("#")
+                target = os.path.normpath(os.path.join(os.path.dirname(name), path)) if path else name
+                expect(os.path.exists(os.path.join(TOP, target)), f"{name}: {link} leads nowhere")
+                expect(not anchor or anchor in anchors(target), f"{name}: {link} names no head")
+
+
+# What they say that stands elsewhere
+
+def pictures(tally):
+    with tally.run("the pictures"):
+        draw = os.path.join(TOP, "docs", "pictures", "draw.py")
+        ran = subprocess.run([sys.executable, "-B", draw, "--check"], capture_output=True, text=True)
+        expect(ran.returncode == 0, (ran.stdout + ran.stderr).strip())
+    with tally.run("the figures"), open(os.path.join(TOP, "docs", "pictures", "figures.csv"), encoding="utf-8", newline="") as file:
+        lines = [line for line in text_of("docs/PERFORMANCE.md").splitlines() if line.startswith("|")]
+        table = [[cell.strip() for cell in line.strip("|").split("|")] for line in lines]
+        due = {(row[3], row[4], row[5]) for row in table if len(row) == 6}
+        for row in csv.DictReader(file):
+            found = row["ratio"], row["second"], f"{row['low']} to {row['high']}"
+            expect(found in due, f"PERFORMANCE.md has no row with {found}, of {row['what']}")
+
+
+def layers(tally):
+    """The table of ARCHITECTURE.md names for each crate those that crates.txt names."""
+    with tally.run("the crates of docs/ARCHITECTURE.md"):
+        lines = [line.partition(":") for line in text_of("crates.txt").splitlines() if line and line[0] != "#"]
+        due = {name.split()[0]: rest.split() for name, _, rest in lines}
+        rows = re.findall(r"^\| `(\w+)`(?:, `\w+`)* \| [^|]* \| ([^|]*) \|", text_of("docs/ARCHITECTURE.md"), re.M)
+        expect(len(rows) > 10, "there is no table")
+        for name, lows in rows:
+            own = {low for low in due[name] if low in due}
+            expect(set(re.findall(r"\w+", lows)) == own, f"{name} stands on {sorted(own)}, the table says {lows}")
+
+
+def main():
+    need(PROGRAM)
+    tally = Tally("documents")
+    for part in (run_commands, worked, other_blocks, style, links, pictures, layers):
+        part(tally)
+    return 0 if tally.end() else 1
+
+
+if __name__ == "__main__":
+    run_harness(main)
