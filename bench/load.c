@@ -1,9 +1,10 @@
 /* The load generator: N connections on T threads, each with one transaction after another (a closed loop). It checks each reply and each
- * value, and prints how many transactions a second were committed.
+ * value, and prints how many transactions a second were committed, and those of the connection that was served least and most.
  *
- *   load --server echo|resp|postgres --address 127.0.0.1:PORT --work ping|read|write|fill [options]
+ *   load --server echo|resp|postgres --address 127.0.0.1:PORT --work ping|pings|read|write|fill [options]
  *
  *   ping    PING
+ *   pings   32 PINGs, sent together
  *   read    BEGIN, 4 GET of any keys, COMMIT
  *   write   BEGIN, SET of a key that no other connection writes, COMMIT
  *   fill    sets every key once, 64 in a transaction, on one connection
@@ -29,13 +30,14 @@
 #include <unistd.h>
 
 #define GETS 4
+#define PINGS 32
 #define FILL_WRITES 64
 #define REQUESTS_MAX (FILL_WRITES + 2)
 #define CONNECTIONS_MAX 1024
 #define RECEIVE_ROOM 65536
 
-enum work { WORK_PING, WORK_READ, WORK_WRITE, WORK_FILL };
-static const char *const work_names[] = {"ping", "read", "write", "fill"};
+enum work { WORK_PING, WORK_PINGS, WORK_READ, WORK_WRITE, WORK_FILL };
+static const char *const work_names[] = {"ping", "pings", "read", "write", "fill"};
 
 static const struct protocol *server = &resp;
 static struct sockaddr_in address = {.sin_family = AF_INET};
@@ -55,7 +57,7 @@ struct connection {
     struct request requests[REQUESTS_MAX];
     int count, sent, answered, awaited;
     bool refused;
-    uint64_t began;
+    uint64_t began, served;
     struct bytes out, in;
 };
 
@@ -149,8 +151,8 @@ static void add_accesses(struct worker *worker, struct connection *connection) {
 
 static void choose_transaction(struct worker *worker, struct connection *connection) {
     connection->count = 0;
-    if (work == WORK_PING) {
-        add(connection, PING, 0);
+    if (work == WORK_PING || work == WORK_PINGS) {
+        for (int i = 0; i < (work == WORK_PING ? 1 : PINGS); i++) add(connection, PING, 0);
         return;
     }
     add(connection, BEGIN, 0);
@@ -185,10 +187,11 @@ static void begin(struct worker *worker, struct connection *connection) {
     send_batch(connection);
 }
 
-static void finish_transaction(struct worker *worker, const struct connection *connection) {
+static void finish_transaction(struct worker *worker, struct connection *connection) {
     uint64_t now = now_ns();
     if (!connection->refused) worker->committed++;
     if (now < counted_from || now >= counted_to) return;
+    connection->served++;
     if (connection->refused) worker->refused++;
     else histogram_add(&worker->times, now - connection->began);
 }
@@ -280,6 +283,17 @@ static double processor_seconds(void) {
     return (double)(usage.ru_utime.tv_sec + usage.ru_stime.tv_sec) + (double)(usage.ru_utime.tv_usec + usage.ru_stime.tv_usec) / 1e6;
 }
 
+/* How many transactions of the measured time the connections had that were served least and most. */
+static void find_least_and_most(const struct worker *workers, uint64_t *least, uint64_t *most) {
+    *least = UINT64_MAX, *most = 0;
+    for (uint32_t t = 0; t < threads; t++)
+        for (uint32_t i = 0; i < workers[t].count; i++) {
+            uint64_t served = workers[t].connections[i].served;
+            if (served < *least) *least = served;
+            if (served > *most) *most = served;
+        }
+}
+
 static void run_workers(struct worker *workers) {
     uint64_t start = now_ns();
     double before = processor_seconds();
@@ -296,9 +310,12 @@ static void run_workers(struct worker *workers) {
         workers[0].committed += workers[t].committed;
         workers[0].refused += workers[t].refused;
     }
-    printf("rate=%.1f p50_us=%.1f p99_us=%.1f committed=%llu refused=%llu busy=%.2f\n", (double)times->count / seconds,
+    uint64_t least, most;
+    find_least_and_most(workers, &least, &most);
+    printf("rate=%.1f p50_us=%.1f p99_us=%.1f committed=%llu refused=%llu least=%llu most=%llu busy=%.2f\n", (double)times->count / seconds,
            histogram_us(times, 0.5), histogram_us(times, 0.99), (unsigned long long)workers[0].committed,
-           (unsigned long long)workers[0].refused, (processor_seconds() - before) / (took * threads));
+           (unsigned long long)workers[0].refused,
+           (unsigned long long)least, (unsigned long long)most, (processor_seconds() - before) / (took * threads));
 }
 
 static void read_server(const char *text) {
@@ -347,6 +364,7 @@ static void read_options(int count, char **words) {
         case 'o': at_once = true; break;
         default: exit(2);
         }
+    if (work == WORK_PINGS) at_once = true;
     if (work == WORK_FILL) {
         connections = 1;
         at_once = true;

@@ -6,9 +6,10 @@ import struct
 SECTOR = 512
 
 
-def payload(key, value):
-    """The payload of a record that sets one key."""
-    return struct.pack(">IH", 1, len(key)) + key + struct.pack(">BI", 1, len(value)) + value
+def payload(pairs):
+    """The payload of a record that sets these keys, which rise."""
+    entries = (struct.pack(">H", len(key)) + key + struct.pack(">BI", 1, len(value)) + value for key, value in pairs)
+    return struct.pack(">I", len(pairs)) + b"".join(entries)
 
 
 def body(previous, index, content):
@@ -18,13 +19,18 @@ def body(previous, index, content):
     return digest, bytes_of_body + bytes(-len(bytes_of_body) % SECTOR)
 
 
-def write_log(path, commits, keys, value_bytes):
-    """Writes a data file of so many commits, each of one key."""
+def write_records(path, records, free_sectors=0):
+    """Writes a data file of these records, each a list of pairs by rising key, with so many sectors behind the last gate."""
     open_gate, digest = b"\1" + bytes(SECTOR - 1), bytes(32)
     with open(path, "wb") as log:
-        log.write(b"SSIKVLG1" + bytes(SECTOR - 8))
-        for index in range(commits):
-            key = b"k%08d" % (index * 7919 % keys)
-            digest, record = body(digest, index, payload(key, key.ljust(value_bytes, b"x")))
+        log.write(b"SSIKVLG2" + bytes(SECTOR - 8))
+        for index, pairs in enumerate(records):
+            digest, record = body(digest, index, payload(pairs))
             log.write(open_gate + record)
-        log.write(bytes(SECTOR))
+        log.truncate(log.tell() + (1 + free_sectors) * SECTOR)
+
+
+def write_log(path, commits, keys, value_bytes):
+    """Writes a data file of so many commits, each of one key."""
+    keys_in_turn = (b"k%08d" % (index * 7919 % keys) for index in range(commits))
+    write_records(path, ([(key, key.ljust(value_bytes, b"x"))] for key in keys_in_turn))

@@ -13,7 +13,7 @@ void append(struct bytes *bytes, const void *from, size_t length);
 
 /* A key is `k` and eight digits. Its value is the key's text and then `x` up to the size of values. */
 #define KEY_BYTES 9
-#define VALUE_BYTES_MAX 4096
+#define VALUE_BYTES_MAX 16384
 extern size_t value_bytes;
 void write_key(char text[KEY_BYTES], uint32_t key);
 void append_value(struct bytes *bytes, uint32_t key);

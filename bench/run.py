@@ -14,7 +14,11 @@ for ssikvd. On a machine that does other work the ratios say more than the rates
 
 import argparse
 import contextlib
+import json
+import multiprocessing
 import os
+import select
+import shutil
 import signal
 import socket
 import statistics
@@ -24,13 +28,15 @@ import tempfile
 import time
 
 from logs import write_log
-from servers import HERE, POSTGRES_SETTINGS, PROGRAMS, Echo, Failure, Postgres, Ssikvd, count_records, find_postgres, run
+from servers import HERE, POSTGRES_SETTINGS, PROGRAMS, Echo, Failure, Postgres, Redis, Ssikvd, count_records, find_postgres, run
 
 DEFAULT_PROGRAM = os.path.join(HERE, "..", "crates", "ssikvd", "out", "ssikvd")
 PING = b"*1\r\n$4\r\nPING\r\n"
 BEGIN = b"*1\r\n$5\r\nBEGIN\r\n"
 IDLE_CONNECTIONS = 100
-PARTS = ["ping", "read", "old", "commit", "start", "memory"]
+PARTS = ["ping", "batch", "fair", "read", "old", "commit", "start", "memory"]
+FLOODING, WAVE, FLOOD_SECONDS = 60, 8, 3.0
+VALUE_OF_RANGE, PAIRS_OF_RANGE = 4_096, 128
 
 
 class Load:
@@ -154,6 +160,118 @@ def ping_rows(options, ssikvd):
             yield row
 
 
+def batch_rows(options, ssikvd):
+    """32 PINGs at a time, beside Redis where it is installed."""
+    program = shutil.which("redis-server")
+    if not program:
+        return
+    with Redis(program) as redis:
+        for connections in (1, 16):
+            row = Row(f"32 PINGs sent at once, {counted(connections)}", "Redis")
+            yield compare(options, row, Load(options, "pings", connections), ssikvd, redis)
+
+
+def fairness_remarks(options, ssikvd):
+    """How evenly connections are served that send one request at a time."""
+    alone = argparse.Namespace(**{**vars(options), "threads": 1})  # two threads are not served evenly by the system
+    for work, what in (("ping", "PING"), ("read", "BEGIN, 4 GET, COMMIT")):
+        slices = [Load(alone, work, 64).measure(ssikvd, options.seconds) for _ in range(options.rounds)]
+        ratios = [it["most"] / max(it["least"], 1) for it in slices]
+        text = f"{quartile(ratios, 2):.2f}; {min(ratios):.2f} to {max(ratios):.2f} in {len(ratios)} slices"
+        yield f"Best over worst served of 64 connections, {what}, one request at a time: {text}."
+
+
+def frame(*parts):
+    return b"*%d\r\n" % len(parts) + b"".join(b"$%d\r\n%s\r\n" % (len(part), part) for part in parts)
+
+
+def connect(address):
+    host, port = address.rsplit(":", 1)
+    return socket.create_connection((host, int(port)), 10)
+
+
+def exchange(connection, request, length):
+    """A request, and the reply, of which the length is known."""
+    connection.sendall(request)
+    came = bytearray()
+    while len(came) < length:
+        piece = connection.recv(1 << 20)
+        if not piece:
+            raise Failure("the connection was closed")
+        came += piece
+    return came
+
+
+def fill_large(ssikvd):
+    """Pairs for the largest RANGE. Gives its reply's length, and how long it takes alone."""
+    keys = [b"large%03d" % i for i in range(PAIRS_OF_RANGE)]
+    with connect(ssikvd.address) as connection:
+        for part in (keys[:64], keys[64:]):
+            batch = BEGIN + b"".join(frame(b"SET", key, b"x" * VALUE_OF_RANGE) for key in part) + frame(b"COMMIT")
+            reply = exchange(connection, batch, 5 + 5 * len(part) + 4)
+            if not reply.startswith(b"+OK") or b"-" in reply:
+                raise Failure(f"large values were answered {bytes(reply[-80:])!r}")
+    ssikvd.committed += 2
+    return len(b"*%d\r\n" % (2 * len(keys))) + sum(len(frame(key, b"x" * VALUE_OF_RANGE)) - 4 for key in keys)
+
+
+def range_request(pairs):
+    return frame(b"RANGE", b"large", b"largf", b"%d" % pairs)
+
+
+def flood(address, seconds):
+    """Connections that each have some of the largest RANGE under way all the time."""
+    wave = BEGIN + range_request(PAIRS_OF_RANGE) * WAVE + frame(b"ABORT")
+    connections = [connect(address) for _ in range(FLOODING)]
+    poll, buffer, due, end = select.epoll(), bytearray(1 << 20), {}, time.monotonic() + seconds
+    for connection in connections:
+        connection.setblocking(False)
+        connection.send(wave * 4)
+        poll.register(connection.fileno(), select.EPOLLIN)
+        due[connection.fileno()] = connection
+    taken = {number: 0 for number in due}
+    while time.monotonic() < end:
+        for number, _ in poll.poll(0.1):
+            with contextlib.suppress(BlockingIOError):
+                taken[number] += due[number].recv_into(buffer)
+                if taken[number] > WAVE * PAIRS_OF_RANGE * VALUE_OF_RANGE:
+                    taken[number] = 0
+                    due[number].send(wave)
+
+
+def flooded_remark(ssikvd):
+    """PING of one connection while others pipeline the largest RANGE."""
+    fill_large(ssikvd)
+    with connect(ssikvd.address) as connection:
+        other = multiprocessing.Process(target=flood, args=(ssikvd.address, FLOOD_SECONDS + 1))
+        other.start()
+        time.sleep(0.5)
+        times, end = [], time.monotonic() + FLOOD_SECONDS
+        while time.monotonic() < end:
+            start = time.monotonic()
+            exchange(connection, PING, 7)
+            times.append(1000 * (time.monotonic() - start))
+        other.join()
+    times.sort()
+    text = f"{times[len(times) // 2]:.1f} ms median, {times[len(times) * 99 // 100]:.1f} ms 99th of 100, {times[-1]:.1f} ms longest, {len(times)} PINGs"
+    return f"PING beside {FLOODING} connections that pipeline RANGE of {PAIRS_OF_RANGE} values of {VALUE_OF_RANGE} bytes: {text}."
+
+
+def range_remarks(options, ssikvd):
+    """Rates of one connection's RANGE of large values."""
+    with connect(ssikvd.address) as connection:
+        for pairs in (64, 128):
+            request = range_request(pairs)
+            exchange(connection, BEGIN, 5)
+            length = len(b"*%d\r\n" % (2 * pairs)) + pairs * (len(frame(b"large000", b"x" * VALUE_OF_RANGE)) - 4)
+            end, count = time.monotonic() + options.seconds, 0
+            while time.monotonic() < end:
+                exchange(connection, request, length)
+                count += 1
+            exchange(connection, frame(b"ABORT"), 5)
+            yield f"RANGE of {pairs} values of {VALUE_OF_RANGE} bytes, one connection: {count / options.seconds:,.0f} a second."
+
+
 def read_rows(options, ssikvd, postgres):
     kinds = [(False, "one request at a time", 1.2), (True, "sent at once", None)]
     for at_once, how, goal in kinds:
@@ -274,6 +392,12 @@ def measure_all(options, stack, postgres):
     fill(options, ssikvd)
     if "ping" in options.only:
         rows += ping_rows(options, ssikvd)
+    if "batch" in options.only:
+        rows += batch_rows(options, ssikvd)
+    if "fair" in options.only:
+        remarks += fairness_remarks(options, ssikvd)
+        remarks.append(flooded_remark(ssikvd))
+        remarks += range_remarks(options, ssikvd)
     if "read" in options.only and postgres:
         rows += read_rows(options, ssikvd, postgres)
     if "old" in options.only:
@@ -297,6 +421,15 @@ def machine(folder):
     return f"{os.cpu_count()} x {model}, {system.sysname} {system.release}; {folder} is {disk[1]} on {disk[0]}"
 
 
+def write_results(options, rows, remarks):
+    """The figures as JSON: each row with its slices, from which pictures can be made."""
+    kept = [{"what": row.what, "peer": row.peer, "goal": row.goal, "ratio": row.ratio(), "middle_half": [quartile(row.ratios(), 1), quartile(row.ratios(), 3)],
+             "rate": row.rate(row.ours), "peer_rate": row.rate(row.theirs), "load": row.load, "ours": row.ours, "theirs": row.theirs} for row in rows]
+    with open(options.results, "w") as file:
+        json.dump({"when": time.strftime("%Y-%m-%d %H:%MZ", time.gmtime()), "machine": machine(options.folder), "rounds": options.rounds,
+                   "seconds": options.seconds, "rows": kept, "remarks": remarks}, file, indent=1)
+
+
 def print_machine(options, postgres):
     print(f"{time.strftime('%Y-%m-%d %H:%MZ', time.gmtime())}. {machine(options.folder)}. Load before: {os.getloadavg()[0]:.1f}.")
     slices = f"{options.rounds} rounds of {options.seconds:g} s (commits: {options.rounds * 8} of {options.seconds / 10:g} s)"
@@ -313,6 +446,7 @@ def read_options():
     parser.add_argument("--ssikvd", default=os.path.normpath(DEFAULT_PROGRAM), help="the program that was built (%(default)s)")
     parser.add_argument("--folder", default="/tmp", help="where the data lies while it runs (%(default)s)")
     parser.add_argument("--postgres", help="the folder of PostgreSQL's programs (else found)")
+    parser.add_argument("--results", help="a file for the figures, as JSON")
     parser.add_argument("--only", nargs="+", choices=PARTS, default=PARTS, help="parts of the run (all)")
     parser.add_argument("--rounds", type=int, default=7, help="(%(default)s)")
     parser.add_argument("--seconds", type=float, default=0.5, help="of a slice (%(default)s)")
@@ -341,6 +475,8 @@ def main():
         print_table(rows)
         for remark in remarks:
             print(f"\n{remark}")
+        if options.results:
+            write_results(options, rows, remarks)
     except Failure as failure:
         sys.exit(f"run.py: {failure}")
 

@@ -1,5 +1,6 @@
 """The servers that are measured: each starts in a folder of its own, and ends with its `with` block."""
 
+import contextlib
 import glob
 import os
 import pwd
@@ -117,6 +118,22 @@ class Ssikvd(Listening):
     def records(self):
         """How many commits stand in the data file. The server must have ended."""
         return count_records(self.program, self.data)
+
+
+class Redis(Process):
+    """A Redis that keeps nothing on disk. It speaks the same frames, and answers PING alike."""
+
+    name = "resp"
+
+    def __init__(self, program):
+        self.address = f"127.0.0.1:{free_port()}"
+        words = [program, "--port", self.address.rsplit(":", 1)[1], "--bind", "127.0.0.1", "--save", "", "--appendonly", "no", "--dir", tempfile.gettempdir()]
+        super().__init__(words, stdout=subprocess.DEVNULL)
+        for _ in range(100):
+            with contextlib.suppress(OSError), socket.create_connection(("127.0.0.1", int(self.address.rsplit(":", 1)[1])), 1):
+                return
+            time.sleep(0.1)
+        raise Failure("Redis did not come up")
 
 
 def count_records(program, data):

@@ -1,0 +1,508 @@
+#!/usr/bin/env python3
+"""Measures what requests of ssikvd cost as the store grows: over the number of keys, of deleted keys, and of commits beside an old
+transaction. Writes the figures as JSON.
+
+    bench/scale.py [--program PROGRAM] [--out FILE] [--quick] [--row ROW]..
+
+Each row is measured at each size against a server of its own, over a data file in memory (--folder), by one client that sends a transaction's
+requests at once. Keys have 16 bytes and stand in random order, values 100 bytes. A row at a size ends after --limit seconds; its figures then
+tell of what was done until then, and `cut` of how much that was. Needs Python 3 alone, and memory for data files of up to 0.6 GB.
+
+`bench/scale_report.py FILE` makes the table and the picture of the documentation from such a file.
+
+The rows, and the figures of each. Times are by the clock of the client; those with `cpu` are the server's processor time.
+
+    fill       N new keys in random order into an empty store, commits of 64: seconds in all, the longest COMMIT, memory for each key
+    insert     a store of N keys: a new key in commits of 64 at random places; in falling order before all others; alone in its commit;
+               and a COMMIT of 64 of them
+    rewrite    a store of N keys: a written key in commits of 64, and alone in its commit
+    read       a store of N keys: GET, and RANGE with limit 100
+    deleted    RANGE with limit 1 over N deleted keys, and with 64 own writes before them and limit 65
+    old_commit the COMMIT of a transaction with 64 writes and 256 range marks after N commits of 64 other keys
+    old_end    the COMMIT of a transaction that wrote nothing, after which the older versions of N keys are dropped
+    read_only  N commits that only read, each with 256 marks over 1,000 keys, beside an open transaction: how much the server grows
+    records    a commit of one key beside an open transaction and N kept commits, over one beside none
+    start      opening a log of N keys, beside sha256sum of the file; memory for each key
+"""
+
+import argparse
+import datetime
+import hashlib
+import json
+import os
+import socket
+import statistics
+import sys
+import tempfile
+import time
+
+sys.dont_write_bytecode = True
+
+from logs import SECTOR, write_records  # noqa: E402
+from servers import HERE, Failure, Listening, Ssikvd, run  # noqa: E402
+
+DEFAULT_PROGRAM = os.path.join(HERE, "..", "crates", "ssikvd", "out", "ssikvd")
+KEY_BYTES, VALUE_BYTES, COMMIT_WRITES, MARKS = 16, 100, 64, 256
+LONG_SIZES, SHORT_SIZES = (10_000, 100_000, 1_000_000), (1_000, 10_000, 100_000)
+QUICK_LONG_SIZES, QUICK_SHORT_SIZES = (10_000, 100_000), (1_000, 10_000)
+GROWTH_LIMIT_BYTES = 1 << 30
+
+
+def scattered(number):
+    """The key of this number: numbers that rise give keys in random order."""
+    return b"%016x" % (number * 0x9E3779B97F4A7C15 % (1 << 64))
+
+
+def before_all(number):
+    """The key of this number, below every scattered one: numbers that rise give keys that fall."""
+    return b"!%015d" % (10**14 - number)
+
+
+def frame(*words):
+    return b"*%d\r\n" % len(words) + b"".join(b"$%d\r\n%b\r\n" % (len(word), word) for word in words)
+
+
+BEGIN, COMMIT = frame(b"BEGIN"), frame(b"COMMIT")
+
+
+def value_of(key):
+    return key.ljust(VALUE_BYTES, b"x")
+
+
+def sets(keys):
+    return b"".join(frame(b"SET", key, value_of(key)) for key in keys)
+
+
+class Client:
+    """A session of the server."""
+
+    def __init__(self, address):
+        host, port = address.rsplit(":", 1)
+        self.socket = socket.create_connection((host, int(port)), timeout=300)
+        self.socket.setsockopt(socket.IPPROTO_TCP, socket.TCP_NODELAY, 1)
+        self.buffer = b""
+
+    def line(self):
+        while b"\r\n" not in self.buffer:
+            self.more()
+        line, self.buffer = self.buffer.split(b"\r\n", 1)
+        return line
+
+    def more(self):
+        received = self.socket.recv(1 << 20)
+        if not received:
+            raise Failure("the server closed the connection")
+        self.buffer += received
+
+    def reply(self):
+        """One whole reply: bytes, None, or a list of them."""
+        line = self.line()
+        kind, rest = line[:1], line[1:]
+        if kind == b"-":
+            raise Failure(f"refused: {rest.decode()}")
+        if kind == b"*":
+            return [self.reply() for _ in range(int(rest))]
+        if kind != b"$":
+            return rest
+        if rest == b"-1":
+            return None
+        while len(self.buffer) < int(rest) + 2:
+            self.more()
+        value, self.buffer = self.buffer[: int(rest)], self.buffer[int(rest) + 2 :]
+        return value
+
+    def ask(self, request):
+        self.socket.sendall(request)
+        return self.reply()
+
+    def ask_lines(self, requests, lines):
+        """Sends requests at once whose replies have so many lines in all, and waits for these."""
+        self.socket.sendall(requests)
+        while True:
+            lines -= self.buffer.count(b"\r\n")
+            if b"-" in self.buffer and (self.buffer.startswith(b"-") or b"\n-" in self.buffer):
+                raise Failure(f"refused: {self.buffer[:200]!r}")
+            if lines < 0:
+                raise Failure(f"{-lines} lines more than were due")
+            if not lines:
+                break
+            # What ends between the two bytes of a line's end waits for the second.
+            self.buffer = b"\r" if self.buffer.endswith(b"\r") else b""
+            self.more()
+        self.buffer = b""
+
+    def timed(self, request):
+        """Seconds until the reply to one request."""
+        begun = time.perf_counter()
+        self.ask(request)
+        return time.perf_counter() - begun
+
+    def commit(self, keys):
+        """A whole transaction that sets these keys, sent at once but for its COMMIT, whose seconds it gives."""
+        self.ask_lines(BEGIN + sets(keys), 1 + len(keys))
+        return self.timed(COMMIT)
+
+
+class Store(Ssikvd):
+    """A server over a data file of so many scattered keys."""
+
+    def __init__(self, options, keys, commits):
+        self.folder = tempfile.mkdtemp(prefix="ssikvd-scale-", dir=options.folder)
+        self.data = os.path.join(self.folder, "data")
+        self.keys = keys
+        words = [options.program, "serve", "--data", self.data, "--listen", "127.0.0.1:0"]
+        try:
+            write_records(self.data, records(keys), free_sectors=commits * sectors_of(COMMIT_WRITES) + 64)
+            self.begun = time.perf_counter()
+            Listening.__init__(self, words)
+            self.opened = time.perf_counter() - self.begun
+        except BaseException:
+            self.remove()
+            raise
+
+    def remove(self):
+        if os.path.exists(self.data):
+            os.remove(self.data)
+        os.rmdir(self.folder)
+
+    def __exit__(self, *_):
+        self.stop()
+        self.remove()
+
+    def processor_seconds(self):
+        """The processor time of the server, by the scheduler's own count."""
+        with open(f"/proc/{self.process.pid}/schedstat") as stat:
+            return int(stat.read().split()[0]) / 1e9
+
+
+def sectors_of(writes):
+    """The sectors of a record of so many writes, with its gate."""
+    return 2 + (48 + writes * (7 + KEY_BYTES + VALUE_BYTES)) // SECTOR
+
+
+def records(keys):
+    """The records of a log of so many scattered keys."""
+    for start in range(0, keys, COMMIT_WRITES):
+        yield sorted((key, value_of(key)) for key in map(scattered, range(start, min(keys, start + COMMIT_WRITES))))
+
+
+class Work:
+    """Rounds of work on a server until they are done or the time is over: their times, and the processor time of all."""
+
+    def __init__(self, server, options, rounds):
+        self.server, self.until, self.rounds = server, time.perf_counter() + options.limit, rounds
+        self.times, self.seconds, self.cpu_seconds = [], 0.0, 0.0
+
+    def do(self, one):
+        """`one` does a round of this number, and gives the seconds of what is looked at in it."""
+        cpu, begun = self.server.processor_seconds(), time.perf_counter()
+        for number in range(self.rounds):
+            self.times.append(one(number))
+            if time.perf_counter() > self.until:
+                break
+        self.seconds = time.perf_counter() - begun
+        self.cpu_seconds = self.server.processor_seconds() - cpu
+        return self
+
+    def done(self):
+        return len(self.times)
+
+    def us_per(self, units):
+        """Microseconds for each of so many units a round: by the clock, and of processor time."""
+        each = 1e6 / (self.done() * units)
+        return round(self.seconds * each, 2), round(self.cpu_seconds * each, 2)
+
+    def cut(self):
+        """How many rounds of how many, where the time was over before the last."""
+        return {} if self.done() == self.rounds else {"cut": f"{self.done():,} of {self.rounds:,}"}
+
+
+def ms(seconds):
+    return round(1e3 * seconds, 3)
+
+
+def us(seconds):
+    return round(1e6 * seconds, 1)
+
+
+def row_fill(options, keys):
+    rounds = -(-keys // COMMIT_WRITES)
+    with Store(options, 0, rounds) as server:
+        client, empty_bytes = Client(server.address), server.resident_bytes()
+        work = Work(server, options, rounds).do(lambda n: client.commit(map_keys(scattered, n * COMMIT_WRITES)))
+        wall, cpu = work.us_per(COMMIT_WRITES)
+        memory = (server.resident_bytes() - empty_bytes) / (work.done() * COMMIT_WRITES)
+        return {"seconds": round(work.seconds, 2), "us_per_key": wall, "cpu_us_per_key": cpu, "longest_commit_ms": ms(max(work.times)),
+                "bytes_per_key": round(memory), **work.cut()}
+
+
+def map_keys(key_of, start, count=COMMIT_WRITES):
+    return [key_of(number) for number in range(start, start + count)]
+
+
+def row_insert(options, keys):
+    commits = 40
+    with Store(options, keys, 3 * commits) as server:
+        client = Client(server.address)
+        client.commit(map_keys(scattered, keys))
+        new = keys + COMMIT_WRITES
+        spread = Work(server, options, commits).do(lambda n: client.commit(map_keys(scattered, new + n * COMMIT_WRITES)))
+        new += commits * COMMIT_WRITES
+        alone = Work(server, options, commits).do(lambda n: client.commit([scattered(new + n)]))
+        falling = Work(server, options, commits).do(lambda n: client.commit(map_keys(before_all, n * COMMIT_WRITES)))
+        return {"us_per_key": spread.us_per(COMMIT_WRITES)[0], "cpu_us_per_key": spread.us_per(COMMIT_WRITES)[1],
+                "commit_of_64_ms": ms(statistics.median(spread.times)), "longest_commit_ms": ms(max(spread.times)),
+                "longest_falling_commit_ms": ms(max(falling.times)), "commit_of_1_us": us(statistics.median(alone.times)), **spread.cut()}
+
+
+def row_rewrite(options, keys):
+    commits = 200
+    with Store(options, keys, 2 * commits) as server:
+        client = Client(server.address)
+
+        def written(number, count):
+            return [scattered(it * 7919 % keys) for it in range(number * count, (number + 1) * count)]
+
+        many = Work(server, options, commits).do(lambda n: client.commit(written(n, COMMIT_WRITES)))
+        one = Work(server, options, commits).do(lambda n: client.commit(written(n + commits * COMMIT_WRITES, 1)))
+        return {"us_per_key": many.us_per(COMMIT_WRITES)[0], "cpu_us_per_key": many.us_per(COMMIT_WRITES)[1],
+                "commit_of_64_ms": ms(statistics.median(many.times)), "commit_of_1_us": us(statistics.median(one.times)), **many.cut()}
+
+
+def row_read(options, keys):
+    rounds = 2_000
+    with Store(options, keys, 1) as server:
+        client = Client(server.address)
+
+        # Below the last of them stand 100 others.
+        some = [key for key in map(scattered, range(min(keys, 100_000))) if key < b"e"]
+
+        def read(request_of, lines):
+            """The times of reads whose replies have so many lines, 100 in a transaction."""
+            def one(number):
+                if number % 100 == 0:
+                    client.ask_lines((COMMIT if number else b"") + BEGIN, 2 if number else 1)
+                request, begun = request_of(some[number * 7919 % len(some)]), time.perf_counter()
+                client.ask_lines(request, lines)
+                return time.perf_counter() - begun
+
+            work = Work(server, options, rounds).do(one)
+            client.ask(COMMIT)
+            return work
+
+        # A key or a value is two lines: its length, and itself.
+        gets = read(lambda key: frame(b"GET", key), 2)
+        ranges = read(lambda key: frame(b"RANGE", key, b"", b"100"), 1 + 2 * 2 * 100)
+        return {"get_us": us(statistics.median(gets.times)), "cpu_get_us": gets.us_per(1)[1],
+                "range_100_us": us(statistics.median(ranges.times)), "cpu_range_100_us": ranges.us_per(1)[1], **ranges.cut()}
+
+
+def row_deleted(options, keys):
+    rounds = -(-keys // COMMIT_WRITES)
+    last = b"~last"
+    with Store(options, keys, rounds + 1) as server:
+        client = Client(server.address)
+        client.commit([last])
+
+        def delete(number):
+            some = map_keys(scattered, number * COMMIT_WRITES, min(COMMIT_WRITES, keys - number * COMMIT_WRITES))
+            client.ask_lines(BEGIN + b"".join(frame(b"DEL", key) for key in some) + COMMIT, 2 + len(some))
+            return 0.0
+
+        work = Work(server, options, rounds).do(delete)
+        own = map_keys(before_all, 0)
+
+        def ranges(limit, wanted):
+            request, times = frame(b"RANGE", b"!", b"", b"%d" % limit), []
+            for _ in range(5):
+                begun = time.perf_counter()
+                pairs = client.ask(request)
+                times.append(time.perf_counter() - begun)
+                if not work.cut() and (len(pairs) != 2 * limit or pairs[-2] != wanted):
+                    raise Failure(f"a range over deleted keys gave {len(pairs)} values")
+            return statistics.median(times)
+
+        client.ask(BEGIN)
+        bare = ranges(1, last)
+        client.ask_lines(sets(own), len(own))
+        covered = ranges(1 + len(own), last)
+        return {"range_1_us": us(bare), "range_after_64_own_writes_us": us(covered), **work.cut()}
+
+
+def row_old_commit(options, commits):
+    keys, reads = 100_000, 50_000
+    # The old transaction reads and writes the keys below the middle, the others write those above it.
+    above = [key for key in map(scattered, range(keys)) if key >= b"8"]
+    with Store(options, keys, commits + 1) as server:
+        old, client = Client(server.address), Client(server.address)
+        below = sorted(key for key in map(scattered, range(reads)) if key < b"8")
+        step = len(below) // MARKS
+        old.ask(BEGIN)
+        for number in range(MARKS):
+            old.ask(frame(b"RANGE", below[number * step], below[number * step + 2], b"100"))
+        old.ask_lines(sets(below[1 : 4 * COMMIT_WRITES : 4]), COMMIT_WRITES)
+        some = [b"".join(frame(b"SET", key, b"v") for key in above[n * COMMIT_WRITES : (n + 1) * COMMIT_WRITES]) for n in range(500)]
+
+        def commit(number):
+            client.ask_lines(BEGIN + some[number % len(some)] + COMMIT, 2 + COMMIT_WRITES)
+            return 0.0
+
+        work = Work(server, options, commits).do(commit)
+        cpu = server.processor_seconds()
+        pause = old.timed(COMMIT)
+        return {"old_commit_ms": ms(pause), "cpu_old_commit_ms": ms(server.processor_seconds() - cpu),
+                "beside_us_per_key": work.us_per(COMMIT_WRITES)[0], **work.cut()}
+
+
+def row_old_end(options, versions):
+    rounds = -(-versions // COMMIT_WRITES)
+    with Store(options, versions, rounds) as server:
+        old, client = Client(server.address), Client(server.address)
+        old.ask(BEGIN)
+        old.ask(frame(b"GET", scattered(0)))
+
+        def rewrite(number):
+            some = map_keys(scattered, number * COMMIT_WRITES, min(COMMIT_WRITES, versions - number * COMMIT_WRITES))
+            client.ask_lines(BEGIN + sets(some) + COMMIT, 2 + len(some))
+            return 0.0
+
+        work = Work(server, options, rounds).do(rewrite)
+        cpu, done = server.processor_seconds(), min(versions, work.done() * COMMIT_WRITES)
+        pause = old.timed(COMMIT)
+        cpu = server.processor_seconds() - cpu
+        return {"old_end_ms": ms(pause), "cpu_old_end_ms": ms(cpu), "us_per_version": round(1e6 * pause / done, 2), **work.cut()}
+
+
+def row_read_only(options, commits):
+    keys = 1_000
+    with Store(options, keys, 1) as server:
+        old, client = Client(server.address), Client(server.address)
+        old.ask(BEGIN)
+        old.ask(frame(b"GET", scattered(0)))
+        # A value is two lines.
+        some = [BEGIN + b"".join(frame(b"GET", scattered((n * 31 + it * 3) % keys)) for it in range(MARKS)) + COMMIT for n in range(keys)]
+        before = server.resident_bytes()
+
+        def read(number):
+            client.ask_lines(some[number % len(some)], 2 + 2 * MARKS)
+            if number % 100 == 99 and server.resident_bytes() > before + GROWTH_LIMIT_BYTES:
+                work.until = 0
+            return 0.0
+
+        work = Work(server, options, commits)
+        work.do(read)
+        grown = server.resident_bytes() - before
+        pause = old.timed(COMMIT)
+        return {"grown_mb": round(grown / 1e6, 2), "bytes_per_commit": round(grown / work.done()), "old_end_ms": ms(pause),
+                "us_per_commit": work.us_per(1)[0], **work.cut()}
+
+
+def row_records(options, commits):
+    keys, rounds = 10_000, 500
+
+    def one_key(number):
+        client.ask_lines(BEGIN + frame(b"SET", scattered(number * 7919 % keys), b"v") + COMMIT, 3)
+        return 0.0
+
+    def windows():
+        """The median of the times of some commits, in twenty windows."""
+        each = [Work(server, options, rounds // 20).do(one_key) for _ in range(20)]
+        return tuple(round(statistics.median(it.us_per(1)[which] for it in each), 2) for which in (0, 1))
+
+    with Store(options, keys, commits // 8 + 2 * rounds) as server:
+        old, client = Client(server.address), Client(server.address)
+        Work(server, options, rounds).do(one_key)
+        none, cpu_none = windows()
+        old.ask(BEGIN)
+        old.ask(frame(b"GET", scattered(0)))
+        work = Work(server, options, commits).do(one_key)
+        many, cpu_many = windows()
+        pause = old.timed(COMMIT)
+        return {"beside_none_us": none, "beside_records_us": many, "ratio": round(many / none, 2), "cpu_ratio": round(cpu_many / cpu_none, 2),
+                "old_end_ms": ms(pause), **work.cut()}
+
+
+def row_start(options, keys):
+    with Store(options, keys, 0) as server:
+        resident, seconds = server.resident_bytes(), [server.opened]
+        server.stop()
+        for _ in range(2):
+            begun = time.perf_counter()
+            run([options.program, "check", "--data", server.data])
+            seconds.append(time.perf_counter() - begun)
+        begun = time.perf_counter()
+        run(["sha256sum", server.data])
+        digest = time.perf_counter() - begun
+        with Store(options, 0, 0) as empty:
+            resident -= empty.resident_bytes()
+        return {"start_ms": ms(statistics.median(seconds)), "sha256sum_ms": ms(digest), "ratio": round(statistics.median(seconds) / digest, 2),
+                "bytes_per_key": round(resident / keys)}
+
+
+# Each row, and whether its sizes are numbers of keys or of commits.
+ROWS = {
+    "fill": (row_fill, True), "insert": (row_insert, True), "rewrite": (row_rewrite, True), "read": (row_read, True),
+    "deleted": (row_deleted, True), "old_commit": (row_old_commit, False), "old_end": (row_old_end, True),
+    "read_only": (row_read_only, False), "records": (row_records, False), "start": (row_start, True),
+}
+
+
+def sizes_of(options, row):
+    if options.size:
+        return options.size
+    _, is_long = ROWS[row]
+    if options.quick:
+        return QUICK_LONG_SIZES if is_long else QUICK_SHORT_SIZES
+    return LONG_SIZES if is_long else SHORT_SIZES
+
+
+def measure(options, row, size):
+    measured, _ = ROWS[row]
+    begun = time.perf_counter()
+    try:
+        figures = measured(options, size)
+    except (Failure, OSError) as failure:
+        figures = {"failed": str(failure)}
+    load, took_seconds = round(os.getloadavg()[0], 1), round(time.perf_counter() - begun, 1)
+    print(f"{row} {size:,}: {figures} (load {load}, {took_seconds} s)", file=sys.stderr)
+    return {"row": row, "size": size, "figures": figures, "load": load, "took_seconds": took_seconds}
+
+
+def about(program):
+    """What was measured, and where."""
+    with open(program, "rb") as binary:
+        digest = hashlib.sha256(binary.read()).hexdigest()
+    with open("/proc/cpuinfo") as info:
+        models = {line.split(":", 1)[1].strip() for line in info if line.startswith("model name")}
+    return {"program_sha256": digest, "began": datetime.datetime.now(datetime.timezone.utc).strftime("%Y-%m-%d %H:%M UTC"),
+            "processors": os.cpu_count(), "model": ", ".join(sorted(models)), "kernel": os.uname().release}
+
+
+def main():
+    parser = argparse.ArgumentParser(description=__doc__, formatter_class=argparse.RawDescriptionHelpFormatter)
+    parser.add_argument("--program", default=DEFAULT_PROGRAM)
+    parser.add_argument("--out", help="the file for the figures, as JSON")
+    parser.add_argument("--row", action="append", choices=ROWS, help="only this row; may be given more than once")
+    parser.add_argument("--size", action="append", type=int, help="only this size; may be given more than once")
+    parser.add_argument("--quick", action="store_true", help="sizes up to 100,000, 4 seconds for each row at a size: under two minutes")
+    parser.add_argument("--limit", type=float, help="seconds for each row at a size (default 120, quick 4)")
+    parser.add_argument("--folder", default="/dev/shm", help="where data files are made (default /dev/shm)")
+    options = parser.parse_args()
+    options.limit = options.limit or (4 if options.quick else 120)
+    if not os.access(options.program, os.X_OK):
+        parser.error(f"there is no program {options.program}")
+    results = {"about": about(options.program), "limit_seconds": options.limit, "rows": []}
+    for row in options.row or ROWS:
+        for size in sizes_of(options, row):
+            results["rows"].append(measure(options, row, size))
+            if options.out:
+                with open(options.out, "w") as out:
+                    json.dump(results, out, indent=1)
+                    out.write("\n")
+    if not options.out:
+        print(json.dumps(results, indent=1))
+    return 1 if any("failed" in it["figures"] for it in results["rows"]) else 0
+
+
+if __name__ == "__main__":
+    sys.exit(main())
