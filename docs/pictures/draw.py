@@ -1,0 +1,248 @@
+#!/usr/bin/env python3
+"""Draws the pictures of the documents: `draw.py` writes them beside itself, `draw.py --check` looks whether they are as they would be drawn.
+
+The crates come from crates.txt, the figures from figures.csv, which has the rows of docs/PERFORMANCE.md. Text stays text.
+"""
+import csv
+import os
+import sys
+from xml.sax.saxutils import escape
+
+HERE = os.path.dirname(os.path.abspath(__file__))
+INK, SOFT, PALE = "#1b2a3a", "#5b7083", "#eef3f7"
+BLUE, GREEN, AMBER, RED = "#2f6fab", "#3c8a5a", "#c98a1b", "#b5483a"
+STYLE = "font-family: sans-serif; font-size: 13px; fill: " + INK
+
+
+class Picture:
+    """An SVG, drawn piece by piece."""
+
+    def __init__(self, title, width, height):
+        self.title, self.width, self.height, self.parts = title, width, height, []
+
+    def box(self, x, y, width, height, fill=PALE, line=SOFT, dashes=""):
+        dashed = f' stroke-dasharray="{dashes}"' if dashes else ""
+        self.parts.append(
+            f'<rect x="{x:g}" y="{y:g}" width="{width:g}" height="{height:g}" rx="4" fill="{fill}" stroke="{line}"{dashed}/>')
+
+    def text(self, x, y, text, anchor="start", fill=INK, size=13, weight="normal"):
+        self.parts.append(
+            f'<text x="{x:g}" y="{y:g}" text-anchor="{anchor}" fill="{fill}" font-size="{size}" font-weight="{weight}">{escape(text)}</text>')
+
+    def line(self, x1, y1, x2, y2, color=SOFT, arrow=False, width=1.5, dashes=""):
+        end = ' marker-end="url(#arrow)"' if arrow else ""
+        dashed = f' stroke-dasharray="{dashes}"' if dashes else ""
+        self.parts.append(
+            f'<line x1="{x1:g}" y1="{y1:g}" x2="{x2:g}" y2="{y2:g}" stroke="{color}" stroke-width="{width:g}"{dashed}{end}/>')
+
+    def svg(self):
+        head = (
+            f'<svg xmlns="http://www.w3.org/2000/svg" viewBox="0 0 {self.width:g} {self.height:g}" width="{self.width:g}" '
+            f'height="{self.height:g}" style="{STYLE}" role="img">')
+        arrow = (
+            '<defs><marker id="arrow" viewBox="0 0 8 8" refX="7" refY="4" markerWidth="7" markerHeight="7" orient="auto">'
+            f'<path d="M0 0 L8 4 L0 8 z" fill="{SOFT}"/></marker></defs>')
+        paper = '<rect width="100%" height="100%" fill="white"/>'
+        return "\n".join([head, f"<title>{escape(self.title)}</title>", arrow, paper, *self.parts, "</svg>"]) + "\n"
+
+
+# The crates as layers
+
+def product_crates():
+    """The crates of the product with those of the repository that they stand on: those above the first empty line of crates.txt."""
+    found = {}
+    with open(os.path.join(HERE, "..", "..", "crates.txt"), encoding="utf-8") as file:
+        for line in file.read().split("\n\n")[0].splitlines():
+            if line and not line.startswith("#"):
+                name, _, rest = line.partition(":")
+                found[name.split()[0]] = rest.split()
+    return {name: [low for low in lows if low in found] for name, lows in found.items()}
+
+
+def crates():
+    stands_on = product_crates()
+
+    def below(name):
+        return set(stands_on[name]).union(*(below(low) for low in stands_on[name])) if stands_on[name] else set()
+
+    def level(name):
+        return 1 + max((level(low) for low in stands_on[name]), default=-1)
+
+    def place(name):
+        """A crate that stands on none is drawn right below those that stand on it."""
+        users = [level(other) for other, lows in stands_on.items() if name in lows]
+        return level(name) if stands_on[name] else min(users) - 1
+
+    levels = {}
+    for name in stands_on:
+        levels.setdefault(place(name), []).append(name)
+    widest, width, height, step = max(len(names) for names in levels.values()), 132, 34, 74
+    picture = Picture("The crates as layers", widest * (width + 22) + 40, len(levels) * step + 44)
+    places = {}
+    for at, names in levels.items():
+        for number, name in enumerate(names):
+            x = picture.width / 2 + (number - (len(names) - 1) / 2) * (width + 22)
+            places[name] = x, picture.height - 48 - at * step
+    for name, lows in stands_on.items():
+        for low in lows:
+            if not any(low in below(other) for other in lows):    # what stands on it through another is left out
+                (x1, y1), (x2, y2) = places[name], places[low]
+                picture.line(x1, y1 + height / 2, x2, y2 - height / 2, SOFT, True)
+    for name, (x, y) in places.items():
+        picture.box(x - width / 2, y - height / 2, width, height)
+        picture.text(x, y + 5, name, "middle", weight="bold")
+    picture.text(20, picture.height - 8, "An arrow leads to what a crate stands on; what follows from other arrows is left out.", fill=SOFT)
+    return picture
+
+
+# The way of one COMMIT
+
+WAY = [
+    ("client", "sends the frame of COMMIT", None),
+    ("event_loop", "the poll tells that the socket is ready", None),
+    ("stream_driver", "reads the bytes into the session's inbox", None),
+    ("resp", "finds a whole frame; its parts are the command COMMIT", "broken: ERR frame, the session ends"),
+    ("engine", "looks for the session's transaction", "ERR none; STORE stopped, which ends it"),
+    ("pivot_check", "gives the verdict over what has committed since its BEGIN", "CONFLICT; the transaction has ended"),
+    ("commit_log", "looks for room, where something was written", "FULL log; the transaction has ended"),
+    ("engine", "takes all memory that the rest needs", "refused: the session is closed"),
+    ("commit_log", "body, closed gate, sync; open gate, sync", "STORE fault; the store stops"),
+    ("versions", "take in the writes; pivot_check notes the record", None),
+    ("resp", "writes the commit number into the session's output", None),
+    ("stream_driver", "writes the output to the socket", None),
+]
+
+
+def commit():
+    row = 40
+    picture = Picture("The way of one COMMIT", 900, len(WAY) * row + 60)
+    picture.text(20, 24, "One call after the other, in one thread", weight="bold")
+    picture.text(636, 24, "answered there instead", fill=RED, weight="bold")
+    for number, (crate, what, ends) in enumerate(WAY):
+        y = 40 + number * row
+        is_disk = "sync" in what
+        picture.box(20, y, 130, 28, "#dfeaf4" if not is_disk else "#f6e3c4")
+        picture.text(85, y + 19, crate, "middle", weight="bold")
+        picture.text(165, y + 19, what)
+        if number + 1 < len(WAY):
+            picture.line(85, y + 28, 85, y + row, SOFT, True)
+        if ends:
+            picture.line(550, y + 14, 626, y + 14, RED, False, 1, "4 3")
+            picture.text(636, y + 19, ends, fill=RED)
+    picture.text(20, picture.height - 10, "The amber box alone calls the device. Where nothing was written it is passed by.", fill=SOFT)
+    return picture
+
+
+# The sectors of an append
+
+STEPS = [
+    ("before the call", ["open", "body", "closed", "?", "?", "?"], [], "the log ends at sector p"),
+    ("write the body", ["open", "body", "closed", "body", "body", "?"], [3, 4], "a crash: the log of before"),
+    ("write a closed gate behind it", ["open", "body", "closed", "body", "body", "closed"], [3, 4, 5], "a crash: the log of before"),
+    ("sync", ["open", "body", "closed", "body", "body", "closed"], [], "a crash: the log of before"),
+    ("write the open gate at p", ["open", "body", "open", "body", "body", "closed"], [2], "a crash: before, or with the record"),
+    ("sync, and the append answers", ["open", "body", "open", "body", "body", "closed"], [], "a crash: with the record"),
+]
+FILLS = {"open": "#cfe8d8", "closed": "#f3d5d0", "body": "#dfeaf4", "?": "white"}
+
+
+def append():
+    cell, row = 84, 52
+    picture = Picture("An append, sector by sector", 240 + 6 * cell + 260, len(STEPS) * row + 80)
+    for number, name in enumerate(("gate", "body", "gate p", "p + 1", "p + 2", "p + 3")):
+        picture.text(240 + cell * (number + 0.5), 26, name, "middle", SOFT)
+    for number, (what, sectors, unsettled, crash) in enumerate(STEPS):
+        y = 40 + number * row
+        picture.text(20, y + 22, f"{number}. {what}" if number else what)
+        for at, content in enumerate(sectors):
+            loose = at in unsettled
+            picture.box(240 + cell * at + 3, y, cell - 6, 34, FILLS[content], RED if loose else SOFT, "5 3" if loose else "")
+            picture.text(240 + cell * (at + 0.5), y + 22, content, "middle")
+        picture.text(240 + 6 * cell + 14, y + 22, crash, fill=SOFT)
+    picture.text(20, picture.height - 14, "Dashed: unsettled. A crash may leave any bytes there. A reader stops at the first closed gate.", fill=SOFT)
+    return picture
+
+
+# A cycle with its pivot
+
+def cycle():
+    picture = Picture("A cycle and its pivot", 760, 330)
+    picture.text(20, 26, "The read-only anomaly: examples/read_only_anomaly.play", weight="bold")
+    rows = [("Y = session 2", 190, 330, ["reads y", "writes y"]), ("X = session 3", 370, 490, ["reads x and y"]),
+            ("P = session 1", 150, 640, ["reads x and y", "writes x"])]
+    for number, (name, begin, end, does) in enumerate(rows):
+        y = 66 + number * 44
+        picture.text(20, y + 5, name, weight="bold")
+        picture.line(begin, y, end, y, RED if name[0] == "P" else BLUE, False, 4)
+        picture.text(begin, y - 9, "begins", "middle", SOFT, 11)
+        picture.text(end, y - 9, "commits" if name[0] != "P" else "COMMIT is refused: pivot self", "middle", RED if name[0] == "P" else SOFT, 11)
+        picture.text((begin + end) / 2, y + 18, ", ".join(does), "middle", INK, 11)
+    places = {"X": (160, 260), "P": (380, 260), "Y": (600, 260)}
+    for name, (x, y) in places.items():
+        picture.box(x - 34, y - 18, 68, 36, "#f6e3c4" if name == "P" else PALE)
+        picture.text(x, y + 5, name, "middle", weight="bold")
+    for one, other, text in (("X", "P", "X read x, which P writes"), ("P", "Y", "P read y, which Y writes")):
+        picture.line(places[one][0] + 34, 260, places[other][0] - 36, 260, RED, True, 2)
+        picture.text((places[one][0] + places[other][0]) / 2, 234, text, "middle", RED, 11)
+    picture.line(600, 278, 600, 304, BLUE, False, 2)
+    picture.line(600, 304, 160, 304, BLUE, False, 2)
+    picture.line(160, 304, 160, 280, BLUE, True, 2)
+    picture.text(380, 298, "X began after Y committed, and read what Y wrote", "middle", BLUE, 11)
+    picture.text(20, 324, "An arrow leads from what stands earlier in any serial order. No order has all three.", fill=SOFT, size=11)
+    return picture
+
+
+# Figures
+
+def figures():
+    with open(os.path.join(HERE, "figures.csv"), encoding="utf-8", newline="") as file:
+        return list(csv.DictReader(file))
+
+
+def bars(chart, title):
+    rows = [row for row in figures() if row["chart"] == chart]
+    left, scale, row_height = 430, 190, 44
+    picture = Picture(title, left + 2.1 * scale + 70, len(rows) * row_height + 96)
+    picture.text(20, 26, title, weight="bold")
+    bottom = 46 + len(rows) * row_height
+    for tenth in (0, 5, 10, 15, 20):
+        x = left + scale * tenth / 10
+        picture.line(x, 42, x, bottom, INK if tenth == 10 else "#d5dde4", False, 1)
+        picture.text(x, bottom + 16, f"{tenth / 10:g}", "middle", SOFT)
+    for number, row in enumerate(rows):
+        y, ratio, low, high = 50 + number * row_height, *(float(row[name]) for name in ("ratio", "low", "high"))
+        picture.text(20, y + 13, row["what"])
+        picture.text(20, y + 28, "beside " + row["beside"], fill=SOFT, size=11)
+        picture.box(left, y + 4, scale * ratio, 20, BLUE if ratio >= 1 else AMBER, "none")
+        picture.line(left + scale * low, y + 14, left + scale * high, y + 14, INK, False, 2)
+        for edge in (low, high):
+            picture.line(left + scale * edge, y + 8, left + scale * edge, y + 20, INK, False, 2)
+        second = left + scale * float(row["second"])
+        picture.line(second, y + 2, second, y + 26, RED, False, 2)
+        picture.text(left + scale * max(ratio, high) + 10, y + 19, f"{ratio:.2f}")
+    picture.text(20, bottom + 34, "ssikvd's rate divided by the other's; more is better. Black: the middle half of the slices. Red: a second run.", fill=SOFT, size=11)
+    return picture
+
+
+PICTURES = {
+    "crates": crates, "commit": commit, "append": append, "cycle": cycle,
+    "requests": lambda: bars("requests", "Requests and reads beside other programs"),
+    "commits": lambda: bars("commits", "Commits that write, beside the device and PostgreSQL")}
+
+
+def main():
+    stale = []
+    for name, draw in PICTURES.items():
+        path, svg = os.path.join(HERE, name + ".svg"), draw().svg()
+        if "--check" not in sys.argv[1:]:
+            with open(path, "w", encoding="utf-8") as file:
+                file.write(svg)
+        elif not os.path.exists(path) or open(path, encoding="utf-8").read() != svg:
+            stale.append(name)
+    if stale:
+        print(f"not as docs/pictures/draw.py draws them: {', '.join(stale)}")
+    return 1 if stale else 0
+
+
+if __name__ == "__main__":
+    sys.exit(main())
