@@ -2,4 +2,5 @@
 pub mod SectorModel
 pub mod Failures
 pub mod Settled
+pub mod FileModel
 pub mod Slots

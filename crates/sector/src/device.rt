@@ -1,7 +1,7 @@
 //! The device as the crates above see it.
-ghost use Rattle.std.specs.Prelude.{◌≡◌, ◌≢◌, ◌<◌, ◌≤◌, ◌^◌, ℕ, List, length, OnOk, OnErr};
-ghost use Rattle.sector.specs.Failures.{Rose, Stayed};
-ghost use Rattle.sector.specs.SectorModel.{Elapses, FollowsWrite, Settles};
+ghost use Rattle.std.specs.Prelude.{◌≡◌, ◌≢◌, ◌<◌, ◌≤◌, ◌+◌, ◌/◌, ◌%◌, ◌^◌, ℕ, List, length, OnOk, OnErr};
+ghost use Rattle.sector.specs.Failures.{Rose, Stayed, StayedOver};
+ghost use Rattle.sector.specs.SectorModel.{Elapses, FollowsWrite, FollowsWrites, IsOutside, Settles, sector_in};
 
 use thiserror::Error;
 
@@ -16,7 +16,7 @@ pub type Sector = [u8; 512];
 #[error("the device failed")]
 pub struct DeviceFault;
 
-/// A row of sectors, each of 512 bytes, that are read and written one at a time.
+/// A row of sectors, each of 512 bytes.
 ///
 /// A written sector is unsettled until a sync succeeds: a crash may leave any 512 bytes in it, and leaves every other sector as it
 /// was. A crash may come at any moment, within a call too. A write that failed counts as written, and reads of its sector may then
@@ -71,6 +71,50 @@ pub trait Sectors: Drop {
         ensures others { keeps_model → (i : ℕ) (s : List ℕ) → i ≢ at → may_read self.new i s → may_read self.old i s }
         ensures crash { keeps_model → FollowsWrite at (may_leave self.old) (may_leave self.new) }
         ensures time { keeps_model → Elapses (moment self.old) (moment self.new) (left_since self.old) (left_since self.new) (may_leave self.new) };
+
+    /// Reads whole sectors, as calls of `read` one after the other until one fails. After a `DeviceFault` the bytes of `into` may be
+    /// any. Takes no memory.
+    fn read_sectors(&mut self, at: u64, into: &mut [u8]) -> Result<(), DeviceFault>
+        requires whole { length into.old % 512 ≡ 0 }
+        requires room { at + length into.old / 512 ≤ size self.old }
+        requires fits { at + length into.old / 512 < 2 ^ 64 }
+        ensures size { size self.new ≡ size self.old }
+        ensures ok { OnOk result (StayedOver (length into.old / 512) (failures self.old) (failures self.new)) }
+        ensures fault { OnErr result (Rose (failures self.old) (failures self.new)) }
+        ensures gives { keeps_model → OnOk result ((k : ℕ) → k < length into.old / 512 → may_read self.old (at + k) (sector_in into.new k)) }
+        ensures reads { keeps_model → (i : ℕ) (s : List ℕ) → may_read self.new i s → may_read self.old i s }
+        ensures crash { keeps_model → (c : List (List ℕ)) → may_leave self.new c → may_leave self.old c }
+        ensures time { keeps_model → Elapses (moment self.old) (moment self.new) (left_since self.old) (left_since self.new) (may_leave self.old) }
+    {
+        for k in 0..into.len() / SECTOR_SIZE {
+            let mut sector = [0; 512];
+            self.read(at + k as u64, &mut sector)?;
+            into[512 * k..512 * k + 512].copy_from_slice(&sector);
+        }
+        Ok(())
+    }
+
+    /// Writes whole sectors, as calls of `write` one after the other until one fails. Until a sync succeeds a crash may leave anything in
+    /// each of them, and after a `DeviceFault` a read of one may give anything. Takes no memory.
+    fn write_sectors(&mut self, at: u64, from: &[u8]) -> Result<(), DeviceFault>
+        requires whole { length from.now % 512 ≡ 0 }
+        requires room { at + length from.now / 512 ≤ size self.old }
+        requires fits { at + length from.now / 512 < 2 ^ 64 }
+        ensures size { size self.new ≡ size self.old }
+        ensures ok { OnOk result (StayedOver (length from.now / 512) (failures self.old) (failures self.new)) }
+        ensures fault { OnErr result (Rose (failures self.old) (failures self.new)) }
+        ensures written { keeps_model → OnOk result ((k : ℕ) (s : List ℕ) → k < length from.now / 512 → may_read self.new (at + k) s → s ≡ sector_in from.now k) }
+        ensures others { keeps_model → (i : ℕ) (s : List ℕ) → IsOutside at (length from.now / 512) i → may_read self.new i s → may_read self.old i s }
+        ensures crash { keeps_model → (c : List (List ℕ)) → may_leave self.new c → FollowsWrites at (length from.now / 512) (may_leave self.old) c }
+        ensures time { keeps_model → Elapses (moment self.old) (moment self.new) (left_since self.old) (left_since self.new) (FollowsWrites at (length from.now / 512) (may_leave self.old)) }
+    {
+        for k in 0..from.len() / SECTOR_SIZE {
+            let mut sector = [0; 512];
+            sector.copy_from_slice(&from[512 * k..512 * k + 512]);
+            self.write(at + k as u64, &sector)?;
+        }
+        Ok(())
+    }
 
     /// Settles every sector: from then on a crash leaves what a read gives. A `DeviceFault` settles nothing. Takes no memory.
     fn sync(&mut self) -> Result<(), DeviceFault>

@@ -1,22 +1,22 @@
-//! A device over a file. Nothing is claimed of what a file gives back or keeps.
+//! A device over a file. What a file gives back and keeps is left open.
 ghost use Rattle.std.specs.Prelude.{◌≡◌, ◌≢◌, ◌<◌, ◌≤◌, ◌*◌, ◌%◌, ◌^◌, ◌↔◌, MatchOption, IfSome, IfOk, IsOk, IsErrAnd, OnOk, OnErr};
 ghost use Rattle.std.specs.IoError.{error_kind};
 ghost use Rattle.sector.specs.Failures.{Rose, Stayed, greatest};
 
 use crate::{DeviceFault, SECTOR_SIZE, Sector, Sectors};
+use file_calls::CountedFile;
 use std::fs::{self, File, OpenFile, OpenOptions};
 use std::io::{self, ErrorKind, Read};
-use std::os::unix::fs::FileExt;
 use std::path::Path;
 use std::rt::Files;
+use std::time::Clock;
 
-/// A file of whole sectors. That it keeps the sector model is a premise of whoever relies on it, and is not claimed here.
+/// A file of whole sectors. That files keep the sector model is a premise of whoever relies on it: neither claimed here nor denied.
 #[derive(Drop)]
 pub struct FileSectors {
-    file: File,
-    count: u64,
+    file: CountedFile,
     failures: u64,
-    ghost fits: { count < 2 ^ 55 },
+    ghost fits: { file.sectors < 2 ^ 55 },
 }
 
 impl FileSectors {
@@ -25,9 +25,9 @@ impl FileSectors {
     ///
     /// Answers an error where a file of this name exists, where `count` is 2^55 or more, and where a call of the system fails; a file
     /// that it made it then removes. Takes no memory.
-    pub fn create<R: Files<File = File>>(rt: &R, path: &str, count: u64) -> io::Result<Self>
+    pub fn create<R: Files<File = File> + Clock>(rt: &R, path: &str, count: u64) -> io::Result<Self>
         ensures too_many { 2 ^ 55 ≤ count → IsErrAnd result (λ e. error_kind e ≡ ErrorKind.InvalidInput) }
-        ensures count { IfOk result (λ f. f.count ≡ count) }
+        ensures count { IfOk result (λ f. f.file.sectors ≡ count) }
         ensures failures { IfOk result (λ f. f.failures ≡ 0) }
     {
         if count >= 1 << 55 {
@@ -36,8 +36,7 @@ impl FileSectors {
         let mut file = options().create_new(true).open(rt, path)?;
         match write_zeros(rt, path, &mut file, count * SECTOR_SIZE as u64) {
             Ok(()) => Ok(FileSectors {
-                file,
-                count,
+                file: CountedFile::new(rt, file, count),
                 failures: 0,
             }),
             Err(error) => {
@@ -50,23 +49,23 @@ impl FileSectors {
 
     /// Opens a file of whole sectors. Answers an error where there is none of this name, where its length is no multiple of 512
     /// (`InvalidData`), and where a call of the system fails. Takes no memory.
-    pub fn open<R: Files<File = File>>(rt: &R, path: &str) -> io::Result<Self>
+    pub fn open<R: Files<File = File> + Clock>(rt: &R, path: &str) -> io::Result<Self>
         ensures { IfOk result (λ f. f.failures ≡ 0) }
     {
-        with_whole_sectors(options().open(rt, path)?)
+        with_whole_sectors(rt, options().open(rt, path)?)
     }
 
     /// Opens a file of whole sectors to be read alone, with the errors of `open`: the system refuses each write to it. Takes no memory.
-    pub fn open_to_read<R: Files<File = File>>(rt: &R, path: &str) -> io::Result<Self>
+    pub fn open_to_read<R: Files<File = File> + Clock>(rt: &R, path: &str) -> io::Result<Self>
         ensures { IfOk result (λ f. f.failures ≡ 0) }
     {
-        with_whole_sectors(File::open(rt, Path::new(path))?)
+        with_whole_sectors(rt, File::open(rt, Path::new(path))?)
     }
 
     /// Counts a call of the file, and tells how it ended. Where the count stands at its end, each call fails.
     fn told(&mut self, outcome: io::Result<()>) -> Result<(), DeviceFault>
         ensures told { IsOk result ↔ (IsOk outcome × (self.old.failures < greatest)) }
-        ensures count { self.new.count ≡ self.old.count }
+        ensures file { self.new.file ≡ self.old.file }
         ensures ok { OnOk result (Stayed self.old.failures self.new.failures) }
         ensures fault { OnErr result (Rose self.old.failures self.new.failures) }
     {
@@ -79,13 +78,12 @@ impl FileSectors {
 }
 
 /// A device over an open file, with an error where its length is no multiple of 512.
-fn with_whole_sectors(file: File) -> io::Result<FileSectors>
+fn with_whole_sectors<C: Clock>(rt: &C, file: File) -> io::Result<FileSectors>
     ensures { IfOk result (λ f. f.failures ≡ 0) }
 {
     match whole_sectors(file.metadata()?.len()) {
         Some(count) => Ok(FileSectors {
-            file,
-            count,
+            file: CountedFile::new(rt, file, count),
             failures: 0,
         }),
         None => Err(io::Error::from(ErrorKind::InvalidData)),
@@ -129,43 +127,57 @@ fn write_zeros<R: Files<File = File>>(
 }
 
 impl Sectors for FileSectors {
-    ghost size = { λ f. f.count };
+    ghost use Rattle.file_calls.specs.OpenFacts as facts;
+    ghost use Rattle.sector.specs.FileModel.{FileKeepsModel};
+
+    ghost size = { λ f. f.file.sectors };
 
     ghost failures = { λ f. f.failures };
 
-    /// Nothing is claimed of a file.
-    ghost keeps_model = { ⊥ };
+    ghost keeps_model = { FileKeepsModel };
 
-    ghost may_read = { λ f i s. Unit {0} };
+    ghost may_read = { λ f. facts.may_read f.file };
 
-    ghost may_leave = { λ f c. Unit {0} };
+    ghost may_leave = { λ f. facts.may_leave f.file };
 
-    ghost moment = { λ f. 0 };
+    ghost moment = { λ f. facts.moment f.file };
 
-    ghost left_since = { λ f t c. Unit {0} };
+    ghost left_since = { λ f. facts.left_since f.file };
 
-    ghost leaves_all = { λ keeps f c left. absurd keeps };
+    ghost leaves_all = { λ keeps f. keeps.leaves_all f.file };
 
-    ghost counts_now = { λ keeps f c t le left. tt };
+    ghost counts_now = { λ keeps f. keeps.counts_now f.file };
 
-    ghost only_now = { λ keeps f c left. tt };
+    ghost only_now = { λ keeps f. keeps.only_now f.file };
 
     fn count(&self) -> u64 {
-        self.count
+        self.file.sectors()
     }
 
     fn read(&mut self, at: u64, into: &mut Sector) -> Result<(), DeviceFault> {
-        let outcome = self.file.read_exact_at(into, at * SECTOR_SIZE as u64);
+        let outcome = self.file.read(at * SECTOR_SIZE as u64, into);
         self.told(outcome)
     }
 
     fn write(&mut self, at: u64, from: &Sector) -> Result<(), DeviceFault> {
-        let outcome = self.file.write_all_at(from, at * SECTOR_SIZE as u64);
+        let outcome = self.file.write(at * SECTOR_SIZE as u64, from);
+        self.told(outcome)
+    }
+
+    /// It makes one call of the file.
+    fn read_sectors(&mut self, at: u64, into: &mut [u8]) -> Result<(), DeviceFault> {
+        let outcome = self.file.read(at * SECTOR_SIZE as u64, into);
+        self.told(outcome)
+    }
+
+    /// It makes one call of the file.
+    fn write_sectors(&mut self, at: u64, from: &[u8]) -> Result<(), DeviceFault> {
+        let outcome = self.file.write(at * SECTOR_SIZE as u64, from);
         self.told(outcome)
     }
 
     fn sync(&mut self) -> Result<(), DeviceFault> {
-        let outcome = self.file.sync_data();
+        let outcome = self.file.sync();
         self.told(outcome)
     }
 }

@@ -1,0 +1,5 @@
+use Rattle.file_calls.specs.HappenedCalls.{real_read}
+use Rattle.file_calls.proofs.counted.CountedFile.read.Goals as goal
+
+pub returns-clause-happened : goal.returns-clause-happened
+returns-clause-happened c = real_read _ _ _ _
