@@ -3,12 +3,13 @@
 use Rattle.std.proofs.Common.{◌≡◌, ◌≢◌, inl, inr, ⊎_elim, ℕ, suc, ◌<◌, ◌≤◌, ◌+◌, ◌*◌, ◌/◌, true, false, List, [], ◌∷◌, ◌++◌, length, take, drop, slice_get, Some, sym, ◌∙◌, ap, subst, arith}
 use Rattle.sector.specs.declared.device.Sectors.{Ghosts}
 use Rattle.sector.specs.SectorModel.{FollowsWrite, Settles, Elapses, LeavesOnly, IsSettled}
-use Rattle.sector.proofs.Moments.{goes_on}
+use Rattle.sector.proofs.Moments.{started, goes_on}
 use Rattle.model.specs.Map.{KeyWrite}
 use Rattle.commit_log.specs.RecordFormat.{IsWriteSet, is_open, first_digest, sectors_of, padded_body}
 use Rattle.commit_log.specs.LogImage.{IsLogImage, span, last_digest, next_index}
+use Rattle.commit_log.specs.Staging.{IsStaged}
 use Rattle.commit_log.specs.LogState.{IsNextRecord, IsBeforeOrAfter, IsSameBefore}
-use Rattle.commit_log.proofs.Records.{same_log, IsStaged, image_staged-set, image_staged_gate, image_staged_open, image_staged_from, slice_get_there}
+use Rattle.commit_log.proofs.Records.{same_log, image_staged-set, image_staged_gate, image_staged_open, image_staged_from, slice_get_there}
 use Rattle.std.proofs.lemmas.List.{take-set-le}
 use Rattle.commit_log.specs.Format.{current}
 
@@ -22,6 +23,14 @@ module _ {D : Type 0} (S : Ghosts D) (lists : List (List KeyWrite)) (writes : Li
   pub record Opening (now : D) : Type 0 where
     pub left : (c : List (List ℕ)) → S.may_leave now c → IsStaged current lists writes c
     pub time : LeavesOnly S.moment S.left_since start now (IsBeforeOrAfter lists writes)
+
+module _ {D : Type 0} (S : Ghosts D) (lists : List (List KeyWrite)) (writes : List KeyWrite) (start : D) where
+  -- before the gate is written
+  pub not_opened : IsWriteSet current writes → ((c : List (List ℕ)) → S.may_leave start c → IsStaged current lists writes c) → ((c : List (List ℕ)) → S.left_since start (S.moment start) c → S.may_leave start c) → Opening S lists writes start start
+  not_opened proper here only_now = record {
+    left = here;
+    time = started S.moment S.left_since start (IsBeforeOrAfter lists writes) (λ c left. image_staged_gate current lists writes c proper (here c (only_now c left)));
+  }
 
 module _ {D : Type 0} (S : Ghosts D) (lists : List (List KeyWrite)) (writes : List KeyWrite) (start now next : D) where
   pub after_body : (at : ℕ) → at ≡ 2 + span lists → ((c : List (List ℕ)) → S.may_leave start c → IsLogImage current lists c)

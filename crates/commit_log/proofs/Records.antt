@@ -5,8 +5,8 @@ use Rattle.std.proofs.lemmas.Bool.{cases_Bool}
 use Rattle.model.specs.Map.{KeyWrite}
 use Rattle.commit_log.specs.RecordFormat.{IsWriteSet, is_open, first_digest, sectors_of, record_body, record_digest, padded_body, sectors_in}
 use Rattle.commit_log.specs.LogImage.{HoldsRecords, IsLogImage, span, last_digest, next_index}
+use Rattle.commit_log.specs.Staging.{Staged, IsStaged}
 use Rattle.commit_log.specs.declared.formats.LogFormat.{LogFormat}
-use Rattle.commit_log.specs.Format.{head_sector}
 
 -- the sectors up to the closed gate decide
 pub same_records : (f : LogFormat) (lists : List (List KeyWrite)) (index : ℕ) (before : List ℕ) (c d : List (List ℕ)) → take (suc (span lists)) c ≡ take (suc (span lists)) d → HoldsRecords f lists index before d → HoldsRecords f lists index before c
@@ -39,20 +39,6 @@ same_log f lists n (x ∷ c) (h ∷ d) is same holds =
     let head : x ≡ h = cc at in
     let rest : take (suc (span lists)) c ≡ take (suc (span lists)) d = cc at in
     (head ∙ holds.0, same_records f lists 0 first_digest c d rest holds.1)
-
--- records of these write sets, then a gate, the body of one more record, and a closed gate
-abbrev pub Staged : LogFormat → List (List KeyWrite) → List KeyWrite → ℕ → List ℕ → List (List ℕ) → Type 0
-Staged f lists writes index before [] = ⊥
-Staged f [] writes index before (gate ∷ rest) =
-    (take (sectors_of writes) rest ≡ record_body before index writes)
-    × HoldsRecords f [] (index + 1) (record_digest before index writes) (drop (sectors_of writes) rest)
-Staged f (x ∷ lists) writes index before (gate ∷ rest) =
-    (is_open gate ≡ true) × IsWriteSet f x × (take (sectors_of x) rest ≡ record_body before index x)
-    × Staged f lists writes (index + 1) (record_digest before index x) (drop (sectors_of x) rest)
-
-abbrev pub IsStaged : LogFormat → List (List KeyWrite) → List KeyWrite → List (List ℕ) → Type 0
-IsStaged f lists writes [] = ⊥
-IsStaged f lists writes (head ∷ rest) = (head ≡ head_sector f) × Staged f lists writes 0 first_digest rest
 
 pub slice_get-drop : {X : Type 0} (n : ℕ) (xs : List X) (i : ℕ) → slice_get (drop n xs) i ≡ slice_get xs (n + i)
 slice_get-drop zero xs i = let e : 0 + i ≡ i = omega arith in ap (λ (k : ℕ). slice_get xs k) (sym e)

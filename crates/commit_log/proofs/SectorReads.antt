@@ -1,7 +1,7 @@
 -- How a run of reads goes on.
-use Rattle.std.proofs.Common.{◌≡◌, inl, inr, ℕ, ◌<◌, ◌+◌, ◌*◌, List, length, take, drop, ◌++◌, slice_get, Some, sym, ◌∙◌, ap, arith, length-drop}
-use Rattle.std.proofs.lemmas.Bool.{cases_lt}
-use Rattle.std.proofs.lemmas.List.{take-append-le, drop-append-le, drop_at, take_all}
+use Rattle.std.proofs.Common.{◌≡◌, ℕ, ◌≤◌, ◌+◌, ◌-◌, ◌*◌, List, length, take, drop, ◌++◌, slice_get, Some, sym, ◌∙◌, ap, arith, length-drop, append_assoc}
+use Rattle.std.proofs.lemmas.List.{take-append-le, drop-append-le, drop-take, length-take, take_all}
+use Rattle.std.proofs.Math.Seq.{drop-append-add, take-add}
 use Rattle.sector.specs.declared.device.Sectors.{Ghosts}
 use Rattle.sector.specs.SectorModel.{Elapses}
 use Rattle.sector.proofs.Moments.{started, goes_on, joined}
@@ -16,24 +16,6 @@ read_on S old mid new so_far reads crash time = record {
   left = λ c left. so_far.left c (crash c left);
   time = goes_on S.moment S.left_since old mid new (S.may_leave old) (S.may_leave new) so_far.time time (λ c left. so_far.left c (crash c left));
 }
-
--- the bytes of one sector more
-pub bytes_more : (image : List (List ℕ)) (at k base : ℕ) (bytes next sector : List ℕ) → length bytes ≡ base + 512 * k → next ≡ bytes ++ sector → length sector ≡ 512
-    → ((j : ℕ) → j < k → slice_get image (at + j) ≡ Some (take 512 (drop (base + 512 * j) bytes))) → slice_get image (at + k) ≡ Some sector
-    → (j : ℕ) → j < k + 1 → slice_get image (at + j) ≡ Some (take 512 (drop (base + 512 * j) next))
-bytes_more image at k base bytes next sector len is long so_far here j lt = elim (cases_lt j k) [
-  | inl below ↦
-      let m = base + 512 * j in
-      let front : take 512 (drop m (bytes ++ sector)) ≡ take 512 (drop m bytes) =
-      ap (λ (l : List ℕ). take 512 l) (drop-append-le m bytes sector (omega arith)) ∙ take-append-le 512 (drop m bytes) sector (omega (arith, length-drop m bytes)) in
-      so_far j below ∙ ap (λ (l : List ℕ). Some l) (sym front) ∙ ap (λ (l : List ℕ). Some (take 512 (drop m l))) (sym is)
-  | inr same ↦
-      let j_is : j ≡ k = omega arith in
-      let at_end : length bytes ≡ base + 512 * j = omega arith in
-      let back : take 512 (drop (base + 512 * j) (bytes ++ sector)) ≡ sector =
-      ap (λ (l : List ℕ). take 512 l) (drop_at bytes sector (base + 512 * j) at_end) ∙ take_all 512 sector (omega arith) in
-      ap (λ (i : ℕ). slice_get image (at + i)) j_is ∙ here ∙ ap (λ (l : List ℕ). Some l) (sym back) ∙ ap (λ (l : List ℕ). Some (take 512 (drop (base + 512 * j) l))) (sym is)
-]
 
 -- before the first read
 pub no_reads : {D : Type 0} (S : Ghosts D) (old : D) → ((c : List (List ℕ)) → S.left_since old (S.moment old) c → S.may_leave old c) → OnlyReads S.may_read S.may_leave S.moment S.left_since old old
@@ -50,3 +32,28 @@ reads_joined S old mid new first second = record {
   left = λ c left. first.left c (second.left c left);
   time = joined S.moment S.left_since old mid new (S.may_leave old) (S.may_leave mid) (S.may_leave old) first.time second.time (λ c left. left) (λ c left. first.left c left);
 }
+
+-- a sector of what was read into the end of a buffer
+pub read_behind : (front into post rest : List ℕ) (k whole : ℕ) → 512 * k + 512 ≤ length into → length front + length into ≤ whole
+    → take 512 (drop (length front + 512 * k) (take whole (front ++ (into ++ post) ++ rest))) ≡ take 512 (drop (512 * k) into)
+read_behind front into post rest k whole here fits =
+    let n = length front + 512 * k in
+    let w : whole ≡ n + (512 + (whole - n - 512)) = omega arith in
+    let behind : drop n (front ++ (into ++ post) ++ rest) ≡ drop (512 * k) into ++ (post ++ rest) =
+    ap (drop n) (append_assoc front (into ++ post) rest) ∙ drop-append-add front ((into ++ post) ++ rest) (512 * k) ∙ ap (drop (512 * k)) (append_assoc into post rest) ∙ drop-append-le (512 * k) into (post ++ rest) (omega arith) in
+    let one : take 512 (drop (512 * k) into ++ (post ++ rest)) ≡ take 512 (drop (512 * k) into) = take-append-le 512 (drop (512 * k) into) (post ++ rest) (omega (arith, length-drop (512 * k) into)) in
+    let z = drop (512 * k) into ++ (post ++ rest) in
+    ap (λ (v : ℕ). take 512 (drop n (take v (front ++ (into ++ post) ++ rest)))) w
+    ∙ ap (take 512) (drop-take n (512 + (whole - n - 512)) (front ++ (into ++ post) ++ rest) ∙ ap (take (512 + (whole - n - 512))) behind ∙ take-add 512 (whole - n - 512) z)
+    ∙ take-append-le 512 (take 512 z) (take (whole - n - 512) (drop 512 z)) (omega (arith, length-take 512 z, ap length one, length-take 512 (drop (512 * k) into), length-drop (512 * k) into))
+    ∙ take_all 512 (take 512 z) (omega (arith, length-take 512 z)) ∙ one
+
+-- how long the part behind a place is
+pub place_behind : (all : List ℕ) (start : ℕ) → length (take (length all - start) (drop start all)) ≡ length all - start
+place_behind all start = omega (arith, length-take (length all - start) (drop start all), length-drop start all)
+
+-- so does it where this many bytes stand before it
+pub read_from : (image : List (List ℕ)) (i base : ℕ) (front into post rest : List ℕ) (k whole : ℕ) → base ≡ length front → 512 * k + 512 ≤ length into → length front + length into ≤ whole
+    → slice_get image i ≡ Some (take 512 (drop (512 * k) into)) → slice_get image i ≡ Some (take 512 (drop (base + 512 * k) (take whole (front ++ (into ++ post) ++ rest))))
+read_from image i base front into post rest k whole is here fits read =
+    read ∙ ap (λ (l : List ℕ). Some l) (sym (read_behind front into post rest k whole here fits)) ∙ ap (λ (b : ℕ). Some (take 512 (drop (b + 512 * k) (take whole (front ++ (into ++ post) ++ rest))))) (sym is)

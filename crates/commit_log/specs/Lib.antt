@@ -2,6 +2,7 @@
 pub mod Format
 pub mod RecordFormat
 pub mod LogImage
+pub mod Staging
 pub mod Recovery
 pub mod LogState
 pub mod LogFaults

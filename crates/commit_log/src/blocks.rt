@@ -4,9 +4,9 @@ ghost use Rattle.sector.specs.SectorModel.{LeavesOnly};
 ghost use Rattle.sector.specs.Failures.{Rose};
 ghost use Rattle.commit_log.specs.LogState.{IsSameBefore};
 
-use sector::{DeviceFault, SECTOR_SIZE, Sectors};
+use sector::{DeviceFault, Sectors};
 
-/// Writes whole sectors one after the other.
+/// Writes whole sectors.
 pub fn write_sectors<D: Sectors>(device: &mut D, at: u64, bytes: &[u8]) -> Result<(), DeviceFault>
     requires whole { length bytes.now % 512 ≡ 0 }
     requires room { at + length bytes.now / 512 < D.size device.old }
@@ -19,10 +19,5 @@ pub fn write_sectors<D: Sectors>(device: &mut D, at: u64, bytes: &[u8]) -> Resul
     ensures crash { D.keeps_model → (c : List (List ℕ)) → D.may_leave device.new c → IsSameBefore at (D.may_leave device.old) c }
     ensures time { D.keeps_model → LeavesOnly D.moment D.left_since device.old device.new (IsSameBefore at (D.may_leave device.old)) }
 {
-    for k in 0..bytes.len() / SECTOR_SIZE {
-        let mut sector = [0; 512];
-        sector.copy_from_slice(&bytes[512 * k..512 * k + 512]);
-        device.write(at + k as u64, &sector)?;
-    }
-    Ok(())
+    device.write_sectors(at, bytes)
 }

@@ -132,7 +132,7 @@ fn decode_payload(
     if count < 1 || count > 64 {
         return Ok(None);
     }
-    let mut writes: Vec<Write> = Vec::new(alloc);
+    let mut writes: Vec<Write> = Vec::with_capacity(alloc, count as usize)?;
     for i in 0..count {
         let Some((write, after)) = take_entry(alloc, format, rest)? else {
             return Ok(None);

@@ -19,7 +19,7 @@ use crate::faults::LogFault;
 use crate::formats::LogFormat;
 use byteorder::{BigEndian, ByteOrder};
 use model::{Map, Memory, Write};
-use sector::{Sector, Sectors};
+use sector::{SECTOR_SIZE, Sector, Sectors};
 use std::alloc::Global;
 
 /// Reads n sectors to the end of `bytes`.
@@ -31,6 +31,7 @@ fn read_sectors<D: Sectors>(
 ) -> Result<(), LogFault>
     requires room { at + n ≤ D.size device.old }
     requires fits { at + n < 2 ^ 64 }
+    requires memory { length bytes.old.items + 512 * n < 2 ^ 63 }
     ensures fault { FaultIs (D.failures device.old) (D.failures device.new) result }
     ensures errors { IfErr result IsDeviceOrMemory }
     ensures size { D.size device.new ≡ D.size device.old }
@@ -40,15 +41,12 @@ fn read_sectors<D: Sectors>(
     ensures bytes { D.keeps_model → (image : List (List ℕ)) → ReadsAs (D.may_read device.old) image
         → OnOk result ((k : ℕ) → k < n → slice_get image (at + k) ≡ Some (take 512 (drop (length bytes.old.items + 512 * k) bytes.new.items))) }
 {
-    for k in 0..n {
-        let mut sector = [0; 512];
-        match device.read(at + k, &mut sector) {
-            Ok(()) => {}
-            Err(_) => return Err(LogFault::Device),
-        }
-        bytes.extend_from_slice(&sector)?;
+    let start = bytes.len();
+    bytes.resize(start + n as usize * SECTOR_SIZE, 0)?;
+    match device.read_sectors(at, &mut bytes[start..]) {
+        Ok(()) => Ok(()),
+        Err(_) => Err(LogFault::Device),
     }
-    Ok(())
 }
 
 #[derive(Drop)]
