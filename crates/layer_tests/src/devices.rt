@@ -15,6 +15,22 @@ fn fill<D: Sectors>(device: &mut D, at: u64, byte: u8) -> bool {
     at < device.count() && device.write(at, &[byte; 512]).is_ok()
 }
 
+// Writes this byte over two sectors.
+fn fill_two<D: Sectors>(device: &mut D, at: u64, byte: u8) -> bool {
+    at < device.count()
+        && at + 1 < device.count()
+        && device.write_sectors(at, &[byte; 1024]).is_ok()
+}
+
+// Do the two sectors hold this byte alone?
+fn hold_two<D: Sectors>(device: &mut D, at: u64, byte: u8) -> bool {
+    let mut row = [!byte; 1024];
+    at < device.count()
+        && at + 1 < device.count()
+        && device.read_sectors(at, &mut row).is_ok()
+        && row.starts_with(&[byte; 1024])
+}
+
 #[test]
 fn the_call_named_fails_and_no_other(rt: HostRuntime) -> Result<(), Fail> {
     let mut device = MemSectors::new(rt.alloc(), 2)?;
@@ -24,6 +40,19 @@ fn the_call_named_fails_and_no_other(rt: HostRuntime) -> Result<(), Fail> {
     assert!(rt; !fill(&mut device, 0, 1));
     assert!(rt; fill(&mut device, 0, 2));
     assert!(rt; holds(&mut device, 0, &[2; 512]));
+    Ok(())
+}
+
+#[test]
+fn a_call_of_two_sectors_is_two_calls(rt: HostRuntime) -> Result<(), Fail> {
+    let mut device = MemSectors::new(rt.alloc(), 4)?;
+    device.fail_call(4);
+    assert!(rt; fill_two(&mut device, 1, 6));
+    assert!(rt; holds(&mut device, 0, &[0; 512]));
+    assert!(rt; !fill_two(&mut device, 0, 7));
+    assert!(rt; holds(&mut device, 1, &[6; 512]));
+    assert!(rt; fill_two(&mut device, 1, 8) && hold_two(&mut device, 1, 8));
+    assert!(rt; holds(&mut device, 3, &[0; 512]));
     Ok(())
 }
 
@@ -57,15 +86,20 @@ fn a_file_keeps_what_was_written(rt: HostRuntime) -> Result<(), Fail> {
     let path = path.as_str();
     assert!(rt; kind(FileSectors::open(&rt, path)) == Some(ErrorKind::NotFound));
     let mut device = FileSectors::create(&rt, path, 40)?;
-    assert!(rt; fill(&mut device, 17, 3) && device.sync().is_ok());
+    assert!(rt; fill(&mut device, 17, 3) && fill_two(&mut device, 30, 4) && device.sync().is_ok());
     drop(device);
     assert!(rt; kind(FileSectors::create(&rt, path, 1)) == Some(ErrorKind::AlreadyExists));
     let mut device = FileSectors::open(&rt, path)?;
     assert!(rt; device.count() == 40);
     for at in 0..40 {
-        let byte = if at == 17 { 3 } else { 0 };
+        let byte = match at {
+            17 => 3,
+            30 | 31 => 4,
+            _ => 0,
+        };
         assert!(rt; holds(&mut device, at, &[byte; 512]), "sector {at}");
     }
+    assert!(rt; hold_two(&mut device, 30, 4) && !hold_two(&mut device, 16, 3));
     assert!(rt; fs::remove_file(&rt, path).is_ok());
     Ok(())
 }

@@ -53,3 +53,62 @@ fn kept_versions(rt: HostRuntime) -> Result<(), Fail> {
     assert!(rt; versions.kept(a) == 1);
     Ok(())
 }
+
+// Versions of `a` by five commits, of which the last deletes it, and one of `b`.
+fn after_five_commits(alloc: Global) -> Result<Versions, Memory> {
+    let mut versions = Versions::from_map(alloc, Map::new(alloc))?;
+    let a = key(b"a");
+    commit(
+        alloc,
+        &mut versions,
+        1,
+        a,
+        Some(Vec::from_slice(alloc, b"1")?),
+    )?;
+    commit(
+        alloc,
+        &mut versions,
+        2,
+        a,
+        Some(Vec::from_slice(alloc, b"2")?),
+    )?;
+    commit(
+        alloc,
+        &mut versions,
+        3,
+        a,
+        Some(Vec::from_slice(alloc, b"3")?),
+    )?;
+    commit(
+        alloc,
+        &mut versions,
+        4,
+        a,
+        Some(Vec::from_slice(alloc, b"4")?),
+    )?;
+    commit(alloc, &mut versions, 5, a, None)?;
+    commit(
+        alloc,
+        &mut versions,
+        6,
+        key(b"b"),
+        Some(Vec::from_slice(alloc, b"6")?),
+    )?;
+    Ok(versions)
+}
+
+/// Where no number before the last is held, four older versions go in one walk, and the deleted key before the other isn't shown.
+#[test]
+fn one_walk(rt: HostRuntime) -> Result<(), Fail> {
+    let (a, b) = (key(b"a"), key(b"b"));
+    let mut versions = after_five_commits(rt.alloc())?;
+    assert!(rt; versions.kept(a) == 5);
+    versions.reclaim(&[6]);
+    assert!(rt; versions.kept(a) == 1 && versions.kept(b) == 1);
+    assert!(rt; versions.newest(a) == Some(5));
+    let from_a = RangeRef { lo: a, hi: None };
+    assert!(rt; is_pair(versions.range(6, from_a).next(), b"b", b"6"));
+    let from_a_to_b = RangeRef { lo: a, hi: Some(b) };
+    assert!(rt; versions.range(6, from_a_to_b).next().is_none());
+    Ok(())
+}

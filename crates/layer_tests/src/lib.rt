@@ -1,4 +1,4 @@
-//! Tests of the crates below the engine against values from outside: keys, requests, replies, devices, versions and transactions.
+//! Tests of the crates below the engine against values from outside: keys, requests, replies, devices, versions, last readers and transactions.
 #![tactic(auto)]
 
 #[cfg(test)]
@@ -9,6 +9,8 @@ mod helpers;
 mod kept;
 #[cfg(test)]
 mod keys;
+#[cfg(test)]
+mod readers;
 #[cfg(test)]
 mod replies;
 #[cfg(test)]

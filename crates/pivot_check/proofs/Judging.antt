@@ -1,8 +1,7 @@
 -- What is kept decides the verdict over the whole history, and goes on standing for it.
-use Rattle.std.proofs.Common.{◌≡◌, ◌≤◌, ◌<◌, ◌+◌, ◌-◌, ℕ, Bool, true, false, cond, List, [], ◌∷◌, ◌++◌, Option, Some, None, map, length, drop, refl, sym, ap, subst, ◌∙◌, arith}
+use Rattle.std.proofs.Common.{◌≡◌, ◌≤◌, ◌<◌, ◌+◌, ℕ, Bool, true, false, cond, List, [], ◌∷◌, ◌++◌, Option, Some, None, map, length, refl, sym, ap, subst, ◌∙◌, arith}
 use Rattle.std.specs.Prelude.{nat_lt, max, is_some, find, option_map, ◌&&◌, ◌||◌, not}
 use Rattle.std.specs.List.{list_any, filter, position, AllByRecursion}
-use Rattle.std.proofs.lemmas.List.{length-map, map-append}
 use Rattle.model.specs.declared.refusals.Refusal.{Refusal}
 use Rattle.model.specs.declared.refusals.Refusal.TheVariants as refusal
 use Rattle.model.specs.Map.{Bytes, KeyWrite}
@@ -12,14 +11,16 @@ use Rattle.model.specs.Verdict.{verdict, conflict_of}
 use Rattle.model.proofs.Members.{IsRising as RecordsRise, rising_from_numbered}
 use Rattle.model.proofs.Pivots.{find_alike}
 use Rattle.snapshot.specs.View.{View}
-use Rattle.pivot_check.specs.Kept.{KeptRecord, KeptFacts, ReadRecord, Facts, keys_of, since, reads_since, is_written, leads_to, follows, becomes_pivot, first_number, last_number, last_read, last_that, is_source, are_in_order, own_record, IsInReach, IsKeptReach}
+use Rattle.pivot_check.specs.Kept.{KeptRecord, KeptFacts, Facts, keys_of, since, is_written, leads_to, follows, becomes_pivot, first_number, last_number, are_in_order, own_record, IsInReach, IsKeptReach}
 use Rattle.pivot_check.specs.Postings.{Posting, postings_by, least, lesser, covered_of, are_upto}
-use Rattle.pivot_check.specs.StandsFor.{KeptStandsFor, StandsFor, IsRecordOf, IsClear, Says, AreWriters, verdict_found, kept_of, kept_above, reads_of}
+use Rattle.pivot_check.specs.StandsFor.{KeptStandsFor, StandsFor, IsRecordOf, IsClear, Says, AreWriters, verdict_found, kept_of, kept_above}
 use Rattle.pivot_check.specs.Index.{is_written_since, target, source, other_pivot, answer_found}
 use Rattle.pivot_check.specs.declared.verdict.Verdict.{Verdict}
 use Rattle.pivot_check.specs.declared.verdict.Verdict.TheVariants.{Clear, Overwritten}
-use Rattle.pivot_check.proofs.Lists.{drop-map, last_that-map, found_at, found_nowhere}
+use Rattle.pivot_check.proofs.Lists.{found_at, found_nowhere}
 use Rattle.pivot_check.proofs.Histories.{records_are, filter_filter, filter-map, verdict_is, stands_for}
+use Rattle.last_readers.specs.Readers.{Readers, last_reader, IsNoted, IsForgotten}
+use Rattle.pivot_check.proofs.LastSources.{source_found, noted_readers, forgotten_readers}
 use Rattle.pivot_check.proofs.Writers.{IsRising, any_is_found, written as written_by, target as target_by, pivot as pivot_by, noted as writers_noted, forgotten as writers_forgotten, remade as writers_remade, some_lesser, by_upto}
 
 kept_rise : (h : List Record) (o : ℕ) (rs : List Record) → RecordsRise rs → IsRising (map (kept_of h) (filter (λ r. nat_lt o r.commit) rs))
@@ -36,14 +37,6 @@ kept_rise h o (r ∷ rs) rise = by (nat_lt o r.commit) (kept_rise h o rs rise.1)
     by : (b : Bool) → IsRising (map (kept_of h) (filter (λ r. nat_lt o r.commit) rs)) → IsRising (map (kept_of h) (cond b (r ∷ filter (λ r. nat_lt o r.commit) rs) (filter (λ r. nat_lt o r.commit) rs)))
     by true rest = (all r.commit rs rise.0, rest)
     by false rest = rest
-
--- the number of the last record is that of the last of the reads
-last_read_is : (p : ReadRecord → Bool) (rs : List KeptRecord) → last_read p (map reads_of rs) ≡ last_number (λ r. p (reads_of r)) rs
-last_read_is p rs = ap (option_map (λ (r : ReadRecord). r.commit)) (last_that-map p reads_of rs) ∙ by (last_that (λ r. p (reads_of r)) rs)
-  where
-    by : (o : Option KeptRecord) → option_map (λ (r : ReadRecord). r.commit) (option_map reads_of o) ≡ option_map (λ (r : KeptRecord). r.commit) o
-    by None = refl
-    by (Some r) = refl
 
 module _ (f : Facts) (history : List Record) (s : StandsFor f history) where
   abbrev kept : List KeptRecord
@@ -82,14 +75,8 @@ module _ (f : Facts) (history : List Record) (s : StandsFor f history) where
     pivot_is : first_number (becomes_pivot t) (since records t.begin) ≡ other_pivot f t
     pivot_is = ap (first_number (becomes_pivot t)) late_is ∙ pivot_by f.oldest t.begin f.postings kept t s.writers reach.held rise
 
-    reads_are : reads_since f t.begin ≡ map reads_of (since records t.begin)
-    reads_are =
-        (λ i. drop (length (s.reads i) - (f.last - t.begin)) (s.reads i))
-        ∙ ap (λ n. drop (n - (f.last - t.begin)) (map reads_of kept)) (length-map kept reads_of)
-        ∙ drop-map reads_of (length kept - (f.last - t.begin)) kept
-
     source_is : last_number (λ k. leads_to k t) (since records t.begin) ≡ source f t
-    source_is = sym (ap (last_read (is_source t)) reads_are ∙ last_read_is (is_source t) (since records t.begin))
+    source_is = ap (last_number (λ k. leads_to k t)) (records_are records history whole t within r own) ∙ source_found f.oldest (last_reader f.readers) history t reach.held s.readers (rising_from_numbered 0 history s.numbered)
 
     abbrev overwrites : KeyWrite → Bool
     overwrites w = is_written_since f.postings t.begin w.0
@@ -117,7 +104,7 @@ module _ (f : Facts) (history : List Record) (s : StandsFor f history) where
         found false None e = e
         found false (Some n) e = e
 
-    module _ (clear : verdict history r ≡ None) (reads : List ReadRecord) (reads_is : reads ≡ f.records ++ record { commit = f.last + 1; marks = t.marks } ∷ [])
+    module _ (clear : verdict history r ≡ None) (readers : Readers) (read : IsNoted t.marks (f.last + 1) f.readers readers)
         (postings : List Posting) (has : (c : Posting → Bool) → least c postings ≡ lesser (least c f.postings) (least c (postings_by (f.last + 1) (is_some (target f t)) (keys_of t.writes)))) where
       abbrev fresh : KeptRecord
       fresh = own_record (since records t.begin) t (f.last + 1)
@@ -128,23 +115,24 @@ module _ (f : Facts) (history : List Record) (s : StandsFor f history) where
       flag : is_some (target f t) ≡ list_any (λ k. follows k t) (since records t.begin)
       flag = ap is_some (sym target_is) ∙ sym (any_is_found (λ k. follows k t) (since records t.begin))
 
-      pub noted : StandsFor (record { records = reads; postings = postings; oldest = f.oldest; last = f.last + 1 }) (history ++ r ∷ [])
+      pub noted : StandsFor (record { readers = readers; postings = postings; oldest = f.oldest; last = f.last + 1 }) (history ++ r ∷ [])
       noted = record {
         numbered = next.numbered;
         begun = next.begun;
         no_pivot = next.no_pivot;
         last = next.last;
-        reads = reads_is ∙ ap (λ rs. rs ++ reads_of fresh ∷ []) s.reads ∙ sym (map-append reads_of kept (fresh ∷ [])) ∙ ap (map reads_of) next.records;
+        readers = noted_readers f.oldest (last_reader f.readers) (last_reader readers) history r t.marks (f.last + 1) s.readers s.numbered (let a = reach.begun in let b = reach.held in omega arith)
+            (let l = s.last in omega arith) own.commit own.reads read;
         writers = subst (λ ks. AreWriters f.oldest postings ks) next.records
             (writers_noted f.oldest f.postings postings kept fresh s.writers (let a = reach.begun in let b = reach.held in omega arith)
             (λ c. has c ∙ ap (λ x. lesser (least c f.postings) (least c (postings_by (f.last + 1) x (keys_of t.writes)))) flag));
       }
 
   -- older ones are forgotten
-  pub forgotten : (newer : ℕ) → f.oldest ≤ newer → (postings : List Posting)
+  pub forgotten : (newer : ℕ) → f.oldest ≤ newer → (readers : Readers) → IsForgotten newer f.readers readers → (postings : List Posting)
       → ((c : Posting → Bool) → least (λ p. nat_lt newer p.number && c p) postings ≡ least (λ p. nat_lt newer p.number && c p) f.postings)
-      → StandsFor (record { records = filter (λ k. nat_lt newer k.commit) f.records; postings = postings; oldest = newer; last = f.last }) history
-  forgotten newer above postings same =
+      → StandsFor (record { readers = readers; postings = postings; oldest = newer; last = f.last }) history
+  forgotten newer above readers cut_to postings same =
       let greatest : max f.oldest newer ≡ newer = omega arith in
       let left : filter (λ k. nat_lt newer k.commit) kept ≡ kept_above newer history =
       filter-map (λ k. nat_lt newer k.commit) (kept_of history) (filter (λ p. nat_lt f.oldest p.commit) history)
@@ -154,19 +142,19 @@ module _ (f : Facts) (history : List Record) (s : StandsFor f history) where
         begun = s.begun;
         no_pivot = s.no_pivot;
         last = s.last;
-        reads = ap (filter (λ k. nat_lt newer k.commit)) s.reads ∙ filter-map (λ k. nat_lt newer k.commit) reads_of kept ∙ ap (map reads_of) left;
+        readers = forgotten_readers f.oldest newer (last_reader f.readers) (last_reader readers) history s.readers above cut_to;
         writers = subst (λ ks. AreWriters newer postings ks) left (writers_forgotten f.oldest newer f.postings postings kept s.writers above same);
       }
 
   -- the postings are put in another order
   pub remade : (postings : List Posting) → ((c : Posting → Bool) → least c postings ≡ least c f.postings)
-      → StandsFor (record { records = f.records; postings = postings; oldest = f.oldest; last = f.last }) history
+      → StandsFor (record { readers = f.readers; postings = postings; oldest = f.oldest; last = f.last }) history
   remade postings same = record {
     numbered = s.numbered;
     begun = s.begun;
     no_pivot = s.no_pivot;
     last = s.last;
-    reads = s.reads;
+    readers = s.readers;
     writers = writers_remade f.oldest f.postings postings kept s.writers same;
   }
 
@@ -188,14 +176,14 @@ clear_is f t e = sym (λ i. verdict_found (are_in_order (sym e i) (source f t)) 
 
 -- the transaction commits as number n
 pub notes : (f : Facts) (history : List Record) → StandsFor f history → (t : View) → IsInReach f t → (n : ℕ) → n ≡ f.last + 1 → (r : Record) → IsRecordOf t n r → IsClear f t
-    → (flag : Bool) → flag ≡ is_some (target f t) → (marks : List Mark) → marks ≡ t.marks → (keys : List Bytes) → keys ≡ keys_of t.writes
-    → (reads : List ReadRecord) → reads ≡ f.records ++ record { commit = n; marks = marks } ∷ []
+    → (flag : Bool) → flag ≡ is_some (target f t) → (keys : List Bytes) → keys ≡ keys_of t.writes
+    → (readers : Readers) → IsNoted t.marks n f.readers readers
     → (postings : List Posting) → ((c : Posting → Bool) → least c postings ≡ lesser (least c f.postings) (least c (postings_by n flag keys)))
-    → (oldest : ℕ) → oldest ≡ f.oldest → StandsFor (record { records = reads; postings = postings; oldest = oldest; last = n }) (history ++ r ∷ [])
-notes f history s t reach n next r own clear flag flag_is marks marks_is keys keys_is reads reads_is postings has oldest oldest_is =
+    → (oldest : ℕ) → oldest ≡ f.oldest → StandsFor (record { readers = readers; postings = postings; oldest = oldest; last = n }) (history ++ r ∷ [])
+notes f history s t reach n next r own clear flag flag_is keys keys_is readers read postings has oldest oldest_is =
     let own' : IsRecordOf t (f.last + 1) r = subst (λ m. IsRecordOf t m r) next own in
-    subst (λ (g : Facts). StandsFor g (history ++ r ∷ [])) (λ i. record { records = reads; postings = postings; oldest = sym oldest_is i; last = sym next i })
-    (noted f history s t reach r own' (clear history s r own') reads (reads_is ∙ (λ i. f.records ++ record { commit = next i; marks = marks_is i } ∷ []))
+    subst (λ (g : Facts). StandsFor g (history ++ r ∷ [])) (λ i. record { readers = readers; postings = postings; oldest = sym oldest_is i; last = sym next i })
+    (noted f history s t reach r own' (clear history s r own') readers (subst (λ m. IsNoted t.marks m f.readers readers) next read)
     postings (λ c. has c ∙ (λ i. lesser (least c f.postings) (least c (postings_by (next i) (flag_is i) (keys_is i))))))
 
 pub nothing : {X : Type 0} (xs : List X) → length xs ≡ 0 → xs ≡ []

@@ -1,11 +1,11 @@
 pub mod Lists
 pub mod Ends
 pub mod Histories
-pub mod Rising
-pub mod Above
+pub mod LastSources
 pub mod Order
 pub mod Writers
 pub mod Adding
+pub mod Passing
 pub mod Walks
 pub mod Judging
 pub mod Joined

@@ -1,8 +1,8 @@
--- A walk over the postings from where a mark may begin to cover keys, up to the first that it doesn't cover.
+-- Which postings a mark covers, and walks over marks and runs.
 use Rattle.std.proofs.Common.{◌≡◌, ◌≤◌, ◌<◌, ℕ, zero, suc, Bool, true, false, not, cond, ◌&&◌, ◌||◌, List, [], ◌∷◌, Option, Some, None, length, get_or, take, drop, refl, sym, ap, ◌∙◌, arith}
-use Rattle.std.specs.Prelude.{nat_lt, min, is_some, ◌++◌}
+use Rattle.std.specs.Prelude.{nat_lt, min, is_some, ◌++◌, slice_get}
 use Rattle.std.specs.List.{list_all, insert, filter}
-use Rattle.std.proofs.lemmas.List.{take-append-drop}
+use Rattle.std.proofs.lemmas.List.{take-append-drop, drop_all}
 use Rattle.std.specs.List.Sorted.{IsPartitionPoint, IsPartitionedBy}
 use Rattle.std.specs.declared.cmp.Ordering.{Ordering}
 use Rattle.std.specs.declared.cmp.Ordering.TheVariants.{Less, Equal, Greater}
@@ -16,73 +16,82 @@ use Rattle.marks.specs.declared.held.Held.{Held}
 use Rattle.marks.specs.Marked.{mark_of, marks_of}
 use Rattle.marks.specs.Sorted.{start_of}
 use Rattle.marks.proofs.SortedItems.{covers_below, covers_above}
-use Rattle.pivot_check.specs.Postings.{Posting, keys_rise, are_from, are_upto, least, lesser, asked_of, covered_of}
+use Rattle.pivot_check.specs.Postings.{Posting, keys_rise, are_from, least, lesser, asked_of, covered_of}
 use Rattle.pivot_check.proofs.Order.{lt_trans, above_both, from_lo}
 use Rattle.pivot_check.specs.declared.run.Run.{Run}
 use Rattle.pivot_check.specs.Inside.{postings_in}
-use Rattle.pivot_check.proofs.Writers.{lesser_none, lesser_assoc, some_lesser, and_false, least-append, placed}
+use Rattle.pivot_check.proofs.Writers.{lesser_none, lesser_assoc, some_lesser, least-append, placed}
 
 less : (o : Ordering) → is_lt o ≡ true → o ≡ Less
 less Less h = refl
 less Equal h = absurd (both_ways false refl h)
 less Greater h = absurd (both_ways false refl h)
 
-not_covered : (m : Mark) (b : ℕ) (flagged : Bool) (p : Posting) → covers m p.key ≡ false → asked_of m b flagged p ≡ false
-not_covered m b flagged p e = ap (λ c. c && (nat_lt b p.number && (p.has_earlier_target || not flagged))) e
+all_at : (p : Posting) (ps : List Posting) (j : ℕ) (d : Posting) → list_all (λ q. is_le (key_cmp p.key q.key)) ps ≡ true → j < length ps → is_le (key_cmp p.key (get_or ps j d).key) ≡ true
+all_at p [] j d h lt = absurd (omega arith)
+all_at p (q ∷ ps) zero d h lt = (and_parts _ _ h).0
+all_at p (q ∷ ps) (suc j) d h lt = all_at p ps j d (and_parts _ _ h).1 (omega arith)
+
+not_covered : (m : Mark) (c : Posting → Bool) (p : Posting) → covers m p.key ≡ false → (covers m p.key && c p) ≡ false
+not_covered m c p e = ap (λ x. x && c p) e
 
 -- none behind one that isn't covered
-none_behind : (m : Mark) (b : ℕ) (flagged : Bool) (p : Posting) (ps : List Posting) → list_all (λ q. is_le (key_cmp p.key q.key)) ps ≡ true →
-    is_lt (key_cmp p.key (start_of m)) ≡ false → covers m p.key ≡ false → least (asked_of m b flagged) ps ≡ None
-none_behind m b flagged p [] h from e = refl
-none_behind m b flagged p (q ∷ ps) h from e =
-    let parts = and_parts (is_le (key_cmp p.key q.key)) _ h in
-    ap (λ c. lesser (cond c (Some q.number) None) (least (asked_of m b flagged) ps)) (not_covered m b flagged q (by (key_cmp p.key q.key) refl parts.0))
-    ∙ none_behind m b flagged p ps parts.1 from e
+later_uncovered : (m : Mark) (p q : Posting) → is_le (key_cmp p.key q.key) ≡ true → is_lt (key_cmp p.key (start_of m)) ≡ false → covers m p.key ≡ false → covers m q.key ≡ false
+later_uncovered m p q le from e = by (key_cmp p.key q.key) refl le
   where
     by : (o : Ordering) → key_cmp p.key q.key ≡ o → is_le o ≡ true → covers m q.key ≡ false
     by Less g t = covers_above m p.key q.key from e g
     by Equal g t = ap (covers m) (sym (exact_bytes p.key q.key g)) ∙ e
     by Greater g t = absurd (both_ways _ refl t)
 
-pub stops : (m : Mark) (b : ℕ) (flagged : Bool) (ps : List Posting) (i : ℕ) (p : Posting) (found whole : Option ℕ) → i < length ps → p ≡ get_or ps i p → keys_rise ps ≡ true → are_from (start_of m) ps ≡ true →
-    covers m p.key ≡ false → lesser found (least (asked_of m b flagged) (drop i ps)) ≡ whole → found ≡ whole
-stops m b flagged ps i p found whole lt is rising from e known = sym (lesser_none found) ∙ ap (lesser found) (sym (none ps i lt is rising from)) ∙ known
-  where
-    from_not : (x : Bool) → not x ≡ true → x ≡ false
-    from_not true g = sym g
-    from_not false g = refl
+none_behind : (m : Mark) (c : Posting → Bool) (p : Posting) (ps : List Posting) → list_all (λ q. is_le (key_cmp p.key q.key)) ps ≡ true →
+    is_lt (key_cmp p.key (start_of m)) ≡ false → covers m p.key ≡ false → least (λ q. covers m q.key && c q) ps ≡ None
+none_behind m c p [] h from e = refl
+none_behind m c p (q ∷ ps) h from e =
+    let parts = and_parts (is_le (key_cmp p.key q.key)) _ h in
+    ap (λ x. lesser (cond x (Some q.number) None) (least (λ q. covers m q.key && c q) ps)) (not_covered m c q (later_uncovered m p q parts.0 from e))
+    ∙ none_behind m c p ps parts.1 from e
 
-    none : (ps : List Posting) (i : ℕ) → i < length ps → p ≡ get_or ps i p → keys_rise ps ≡ true → are_from (start_of m) ps ≡ true → least (asked_of m b flagged) (drop i ps) ≡ None
-    none [] i lt is rising from = absurd (omega arith)
-    none (q ∷ ps) zero lt is rising from =
-        let e' : covers m q.key ≡ false = ap (λ (x : Posting). covers m x.key) (sym is) ∙ e in
-        ap (λ c. lesser (cond c (Some q.number) None) (least (asked_of m b flagged) ps)) (not_covered m b flagged q e')
-        ∙ none_behind m b flagged q ps (and_parts _ _ rising).0 (from_not _ (and_parts _ _ from).0) e'
-    none (q ∷ ps) (suc i) lt is rising from = none ps i (omega arith) is (and_parts _ _ rising).1 (and_parts _ _ from).1
+from_not : (x : Bool) → not x ≡ true → x ≡ false
+from_not true g = sym g
+from_not false g = refl
 
-pub goes_on : (m : Mark) (b : ℕ) (flagged : Bool) (ps : List Posting) (i : ℕ) (p : Posting) (found next whole : Option ℕ) → i < length ps → p ≡ get_or ps i p → covers m p.key ≡ true →
-    next ≡ lesser found (cond (nat_lt b p.number && (p.has_earlier_target || not flagged)) (Some p.number) None) →
-    lesser found (least (asked_of m b flagged) (drop i ps)) ≡ whole → lesser next (least (asked_of m b flagged) (drop (suc i) ps)) ≡ whole
-goes_on m b flagged ps i p found next whole lt is covered more known =
-    ap (λ o. lesser o (least (asked_of m b flagged) (drop (suc i) ps))) more
-    ∙ lesser_assoc found (cond (nat_lt b p.number && (p.has_earlier_target || not flagged)) (Some p.number) None) (least (asked_of m b flagged) (drop (suc i) ps))
-    ∙ ap (lesser found) (ap (λ c. lesser (cond (c && (nat_lt b p.number && (p.has_earlier_target || not flagged))) (Some p.number) None) (least (asked_of m b flagged) (drop (suc i) ps))) (sym covered) ∙ split ps i lt is)
-    ∙ known
-  where
-    split : (ps : List Posting) (i : ℕ) → i < length ps → p ≡ get_or ps i p →
-        lesser (cond (asked_of m b flagged p) (Some p.number) None) (least (asked_of m b flagged) (drop (suc i) ps)) ≡ least (asked_of m b flagged) (drop i ps)
-    split [] i lt is = absurd (omega arith)
-    split (q ∷ ps) zero lt is = ap (λ (x : Posting). lesser (cond (asked_of m b flagged x) (Some x.number) None) (least (asked_of m b flagged) ps)) is
-    split (q ∷ ps) (suc i) lt is = split ps i (omega arith) is
+pub none_first : (m : Mark) (c : Posting → Bool) (ps : List Posting) → None ≡ slice_get ps 0 → least (λ p. covers m p.key && c p) ps ≡ None
+none_first m c [] e = refl
+none_first m c (p ∷ ps) e = cc
 
-pub ends : (m : Mark) (b : ℕ) (flagged : Bool) (ps : List Posting) (i : ℕ) (found whole : Option ℕ) → length ps ≤ i → lesser found (least (asked_of m b flagged) (drop i ps)) ≡ whole → found ≡ whole
-ends m b flagged ps i found whole le known = sym (lesser_none found) ∙ ap (λ l. lesser found (least (asked_of m b flagged) l)) (sym (past ps i le)) ∙ known
+-- where the first isn't covered, none is
+pub first_uncovered : (m : Mark) (c : Posting → Bool) (ps : List Posting) (p : Posting) → Some p ≡ slice_get ps 0 → keys_rise ps ≡ true → are_from (start_of m) ps ≡ true → covers m p.key ≡ false → least (λ p. covers m p.key && c p) ps ≡ None
+first_uncovered m c [] p is rising from e = refl
+first_uncovered m c (q ∷ ps) p is rising from e =
+    let same : p ≡ q = cc in
+    let e' : covers m q.key ≡ false = ap (λ (x : Posting). covers m x.key) (sym same) ∙ e in
+    ap (λ x. lesser (cond x (Some q.number) None) (least (λ p. covers m p.key && c p) ps)) (not_covered m c q e')
+    ∙ none_behind m c q ps (and_parts _ _ rising).0 (from_not _ (and_parts _ _ from).0) e'
+
+-- those that are covered stand first
+pub parted_covered : (m : Mark) (ps : List Posting) → keys_rise ps ≡ true → are_from (start_of m) ps ≡ true → IsPartitionedBy (λ p. covers m p.key) ps
+parted_covered m [] h from i j d le lt e = absurd (omega arith)
+parted_covered m (p ∷ ps) h from zero zero d le lt e = e
+parted_covered m (p ∷ ps) h from zero (suc j) d le lt e =
+    by (covers m p.key) refl (later_uncovered m p (get_or ps j d) (all_at p ps j d (and_parts _ _ h).0 (omega arith)) (from_not _ (and_parts _ _ from).0))
   where
-    past : (ps : List Posting) (i : ℕ) → length ps ≤ i → drop i ps ≡ []
-    past [] zero le = refl
-    past [] (suc i) le = refl
-    past (p ∷ ps) zero le = absurd (omega arith)
-    past (p ∷ ps) (suc i) le = past ps i (omega arith)
+    by : (x : Bool) → covers m p.key ≡ x → (covers m p.key ≡ false → covers m (get_or ps j d).key ≡ false) → x ≡ true
+    by true g later = refl
+    by false g later = absurd (both_ways _ (later g) e)
+parted_covered m (p ∷ ps) h from (suc i) zero d le lt e = absurd (omega arith)
+parted_covered m (p ∷ ps) h from (suc i) (suc j) d le lt e = parted_covered m ps (and_parts _ _ h).1 (and_parts _ _ from).1 i j d (omega arith) (omega arith) e
+
+pub covered_first : (m : Mark) (c : Posting → Bool) (ps : List Posting) (i : ℕ) → IsPartitionPoint (λ p. covers m p.key ≡ true) (λ p. covers m p.key ≡ false) ps i
+    → least (λ p. covers m p.key && c p) ps ≡ least c (take i ps)
+covered_first m c [] zero h = refl
+covered_first m c [] (suc i) h = refl
+covered_first m c (p ∷ ps) zero h =
+    ap (λ x. lesser (cond x (Some p.number) None) (least (λ p. covers m p.key && c p) ps)) (not_covered m c p (h.1 0 p (omega arith) (omega arith)))
+    ∙ covered_first m c ps zero ((λ k d low high. absurd (omega arith)), (λ k d low high. h.1 (suc k) d (omega arith) (omega arith)))
+covered_first m c (p ∷ ps) (suc i) h =
+    ap (λ x. lesser (cond (x && c p) (Some p.number) None) (least (λ p. covers m p.key && c p) ps)) (h.0 0 p (omega arith) (omega arith))
+    ∙ ap (lesser (cond (c p) (Some p.number) None)) (covered_first m c ps i ((λ k d low high. h.0 (suc k) d (omega arith) (omega arith)), (λ k d low high. h.1 (suc k) d (omega arith) (omega arith))))
 
 -- ---- where the walk begins
 
@@ -93,11 +102,6 @@ from_le a b low le lt = by (key_cmp a b) refl le
     by Less g t = lt_trans a b low (ap is_lt g) lt
     by Equal g t = ap (λ k. is_lt (key_cmp k low)) (exact_bytes a b g) ∙ lt
     by Greater g t = absurd (both_ways _ refl t)
-
-all_at : (p : Posting) (ps : List Posting) (j : ℕ) (d : Posting) → list_all (λ q. is_le (key_cmp p.key q.key)) ps ≡ true → j < length ps → is_le (key_cmp p.key (get_or ps j d).key) ≡ true
-all_at p [] j d h lt = absurd (omega arith)
-all_at p (q ∷ ps) zero d h lt = (and_parts _ _ h).0
-all_at p (q ∷ ps) (suc j) d h lt = all_at p ps j d (and_parts _ _ h).1 (omega arith)
 
 pub parted : (low : Bytes) (ps : List Posting) → keys_rise ps ≡ true → IsPartitionedBy (λ p. is_lt (key_cmp p.key low)) ps
 parted low [] h i j d le lt e = absurd (omega arith)
@@ -117,13 +121,13 @@ rest_from low [] (suc i) h = refl
 rest_from low (p ∷ ps) zero h = and_from _ _ (ap not (h.1 0 p (omega arith) (omega arith))) (rest_from low ps zero ((λ k d low high. absurd (omega arith)), (λ k d low high. h.1 (suc k) d (omega arith) (omega arith))))
 rest_from low (p ∷ ps) (suc i) h = rest_from low ps i ((λ k d low high. h.0 (suc k) d (omega arith) (omega arith)), (λ k d low high. h.1 (suc k) d (omega arith) (omega arith)))
 
-pub rest_decides : (m : Mark) (b : ℕ) (flagged : Bool) (ps : List Posting) (i : ℕ) → i ≤ length ps →
-    IsPartitionPoint (λ p. is_lt (key_cmp p.key (start_of m)) ≡ true) (λ p. is_lt (key_cmp p.key (start_of m)) ≡ false) ps i → least (asked_of m b flagged) (drop i ps) ≡ least (asked_of m b flagged) ps
-rest_decides m b flagged ps zero le h = refl
-rest_decides m b flagged [] (suc i) le h = refl
-rest_decides m b flagged (p ∷ ps) (suc i) le h =
-    rest_decides m b flagged ps i (omega arith) ((λ k d low high. h.0 (suc k) d (omega arith) (omega arith)), (λ k d low high. h.1 (suc k) d (omega arith) (omega arith)))
-    ∙ sym (ap (λ c. lesser (cond c (Some p.number) None) (least (asked_of m b flagged) ps)) (not_covered m b flagged p (covers_below m p.key (less _ (h.0 0 p (omega arith) (omega arith))))))
+pub rest_decides : (m : Mark) (c : Posting → Bool) (ps : List Posting) (i : ℕ) → i ≤ length ps →
+    IsPartitionPoint (λ p. is_lt (key_cmp p.key (start_of m)) ≡ true) (λ p. is_lt (key_cmp p.key (start_of m)) ≡ false) ps i → least (λ p. covers m p.key && c p) ps ≡ least (λ p. covers m p.key && c p) (drop i ps)
+rest_decides m c ps zero le h = refl
+rest_decides m c [] (suc i) le h = refl
+rest_decides m c (p ∷ ps) (suc i) le h =
+    ap (λ x. lesser (cond x (Some p.number) None) (least (λ p. covers m p.key && c p) ps)) (not_covered m c p (covers_below m p.key (less _ (h.0 0 p (omega arith) (omega arith)))))
+    ∙ rest_decides m c ps i (omega arith) ((λ k d low high. h.0 (suc k) d (omega arith) (omega arith)), (λ k d low high. h.1 (suc k) d (omega arith) (omega arith)))
 
 -- ---- one more posting
 
@@ -173,6 +177,18 @@ inserted_rises p (q ∷ ps) (suc i) le rising h =
 
 pub inserted_least : (c : Posting → Bool) (ps : List Posting) (i : ℕ) (p : Posting) → least c (insert ps i p) ≡ lesser (least c ps) (least c (p ∷ []))
 inserted_least c ps i p = placed (take i ps) (drop i ps) p c ∙ ap (λ l. lesser (least c l) (least c (p ∷ []))) (take-append-drop i ps)
+
+-- ---- several postings
+
+pub next_posting : (c : Posting → Bool) (ps : List Posting) (i : ℕ) (p : Posting) (found next whole : Option ℕ) → i < length ps → p ≡ get_or ps i p → next ≡ lesser found (cond (c p) (Some p.number) None) →
+    lesser found (least c (drop i ps)) ≡ whole → lesser next (least c (drop (suc i) ps)) ≡ whole
+next_posting c [] i p found next whole lt is more known = absurd (omega arith)
+next_posting c (q ∷ ps) zero p found next whole lt is more known =
+    ap (λ o. lesser o (least c ps)) (more ∙ ap (λ (x : Posting). lesser found (cond (c x) (Some x.number) None)) is) ∙ lesser_assoc found (cond (c q) (Some q.number) None) (least c ps) ∙ known
+next_posting c (q ∷ ps) (suc i) p found next whole lt is more known = next_posting c ps i p found next whole (omega arith) is more known
+
+pub no_posting_left : (c : Posting → Bool) (ps : List Posting) (i : ℕ) (found whole : Option ℕ) → length ps ≤ i → lesser found (least c (drop i ps)) ≡ whole → found ≡ whole
+no_posting_left c ps i found whole le known = sym (lesser_none found) ∙ ap (λ l. lesser found (least c l)) (sym (drop_all i ps le)) ∙ known
 
 -- ---- several marks
 
@@ -254,31 +270,6 @@ no_run_left c rs i found whole le known = sym (lesser_none found) ∙ ap (λ (l 
     past [] (suc i) le = refl
     past (r ∷ rs) zero le = absurd (omega arith)
     past (r ∷ rs) (suc i) le = past rs i (omega arith)
-
--- a run without later numbers has none to answer
-none_asked_later : (d : Bytes → Bool) (b last : ℕ) (flagged : Bool) → last ≤ b → (ps : List Posting) → least (λ p. nat_lt last p.number) ps ≡ None
-    → least (λ p. d p.key && (nat_lt b p.number && (p.has_earlier_target || not flagged))) ps ≡ None
-none_asked_later d b last flagged le [] e = refl
-none_asked_later d b last flagged le (p ∷ ps) e = by_number (nat_lt last p.number) refl e (none_asked_later d b last flagged le ps)
-  where
-    later : nat_lt last p.number ≡ false → (d p.key && (nat_lt b p.number && (p.has_earlier_target || not flagged))) ≡ false
-    later f = ap (λ x. d p.key && (x && (p.has_earlier_target || not flagged))) (le-ltb b p.number (let l = ltb-false last p.number f in omega arith)) ∙ and_false (d p.key)
-
-    by_number : (x : Bool) → nat_lt last p.number ≡ x → lesser (cond x (Some p.number) None) (least (λ p. nat_lt last p.number) ps) ≡ None
-        → (least (λ p. nat_lt last p.number) ps ≡ None → least (λ p. d p.key && (nat_lt b p.number && (p.has_earlier_target || not flagged))) ps ≡ None)
-        → lesser (cond (d p.key && (nat_lt b p.number && (p.has_earlier_target || not flagged))) (Some p.number) None) (least (λ p. d p.key && (nat_lt b p.number && (p.has_earlier_target || not flagged))) ps) ≡ None
-    by_number true f g rest = absurd (some_lesser p.number (least (λ p. nat_lt last p.number) ps) g)
-    by_number false f g rest = ap (λ y. lesser (cond y (Some p.number) None) (least (λ p. d p.key && (nat_lt b p.number && (p.has_earlier_target || not flagged))) ps)) (later f) ∙ rest g
-
-none_some : (o : Option ℕ) → not (is_some o) ≡ true → o ≡ None
-none_some None e = refl
-none_some (Some n) e = absurd (both_ways _ refl e)
-
-pub none_later : (m : Mark) (b last : ℕ) (flagged : Bool) (ps : List Posting) → are_upto last ps ≡ true → last ≤ b → None ≡ least (asked_of m b flagged) ps
-none_later m b last flagged ps upto le = sym (none_asked_later (covers m) b last flagged le ps (none_some (least (λ p. nat_lt last p.number) ps) upto))
-
-pub none_covered : (ms : List Mark) (b last : ℕ) (flagged : Bool) (ps : List Posting) → are_upto last ps ≡ true → last ≤ b → None ≡ least (covered_of ms b flagged) ps
-none_covered ms b last flagged ps upto le = sym (none_asked_later (is_covered ms) b last flagged le ps (none_some (least (λ p. nat_lt last p.number) ps) upto))
 
 none_above : (o last : ℕ) (c : Posting → Bool) → last ≤ o → (ps : List Posting) → least (λ p. nat_lt last p.number) ps ≡ None → least (λ p. nat_lt o p.number && c p) ps ≡ None
 none_above o last c le [] e = refl

@@ -4,7 +4,8 @@ use Rattle.model.specs.Map.{Bytes}
 use Rattle.model.specs.PrivateCopy.Mark.{OfKey}
 use Rattle.snapshot.specs.View.{View}
 use Rattle.pivot_check.specs.declared.verdict.Verdict.{Verdict}
-use Rattle.pivot_check.specs.Kept.{Facts, reads_since, last_read, is_source, are_in_order}
+use Rattle.pivot_check.specs.Kept.{Facts, keys_of, last_source, are_in_order}
+use Rattle.last_readers.specs.Readers.{last_reader}
 use Rattle.pivot_check.specs.Postings.{Posting, least, asked_of, covered_of}
 use Rattle.pivot_check.specs.StandsFor.{verdict_found}
 
@@ -18,7 +19,7 @@ target f t = least (covered_of t.marks t.begin false) f.postings
 
 -- the last concurrent one that has read a key of its own
 abbrev pub source : Facts → View → Option ℕ
-source f t = last_read (is_source t) (reads_since f t.begin)
+source f t = last_source (last_reader f.readers) t.begin (keys_of t.writes)
 
 -- the first one that it makes a dangerous pivot
 abbrev pub other_pivot : Facts → View → Option ℕ

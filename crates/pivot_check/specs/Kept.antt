@@ -1,9 +1,10 @@
 -- What is kept of committed transactions, so that a commit can be checked once older ones are forgotten.
-use Rattle.std.specs.Prelude.{◌≡◌, ℕ, ◌<◌, ◌≤◌, nat_le, Bool, false, ◌&&◌, List, [], ◌∷◌, Option, Some, None, find, option_map, map, length, drop, ◌-◌, if◌then◌else◌}
-use Rattle.std.specs.List.{list_any, AllByRecursion}
+use Rattle.std.specs.Prelude.{◌≡◌, ℕ, ◌<◌, ◌≤◌, nat_le, Bool, false, ◌&&◌, List, [], ◌∷◌, Option, Some, None, find, option_map, map, length, drop, max, ◌-◌, if◌then◌else◌}
+use Rattle.std.specs.List.{list_any}
 use Rattle.model.specs.Map.{Bytes, KeyWrite, is_same_key}
 use Rattle.model.specs.PrivateCopy.{Mark, is_covered}
 use Rattle.snapshot.specs.View.{View}
+use Rattle.last_readers.specs.Readers.{Readers, ReadersRoom, last_reader, after, HasRoom as HasReadersRoom}
 use Rattle.pivot_check.specs.Postings.{Posting}
 
 -- what the check needs of a committed transaction: the marks of what it read, the keys that it wrote by rising key, and whether it has a
@@ -21,15 +22,9 @@ pub record KeptFacts : Type 0 where
   pub oldest : ℕ
   pub last : ℕ
 
--- what is kept of the reads of a committed transaction
-pub record ReadRecord : Type 0 where
-  pub commit : ℕ
-  pub marks : List Mark
-
--- what is kept of committed transactions: the reads of those with a commit number above `oldest`, in the order of their commits; the
--- keys that they wrote, and perhaps some that older ones wrote; and the last commit number
+-- what is kept of committed transactions: of each key the last one that has read it, of those with a number above `oldest`; the keys that they wrote, and perhaps some that older ones wrote; and the last commit number
 pub record Facts : Type 0 where
-  pub records : List ReadRecord
+  pub readers : Readers
   pub postings : List Posting
   pub oldest : ℕ
   pub last : ℕ
@@ -43,9 +38,6 @@ keys_of ws = map key_of ws
 -- the records that committed after `begin`: the commit numbers of the records kept are the last ones, without gaps
 abbrev pub since : KeptFacts → ℕ → List KeptRecord
 since f begin = drop (length f.records - (f.last - begin)) f.records
-
-abbrev pub reads_since : Facts → ℕ → List ReadRecord
-reads_since f begin = drop (length f.records - (f.last - begin)) f.records
 
 -- whether one of the records has written the key
 abbrev pub is_written : List KeptRecord → Bytes → Bool
@@ -102,17 +94,32 @@ own_record rs t n = record {
   has_earlier_target = list_any (λ r. follows r t) rs;
 }
 
--- whether a read-write dependency leads to the transaction that commits next from the concurrent one that has these reads
-abbrev pub is_source : View → ReadRecord → Bool
-is_source t r = list_any (is_covered r.marks) (keys_of t.writes)
+-- the greater of two numbers that may be there
+abbrev pub greater : Option ℕ → Option ℕ → Option ℕ
+greater None o = o
+greater (Some n) None = Some n
+greater (Some n) (Some m) = Some (max n m)
 
--- the commit number of the last of the reads that pass
-abbrev pub last_read : (ReadRecord → Bool) → List ReadRecord → Option ℕ
-last_read p rs = option_map (λ r. r.commit) (last_that p rs)
+-- the greatest of the last readers of these keys that has a number above `begin`
+abbrev pub last_source : (Bytes → ℕ) → ℕ → List Bytes → Option ℕ
+last_source readers begin [] = None
+last_source readers begin (k ∷ ks) = greater (after begin (readers k)) (last_source readers begin ks)
 
--- the reads of transactions that committed after that number
-abbrev pub AreAbove : ℕ → List ReadRecord → Type 0
-AreAbove oldest rs = AllByRecursion (λ r. oldest < r.commit) rs
+-- no last reader has a number up to that one
+abbrev pub AreAbove : ℕ → (Bytes → ℕ) → Type 0
+AreAbove oldest readers = (k : Bytes) → 0 < readers k → oldest < readers k
+
+-- of the reads of commits up to that number nothing is kept
+pub record HasForgotten (oldest : ℕ) (f : Facts) : Type 0 where
+  pub upto : oldest ≤ f.oldest
+  pub readers : AreAbove oldest (last_reader f.readers)
+
+-- nothing is kept
+pub record IsEmpty (f : Facts) : Type 0 where
+  pub readers : (k : Bytes) → last_reader f.readers k ≡ 0
+  pub postings : f.postings ≡ []
+  pub oldest : f.oldest ≡ 0
+  pub last : f.last ≡ 0
 
 -- a transaction that may ask: it began with a commit number that was given, and with none that was forgotten
 pub record IsInReach (f : Facts) (t : View) : Type 0 where
@@ -123,15 +130,15 @@ pub record IsKeptReach (f : KeptFacts) (t : View) : Type 0 where
   pub begun : t.begin ≤ f.last
   pub held : f.oldest ≤ t.begin
 
--- the memory that was made ready: free places for reads and for runs of written keys, and the marks and keys of a transaction
+-- the memory that was made ready: that of the last readers, free places for runs of written keys, and the keys of a transaction
 pub record Room : Type 0 where
-  pub places : ℕ
+  pub readers : ReadersRoom
   pub runs : ℕ
-  pub ready : Option (List Mark × List Bytes)
+  pub ready : Option (List Bytes)
 
 -- there is room for what is kept of the transaction
 abbrev pub HasRoom : Room → View → Type 0
-HasRoom room t = (0 < room.places) × (0 < room.runs) × (room.ready ≡ Some (t.marks, keys_of t.writes))
+HasRoom room t = HasReadersRoom t.marks room.readers × (0 < room.runs) × (room.ready ≡ Some (keys_of t.writes))
 
 pub record CommittedValue : Type 0 where
   pub facts : Facts

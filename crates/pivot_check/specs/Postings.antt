@@ -1,5 +1,5 @@
 -- Written keys of committed transactions, and the least number among them.
-use Rattle.std.specs.Prelude.{ℕ, min, Bool, true, not, ◌&&◌, ◌||◌, List, [], ◌∷◌, Option, Some, None, is_some, if◌then◌else◌, nat_lt}
+use Rattle.std.specs.Prelude.{ℕ, ◌-◌, min, Bool, true, not, ◌&&◌, ◌||◌, List, [], ◌∷◌, Option, Some, None, is_some, if◌then◌else◌, nat_lt, take, drop}
 use Rattle.std.specs.List.{list_all}
 use Rattle.std.specs.Ordering.{is_le, is_lt}
 use Rattle.model.specs.Map.{Bytes, key_cmp}
@@ -27,12 +27,16 @@ abbrev pub least : (Posting → Bool) → List Posting → Option ℕ
 least c [] = None
 least c (p ∷ ps) = lesser (if c p then Some p.number else None) (least c ps)
 
--- what is asked of a posting: its key is covered, its number above b, and it has the flag where that is asked
+-- what is asked of a posting besides its key: its number is above b, and it has the flag where that is asked
+abbrev pub is_asked : ℕ → Bool → Posting → Bool
+is_asked b flagged p = nat_lt b p.number && (p.has_earlier_target || not flagged)
+
+-- what is asked of a posting: its key is covered, and the rest
 abbrev pub asked_of : Mark → ℕ → Bool → Posting → Bool
-asked_of m b flagged p = covers m p.key && (nat_lt b p.number && (p.has_earlier_target || not flagged))
+asked_of m b flagged p = covers m p.key && is_asked b flagged p
 
 abbrev pub covered_of : List Mark → ℕ → Bool → Posting → Bool
-covered_of ms b flagged p = is_covered ms p.key && (nat_lt b p.number && (p.has_earlier_target || not flagged))
+covered_of ms b flagged p = is_covered ms p.key && is_asked b flagged p
 
 -- the postings stand by rising key, those of one key beside one another
 abbrev pub keys_rise : List Posting → Bool
@@ -46,3 +50,7 @@ are_from low ps = list_all (λ p. not (is_lt (key_cmp p.key low))) ps
 -- whether no posting has a number above this one
 abbrev pub are_upto : ℕ → List Posting → Bool
 are_upto last ps = not (is_some (least (λ p. nat_lt last p.number) ps))
+
+-- the postings from one place to before another
+abbrev pub between : ℕ → ℕ → List Posting → List Posting
+between from end ps = take (end - from) (drop from ps)

@@ -1,16 +1,18 @@
 -- The histories for which what is kept stands, and what the check of a commit says about them.
-use Rattle.std.specs.Prelude.{◌≡◌, ℕ, ◌<◌, ◌+◌, Bool, true, false, ◌&&◌, List, [], ◌∷◌, ◌++◌, Option, Some, None, map, nat_lt, length, All, slice_get, ⊤}
+use Rattle.std.specs.Prelude.{◌≡◌, ℕ, ◌<◌, ◌+◌, Bool, true, false, ◌&&◌, List, [], ◌∷◌, ◌++◌, Option, Some, None, map, max, nat_lt, if◌then◌else◌, length, All, slice_get, ⊤}
 use Rattle.std.specs.List.{list_any, filter}
 use Rattle.model.specs.declared.refusals.Refusal.{Refusal}
 use Rattle.model.specs.declared.refusals.Refusal.TheVariants as refusal
 use Rattle.pivot_check.specs.declared.verdict.Verdict.{Verdict}
 use Rattle.pivot_check.specs.declared.verdict.Verdict.TheVariants.{Clear, Overwritten, PivotSelf, Pivot}
-use Rattle.model.specs.Map.{KeyWrite}
+use Rattle.model.specs.Map.{Bytes, KeyWrite}
+use Rattle.model.specs.PrivateCopy.{is_covered}
 use Rattle.model.specs.History.{Record, IsNumberedFrom}
 use Rattle.model.specs.Dependency.{concurrent_read_write}
 use Rattle.model.specs.Verdict.{verdict, HasNoDangerousPivot}
 use Rattle.snapshot.specs.View.{View}
-use Rattle.pivot_check.specs.Kept.{KeptRecord, KeptFacts, ReadRecord, Facts, keys_of}
+use Rattle.last_readers.specs.Readers.{cut, last_reader}
+use Rattle.pivot_check.specs.Kept.{KeptRecord, KeptFacts, Facts, keys_of}
 use Rattle.pivot_check.specs.Postings.{Posting, postings_by, least}
 
 -- what is kept of a record of the history, the whole of which decides its flag
@@ -35,8 +37,18 @@ pub record KeptStandsFor (f : KeptFacts) (history : List Record) : Type 0 where
   pub last : f.last ≡ length history
   pub records : f.records ≡ kept_above f.oldest history
 
-abbrev pub reads_of : KeptRecord → ReadRecord
-reads_of r = record { commit = r.commit; marks = r.marks }
+-- the greatest commit number of the records that pass, 0 where none does
+abbrev pub greatest : (Record → Bool) → List Record → ℕ
+greatest p [] = 0
+greatest p (r ∷ rs) = max (if p r then r.commit else 0) (greatest p rs)
+
+-- the commit number of the last record of the history that has read the key
+abbrev pub last_reader_in : List Record → Bytes → ℕ
+last_reader_in history k = greatest (λ r. is_covered r.reads k) history
+
+-- above that number the last readers are those of the history
+abbrev pub AreReaders : ℕ → (Bytes → ℕ) → List Record → Type 0
+AreReaders oldest readers history = (k : Bytes) → readers k ≡ cut oldest (last_reader_in history k)
 
 abbrev pub postings_of : KeptRecord → List Posting
 postings_of r = postings_by r.commit r.has_earlier_target r.keys
@@ -55,7 +67,7 @@ pub record StandsFor (f : Facts) (history : List Record) : Type 0 where
   pub begun : All (λ r. r.begin < r.commit) history
   pub no_pivot : HasNoDangerousPivot history
   pub last : f.last ≡ length history
-  pub reads : f.records ≡ map reads_of (kept_above f.oldest history)
+  pub readers : AreReaders f.oldest (last_reader f.readers) history
   pub writers : AreWriters f.oldest f.postings (kept_above f.oldest history)
 
 -- the record of the transaction that commits as number n

@@ -1,19 +1,19 @@
 //! The committed transactions.
-ghost use Rattle.std.specs.Prelude.{◌≡◌, ◌+◌, ◌<◌, ◌≤◌, List, [], ◌∷◌, ◌++◌, length, max, nat_lt, All, OnOk, ◌-◌};
-ghost use Rattle.std.specs.List.{filter};
+ghost use Rattle.std.specs.Prelude.{◌≡◌, ◌+◌, ◌≤◌, List, [], ◌∷◌, ◌++◌, max, OnOk, ◌-◌};
 ghost use Rattle.model.specs.History.{Record};
-ghost use Rattle.pivot_check.specs.Kept.{reads_since, IsInReach, HasRoom};
-ghost use Rattle.pivot_check.specs.Inside.{records_of};
+ghost use Rattle.last_readers.specs.Readers.{IsForgotten};
+ghost use Rattle.pivot_check.specs.Kept.{HasForgotten, IsEmpty, IsInReach, HasRoom};
 ghost use Rattle.pivot_check.specs.Index.{answer_found};
 ghost use Rattle.pivot_check.specs.StandsFor.{StandsFor, IsRecordOf, IsVerdict, IsPlaced, IsClear};
 
-use crate::kept::{Kept, last_source};
 use crate::merges::merge_runs;
 use crate::ready::Ready;
 use crate::run::Run;
 use crate::runs::{add_run, first_overwritten, least_covered};
+use crate::sources::last_source;
 use crate::verdict::Verdict;
 use crate::written::add_all;
+use last_readers::LastReaders;
 use model::Memory;
 use snapshot::Transaction;
 use std::alloc::Global;
@@ -23,12 +23,11 @@ use std::marker::Model;
 /// that was made ready (`room`). What is kept stands for histories: over each of them the answers are those of the definition, which
 /// looks at the whole history.
 ///
-/// Kept are the marks of each, and the keys that they wrote, each with the number and the flag of its transaction. The keys stand in
-/// runs, each sorted by key, of transactions that committed one after another; runs of a like size are merged, so that few are left.
-/// Commit numbers have no gaps, so the marks of transactions that are concurrent with another are the last ones.
+/// Kept are the last reader of each key, and the keys that they wrote, each with the number and the flag of its transaction. The keys stand
+/// in runs, each sorted by key, of transactions that committed one after another; runs of a like size are merged, so that few are left.
 #[derive(Drop)]
 pub struct Committed {
-    records: Vec<Kept>,
+    readers: LastReaders,
     runs: Vec<Run>,
     oldest: u64,
     last: u64,
@@ -39,27 +38,33 @@ pub struct Committed {
 impl Model for Committed {
     ghost use Rattle.std.specs.Prelude.{◌-◌, ◌≤◌};
     ghost use Rattle.std.specs.Vec.{vec_len, vec_capacity};
+    ghost use Rattle.last_readers.specs.Readers.{last_reader, AreUpto};
     ghost use Rattle.pivot_check.specs.Kept.{CommittedValue, AreAbove};
-    ghost use Rattle.pivot_check.specs.Inside.{records_of, postings_in, ready_of};
+    ghost use Rattle.pivot_check.specs.Inside.{postings_in, ready_of};
 
     ghost Value = { CommittedValue };
 
     ghost view = { λ c. record {
-      facts = record { records = records_of c.records.items; postings = postings_in c.runs.items; oldest = c.oldest; last = c.last };
-      room = record { places = vec_capacity c.records - vec_len c.records; runs = vec_capacity c.runs - vec_len c.runs; ready = ready_of c.ready };
+      facts = record { readers = c.readers.readers; postings = postings_in c.runs.items; oldest = c.oldest; last = c.last };
+      room = record { readers = c.readers.room; runs = vec_capacity c.runs - vec_len c.runs; ready = ready_of c.ready };
     } };
 
-    ghost invariant = { λ c. (c.oldest ≤ c.last) × AreAbove c.oldest (records_of c.records.items) };
+    ghost invariant = { λ c. record {
+      order : c.oldest ≤ c.last;
+      forgotten : c.readers.readers.oldest ≤ c.last;
+      upto : AreUpto c.last c.readers.readers;
+      above : AreAbove c.oldest (last_reader c.readers.readers);
+    } };
 }
 
 impl Committed {
     /// Nothing committed yet: stands for the empty history. Takes no memory.
     pub fn new(alloc: Global) -> Committed
-        ensures empty { result.facts ≡ record { records = []; postings = []; oldest = 0; last = 0 } }
+        ensures empty { IsEmpty result.facts }
         ensures stands_for { StandsFor result.facts [] }
     {
         Committed {
-            records: Vec::new(alloc),
+            readers: LastReaders::new(alloc),
             runs: Vec::new(alloc),
             oldest: 0,
             last: 0,
@@ -67,11 +72,11 @@ impl Committed {
         }
     }
 
-    /// How many records are kept: one for each transaction that committed after number `oldest`. Takes no memory.
+    /// How many transactions committed after number `oldest`: commit numbers have no gaps. Takes no memory.
     pub fn kept(&self) -> usize
-        ensures { result ≡ length self.now.facts.records }
+        ensures { result ≡ self.now.facts.last - self.now.facts.oldest }
     {
-        self.records.len()
+        (self.last - self.oldest) as usize
     }
 
     /// The last commit number, 0 before the first commit. Takes no memory.
@@ -81,29 +86,13 @@ impl Committed {
         self.last
     }
 
-    /// The greatest number that was handed to `forget`, 0 before the first. No record is kept of a transaction that committed at or
-    /// before it. Takes no memory.
+    /// The greatest number that was handed to `forget`, 0 before the first. No reader is kept that committed at or before it. Takes no
+    /// memory.
     pub fn oldest(&self) -> u64
         ensures oldest { result ≡ self.now.facts.oldest }
-        ensures forgotten { All (λ r. result < r.commit) self.now.facts.records }
+        ensures forgotten { HasForgotten result self.now.facts }
     {
         self.oldest
-    }
-
-    // The place of the first record that committed after `begin`: commit numbers have no gaps.
-    fn start(&self, begin: u64) -> usize
-        ensures place { result ≡ length self.now.facts.records - (self.now.facts.last - begin) }
-    {
-        let later = self.last.saturating_sub(begin);
-        self.kept().saturating_sub(later as usize)
-    }
-
-    // The marks of those that committed after `begin`.
-    fn since(&self, begin: u64) -> &[Kept]
-        ensures { records_of result.now ≡ reads_since self.now.facts begin }
-    {
-        let start = self.start(begin);
-        &self.records[start..]
     }
 
     // The answer where the transaction overwrites no concurrent commit. A transaction is a dangerous pivot where its first target committed
@@ -116,7 +105,7 @@ impl Committed {
         let Some(target) = least_covered(&self.runs, marks, begin, false) else {
             return Verdict::Clear;
         };
-        if let Some(source) = last_source(self.since(begin), tx) {
+        if let Some(source) = last_source(&self.readers, tx.entries(), begin) {
             if target <= source {
                 return Verdict::PivotSelf;
             }
@@ -131,9 +120,9 @@ impl Committed {
     /// commit, and neither it nor a committed transaction would be a dangerous pivot (Cahill, Röhm, Fekete 2008; Ports, Grittner 2012). Of
     /// several reasons it names the least overwritten key, else the transaction itself, else the pivot of least commit number.
     ///
-    /// It takes a binary search in each run for each mark and each written key, and a walk over what was written under a mark; where the
-    /// transaction has read what a concurrent one wrote, also a search among its written keys for each mark of the concurrent ones.
-    /// Takes no memory.
+    /// It takes a binary search in each run for each written key, two for each mark, and a look at a bound for each 64 keys written under a
+    /// mark; the numbers of these keys are looked at where the bound lets one be less than what was found. Where the transaction has read
+    /// what a concurrent one wrote, it takes also a look-up of the last reader of each written key. Takes no memory.
     pub fn verdict(&self, tx: &Transaction) -> Verdict
         ensures verdict { IsInReach self.now.facts tx.now → IsVerdict self.now.facts tx.now result }
         ensures place { IsPlaced result tx.now.writes }
@@ -144,22 +133,22 @@ impl Committed {
         }
     }
 
-    /// Makes room for what is kept of the transaction, so that `note` can't fail. It takes a copy of its marks and of its written keys, the
-    /// place of each of these keys, and the places of a record and of a run; where that is refused it answers `Memory`. What is kept is as
+    /// Makes room for what is kept of the transaction, so that `note` can't fail. It takes a copy of the keys in its marks and of its written
+    /// keys, the place of each of these keys, and the places of two runs; where that is refused it answers `Memory`. What is kept is as
     /// it was in either case.
     pub fn reserve(&mut self, tx: &Transaction) -> Result<(), Memory>
         ensures facts { self.new.facts ≡ self.old.facts }
         ensures room { OnOk result (HasRoom self.new.room tx.now) }
     {
-        let alloc = *self.records.allocator();
+        let alloc = *self.runs.allocator();
         let ready = Ready::for_commit(alloc, tx)?;
-        self.records.reserve(1)?;
+        self.readers.reserve(tx.marks())?;
         self.runs.reserve(1)?;
         self.ready = Some(ready);
         Ok(())
     }
 
-    // Adds the record of the transaction, in the room that was made for it.
+    // Adds what is kept of the transaction, in the room that was made for it.
     fn add_record(&mut self, tx: &Transaction, n: u64)
         requires next { n ≡ self.old.facts.last + 1 }
         requires room { HasRoom self.old.room tx.now }
@@ -172,15 +161,8 @@ impl Committed {
         let Some(ready) = self.ready.take() else {
             unreachable!()
         };
-        let Ready {
-            marks,
-            keys,
-            mut places,
-        } = ready;
-        match self.records.push(Kept { commit: n, marks }) {
-            Ok(()) => {}
-            Err(_) => unreachable!(),
-        }
+        let Ready { keys, mut places } = ready;
+        self.readers.note(n);
         add_all(&mut places, keys, n, has_earlier_target);
         add_run(&mut self.runs, places, n);
         self.last = n;
@@ -189,7 +171,7 @@ impl Committed {
     // Merges the last runs where they are of a like size.
     fn merge(&mut self)
         ensures stands_for { (h : List Record) → StandsFor self.old.facts h → StandsFor self.new.facts h }
-        ensures records { self.new.facts.records ≡ self.old.facts.records }
+        ensures readers { self.new.facts.readers ≡ self.old.facts.readers }
         ensures oldest { self.new.facts.oldest ≡ self.old.facts.oldest }
         ensures last { self.new.facts.last ≡ self.old.facts.last }
     {
@@ -197,8 +179,9 @@ impl Committed {
     }
 
     /// Keeps what the check needs of the transaction, which commits as number `n`, the next one. From each history that is stood for it
-    /// leads to that history with the new record. It takes a binary search in each run for each mark. It can't fail: `reserve` made room.
-    /// Then it merges the last runs where they are of a like size and there is memory for that; where it is refused they stay.
+    /// leads to that history with the new record. It takes two binary searches in each run for each mark. It can't fail: `reserve` made
+    /// room. Then it merges the last runs, also those of the last readers, where they are of a like size and there is memory for that; where
+    /// it is refused they stay.
     pub fn note(&mut self, tx: &Transaction, n: u64)
         requires next { n ≡ self.old.facts.last + 1 }
         requires room { HasRoom self.old.room tx.now }
@@ -212,16 +195,17 @@ impl Committed {
 
     /// Drops what was kept of the transactions that committed at or before number `oldest`, from the runs as soon as the whole run is as
     /// old: from then on none may ask that began before it. What is left stands for the same histories, since a flag was fixed when it was
-    /// noted. Constant time where `oldest` isn't above `self.oldest()`, else one pass over the records and the runs. Takes no memory.
+    /// noted. Constant time where `oldest` isn't above `self.oldest()`, else one pass over the runs. Takes no memory.
     pub fn forget(&mut self, oldest: u64)
         requires { oldest ≤ self.old.facts.last }
         ensures stands_for { (h : List Record) → StandsFor self.old.facts h → StandsFor self.new.facts h }
-        ensures records { self.new.facts.records ≡ filter (λ r. nat_lt oldest r.commit) self.old.facts.records }
+        ensures readers { IsForgotten oldest self.old.facts.readers self.new.facts.readers }
+        ensures forgotten { HasForgotten oldest self.new.facts }
         ensures oldest { self.new.facts.oldest ≡ max self.old.facts.oldest oldest }
         ensures last { self.new.facts.last ≡ self.old.facts.last }
     {
         if oldest > self.oldest {
-            self.records.retain(|kept| oldest < kept.commit);
+            self.readers.forget(oldest);
             self.runs.retain(|run| oldest < run.last);
             self.oldest = oldest;
         }

@@ -6,13 +6,14 @@
 //! which committed before it and no later than the source of the other (Ports, Grittner 2012).
 #![tactic(auto)]
 
+mod bound;
 mod committed;
-mod kept;
 mod merges;
 mod merging;
 mod ready;
 mod run;
 mod runs;
+mod sources;
 mod verdict;
 mod written;
 

@@ -2,8 +2,10 @@
 ghost use Rattle.std.specs.Prelude.{◌≡◌, ◌≤◌, ◌<◌, ◌+◌, Bool, length, IfSome};
 ghost use Rattle.std.specs.Vec.{vec_len, vec_capacity};
 ghost use Rattle.pivot_check.specs.Postings.{Posting, least, lesser};
+ghost use Rattle.pivot_check.specs.Bounds.{AreBounds};
 ghost use Rattle.pivot_check.specs.Inside.{postings_in};
 
+use crate::bound::{Bound, bounds_of};
 use crate::merging::merge;
 use crate::run::Run;
 use crate::written::Written;
@@ -15,6 +17,16 @@ const MERGED_MAX: usize = 131_072;
 /// The most merges of one call.
 const MERGES_MAX: u64 = 32;
 
+// The bounds of the blocks; none of them where there is no memory.
+fn blocks(alloc: Global, written: &[Written]) -> Vec<Bound>
+    ensures { AreBounds result.items written.now }
+{
+    match bounds_of(alloc, written) {
+        Ok(bounds) => bounds,
+        Err(_) => Vec::new(alloc),
+    }
+}
+
 // The run of both, in the places that were made for it.
 fn merged(first: Run, second: Run, places: Vec<Written>) -> Run
     requires none { length places.items ≡ 0 }
@@ -23,7 +35,14 @@ fn merged(first: Run, second: Run, places: Vec<Written>) -> Run
 {
     let last = first.last.max(second.last);
     let written = merge(first.written, second.written, places);
-    Run { last, written }
+    let bound = Bound::of(&written);
+    let bounds = blocks(*written.allocator(), &written);
+    Run {
+        last,
+        bound,
+        written,
+        bounds,
+    }
 }
 
 // Places for the postings of both runs, where they are of a like size and there is memory for them.

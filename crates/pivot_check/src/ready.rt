@@ -4,15 +4,13 @@ ghost use Rattle.std.specs.Vec.{vec_len, vec_capacity};
 ghost use Rattle.pivot_check.specs.Kept.{keys_of};
 
 use crate::written::Written;
-use marks::Marks;
 use model::{Key, Memory, Write};
 use snapshot::Transaction;
 use std::alloc::Global;
 
-/// What was made ready for the commit of a transaction: copies of its marks and of its written keys, and places for these.
+/// What was made ready for the commit of a transaction: copies of its written keys, and places for these.
 #[derive(Drop)]
 pub(crate) struct Ready {
-    pub(crate) marks: Marks,
     pub(crate) keys: Vec<Key>,
     pub(crate) places: Vec<Written>,
     ghost none: { length places.items ≡ 0 },
@@ -33,16 +31,10 @@ fn copy_keys(alloc: Global, writes: &[Write]) -> Result<Vec<Key>, Memory>
 impl Ready {
     // Makes it.
     pub(crate) fn for_commit(alloc: Global, tx: &Transaction) -> Result<Ready, Memory>
-        ensures marks { IfOk result (λ r. r.marks ≡ tx.now.marks) }
-        ensures keys { IfOk result (λ r. r.keys.items ≡ keys_of tx.now.writes) }
+        ensures { IfOk result (λ r. r.keys.items ≡ keys_of tx.now.writes) }
     {
-        let marks = tx.marks().copy()?;
         let keys = copy_keys(alloc, tx.entries())?;
         let places = Vec::with_capacity(alloc, keys.len())?;
-        Ok(Ready {
-            marks,
-            keys,
-            places,
-        })
+        Ok(Ready { keys, places })
     }
 }

@@ -1,40 +1,133 @@
 //! A run of written keys.
-ghost use Rattle.std.specs.Prelude.{◌≡◌, IsTrue};
+ghost use Rattle.std.specs.Prelude.{◌≡◌, ◌≤◌, ◌<◌, ◌+◌, ◌*◌, ℕ, IsTrue, false, length, take, drop, Some};
 ghost use Rattle.marks.specs.Lent.{lent_mark};
 ghost use Rattle.marks.specs.Marked.{marks_of};
-ghost use Rattle.pivot_check.specs.Postings.{keys_rise, are_upto, least, asked_of, covered_of};
+ghost use Rattle.pivot_check.specs.Postings.{keys_rise, are_upto, least, lesser, is_asked, asked_of, covered_of, between};
+ghost use Rattle.pivot_check.specs.Bounds.{are_from_bound, AreBounds, KeepsFound};
 
-use crate::written::{Written, least_covered, least_number};
+use crate::bound::{BLOCK, Bound};
+use crate::written::{Span, Written, covered, least_number};
 use marks::{Held, MarkRef};
 
-/// What transactions that committed one after another have written, by rising key: one run for several commits.
+/// What transactions that committed one after another have written, by rising key: one run for several commits. The bounds of its blocks
+/// may be missing.
 #[derive(Drop)]
 pub(crate) struct Run {
     pub(crate) last: u64,
+    pub(crate) bound: Bound,
     pub(crate) written: Vec<Written>,
+    pub(crate) bounds: Vec<Bound>,
     ghost rising: { IsTrue (keys_rise written.items) },
     ghost upto: { IsTrue (are_upto last written.items) },
+    ghost bounded: { IsTrue (are_from_bound bound written.items) },
+    ghost blocks: { AreBounds bounds.items written.items },
+}
+
+// The greatest number that is at most `last` and below the one that was found.
+fn most_below(found: Option<u64>, last: u64) -> u64
+    ensures { (n : ℕ) → n ≤ last → result < n → lesser found (Some n) ≡ found }
+{
+    match found {
+        None => last,
+        Some(number) => last.min(number.saturating_sub(1)),
+    }
 }
 
 impl Run {
-    // The least commit number above `begin` that has written a key that the mark covers, of those with the flag where these alone are
-    // asked for.
-    pub(crate) fn least(&self, mark: MarkRef<'_>, begin: u64, flagged: bool) -> Option<u64>
-        ensures { result ≡ least (asked_of (lent_mark mark.entry) begin flagged) self.now.written.items }
+    // May some posting of the run that is asked for have a number below the one that was found?
+    fn may_lower(&self, found: Option<u64>, begin: u64, flagged: bool) -> bool
+        ensures { result ≡ false → KeepsFound found begin flagged self.now.written.items }
     {
-        if self.last <= begin {
-            return None;
+        self.bound
+            .allows(most_below(found, self.last), begin, flagged)
+    }
+
+    // The same for a block of it.
+    fn may_lower_in(&self, block: usize, found: Option<u64>, begin: u64, flagged: bool) -> bool
+        ensures { result ≡ false → KeepsFound found begin flagged (take 64 (drop (64 * block) self.now.written.items)) }
+    {
+        match self.bounds.get(block) {
+            None => true,
+            Some(bound) => bound.allows(most_below(found, self.last), begin, flagged),
         }
-        least_number(&self.written, mark, begin, flagged)
+    }
+
+    // The number that was found, or the least that is asked for of these postings, which stand in one block, where that is lesser.
+    fn least_in(
+        &self,
+        block: usize,
+        span: Span,
+        found: Option<u64>,
+        begin: u64,
+        flagged: bool,
+    ) -> Option<u64>
+        requires block { 64 * block ≤ span.first }
+        requires order { span.first ≤ span.end }
+        requires block_end { span.end ≤ 64 * block + 64 }
+        requires within { span.end ≤ length self.now.written.items }
+        ensures { result ≡ lesser found (least (is_asked begin flagged) (between span.first span.end self.now.written.items)) }
+    {
+        if !self.may_lower_in(block, found, begin, flagged) {
+            return found;
+        }
+        least_number(&self.written[span.first..span.end], found, begin, flagged)
+    }
+
+    // The same for postings that stand in several blocks. One that has no number for it is passed over.
+    fn least_between(
+        &self,
+        span: Span,
+        found: Option<u64>,
+        begin: u64,
+        flagged: bool,
+    ) -> Option<u64>
+        requires order { span.first ≤ span.end }
+        requires within { span.end ≤ length self.now.written.items }
+        ensures { result ≡ lesser found (least (is_asked begin flagged) (between span.first span.end self.now.written.items)) }
+    {
+        let mut found = found;
+        for block in span.first / BLOCK..span.end / BLOCK + 1 {
+            let part = Span {
+                first: span.first.max(64 * block),
+                end: span.end.min(64 * block + 64),
+            };
+            found = self.least_in(block, part, found, begin, flagged);
+        }
+        found
+    }
+
+    // The number that was found, or the least commit number above `begin` that has written a key that the mark covers, of those with
+    // the flag where these alone are asked for, where that is lesser. Two binary searches, and a look at a bound for each 64 postings
+    // under the mark, where the bound of the run doesn't tell.
+    pub(crate) fn least(
+        &self,
+        mark: MarkRef<'_>,
+        found: Option<u64>,
+        begin: u64,
+        flagged: bool,
+    ) -> Option<u64>
+        ensures { result ≡ lesser found (least (asked_of (lent_mark mark.entry) begin flagged) self.now.written.items) }
+    {
+        if !self.may_lower(found, begin, flagged) {
+            return found;
+        }
+        self.least_between(covered(&self.written, mark), found, begin, flagged)
     }
 
     // The same for several marks.
-    pub(crate) fn least_covered(&self, marks: &[Held], begin: u64, flagged: bool) -> Option<u64>
-        ensures { result ≡ least (covered_of (marks_of marks.now) begin flagged) self.now.written.items }
+    pub(crate) fn least_covered(
+        &self,
+        marks: &[Held],
+        found: Option<u64>,
+        begin: u64,
+        flagged: bool,
+    ) -> Option<u64>
+        ensures { result ≡ lesser found (least (covered_of (marks_of marks.now) begin flagged) self.now.written.items) }
     {
-        if self.last <= begin {
-            return None;
+        let mut found = found;
+        for mark in marks {
+            found = self.least(mark.lend(), found, begin, flagged);
         }
-        least_covered(&self.written, marks, begin, flagged)
+        found
     }
 }

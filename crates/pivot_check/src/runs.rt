@@ -9,8 +9,9 @@ ghost use Rattle.pivot_check.specs.Postings.{Posting, keys_rise, are_upto, least
 ghost use Rattle.pivot_check.specs.Inside.{postings_in};
 ghost use Rattle.pivot_check.specs.Index.{is_written_since};
 
+use crate::bound::Bound;
 use crate::run::Run;
-use crate::written::{Written, lesser_found};
+use crate::written::Written;
 use marks::{Held, MarkRef};
 use model::Write;
 
@@ -21,7 +22,7 @@ pub(crate) fn least_of(runs: &[Run], mark: MarkRef<'_>, begin: u64, flagged: boo
 {
     let mut found = None;
     for run in runs {
-        found = lesser_found(found, run.least(mark, begin, flagged));
+        found = run.least(mark, found, begin, flagged);
     }
     found
 }
@@ -32,7 +33,7 @@ pub(crate) fn least_covered(runs: &[Run], marks: &[Held], begin: u64, flagged: b
 {
     let mut found = None;
     for run in runs {
-        found = lesser_found(found, run.least_covered(marks, begin, flagged));
+        found = run.least_covered(marks, found, begin, flagged);
     }
     found
 }
@@ -59,7 +60,14 @@ pub(crate) fn add_run(runs: &mut Vec<Run>, written: Vec<Written>, last: u64)
     if written.is_empty() {
         return;
     }
-    match runs.push(Run { last, written }) {
+    let bound = Bound::of(&written);
+    let bounds = Vec::new(*runs.allocator());
+    match runs.push(Run {
+        last,
+        bound,
+        written,
+        bounds,
+    }) {
         Ok(()) => {}
         Err(_) => unreachable!(),
     }

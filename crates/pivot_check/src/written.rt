@@ -1,13 +1,13 @@
 //! Written keys by rising key.
-ghost use Rattle.std.specs.Prelude.{◌≡◌, ◌≤◌, ◌<◌, ◌+◌, ◌-◌, IsTrue, Bool, nat_lt, not, ◌&&◌, ◌||◌, [], ◌∷◌, length, Some, None, if◌then◌else◌};
+ghost use Rattle.std.specs.Prelude.{◌≡◌, ◌≤◌, ◌<◌, ◌+◌, ◌-◌, IsTrue, Bool, nat_lt, not, ◌&&◌, ◌||◌, [], ◌∷◌, length, take, Some, None, if◌then◌else◌};
 ghost use Rattle.std.specs.List.{insert};
 ghost use Rattle.std.specs.Vec.{vec_len, vec_capacity};
+ghost use Rattle.model.specs.PrivateCopy.{covers};
 ghost use Rattle.marks.specs.Lent.{lent_mark};
-ghost use Rattle.marks.specs.Marked.{marks_of};
 ghost use Rattle.marks.specs.Sorted.{start_of};
-ghost use Rattle.pivot_check.specs.Postings.{Posting, postings_by, keys_rise, are_from, least, lesser, asked_of, covered_of};
+ghost use Rattle.pivot_check.specs.Postings.{Posting, postings_by, keys_rise, are_from, least, lesser, is_asked, between};
 
-use marks::{Held, MarkRef};
+use marks::MarkRef;
 use model::{Key, KeyRef};
 use std::marker::Model;
 
@@ -28,6 +28,18 @@ impl Model for Written {
 }
 
 impl Written {
+    pub(crate) fn number(&self) -> u64
+        ensures { result ≡ self.now.number }
+    {
+        self.number
+    }
+
+    pub(crate) fn has_earlier_target(&self) -> bool
+        ensures { result ≡ self.now.has_earlier_target }
+    {
+        self.has_earlier_target
+    }
+
     pub(crate) fn key(&self) -> KeyRef<'_>
         ensures { result.bytes.now ≡ self.now.key }
     {
@@ -45,16 +57,6 @@ fn lesser_of(found: Option<u64>, number: u64) -> Option<u64>
     }
 }
 
-// The lesser of two numbers that may be there.
-pub(crate) fn lesser_found(found: Option<u64>, other: Option<u64>) -> Option<u64>
-    ensures { result ≡ lesser found other }
-{
-    match other {
-        None => found,
-        Some(number) => lesser_of(found, number),
-    }
-}
-
 // The number that was found, or that of the posting where it is lesser and asked for.
 fn found_with(found: Option<u64>, posting: &Written, begin: u64, flagged: bool) -> Option<u64>
     ensures { result ≡ lesser found (if nat_lt begin posting.now.number && (posting.now.has_earlier_target || not flagged) then Some posting.now.number else None) }
@@ -66,53 +68,56 @@ fn found_with(found: Option<u64>, posting: &Written, begin: u64, flagged: bool) 
     }
 }
 
-// The least number that is asked for, of postings that begin where the mark may begin to cover keys.
-fn least_from(postings: &[Written], mark: MarkRef<'_>, begin: u64, flagged: bool) -> Option<u64>
-    requires rising { IsTrue (keys_rise postings.now) }
-    requires from { IsTrue (are_from (start_of (lent_mark mark)) postings.now) }
-    ensures { result ≡ least (asked_of (lent_mark mark.entry) begin flagged) postings.now }
+// The number that was found, or the least that is asked for of the postings where that is lesser.
+pub(crate) fn least_number(
+    postings: &[Written],
+    found: Option<u64>,
+    begin: u64,
+    flagged: bool,
+) -> Option<u64>
+    ensures { result ≡ lesser found (least (is_asked begin flagged) postings.now) }
 {
-    let mut found = None;
+    let mut found = found;
     for posting in postings {
-        if !mark.covers(posting.key()) {
-            return found;
-        }
         found = found_with(found, posting, begin, flagged);
     }
     found
 }
 
-// The least commit number above `begin` that has written a key that the mark covers, of those with the flag where these alone are asked
-// for. A binary search, and a walk over what was written under the mark.
-pub(crate) fn least_number(
-    postings: &[Written],
-    mark: MarkRef<'_>,
-    begin: u64,
-    flagged: bool,
-) -> Option<u64>
+/// Places of postings: from `first` to before `end`.
+#[derive(Clone, Copy)]
+pub(crate) struct Span {
+    pub(crate) first: usize,
+    pub(crate) end: usize,
+}
+
+// How many of the postings, which begin where the mark may begin to cover keys, it covers. Where it covers none, one look.
+fn count_covered(postings: &[Written], mark: MarkRef<'_>) -> usize
+    requires rising { IsTrue (keys_rise postings.now) }
+    requires from { IsTrue (are_from (start_of (lent_mark mark)) postings.now) }
+    ensures within { result ≤ length postings.now }
+    ensures covered { (c : Posting → Bool) → least (λ p. covers (lent_mark mark.entry) p.key && c p) postings.now ≡ least c (take result postings.now) }
+{
+    let Some(posting) = postings.first() else {
+        return 0;
+    };
+    if !mark.covers(posting.key()) {
+        return 0;
+    }
+    postings.partition_point(|posting| mark.covers(posting.key()))
+}
+
+// The postings whose keys the mark covers. Two binary searches.
+pub(crate) fn covered(postings: &[Written], mark: MarkRef<'_>) -> Span
     requires { IsTrue (keys_rise postings.now) }
-    ensures { result ≡ least (asked_of (lent_mark mark.entry) begin flagged) postings.now }
+    ensures order { result.first ≤ result.end }
+    ensures within { result.end ≤ length postings.now }
+    ensures covered { (c : Posting → Bool) → least (λ p. covers (lent_mark mark.entry) p.key && c p) postings.now ≡ least c (between result.first result.end postings.now) }
 {
     let low = mark.start();
     let first = postings.partition_point(|posting| posting.key().order(low).is_lt());
-    least_from(&postings[first..], mark, begin, flagged)
-}
-
-// The same for several marks.
-pub(crate) fn least_covered(
-    postings: &[Written],
-    marks: &[Held],
-    begin: u64,
-    flagged: bool,
-) -> Option<u64>
-    requires { IsTrue (keys_rise postings.now) }
-    ensures { result ≡ least (covered_of (marks_of marks.now) begin flagged) postings.now }
-{
-    let mut found = None;
-    for mark in marks {
-        found = lesser_found(found, least_number(postings, mark.lend(), begin, flagged));
-    }
-    found
+    let end = first + count_covered(&postings[first..], mark);
+    Span { first, end }
 }
 
 // How many of the postings have keys that aren't above this one.

@@ -1,37 +1,12 @@
-use Rattle.std.proofs.Common.{true, false, rules, of_calls, ◌≡◌, ℕ, List, ap, subst, ◌∙◌}
-use Rattle.std.specs.List.Sorted.{IsPartitionPoint}
-use Rattle.std.specs.Ordering.{is_lt}
-use Rattle.std.proofs.lemmas.Fn.{always_returns_same}
-use Rattle.model.specs.Map.{Bytes, key_cmp}
-use Rattle.marks.specs.Lent.{lent_mark}
-use Rattle.marks.specs.Sorted.{start_of}
-use Rattle.pivot_check.proofs.Lists.{to_the_end}
-use Rattle.pivot_check.specs.Postings.{Posting, keys_rise, are_from, least, asked_of}
-use Rattle.pivot_check.proofs.Walks.{parted, rest_rises, rest_from, rest_decides}
+use Rattle.std.proofs.Common.{◌<◌, length, add-one, arith}
+use Rattle.pivot_check.specs.Postings.{is_asked}
+use Rattle.pivot_check.proofs.Walks.{next_posting, no_posting_left}
 use Rattle.pivot_check.proofs.written.least_number.Goals as goal
 
-pub least_from-requires-clause-rising : goal.least_from-requires-clause-rising
-least_from-requires-clause-rising c =
-    ap keys_rise (to_the_end c.partition_point-first.result c.args.postings.now) ∙ rest_rises c.args.postings.now c.partition_point-first.result c.requires
-
-moved : (k low : Bytes) (ps : List Posting) (i : ℕ) → k ≡ low → IsPartitionPoint (λ p. is_lt (key_cmp p.key k) ≡ true) (λ p. is_lt (key_cmp p.key k) ≡ false) ps i →
-    IsPartitionPoint (λ p. is_lt (key_cmp p.key low) ≡ true) (λ p. is_lt (key_cmp p.key low) ≡ false) ps i
-moved k low ps i e h = subst (λ (q : Bytes). IsPartitionPoint (λ p. is_lt (key_cmp p.key q) ≡ true) (λ p. is_lt (key_cmp p.key q) ≡ false) ps i) e h
-
-pub least_from-requires-clause-from : goal.least_from-requires-clause-from
-least_from-requires-clause-from c =
-    let k = c.start-low.result.bytes.now in
-    let low = start_of (lent_mark c.args.mark) in
-    let point = c.partition_point-first.ensures.partitioned (λ p. is_lt (key_cmp p.key k)) (always_returns_same _ _ _ (λ a r f g. search (rules, of_calls))) (parted k c.args.postings.now c.requires) in
-    ap (are_from low) (to_the_end c.partition_point-first.result c.args.postings.now)
-    ∙ rest_from low c.args.postings.now c.partition_point-first.result (moved k low c.args.postings.now c.partition_point-first.result c.start-low.ensures point)
+pub loop-posting-preserved : goal.loop-posting-preserved
+loop-posting-preserved c =
+    let within : c.loop-posting.posting-index < length c.args.postings.now = omega (arith, c.loop-posting-test.true) in
+    rw add-one (next_posting (is_asked c.args.begin c.args.flagged) c.args.postings.now c.loop-posting.posting-index c.posting-item.result c.loop-posting.found c.found_with-found.result _ within c.posting-item.is c.found_with-found.ensures c.loop-posting.invariant)
 
 pub returns : goal.returns
-returns c =
-    let k = c.start-low.result.bytes.now in
-    let m = lent_mark c.args.mark in
-    let point = c.partition_point-first.ensures.partitioned (λ p. is_lt (key_cmp p.key k)) (always_returns_same _ _ _ (λ a r f g. search (rules, of_calls))) (parted k c.args.postings.now c.requires) in
-    c.least_from.ensures
-    ∙ ap (least (asked_of m c.args.begin c.args.flagged)) (to_the_end c.partition_point-first.result c.args.postings.now)
-    ∙ rest_decides m c.args.begin c.args.flagged c.args.postings.now c.partition_point-first.result c.partition_point-first.ensures.bound
-    (moved k (start_of m) c.args.postings.now c.partition_point-first.result c.start-low.ensures point)
+returns c = no_posting_left (is_asked c.args.begin c.args.flagged) c.args.postings.now c.loop-posting.posting-index c.loop-posting.found _ (omega (arith, c.loop-posting-test.false)) c.loop-posting.invariant

@@ -1,27 +1,29 @@
-use Rattle.std.proofs.Common.{◌≡◌, Bool, false, List, ◌++◌, ◌∷◌, [], Some, Option, refl, sym, ap, subst, ◌∙◌, arith}
+use Rattle.std.proofs.Common.{◌≡◌, ◌<◌, ◌+◌, Bool, false, List, Some, Option, sym, ap, subst, ◌∙◌, arith}
 use Rattle.std.specs.Prelude.{is_some}
-use Rattle.std.proofs.lemmas.List.{map-append}
 use Rattle.model.specs.Map.{Bytes}
-use Rattle.model.specs.PrivateCopy.{Mark}
 use Rattle.snapshot.specs.View.{View}
+use Rattle.last_readers.specs.Readers.{last_reader, IsNoted, HasRoom as HasReadersRoom, ReadersRoom}
 use Rattle.pivot_check.specs.declared.ready.Ready.{Ready}
-use Rattle.pivot_check.specs.Kept.{CommittedValue, AreAbove, keys_of}
+use Rattle.pivot_check.specs.Kept.{CommittedValue, keys_of}
 use Rattle.pivot_check.specs.Postings.{Posting, postings_by, least, lesser, covered_of}
-use Rattle.pivot_check.specs.Inside.{record_of, records_of, postings_in, ready_of}
+use Rattle.pivot_check.specs.Inside.{postings_in, ready_of}
 use Rattle.pivot_check.specs.Index.{target}
 use Rattle.pivot_check.proofs.Judging.{notes, nothing, upto_own}
-use Rattle.pivot_check.proofs.Above.{note_above}
+use Rattle.pivot_check.proofs.LastSources.{noted_upto, noted_above}
 use Rattle.pivot_check.proofs.committed.Committed.add_record.Goals as goal
 
--- what was made ready has the marks and the keys of the transaction
-ready_pair : (ready : Option Ready) (k : Ready) (t : View) → Some k ≡ ready → ready_of ready ≡ Some (t.marks, keys_of t.writes) → ◌≡◌ {A = List Mark × List Bytes} (k.marks, k.keys.items) (t.marks, keys_of t.writes)
-ready_pair ready k t is e = let same : ◌≡◌ {A = Option (List Mark × List Bytes)} (Some (k.marks, k.keys.items)) (Some (t.marks, keys_of t.writes)) = ap ready_of is ∙ e in cc
+-- what was made ready has the keys of the transaction
+ready_keys : (ready : Option Ready) (k : Ready) (t : View) → Some k ≡ ready → ready_of ready ≡ Some (keys_of t.writes) → k.keys.items ≡ keys_of t.writes
+ready_keys ready k t is e = let same : ◌≡◌ {A = Option (List Bytes)} (Some k.keys.items) (Some (keys_of t.writes)) = ap ready_of is ∙ e in cc
 
-pair : (c : goal.After-self-1) → ◌≡◌ {A = List Mark × List Bytes} (c.in-Some.ready.marks, c.in-Some.ready.keys.items) (c.args.tx.now.marks, keys_of c.args.tx.now.writes)
-pair c = ready_pair c.self.inside.ready c.in-Some.ready c.args.tx.now c.in-Some.ensures.value (ap (λ (v : CommittedValue). v.room.ready) c.self.view_is ∙ c.requires.room.2)
+keys : (c : goal.After-self-1) → c.in-Some.ready.keys.items ≡ keys_of c.args.tx.now.writes
+keys c = ready_keys c.self.inside.ready c.in-Some.ready c.args.tx.now c.in-Some.ensures.value (ap (λ (v : CommittedValue). v.room.ready) c.self.view_is ∙ c.requires.room.2)
 
-records : (c : goal.After-self-1) → records_of c.push.new.self.items ≡ c.args.self.now.facts.records ++ record { commit = c.args.n; marks = c.in-Some.ready.marks } ∷ []
-records c = ap records_of c.in-Ok.ensures.items ∙ map-append record_of _ _ ∙ ap (λ (v : CommittedValue). v.facts.records ++ record { commit = c.args.n; marks = c.in-Some.ready.marks } ∷ []) c.self.view_is
+noted : (c : goal.After-self-1) → IsNoted c.args.tx.now.marks c.args.n c.self.inside.readers.readers c.note.new.self.readers
+noted c = c.note.ensures.noted c.args.tx.now.marks (subst (λ (r : ReadersRoom). HasReadersRoom c.args.tx.now.marks r) (ap (λ (v : CommittedValue). v.room.readers) (sym c.self.view_is)) c.requires.room.0)
+
+read : (c : goal.After-self-1) → IsNoted c.args.tx.now.marks c.args.n c.args.self.now.facts.readers c.note.new.self.readers
+read c = subst (λ (v : CommittedValue). IsNoted c.args.tx.now.marks c.args.n v.facts.readers c.note.new.self.readers) c.self.view_is (noted c)
 
 flag : (c : goal.After-self-1) → c.is_some-has_earlier_target.result ≡ is_some (target c.args.self.now.facts c.args.tx.now)
 flag c =
@@ -40,20 +42,22 @@ add_run-requires-clause-upto c = upto_own c.args.n c.is_some-has_earlier_target.
 pub returns-clause-stands_for : goal.returns-clause-stands_for
 returns-clause-stands_for c = λ reach clear h s r own.
     notes c.args.self.now.facts h s c.args.tx.now reach c.args.n c.requires.next r own clear
-    c.is_some-has_earlier_target.result (flag c)
-    c.in-Some.ready.marks (ap (λ (p : List Mark × List Bytes). p.0) (pair c))
-    c.in-Some.ready.keys.items (ap (λ (p : List Mark × List Bytes). p.1) (pair c))
-    (records_of c.push.new.self.items) (records c) (postings_in c.add_run.new.runs.items) (added c)
+    c.is_some-has_earlier_target.result (flag c) c.in-Some.ready.keys.items (keys c)
+    c.note.new.self.readers (read c) (postings_in c.add_run.new.runs.items) (added c)
     c.self.inside.oldest (ap (λ (v : CommittedValue). v.facts.oldest) c.self.view_is)
 
 pub invariant_of-self : goal.invariant_of-self
 invariant_of-self c =
-    let oldest = ap (λ (v : CommittedValue). v.facts.oldest) c.self.view_is in
     let last = ap (λ (v : CommittedValue). v.facts.last) c.self.view_is in
-    let was = ap (λ (v : CommittedValue). v.facts.records) c.self.view_is in
-    let below = c.self.invariant.0 in let next = c.requires.next in (
-      omega (arith, below, last, next),
-      subst (AreAbove c.self.inside.oldest) (sym (records c))
-          (note_above c.self.inside.oldest c.self.inside.last c.args.n c.args.self.now.facts.records (record { commit = c.args.n; marks = c.in-Some.ready.marks })
-          (subst (AreAbove c.self.inside.oldest) was c.self.invariant.1) below (omega (arith, last, next)) refl),
-    )
+    let next = c.requires.next in
+    let n_is : c.args.n ≡ c.self.inside.last + 1 = omega (arith, last, next) in
+    let order = c.self.invariant.order in
+    let forgotten = c.self.invariant.forgotten in
+    let same = c.note.ensures.oldest in
+    let later : c.self.inside.oldest < c.args.n = omega (arith, n_is, order) in
+    record {
+      order = omega (arith, n_is, order);
+      forgotten = omega (arith, n_is, forgotten, same);
+      upto = noted_upto (last_reader c.self.inside.readers.readers) (last_reader c.note.new.self.readers) c.args.tx.now.marks c.self.inside.last c.args.n n_is c.self.invariant.upto (noted c);
+      above = noted_above (last_reader c.self.inside.readers.readers) (last_reader c.note.new.self.readers) c.args.tx.now.marks c.self.inside.oldest c.args.n later c.self.invariant.above (noted c);
+    }

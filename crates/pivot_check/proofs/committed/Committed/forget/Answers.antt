@@ -1,52 +1,72 @@
 use Rattle.std.proofs.Common.{rules, ◌≡◌, ◌≤◌, sym, ap, subst, ◌∙◌, arith}
 use Rattle.std.specs.Prelude.{nat_lt, Bool, ◌&&◌}
-use Rattle.std.specs.List.{filter}
 use Rattle.std.proofs.lemmas.Fn.{filter_same}
+use Rattle.last_readers.specs.Readers.{last_reader, IsForgotten}
 use Rattle.pivot_check.specs.declared.run.Run.{Run}
 use Rattle.pivot_check.specs.Kept.{Facts, CommittedValue, AreAbove}
 use Rattle.pivot_check.specs.Postings.{Posting, least}
-use Rattle.pivot_check.specs.Inside.{record_of, records_of, postings_in}
+use Rattle.pivot_check.specs.Inside.{postings_in}
 use Rattle.pivot_check.specs.StandsFor.{StandsFor}
-use Rattle.pivot_check.proofs.Histories.{filter-map}
 use Rattle.pivot_check.proofs.Judging.{forgotten}
 use Rattle.pivot_check.proofs.Walks.{later_runs}
-use Rattle.pivot_check.proofs.Above.{filter_above, filter_all}
+use Rattle.pivot_check.proofs.LastSources.{cut_all, above_after, low_after}
 use Rattle.pivot_check.proofs.committed.Committed.forget.Goals as goal
 
--- what `retain` leaves
-left : (c : goal.After-self-1) → records_of c.retain.new.self.items ≡ filter (λ k. nat_lt c.args.oldest k.commit) c.args.self.now.facts.records
-left c = ap records_of (filter_same _ (λ k. nat_lt c.args.oldest (record_of k).commit) _ (λ x b f' k. search rules) _ _ c.retain.ensures.filtered)
-    ∙ sym (filter-map (λ r. nat_lt c.args.oldest r.commit) record_of c.self.inside.records.items)
-    ∙ ap (λ (v : CommittedValue). filter (λ r. nat_lt c.args.oldest r.commit) v.facts.records) c.self.view_is
+-- what `forget` and `retain` leave
+left : (c : goal.After-self-1) → IsForgotten c.args.oldest c.args.self.now.facts.readers c.forget.new.self.readers
+left c = subst (λ (v : CommittedValue). IsForgotten c.args.oldest v.facts.readers c.forget.new.self.readers) c.self.view_is c.forget.ensures.forgotten
 
-runs_left : (c : goal.After-self-1) (t : Posting → Bool) → least (λ p. nat_lt c.args.oldest p.number && t p) (postings_in c.retain-then-oldest-self.new.self.items)
+runs_left : (c : goal.After-self-1) (t : Posting → Bool) → least (λ p. nat_lt c.args.oldest p.number && t p) (postings_in c.retain.new.self.items)
     ≡ least (λ p. nat_lt c.args.oldest p.number && t p) c.args.self.now.facts.postings
-runs_left c t = ap (λ rs. least (λ p. nat_lt c.args.oldest p.number && t p) (postings_in rs)) (filter_same _ (λ (k : Run). nat_lt c.args.oldest k.last) _ (λ x b f' k. search rules) _ _ c.retain-then-oldest-self.ensures.filtered)
+runs_left c t = ap (λ rs. least (λ p. nat_lt c.args.oldest p.number && t p) (postings_in rs)) (filter_same _ (λ (k : Run). nat_lt c.args.oldest k.last) _ (λ x b f' k. search rules) _ _ c.retain.ensures.filtered)
     ∙ later_runs c.args.oldest t c.self.inside.runs.items
     ∙ ap (λ (v : CommittedValue). least (λ p. nat_lt c.args.oldest p.number && t p) v.facts.postings) c.self.view_is
+
+above : (c : goal.After-self-1) → AreAbove c.args.oldest (last_reader c.forget.new.self.readers)
+above c k some = above_after c.args.oldest (last_reader c.self.inside.readers.readers k) (last_reader c.forget.new.self.readers k) (c.forget.ensures.forgotten k) some
 
 pub returns-then-oldest-self-clause-stands_for : goal.returns-then-oldest-self-clause-stands_for
 returns-then-oldest-self-clause-stands_for c = λ h s.
     let was = ap (λ (v : CommittedValue). v.facts.oldest) c.self.view_is in
     let later = c.if-oldest-self.true in
     let above : c.args.self.now.facts.oldest ≤ c.args.oldest = omega (arith, was, later) in
-    subst (λ (f : Facts). StandsFor f h) (same c) (forgotten c.args.self.now.facts h s c.args.oldest above (postings_in c.retain-then-oldest-self.new.self.items) (runs_left c))
+    subst (λ (f : Facts). StandsFor f h) (same c) (forgotten c.args.self.now.facts h s c.args.oldest above c.forget.new.self.readers (left c) (postings_in c.retain.new.self.items) (runs_left c))
   where
-    same : (c : goal.After-self-1) → ◌≡◌ {A = Facts} (record { records = filter (λ k. nat_lt c.args.oldest k.commit) c.args.self.now.facts.records; postings = postings_in c.retain-then-oldest-self.new.self.items; oldest = c.args.oldest; last = c.args.self.now.facts.last })
-        (record { records = records_of c.retain.new.self.items; postings = postings_in c.retain-then-oldest-self.new.self.items; oldest = c.args.oldest; last = c.self.inside.last })
-    same c = λ i. record { records = sym (left c) i; postings = postings_in c.retain-then-oldest-self.new.self.items; oldest = c.args.oldest; last = ap (λ (v : CommittedValue). v.facts.last) (sym c.self.view_is) i }
+    same : (c : goal.After-self-1) → ◌≡◌ {A = Facts} (record { readers = c.forget.new.self.readers; postings = postings_in c.retain.new.self.items; oldest = c.args.oldest; last = c.args.self.now.facts.last })
+        (record { readers = c.forget.new.self.readers; postings = postings_in c.retain.new.self.items; oldest = c.args.oldest; last = c.self.inside.last })
+    same c = λ i. record { readers = c.forget.new.self.readers; postings = postings_in c.retain.new.self.items; oldest = c.args.oldest; last = ap (λ (v : CommittedValue). v.facts.last) (sym c.self.view_is) i }
 
-pub returns-then-oldest-self-clause-records : goal.returns-then-oldest-self-clause-records
-returns-then-oldest-self-clause-records c = left c
+pub returns-then-oldest-self-clause-readers : goal.returns-then-oldest-self-clause-readers
+returns-then-oldest-self-clause-readers c = left c
 
-pub returns-else-oldest-self-clause-records : goal.returns-else-oldest-self-clause-records
-returns-else-oldest-self-clause-records c =
-    let was = ap (λ (v : CommittedValue). v.facts.records) c.self.view_is in
+pub returns-then-oldest-self-clause-forgotten : goal.returns-then-oldest-self-clause-forgotten
+returns-then-oldest-self-clause-forgotten c = record { upto = omega arith; readers = above c }
+
+pub returns-else-oldest-self-clause-readers : goal.returns-else-oldest-self-clause-readers
+returns-else-oldest-self-clause-readers c k =
     let no_later = c.if-oldest-self.false in
-    filter_all c.args.oldest c.self.inside.oldest c.args.self.now.facts.records (omega (arith, no_later)) (subst (AreAbove c.self.inside.oldest) was c.self.invariant.1)
+    cut_all c.args.oldest c.self.inside.oldest (last_reader c.args.self.now.facts.readers k) (omega (arith, no_later)) (subst (λ (v : CommittedValue). AreAbove c.self.inside.oldest (last_reader v.facts.readers)) c.self.view_is c.self.invariant.above k)
+
+pub returns-else-oldest-self-clause-forgotten : goal.returns-else-oldest-self-clause-forgotten
+returns-else-oldest-self-clause-forgotten c =
+    let no_later = c.if-oldest-self.false in
+    let oldest = ap (λ (v : CommittedValue). v.facts.oldest) c.self.view_is in
+    record {
+      upto = omega (arith, no_later, oldest);
+      readers = λ k some.
+          let above = subst (λ (v : CommittedValue). AreAbove c.self.inside.oldest (last_reader v.facts.readers)) c.self.view_is c.self.invariant.above k some in
+          omega (arith, no_later, above);
+    }
 
 pub invariant_of-self : goal.invariant_of-self
 invariant_of-self c =
     let last = ap (λ (v : CommittedValue). v.facts.last) c.self.view_is in
     let within = c.requires in
-    (omega (arith, last, within), subst (AreAbove c.args.oldest) (sym (left c)) (filter_above c.args.oldest c.args.self.now.facts.records))
+    let forgotten = c.self.invariant.forgotten in
+    let oldest = c.forget.ensures.oldest in
+    record {
+      order = omega (arith, last, within);
+      forgotten = omega (arith, last, within, forgotten, oldest);
+      upto = λ k. low_after c.args.oldest (last_reader c.self.inside.readers.readers k) (last_reader c.forget.new.self.readers k) c.self.inside.last (c.forget.ensures.forgotten k) (c.self.invariant.upto k);
+      above = above c;
+    }

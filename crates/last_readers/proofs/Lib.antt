@@ -1,0 +1,5 @@
+pub mod KeyOrder
+pub mod StepLaws
+pub mod MergeLaws
+pub mod RunLaws
+pub mod MarkSteps

@@ -1,0 +1,7 @@
+use Rattle.std.proofs.Common.{◌≡◌, ◌++◌, take, drop, map}
+use Rattle.last_readers.specs.Steps.{renumbered}
+use Rattle.last_readers.proofs.run.renumber.Given as goal
+
+-- those up to the place have the number
+abbrev pub invariant-loop-i : goal.invariant-loop-i
+invariant-loop-i l = l.steps.items ≡ map (renumbered l.number) (take l.i l.fn.steps.items) ++ drop l.i l.fn.steps.items

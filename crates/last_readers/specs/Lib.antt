@@ -1,0 +1,4 @@
+pub mod Steps
+pub mod Merging
+pub mod Readers
+pub mod Inside

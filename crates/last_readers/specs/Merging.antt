@@ -1,0 +1,46 @@
+-- Two step functions made into one, from their ends.
+use Rattle.std.specs.Prelude.{◌≡◌, ◌<◌, ℕ, max, true, List, length, [], ◌∷◌, ◌++◌, ◌⊎◌}
+use Rattle.std.specs.declared.cmp.Ordering.TheVariants.{Less}
+use Rattle.model.specs.Map.{Bytes, key_cmp}
+use Rattle.last_readers.specs.Steps.{StepValue, number_at, number_from, end_of, steps_rise, are_under}
+use Rattle.last_readers.specs.Readers.{cut}
+
+-- the number that is kept of two: the greater, where it is above o
+abbrev pub later : ℕ → ℕ → ℕ → ℕ
+later o a b = cut o (max a b)
+
+-- xs has steps, and the last has a key above all keys of ys
+pub record EndsOver (xs ys : List StepValue) : Type 0 where
+  pub some : 0 < length xs
+  pub over : (init : List StepValue) (w : StepValue) → xs ≡ init ++ w ∷ [] → are_under w.key ys ≡ true
+
+-- xs and ys have steps, and their last ones have one key
+pub record EndsEqual (xs ys : List StepValue) : Type 0 where
+  pub first : 0 < length xs
+  pub second : 0 < length ys
+  pub same : (init rest : List StepValue) (w v : StepValue) → xs ≡ init ++ w ∷ [] → ys ≡ rest ++ v ∷ [] → w.key ≡ v.key
+
+-- ys are the steps of xs below the key, where xs has none above it
+pub record IsParted (xs : List StepValue) (k : Bytes) (ys : List StepValue) : Type 0 where
+  pub below : (j : Bytes) → key_cmp j k ≡ Less → number_at xs j ≡ number_at ys j
+  pub above : (j : Bytes) → key_cmp k j ≡ Less → number_at xs j ≡ end_of xs
+  pub under : are_under k ys ≡ true
+  pub rising : (ts : List StepValue) → steps_rise (xs ++ ts) ≡ true → steps_rise (ys ++ ts) ≡ true
+
+-- the greatest key of xs and ys was taken off both: m is its step in both as one
+pub record IsJoined (o : ℕ) (xs xs' ys ys' : List StepValue) (m : StepValue) : Type 0 where
+  pub first : IsParted xs m.key xs'
+  pub second : IsParted ys m.key ys'
+  pub at : m.at ≡ later o (number_at xs m.key) (number_at ys m.key)
+  pub above : m.above ≡ later o (end_of xs) (end_of ys)
+  pub rising : (ts : List StepValue) → steps_rise (xs ++ ts) ≡ true → steps_rise (ys ++ ts) ≡ true → steps_rise (m ∷ ts) ≡ true
+
+-- m was put in front, or says no more than that all numbers from it on are those below it
+abbrev pub IsAdded : StepValue → ℕ → List StepValue → List StepValue → Type 0
+IsAdded m below ts ts' = (ts' ≡ m ∷ ts) ⊎ ((m.at ≡ below) × (m.above ≡ below) × (ts' ≡ ts))
+
+-- what is left of a and b, and what was taken from their ends, are a and b, and rise
+pub record IsMerging (o : ℕ) (a b xs ys taken : List StepValue) : Type 0 where
+  pub same : (k : Bytes) → number_from (later o (number_at xs k) (number_at ys k)) taken k ≡ later o (number_at a k) (number_at b k)
+  pub first : steps_rise (xs ++ taken) ≡ true
+  pub second : steps_rise (ys ++ taken) ≡ true

@@ -1,0 +1,63 @@
+-- The last reader of each key, by commit number.
+use Rattle.std.specs.Prelude.{◌≡◌, ℕ, ◌<◌, ◌≤◌, max, nat_lt, List, [], ◌∷◌, Option, Some, None, IsSome, if◌then◌else◌}
+use Rattle.model.specs.Map.{Bytes}
+use Rattle.model.specs.PrivateCopy.{Mark, is_covered}
+use Rattle.last_readers.specs.Steps.{StepValue, number_at}
+
+-- what is kept: numbers by key in several runs, those up to `oldest` counting as none
+pub record Readers : Type 0 where
+  pub runs : List (List StepValue)
+  pub oldest : ℕ
+
+-- the memory that was made ready: free places for runs, and the steps of the marks of one transaction
+pub record ReadersRoom : Type 0 where
+  pub places : ℕ
+  pub ready : Option (List StepValue)
+
+pub record LastReadersValue : Type 0 where
+  pub readers : Readers
+  pub room : ReadersRoom
+
+-- n, where it is above o, else 0
+abbrev pub cut : ℕ → ℕ → ℕ
+cut o n = if nat_lt o n then n else 0
+
+-- the greatest number that a run has at the key
+abbrev pub greatest_at : List (List StepValue) → Bytes → ℕ
+greatest_at [] k = 0
+greatest_at (r ∷ rs) k = max (number_at r k) (greatest_at rs k)
+
+-- the number of the last commit after number `oldest` that read the key, 0 where none did
+abbrev pub last_reader : Readers → Bytes → ℕ
+last_reader r k = cut r.oldest (greatest_at r.runs k)
+
+-- the number, where it is above that of the begin
+abbrev pub after : ℕ → ℕ → Option ℕ
+after begin n = if nat_lt begin n then Some n else None
+
+-- no last reader has a number above n
+abbrev pub AreUpto : ℕ → Readers → Type 0
+AreUpto n r = (k : Bytes) → last_reader r k ≤ n
+
+-- number n has read the keys that the marks cover; the others have the last readers that they had
+abbrev pub IsNoted : List Mark → ℕ → Readers → Readers → Type 0
+IsNoted marks n old new = (k : Bytes) → last_reader new k ≡ (if is_covered marks k then n else last_reader old k)
+
+-- the last readers up to that number are forgotten
+abbrev pub IsForgotten : ℕ → Readers → Readers → Type 0
+IsForgotten oldest old new = (k : Bytes) → last_reader new k ≡ cut oldest (last_reader old k)
+
+-- some marks can be noted
+pub record IsReady (room : ReadersRoom) : Type 0 where
+  pub place : 0 < room.places
+  pub some : IsSome room.ready
+
+-- 1 at the keys that were made ready, 0 at the others
+abbrev pub ready_at : Option (List StepValue) → Bytes → ℕ
+ready_at None k = 0
+ready_at (Some ss) k = number_at ss k
+
+-- these marks can be noted
+pub record HasRoom (marks : List Mark) (room : ReadersRoom) : Type 0 where
+  pub ready : IsReady room
+  pub covers : (k : Bytes) → ready_at room.ready k ≡ (if is_covered marks k then 1 else 0)

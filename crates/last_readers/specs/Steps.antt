@@ -1,0 +1,64 @@
+-- Numbers by key as a step function: its steps by strictly rising key.
+use Rattle.std.specs.Prelude.{ℕ, Bool, true, ◌&&◌, ◌==◌, if◌then◌else◌, List, [], ◌∷◌}
+use Rattle.std.specs.List.{list_all}
+use Rattle.std.specs.Ordering.{is_lt, is_le}
+use Rattle.std.specs.declared.cmp.Ordering.{Ordering}
+use Rattle.std.specs.declared.cmp.Ordering.TheVariants.{Less, Equal, Greater}
+use Rattle.model.specs.Map.{Bytes, key_cmp}
+
+-- the number at exactly this key, and the one at the keys above it, up to the next step
+pub record StepValue : Type 0 where
+  pub key : Bytes
+  pub at : ℕ
+  pub above : ℕ
+
+-- the number at a key that stands so to a step: it is below the step, at it, or above it
+abbrev pub by_order : Ordering → ℕ → ℕ → ℕ → ℕ
+by_order Less below at above = below
+by_order Equal below at above = at
+by_order Greater below at above = above
+
+-- the number at a key, where `below` is the one at the keys below the first step
+abbrev pub number_from : ℕ → List StepValue → Bytes → ℕ
+number_from below [] k = below
+number_from below (s ∷ ss) k = by_order (key_cmp k s.key) below s.at (number_from s.above ss k)
+
+-- the number at a key, 0 below the first step
+abbrev pub number_at : List StepValue → Bytes → ℕ
+number_at ss k = number_from 0 ss k
+
+-- the number at the keys above all steps
+abbrev pub end_from : ℕ → List StepValue → ℕ
+end_from below [] = below
+end_from below (s ∷ ss) = end_from s.above ss
+
+abbrev pub end_of : List StepValue → ℕ
+end_of ss = end_from 0 ss
+
+-- whether each step's key is above this one
+abbrev pub are_over : Bytes → List StepValue → Bool
+are_over k ss = list_all (λ s. is_lt (key_cmp k s.key)) ss
+
+-- whether each step's key is below those of all that follow
+abbrev pub steps_rise : List StepValue → Bool
+steps_rise [] = true
+steps_rise (s ∷ ss) = are_over s.key ss && steps_rise ss
+
+-- whether no step's key is above this one
+abbrev pub are_upto : Bytes → List StepValue → Bool
+are_upto k ss = list_all (λ s. is_le (key_cmp s.key k)) ss
+
+-- whether each step's key is below this one
+abbrev pub are_under : Bytes → List StepValue → Bool
+are_under k ss = list_all (λ s. is_lt (key_cmp s.key k)) ss
+
+-- the number n in the place of one that isn't 0
+abbrev pub in_place_of : ℕ → ℕ → ℕ
+in_place_of n was = if was == 0 then 0 else n
+
+abbrev pub renumbered : ℕ → StepValue → StepValue
+renumbered n s = record { key = s.key; at = in_place_of n s.at; above = in_place_of n s.above }
+
+-- 1 at the keys from lo to below end, and at `end` the number `at`, where end isn't below lo
+abbrev pub span_at : Bytes → Bytes → ℕ → Bytes → ℕ
+span_at lo end at k = if is_le (key_cmp lo k) then by_order (key_cmp k end) 1 at 0 else 0

@@ -1,0 +1,122 @@
+//! Numbers by key, as steps.
+ghost use Rattle.std.specs.Prelude.{◌≡◌, ◌≤◌, IsTrue, true, length, if◌then◌else◌};
+ghost use Rattle.std.specs.Ordering.{is_eq};
+ghost use Rattle.model.specs.Map.{key_cmp};
+ghost use Rattle.last_readers.specs.Steps.{StepValue, number_at, end_of, steps_rise, are_upto, in_place_of, renumbered};
+
+use model::{Key, KeyRef};
+use std::marker::Model;
+
+/// The number at a key, and the one at the keys above it up to the next step.
+#[derive(Drop)]
+pub(crate) struct Step {
+    key: Key,
+    at: u64,
+    above: u64,
+}
+
+impl Model for Step {
+    ghost use Rattle.last_readers.specs.Steps.{StepValue};
+
+    ghost Value = { StepValue };
+
+    ghost view = { λ s. record { key = s.key; at = s.at; above = s.above } };
+}
+
+impl Step {
+    pub(crate) fn new(key: Key, at: u64, above: u64) -> Step
+        ensures { result ≡ record { key = key; at = at; above = above } }
+    {
+        Step { key, at, above }
+    }
+
+    pub(crate) fn key(&self) -> KeyRef<'_>
+        ensures { result.bytes.now ≡ self.now.key }
+    {
+        self.key.lend()
+    }
+
+    // The key, given away.
+    pub(crate) fn into_key(self) -> Key
+        ensures { result ≡ self.key }
+    {
+        let Step { key, .. } = self;
+        key
+    }
+
+    pub(crate) fn at(&self) -> u64
+        ensures { result ≡ self.now.at }
+    {
+        self.at
+    }
+
+    pub(crate) fn above(&self) -> u64
+        ensures { result ≡ self.now.above }
+    {
+        self.above
+    }
+
+    // The number at its key or, for another key, above it.
+    pub(crate) fn number(&self, key: KeyRef<'_>) -> u64
+        ensures { result ≡ (if is_eq (key_cmp self.now.key key.entry.bytes.now) then self.now.at else self.now.above) }
+    {
+        if self.key().order(key).is_eq() {
+            self.at
+        } else {
+            self.above
+        }
+    }
+
+    // Does it say no more than that the numbers from its key on are this one?
+    pub(crate) fn is_level(&self, number: u64) -> bool
+        ensures level { result ≡ true → (self.now.at ≡ number) × (self.now.above ≡ number) }
+    {
+        self.at == number && self.above == number
+    }
+
+    // This number in the place of each that isn't 0.
+    pub(crate) fn renumber(&mut self, number: u64)
+        ensures { self.new ≡ renumbered number self.old }
+    {
+        self.at = in_place_of(self.at, number);
+        self.above = in_place_of(self.above, number);
+    }
+}
+
+// The number, where there was one.
+fn in_place_of(was: u64, number: u64) -> u64
+    ensures { result ≡ in_place_of number was }
+{
+    if was == 0 { 0 } else { number }
+}
+
+// The number at the keys above all steps.
+pub(crate) fn end_of(steps: &[Step]) -> u64
+    ensures { result ≡ end_of steps.now }
+{
+    match steps.last() {
+        None => 0,
+        Some(step) => step.above(),
+    }
+}
+
+// The number at a key that no step is above.
+pub(crate) fn last_number(steps: &[Step], key: KeyRef<'_>) -> u64
+    requires rising { IsTrue (steps_rise steps.now) }
+    requires upto { IsTrue (are_upto key.bytes.now steps.now) }
+    ensures { result ≡ number_at steps.now key.entry.bytes.now }
+{
+    match steps.last() {
+        None => 0,
+        Some(step) => step.number(key),
+    }
+}
+
+// The number at the key. A binary search.
+pub(crate) fn number_at(steps: &[Step], key: KeyRef<'_>) -> u64
+    requires { IsTrue (steps_rise steps.now) }
+    ensures { result ≡ number_at steps.now key.entry.bytes.now }
+{
+    let end = steps.partition_point(|step| step.key().order(key).is_le());
+    last_number(&steps[..end], key)
+}

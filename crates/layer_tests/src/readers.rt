@@ -1,0 +1,161 @@
+//! The last readers of keys: worked commits, and many beside a plain list.
+ghost use Rattle.std.specs.Prelude.{◌≤◌};
+ghost use Rattle.last_readers.specs.Readers.{AreUpto};
+
+use crate::helpers::key;
+use last_readers::LastReaders;
+use marks::{Marks, MarksFault};
+use model::{KeyRef, Memory, RangeRef};
+use std::alloc::Global;
+use std::test::Fail;
+
+/// How many keys of one byte the plain list has.
+const KEYS: u8 = 48;
+
+// The last readers after some commits, and the number of the last of these.
+#[derive(Drop)]
+struct Commits {
+    readers: LastReaders,
+    last: u64,
+    ghost upto: { AreUpto last readers.readers },
+    ghost oldest: { readers.readers.oldest ≤ last },
+}
+
+impl Commits {
+    fn new(alloc: Global) -> Commits {
+        Commits {
+            readers: LastReaders::new(alloc),
+            last: 0,
+        }
+    }
+
+    // One more commit, which has read what the marks cover: its number.
+    fn commit(&mut self, marks: &Marks) -> Result<u64, Memory> {
+        if self.last == u64::MAX {
+            return Err(Memory);
+        }
+        let number = self.last + 1;
+        self.readers.reserve(marks)?;
+        self.readers.note(number);
+        self.last = number;
+        Ok(number)
+    }
+
+    fn forget(&mut self, oldest: u64) {
+        if oldest <= self.last {
+            self.readers.forget(oldest);
+        }
+    }
+}
+
+// Marks a key, a range with or without an end, or the keys from one to another.
+fn mark(marks: &mut Marks, kind: u64, first: &[u8], end: &[u8]) -> Result<(), MarksFault> {
+    let (Some(lo), Some(hi)) = (KeyRef::new(first), KeyRef::new(end)) else {
+        return Ok(());
+    };
+    match kind % 8 {
+        0 => marks.add_range(RangeRef { lo, hi: None }),
+        1 | 2 => marks.add_range(RangeRef { lo, hi: Some(hi) }),
+        3 | 4 => {
+            if lo.order(hi).is_le() {
+                marks.add_upto(lo, hi)
+            } else {
+                Ok(())
+            }
+        }
+        _ => marks.add_key(lo),
+    }
+}
+
+// A few marks, and the next number of a fixed sequence.
+fn some_marks(alloc: Global, seed: u64) -> Result<(Marks, u64), MarksFault> {
+    let mut marks = Marks::new(alloc);
+    let mut next = seed;
+    for _ in 0..seed % 5 {
+        next = next
+            .wrapping_mul(6_364_136_223_846_793_005)
+            .wrapping_add(1_442_695_040_888_963_407);
+        let lo = (next / 65_536 % 48) as u8;
+        let hi = (next / 16_777_216 % 48) as u8;
+        mark(&mut marks, next / 4_294_967_296, &[lo], &[hi])?;
+    }
+    next = next.wrapping_mul(6_364_136_223_846_793_005).wrapping_add(1);
+    Ok((marks, next / 2))
+}
+
+// Is each key's last reader after this number that of the plain list, where those up to `oldest` are forgotten?
+fn are_as_in(readers: &LastReaders, plain: &[u64], begin: u64, oldest: u64) -> bool {
+    for byte in 0..KEYS {
+        let want = match plain.get(byte as usize) {
+            Some(number) if *number > begin && *number > oldest => Some(*number),
+            _ => None,
+        };
+        if readers.last(key(&[byte]), begin) != want {
+            return false;
+        }
+    }
+    true
+}
+
+// Notes the commit in the plain list.
+fn note(plain: &mut [u64], marks: &Marks, number: u64) {
+    for byte in 0..KEYS {
+        if marks.covers(key(&[byte])) {
+            if let Some(last) = plain.get_mut(byte as usize) {
+                *last = number;
+            }
+        }
+    }
+}
+
+#[test]
+fn many_commits_beside_a_plain_list(rt: HostRuntime) -> Result<(), Fail> {
+    let mut commits = Commits::new(rt.alloc());
+    let mut plain = [0; 48];
+    let mut oldest = 0;
+    let mut seed = 4;
+    for i in 0..90u64 {
+        let (marks, next) = some_marks(rt.alloc(), seed)?;
+        seed = next;
+        let number = commits.commit(&marks)?;
+        note(&mut plain, &marks, number);
+        if i % 16 == 15 {
+            oldest = i - 12;
+            commits.forget(oldest);
+        }
+        assert!(rt;
+            are_as_in(&commits.readers, &plain, i / 2, oldest),
+            "commit {number}"
+        );
+    }
+    Ok(())
+}
+
+#[test]
+fn worked_last_readers(rt: HostRuntime) -> Result<(), Fail> {
+    let mut commits = Commits::new(rt.alloc());
+    for (kind, first, end) in [(1, b"a", b"c"), (5, b"b", b"b"), (3, b"c", b"d")] {
+        let mut marks = Marks::new(rt.alloc());
+        mark(&mut marks, kind, first, end)?;
+        commits.commit(&marks)?;
+    }
+    let rows: [(&[u8], Option<u64>, Option<u64>); 6] = [
+        (b"a", Some(1), None),
+        (b"b", Some(2), None),
+        (b"c", Some(3), Some(3)),
+        (b"d", Some(3), Some(3)),
+        (b"da", None, None),
+        (b"e", None, None),
+    ];
+    for (name, from_the_start, later) in rows {
+        let Some(key) = KeyRef::new(name) else {
+            return Ok(());
+        };
+        assert!(rt; commits.readers.last(key, 0) == from_the_start, "{name:?}");
+        assert!(rt; commits.readers.last(key, 2) == later, "{name:?}");
+    }
+    commits.forget(2);
+    assert!(rt; commits.readers.last(key(b"b"), 0).is_none());
+    assert!(rt; commits.readers.last(key(b"c"), 0) == Some(3));
+    Ok(())
+}

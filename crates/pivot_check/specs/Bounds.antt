@@ -1,0 +1,20 @@
+-- Lower bounds of the numbers of postings, by which postings are passed over.
+use Rattle.std.specs.Prelude.{◌≡◌, ◌<◌, ℕ, ◌*◌, Bool, true, not, ◌&&◌, ◌||◌, List, Option, Some, nat_le, length, take, drop, slice_index_or}
+use Rattle.std.specs.List.{list_all, AllByRecursion}
+use Rattle.pivot_check.specs.declared.bound.Bound.{Bound}
+use Rattle.pivot_check.specs.Postings.{Posting, lesser, is_asked}
+
+-- whether the posting's number isn't below the bound, nor below that of flagged ones where it has the flag
+abbrev pub is_from_bound : Bound → Posting → Bool
+is_from_bound b p = nat_le b.number p.number && (not p.has_earlier_target || nat_le b.flagged p.number)
+
+abbrev pub are_from_bound : Bound → List Posting → Bool
+are_from_bound b ps = list_all (is_from_bound b) ps
+
+-- each bound is one of its block of 64 postings; behind the blocks with a bound there may be more postings
+abbrev pub AreBounds : List Bound → List Posting → Type 0
+AreBounds bs ps = (i : ℕ) (b : Bound) → i < length bs → are_from_bound (slice_index_or bs i b) (take 64 (drop (64 * i) ps)) ≡ true
+
+-- no posting that is asked for has a number below the one that was found
+abbrev pub KeepsFound : Option ℕ → ℕ → Bool → List Posting → Type 0
+KeepsFound found b flagged ps = AllByRecursion (λ p. is_asked b flagged p ≡ true → lesser found (Some p.number) ≡ found) ps

@@ -1,0 +1,71 @@
+//! Lower bounds of the numbers of written keys.
+ghost use Rattle.std.specs.Prelude.{◌≡◌, ◌<◌, IsTrue, IfOk, ℕ, true, false};
+ghost use Rattle.pivot_check.specs.Postings.{Posting, is_asked};
+ghost use Rattle.pivot_check.specs.Bounds.{is_from_bound, are_from_bound, AreBounds};
+
+use crate::written::Written;
+use model::Memory;
+use std::alloc::Global;
+
+/// How many postings have one bound.
+pub(crate) const BLOCK: usize = 64;
+
+/// A number that the commit number of no posting is below, and one that that of no flagged posting is below.
+#[derive(Clone, Copy)]
+pub(crate) struct Bound {
+    pub(crate) number: u64,
+    pub(crate) flagged: u64,
+}
+
+impl Bound {
+    // A bound of one posting more.
+    fn with(self, posting: &Written) -> Bound
+        ensures posting { IsTrue (is_from_bound result posting.now) }
+        ensures others { (p : Posting) → IsTrue (is_from_bound self p) → IsTrue (is_from_bound result p) }
+    {
+        let number = self.number.min(posting.number());
+        if posting.has_earlier_target() {
+            let flagged = self.flagged.min(posting.number());
+            Bound { number, flagged }
+        } else {
+            Bound {
+                number,
+                flagged: self.flagged,
+            }
+        }
+    }
+
+    // The bound of these postings: `u64::MAX` where there are none.
+    pub(crate) fn of(postings: &[Written]) -> Bound
+        ensures { IsTrue (are_from_bound result postings.now) }
+    {
+        let mut bound = Bound {
+            number: u64::MAX,
+            flagged: u64::MAX,
+        };
+        for posting in postings {
+            bound = bound.with(posting);
+        }
+        bound
+    }
+
+    // May a posting of this bound that is asked for have a number up to this one?
+    pub(crate) fn allows(self, most: u64, begin: u64, flagged: bool) -> bool
+        ensures { result ≡ false → (p : Posting) → is_from_bound self p ≡ true → is_asked begin flagged p ≡ true → most < p.number }
+    {
+        let least = if flagged { self.flagged } else { self.number };
+        begin < most && least <= most
+    }
+}
+
+// The bounds of the whole blocks of these postings.
+pub(crate) fn bounds_of(alloc: Global, postings: &[Written]) -> Result<Vec<Bound>, Memory>
+    ensures { IfOk result (λ bounds. AreBounds bounds.items postings.now) }
+{
+    let count = postings.len() / BLOCK;
+    let mut bounds = Vec::with_capacity(alloc, count)?;
+    for block in 0..count {
+        bounds.push(Bound::of(&postings[64 * block..64 * block + 64]))?;
+    }
+    Ok(bounds)
+}
