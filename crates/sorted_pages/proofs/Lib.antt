@@ -1,4 +1,6 @@
+pub mod Blanks
 pub mod Keys
 pub mod Placings
 pub mod Tails
+pub mod Trims
 pub mod Values

@@ -14,6 +14,8 @@ use Rattle.model.specs.Entries.{IsSplit}
 use Rattle.model.proofs.Entries.{IsSorted, IsBelowAll, turned, parts}
 use Rattle.sorted_pages.specs.Pages.{Page, entries, IsPlace, IsInOrder, AreBelow}
 use Rattle.sorted_pages.specs.Ranges.{up_to, AreFrom, IsTail, first_key}
+use Rattle.sorted_pages.specs.Blanks.{shown}
+use Rattle.sorted_pages.proofs.Blanks.{all-shown, shown-append, sorted-shown}
 use Rattle.sorted_pages.proofs.Keys.{less, sorted_right, below_trans, above_it}
 use Rattle.sorted_pages.proofs.Placings.{entries_at, page_is}
 
@@ -100,20 +102,23 @@ module _ {X : Type 0} where
   all_both k [] ys h g = g
   all_both k (x ∷ xs) ys h g = (h.0, all_both k xs ys h.1 g)
 
-  -- what a page has from lo on, and the pages after it
-  pub range_from : (ps : List (Page X)) (lo : Bytes) (hi : Option Bytes) (i : ℕ) (p : Page X) (front : List (Bytes × X)) (after : List (Page X)) (w : IsPlace ps lo i) → p ≡ get_or ps i p → IsInOrder ps → IsTail p.0 lo front → after ≡ w.after
-      → up_to hi (front ++ entries after) ≡ In lo hi (entries ps)
-  range_from ps lo hi i p front after w is h t same =
-      let e : entries ps ≡ (entries w.before ++ t.before) ++ (front ++ entries w.after) =
+  -- what isn't blank of what a page has from lo on, and of the pages after it
+  pub range_from : (is_blank : X → Bool) (ps : List (Page X)) (lo : Bytes) (hi : Option Bytes) (i : ℕ) (p : Page X) (front : List (Bytes × X)) (after : List (Page X)) (w : IsPlace ps lo i) → p ≡ get_or ps i p → IsInOrder ps → IsTail p.0 lo front → after ≡ w.after
+      → up_to hi (shown is_blank (front ++ entries after)) ≡ In lo hi (shown is_blank (entries ps))
+  range_from is_blank ps lo hi i p front after w is h t same =
+      let pre : List (Bytes × X) = entries w.before ++ t.before in
+      let rest : List (Bytes × X) = front ++ entries w.after in
+      let e : entries ps ≡ pre ++ rest =
       entries_at ps lo i w
       ∙ ap (λ (q : Page X). entries w.before ++ (q.0 ++ entries w.after)) (sym (page_is ps lo i p w is))
       ∙ ap (λ (l : List (Bytes × X)). entries w.before ++ (l ++ entries w.after)) t.is
       ∙ ap (λ (l : List (Bytes × X)). entries w.before ++ l) (append_assoc t.before front (entries w.after))
       ∙ sym (append_assoc (entries w.before) t.before (front ++ entries w.after)) in
-      let sorted : IsSorted (front ++ entries w.after) = sorted_right (entries w.before ++ t.before) (front ++ entries w.after) (subst (λ (l : List (Bytes × X)). IsSorted l) e h.sorted) in
-      ap (λ (l : List (Page X)). up_to hi (front ++ entries l)) same
-      ∙ in_tail lo hi (front ++ entries w.after) sorted (from_both lo front (entries w.after) t.from (from_above lo (entries w.after) w.above))
-      ∙ sym (ap (In lo hi) e ∙ none_below lo hi (entries w.before ++ t.before) (front ++ entries w.after) (all_both lo (entries w.before) t.before w.below t.below))
+      let sorted : IsSorted rest = sorted_right pre rest (subst (λ (l : List (Bytes × X)). IsSorted l) e h.sorted) in
+      ap (λ (l : List (Page X)). up_to hi (shown is_blank (front ++ entries l))) same
+      ∙ in_tail lo hi (shown is_blank rest) (sorted-shown is_blank rest sorted) (all-shown is_blank (λ (d : Bytes × X). is_le (key_cmp lo d.0) ≡ true) rest (from_both lo front (entries w.after) t.from (from_above lo (entries w.after) w.above)))
+      ∙ sym (ap (In lo hi) (ap (shown is_blank) e ∙ shown-append is_blank pre rest)
+      ∙ none_below lo hi (shown is_blank pre) (shown is_blank rest) (all-shown is_blank (λ (d : Bytes × X). key_cmp d.0 lo ≡ Less) pre (all_both lo (entries w.before) t.before w.below t.below)))
 
   -- the pages after a place
   pub after_is : (ps : List (Page X)) (k : Bytes) (i : ℕ) (w : IsPlace ps k i) → drop (i + 1) ps ≡ w.after
@@ -165,3 +170,12 @@ one_left hi e es t = ap (λ b. cond b (e ∷ up_to hi es) []) t
 
 pub none_left : {X : Type 0} (hi : Option Bytes) (e : Bytes × X) (es : List (Bytes × X)) → is_below e.0 hi ≡ false → up_to hi (e ∷ es) ≡ []
 none_left hi e es f = ap (λ b. cond b (e ∷ up_to hi es) []) f
+
+-- a page is taken, without blank entries at its front
+pub next_page : {X : Type 0} (is_blank : X → Bool) (hi : Option Bytes) (front from : List (Bytes × X)) (page : Page X) (ps rest : List (Page X)) → front ≡ [] → ps ≡ page ∷ rest → shown is_blank from ≡ shown is_blank page.0
+    → up_to hi (shown is_blank (from ++ entries rest)) ≡ up_to hi (shown is_blank (front ++ entries ps))
+next_page {X} is_blank hi front from page ps rest none next same = ap (up_to hi)
+    (shown-append is_blank from (entries rest)
+    ∙ ap (λ l. l ++ shown is_blank (entries rest)) same
+    ∙ sym (shown-append is_blank page.0 (entries rest))
+    ∙ sym (ap (λ (l : List (Bytes × X)). shown is_blank (l ++ entries ps)) none ∙ ap (λ (l : List (Page X)). shown is_blank (entries l)) next))

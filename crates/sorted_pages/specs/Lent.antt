@@ -6,6 +6,7 @@ use Rattle.std.specs.Cmp.Lexicographic.{slice_cmp}
 use Rattle.std.specs.FinMap.Entries.{find, put}
 use Rattle.model.specs.Map.{Bytes}
 use Rattle.sorted_pages.specs.Pages.{Page}
+use Rattle.sorted_pages.specs.declared.aging.Aging.{Ghosts}
 use Rattle.sorted_pages.specs.contracts.page.Page.{the_row as page_row}
 use Rattle.sorted_pages.specs.contracts.pages.SortedPages.{the_row as pages_row}
 
@@ -19,8 +20,8 @@ with_value [] k v = []
 with_value (p ∷ ps) k v = if is_some (find (slice_cmp nat_cmp) k p.0) then with_value_in p k v ∷ ps else p ∷ with_value ps k v
 
 -- once the borrow r ends, the key has the last value written through r
-abbrev pub lends_in_page : (T : RattleType) → MutBor (Page T.Denot) → Bytes → MutBor T.Denot → Fml
-lends_in_page T s k r = Lends (page_row T) T s r (with_value_in s.now k)
+abbrev pub lends_in_page : (T : RattleType) → Ghosts T.Denot → MutBor (Page T.Denot) → Bytes → MutBor T.Denot → Fml
+lends_in_page T g s k r = Lends (page_row T g) T s r (with_value_in s.now k)
 
-abbrev pub lends_value : (T : RattleType) → MutBor (List (Page T.Denot)) → Bytes → MutBor T.Denot → Fml
-lends_value T s k r = Lends (pages_row T) T s r (with_value s.now k)
+abbrev pub lends_value : (T : RattleType) → Ghosts T.Denot → MutBor (List (Page T.Denot)) → Bytes → MutBor T.Denot → Fml
+lends_value T g s k r = Lends (pages_row T g) T s r (with_value s.now k)

@@ -1,4 +1,6 @@
 -- What contracts say of pages.
+pub mod Blanks
 pub mod Pages
 pub mod Ranges
 pub mod Lent
+pub mod Trims

@@ -1,11 +1,12 @@
 -- The entries that a range has left.
-use Rattle.std.specs.Prelude.{◌≡◌, true, List, [], ◌∷◌, ◌++◌, Option, if◌then◌else◌, Some, None}
+use Rattle.std.specs.Prelude.{◌≡◌, Bool, true, false, List, [], ◌∷◌, ◌++◌, Option, if◌then◌else◌, Some, None, ⊤}
 use Rattle.std.specs.Borrow.{Bor}
 use Rattle.std.specs.List.{AllByRecursion}
 use Rattle.std.specs.Ordering.{is_le}
 use Rattle.model.specs.Map.{Bytes, key_cmp, is_below}
 use Rattle.model.specs.KeyBytes.{key_bytes, end_bytes}
 use Rattle.model.specs.declared.keys.KeyRef.{KeyRef}
+use Rattle.sorted_pages.specs.Blanks.{shown}
 use Rattle.sorted_pages.specs.Pages.{AreBelow, entries}
 use Rattle.sorted_pages.specs.declared.range.Entries.{Entries}
 
@@ -15,8 +16,13 @@ up_to hi [] = []
 up_to hi (e ∷ es) = if is_below e.0 hi then e ∷ up_to hi es else []
 
 -- the entries that are left
-abbrev pub entries_left : {X : Type 0} → Entries X → List (Bytes × X)
-entries_left r = up_to (end_bytes r.hi) (r.front.now ++ entries r.pages.now)
+abbrev pub entries_left : {X : Type 0} → (X → Bool) → Entries X → List (Bytes × X)
+entries_left is_blank r = up_to (end_bytes r.hi) (shown is_blank (r.front.now ++ entries r.pages.now))
+
+-- the first of the entries isn't blank
+abbrev pub IsFirstShown : {X : Type 0} → (X → Bool) → List (Bytes × X) → Type 0
+IsFirstShown is_blank [] = ⊤
+IsFirstShown is_blank (e ∷ es) = is_blank e.1 ≡ false
 
 -- a lent entry's key and value
 abbrev pub entry_of : {X : Type 0} → KeyRef × Bor X → Bytes × X

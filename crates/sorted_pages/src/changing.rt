@@ -7,6 +7,7 @@ ghost use Rattle.std.specs.Vec.{vec_len};
 ghost use Rattle.model.specs.Map.{Bytes};
 ghost use Rattle.sorted_pages.specs.Pages.{IsInOrder, IsRoomier, entries, room_at};
 
+use crate::aging::Aging;
 use crate::page::Page;
 use crate::placing::{place, room};
 use model::Key;
@@ -22,7 +23,7 @@ const SPLIT_MIN: usize = 256;
 const FILL: usize = 448;
 
 // Adds an entry of a new key in the room that was made for it.
-pub(crate) fn insert<V>(pages: &mut [Page<V>], key: Key, value: V)
+pub(crate) fn insert<V: Aging>(pages: &mut [Page<V>], key: Key, value: V)
     requires order { IsInOrder pages.old }
     requires absent { find (slice_cmp nat_cmp) key (entries pages.old) ≡ None }
     requires room { 0 < room_at key pages.old }
@@ -35,7 +36,7 @@ pub(crate) fn insert<V>(pages: &mut [Page<V>], key: Key, value: V)
 }
 
 // Makes room for `n` more entries in the page where the key would stand.
-fn grow<V>(pages: &mut [Page<V>], key: &[u8], n: usize) -> Result<(), AllocError>
+fn grow<V: Aging>(pages: &mut [Page<V>], key: &[u8], n: usize) -> Result<(), AllocError>
     requires order { IsInOrder pages.old }
     requires some { 0 < length pages.old }
     ensures order { IsInOrder pages.new }
@@ -47,7 +48,7 @@ fn grow<V>(pages: &mut [Page<V>], key: &[u8], n: usize) -> Result<(), AllocError
 }
 
 // Splits the page where the key would stand, and gives its upper half room for `n` entries at least.
-fn split<V: Drop>(pages: &mut Vec<Page<V>>, key: &[u8], n: usize) -> Result<(), AllocError>
+fn split<V: Aging + Drop>(pages: &mut Vec<Page<V>>, key: &[u8], n: usize) -> Result<(), AllocError>
     requires order { IsInOrder pages.old.items }
     requires some { 0 < vec_len pages.old }
     ensures order { IsInOrder pages.new.items }
@@ -70,7 +71,7 @@ fn split<V: Drop>(pages: &mut Vec<Page<V>>, key: &[u8], n: usize) -> Result<(), 
 }
 
 // Makes the first page.
-fn start<V: Drop>(pages: &mut Vec<Page<V>>, n: usize) -> Result<(), AllocError>
+fn start<V: Aging + Drop>(pages: &mut Vec<Page<V>>, n: usize) -> Result<(), AllocError>
     requires { pages.old.items ≡ [] }
     ensures order { IsInOrder pages.new.items }
     ensures roomier { IsRoomier pages.old.items pages.new.items }
@@ -82,7 +83,7 @@ fn start<V: Drop>(pages: &mut Vec<Page<V>>, n: usize) -> Result<(), AllocError>
 }
 
 // Makes room for `n` more entries in the page where the key would stand. A page that they would make too large is split.
-pub(crate) fn reserve<V: Drop>(
+pub(crate) fn reserve<V: Aging + Drop>(
     pages: &mut Vec<Page<V>>,
     key: &[u8],
     n: usize,
@@ -108,7 +109,7 @@ pub(crate) fn reserve<V: Drop>(
 }
 
 // Adds an entry to the last page.
-fn push_last<V: Drop>(pages: &mut [Page<V>], key: Key, value: V) -> Result<(), AllocError>
+fn push_last<V: Aging + Drop>(pages: &mut [Page<V>], key: Key, value: V) -> Result<(), AllocError>
     requires some { 0 < length pages.old }
     requires order { IsInOrder pages.old }
     requires sorted { T (is_sorted (slice_cmp nat_cmp) (entries pages.old ++ (key, value) ∷ [])) }
@@ -119,22 +120,30 @@ fn push_last<V: Drop>(pages: &mut [Page<V>], key: Key, value: V) -> Result<(), A
     pages[last].push(key, value)
 }
 
-// Adds a page of one entry.
-fn push_page<V: Drop>(pages: &mut Vec<Page<V>>, key: Key, value: V) -> Result<(), AllocError>
+// Adds a page of one entry, with room for as many as it is given, and no more.
+fn push_page<V: Aging + Drop>(
+    pages: &mut Vec<Page<V>>,
+    key: Key,
+    value: V,
+) -> Result<(), AllocError>
     requires order { IsInOrder pages.old.items }
     requires sorted { T (is_sorted (slice_cmp nat_cmp) (entries pages.old.items ++ (key, value) ∷ [])) }
     ensures order { IsInOrder pages.new.items }
     ensures entries { entries pages.new.items ≡ (if is_ok result then entries pages.old.items ++ (key, value) ∷ [] else entries pages.old.items) }
 {
     let alloc = *pages.allocator();
-    let mut page = Page::with_room(alloc, PAGE_MAX)?;
+    let mut page = Page::with_room(alloc, FILL)?;
     page.push(key, value)?;
     pages.push(page)?;
     Ok(())
 }
 
 // Adds an entry above all others.
-pub(crate) fn push<V: Drop>(pages: &mut Vec<Page<V>>, key: Key, value: V) -> Result<(), AllocError>
+pub(crate) fn push<V: Aging + Drop>(
+    pages: &mut Vec<Page<V>>,
+    key: Key,
+    value: V,
+) -> Result<(), AllocError>
     requires order { IsInOrder pages.old.items }
     requires sorted { T (is_sorted (slice_cmp nat_cmp) (entries pages.old.items ++ (key, value) ∷ [])) }
     ensures order { IsInOrder pages.new.items }

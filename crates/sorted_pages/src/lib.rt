@@ -1,11 +1,14 @@
 //! A sorted map in pages: a list of pages, each a sorted `Vec` of entries, so that a new key moves the entries of one page and not all.
 #![tactic(auto)]
 
+mod aging;
 mod changing;
 mod page;
 mod pages;
 mod placing;
 mod range;
+mod trimming;
 
+pub use aging::Aging;
 pub use pages::SortedPages;
 pub use range::Entries;

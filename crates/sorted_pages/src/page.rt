@@ -7,7 +7,10 @@ ghost use Rattle.std.specs.Borrow.{sem};
 ghost use Rattle.model.specs.Map.{key_cmp};
 ghost use Rattle.model.specs.Entries.{IsAt, IsGap, IsSplit};
 ghost use Rattle.sorted_pages.specs.Pages.{starts_by};
+ghost use Rattle.sorted_pages.specs.Blanks.{IsBlankTo, shown};
+ghost use Rattle.sorted_pages.specs.Trims.{all_changed, changed_at, passes};
 
+use crate::aging::Aging;
 use model::Key;
 use std::alloc::{AllocError, Global};
 use std::cmp::Ordering;
@@ -18,17 +21,22 @@ const SPARE: usize = 64;
 
 // Entries by rising key. A clause sees them, and how many more fit without memory.
 #[derive(Drop)]
-pub(crate) struct Page<V> {
+pub(crate) struct Page<V: Aging> {
     entries: Vec<(Key, V)>,
+    // of so many of the first entries no number sees anything
+    blank: usize,
 }
 
-impl<V> Model for Page<V> {
+impl<V: Aging> Model for Page<V> {
     ghost use Rattle.std.specs.Prelude.{ℕ, List, ◌-◌};
     ghost use Rattle.std.specs.Vec.{vec_len, vec_capacity};
+    ghost use Rattle.sorted_pages.specs.Blanks.{IsBlankTo};
 
     ghost Value = { List (List ℕ × V) × ℕ };
 
     ghost view = { λ p. (p.entries.items, vec_capacity p.entries - vec_len p.entries) };
+
+    ghost invariant = { λ p. IsBlankTo V.is_blank p.entries.items p.blank };
 }
 
 // Which of the entry's key and another stands first.
@@ -38,7 +46,7 @@ fn compare<V>(entry: &(Key, V), key: &[u8]) -> Ordering
     entry.0.lend().bytes().cmp(key)
 }
 
-impl<V> Page<V> {
+impl<V: Aging> Page<V> {
     ghost use Rattle.sorted_pages.specs.Ranges.{IsTail};
     ghost use Rattle.sorted_pages.specs.Lent.{lends_in_page};
 
@@ -48,6 +56,7 @@ impl<V> Page<V> {
     {
         Ok(Page {
             entries: Vec::with_capacity(alloc, room)?,
+            blank: 0,
         })
     }
 
@@ -101,6 +110,13 @@ impl<V> Page<V> {
         &self.entries
     }
 
+    // Lends the entries behind those at the front of which no number sees anything.
+    pub(crate) fn after_blank(&self) -> &[(Key, V)]
+        ensures { shown V.is_blank result.now ≡ shown V.is_blank self.now.0 }
+    {
+        &self.entries()[self.blank..]
+    }
+
     // Lends the entries from this key on.
     pub(crate) fn entries_from(&self, key: &[u8]) -> &[(Key, V)]
         requires { T (is_sorted (slice_cmp nat_cmp) self.now.0) }
@@ -125,11 +141,12 @@ impl<V> Page<V> {
     pub(crate) fn value_mut(&mut self, key: &[u8]) -> &mut V
         requires sorted { T (is_sorted (slice_cmp nat_cmp) self.old.0) }
         requires present { IsSome (find (slice_cmp nat_cmp) key.now self.old.0) }
-        ensures* writes_back { sem 𝓛 (lends_in_page V.row self.entry key.now result) }
+        ensures* writes_back { sem 𝓛 (lends_in_page V.row V.Aging self.entry key.now result) }
         ensures value { find (slice_cmp nat_cmp) key.now self.old.0 ≡ Some result.now }
     {
         match self.search(key) {
             Ok(i) => {
+                self.blank = self.blank.min(i);
                 let entry = &mut self.entries[i];
                 &mut entry.1
             }
@@ -159,15 +176,18 @@ impl<V> Page<V> {
     {
         match self.search(key.lend().bytes()) {
             Ok(_) => unreachable!(),
-            Err(i) => match self.entries.insert(i, (key, value)) {
-                Ok(()) => {}
-                Err(_) => unreachable!(),
-            },
+            Err(i) => {
+                self.blank = self.blank.min(i);
+                match self.entries.insert(i, (key, value)) {
+                    Ok(()) => {}
+                    Err(_) => unreachable!(),
+                }
+            }
         }
     }
 }
 
-impl<V: Drop> Page<V> {
+impl<V: Aging + Drop> Page<V> {
     // Adds an entry at the end.
     pub(crate) fn push(&mut self, key: Key, value: V) -> Result<(), AllocError>
         ensures { self.new.0 ≡ (if is_ok result then self.old.0 ++ (key, value) ∷ [] else self.old.0) }
@@ -187,7 +207,13 @@ impl<V: Drop> Page<V> {
     {
         let mut upper = self.entries.split_off(at)?;
         match upper.reserve_exact(room) {
-            Ok(()) => Ok(Page { entries: upper }),
+            Ok(()) => {
+                self.blank = self.blank.min(at);
+                Ok(Page {
+                    entries: upper,
+                    blank: 0,
+                })
+            }
             Err(error) => {
                 match self.entries.append(&mut upper) {
                     Ok(()) => {}
@@ -196,5 +222,56 @@ impl<V: Drop> Page<V> {
                 Err(error)
             }
         }
+    }
+}
+
+impl<V: Aging> Page<V> {
+    // Trims the key's value, where it has one. Does it keep something of this number then?
+    pub(crate) fn trim_at(&mut self, key: &[u8], numbers: &[u64], number: u64) -> bool
+        requires { T (is_sorted (slice_cmp nat_cmp) self.old.0) }
+        ensures entries { self.new.0 ≡ changed_at (V.trimmed numbers.now) key.now self.old.0 }
+        ensures room { self.new.1 ≡ self.old.1 }
+        ensures left { result ≡ passes (V.has number) (find (slice_cmp nat_cmp) key.now self.new.0) }
+    {
+        match self.search(key) {
+            Ok(i) => {
+                let entry = &mut self.entries[i];
+                entry.1.trim(numbers);
+                let left = entry.1.has(number);
+                self.blank = blank_from(&self.entries, self.blank.min(i));
+                left
+            }
+            Err(_) => false,
+        }
+    }
+
+    // Trims all values.
+    pub(crate) fn trim(&mut self, numbers: &[u64])
+        ensures entries { self.new.0 ≡ all_changed (V.trimmed numbers.now) self.old.0 }
+        ensures room { self.new.1 ≡ self.old.1 }
+    {
+        trim_entries(&mut self.entries, numbers);
+        self.blank = blank_from(&self.entries, 0);
+    }
+}
+
+// How many of the first entries no number sees anything of, where `from` of them are known.
+fn blank_from<V: Aging>(entries: &[(Key, V)], from: usize) -> usize
+    requires { IsBlankTo V.is_blank entries.now from }
+    ensures { IsBlankTo V.is_blank entries.now result }
+{
+    let mut count = from;
+    while count < entries.len() && entries[count].1.is_blank() {
+        count += 1;
+    }
+    count
+}
+
+// Trims all values.
+fn trim_entries<V: Aging>(entries: &mut [(Key, V)], numbers: &[u64])
+    ensures { entries.new ≡ all_changed (V.trimmed numbers.now) entries.old }
+{
+    for i in 0..entries.len() {
+        entries[i].1.trim(numbers);
     }
 }

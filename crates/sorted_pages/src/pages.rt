@@ -1,15 +1,16 @@
 //! A sorted map in pages.
-ghost use Rattle.std.specs.Prelude.{◌≡◌, ◌+◌, ◌<◌, ◌≤◌, T, None, [], ◌∷◌, ◌++◌, option_copied, is_ok, IsOk, OnOk, if◌then◌else◌};
+ghost use Rattle.std.specs.Prelude.{◌≡◌, ◌+◌, ◌<◌, ◌≤◌, T, None, [], ◌∷◌, ◌++◌, length, option_copied, is_ok, IsOk, OnOk, if◌then◌else◌};
 ghost use Rattle.std.specs.Ordering.{nat_cmp};
 ghost use Rattle.std.specs.Cmp.Lexicographic.{slice_cmp};
 ghost use Rattle.std.specs.FinMap.Entries.{find, put, is_sorted};
 ghost use Rattle.model.specs.Map.{Bytes};
 ghost use Rattle.sorted_pages.specs.Pages.{entries, room_at};
 
-use crate::changing;
+use crate::aging::Aging;
 use crate::page::Page;
 use crate::placing::{self, place};
 use crate::range::Entries;
+use crate::{changing, trimming};
 use model::{Key, KeyRef, RangeRef};
 use std::alloc::{AllocError, Global};
 use std::marker::Model;
@@ -17,11 +18,11 @@ use std::marker::Model;
 /// A map from keys to values of `V`, in pages. A clause sees the pages, each its entries and its room; `entries` of them is the map's
 /// entries by strictly rising key.
 #[derive(Drop)]
-pub struct SortedPages<V> {
+pub struct SortedPages<V: Aging> {
     pub(crate) pages: Vec<Page<V>>,
 }
 
-impl<V> Model for SortedPages<V> {
+impl<V: Aging> Model for SortedPages<V> {
     ghost use Rattle.std.specs.Prelude.{ℕ, List};
     ghost use Rattle.sorted_pages.specs.Pages.{IsInOrder};
 
@@ -32,7 +33,7 @@ impl<V> Model for SortedPages<V> {
     ghost invariant = { λ s. IsInOrder s.pages.items };
 }
 
-impl<V> SortedPages<V> {
+impl<V: Aging> SortedPages<V> {
     /// An empty map. Takes no memory.
     pub fn new(alloc: Global) -> SortedPages<V>
         ensures { result ≡ [] }
@@ -54,7 +55,7 @@ impl<V> SortedPages<V> {
     }
 }
 
-impl<V> SortedPages<V> {
+impl<V: Aging> SortedPages<V> {
     ghost use Rattle.std.specs.Prelude.{IsSome};
     ghost use Rattle.std.specs.Borrow.{sem};
     ghost use Rattle.sorted_pages.specs.Lent.{lends_value, with_value};
@@ -63,7 +64,7 @@ impl<V> SortedPages<V> {
     /// memory.
     pub fn value_mut(&mut self, key: KeyRef<'_>) -> &mut V
         requires { IsSome (find (slice_cmp nat_cmp) key.bytes.now (entries self.old)) }
-        ensures* writes_back { sem 𝓛 (lends_value V.row self.entry key.entry.bytes.now result) }
+        ensures* writes_back { sem 𝓛 (lends_value V.row V.Aging self.entry key.entry.bytes.now result) }
         ensures value { find (slice_cmp nat_cmp) key.entry.bytes.now (entries self.old) ≡ Some result.now }
         ensures put { (v : V) → entries (with_value self.old key.entry.bytes.now v) ≡ put (slice_cmp nat_cmp) key.entry.bytes.now v (entries self.old) }
         ensures rooms { (v : V) (q : Bytes) → room_at q (with_value self.old key.entry.bytes.now v) ≡ room_at q self.old }
@@ -73,15 +74,16 @@ impl<V> SortedPages<V> {
     }
 }
 
-impl<V> SortedPages<V> {
+impl<V: Aging> SortedPages<V> {
     ghost use Rattle.std.specs.FinMap.Entries.{where_key};
     ghost use Rattle.model.specs.Map.{is_in_range};
     ghost use Rattle.model.specs.KeyBytes.{end_bytes};
+    ghost use Rattle.sorted_pages.specs.Blanks.{shown};
     ghost use Rattle.sorted_pages.specs.Ranges.{entries_left, first_key};
 
     // Lends the entries from one key on, up to another.
     fn within<'a>(&'a self, lo: KeyRef<'_>, hi: Option<KeyRef<'a>>) -> Entries<'a, V>
-        ensures { entries_left result ≡ where_key (slice_cmp nat_cmp) (is_in_range lo.entry.bytes.now (end_bytes hi.entry)) (entries self.now) }
+        ensures { entries_left V.is_blank result ≡ where_key (slice_cmp nat_cmp) (is_in_range lo.entry.bytes.now (end_bytes hi.entry)) (shown V.is_blank (entries self.now)) }
     {
         let pages = self.pages.as_slice();
         if pages.is_empty() {
@@ -99,9 +101,9 @@ impl<V> SortedPages<V> {
         }
     }
 
-    // Lends the least key that is at least this one.
+    // Lends the least key that is at least this one, of those whose values aren't blank.
     fn first_from(&self, key: KeyRef<'_>) -> Option<KeyRef<'_>>
-        ensures { end_bytes result ≡ first_key (where_key (slice_cmp nat_cmp) (is_in_range key.entry.bytes.now None) (entries self.now)) }
+        ensures { end_bytes result ≡ first_key (where_key (slice_cmp nat_cmp) (is_in_range key.entry.bytes.now None) (shown V.is_blank (entries self.now))) }
     {
         match self.within(key, None).next() {
             None => None,
@@ -109,9 +111,10 @@ impl<V> SortedPages<V> {
         }
     }
 
-    /// Lends the entries of the range, by rising key. Takes no memory.
+    /// Lends the entries of the range whose values aren't blank, by rising key. Of a page the blank ones at its front are passed over
+    /// together. Takes no memory.
     pub fn range(&self, range: RangeRef<'_>) -> Entries<'_, V>
-        ensures { entries_left result ≡ where_key (slice_cmp nat_cmp) (is_in_range range.entry.lo.bytes.now (end_bytes range.entry.hi)) (entries self.now) }
+        ensures { entries_left V.is_blank result ≡ where_key (slice_cmp nat_cmp) (is_in_range range.entry.lo.bytes.now (end_bytes range.entry.hi)) (shown V.is_blank (entries self.now)) }
     {
         let _ = &self.pages;
         match range.hi {
@@ -121,7 +124,7 @@ impl<V> SortedPages<V> {
     }
 }
 
-impl<V: Drop> SortedPages<V> {
+impl<V: Aging + Drop> SortedPages<V> {
     /// How many more entries fit without memory where the key stands or would stand.
     pub fn room(&self, key: KeyRef<'_>) -> usize
         ensures { result ≡ room_at key.entry.bytes.now self.now }
@@ -156,5 +159,33 @@ impl<V: Drop> SortedPages<V> {
         ensures { entries self.new ≡ (if is_ok result then entries self.old ++ (key, value) ∷ [] else entries self.old) }
     {
         changing::push(&mut self.pages, key, value)
+    }
+}
+
+impl<V: Aging> SortedPages<V> {
+    ghost use Rattle.sorted_pages.specs.Trims.{all_changed, changed_at, passes};
+
+    /// How many pages there are. Takes no memory.
+    pub fn pages(&self) -> usize
+        ensures { result ≡ length self.now }
+    {
+        self.pages.len()
+    }
+
+    /// Drops what none of the numbers needs from the key's value, where it has one. Does the value keep something of `number` then?
+    /// The key is looked up once. Takes no memory.
+    pub fn trim_at(&mut self, key: KeyRef<'_>, numbers: &[u64], number: u64) -> bool
+        ensures entries { entries self.new ≡ changed_at (V.trimmed numbers.now) key.entry.bytes.now (entries self.old) }
+        ensures left { result ≡ passes (V.has number) (find (slice_cmp nat_cmp) key.entry.bytes.now (entries self.new)) }
+    {
+        trimming::trim_at(&mut self.pages, key.bytes(), numbers, number)
+    }
+
+    /// Drops what none of the numbers needs from each value, in one walk by rising key. Takes no memory.
+    pub fn trim(&mut self, numbers: &[u64])
+        ensures entries { entries self.new ≡ all_changed (V.trimmed numbers.now) (entries self.old) }
+        ensures sorted { T (is_sorted (slice_cmp nat_cmp) (entries self.new)) }
+    {
+        trimming::trim(&mut self.pages, numbers);
     }
 }

@@ -2,10 +2,11 @@
 ghost use Rattle.std.specs.Prelude.{◌≡◌, ◌<◌, length};
 ghost use Rattle.sorted_pages.specs.Pages.{IsInOrder, IsPlace, room_at};
 
+use crate::aging::Aging;
 use crate::page::Page;
 
 // The page where the key stands or would stand: the last one that doesn't start above it.
-pub(crate) fn place<V>(pages: &[Page<V>], key: &[u8]) -> usize
+pub(crate) fn place<V: Aging>(pages: &[Page<V>], key: &[u8]) -> usize
     requires order { IsInOrder pages.now }
     requires some { 0 < length pages.now }
     ensures { IsPlace pages.now key.now result }
@@ -16,7 +17,7 @@ pub(crate) fn place<V>(pages: &[Page<V>], key: &[u8]) -> usize
 }
 
 // How many more entries fit without memory in the page where the key stands or would stand.
-pub(crate) fn room<V>(pages: &[Page<V>], key: &[u8]) -> usize
+pub(crate) fn room<V: Aging>(pages: &[Page<V>], key: &[u8]) -> usize
     requires { IsInOrder pages.now }
     ensures { result ≡ room_at key.now pages.now }
 {

@@ -1,10 +1,11 @@
 //! Lent entries.
+use crate::aging::Aging;
 use crate::page::Page;
 use model::{Key, KeyRef};
 use std::alloc::AllocError;
 
-/// The entries of a range by rising key, lent one by one. Its calls take no memory.
-pub struct Entries<'a, V> {
+/// The entries of a range whose values aren't blank, by rising key, lent one by one. Its calls take no memory.
+pub struct Entries<'a, V: Aging> {
     // what is left of a page, and the pages after it
     pub(crate) front: &'a [(Key, V)],
     pub(crate) pages: &'a [Page<V>],
@@ -12,18 +13,19 @@ pub struct Entries<'a, V> {
     pub(crate) hi: Option<KeyRef<'a>>,
 }
 
-impl<'a, V> Clone for Entries<'a, V> {
+impl<'a, V: Aging> Clone for Entries<'a, V> {
     fn clone(&self) -> Result<Self, AllocError> {
         Ok(*self)
     }
 }
 
-impl<'a, V> Copy for Entries<'a, V> {}
+impl<'a, V: Aging> Copy for Entries<'a, V> {}
 
-impl<'a, V> Entries<'a, V> {
+impl<'a, V: Aging> Entries<'a, V> {
     ghost use Rattle.std.specs.Prelude.{◌≡◌};
     ghost use Rattle.model.specs.Map.{is_below};
     ghost use Rattle.model.specs.KeyBytes.{end_bytes};
+    ghost use Rattle.sorted_pages.specs.Ranges.{IsFirstShown, entries_left};
 
     // Is the key below the upper end?
     fn is_in(&self, key: KeyRef<'_>) -> bool
@@ -34,27 +36,43 @@ impl<'a, V> Entries<'a, V> {
             Some(hi) => key.order(hi).is_lt(),
         }
     }
+
+    // Passes over the blank entries at the front.
+    fn pass_blank(&mut self)
+        ensures left { entries_left V.is_blank self.new ≡ entries_left V.is_blank self.old }
+        ensures first { IsFirstShown V.is_blank self.new.front.now }
+        ensures pages { self.new.pages ≡ self.old.pages }
+    {
+        while let Some((entry, rest)) = self.front.split_first() {
+            if !entry.1.is_blank() {
+                return;
+            }
+            self.front = rest;
+        }
+    }
 }
 
-impl<'a, V> Iterator for Entries<'a, V> {
+impl<'a, V: Aging> Iterator for Entries<'a, V> {
     type Item = (KeyRef<'a>, &'a V);
 
     ghost use Rattle.std.specs.Iterator.{YieldsFirstBy, item_count};
     ghost use Rattle.sorted_pages.specs.Ranges.{entries_left, entry_of};
 
-    ghost next_gives = { YieldsFirstBy entry_of entries_left };
+    ghost next_gives = { YieldsFirstBy entry_of (entries_left V.is_blank) };
 
-    ghost remaining = { item_count entries_left };
+    ghost remaining = { item_count (entries_left V.is_blank) };
 
     fn next(&mut self) -> Option<(KeyRef<'a>, &'a V)> {
+        self.pass_blank();
         while self.front.is_empty() {
             match self.pages.split_first() {
                 None => return None,
                 Some((page, rest)) => {
-                    self.front = page.entries();
+                    self.front = page.after_blank();
                     self.pages = rest;
                 }
             }
+            self.pass_blank();
         }
         match self.front.split_first() {
             None => None,

@@ -11,6 +11,7 @@ use Rattle.std.specs.FinMap.Entries.{put, below_all, by_order}
 use Rattle.std.proofs.lemmas.Bool.{both_ways, cases_Bool, le-leb, leb-true}
 use Rattle.std.proofs.lemmas.Map.Lookups.{exact_bytes}
 use Rattle.sorted_pages.specs.Pages.{Page, room_at}
+use Rattle.sorted_pages.specs.Trims.{put_some, changed_at}
 use Rattle.model.specs.Map.{Bytes, KeyMap, KeyWrite, IsMap, key_cmp, is_same_key, value_at, after_write, after_writes}
 use Rattle.model.proofs.Lookups.{same_key, same_key_itself, same_key_comm, same_map}
 use Rattle.versions.specs.Chains.{Stamped, ChainValue, Chains, ChainsValue, find_chain, seen, seen_in, version_at, value_of, visible, with_value, added, stamped, fresh_chain, IsReady, HasPlace, HasRoom, IsPrepared, reclaimed, IsReclaimedAt, base_chains, IsKept, IsRisingChain, IsRisingTo, IsRoomier, IsRoomierChain}
@@ -406,3 +407,10 @@ reclaimed-none bs k es none = record {
   ] refl;
   kept = λ last h. h;
 }
+
+pub reclaimed-at : (bs : List ℕ) (k : Bytes) (es fs : Chains) → fs ≡ changed_at (reclaimed bs) k es → IsReclaimedAt bs k es fs
+reclaimed-at bs k es fs whole = by (find_chain k es) refl
+  where
+    by : (o : Option ChainValue) → find_chain k es ≡ o → IsReclaimedAt bs k es fs
+    by None e = subst (IsReclaimedAt bs k es) (sym (whole ∙ ap (λ o. put_some k (option_map (reclaimed bs) o) es) e)) (reclaimed-none bs k es e)
+    by (Some c) e = reclaimed-put bs k c es fs e (whole ∙ ap (λ o. put_some k (option_map (reclaimed bs) o) es) e)

@@ -1,5 +1,8 @@
 -- What the numbers see when chains change.
-use Rattle.std.proofs.Common.{◌≡◌, ℕ, Bool, true, false, T, cond, ◌&&◌, List, [], ◌∷◌, Some, None, refl, sym, ap, ◌∙◌}
+use Rattle.std.proofs.Common.{◌≡◌, ℕ, Bool, true, false, T, cond, ◌&&◌, List, [], ◌∷◌, length, Option, Some, None, refl, sym, ap, ◌∙◌, arith}
+use Rattle.std.specs.Prelude.{◌==◌, is_none, nat_le, if◌then◌else◌}
+use Rattle.std.proofs.lemmas.Bool.{and_parts, both_ways}
+use Rattle.std.proofs.lemmas.Bool.Decides.{nat_tests}
 use Rattle.std.specs.declared.cmp.Ordering.{Ordering}
 use Rattle.std.specs.declared.cmp.Ordering.TheVariants.{Less, Equal, Greater}
 use Rattle.std.specs.Ordering.{is_eq, is_lt, nat_cmp}
@@ -7,7 +10,8 @@ use Rattle.std.specs.Cmp.Lexicographic.{slice_cmp, nat_list_cmp_total}
 use Rattle.std.specs.FinMap.Entries.{find, put, where_key, below_all, find-put, is_sorted-put}
 use Rattle.model.specs.Map.{Bytes, IsMap, is_same_key, value_at, after_write}
 use Rattle.model.proofs.Lookups.{same_key, same_map, value_after_write, IsMap-after_write}
-use Rattle.versions.specs.Chains.{ChainValue, Chains, find_chain, seen, seen_in, with_value, visible}
+use Rattle.sorted_pages.specs.Blanks.{shown}
+use Rattle.versions.specs.Chains.{Stamped, ChainValue, Chains, find_chain, is_blank, last_at, seen, seen_in, value_of, with_value, visible}
 use Rattle.model.proofs.Entries.{IsSorted, IsBelowAll, parts}
 
 both : (a b : Bool) → T a → T b → T (a && b)
@@ -108,6 +112,31 @@ visible-where n p (e ∷ es) =
         | Some v ↦ sym (ap (λ b. cond b ((e.0, v) ∷ where_key (slice_cmp nat_cmp) p (visible n es)) (where_key (slice_cmp nat_cmp) p (visible n es))) t)
       ]
     ] refl
+
+-- a blank chain shows nothing
+none-blank : (n : ℕ) (c : ChainValue) → is_blank c ≡ true → seen n c ≡ None
+none-blank n c t =
+    let parts = and_parts (length c.older == 0) (is_none c.newest.value) t in
+    let none : length c.older ≡ 0 = grind (arith, nat_tests, parts.0) in
+    elim (nat_le c.newest.number n) as (λ b. value_of (if b then Some c.newest else last_at n None c.older) ≡ None) [
+      | true ↦ no_value c.newest.value parts.1
+      | false ↦ no_older c.older none
+    ]
+  where
+    no_value : (o : Option Bytes) → is_none o ≡ true → o ≡ None
+    no_value None s = refl
+    no_value (Some v) s = absurd (both_ways false refl s)
+
+    no_older : (vs : List Stamped) → length vs ≡ 0 → value_of (last_at n None vs) ≡ None
+    no_older [] e = refl
+    no_older (v ∷ vs) e = absurd (omega arith)
+
+pub visible-shown : (n : ℕ) (es : Chains) → visible n (shown is_blank es) ≡ visible n es
+visible-shown n [] = refl
+visible-shown n (e ∷ es) = elim (is_blank e.1) as (λ b. is_blank e.1 ≡ b → visible n (cond b (shown is_blank es) (e ∷ shown is_blank es)) ≡ with_value e.0 (seen n e.1) (visible n es)) [
+  | true ↦ λ t. visible-shown n es ∙ sym (ap (λ o. with_value e.0 o (visible n es)) (none-blank n e.1 t))
+  | false ↦ λ t. ap (with_value e.0 (seen n e.1)) (visible-shown n es)
+] refl
 
 -- first by one test and then by another
 pub where_twice : {X : Type 0} (p q r : Bytes → Bool) → ((k : Bytes) → r k ≡ (p k && q k)) → (es : List (Bytes × X)) → where_key (slice_cmp nat_cmp) p (where_key (slice_cmp nat_cmp) q es) ≡ where_key (slice_cmp nat_cmp) r es

@@ -1,5 +1,5 @@
 -- Chains of versions by key, as contracts see them.
-use Rattle.std.specs.Prelude.{◌≡◌, ℕ, T, ◌+◌, ◌-◌, ◌<◌, ◌≤◌, Bool, List, [], ◌∷◌, ◌++◌, length, Option, Some, None, option_map, nat_le, nat_lt, ◌&&◌, if◌then◌else◌, ⊤}
+use Rattle.std.specs.Prelude.{◌≡◌, ℕ, T, ◌+◌, ◌-◌, ◌<◌, ◌≤◌, Bool, List, [], ◌∷◌, ◌++◌, length, Option, Some, None, option_map, nat_le, nat_lt, ◌&&◌, ◌==◌, is_none, if◌then◌else◌, ⊤}
 use Rattle.std.specs.List.{AllByRecursion, list_any}
 use Rattle.std.specs.Ordering.{nat_cmp}
 use Rattle.std.specs.Cmp.Lexicographic.{slice_cmp}
@@ -58,6 +58,10 @@ find_chain k es = find (slice_cmp nat_cmp) k es
 abbrev pub with_value : Bytes → Option Bytes → KeyMap → KeyMap
 with_value k None ps = ps
 with_value k (Some v) ps = (k, v) ∷ ps
+
+-- the key is deleted, and nothing older is kept, so no number sees anything
+abbrev pub is_blank : ChainValue → Bool
+is_blank c = length c.older == 0 && is_none c.newest.value
 
 -- the pairs that n sees
 abbrev pub visible : ℕ → Chains → KeyMap

@@ -1,8 +1,9 @@
 //! The versions of one key.
-ghost use Rattle.std.specs.Prelude.{◌≡◌, ◌+◌, ◌<◌, ◌≤◌, length, IsOk, OnOk, option_copied};
-ghost use Rattle.versions.specs.Chains.{seen, longer_chain, fresh_chain, reclaimed, is_between};
+ghost use Rattle.std.specs.Prelude.{◌≡◌, ◌+◌, ◌<◌, ◌≤◌, length, IsOk, OnOk, Some, option_copied};
+ghost use Rattle.versions.specs.Chains.{seen, longer_chain, fresh_chain, reclaimed, is_between, is_blank};
 ghost use Rattle.versions.specs.Listings.{has_version};
 
+use sorted_pages::Aging;
 use std::alloc::{AllocError, Global};
 use std::marker::Model;
 use std::mem;
@@ -65,13 +66,6 @@ impl Chain {
         self.older.len() + 1
     }
 
-    // Is there a version of this number before the newest?
-    pub(crate) fn has_version(&self, n: u64) -> bool
-        ensures { result ≡ has_version n (Some self.now) }
-    {
-        self.older.iter().any(|version| version.number == n)
-    }
-
     // What number `n` sees. The walk starts at the newest, which most readers see.
     pub(crate) fn seen(&self, n: u64) -> Option<&[u8]>
         ensures { option_copied result ≡ seen n self.now }
@@ -95,7 +89,12 @@ impl Chain {
         ensures made { OnOk result (0 < self.new.room) }
         ensures known { 0 < self.old.room → IsOk result }
     {
-        self.older.reserve(1)
+        // Most keys never have more than one older version, so the first takes no room to spare.
+        if self.older.capacity() == 0 {
+            self.older.reserve_exact(1)
+        } else {
+            self.older.reserve(1)
+        }
     }
 
     // Adds a version in the room that was made for it.
@@ -111,7 +110,7 @@ impl Chain {
     }
 
     // Drops the older versions that none of the numbers sees.
-    pub(crate) fn reclaim(&mut self, begins: &[u64])
+    fn reclaim(&mut self, begins: &[u64])
         ensures { self.new ≡ reclaimed begins.now self.old }
     {
         let last = self.newest.number;
@@ -128,6 +127,28 @@ impl Chain {
                 let _ = self.older.remove(i);
             }
         }
+    }
+}
+
+impl Aging for Chain {
+    ghost trimmed = { reclaimed };
+
+    ghost has = { λ n c. has_version n (Some c) };
+
+    ghost is_blank = { is_blank };
+
+    fn trim(&mut self, numbers: &[u64]) {
+        self.reclaim(numbers);
+    }
+
+    // Is there a version of this number before the newest?
+    fn has(&self, number: u64) -> bool {
+        self.older.iter().any(|version| version.number == number)
+    }
+
+    // Is the key deleted, with nothing older?
+    fn is_blank(&self) -> bool {
+        self.older.is_empty() && self.newest.value.is_none()
     }
 }
 

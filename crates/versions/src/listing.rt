@@ -79,6 +79,13 @@ impl Group {
         self.witness
     }
 
+    // How many versions there are.
+    pub(crate) fn count(&self) -> usize {
+        self.lists
+            .iter()
+            .fold(0, |sum: usize, list| sum.saturating_add(list.len()))
+    }
+
     pub(crate) fn is_empty(&self) -> bool
         ensures { result ≡ true → self.now.versions ≡ [] }
     {

@@ -1,6 +1,6 @@
 //! Old versions go.
-ghost use Rattle.std.specs.Prelude.{◌≡◌, ◌↔◌, ℕ, T, false, IfSome, IsSome, IsTrue, ◌<◌, ◌+◌, ◌^◌, ◌++◌, length, take, drop, option_map};
-ghost use Rattle.std.specs.List.{AllByRecursion};
+ghost use Rattle.std.specs.Prelude.{◌≡◌, ◌↔◌, ℕ, T, false, IfSome, IsTrue, nat_le, ◌<◌, ◌+◌, ◌^◌, ◌++◌, length, take, drop, option_map};
+ghost use Rattle.std.specs.List.{AllByRecursion, list_all};
 ghost use Rattle.std.specs.Ordering.{nat_cmp};
 ghost use Rattle.std.specs.Cmp.Lexicographic.{slice_cmp};
 ghost use Rattle.std.specs.FinMap.Entries.{is_sorted};
@@ -13,30 +13,15 @@ ghost use Rattle.versions.specs.Meaning.{is_among};
 
 use crate::chain::Chain;
 use crate::listing::{Group, OldVersion, are_empty, are_seen_from, greatest_below, is_among};
-use model::KeyRef;
 use sorted_pages::SortedPages;
 use std::collections::LinkedList;
 use std::mem;
 
+// How many versions have to be listed for each page so that all keys are walked over in place of a look at each version.
+const WALK_FROM: usize = 4;
+
 // One more than the most lists that a group can have.
 const LISTS_END: usize = 0x8000_0000_0000_0000;
-
-// Drops the older versions of a key that has a chain which none of the numbers sees. Is the one of this number still there?
-fn reclaim_chain(
-    chains: &mut SortedPages<Chain>,
-    key: KeyRef<'_>,
-    number: u64,
-    begins: &[u64],
-) -> bool
-    requires sorted { T (is_sorted (slice_cmp nat_cmp) (entries chains.old)) }
-    requires present { IsSome (find_chain key.bytes.now (entries chains.old)) }
-    ensures reclaimed { IsReclaimedAt begins.now key.entry.bytes.now (entries chains.old) (entries chains.new) }
-    ensures left { result ≡ has_version number (find_chain key.entry.bytes.now (entries chains.new)) }
-{
-    let chain = chains.value_mut(key);
-    chain.reclaim(begins);
-    chain.has_version(number)
-}
 
 // Drops the older versions of the key that none of the numbers sees. Is this one still there?
 fn reclaim_version(chains: &mut SortedPages<Chain>, version: &OldVersion, begins: &[u64]) -> bool
@@ -44,11 +29,7 @@ fn reclaim_version(chains: &mut SortedPages<Chain>, version: &OldVersion, begins
     ensures reclaimed { IsReclaimedAt begins.now version.now.key (entries chains.old) (entries chains.new) }
     ensures left { result ≡ has_version version.now.number (find_chain version.now.key (entries chains.new)) }
 {
-    let key = version.key.lend();
-    match chains.get(key) {
-        None => false,
-        Some(_) => reclaim_chain(chains, key, version.number, begins),
-    }
+    chains.trim_at(version.key.lend(), begins, version.number)
 }
 
 // Looks after those of the versions that `next`, one of the numbers, doesn't see: what none of the numbers sees goes from their
@@ -186,7 +167,7 @@ impl Group {
 }
 
 // Drops the older versions that none of the numbers sees. Only the groups are looked at whose witness is none of them.
-pub(crate) fn reclaim_listed(chains: &mut SortedPages<Chain>, groups: &mut [Group], begins: &[u64])
+fn reclaim_listed(chains: &mut SortedPages<Chain>, groups: &mut [Group], begins: &[u64])
     requires kept { (last : ℕ) × IsKept (entries chains.old) last }
     requires listed { IsListed (entries chains.old) groups.old }
     ensures reclaimed { (k : Bytes) → find_chain k (entries chains.new) ≡ option_map (reclaimed begins.now) (find_chain k (entries chains.old)) }
@@ -198,6 +179,25 @@ pub(crate) fn reclaim_listed(chains: &mut SortedPages<Chain>, groups: &mut [Grou
             groups[i].settle(chains, begins);
         }
     }
+}
+
+// Drops all older versions, where each of the numbers is at least the greatest that was installed, in one walk by rising key. Nothing
+// is listed then.
+fn reclaim_all(chains: &mut SortedPages<Chain>, groups: &mut Vec<Group>, begins: &[u64])
+    requires late { (last : ℕ) × IsKept (entries chains.old) last × IsTrue (list_all (nat_le last) begins.now) }
+    ensures reclaimed { (k : Bytes) → find_chain k (entries chains.new) ≡ option_map (reclaimed begins.now) (find_chain k (entries chains.old)) }
+    ensures kept { (last : ℕ) → IsKept (entries chains.old) last → IsKept (entries chains.new) last }
+    ensures listed { IsListed (entries chains.new) groups.new.items }
+{
+    chains.trim(begins);
+    groups.clear();
+}
+
+// Is each of the numbers at least this one?
+fn are_from(numbers: &[u64], least: u64) -> bool
+    ensures { result ≡ list_all (nat_le least) numbers.now }
+{
+    numbers.iter().all(|number| least <= *number)
 }
 
 // Joins a group to the one before it, where both have one witness. Did it? Takes no memory.
@@ -216,7 +216,7 @@ fn join(groups: &mut Vec<Group>, i: usize) -> bool
 }
 
 // Takes the empty groups out, and joins neighbours with one witness.
-pub(crate) fn join_groups(groups: &mut Vec<Group>)
+fn join_groups(groups: &mut Vec<Group>)
     ensures { AreFound groups.old.items groups.new.items }
 {
     let mut i = 0;
@@ -227,4 +227,32 @@ pub(crate) fn join_groups(groups: &mut Vec<Group>)
             i += 1;
         }
     }
+}
+
+// Drops the older versions that none of the numbers sees, where `last` is the greatest number that was installed. Takes no memory.
+pub(crate) fn reclaim_versions(
+    chains: &mut SortedPages<Chain>,
+    groups: &mut Vec<Group>,
+    last: u64,
+    begins: &[u64],
+)
+    requires kept { IsKept (entries chains.old) last }
+    requires listed { IsListed (entries chains.old) groups.old.items }
+    ensures reclaimed { (k : Bytes) → find_chain k (entries chains.new) ≡ option_map (reclaimed begins.now) (find_chain k (entries chains.old)) }
+    ensures kept { IsKept (entries chains.new) last }
+    ensures listed { IsListed (entries chains.new) groups.new.items }
+{
+    if are_from(begins, last) && listed(groups) / WALK_FROM >= chains.pages() {
+        reclaim_all(chains, groups, begins);
+    } else {
+        reclaim_listed(chains, groups, begins);
+        join_groups(groups);
+    }
+}
+
+// How many versions the groups list. No clause rests on it: it only decides which of two ways is the faster.
+fn listed(groups: &[Group]) -> usize {
+    groups
+        .iter()
+        .fold(0, |sum: usize, group| sum.saturating_add(group.count()))
 }

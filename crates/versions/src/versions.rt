@@ -15,7 +15,7 @@ use crate::chain::{Chain, Version};
 use crate::installing::{add_all, make_room};
 use crate::listing::{Group, OldVersion, reserve_list};
 use crate::pairs::Pairs;
-use crate::reclaiming::{join_groups, reclaim_listed};
+use crate::reclaiming::reclaim_versions;
 use model::{KeyRef, Map, Memory, RangeRef, Write};
 use sorted_pages::SortedPages;
 use std::alloc::{AllocError, Global};
@@ -172,13 +172,13 @@ impl Versions {
     /// deletion that is the newest version of its key stays.
     ///
     /// Each older version is listed under a number that sees it, and is looked at once that number is none of these, so the cost is
-    /// that of the versions that came in or lost their number since the last time, not of all that are kept. Takes no memory: where
-    /// the versions of two commits come under one number, their lists are linked.
+    /// that of the versions that came in or lost their number since the last time, not of all that are kept. Where all numbers are at
+    /// least the last commit's and many versions are listed, all keys are walked over once instead, in their order. Takes no memory:
+    /// where the versions of two commits come under one number, their lists are linked.
     pub fn reclaim(&mut self, begins: &[u64])
         ensures reclaimed { IsReclaimed self.old self.new begins.now }
         ensures stands { (held : ℕ → Bool) (base : KeyMap) (history : List Record) → StandsFor self.old held base history → StandsFor self.new (λ n. held n && is_among begins.now n) base history }
     {
-        reclaim_listed(&mut self.chains, &mut self.groups, begins);
-        join_groups(&mut self.groups);
+        reclaim_versions(&mut self.chains, &mut self.groups, self.last, begins);
     }
 }

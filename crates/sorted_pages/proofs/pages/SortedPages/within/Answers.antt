@@ -3,6 +3,7 @@ use Rattle.std.proofs.lemmas.List.{take_rest}
 use Rattle.model.specs.Map.{Bytes}
 use Rattle.model.specs.KeyBytes.{end_bytes}
 use Rattle.sorted_pages.specs.Pages.{Page, IsPlace, IsInOrder, entries}
+use Rattle.sorted_pages.specs.Blanks.{shown}
 use Rattle.sorted_pages.specs.Ranges.{IsTail}
 use Rattle.sorted_pages.proofs.Placings.{page_sorted}
 use Rattle.sorted_pages.proofs.Tails.{In, range_from, after_is}
@@ -23,5 +24,5 @@ returns g c =
     let at = subst (λ (k : Bytes). IsPlace ps k i) c.bytes.ensures.bytes c.place-i.ensures in
     let order = subst (λ (l : List (Page g.row.V.Denot)). IsInOrder l) (sym c.as_slice-pages.ensures.value) c.self.invariant in
     let tail = subst (λ (k : Bytes). IsTail page.0 k front) c.bytes-2.ensures.bytes c.entries_from.ensures in
-    range_from ps lo (end_bytes c.args.hi) i page front _ at c.index-pages-i.is order tail (take_rest ps (i + 1) ∙ after_is ps lo i at)
-    ∙ ap (λ (l : List (Page g.row.V.Denot)). In lo (end_bytes c.args.hi) (entries l)) (c.as_slice-pages.ensures.value ∙ c.self.view_is)
+    range_from g.V.Aging.is_blank ps lo (end_bytes c.args.hi) i page front _ at c.index-pages-i.is order tail (take_rest ps (i + 1) ∙ after_is ps lo i at)
+    ∙ ap (λ (l : List (Page g.row.V.Denot)). In lo (end_bytes c.args.hi) (shown g.V.Aging.is_blank (entries l))) (c.as_slice-pages.ensures.value ∙ c.self.view_is)

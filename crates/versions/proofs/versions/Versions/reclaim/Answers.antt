@@ -1,14 +1,10 @@
-use Rattle.std.proofs.Common.{ℕ, List, ◌≡◌, ◌++◌, drop, take, length, sym, subst, refl, arith}
+use Rattle.std.proofs.Common.{ℕ, List, ◌≡◌, subst, refl}
 use Rattle.std.specs.Prelude.{option_map}
 use Rattle.model.specs.Map.{Bytes}
-use Rattle.sorted_pages.specs.Pages.{entries}
 use Rattle.versions.specs.Chains.{ChainsValue, IsKept, find_chain, reclaimed}
-use Rattle.versions.specs.Listings.{GroupValue, IsListed}
 use Rattle.versions.specs.Meaning.{IsReclaimed}
 use Rattle.versions.proofs.Stores.{reclaimed-whole}
 use Rattle.versions.proofs.Histories.{stands-reclaimed}
-use Rattle.versions.proofs.Calls.{all_items}
-use Rattle.versions.proofs.Listings.{groups-found}
 use Rattle.versions.proofs.versions.Versions.reclaim.Goals as goal
 
 whole : (old inside new : ChainsValue) (bs : List ℕ) → inside ≡ old → IsKept inside.chains inside.last → IsKept new.chains new.last → new.last ≡ inside.last
@@ -16,18 +12,10 @@ whole : (old inside new : ChainsValue) (bs : List ℕ) → inside ≡ old → Is
 whole old inside new bs same kept kept' last each = subst (λ (v : ChainsValue). IsReclaimed v new bs) same (reclaimed-whole inside new bs kept kept' last each)
 
 pub invariant_of-self : goal.invariant_of-self
-invariant_of-self c =
-    let new = entries c.reclaim_listed.new.chains in
-    let groups = c.reclaim_listed.new.groups in
-    let are = all_items c.self.inside.groups.len groups (drop (length groups) c.self.inside.groups.items) (omega (arith, c.deref_mut.ensures.len, c.reclaim_listed.auto.groups)) in
-    let listed = c.reclaim_listed.ensures.listed in (
-      c.reclaim_listed.ensures.kept c.self.inside.last c.self.invariant.0,
-      groups-found new (take c.self.inside.groups.len (groups ++ drop (length groups) c.self.inside.groups.items)) c.join_groups.new.groups.items c.join_groups.ensures (subst (λ (l : List GroupValue). IsListed new l) (sym are) listed),
-      c.self.invariant.2,
-    )
+invariant_of-self c = (c.reclaim_versions.ensures.kept, c.reclaim_versions.ensures.listed, c.self.invariant.2)
 
 pub returns-clause-reclaimed : goal.returns-clause-reclaimed
-returns-clause-reclaimed c = whole c.args.self.now _ _ c.args.begins.now c.self.view_is c.self.invariant.0 (c.reclaim_listed.ensures.kept c.self.inside.last c.self.invariant.0) refl c.reclaim_listed.ensures.reclaimed
+returns-clause-reclaimed c = whole c.args.self.now _ _ c.args.begins.now c.self.view_is c.self.invariant.0 c.reclaim_versions.ensures.kept refl c.reclaim_versions.ensures.reclaimed
 
 pub returns-clause-stands : goal.returns-clause-stands
 returns-clause-stands c = λ held base history s. stands-reclaimed c.args.self.now held base history _ c.args.begins.now (returns-clause-reclaimed c) s

@@ -1,0 +1,41 @@
+//! Values are trimmed.
+ghost use Rattle.std.specs.Prelude.{◌≡◌};
+ghost use Rattle.std.specs.Ordering.{nat_cmp};
+ghost use Rattle.std.specs.Cmp.Lexicographic.{slice_cmp};
+ghost use Rattle.std.specs.FinMap.Entries.{find};
+ghost use Rattle.sorted_pages.specs.Pages.{IsInOrder, entries};
+ghost use Rattle.sorted_pages.specs.Trims.{all_changed, changed_at, passes};
+
+use crate::aging::Aging;
+use crate::page::Page;
+use crate::placing::place;
+
+// Trims the key's value, where it has one. Does it keep something of this number then?
+pub(crate) fn trim_at<V: Aging>(
+    pages: &mut [Page<V>],
+    key: &[u8],
+    numbers: &[u64],
+    number: u64,
+) -> bool
+    requires order { IsInOrder pages.old }
+    ensures order { IsInOrder pages.new }
+    ensures entries { entries pages.new ≡ changed_at (V.trimmed numbers.now) key.now (entries pages.old) }
+    ensures left { result ≡ passes (V.has number) (find (slice_cmp nat_cmp) key.now (entries pages.new)) }
+{
+    if pages.is_empty() {
+        return false;
+    }
+    let i = place(pages, key);
+    pages[i].trim_at(key, numbers, number)
+}
+
+// Trims all values, page by page.
+pub(crate) fn trim<V: Aging>(pages: &mut [Page<V>], numbers: &[u64])
+    requires order { IsInOrder pages.old }
+    ensures order { IsInOrder pages.new }
+    ensures entries { entries pages.new ≡ all_changed (V.trimmed numbers.now) (entries pages.old) }
+{
+    for i in 0..pages.len() {
+        pages[i].trim(numbers);
+    }
+}
