@@ -8,7 +8,7 @@ use Rattle.std.specs.BTreeMap.{is_at}
 use Rattle.std.specs.FinMap.Entries.{where_key, is_sorted-where_key}
 use Rattle.std.proofs.lemmas.Bool.{lt-ltb, le-ltb, le-leb, eq-eqb, ne_eqb, or_left, or_right, cases_lt, both_ways}
 use Rattle.model.specs.declared.refusals.Refusal.{Refusal}
-use Rattle.model.specs.declared.refusals.Refusal.TheVariants.{StoreStopped, FullNumbers, FullLog, StoreFault, Overwritten, PivotSelf, Pivot}
+use Rattle.model.specs.declared.refusals.Refusal.TheVariants.{StoreStopped, FullNumbers, FullLog, StoreFault, Overwritten}
 use Rattle.model.specs.Map.{Bytes, KeyMap, KeyWrite, after_writes}
 use Rattle.model.specs.Operations.{Operation, Response}
 use Rattle.model.specs.Operations.Operation.{Commit}
@@ -20,9 +20,8 @@ use Rattle.model.proofs.Machines.{map_at-append, commit_low}
 use Rattle.snapshot.specs.View.{View}
 use Rattle.snapshot.specs.Made.{HasMade, is_refused}
 use Rattle.model.specs.PrivateCopy.{PrivateCopy, writes}
-use Rattle.pivot_check.specs.Kept.{Facts, CommittedValue, IsInReach}
+use Rattle.pivot_check.specs.Kept.{Facts, IsInReach}
 use Rattle.pivot_check.specs.StandsFor.{IsRecordOf, IsVerdict, IsClear, StandsFor as CommittedStandsFor}
-use Rattle.pivot_check.specs.declared.Verdict.{Verdict}
 use Rattle.pivot_check.specs.declared.Verdict.TheVariants as verdicts
 use Rattle.sector.specs.declared.device.Sectors.{Ghosts}
 use Rattle.sector.specs.Failures.{Rose, Stayed}
@@ -32,7 +31,7 @@ use Rattle.commit_log.specs.LogState.{is_stopped, used_sectors, sector_count}
 use Rattle.engine.specs.HistoryValue.{HistoryValue, HistoryStandsFor, IsSameHistory}
 use Rattle.engine.specs.declared.engine.Engine.{Engine}
 use Rattle.engine.specs.StandsFor.{StandsFor, IsRunning, AreRunning}
-use Rattle.engine.specs.Changes.{entry_of, Leaves, IsWritten, HasLogRoom, IsLogged, IsLogStopped, sectors_taken}
+use Rattle.engine.specs.Changes.{entry_of, Leaves, IsWritten, IsLogged, IsLogStopped, sectors_taken}
 use Rattle.engine.specs.declared.faults.EngineFault.{EngineFault}
 use Rattle.engine.specs.declared.faults.EngineFault.TheVariants.{Refused as Refusing}
 use Rattle.engine.specs.Meaning.{StandsForSame, Leads, IsNotRefused, IsReadOnly, IsLeftByCommit, has_risen, response_to}
@@ -40,7 +39,8 @@ use Rattle.engine.specs.Recovery.{IsStored, IsInDoubt, HoldsMap, committed_map}
 use Rattle.engine.proofs.Crashes.{weaker_crash}
 use Rattle.engine.proofs.Sessions.{IsFound, beside_remove, beside_weaker}
 use Rattle.engine.proofs.Steps.{step_with, reached_step, commit_stopped, commit_numbers, commit_judged, store_full, store_fault, store_joined, map_at_push, map_at_all}
-use Rattle.engine.proofs.Calls.{Held, found_open, ended}
+use Rattle.engine.proofs.Calls.{Held, found_open, leave_call}
+use Rattle.engine.specs.Judgements.{IsRefused, IsToJudge, IsToCommit}
 
 -- ---- memory made ready
 
@@ -68,21 +68,10 @@ are_running facts facts' held base history es es' rs f x h = subst (λ (l : List
 
 -- ---- places
 
-at_place : (ws : List KeyWrite) (i : ℕ) (w : KeyWrite) → slice_get ws i ≡ Some w → slice_index_or ws i w ≡ w
-at_place [] i w e = cc
-at_place (x ∷ ws) zero w e = cc
-at_place (x ∷ ws) (suc i) w e = at_place ws i w e
-
-written_or_not : (ws : List KeyWrite) → (ws ≡ []) ⊎ IsWritten ws
-written_or_not [] = inl refl
-written_or_not (w ∷ ws) = inr (λ e. cc)
-
--- no room in the log
-pub no_room : (b : Bool) (used count : ℕ) (ws : List KeyWrite) → (IsTrue b ↔ HasLogRoom used count ws) → b ≡ false → IsWritten ws × (count ≤ used + body_sectors ws)
-no_room b used count ws iff e = elim (written_or_not ws) [
-  | inl none ↦ absurd (both_ways b e (iff.1 (λ some. absurd (some none))))
-  | inr some ↦ (some, elim (cases_lt (used + body_sectors ws) count) [ inl lt ↦ absurd (both_ways b e (iff.1 (λ s. lt))) | inr le ↦ le ])
-]
+at_place : (ws : List KeyWrite) (i : ℕ) (w d : KeyWrite) → slice_get ws i ≡ Some w → slice_index_or ws i d ≡ w
+at_place [] i w d e = cc
+at_place (x ∷ ws) zero w d e = cc
+at_place (x ∷ ws) (suc i) w d e = at_place ws i w d e
 
 -- ---- the device's failures
 
@@ -100,6 +89,23 @@ risen before now h = elim h [
 
 some_same : {X : Type 0} (x y : X) → Some x ≡ Some y → x ≡ y
 some_same x y q = cc
+
+-- no room in the log
+pub no_room : (b : Bool) (used n count : ℕ) → (IsTrue b ↔ (used + n < count)) → b ≡ false → count ≤ used + n
+no_room b used n count iff is = elim (cases_lt (used + n) count) [ inl lt ↦ absurd (both_ways b is (iff.1 lt)) | inr le ↦ le ]
+
+-- ---- what is judged of a transaction
+
+-- its writes are those of its requests
+abbrev pub HasItsWrites : View → Type 0
+HasItsWrites t = (m : KeyMap) (qs : List Operation) → HasMade t m qs → t.writes ≡ writes m qs
+
+pub its_writes : (t : View) (ws : List KeyWrite) → ws ≡ t.writes → ((m : KeyMap) (qs : List Operation) → HasMade t m qs → ws ≡ writes m qs) → HasItsWrites t
+its_writes t ws is made m qs h = sym is ∙ made m qs h
+
+-- the verdict over each history that is stood for
+abbrev pub HasVerdict : Facts → View → Option Refusal → Type 0
+HasVerdict f t o = IsInReach f t → (history : List Record) → CommittedStandsFor f history → (r : Record) → IsRecordOf t (f.last + 1) r → verdict history r ≡ o
 
 module _ {D : Type 0} {g : Ghosts D} where
   pub same_with : (e e' : Engine D g) (m : State) → e'.log ≡ e.log → e'.running.entries ≡ e.running.entries → IsSameHistory e.history e'.history → StandsFor e m → StandsFor e' m
@@ -125,42 +131,27 @@ module _ {D : Type 0} {g : Ghosts D} where
 
   -- ---- a commit that is refused, and ends the transaction
 
-  pub told : {A : Type 0} (e e' : Engine D g) (s : ℕ) (failed : Bool) (f : A → Response) (result : EngineFault) (refusal : Refusal) → result ≡ Refusing refusal → Leads e e' s Commit failed (Some (Refused refusal))
-      → Leads e e' s Commit failed (response_to f (Err result))
-  told e e' s failed f result refusal is h = subst (λ r. Leads e e' s Commit failed (response_to f (Err r))) (sym is) h
+  pub fault_told : {A : Type 0} (e e' : Engine D g) (s : ℕ) (failed : Bool) (f : A → Response) (fault : EngineFault) (refusal : Refusal) → fault ≡ Refusing refusal → Leads e e' s Commit failed (Some (Refused refusal))
+      → Leads e e' s Commit failed (response_to f (Err fault))
+  fault_told e e' s failed f fault refusal is h = subst (λ x. Leads e e' s Commit failed (response_to f (Err x))) (sym is) h
 
-  commit_ended : (e e' : Engine D g) (s : ℕ) (t : View) (failed : Bool) (refusal : Refusal) → entry_of s e ≡ Some t → Leaves e e' s
-      → ((m : State) (r : Running) (h : StandsFor e m) → Held e m h t r → commit m s r failed ≡ refuse m s refusal) → Leads e e' s Commit failed (Some (Refused refusal))
-  commit_ended e e' s t failed refusal some leaves says = ended e e' s t Commit failed (Refused refusal) some leaves (λ m r h is same. says m r h same)
+  pub ended_refused : {A : Type 0} (e e' : Engine D g) (s : ℕ) (failed : Bool) (f : A → Response) (fault : EngineFault) (refusal : Refusal) → IsRefused e s refusal → Leaves e e' s → fault ≡ Refusing refusal → Leads e e' s Commit failed (response_to f (Err fault))
+  ended_refused e e' s failed f fault refusal refused leaves is =
+      fault_told e e' s failed f fault refusal is
+      (λ m h. (subst (λ (p : State × Response). StandsFor e' p.0) (sym (refused m failed h)) (leave_call e e' s leaves m h), ap (λ (p : State × Response). p.1) (refused m failed h)))
 
-  pub ended_stopped : (e e' : Engine D g) (s : ℕ) (t : View) (failed : Bool) → entry_of s e ≡ Some t → Leaves e e' s → is_stopped e.log ≡ true → Leads e e' s Commit failed (Some (Refused StoreStopped))
-  ended_stopped e e' s t failed some leaves stopped = commit_ended e e' s t failed StoreStopped some leaves (λ m r h same. commit_stopped m s r failed (h.stopped ∙ stopped))
+  refused_if : (e : Engine D g) (s : ℕ) (t : View) (refusal : Refusal) → entry_of s e ≡ Some t → ((m : State) (r : Running) (failed : Bool) (h : StandsFor e m) → Held e m h t r → commit m s r failed ≡ refuse m s refusal) → IsRefused e s refusal
+  refused_if e s t refusal entry says m failed h = let at = found_open e m s t h entry in step_with m s Commit failed at.run at.is ∙ says m at.run failed h at.same
 
-  pub ended_numbers : (e e' : Engine D g) (s : ℕ) (t : View) (failed : Bool) → entry_of s e ≡ Some t → Leaves e e' s → is_stopped e.log ≡ false → 2 ^ 63 - 1 ≤ e.history.committed.facts.last
-      → Leads e e' s Commit failed (Some (Refused FullNumbers))
-  ended_numbers e e' s t failed some leaves stopped numbers =
-      commit_ended e e' s t failed FullNumbers some leaves (λ m r h same. let few = h.few in let l = h.history.committed.last in commit_numbers m s r failed (h.stopped ∙ stopped) (omega arith))
+  pub stopped_refuses : (e : Engine D g) (s : ℕ) (t : View) → entry_of s e ≡ Some t → is_stopped e.log ≡ true → IsRefused e s StoreStopped
+  stopped_refuses e s t entry stopped = refused_if e s t StoreStopped entry (λ m r failed h same. commit_stopped m s r failed (h.stopped ∙ stopped))
 
-  -- what may come before the verdict
-  pub record Judges (e : Engine D g) (s : ℕ) (t : View) (v : Verdict) : Type 0 where
-    pub some : entry_of s e ≡ Some t
-    pub running : is_stopped e.log ≡ false
-    pub numbers : e.history.committed.facts.last < 2 ^ 63 - 1
-    pub made : (m : KeyMap) (qs : List Operation) → HasMade t m qs → t.writes ≡ writes m qs
-    pub verdict : IsInReach e.history.committed.facts t → IsVerdict e.history.committed.facts t v
-
-  pub judges : (e : Engine D g) (s : ℕ) (t : View) (v : Verdict) (committed : CommittedValue) → Some t ≡ entry_of s e → is_stopped e.log ≡ false → (last : ℕ) → last ≡ e.history.committed.facts.last → last < 2 ^ 63 - 1 → (ws : List KeyWrite) → ws ≡ t.writes → ((m : KeyMap) (qs : List Operation) → HasMade t m qs → ws ≡ writes m qs)
-      → committed ≡ e.history.committed → (IsInReach committed.facts t → IsVerdict committed.facts t v) → Judges e s t v
-  judges e s t v committed some running last is numbers ws written made same says = record {
-    made = λ m qs h. sym written ∙ made m qs h;
-    some = sym some;
-    running = running;
-    numbers = subst (λ n. n < 2 ^ 63 - 1) is numbers;
-    verdict = subst (λ (x : CommittedValue). IsInReach x.facts t → IsVerdict x.facts t v) same says;
-  }
+  pub numbers_refuse : (e : Engine D g) (s : ℕ) (t : View) → entry_of s e ≡ Some t → is_stopped e.log ≡ false → 2 ^ 63 - 1 ≤ e.history.committed.facts.last → IsRefused e s FullNumbers
+  numbers_refuse e s t entry running numbers =
+      refused_if e s t FullNumbers entry (λ m r failed h same. let few = h.few in let l = h.history.committed.last in commit_numbers m s r failed (h.stopped ∙ running) (omega arith))
 
   -- the machine's record of the transaction
-  own_record : (e : Engine D g) (m : State) (t : View) (r : Running) (h : StandsFor e m) → ((m : KeyMap) (qs : List Operation) → HasMade t m qs → t.writes ≡ writes m qs) → Held e m h t r → IsRecordOf t (e.history.committed.facts.last + 1) (record_to_commit m r)
+  own_record : (e : Engine D g) (m : State) (t : View) (r : Running) (h : StandsFor e m) → HasItsWrites t → Held e m h t r → IsRecordOf t (e.history.committed.facts.last + 1) (record_to_commit m r)
   own_record e m t r h made same =
       let l = h.history.committed.last in
       record {
@@ -170,56 +161,51 @@ module _ {D : Type 0} {g : Ghosts D} where
         writes = sym (made (snapshot m r) r.requests same.made);
       }
 
-  judged : (e : Engine D g) (m : State) (s : ℕ) (t : View) (r : Running) (failed : Bool) (h : StandsFor e m) → Held e m h t r → is_stopped e.log ≡ false → e.history.committed.facts.last < 2 ^ 63 - 1
-      → (o : Option Refusal) → verdict m.history (record_to_commit m r) ≡ o → commit m s r failed ≡ store_unless o m s (record_to_commit m r) failed
-  judged e m s t r failed h same running numbers o is = let l = h.history.committed.last in commit_judged m s r failed (h.stopped ∙ running) (omega arith) o is
+  judged : (e : Engine D g) (m : State) (s : ℕ) (t : View) (r : Running) (failed : Bool) (h : StandsFor e m) → IsToJudge e s t → (o : Option Refusal) → verdict m.history (record_to_commit m r) ≡ o
+      → commit m s r failed ≡ store_unless o m s (record_to_commit m r) failed
+  judged e m s t r failed h j o is = let numbers = j.numbers in let l = h.history.committed.last in commit_judged m s r failed (h.stopped ∙ j.running) (omega arith) o is
 
-  conflict : (e e' : Engine D g) (s : ℕ) (t : View) (failed : Bool) (v : Verdict) (refusal : Refusal) → Judges e s t v → Leaves e e' s
-      → ((m : State) (r : Running) (h : StandsFor e m) → Held e m h t r → verdict m.history (record_to_commit m r) ≡ Some refusal) → Leads e e' s Commit failed (Some (Refused refusal))
-  conflict e e' s t failed v refusal j leaves says =
-      commit_ended e e' s t failed refusal j.some leaves (λ m r h same. judged e m s t r failed h same j.running j.numbers (Some refusal) (says m r h same))
+  pub conflict_refuses : (e : Engine D g) (s : ℕ) (t : View) (refusal : Refusal) → IsToJudge e s t → HasItsWrites t → HasVerdict e.history.committed.facts t (Some refusal) → IsRefused e s refusal
+  conflict_refuses e s t refusal j made says =
+      refused_if e s t refusal j.entry (λ m r failed h same. judged e m s t r failed h j (Some refusal) (says same.in_reach m.history h.history.committed (record_to_commit m r) (own_record e m t r h made same)))
 
-  pub ended_overwritten : (e e' : Engine D g) (s : ℕ) (t u : View) (failed : Bool) (i : ℕ) (key : Bytes) → Judges e s t (verdicts.Overwritten i) → Leaves e e' s → Some u ≡ entry_of s e
-      → ((d : KeyWrite) → key ≡ (slice_index_or u.writes i d).0) → Leads e e' s Commit failed (Some (Refused (Overwritten key)))
-  ended_overwritten e e' s t u failed i key j leaves taken at =
-      conflict e e' s t failed (verdicts.Overwritten i) (Overwritten key) j leaves (λ m r h same.
-      let said = j.verdict same.in_reach m.history h.history.committed (record_to_commit m r) (own_record e m t r h j.made same) in
-      let is : u ≡ t = some_same u t (taken ∙ j.some) in
-      said.2 ∙ ap (λ (k : Bytes). Some (Overwritten k)) (sym (at said.0 ∙ ap (λ (x : View). (slice_index_or x.writes i said.0).0) is ∙ ap (λ (w : KeyWrite). w.0) (at_place t.writes i said.0 said.1))))
+  pub overwritten_refuses : (e : Engine D g) (s : ℕ) (t : View) (i : ℕ) (d : KeyWrite) → IsToJudge e s t → HasItsWrites t → (IsInReach e.history.committed.facts t → IsVerdict e.history.committed.facts t (verdicts.Overwritten i))
+      → IsRefused e s (Overwritten (slice_index_or t.writes i d).0)
+  overwritten_refuses e s t i d j made says =
+      conflict_refuses e s t (Overwritten (slice_index_or t.writes i d).0) j made (λ reach history stands r own.
+      let said = says reach history stands r own in said.2 ∙ ap (λ (w : KeyWrite). Some (Overwritten w.0)) (sym (at_place t.writes i said.0 d said.1)))
 
-  pub ended_self : (e e' : Engine D g) (s : ℕ) (t : View) (failed : Bool) → Judges e s t verdicts.PivotSelf → Leaves e e' s → Leads e e' s Commit failed (Some (Refused PivotSelf))
-  ended_self e e' s t failed j leaves =
-      conflict e e' s t failed verdicts.PivotSelf PivotSelf j leaves (λ m r h same. j.verdict same.in_reach m.history h.history.committed (record_to_commit m r) (own_record e m t r h j.made same))
-
-  pub ended_pivot : (e e' : Engine D g) (s : ℕ) (t : View) (failed : Bool) (n : ℕ) → Judges e s t (verdicts.Pivot n) → Leaves e e' s → Leads e e' s Commit failed (Some (Refused (Pivot n)))
-  ended_pivot e e' s t failed n j leaves =
-      conflict e e' s t failed (verdicts.Pivot n) (Pivot n) j leaves (λ m r h same. j.verdict same.in_reach m.history h.history.committed (record_to_commit m r) (own_record e m t r h j.made same))
+  pub ended_overwritten : (e e' : Engine D g) (s : ℕ) (t u : View) (failed : Bool) (i : ℕ) (key : Bytes) → ((d : KeyWrite) → IsRefused e s (Overwritten (slice_index_or t.writes i d).0)) → Leaves e e' s
+      → entry_of s e ≡ Some t → Some u ≡ entry_of s e → ((d : KeyWrite) → key ≡ (slice_index_or u.writes i d).0) → Leads e e' s Commit failed (Some (Refused (Overwritten key)))
+  ended_overwritten e e' s t u failed i key refused leaves entry taken at =
+      let d : KeyWrite = ([], None) in
+      let is : key ≡ (slice_index_or t.writes i d).0 = at d ∙ ap (λ (x : View). (slice_index_or x.writes i d).0) (some_same u t (taken ∙ entry)) in
+      ended_refused {A = ℕ} e e' s failed Number (Refusing (Overwritten key)) (Overwritten key) (subst (λ (k : Bytes). IsRefused e s (Overwritten k)) (sym is) (refused d)) leaves refl
 
   -- the machine's commit of what has no conflict
-  cleared : (e : Engine D g) (m : State) (s : ℕ) (t : View) (r : Running) (failed : Bool) (h : StandsFor e m) → Held e m h t r → Judges e s t verdicts.Clear
-      → commit m s r failed ≡ store m s (record_to_commit m r) t.writes failed
-  cleared e m s t r failed h same j =
-      let own = own_record e m t r h j.made same in
-      judged e m s t r failed h same j.running j.numbers None (j.verdict same.in_reach m.history h.history.committed (record_to_commit m r) own)
-      ∙ ap (λ ws. store m s (record_to_commit m r) ws failed) own.writes
+  cleared : (e : Engine D g) (m : State) (s : ℕ) (t : View) (r : Running) (failed : Bool) (h : StandsFor e m) → Held e m h t r → IsToJudge e s t → HasItsWrites t
+      → (IsInReach e.history.committed.facts t → IsClear e.history.committed.facts t) → commit m s r failed ≡ store m s (record_to_commit m r) t.writes failed
+  cleared e m s t r failed h same j made clear =
+      let own = own_record e m t r h made same in
+      judged e m s t r failed h j None (clear same.in_reach m.history h.history.committed (record_to_commit m r) own) ∙ ap (λ ws. store m s (record_to_commit m r) ws failed) own.writes
 
-  pub ended_full : (e e' : Engine D g) (s : ℕ) (t : View) (failed : Bool) → Judges e s t verdicts.Clear → Leaves e e' s → IsWritten t.writes → sector_count e.log ≤ used_sectors e.log + body_sectors t.writes
-      → Leads e e' s Commit failed (Some (Refused FullLog))
-  ended_full e e' s t failed j leaves some full =
-      commit_ended e e' s t failed FullLog j.some leaves (λ m r h same. let used = h.used in let count = h.count in
-      cleared e m s t r failed h same j ∙ store_full m s (record_to_commit m r) t.writes failed some (omega (arith, used, count, full)))
+  pub full_refuses : (e : Engine D g) (s : ℕ) (t : View) → IsToJudge e s t → HasItsWrites t → (IsInReach e.history.committed.facts t → IsClear e.history.committed.facts t) → IsWritten t.writes
+      → sector_count e.log ≤ used_sectors e.log + body_sectors t.writes → IsRefused e s FullLog
+  full_refuses e s t j made clear some full =
+      refused_if e s t FullLog j.entry (λ m r failed h same. let used = h.used in let count = h.count in
+      cleared e m s t r failed h same j made clear ∙ store_full m s (record_to_commit m r) t.writes failed some (omega (arith, used, count, full)))
 
   -- ---- a commit in which the device failed
 
-  pub ended_fault : (e f e' : Engine D g) (s : ℕ) (t : View) (failed : Bool) → Judges e s t verdicts.Clear → HasLogRoom (used_sectors e.log) (sector_count e.log) t.writes
+  pub ended_fault : (e f e' : Engine D g) (s : ℕ) (t : View) (failed : Bool) → IsToCommit e s t
       → IsLogStopped e.log f.log t.writes → IsSameHistory e.history f.history → f.running.entries ≡ e.running.entries → Leaves f e' s → failed ≡ true
       → (g.keeps_model → (map : KeyMap) → IsStored e.log map → IsInDoubt map (g.may_leave f.log.device)) → Leads e e' s Commit failed (Some (Refused StoreFault))
-  ended_fault e f e' s t failed j room stops same entries leaves fault doubt m h =
-      let at = found_open e m s t h j.some in
-      let used = h.used in let count = h.count in let fits = room stops.written in
+  ended_fault e f e' s t failed j stops same entries leaves fault doubt m h =
+      let at = found_open e m s t h j.asked.entry in
+      let used = h.used in let count = h.count in let fits = j.room stops.written in
       let after : State × Response = (record (leave m s) { stopped = true }, Refused StoreFault) in
       let is : step m s Commit failed ≡ after =
-      step_with m s Commit failed at.run at.is ∙ cleared e m s t at.run failed h at.same j
+      step_with m s Commit failed at.run at.is ∙ cleared e m s t at.run failed h at.same j.asked j.made j.clear
       ∙ store_fault m s (record_to_commit m at.run) t.writes failed stops.written (omega (arith, used, count, fits)) fault in
       let reached : IsReached after.0 = subst (λ (p : State × Response). IsReached p.0) is (reached_step m s Commit failed h.reached) in
       let log : e'.log ≡ f.log = leaves.store.log in
@@ -233,7 +219,7 @@ module _ {D : Type 0} {g : Ghosts D} where
               used = h.used ∙ sym (ap (λ (l : Log D g). l.gate + 1) log ∙ stops.used);
               count = h.count ∙ sym (ap (λ (l : Log D g). g.size l.device) log ∙ stops.size);
               stored = λ keeps runs. absurd (both_ways (is_stopped e'.log) runs (ap is_stopped log ∙ stops.stopped));
-              doubt = λ keeps _. subst (λ (l : Log D g). IsInDoubt (committed_map m) (g.may_leave l.device)) (sym log) (doubt keeps (committed_map m) (h.stored keeps j.running));
+              doubt = λ keeps _. subst (λ (l : Log D g). IsInDoubt (committed_map m) (g.may_leave l.device)) (sym log) (doubt keeps (committed_map m) (h.stored keeps j.asked.running));
               held = h.held;
               history = subst (λ (v : HistoryValue). HistoryStandsFor v h.held m.base m.history) (sym leaves.store.history) (same_history e.history f.history h.held m.base m.history same h.history);
               kept = subst (λ (x : Facts). x.oldest ≤ length m.history) (sym facts) h.kept;
@@ -249,7 +235,6 @@ module _ {D : Type 0} {g : Ghosts D} where
 
   -- what the calls before have made of the engine
   pub record Joins (e e' : Engine D g) (s : ℕ) (t : View) : Type 0 where
-    pub room : HasLogRoom (used_sectors e.log) (sector_count e.log) t.writes
     pub logged : IsLogged e.log e'.log t.writes
     pub stored : g.keeps_model → (map : KeyMap) → IsStored e.log map → IsStored e'.log (after_writes map t.writes)
     pub entries : e'.running.entries ≡ remove_entry (is_at (nat_cmp s)) e.running.entries
@@ -260,21 +245,21 @@ module _ {D : Type 0} {g : Ghosts D} where
         → IsRecordOf t (e.history.committed.facts.last + 1) r → HistoryStandsFor e'.history held base (history ++ r ∷ [])
 
   -- the machine's step, whether or not the device failed where nothing was written
-  pub step_joined : (e : Engine D g) (s : ℕ) (t : View) (failed : Bool) → Judges e s t verdicts.Clear → HasLogRoom (used_sectors e.log) (sector_count e.log) t.writes → (IsWritten t.writes → failed ≡ false)
+  pub step_joined : (e : Engine D g) (s : ℕ) (t : View) (failed : Bool) → IsToCommit e s t → (IsWritten t.writes → failed ≡ false)
       → (m : State) (h : StandsFor e m) (at : IsFound (Held e m h) s t m.running) → step m s Commit failed ≡ join_history m s (record_to_commit m at.run) (sectors_taken t.writes)
-  step_joined e s t failed j room quiet m h at =
+  step_joined e s t failed j quiet m h at =
       let used = h.used in let count = h.count in
-      step_with m s Commit failed at.run at.is ∙ cleared e m s t at.run failed h at.same j
-      ∙ store_joined m s (record_to_commit m at.run) t.writes failed (λ some. let fits = room some in omega (arith, used, count, fits)) quiet
+      step_with m s Commit failed at.run at.is ∙ cleared e m s t at.run failed h at.same j.asked j.made j.clear
+      ∙ store_joined m s (record_to_commit m at.run) t.writes failed (λ some. let fits = j.room some in omega (arith, used, count, fits)) quiet
 
   -- memory was refused where nothing else was
-  pub commit_memory : (e e' : Engine D g) (s : ℕ) (t : View) → Judges e s t verdicts.Clear → HasLogRoom (used_sectors e.log) (sector_count e.log) t.writes
+  pub commit_memory : (e e' : Engine D g) (s : ℕ) (t : View) → IsToCommit e s t
       → e'.log ≡ e.log → e'.running.entries ≡ e.running.entries → IsSameHistory e.history e'.history → StandsForSame e e' × IsNotRefused e s Commit
-  commit_memory e e' s t j room log entries same =
-      (refused_memory e e' log entries same, λ m h. ap (λ (p : State × Response). is_refused p.1) (step_joined e s t false j room (λ _. refl) m h (found_open e m s t h j.some)))
+  commit_memory e e' s t j log entries same =
+      (refused_memory e e' log entries same, λ m h. ap (λ (p : State × Response). is_refused p.1) (step_joined e s t false j (λ _. refl) m h (found_open e m s t h j.asked.entry)))
 
   -- the committed map with the transaction's writes
-  pub map_joined : (e : Engine D g) (s : ℕ) (t : View) (j : Judges e s t verdicts.Clear) (m : State) (h : StandsFor e m) (at : IsFound (Held e m h) s t m.running)
+  pub map_joined : (e : Engine D g) (s : ℕ) (t : View) (j : IsToCommit e s t) (m : State) (h : StandsFor e m) (at : IsFound (Held e m h) s t m.running)
       → map_at m.base (m.history ++ record_to_commit m at.run ∷ []) (length (m.history ++ record_to_commit m at.run ∷ [])) ≡ after_writes (committed_map m) t.writes
   map_joined e s t j m h at =
       let r = record_to_commit m at.run in
@@ -288,17 +273,17 @@ module _ {D : Type 0} {g : Ghosts D} where
       zero_more : 0 + length m.history ≡ length m.history
       zero_more = omega arith
 
-  pub joined : (e e' : Engine D g) (s : ℕ) (t : View) (failed : Bool) → Judges e s t verdicts.Clear → Joins e e' s t → (IsWritten t.writes → failed ≡ false)
+  pub joined : (e e' : Engine D g) (s : ℕ) (t : View) (failed : Bool) → IsToCommit e s t → Joins e e' s t → (IsWritten t.writes → failed ≡ false)
       → Leads e e' s Commit failed (Some (Number (e.history.committed.facts.last + 1)))
   joined e e' s t failed j joins quiet m h =
-      let at = found_open e m s t h j.some in
+      let at = found_open e m s t h j.asked.entry in
       let facts = e.history.committed.facts in let facts' = e'.history.committed.facts in
       let r : Record = record_to_commit m at.run in
-      let is : step m s Commit failed ≡ join_history m s r (sectors_taken t.writes) = step_joined e s t failed j joins.room quiet m h at in
+      let is : step m s Commit failed ≡ join_history m s r (sectors_taken t.writes) = step_joined e s t failed j quiet m h at in
       let reached : IsReached (join_history m s r (sectors_taken t.writes)).0 = subst (λ (p : State × Response). IsReached p.0) is (reached_step m s Commit failed h.reached) in
       let l = h.history.committed.last in let used = h.used in let taken = joins.logged.used in
       let long : length (m.history ++ r ∷ []) ≡ length m.history + 1 = length-append m.history (r ∷ []) in
-      let clear : IsClear facts t = j.verdict at.same.in_reach in
+      let clear : IsClear facts t = j.clear at.same.in_reach in
       let later : (u : View) (x : Running) → IsRunning facts h.held m.base m.history u x → IsRunning facts' h.held m.base (m.history ++ r ∷ []) u x =
       λ u x k.
       let begun = k.in_reach.begun in let held = k.in_reach.held in let b = k.begin in let last' = joins.last in let oldest' = joins.oldest in
@@ -313,15 +298,15 @@ module _ {D : Type 0} {g : Ghosts D} where
         subst (λ (p : State × Response). StandsFor e' p.0) (sym is)
             (record {
               reached = reached;
-              stopped = h.stopped ∙ j.running ∙ sym joins.logged.running;
+              stopped = h.stopped ∙ j.asked.running ∙ sym joins.logged.running;
               used = omega (arith, used, taken);
               count = h.count ∙ sym joins.logged.size;
-              stored = λ keeps runs. subst (IsStored e'.log) (sym (map_joined e s t j m h at)) (joins.stored keeps (committed_map m) (h.stored keeps j.running));
+              stored = λ keeps runs. subst (IsStored e'.log) (sym (map_joined e s t j m h at)) (joins.stored keeps (committed_map m) (h.stored keeps j.asked.running));
               doubt = λ keeps stop. absurd (both_ways (is_stopped e'.log) joins.logged.running stop);
               held = h.held;
               history = joins.history h.held m.base m.history r h.history at.same.in_reach clear (own_record e m t at.run h j.made at.same);
               kept = (let k = h.kept in let o = joins.oldest in omega (arith, k, o, long));
-              few = (let n = j.numbers in omega (arith, n, l, long));
+              few = (let n = j.asked.numbers in omega (arith, n, l, long));
               running = subst (λ (es : List (ℕ × View)). AreRunning facts' h.held m.base (m.history ++ r ∷ []) es (where_key nat_cmp (λ x. not (x == s)) m.running)) (sym joins.entries) running;
               sorted = is_sorted-where_key nat_cmp (λ x. not (x == s)) m.running h.sorted;
               few_open = (let few = h.few_open in let fewer = joins.fewer in omega (arith, few, fewer));
@@ -333,21 +318,19 @@ module _ {D : Type 0} {g : Ghosts D} where
       number l = omega arith
 
   -- what a commit's calls have made of the engine
-  pub joins_from : (e f e₁ : Engine D g) (new : HistoryValue) (s : ℕ) (t u : View) (ws : List KeyWrite) → entry_of s e ≡ Some t → ws ≡ t.writes → f.running.entries ≡ e.running.entries
-      → HasLogRoom (used_sectors e.log) (sector_count e.log) t.writes → IsLogged e.log f.log ws → (g.keeps_model → (map : KeyMap) → IsStored e.log map → IsStored f.log (after_writes map ws))
-      → IsSameHistory e.history f.history → Leaves f e₁ s → Some u ≡ entry_of s f
+  pub joins_from : (e f e₁ : Engine D g) (new : HistoryValue) (s : ℕ) (t u : View) → entry_of s e ≡ Some t → f.running.entries ≡ e.running.entries → IsLogged e.log f.log t.writes
+      → (g.keeps_model → (map : KeyMap) → IsStored e.log map → IsStored f.log (after_writes map t.writes)) → IsSameHistory e.history f.history → Leaves f e₁ s → Some u ≡ entry_of s f
       → new.committed.facts.last ≡ e₁.history.committed.facts.last + 1 → new.committed.facts.oldest ≡ e₁.history.committed.facts.oldest
       → ((held : ℕ → Bool) (base : KeyMap) (history : List Record) (r : Record) → HistoryStandsFor e₁.history held base history → IsInReach e₁.history.committed.facts u → IsClear e₁.history.committed.facts u
       → IsRecordOf u (e₁.history.committed.facts.last + 1) r → HistoryStandsFor new held base (history ++ r ∷ []))
       → Joins e (record e₁ { history = new }) s t
-  joins_from e f e₁ new s t u ws some written entries room logged stored same leaves taken last oldest stands =
+  joins_from e f e₁ new s t u some entries logged stored same leaves taken last oldest stands =
       let facts : e₁.history.committed.facts ≡ e.history.committed.facts = ap (λ (v : HistoryValue). v.committed.facts) leaves.store.history ∙ same.facts in
       let is : u ≡ t = some_same u t (taken ∙ ap (lookup (is_at (nat_cmp s))) entries ∙ some) in
       let log : f.log ≡ e₁.log = sym leaves.store.log in
       record {
-        room = room;
-        logged = subst (λ (l : Log D g). IsLogged e.log l t.writes) log (subst (IsLogged e.log f.log) written logged);
-        stored = λ keeps map h. subst (λ (l : Log D g). IsStored l (after_writes map t.writes)) log (subst (λ (x : List KeyWrite). IsStored f.log (after_writes map x)) written (stored keeps map h));
+        logged = subst (λ (l : Log D g). IsLogged e.log l t.writes) log logged;
+        stored = λ keeps map h. subst (λ (l : Log D g). IsStored l (after_writes map t.writes)) log (stored keeps map h);
         entries = leaves.entries ∙ ap (remove_entry (is_at (nat_cmp s))) entries;
         fewer = (let fewer = leaves.fewer in let long = ap length entries in omega (arith, fewer, long));
         last = last ∙ ap (λ (x : Facts). x.last + 1) facts;
@@ -364,20 +347,17 @@ module _ {D : Type 0} {g : Ghosts D} where
   number_is e e' s failed n k is h = subst (λ x. Leads e e' s Commit failed (Some (Number x))) is h
 
   -- where the session has written nothing, its transaction hasn't
-  pub unwritten : (e : Engine D g) (s : ℕ) (t : View) (ws : List KeyWrite) (m : State) (h : StandsFor e m) → entry_of s e ≡ Some t → ws ≡ t.writes → ((m : KeyMap) (qs : List Operation) → HasMade t m qs → ws ≡ writes m qs)
-      → IsReadOnly m s → t.writes ≡ []
-  unwritten e s t ws m h some written made none =
-      let at = found_open e m s t h some in sym written ∙ made (snapshot m at.run) at.run.requests at.same.made ∙ none at.run at.is
+  pub unwritten : (e : Engine D g) (s : ℕ) (t : View) (m : State) → StandsFor e m → IsToCommit e s t → IsReadOnly m s → t.writes ≡ []
+  unwritten e s t m h j none = let at = found_open e m s t h j.asked.entry in j.made (snapshot m at.run) at.run.requests at.same.made ∙ none at.run at.is
 
   -- a crash during a commit that came as far as the log
-  pub crash_stored : (e : Engine D g) (log : Log D g) (device : D) (s : ℕ) (t : View) (ws : List KeyWrite) → Judges e s t verdicts.Clear → HasLogRoom (used_sectors e.log) (sector_count e.log) t.writes → ws ≡ t.writes → device ≡ log.device
-      → ((map : KeyMap) → IsStored e.log map → LeavesOnly g.moment g.left_since e.log.device log.device (λ c. HoldsMap c map ⊎ HoldsMap c (after_writes map ws)))
+  pub crash_stored : (e : Engine D g) (log : Log D g) (device : D) (s : ℕ) (t : View) → IsToCommit e s t → device ≡ log.device
+      → ((map : KeyMap) → IsStored e.log map → LeavesOnly g.moment g.left_since e.log.device log.device (λ c. HoldsMap c map ⊎ HoldsMap c (after_writes map t.writes)))
       → g.keeps_model → (m : State) → StandsFor e m → LeavesOnly g.moment g.left_since e.log.device device (IsLeftByCommit e m s)
-  crash_stored e log device s t ws j room written same crash keeps m h =
-      let at = found_open e m s t h j.some in
-      let is = step_joined e s t false j room (λ _. refl) m h at in
-      let after : after_writes (committed_map m) ws ≡ committed_map (step m s Commit false).0 =
-      ap (after_writes (committed_map m)) written ∙ sym (map_joined e s t j m h at) ∙ sym (ap (λ (p : State × Response). committed_map p.0) is) in
+  crash_stored e log device s t j same crash keeps m h =
+      let at = found_open e m s t h j.asked.entry in
+      let is = step_joined e s t false j (λ _. refl) m h at in
+      let after : after_writes (committed_map m) t.writes ≡ committed_map (step m s Commit false).0 = sym (map_joined e s t j m h at) ∙ sym (ap (λ (p : State × Response). committed_map p.0) is) in
       subst (λ (d : D). LeavesOnly g.moment g.left_since e.log.device d (IsLeftByCommit e m s)) (sym same)
-      (weaker_crash g.moment g.left_since e.log.device log.device (λ c. HoldsMap c (committed_map m) ⊎ HoldsMap c (committed_map (step m s Commit false).0)) (IsLeftByCommit e m s) (λ c y. inl (h.stopped ∙ j.running, y))
-      (subst (λ (k : KeyMap). LeavesOnly g.moment g.left_since e.log.device log.device (λ c. HoldsMap c (committed_map m) ⊎ HoldsMap c k)) after (crash (committed_map m) (h.stored keeps j.running))))
+      (weaker_crash g.moment g.left_since e.log.device log.device (λ c. HoldsMap c (committed_map m) ⊎ HoldsMap c (committed_map (step m s Commit false).0)) (IsLeftByCommit e m s) (λ c y. inl (h.stopped ∙ j.asked.running, y))
+      (subst (λ (k : KeyMap). LeavesOnly g.moment g.left_since e.log.device log.device (λ c. HoldsMap c (committed_map m) ⊎ HoldsMap c k)) after (crash (committed_map m) (h.stored keeps j.asked.running))))

@@ -1,7 +1,7 @@
 -- What the next commit makes of what has committed.
-use Rattle.std.proofs.Common.{◌≡◌, ℕ, ◌+◌, Bool, List, [], ◌∷◌, ◌++◌, sym, subst, refl, ◌∙◌, length, arith, true}
+use Rattle.std.proofs.Common.{◌≡◌, ℕ, ◌+◌, Bool, List, [], ◌∷◌, ◌++◌, sym, subst, refl, ◌∙◌, length, arith, true, false}
 use Rattle.std.specs.Prelude.{◌==◌}
-use Rattle.std.proofs.lemmas.Bool.{eqb-true}
+use Rattle.std.proofs.lemmas.Bool.{eqb-true, both_ways}
 use Rattle.model.specs.Map.{KeyMap, KeyWrite}
 use Rattle.model.specs.History.{Record}
 use Rattle.versions.specs.Chains.{ChainsValue}
@@ -37,6 +37,10 @@ no_element (x ∷ xs) e = absurd (omega arith)
 -- a list that was found to be empty
 pub empty_is : {X : Type 0} (xs : List X) (n : ℕ) (b : Bool) → b ≡ (n == 0) → n ≡ length xs → b ≡ true → xs ≡ []
 empty_is xs n b e long t = no_element xs (sym long ∙ eqb-true n 0 (sym e ∙ t))
+
+pub not_empty_is : {X : Type 0} (xs : List X) (b : Bool) → b ≡ (length xs == 0) → b ≡ false → xs ≡ [] → ⊥
+not_empty_is [] b e f none = both_ways b f e
+not_empty_is (x ∷ xs) b e f none = cc
 
 pub is_true : (b : Bool) → b ≡ true → b ≡ true
 is_true b e = e

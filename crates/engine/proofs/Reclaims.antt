@@ -1,17 +1,17 @@
 -- What an engine stands for once nothing is kept that no open transaction needs.
-use Rattle.std.proofs.Common.{◌≡◌, ◌≤◌, ◌<◌, ◌&&◌, ℕ, Bool, true, List, [], ◌∷◌, refl, sym, subst, ◌∙◌, length, arith, map}
-use Rattle.std.specs.Prelude.{max, All, ◌==◌}
+use Rattle.std.proofs.Common.{◌≡◌, ◌≤◌, ◌&&◌, ℕ, Bool, true, List, [], ◌∷◌, refl, sym, subst, ◌∙◌, length, arith, map}
+use Rattle.std.specs.Prelude.{max, ◌==◌}
 use Rattle.std.specs.List.{AllByRecursion}
 use Rattle.std.specs.BTreeMap.{values}
 use Rattle.std.specs.Map.{values_of}
 use Rattle.std.proofs.lemmas.Bool.{or_left, or_right, and_from, eq-eqb}
-use Rattle.std.proofs.lemmas.List.Elements.{All-from_recursion, recursion_from_All, All-weaker}
+use Rattle.std.proofs.lemmas.List.Elements.{All-from_recursion, recursion_from_All}
 use Rattle.model.specs.Map.{KeyMap}
 use Rattle.model.specs.History.{Record}
 use Rattle.model.specs.Machine.{State, Running, last}
 use Rattle.versions.specs.Meaning.{is_among}
 use Rattle.snapshot.specs.View.{View}
-use Rattle.pivot_check.specs.Kept.{Facts, ReadRecord}
+use Rattle.pivot_check.specs.Kept.{Facts, HasForgotten}
 use Rattle.sector.specs.declared.device.Sectors.{Ghosts}
 use Rattle.engine.specs.HistoryValue.{HistoryValue, HistoryStandsFor}
 use Rattle.engine.specs.declared.engine.Engine.{Engine}
@@ -95,8 +95,9 @@ module _ {D : Type 0} {g : Ghosts D} (e : Engine D g) (new : HistoryValue) (olde
   pub numbers_are : (m : State) → StandsFor e m → bs ≡ map (λ r. r.1.begin) m.running
   numbers_are m h = numbers h.few_open ∙ begins_same e.history.committed.facts h.held m.base m.history e.running.entries m.running h.running
 
-  pub none_below : (m : State) → StandsFor e m → (n : ℕ) → n ≤ last m → AllByRecursion (λ r. n ≤ r.1.begin) m.running → (rs : List ReadRecord) → All (λ r. oldest < r.commit) rs → All (λ r. n < r.commit) rs
-  none_below m h n low each rs above =
+  pub none_below : (m : State) → StandsFor e m → (n : ℕ) → n ≤ last m → AllByRecursion (λ r. n ≤ r.1.begin) m.running → (facts : Facts) → HasForgotten oldest facts → HasForgotten n facts
+  none_below m h n low each facts forgotten =
       let is = h.history.committed.last in
       let below : n ≤ oldest = least.greatest n (omega (arith, is)) (All-from_recursion (λ t. n ≤ t.begin) (values e.running) (begins_low e.history.committed.facts h.held m.base m.history n e.running.entries m.running h.running each)) in
-      All-weaker (λ (r : ReadRecord). oldest < r.commit) (λ (r : ReadRecord). n < r.commit) (λ r k. omega arith) rs above
+      let upto = forgotten.upto in
+      record { upto = omega arith; readers = λ k some. (let above = forgotten.readers k some in omega arith) }

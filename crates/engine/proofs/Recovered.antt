@@ -1,11 +1,11 @@
 -- The states that an engine stands for once it was opened.
-use Rattle.std.proofs.Common.{◌≡◌, ◌≤◌, ◌+◌, ◌∷◌, ◌∙◌, ℕ, Bool, true, false, List, [], sym, ap, subst, refl, length, arith}
+use Rattle.std.proofs.Common.{◌≡◌, ◌≤◌, ◌+◌, ◌∷◌, ◌∙◌, ℕ, Bool, true, false, List, [], sym, subst, refl, length, arith}
 use Rattle.std.proofs.lemmas.Bool.{both_ways}
 use Rattle.model.specs.Map.{KeyMap, KeyWrite}
 use Rattle.model.specs.History.{Record}
 use Rattle.model.specs.Machine.{State, Running, opened}
 use Rattle.snapshot.specs.View.{View}
-use Rattle.pivot_check.specs.Kept.{Facts}
+use Rattle.pivot_check.specs.Kept.{Facts, IsEmpty}
 use Rattle.sector.specs.declared.device.Sectors.{Ghosts}
 use Rattle.commit_log.specs.declared.log.Log.{Log}
 use Rattle.commit_log.specs.LogState.{is_stopped, used_sectors, sector_count, StandsFor as LogStandsFor}
@@ -14,7 +14,7 @@ use Rattle.commit_log.specs.Recovery.{map_after}
 use Rattle.engine.specs.HistoryValue.{HistoryStandsFor}
 use Rattle.engine.specs.declared.engine.Engine.{Engine}
 use Rattle.engine.specs.StandsFor.{StandsFor, AreRunning}
-use Rattle.engine.specs.Recovery.{IsStored, IsInDoubt, HoldsMap, LeavesCommitted, committed_map}
+use Rattle.engine.specs.Recovery.{IsStored, LeavesCommitted}
 use Rattle.engine.proofs.Steps.{reached_opened}
 
 none_running : (facts : Facts) (held : ℕ → Bool) (base : KeyMap) (history : List Record) (rs : List (ℕ × Running)) → AreRunning facts held base history [] rs → rs ≡ []
@@ -22,7 +22,7 @@ none_running facts held base history [] h = refl
 none_running facts held base history (_ ∷ _) h = elim h [ ]
 
 module _ {D : Type 0} {g : Ghosts D} where
-  pub opened_stands : (e : Engine D g) (map : KeyMap) (count : ℕ) → is_stopped e.log ≡ false → sector_count e.log ≡ count → HistoryStandsFor e.history (λ _. true) map [] → e.history.committed.facts ≡ record { records = []; postings = []; oldest = 0; last = 0 }
+  pub opened_stands : (e : Engine D g) (map : KeyMap) (count : ℕ) → is_stopped e.log ≡ false → sector_count e.log ≡ count → HistoryStandsFor e.history (λ _. true) map [] → IsEmpty e.history.committed.facts
       → e.running.entries ≡ [] → (g.keeps_model → IsStored e.log map) → StandsFor e (opened map (used_sectors e.log) count)
   opened_stands e map count running size h facts none stored = record {
     reached = reached_opened map (used_sectors e.log) count h.versions.is_map;
@@ -33,7 +33,7 @@ module _ {D : Type 0} {g : Ghosts D} where
     doubt = λ keeps stop. absurd (both_ways (is_stopped e.log) running stop);
     held = λ _. true;
     history = h;
-    kept = (let oldest = ap (λ (f : Facts). f.oldest) facts in omega (arith, oldest));
+    kept = (let oldest = facts.oldest in omega (arith, oldest));
     few = omega arith;
     running = subst (λ (es : List (ℕ × View)). AreRunning e.history.committed.facts (λ _. true) map [] es []) (sym none) tt;
     sorted = tt;

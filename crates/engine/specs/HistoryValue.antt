@@ -1,4 +1,4 @@
--- What has committed, as contracts see it: the versions of its writes, and the records by which later commits are checked.
+-- What has committed, as contracts see it: the versions of its writes, and what is kept to check later commits.
 use Rattle.std.specs.Prelude.{◌≡◌, ℕ, Bool, List}
 use Rattle.model.specs.Map.{KeyMap}
 use Rattle.model.specs.History.{Record}

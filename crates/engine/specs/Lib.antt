@@ -5,4 +5,5 @@ pub mod HistoryValue
 pub mod Recovery
 pub mod StandsFor
 pub mod Changes
+pub mod Judgements
 pub mod Meaning

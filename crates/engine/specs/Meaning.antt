@@ -19,7 +19,7 @@ use Rattle.engine.specs.declared.faults.ReadFault.TheVariants as reads
 use Rattle.versions.specs.Chains.{ChainsValue}
 use Rattle.snapshot.specs.Made.{is_refused}
 use Rattle.engine.specs.Recovery.{HoldsMap, committed_map}
-use Rattle.pivot_check.specs.Kept.{ReadRecord}
+use Rattle.pivot_check.specs.Kept.{Facts}
 pub use Rattle.engine.specs.StandsFor.{StandsFor}
 
 -- the device, how many of its calls have failed, and whether one failed in a commit
@@ -76,12 +76,12 @@ IsKnownKey m t k = IsTrue (is_written (copy_in m t) k || list_any (is_same_mark 
 abbrev pub IsReadOnly : State → ℕ → Type 0
 IsReadOnly m s = (t : Running) → running_of m s ≡ Some t → writes (snapshot m t) t.requests ≡ []
 
--- the versions and the records that are kept
+-- the versions that are kept, and what is kept to check later commits
 abbrev pub versions_of : {D : Type 0} {g : Ghosts D} → Engine D g → ChainsValue
 versions_of e = e.history.versions
 
-abbrev pub records_of : {D : Type 0} {g : Ghosts D} → Engine D g → List ReadRecord
-records_of e = e.history.committed.facts.records
+abbrev pub facts_of : {D : Type 0} {g : Ghosts D} → Engine D g → Facts
+facts_of e = e.history.committed.facts
 
 -- what a crash may leave at a moment of a COMMIT: the map committed before it, or that with the transaction's writes; of a store that was
 -- stopped, what it could have left before

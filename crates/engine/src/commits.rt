@@ -1,14 +1,11 @@
 //! Commits.
 use crate::engine::Engine;
 use crate::faults::EngineFault;
-use crate::records::{StoreFault, has_room, store};
+use crate::judging::{Judgement, judge};
+use crate::records::{StoreFault, carry_out};
 use model::Refusal;
-use pivot_check::Verdict;
 use sector::Sectors;
 use snapshot::Transaction;
-
-/// The last commit number of all.
-const LAST_MAX: u64 = 9_223_372_036_854_775_807;
 
 impl<D: Sectors> Engine<D> {
     ghost use Rattle.std.specs.Prelude.{◌≡◌, ◌≢◌, ◌≤◌, ℕ, List, true, Some, None, IsSome, IfOk, IfErr};
@@ -48,29 +45,21 @@ impl<D: Sectors> Engine<D> {
         let Some(transaction) = self.running.get(&s) else {
             return Err(EngineFault::Refused(Refusal::NotOpen));
         };
-        let writes = transaction.entries();
-        if self.log.is_stopped() {
-            return Err(self.refuse(s, Refusal::StoreStopped));
-        }
-        if self.history.committed().last() >= LAST_MAX {
-            return Err(self.refuse(s, Refusal::FullNumbers));
-        }
-        match self.history.committed().verdict(transaction) {
-            Verdict::Clear => {}
-            Verdict::Overwritten(i) => {
+        let payload = match judge(&self.log, &self.history, transaction) {
+            Judgement::Refused(refusal) => return Err(self.refuse(s, refusal)),
+            Judgement::Overwritten(i) => {
                 let key = self.end(s).into_key(i);
                 return Err(EngineFault::Refused(Refusal::Overwritten(key)));
             }
-            Verdict::PivotSelf => return Err(self.refuse(s, Refusal::PivotSelf)),
-            Verdict::Pivot(n) => return Err(self.refuse(s, Refusal::Pivot(n))),
-        }
-        if !has_room(&self.log, writes) {
-            return Err(self.refuse(s, Refusal::FullLog));
-        }
-        if self.history.prepare(transaction).is_err() {
-            return Err(EngineFault::Memory);
-        }
-        match store(&mut self.log, self.alloc, writes) {
+            Judgement::Clear(payload) => payload,
+        };
+        match carry_out(
+            &mut self.log,
+            &mut self.history,
+            self.alloc,
+            transaction,
+            payload,
+        ) {
             Ok(()) => {}
             Err(StoreFault::Memory) => return Err(EngineFault::Memory),
             Err(StoreFault::Device) => return Err(self.refuse(s, Refusal::StoreFault)),

@@ -31,7 +31,7 @@ pub struct Engine<D: Sectors> {
 }
 
 impl<D: Sectors> Engine<D> {
-    ghost use Rattle.std.specs.Prelude.{◌≡◌, ◌≢◌, ◌≤◌, ◌<◌, ℕ, List, All, map, false, Some, None, Err, IfOk, length};
+    ghost use Rattle.std.specs.Prelude.{◌≡◌, ◌≢◌, ◌≤◌, ◌<◌, ◌-◌, ℕ, List, map, false, Some, None, Err, IfOk, length};
     ghost use Rattle.model.specs.declared.refusals.Refusal.{Refusal as Reason};
     ghost use Rattle.model.specs.Operations.Operation.{Begin, Set, Del, Abort, Ping, Faulty};
     ghost use Rattle.model.specs.Operations.Response.{Done, Pong, Refused};
@@ -40,8 +40,9 @@ impl<D: Sectors> Engine<D> {
     ghost use Rattle.model.specs.Map.{Bytes};
     ghost use Rattle.versions.specs.Meaning.{kept_of, needed_of, IsTight};
     ghost use Rattle.std.specs.List.{AllByRecursion};
+    ghost use Rattle.pivot_check.specs.Kept.{HasForgotten};
     ghost use Rattle.engine.specs.Recovery.{LeavesCommitted};
-    ghost use Rattle.engine.specs.Meaning.{StandsFor, Leads, response_to, device_of, versions_of, records_of};
+    ghost use Rattle.engine.specs.Meaning.{StandsFor, Leads, response_to, device_of, versions_of, facts_of};
 
     /// Begins a transaction of the session, over the map that is committed now.
     ///
@@ -137,12 +138,12 @@ impl<D: Sectors> Engine<D> {
     {}
 
     /// Drops what no open transaction needs: each version that is neither the newest of its key nor seen from the begin of an open
-    /// transaction, and the records of transactions that were committed when each of them began. Takes no memory.
+    /// transaction, and what was kept of transactions that were committed when each of them began. Takes no memory.
     pub fn reclaim(&mut self)
         ensures keeps { (m : State) → StandsFor self.old m → StandsFor self.new m }
         ensures versions { (m : State) → StandsFor self.old m → IsTight (map (λ e. e.1.begin) m.running) (versions_of self.new) }
         ensures kept { (m : State) → StandsFor self.old m → (k : Bytes) → kept_of (versions_of self.new) k ≡ needed_of (map (λ e. e.1.begin) m.running) (versions_of self.old) k }
-        ensures records { (m : State) → StandsFor self.old m → (n : ℕ) → n ≤ last m → AllByRecursion (λ e. n ≤ e.1.begin) m.running → All (λ r. n < r.commit) (records_of self.new) }
+        ensures forgotten { (m : State) → StandsFor self.old m → (n : ℕ) → n ≤ last m → AllByRecursion (λ e. n ≤ e.1.begin) m.running → HasForgotten n (facts_of self.new) }
         ensures device { device_of self.new ≡ device_of self.old }
     {
         let oldest = oldest_begin(&self.running, self.history.committed().last());
@@ -165,9 +166,9 @@ impl<D: Sectors> Engine<D> {
         self.history.versions().kept(key)
     }
 
-    /// How many records of committed transactions are kept. Takes no memory.
+    /// How many committed transactions an open one may still be concurrent with. Takes no memory.
     pub fn kept_records(&self) -> usize
-        ensures { result ≡ length (records_of self.now) }
+        ensures { result ≡ (facts_of self.now).last - (facts_of self.now).oldest }
     {
         self.history.committed().kept()
     }

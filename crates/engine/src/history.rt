@@ -3,7 +3,7 @@ ghost use Rattle.std.specs.Prelude.{◌≡◌, ℕ, ◌+◌, ◌-◌, ◌^◌, �
 ghost use Rattle.model.specs.Map.{Bytes, KeyMap};
 ghost use Rattle.model.specs.History.{Record};
 ghost use Rattle.versions.specs.Meaning.{is_among, IsTight, kept_of, needed_of};
-ghost use Rattle.pivot_check.specs.Kept.{IsInReach};
+ghost use Rattle.pivot_check.specs.Kept.{HasForgotten, IsEmpty, IsInReach};
 ghost use Rattle.pivot_check.specs.StandsFor.{IsRecordOf, IsClear};
 ghost use Rattle.engine.specs.HistoryValue.{HistoryStandsFor, IsSameHistory, IsReady};
 
@@ -14,7 +14,7 @@ use std::alloc::Global;
 use std::marker::Model;
 use versions::{Versions, read_only_record_follows};
 
-/// What has committed: the versions of its writes, and the records by which later commits are checked.
+/// What has committed: the versions of its writes, and what is kept to check later commits.
 #[derive(Drop)]
 pub(crate) struct History {
     versions: Versions,
@@ -36,7 +36,7 @@ impl History {
     /// Nothing has committed over this map.
     pub(crate) fn over(alloc: Global, map: Map) -> Result<History, Memory>
         ensures stands { IfOk result (λ h. HistoryStandsFor h (λ _. true) map []) }
-        ensures empty { IfOk result (λ h. h.committed.facts ≡ record { records = []; postings = []; oldest = 0; last = 0 }) }
+        ensures empty { IfOk result (λ h. IsEmpty h.committed.facts) }
     {
         Ok(History {
             versions: Versions::from_map(alloc, map)?,
@@ -86,7 +86,7 @@ impl History {
         number
     }
 
-    /// Drops the versions that are neither the newest of their keys nor seen from one of the numbers, and the records with a commit
+    /// Drops the versions that are neither the newest of their keys nor seen from one of the numbers, and what was kept of commits with a
     /// number of at most `oldest`.
     pub(crate) fn reclaim(&mut self, begins: &[u64], oldest: u64)
         requires { oldest ≤ self.old.committed.facts.last }
@@ -95,7 +95,7 @@ impl History {
         ensures oldest { self.new.committed.facts.oldest ≡ max self.old.committed.facts.oldest oldest }
         ensures tight { IsTight begins.now self.new.versions }
         ensures kept { (k : Bytes) → kept_of self.new.versions k ≡ needed_of begins.now self.old.versions k }
-        ensures forgotten { (held : ℕ → Bool) (base : KeyMap) (history : List Record) → HistoryStandsFor self.old held base history → All (λ r. oldest < r.commit) self.new.committed.facts.records }
+        ensures forgotten { HasForgotten oldest self.new.committed.facts }
     {
         self.versions.reclaim(begins);
         self.committed.forget(oldest);

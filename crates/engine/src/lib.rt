@@ -5,6 +5,7 @@ mod commits;
 mod engine;
 mod faults;
 mod history;
+mod judging;
 mod opening;
 mod reads;
 mod reclaiming;

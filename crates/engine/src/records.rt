@@ -1,15 +1,17 @@
-//! What a commit writes to the log.
-ghost use Rattle.std.specs.Prelude.{◌≡◌, ◌↔◌, ◌⊎◌, false, IsTrue, OnOk, IsErrOf};
+//! What a commit writes to the log, and the memory that is made before.
+ghost use Rattle.std.specs.Prelude.{◌≡◌, ◌⊎◌, false, OnOk, IsErrOf};
 ghost use Rattle.model.specs.Map.{KeyMap, after_writes};
 ghost use Rattle.sector.specs.SectorModel.{LeavesOnly};
-ghost use Rattle.write_buffer.specs.Buffered.{AreEntries};
 ghost use Rattle.commit_log.specs.LogState.{is_stopped, used_sectors, sector_count, device_of};
+ghost use Rattle.engine.specs.HistoryValue.{IsSameHistory, IsReady};
 ghost use Rattle.engine.specs.Changes.{HasLogRoom, IsLogged, IsLogStopped};
+ghost use Rattle.engine.specs.Judgements.{IsPayload};
 ghost use Rattle.engine.specs.Recovery.{HoldsMap, IsStored, IsInDoubt};
 
-use commit_log::{Log, LogFault, payload_len};
-use model::Write;
+use crate::history::History;
+use commit_log::{Log, LogFault};
 use sector::Sectors;
+use snapshot::Transaction;
 use std::alloc::Global;
 
 /// Why nothing was stored.
@@ -21,37 +23,33 @@ pub(crate) enum StoreFault {
     Device,
 }
 
-// Is there room in the log for what was written?
-pub(crate) fn has_room<D: Sectors>(log: &Log<D>, writes: &[Write]) -> bool
-    requires { AreEntries writes.now }
-    ensures { IsTrue result ↔ HasLogRoom (used_sectors log.now) (sector_count log.now) writes.now }
-{
-    if writes.is_empty() {
-        return true;
-    }
-    log.room(payload_len(writes))
-}
-
-// Appends what was written, if anything was, to a log with room for it.
-pub(crate) fn store<D: Sectors>(
+// Makes the memory that the commit of the transaction needs, and appends what it wrote, if it wrote anything, to a log with room for it.
+pub(crate) fn carry_out<D: Sectors>(
     log: &mut Log<D>,
+    history: &mut History,
     alloc: Global,
-    writes: &[Write],
+    transaction: &Transaction,
+    payload: Option<u32>,
 ) -> Result<(), StoreFault>
-    requires entries { AreEntries writes.now }
     requires running { is_stopped log.old ≡ false }
-    requires room { HasLogRoom (used_sectors log.old) (sector_count log.old) writes.now }
-    ensures logged { OnOk result (IsLogged log.old log.new writes.now) }
-    ensures stored { D.keeps_model → (map : KeyMap) → IsStored log.old map → OnOk result (IsStored log.new (after_writes map writes.now)) }
+    requires room { HasLogRoom (used_sectors log.old) (sector_count log.old) transaction.now.writes }
+    requires payload { IsPayload transaction.now.writes payload }
+    ensures same { IsSameHistory history.old history.new }
+    ensures ready { OnOk result (IsReady history.new transaction.now) }
+    ensures logged { OnOk result (IsLogged log.old log.new transaction.now.writes) }
+    ensures stored { D.keeps_model → (map : KeyMap) → IsStored log.old map → OnOk result (IsStored log.new (after_writes map transaction.now.writes)) }
     ensures unchanged { IsErrOf result StoreFault.Memory → log.new ≡ log.old }
-    ensures stopped { IsErrOf result StoreFault.Device → IsLogStopped log.old log.new writes.now }
+    ensures stopped { IsErrOf result StoreFault.Device → IsLogStopped log.old log.new transaction.now.writes }
     ensures left { IsErrOf result StoreFault.Device → D.keeps_model → (map : KeyMap) → IsStored log.old map → IsInDoubt map (D.may_leave (device_of log.new)) }
-    ensures crash { D.keeps_model → (map : KeyMap) → IsStored log.old map → LeavesOnly D.moment D.left_since (device_of log.old) (device_of log.new) (λ c. HoldsMap c map ⊎ HoldsMap c (after_writes map writes.now)) }
+    ensures crash { D.keeps_model → (map : KeyMap) → IsStored log.old map → LeavesOnly D.moment D.left_since (device_of log.old) (device_of log.new) (λ c. HoldsMap c map ⊎ HoldsMap c (after_writes map transaction.now.writes)) }
 {
-    if writes.is_empty() {
-        return Ok(());
+    if history.prepare(transaction).is_err() {
+        return Err(StoreFault::Memory);
     }
-    match log.append(alloc, writes) {
+    let Some(_len) = payload else {
+        return Ok(());
+    };
+    match log.append(alloc, transaction.entries()) {
         Ok(_) => Ok(()),
         Err(LogFault::Memory) => Err(StoreFault::Memory),
         Err(LogFault::Device) => Err(StoreFault::Device),

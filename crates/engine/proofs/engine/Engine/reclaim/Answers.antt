@@ -24,8 +24,8 @@ returns-clause-kept g c m h k =
     subst (λ ns. kept_of c.reclaim.new.self.versions k ≡ needed_of ns c.args.self.now.history.versions k)
     (numbers_are c.args.self.now c.reclaim.new.self c.oldest_begin-oldest.result _ least c.begins-count.ensures.numbers m h) (c.reclaim.ensures.kept k)
 
-pub returns-clause-records : goal.returns-clause-records
-returns-clause-records g c m h n low each =
+pub returns-clause-forgotten : goal.returns-clause-forgotten
+returns-clause-forgotten g c m h n low each =
     let least = subst (λ n. IsLeast (λ t. t.begin) n (values c.args.self.now.running) c.oldest_begin-oldest.result) (c.last.ensures ∙ ap (λ (v : CommittedValue). v.facts.last) c.committed.ensures) c.oldest_begin-oldest.ensures in
     none_below c.args.self.now c.reclaim.new.self c.oldest_begin-oldest.result _ least c.begins-count.ensures.numbers m h n low each
-    c.reclaim.new.self.committed.facts.records (c.reclaim.ensures.forgotten h.held m.base m.history h.history)
+    c.reclaim.new.self.committed.facts c.reclaim.ensures.forgotten

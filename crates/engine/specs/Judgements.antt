@@ -1,0 +1,57 @@
+-- What a COMMIT was judged to be.
+use Rattle.std.specs.Prelude.{◌≡◌, ℕ, ◌<◌, ◌-◌, ◌^◌, Bool, false, List, [], Option, Some, None, length, slice_index_or}
+use Rattle.model.specs.declared.refusals.Refusal.{Refusal}
+use Rattle.model.specs.declared.refusals.Refusal.TheVariants as refusals
+use Rattle.model.specs.Map.{KeyMap, KeyWrite}
+use Rattle.model.specs.Operations.{Operation}
+use Rattle.model.specs.Operations.Operation.{Commit}
+use Rattle.model.specs.PrivateCopy.{writes}
+use Rattle.model.specs.Machine.{State, refuse, step, payload_size}
+use Rattle.snapshot.specs.View.{View}
+use Rattle.snapshot.specs.Made.{HasMade}
+use Rattle.pivot_check.specs.Kept.{IsInReach}
+use Rattle.pivot_check.specs.StandsFor.{IsClear}
+use Rattle.sector.specs.declared.device.Sectors.{Ghosts}
+use Rattle.commit_log.specs.declared.log.Log.{Log}
+use Rattle.commit_log.specs.LogState.{is_stopped, used_sectors, sector_count}
+use Rattle.engine.specs.declared.engine.Engine.{Engine}
+use Rattle.engine.specs.declared.judging.Judgement.{Judgement}
+use Rattle.engine.specs.declared.judging.Judgement.TheVariants.{Refused, Overwritten, Clear}
+use Rattle.engine.specs.HistoryValue.{HistoryValue}
+use Rattle.engine.specs.StandsFor.{StandsFor}
+use Rattle.engine.specs.Changes.{entry_of, IsWritten, HasLogRoom}
+
+-- the machine ends the session's transaction by this refusal, whether or not the device fails
+abbrev pub IsRefused : {D : Type 0} {g : Ghosts D} → Engine D g → ℕ → Refusal → Type 0
+IsRefused e s refusal = (m : State) (failed : Bool) → StandsFor e m → step m s Commit failed ≡ refuse m s refusal
+
+-- the session's transaction is open, the store runs, and there is a number for a commit
+pub record IsToJudge {D : Type 0} {g : Ghosts D} (e : Engine D g) (s : ℕ) (t : View) : Type 0 where
+  pub entry : entry_of s e ≡ Some t
+  pub running : is_stopped e.log ≡ false
+  pub numbers : e.history.committed.facts.last < 2 ^ 63 - 1
+
+-- nothing refuses the commit, and the log has room for what was written
+pub record IsToCommit {D : Type 0} {g : Ghosts D} (e : Engine D g) (s : ℕ) (t : View) : Type 0 where
+  pub asked : IsToJudge e s t
+  pub made : (m : KeyMap) (qs : List Operation) → HasMade t m qs → t.writes ≡ writes m qs
+  pub clear : IsInReach e.history.committed.facts t → IsClear e.history.committed.facts t
+  pub room : HasLogRoom (used_sectors e.log) (sector_count e.log) t.writes
+
+-- how many bytes the payload of a record of what was written has, if anything was
+abbrev pub IsPayload : List KeyWrite → Option ℕ → Type 0
+IsPayload ws None = ws ≡ []
+IsPayload ws (Some len) = IsWritten ws × (len ≡ payload_size ws)
+
+-- the judgement is the machine's, over each state that the engine stands for
+abbrev pub IsJudged : {D : Type 0} {g : Ghosts D} → Engine D g → ℕ → View → Judgement → Type 0
+IsJudged e s t (Refused refusal) = IsRefused e s refusal
+IsJudged e s t (Overwritten i) = (i < length t.writes) × ((d : KeyWrite) → IsRefused e s (refusals.Overwritten (slice_index_or t.writes i d).0))
+IsJudged e s t (Clear payload) = IsToCommit e s t × IsPayload t.writes payload
+
+-- so it is in each engine with this log and these commits, for each session that runs the transaction
+abbrev pub IsJudgedOver : {D : Type 0} {g : Ghosts D} → Log D g → HistoryValue → View → Judgement → Type 0
+IsJudgedOver {D = D} {g = g} log history t judgement = (e : Engine D g) (s : ℕ) → e.log ≡ log → e.history ≡ history → entry_of s e ≡ Some t → IsJudged e s t judgement
+
+abbrev pub IsWeighedOver : {D : Type 0} {g : Ghosts D} → Log D g → HistoryValue → View → Judgement → Type 0
+IsWeighedOver {D = D} {g = g} log history t judgement = (e : Engine D g) (s : ℕ) → e.log ≡ log → e.history ≡ history → IsToJudge e s t → IsJudged e s t judgement
