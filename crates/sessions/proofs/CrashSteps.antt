@@ -1,6 +1,5 @@
 -- From the crashes of a request to those of an event.
 use Rattle.std.proofs.Common.{◌≡◌, ℕ, Bool, true, false, List, inl, inr, refl, sym, subst, ◌∙◌, arith}
-use Rattle.std.specs.Prelude.{◌⊎◌}
 use Rattle.sector.specs.declared.device.Sectors.{Ghosts}
 use Rattle.sector.specs.SectorModel.{LeavesOnly}
 use Rattle.model.specs.Map.{Bytes}

@@ -73,15 +73,15 @@ none_in None e = refl
 none_in (Some st) e = absurd (cc)
 
 module _ {D : Type 0} {g : Ghosts D} (hub : Hub D g) (h : HubState) (stands : StandsFor hub h) (s : ℕ) where
-  pub stream-some : (n : SessionState) → lookup (test s) hub.sessions.entries ≡ Some n → FoundStream h s n
+  pub stream-some : (n : SessionState) → lookup (test s) hub.sessions ≡ Some n → FoundStream h s n
   stream-some n e =
       let f = found_in (stream_of h s) n (sym (lookup-at_hand s h.present) ∙ ap (lookup (test s)) (sym stands.sessions) ∙ e) in
       record { stream = f.0; is = f.1; now = f.2 }
 
-  pub stream-none : lookup (test s) hub.sessions.entries ≡ None → stream_of h s ≡ None
+  pub stream-none : lookup (test s) hub.sessions ≡ None → stream_of h s ≡ None
   stream-none e = none_in (stream_of h s) (sym (lookup-at_hand s h.present) ∙ ap (lookup (test s)) (sym stands.sessions) ∙ e)
 
-  pub how_many : length hub.sessions.entries ≡ length h.present
+  pub how_many : length hub.sessions ≡ length h.present
   how_many = ap length stands.sessions ∙ length-at_hand h.present
 
 -- ---- one event
@@ -91,7 +91,7 @@ abbrev pub plain : Bool → Bool → Choice
 plain refused failed = record { front = More; refused = refused; failed = failed }
 
 module _ {D : Type 0} {g : Ghosts D} (old new : Hub D g) (h : HubState) (stands : StandsFor old h) (e : HubEvent) (c : Choice) (outcome : Outcome) where
-  pub reaches : (after : HubState) → IsPossible h e c → hub_step h e c ≡ (after, outcome) → EngineStandsFor new.engine after.machine → new.sessions.entries ≡ at_hand after.present → new.latest ≡ after.latest
+  pub reaches : (after : HubState) → IsPossible h e c → hub_step h e c ≡ (after, outcome) → EngineStandsFor new.engine after.machine → new.sessions ≡ at_hand after.present → new.latest ≡ after.latest
       → Reaches new h e c outcome
   reaches after possible step engine sessions latest =
       let P : HubState × Outcome → Type 0 = λ r. IsReachedHub r.0 → StandsFor new r.0 × (outcome ≡ r.1) in
@@ -99,7 +99,7 @@ module _ {D : Type 0} {g : Ghosts D} (old new : Hub D g) (h : HubState) (stands 
       record { possible = possible; stands = all.0; outcome_is = all.1 }
 
 -- nothing changed
-module _ {D : Type 0} {g : Ghosts D} (hub new : Hub D g) (h : HubState) (stands : StandsFor hub h) (e : HubEvent) (outcome : Outcome) (failed : Bool) (engine : new.engine ≡ hub.engine) (sessions : new.sessions.entries ≡ hub.sessions.entries) (latest : new.latest ≡ hub.latest) where
+module _ {D : Type 0} {g : Ghosts D} (hub new : Hub D g) (h : HubState) (stands : StandsFor hub h) (e : HubEvent) (outcome : Outcome) (failed : Bool) (engine : new.engine ≡ hub.engine) (sessions : new.sessions ≡ hub.sessions) (latest : new.latest ≡ hub.latest) where
   pub unchanged : (refused : Bool) → IsPossible h e (plain refused failed) → hub_step h e (plain refused failed) ≡ (h, outcome) → Reaches new h e (plain refused failed) outcome
   unchanged refused possible step =
       let P : Engine D g → Type 0 = λ x. EngineStandsFor x h.machine in
@@ -206,15 +206,15 @@ module _ (h : HubState) (s : ℕ) (c : Choice) where
 -- ---- the list of sessions after a change of one
 
 module _ {D : Type 0} {g : Ghosts D} (old : Hub D g) (h : HubState) (stands : StandsFor old h) (s : ℕ) (after : List (ℕ × SessionState)) (t : SessionState) where
-  pub set_is : (st : SessionStream) → after ≡ set_value (test s) old.sessions.entries t → t ≡ st.now → after ≡ at_hand (set_value (test s) h.present st)
+  pub set_is : (st : SessionStream) → after ≡ set_value (test s) old.sessions t → t ≡ st.now → after ≡ at_hand (set_value (test s) h.present st)
   set_is st e now =
       e ∙ ap (λ es. set_value (test s) es t) stands.sessions ∙ ap (λ x. set_value (test s) (at_hand h.present) x) now ∙ set-at_hand s st h.present
 
-  pub same_is : lookup (test s) old.sessions.entries ≡ Some t → after ≡ set_value (test s) old.sessions.entries t → after ≡ old.sessions.entries
-  same_is found e = e ∙ set_value_same (test s) old.sessions.entries t found
+  pub same_is : lookup (test s) old.sessions ≡ Some t → after ≡ set_value (test s) old.sessions t → after ≡ old.sessions
+  same_is found e = e ∙ set_value_same (test s) old.sessions t found
 
 module _ {D : Type 0} {g : Ghosts D} (old new : Hub D g) (s : ℕ) (before after : SessionState) (outcome : Outcome) where
-  pub serves : lookup (test s) old.sessions.entries ≡ Some before → new.sessions.entries ≡ set_value (test s) old.sessions.entries after → new.latest ≡ old.latest →
+  pub serves : lookup (test s) old.sessions ≡ Some before → new.sessions ≡ set_value (test s) old.sessions after → new.latest ≡ old.latest →
       ServesSession old.engine new.engine s before after outcome → HubLeads old new (Serves s) outcome
   serves found sessions latest x = (c, refl, refl, leads)
     where
@@ -230,10 +230,10 @@ module _ {D : Type 0} {g : Ghosts D} (old new : Hub D g) (s : ℕ) (before after
           let later : SessionStream = record f.stream { now = effect.now; served = f.stream.served ++ effect.served; replies = f.stream.replies ++ effect.replies } in
           let there : HubState = record (with_stream h s later) { machine = effect.machine } in
           reaches old new h stands (Serves s) c outcome there (rw f.is effects.possible) (serve-done h s c f.stream f.is ∙ ap (λ o. (there, o)) (sym effects.outcome_is))
-          effects.engine (set_is old h stands s new.sessions.entries after later sessions effects.session) (latest ∙ stands.latest)
+          effects.engine (set_is old h stands s new.sessions after later sessions effects.session) (latest ∙ stands.latest)
 
 module _ {D : Type 0} {g : Ghosts D} (old new : Hub D g) (s : ℕ) where
-  pub serves-unknown : lookup (test s) old.sessions.entries ≡ None → new.engine ≡ old.engine → new.sessions.entries ≡ old.sessions.entries → new.latest ≡ old.latest →
+  pub serves-unknown : lookup (test s) old.sessions ≡ None → new.engine ≡ old.engine → new.sessions ≡ old.sessions → new.latest ≡ old.latest →
       HubLeads old new (Serves s) Unknown
   serves-unknown none engine sessions latest = (
     plain false (has_failed old.engine new.engine),

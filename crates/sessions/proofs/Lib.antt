@@ -6,6 +6,8 @@ pub mod OpenTransactions
 pub mod CrashSteps
 pub mod RunLaws
 pub mod LifeLaws
+pub mod LivesLaws
 pub mod PrivateReplies
 pub mod HubEvents
 pub mod PiecesOfStreams
+pub mod Places

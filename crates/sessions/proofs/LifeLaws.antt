@@ -8,134 +8,111 @@ use Rattle.model.specs.declared.refusals.Refusal.{Refusal}
 use Rattle.model.specs.Map.{KeyMap, KeyWrite}
 use Rattle.model.specs.Operations.{Operation, Response}
 use Rattle.model.specs.Operations.Operation.{Begin, Get, Set, Del, Range, Commit, Abort, Ping, Faulty}
-use Rattle.model.specs.History.{Record}
+use Rattle.model.specs.History.{Record, map_at}
 use Rattle.model.specs.Verdict.{verdict}
 use Rattle.model.specs.Machine.{State, Running, step, step_of, running_of, commit, store, store_unless, record_to_commit, last, body_sectors}
-use Rattle.engine.specs.Recovery.{HoldsMap, committed_map}
+use Rattle.engine.specs.Recovery.{committed_map}
 use Rattle.sessions.specs.declared.hub.Hub.{Hub}
 use Rattle.sessions.specs.SessionStreams.{HubState, HubEvent, Choice, hub_step, run}
 use Rattle.sessions.specs.StandsFor.{StandsFor, device, is_stopped}
 use Rattle.sessions.specs.Crashes.{SurvivesCrash, IsStored, HoldsBeforeOrAfter, IsLeftByEvent}
-use Rattle.sessions.specs.Life.{MayFind, Holds, Survives, IsInDoubt, FoundAfter, FoundDuring}
-use Rattle.sessions.proofs.StreamLaws.{Moved, Rests, Lets, Steps, moved, by_if}
+use Rattle.sessions.specs.Life.{MayFind, Holds, Survives, FoundAfter, FoundDuring}
+use Rattle.sessions.proofs.StreamLaws.{Moved, Rests, Lets, Steps, moved}
 use Rattle.sessions.proofs.RunLaws.{hub-stopped, stays_stopped}
 
 by_case : {A : Type 0} (P : A → Type 0) (b : Bool) (x y : A) → (b ≡ true → P x) → (b ≡ false → P y) → P (if b then x else y)
 by_case P true x y p q = p refl
 by_case P false x y p q = q refl
 
--- ---- a stopped store
+-- ---- what a step makes of the commits
 
--- the store is then not stopped, or the map is as it was
-abbrev Same : State → State × Response → Type 0
-Same m r = r.0.stopped ≡ true → committed_map r.0 ≡ committed_map m
+-- no more, one more, or the device failed in one
+data CommitsBy (m : State) (f : Bool) (n : State) : Type 0 where
+  NoMore : n.base ≡ m.base → n.history ≡ m.history → n.stopped ≡ m.stopped → CommitsBy m f n
+  OneMore : (r : Record) → m.stopped ≡ false → n.base ≡ m.base → n.history ≡ m.history ++ r ∷ [] → n.stopped ≡ m.stopped → CommitsBy m f n
+  Fails : f ≡ true → m.stopped ≡ false → n.base ≡ m.base → n.history ≡ m.history → n.stopped ≡ true → CommitsBy m f n
+
+abbrev Answers : State → Bool → State × Response → Type 0
+Answers m f a = CommitsBy m f a.0
 
 module _ (m : State) (s : ℕ) (t : Running) (f : Bool) where
   abbrev r : Record
   r = record_to_commit m t
 
-  up_or : (x : KeyMap) → m.stopped ≡ false → m.stopped ≡ true → x ≡ committed_map m
-  up_or x up stop = let bad : false ≡ true = sym up ∙ stop in absurd (cc)
+  commits_in_store : m.stopped ≡ false → (ws : List KeyWrite) → Answers m f (store m s r ws f)
+  commits_in_store up [] = OneMore r up refl refl refl
+  commits_in_store up (w ∷ ws) =
+      by_case (Answers m f) (nat_le m.count (m.used + body_sectors (w ∷ ws))) _ _ (λ _. NoMore refl refl refl)
+      (λ _. by_case (Answers m f) f _ _ (λ fails. Fails fails up refl refl refl) (λ _. OneMore r up refl refl refl))
 
-  stored-same : m.stopped ≡ false → (ws : List KeyWrite) → Same m (store m s r ws f)
-  stored-same up [] = λ stop. up_or _ up stop
-  stored-same up (w ∷ ws) = by_case (Same m) (nat_le m.count (m.used + body_sectors (w ∷ ws))) _ _ (λ _ _. refl) (λ _. by_case (Same m) f _ _ (λ _ _. refl) (λ _ stop. up_or _ up stop))
+  commits_unless : m.stopped ≡ false → (o : Option Refusal) → Answers m f (store_unless o m s r f)
+  commits_unless up None = commits_in_store up r.writes
+  commits_unless up (Some conflict) = NoMore refl refl refl
 
-  judged-same : m.stopped ≡ false → (o : Option Refusal) → Same m (store_unless o m s r f)
-  judged-same up None = stored-same up r.writes
-  judged-same up (Some conflict) = λ _. refl
+  commits_in_commit : Answers m f (commit m s t f)
+  commits_in_commit =
+      by_case (Answers m f) m.stopped _ _ (λ _. NoMore refl refl refl)
+      (λ up. by_case (Answers m f) (last m == 2 ^ 63 - 1) _ _ (λ _. NoMore refl refl refl) (λ _. commits_unless up (verdict m.history r)))
 
-  committed-same : Same m (commit m s t f)
-  committed-same = by_case (Same m) m.stopped _ _ (λ _ _. refl) (λ up. by_case (Same m) (last m == 2 ^ 63 - 1) _ _ (λ _ _. refl) (λ _. judged-same up (verdict m.history r)))
-
-step-same : (m : State) (s : ℕ) (q : Operation) (f : Bool) → Same m (step m s q f)
+commits_in_step : (m : State) (s : ℕ) (q : Operation) (f : Bool) → Answers m f (step m s q f)
 unfolding step
-step-same m s q f = elim (running_of m s) as (λ o. Same m (step_of o m s q f)) [ None ↦ outside q | Some t ↦ inside t q ]
+commits_in_step m s q f = elim (running_of m s) as (λ o. Answers m f (step_of o m s q f)) [ None ↦ outside q | Some t ↦ inside t q ]
   where
-    outside : (q : Operation) → Same m (step_of None m s q f)
-    outside Begin = by_case (Same m) m.stopped _ _ (λ _ _. refl) (λ _. by_case (Same m) (nat_lt (length m.running) 64) _ _ (λ _ _. refl) (λ _ _. refl))
-    outside (Get k) = λ _. refl
-    outside (Set k v) = λ _. refl
-    outside (Del k) = λ _. refl
-    outside (Range lo hi limit) = λ _. refl
-    outside Commit = λ _. refl
-    outside Abort = λ _. refl
-    outside Ping = λ _. refl
-    outside (Faulty refusal) = λ _. refl
+    outside : (q : Operation) → Answers m f (step_of None m s q f)
+    outside Begin =
+        by_case (Answers m f) m.stopped _ _ (λ _. NoMore refl refl refl)
+        (λ _. by_case (Answers m f) (nat_lt (length m.running) 64) _ _ (λ _. NoMore refl refl refl) (λ _. NoMore refl refl refl))
+    outside (Get k) = NoMore refl refl refl
+    outside (Set k v) = NoMore refl refl refl
+    outside (Del k) = NoMore refl refl refl
+    outside (Range lo hi limit) = NoMore refl refl refl
+    outside Commit = NoMore refl refl refl
+    outside Abort = NoMore refl refl refl
+    outside Ping = NoMore refl refl refl
+    outside (Faulty refusal) = NoMore refl refl refl
 
-    inside : (t : Running) (q : Operation) → Same m (step_of (Some t) m s q f)
-    inside t Begin = λ _. refl
-    inside t (Get k) = λ _. refl
-    inside t (Set k v) = λ _. refl
-    inside t (Del k) = λ _. refl
-    inside t (Range lo hi limit) = λ _. refl
-    inside t Commit = committed-same m s t f
-    inside t Abort = λ _. refl
-    inside t Ping = λ _. refl
-    inside t (Faulty refusal) = λ _. refl
+    inside : (t : Running) (q : Operation) → Answers m f (step_of (Some t) m s q f)
+    inside t Begin = NoMore refl refl refl
+    inside t (Get k) = NoMore refl refl refl
+    inside t (Set k v) = NoMore refl refl refl
+    inside t (Del k) = NoMore refl refl refl
+    inside t (Range lo hi limit) = NoMore refl refl refl
+    inside t Commit = commits_in_commit m s t f
+    inside t Abort = NoMore refl refl refl
+    inside t Ping = NoMore refl refl refl
+    inside t (Faulty refusal) = NoMore refl refl refl
 
--- where the device doesn't fail the store isn't stopped
-abbrev Quiet : State → State × Response → Type 0
-Quiet m r = r.0.stopped ≡ m.stopped
-
-module _ (m : State) (s : ℕ) (t : Running) where
-  stored-quiet : (r : Record) (ws : List KeyWrite) → Quiet m (store m s r ws false)
-  stored-quiet r [] = refl
-  stored-quiet r (w ∷ ws) = by_if (Quiet m) (nat_le m.count (m.used + body_sectors (w ∷ ws))) _ _ refl refl
-
-  judged-quiet : (r : Record) (o : Option Refusal) → Quiet m (store_unless o m s r false)
-  judged-quiet r None = stored-quiet r r.writes
-  judged-quiet r (Some conflict) = refl
-
-  committed-quiet : Quiet m (commit m s t false)
-  committed-quiet = by_if (Quiet m) m.stopped _ _ refl (by_if (Quiet m) (last m == 2 ^ 63 - 1) _ _ refl (judged-quiet (record_to_commit m t) (verdict m.history (record_to_commit m t))))
-
-step-quiet : (m : State) (s : ℕ) (q : Operation) → Quiet m (step m s q false)
-unfolding step
-step-quiet m s q = elim (running_of m s) as (λ o. Quiet m (step_of o m s q false)) [ None ↦ outside q | Some t ↦ inside t q ]
-  where
-    outside : (q : Operation) → Quiet m (step_of None m s q false)
-    outside Begin = by_if (Quiet m) m.stopped _ _ refl (by_if (Quiet m) (nat_lt (length m.running) 64) _ _ refl refl)
-    outside (Get k) = refl
-    outside (Set k v) = refl
-    outside (Del k) = refl
-    outside (Range lo hi limit) = refl
-    outside Commit = refl
-    outside Abort = refl
-    outside Ping = refl
-    outside (Faulty refusal) = refl
-
-    inside : (t : Running) (q : Operation) → Quiet m (step_of (Some t) m s q false)
-    inside t Begin = refl
-    inside t (Get k) = refl
-    inside t (Set k v) = refl
-    inside t (Del k) = refl
-    inside t (Range lo hi limit) = refl
-    inside t Commit = committed-quiet m s t
-    inside t Abort = refl
-    inside t Ping = refl
-    inside t (Faulty refusal) = refl
+same_map : (m n : State) → n.base ≡ m.base → n.history ≡ m.history → committed_map n ≡ committed_map m
+same_map m n b h = ap (λ base. map_at base n.history (length n.history)) b ∙ ap (λ history. map_at m.base history (length history)) h
 
 module _ (h : HubState) (e : HubEvent) (c : Choice) where
   abbrev after : HubState
   after = (hub_step h e c).0
 
+  commits_in_event : CommitsBy h.machine c.failed after.machine
+  commits_in_event = by_move (moved h e c)
+    where
+      by_move : {m : State} → Moved c h.machine m → CommitsBy h.machine c.failed m
+      by_move Rests = NoMore refl refl refl
+      by_move (Lets s) = NoMore refl refl refl
+      by_move (Steps s q) = commits_in_step h.machine s q c.failed
+
   -- an event after which the store is stopped commits nothing
   pub hub-same : after.machine.stopped ≡ true → committed_map after.machine ≡ committed_map h.machine
-  hub-same stop = by_move (moved h e c) stop
+  hub-same stop = by_kind commits_in_event
     where
-      by_move : {m : State} → Moved c h.machine m → m.stopped ≡ true → committed_map m ≡ committed_map h.machine
-      by_move Rests stop = refl
-      by_move (Lets s) stop = refl
-      by_move (Steps s q) stop = step-same h.machine s q c.failed stop
+      by_kind : CommitsBy h.machine c.failed after.machine → committed_map after.machine ≡ committed_map h.machine
+      by_kind (NoMore b is s) = same_map h.machine after.machine b is
+      by_kind (OneMore r up b is s) = absurd (both_ways h.machine.stopped up (sym s ∙ stop))
+      by_kind (Fails f up b is s) = same_map h.machine after.machine b is
 
   hub-quiet : c.failed ≡ false → after.machine.stopped ≡ h.machine.stopped
-  hub-quiet is = by_move (moved h e c)
+  hub-quiet quiet = by_kind commits_in_event
     where
-      by_move : {m : State} → Moved c h.machine m → m.stopped ≡ h.machine.stopped
-      by_move Rests = refl
-      by_move (Lets s) = refl
-      by_move (Steps s q) = subst (λ f. (step h.machine s q f).0.stopped ≡ h.machine.stopped) (sym is) (step-quiet h.machine s q)
+      by_kind : CommitsBy h.machine c.failed after.machine → after.machine.stopped ≡ h.machine.stopped
+      by_kind (NoMore b is s) = s
+      by_kind (OneMore r up b is s) = s
+      by_kind (Fails f up b is s) = absurd (both_ways c.failed quiet f)
 
   -- only the device's failure stops a store
   pub hub-failed : h.machine.stopped ≡ false → after.machine.stopped ≡ true → c.failed ≡ true

@@ -47,7 +47,7 @@ SurvivesServe old new s n = (device_of new ≡ device_of old) ⊎ (ServesCommit 
 abbrev pub SurvivesEvent : {D : Type 0} {g : Ghosts D} → Hub D g → Hub D g → HubEvent → Type 0
 SurvivesEvent old new e =
     (device new ≡ device old)
-    ⊎ ((s : ℕ) × (n : SessionState) × (e ≡ Serves s) × (lookup (is_at (nat_cmp s)) old.sessions.entries ≡ Some n) × ServesCommit n × SurvivesCommit old.engine new.engine s)
+    ⊎ ((s : ℕ) × (n : SessionState) × (e ≡ Serves s) × (lookup (is_at (nat_cmp s)) old.sessions ≡ Some n) × ServesCommit n × SurvivesCommit old.engine new.engine s)
 
 -- the event executes a COMMIT of this session
 pub record Commits (h : HubState) (e : HubEvent) (s : ℕ) : Type 0 where

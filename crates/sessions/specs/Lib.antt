@@ -5,3 +5,5 @@ pub mod Life
 pub mod Laws
 pub mod Crashes
 pub mod Reopening
+pub mod Lives
+pub mod Places

@@ -26,7 +26,7 @@ at_hand es = map (λ e. (e.0, e.1.now)) es
 -- a hub keeps of each session what it has at hand, and of those that left the greatest number
 pub record StandsFor {D : Type 0} {g : Ghosts D} (hub : Hub D g) (h : HubState) : Type 0 where
   pub engine : EngineStandsFor hub.engine h.machine
-  pub sessions : hub.sessions.entries ≡ at_hand h.present
+  pub sessions : hub.sessions ≡ at_hand h.present
   pub latest : hub.latest ≡ h.latest
   pub reached : IsReachedHub h
 

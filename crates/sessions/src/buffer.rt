@@ -42,6 +42,20 @@ impl Buffer {
         }
     }
 
+    /// Where nothing is left and there is room for more than `kept` bytes, all but `least` bytes of it is given back, unless the smaller
+    /// block is refused.
+    pub(crate) fn give_back(&mut self, least: usize, kept: usize)
+        requires { self.old.start ≤ vec_len self.old.bytes }
+        ensures rest { rest self.new ≡ rest self.old }
+        ensures start { self.new.start ≤ vec_len self.new.bytes }
+        ensures len { vec_len self.new.bytes ≡ vec_len self.old.bytes }
+        ensures capacity { least ≤ vec_capacity self.old.bytes → least ≤ vec_capacity self.new.bytes }
+    {
+        if self.bytes.is_empty() && self.bytes.capacity() > kept {
+            self.bytes.shrink_to(least);
+        }
+    }
+
     /// The bytes that were given out make place.
     fn compact(&mut self)
         requires { self.old.start ≤ vec_len self.old.bytes }

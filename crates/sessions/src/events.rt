@@ -8,6 +8,9 @@ pub const INBOX_MAX: usize = 8 * VALUE_MAX;
 /// The bytes of output that are reserved when a session joins. Each reply but a value and the pairs of a range fits.
 pub const OUTPUT_ROOM: usize = 536;
 
+/// The most bytes that an output keeps once all of it was sent. What it grew beyond that for a large reply it gives back.
+pub const OUTPUT_KEPT: usize = 65_536;
+
 /// The most sessions that are present at a time.
 pub const SESSIONS_MAX: usize = 128;
 

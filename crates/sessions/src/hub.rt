@@ -6,17 +6,18 @@ ghost use Rattle.model.specs.Machine.{State};
 ghost use Rattle.sessions.specs.Crashes.{SurvivesEvent, SurvivesCrash, IsStored};
 ghost use Rattle.sessions.specs.Laws.{HasRun, IsLawful, Runs, RunsFollow};
 ghost use Rattle.sessions.specs.Life.{RunsGoOn, LosesNothing};
+ghost use Rattle.sessions.specs.Lives.{LivesLoseNothing, LivesFromNothing};
 ghost use Rattle.sessions.specs.SessionStreams.{HubState, is_above, hub_over, stream_of, Joins, Receives, Serves, Sends, Leaves};
 ghost use Rattle.sessions.specs.StandsFor.{HubLeads, StandsFor, event_of, status_in, room_in, pending_in, device, failures, is_stopped};
 
 use crate::events::{Event, Outcome, SESSIONS_MAX, Status};
+use crate::present::Present;
 use crate::requests::abort_transaction;
 use crate::session::Session;
 use engine::Engine;
 use model::machine_is_serializable;
 use sector::Sectors;
 use std::alloc::Global;
-use std::collections::BTreeMap;
 
 /// Whether the number is above the greatest that has joined.
 fn is_above(s: u64, latest: Option<u64>) -> bool
@@ -37,7 +38,7 @@ fn is_above(s: u64, latest: Option<u64>) -> bool
 pub struct Hub<D: Sectors> {
     alloc: Global,
     engine: Engine<D>,
-    sessions: BTreeMap<u64, Session>,
+    sessions: Present,
     /// The greatest number that has joined.
     latest: Option<u64>,
 }
@@ -53,7 +54,7 @@ impl<D: Sectors> Hub<D> {
         Hub {
             alloc,
             engine,
-            sessions: BTreeMap::new(alloc),
+            sessions: Present::new(alloc),
             latest: None,
         }
     }
@@ -62,7 +63,7 @@ impl<D: Sectors> Hub<D> {
     pub fn status(&self, s: u64) -> Status
         ensures { (h : HubState) → StandsFor self.now h → result ≡ status_in (stream_of h s) }
     {
-        match self.sessions.get(&s) {
+        match self.sessions.get(s) {
             Some(session) => session.status(),
             None => Status::Absent,
         }
@@ -72,7 +73,7 @@ impl<D: Sectors> Hub<D> {
     pub fn room(&self, s: u64) -> usize
         ensures { (h : HubState) → StandsFor self.now h → result ≡ room_in (stream_of h s) }
     {
-        match self.sessions.get(&s) {
+        match self.sessions.get(s) {
             Some(session) => session.room(),
             None => 0,
         }
@@ -82,7 +83,7 @@ impl<D: Sectors> Hub<D> {
     pub fn pending(&self, s: u64) -> &[u8]
         ensures { (h : HubState) → StandsFor self.now h → result.now ≡ pending_in (stream_of h s) }
     {
-        match self.sessions.get(&s) {
+        match self.sessions.get(s) {
             Some(session) => session.pending(),
             None => &[],
         }
@@ -123,11 +124,11 @@ impl<D: Sectors> Hub<D> {
             return Outcome::Memory;
         };
         match self.sessions.insert(s, session) {
-            Ok(_before) => {
+            Ok(()) => {
                 self.latest = Some(s);
                 Outcome::Done
             }
-            Err(_refused) => Outcome::Memory,
+            Err(_memory) => Outcome::Memory,
         }
     }
 
@@ -136,7 +137,7 @@ impl<D: Sectors> Hub<D> {
         ensures step { HubLeads self.old self.new (Receives s piece.now) result }
         ensures device { device self.new ≡ device self.old }
     {
-        match self.sessions.get_mut(&s) {
+        match self.sessions.get_mut(s) {
             Some(session) => {
                 if !session.is_open() {
                     return Outcome::Idle;
@@ -158,7 +159,7 @@ impl<D: Sectors> Hub<D> {
         ensures still { is_stopped self.old ≡ true → device self.new ≡ device self.old }
         ensures device { failures self.old ≤ failures self.new }
     {
-        match self.sessions.get_mut(&s) {
+        match self.sessions.get_mut(s) {
             Some(session) => session.serve(&mut self.engine, s),
             None => Outcome::Unknown,
         }
@@ -169,7 +170,7 @@ impl<D: Sectors> Hub<D> {
         ensures step { HubLeads self.old self.new (Sends s n) result }
         ensures device { device self.new ≡ device self.old }
     {
-        match self.sessions.get_mut(&s) {
+        match self.sessions.get_mut(s) {
             Some(session) => {
                 if n > session.pending().len() {
                     return Outcome::BadCount;
@@ -186,7 +187,7 @@ impl<D: Sectors> Hub<D> {
         ensures step { HubLeads self.old self.new (Leaves s) result }
         ensures device { device self.new ≡ device self.old }
     {
-        match self.sessions.remove(&s) {
+        match self.sessions.remove(s) {
             Some(_session) => {
                 abort_transaction(&mut self.engine, s);
                 Outcome::Done
@@ -274,6 +275,15 @@ impl<D: Sectors> Hub<D> {
     pub fn loses_nothing(&self)
         ensures go_on { RunsGoOn self.now }
         ensures crash { LosesNothing self.now }
+    {}
+
+    /// Does nothing, and takes no memory. Its contract is the law of a store's lives, one after another: each is opened over what a crash
+    /// at any moment of the one before left, during its opening too, and begins with the map of the last answered COMMIT, or with that and
+    /// one COMMIT more, which was under way at the crash or was answered a store fault. A log that was made empty, or that a map was
+    /// copied into, is never found damaged.
+    pub fn lives_lose_nothing(&self)
+        ensures lives { D.keeps_model → LivesLoseNothing self.now }
+        ensures from_nothing { D.keeps_model → LivesFromNothing self.now }
     {}
 
     /// Does nothing, and takes no memory. Its contract says what holds of every state that the hub stands for: no reply of an open

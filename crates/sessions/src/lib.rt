@@ -12,9 +12,10 @@ mod events;
 mod hub;
 mod laws;
 mod opening;
+mod present;
 mod requests;
 mod session;
 
-pub use events::{Event, INBOX_MAX, OUTPUT_ROOM, Outcome, SESSIONS_MAX, Status};
+pub use events::{Event, INBOX_MAX, OUTPUT_KEPT, OUTPUT_ROOM, Outcome, SESSIONS_MAX, Status};
 pub use hub::Hub;
 pub use laws::{crashes_leave_the_last_map, replies_are_private};

@@ -1,6 +1,6 @@
 //! One session that is present.
 use crate::buffer::Buffer;
-use crate::events::{INBOX_MAX, OUTPUT_ROOM, Outcome, Status};
+use crate::events::{INBOX_MAX, OUTPUT_KEPT, OUTPUT_ROOM, Outcome, Status};
 use crate::requests::{Served, serve_request};
 use engine::Engine;
 use model::Memory;
@@ -103,12 +103,13 @@ impl Session {
         self.inbox.append(piece, INBOX_MAX);
     }
 
-    /// The first `n` pending bytes leave.
+    /// The first `n` pending bytes leave. Where none is left, an output that grew beyond `OUTPUT_KEPT` bytes gives its room back.
     pub(crate) fn mark_sent(&mut self, n: usize)
         requires { n ≤ length self.old.pending }
         ensures { self.new ≡ record { inbox = self.old.inbox; pending = drop n self.old.pending; status = self.old.status } }
     {
         self.output.consume(n);
+        self.output.give_back(OUTPUT_ROOM, OUTPUT_KEPT);
     }
 
     /// Executes the request at the front of the inbox, if a reply is not pending and a whole request stands there.

@@ -22,7 +22,7 @@ returns-then-len-ge-SESSIONS_MAX-clause-step g c = (
   refl,
   λ h stands. (
       let above : is_above c.args.s h.latest ≡ true = ap (is_above c.args.s) (sym stands.latest) ∙ sym c.is_above.ensures ∙ c.if-not-is_above.false in
-      let le : 128 ≤ length h.present = omega (arith, c.if-len-ge-SESSIONS_MAX.true, c.len.ensures.len, how_many c.args.self.now h stands c.args.s) in
+      let le : 128 ≤ length h.present = omega (arith, c.if-len-ge-SESSIONS_MAX.true, c.len.ensures, how_many c.args.self.now h stands c.args.s) in
       unchanged c.args.self.now _ h stands _ _ _ refl refl refl _ tt (join-crowded h c.args.s _ above le)),
 )
 
@@ -33,7 +33,7 @@ returns-in_default-clause-step g c = (
   refl,
   λ h stands. (
       let above : is_above c.args.s h.latest ≡ true = ap (is_above c.args.s) (sym stands.latest) ∙ sym c.is_above.ensures ∙ c.if-not-is_above.false in
-      let lt : length h.present < 128 = omega (arith, c.if-len-ge-SESSIONS_MAX.false, c.len.ensures.len, how_many c.args.self.now h stands c.args.s) in
+      let lt : length h.present < 128 = omega (arith, c.if-len-ge-SESSIONS_MAX.false, c.len.ensures, how_many c.args.self.now h stands c.args.s) in
       unchanged c.args.self.now _ h stands _ _ _ refl refl refl _ tt (join-memory h c.args.s _ above lt)),
 )
 
@@ -44,7 +44,7 @@ returns-in-Err-clause-step g c = (
   refl,
   λ h stands. (
       let above : is_above c.args.s h.latest ≡ true = ap (is_above c.args.s) (sym stands.latest) ∙ sym c.is_above.ensures ∙ c.if-not-is_above.false in
-      let lt : length h.present < 128 = omega (arith, c.if-len-ge-SESSIONS_MAX.false, c.len.ensures.len, how_many c.args.self.now h stands c.args.s) in
+      let lt : length h.present < 128 = omega (arith, c.if-len-ge-SESSIONS_MAX.false, c.len.ensures, how_many c.args.self.now h stands c.args.s) in
       unchanged c.args.self.now _ h stands _ _ _ refl c.in-Err.ensures.err refl _ tt (join-memory h c.args.s _ above lt)),
 )
 
@@ -55,6 +55,6 @@ returns-in-Ok-insert-clause-step g c = (
   refl,
   λ h stands. (
       let above : is_above c.args.s h.latest ≡ true = ap (is_above c.args.s) (sym stands.latest) ∙ sym c.is_above.ensures ∙ c.if-not-is_above.false in
-      let lt : length h.present < 128 = omega (arith, c.if-len-ge-SESSIONS_MAX.false, c.len.ensures.len, how_many c.args.self.now h stands c.args.s) in reaches c.args.self.now _ h stands _ _ _ _ tt (join-done h c.args.s _ above lt) stands.engine
+      let lt : length h.present < 128 = omega (arith, c.if-len-ge-SESSIONS_MAX.false, c.len.ensures, how_many c.args.self.now h stands c.args.s) in reaches c.args.self.now _ h stands _ _ _ _ tt (join-done h c.args.s _ above lt) stands.engine
       (c.in-Ok-insert.ensures.entries ∙ ap (λ es. insert_entry nat_cmp es c.args.s c.in-Ok.session) stands.sessions ∙ ap (λ t. insert_entry nat_cmp (at_hand h.present) c.args.s t) c.in-Ok.ensures ∙ insert-at_hand c.args.s new_stream h.present) refl),
 )

@@ -1,0 +1,50 @@
+//! What one may conclude of a store over a file: whoever grants that files keep the sector model has the clauses on crashes at the very
+//! type that `serve` runs. No function here has a proof of its own.
+#![tactic(auto)]
+
+ghost use Rattle.std.specs.Prelude.{ℕ, List};
+ghost use Rattle.model.specs.Map.{KeyWrite};
+ghost use Rattle.engine.specs.Recovery.{LeavesCommitted};
+ghost use Rattle.sector.specs.FileModel.{FileKeepsModel};
+ghost use Rattle.sector.specs.SectorModel.{LeavesOnly};
+ghost use Rattle.commit_log.specs.Format.{current};
+ghost use Rattle.commit_log.specs.RecordFormat.{IsWriteSet};
+ghost use Rattle.commit_log.specs.LogState.{StandsFor as LogStandsFor, IsBeforeOrAfter, device_of};
+ghost use Rattle.sessions.specs.SessionStreams.{HubState};
+ghost use Rattle.sessions.specs.StandsFor.{StandsFor, event_of, device};
+ghost use Rattle.sessions.specs.Crashes.{IsLeftByEvent};
+ghost use Rattle.sessions.specs.Lives.{LivesLoseNothing, LivesFromNothing};
+
+use commit_log::{Log, LogFault};
+use model::Write;
+use sector::{FileSectors, Sectors};
+use sessions::{Event, Hub, Outcome};
+use std::alloc::Global;
+
+/// Appends a record to a log over a file: a crash at any moment of the call leaves the log with the record or without it.
+pub fn append(log: &mut Log<FileSectors>, alloc: Global, writes: &[Write]) -> Result<u64, LogFault>
+    requires { IsWriteSet current writes.now }
+    ensures { FileKeepsModel → (lists : List (List KeyWrite)) → LogStandsFor log.old lists
+        → LeavesOnly ⟦<FileSectors as Sectors>⟧.moment ⟦<FileSectors as Sectors>⟧.left_since (device_of log.old) (device_of log.new) (IsBeforeOrAfter lists writes.now) }
+{
+    log.append(alloc, writes)
+}
+
+/// Applies an event to the sessions over a file: a crash at any moment of it leaves the map committed before it or, where it executes a
+/// COMMIT, that with the transaction's writes. After it a crash leaves the map that is then committed.
+pub fn step(hub: &mut Hub<FileSectors>, event: &Event<'_>) -> Outcome
+    ensures crash { FileKeepsModel → (h : HubState) → StandsFor hub.old h
+        → LeavesOnly ⟦<FileSectors as Sectors>⟧.moment ⟦<FileSectors as Sectors>⟧.left_since (device hub.old) (device hub.new) (IsLeftByEvent hub.old h (event_of event.now)) }
+    ensures stored { FileKeepsModel → (h : HubState) → StandsFor hub.new h → LeavesCommitted h.machine (⟦<FileSectors as Sectors>⟧.may_leave (device hub.new)) }
+{
+    hub.step(event)
+}
+
+/// Does nothing. Through any number of lives over files, each opened over what a crash of the one before left, a store begins with the
+/// map of the last answered COMMIT, or with that and one COMMIT more; it is never found damaged.
+pub fn lives(hub: &Hub<FileSectors>)
+    ensures lives { FileKeepsModel → LivesLoseNothing hub.now }
+    ensures from_nothing { FileKeepsModel → LivesFromNothing hub.now }
+{
+    hub.lives_lose_nothing()
+}
