@@ -22,12 +22,13 @@ use std::alloc::Global;
 use std::fs::File;
 use std::io::{self, Write};
 use std::rt::Files;
+use std::time::Clock;
 
 /// Makes a data file of so many sectors, 2 to 4,194,304, and formats it. The name must be free. Prints nothing.
 ///
 /// A fault is `File`, or `Memory` where that was what a call of the system lacked, after which no file is there that it made, or
 /// `Device`, after which the file stays. Takes no memory.
-pub fn create<R: Files<File = File>>(rt: &R, data: &str, sectors: u64) -> Result<(), Fault>
+pub fn create<R: Files<File = File> + Clock>(rt: &R, data: &str, sectors: u64) -> Result<(), Fault>
     requires at_least { 2 ≤ sectors }
     requires at_most { sectors ≤ 4194304 }
     ensures { IfErr result IsFromOutside }
@@ -56,7 +57,7 @@ pub fn format_device<D: Sectors>(device: &mut D) -> Result<(), Fault>
 /// Opens a data file and prints how many records, keys and sectors it holds, and how many sectors it has.
 ///
 /// A fault is `File`, or one of `check_device`. It takes the memory of one record and of the map.
-pub fn check<R: Files<File = File>, O: Write>(
+pub fn check<R: Files<File = File> + Clock, O: Write>(
     rt: &R,
     alloc: Global,
     data: &str,

@@ -6,7 +6,6 @@ ghost use Rattle.commands.specs.Notices.{listening_line, stopped_line};
 use crate::LINE_MAX;
 use crate::faults::{Fault, or_memory};
 use arrayvec::ArrayVec;
-use engine::Engine;
 use event_loop::EventLoop;
 use sector::FileSectors;
 use sessions::Hub;
@@ -103,7 +102,7 @@ fn print_listening<O: Write>(address: SocketAddr, out: &mut O) -> io::Result<()>
 }
 
 /// Opens a data file and listens at an address. Its faults are those of `serve` but `Poll`.
-pub(crate) fn open<R: Files<File = File> + Net>(
+pub(crate) fn open<R: Files<File = File> + Net + Clock>(
     rt: &R,
     alloc: Global,
     data: &str,
@@ -113,7 +112,7 @@ pub(crate) fn open<R: Files<File = File> + Net>(
         return Err(Fault::Listen);
     };
     let device = FileSectors::open(rt, data)?;
-    let hub = Hub::new(alloc, Engine::open(alloc, device)?);
+    let hub = Hub::open(alloc, device)?;
     match EventLoop::bind(rt, alloc, address, hub) {
         Ok(events) => Ok(events),
         Err(error) => Err(or_memory(&error, Fault::Listen)),

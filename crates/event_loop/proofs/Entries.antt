@@ -18,13 +18,13 @@ use Rattle.stream_driver.specs.declared.entries.Entry.{Entry}
 use Rattle.stream_driver.specs.Traffic.{Traffic}
 use Rattle.stream_driver.specs.Sessions.{Point, Leads, InSomeState, IsPresent, Stands, status_at}
 use Rattle.stream_driver.specs.Drives.{EndsAs}
-use Rattle.stream_driver.specs.Entries.{DrivenAll, DrivenIn, DrivenSlot, DrivenOnce, EndsDrive, HaveSessions, is_gone, is_over, state_after}
+use Rattle.stream_driver.specs.Entries.{DrivenAll, DrivenIn, DrivenSlot, DrivenOnce, HaveSessions, is_gone, is_over, state_after}
 use Rattle.stream_driver.specs.Buffers.{is_settled}
 use Rattle.stream_driver.specs.declared.buffered.BufferedStream.{BufferedStream}
 use Rattle.mio.specs.declared.event.event.Event.{Event}
 use Rattle.mio.specs.Event.{event_token, is_priority, is_read_closed}
 use Rattle.event_loop.specs.Numbers.{AreBelow}
-use Rattle.event_loop.specs.Tables.{EndsTurn, HasNobody, HaveEntries, IsWithoutEntry, after_event, after_poll, readied, slot_at, told, told_slot, unless_over}
+use Rattle.event_loop.specs.Tables.{EndsTurn, HasNobody, HaveEntries, IsWithoutEntry, after_event, after_poll, readied, slot_at, told, told_slot}
 use Rattle.event_loop.proofs.Present.{test, reached-run, absent_then, others_then}
 
 -- ---- the states that one hub stands for

@@ -32,8 +32,9 @@ WhyStopped n old new Full = (n ≡ 128) × (new ≡ after_taken n old)
 WhyStopped n old new Empty = (n < 128) × (new ≡ after_accept Blocked (after_taken n old))
 WhyStopped n old new BacklogFailed = (n < 128) × (new ≡ after_accept Failed (after_taken n old))
 
--- the accepts of a turn
-pub record TurnAccepts (old : Accepts) (backlog : Backlog) (new : Accepts) : Type 0 where
+-- the accepts of a turn: what became of the connections that were taken is said of their number
+pub record TurnAccepts (Became : ℕ → Type 0) (old : Accepts) (backlog : Backlog) (new : Accepts) : Type 0 where
   -- so many connections were taken
   pub taken : ℕ
   pub why : WhyStopped taken old new backlog
+  pub became : Became taken

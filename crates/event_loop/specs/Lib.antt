@@ -4,4 +4,5 @@ pub mod Lingerings
 pub mod Loops
 pub mod Numbers
 pub mod Tables
+pub mod Turns
 pub mod Waits

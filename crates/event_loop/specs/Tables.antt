@@ -63,6 +63,12 @@ module _ {T : Type 0} where
     abbrev pub Admits : Hub D g → ℕ → List (Option (Entry T)) → Hub D g → ℕ → List (Option (Entry T)) → Type 0
     Admits hub next slots later then new = TurnsAway hub next slots later then new ⊎ LetsIn hub next slots later then new
 
+-- so many connections came one after another, and each was let in or turned away
+pub data AdmitsEach {T D : Type 0} {g : Ghosts D} (hub : Hub D g) (next : ℕ) (slots : List (Option (Entry T))) : ℕ → Hub D g → ℕ → List (Option (Entry T)) → Type 0 where
+  Nobody : AdmitsEach hub next slots 0 hub next slots
+  OneMore : (count : ℕ) (mid later : Hub D g) (number then : ℕ) (between new : List (Option (Entry T))) → AdmitsEach hub next slots count mid number between
+      → Admits mid number between later then new → AdmitsEach hub next slots (count + 1) later then new
+
 module _ {T : Type 0} where
   -- an entry that the poll told of: one that waited is to be driven, and is it to be read until its stream blocks?
   abbrev pub told : Bool → Entry (BufferedStream T) → Entry (BufferedStream T)

@@ -7,7 +7,7 @@ ghost use Rattle.stream_driver.specs.Sessions.{Stands};
 ghost use Rattle.stream_driver.specs.Entries.{HaveSessions};
 ghost use Rattle.event_loop.specs.Accepts.{TurnAccepts};
 ghost use Rattle.event_loop.specs.Numbers.{AreBelow};
-ghost use Rattle.event_loop.specs.Tables.{Admits, EndsTurn, HaveEntries, after_poll, slot_at, told};
+ghost use Rattle.event_loop.specs.Tables.{Admits, AdmitsEach, EndsTurn, HaveEntries, after_poll, slot_at, told};
 
 use crate::lingering::Lingering;
 use crate::listener::{AcceptAnswer, Listener};
@@ -114,8 +114,9 @@ pub(crate) fn end_drives(
 /// Takes at most `SESSIONS_MAX` connections from a listener, each under the next number, and says what the listener may still hold:
 /// `Full` where it took that many, `Empty` where none waits, `Failed` where a call failed.
 ///
-/// A connection for which there is no place, or that memory or registration is refused for, is closed. It may grow the table, and takes
-/// the memory of the sessions and of their streams.
+/// Each connection that it takes is let in with a session that joins, or turned away, and nothing else happens to the hub and the table.
+/// One for which there is no place, or that memory or registration is refused for, is closed. It may grow the table, and takes the memory
+/// of the sessions and of their streams.
 pub fn accept_some<D: Sectors, L: Listener>(
     alloc: Global,
     poll: &Poll,
@@ -128,7 +129,7 @@ pub fn accept_some<D: Sectors, L: Listener>(
     requires sessions { HaveSessions hub.old table.old.slots }
     requires numbers { AreBelow next.old table.old.slots }
     requires entries { HaveEntries hub.old table.old.slots }
-    ensures accepts { TurnAccepts (L.accepts listener.old) result (L.accepts listener.new) }
+    ensures accepts { TurnAccepts (λ n. AdmitsEach hub.old next.old table.old.slots n hub.new next.new table.new.slots) (L.accepts listener.old) result (L.accepts listener.new) }
     ensures ran { HasRun hub.old hub.new }
     ensures stands { Stands hub.new }
     ensures sessions { HaveSessions hub.new table.new.slots }

@@ -1,7 +1,8 @@
 //! Sessions over TCP: a loop that polls, drives the connections that are ready, takes out those that are gone, and accepts others.
 //!
-//! Nothing in a contract says what the system's sockets do. What a turn makes of the table is stated part by part: which entries become
-//! ready, that each that is ready is driven and how (`drive_ready`), which go, and which come. That `turn` polls is shown by tests.
+//! Nothing in a contract says what the system's sockets do. What a turn makes of the hub and the table, given what the poll told, stands in
+//! `specs/Turns.antt`: which entries become ready, that each that is ready is driven, which go, and which come. That `turn` polls is shown
+//! by tests.
 #![tactic(auto)]
 
 mod connections;

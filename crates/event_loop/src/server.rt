@@ -20,7 +20,7 @@ use std::alloc::Global;
 use std::io;
 use std::net::{Net, SocketAddr};
 use std::time::{Clock, Duration, Instant};
-use stream_driver::{BufferedStream, Entry, drive_ready};
+use stream_driver::{BufferedStream, Entry, Stream, drive_ready};
 
 /// The token of the listener, which no key of the table is.
 const LISTENER: Token = Token(usize::MAX);
@@ -45,11 +45,13 @@ pub struct EventLoop<D: Sectors> {
 }
 
 impl<D: Sectors> EventLoop<D> {
-    ghost use Rattle.std.specs.Prelude.{◌≡◌, IfOk};
+    ghost use Rattle.std.specs.Prelude.{◌≡◌, true, IfOk, OnOk, OnErr};
+    ghost use Rattle.mio.specs.Events.{items};
     ghost use Rattle.sessions.specs.Laws.{HasRun};
     ghost use Rattle.sessions.specs.SessionStreams.{HubState};
     ghost use Rattle.sessions.specs.StandsFor.{StandsFor};
     ghost use Rattle.event_loop.specs.Loops.{hub_of};
+    ghost use Rattle.event_loop.specs.Turns.{Accepted, DrivesReady, IsTurn, IsUntouched, accepts_now, is_told_of};
 
     /// Listens at an address for the sessions of a hub that none has joined, over an engine that was opened. Port 0 stands for one that
     /// the system picks.
@@ -116,6 +118,9 @@ impl<D: Sectors> EventLoop<D> {
     /// It answers a fault exactly where the poll failed; nothing else was done then. It may grow the table, and what the sessions'
     /// requests grow.
     ///
+    /// The hub's events are those of the drives, each of its own session over its own stream, and of the accepts, and no others: which
+    /// entries are ready is what the poll told. No entry is taken out but one whose session has left.
+    ///
     /// Whatever the connections send, and however their bytes are cut and interleaved, what a turn does to the hub is a run of events. So
     /// every reply between a transaction's begin and its commit or abort is what a private copy of the map committed at its begin
     /// answers to its own requests alone, and the committed transactions, run one at a time in one order, give the same replies and the
@@ -123,6 +128,8 @@ impl<D: Sectors> EventLoop<D> {
     /// leaves a map that was committed at one, or that with a COMMIT that was under way.
     pub fn turn<C: Clock>(&mut self, clock: &C, timeout: Option<Duration>) -> io::Result<()>
         ensures ran { HasRun (hub_of self.old) (hub_of self.new) }
+        ensures turned { OnOk result (IsTurn ⟦<Socket as Stream>⟧.tells ⟦<Socket as Stream>⟧.traffic self.old self.new) }
+        ensures fault { OnErr result (IsUntouched self.old self.new) }
     {
         self.hub.runs_follow();
         let patience = self.lingering.patience(Instant::now(clock).ok());
@@ -136,7 +143,7 @@ impl<D: Sectors> EventLoop<D> {
         self.drive(now);
         let comes_more = self.is_told(LINGERER);
         self.lingering.turn(comes_more, now);
-        if self.backlog != Backlog::Empty || self.is_told(LISTENER) {
+        if self.accepts_now() {
             self.accept();
         }
         Ok(())
@@ -144,7 +151,9 @@ impl<D: Sectors> EventLoop<D> {
 
     // Accepts connections. After an accept that failed, as for want of descriptors, none lingers.
     fn accept(&mut self)
-        ensures { HasRun self.old.hub self.new.hub }
+        ensures ran { HasRun self.old.hub self.new.hub }
+        ensures accepts { Accepted true self.old self.new }
+        ensures events { self.new.events ≡ self.old.events }
     {
         self.backlog = accept_some(
             self.alloc,
@@ -161,15 +170,32 @@ impl<D: Sectors> EventLoop<D> {
 
     // Drives the sessions that are ready, those that the last poll told of among them.
     fn drive(&mut self, now: Option<Instant>)
-        ensures { HasRun self.old.hub self.new.hub }
+        ensures ran { HasRun self.old.hub self.new.hub }
+        ensures drives { DrivesReady ⟦<Socket as Stream>⟧.tells ⟦<Socket as Stream>⟧.traffic (items self.old.events) self.old.hub self.old.table.slots self.new.hub self.new.table.slots }
+        ensures events { self.new.events ≡ self.old.events }
+        ensures next { self.new.next ≡ self.old.next }
+        ensures port { self.new.port ≡ self.old.port }
+        ensures backlog { self.new.backlog ≡ self.old.backlog }
     {
         make_polled_ready(&self.events, &mut self.table);
         drive_ready(&mut self.hub, &mut self.table);
         end_drives(&self.poll, now, &mut self.table, &mut self.lingering);
     }
 
+    // May the listener hold more, or did the last poll tell of it?
+    fn accepts_now(&self) -> bool
+        ensures { result ≡ accepts_now self.now.backlog (items self.now.events) }
+    {
+        match self.backlog {
+            Backlog::Empty => self.is_told(LISTENER),
+            Backlog::Full | Backlog::Failed => true,
+        }
+    }
+
     // Did the last poll tell of this token?
-    fn is_told(&self, token: Token) -> bool {
+    fn is_told(&self, token: Token) -> bool
+        ensures { result ≡ is_told_of token (items self.now.events) }
+    {
         self.events.iter().any(|event| event.token() == token)
     }
 }

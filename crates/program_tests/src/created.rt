@@ -5,6 +5,7 @@ use std::fs::{self, File, Metadata, OpenOptions};
 use std::io::{self, ErrorKind};
 use std::rt::Files;
 use std::test::Fail;
+use std::time::{Clock, Duration};
 
 /// The files of a system on which what is opened to read alone, as a directory is, can't be opened.
 #[derive(Drop)]
@@ -59,6 +60,16 @@ impl Files for NoDirectories<'_> {
 
     fn remove_dir_all<B: Allocator>(&self, alloc: B, path: &str) -> io::Result<()> {
         self.rt.remove_dir_all(alloc, path)
+    }
+}
+
+impl Clock for NoDirectories<'_> {
+    fn monotonic(&self) -> io::Result<Duration> {
+        self.rt.monotonic()
+    }
+
+    fn since_1970(&self) -> io::Result<Duration> {
+        self.rt.since_1970()
     }
 }
 

@@ -146,7 +146,7 @@ fn command_lines(rt: HostRuntime) -> Result<(), Fail> {
 }
 
 #[test]
-fn faults_and_help(rt: HostRuntime) -> Result<(), Fail> {
+fn faults_of_addresses_and_files(rt: HostRuntime) -> Result<(), Fail> {
     let cases = [
         refused(
             &["ssikvd", "serve", "--data", "none", "--listen", "localhost"],
@@ -180,6 +180,16 @@ fn faults_and_help(rt: HostRuntime) -> Result<(), Fail> {
             FAULT,
             Due::Is(b"ssikvd: file fault\n"),
         ),
+    ];
+    for case in cases {
+        assert!(rt; is_met(&rt, rt.alloc(), case));
+    }
+    Ok(())
+}
+
+#[test]
+fn help(rt: HostRuntime) -> Result<(), Fail> {
+    let cases = [
         helped(&["ssikvd", "--help"], b"An ordered store"),
         helped(&["ssikvd", "create", "--help"], b"Makes a data file"),
     ];
@@ -617,6 +627,15 @@ struct Turning {
     kind: ErrorKind,
 }
 
+fn stopping_server(stops_at: u64, fails_at: u64, kind: ErrorKind) -> Turning {
+    Turning {
+        turns: 0,
+        stops_at,
+        fails_at,
+        kind,
+    }
+}
+
 impl Turns for Turning {
     fn next_turn<C: Clock>(&mut self, _clock: &C) -> io::Result<()> {
         self.turns = self.turns.saturating_add(1);
@@ -647,31 +666,21 @@ fn a_stop_is_told_once(rt: HostRuntime) -> Result<(), Fail> {
             (ErrorKind::Other, Fault::Poll),
             (ErrorKind::OutOfMemory, Fault::Memory),
         ] {
-            let mut server = Turning {
-                turns: 0,
-                stops_at,
-                fails_at,
-                kind,
-            };
+            let mut server = stopping_server(stops_at, fails_at, kind);
             let mut err = Vec::new(rt.alloc());
             let ended = serve_turns(&rt, &mut server, &mut err);
             assert!(rt; ended == Err(fault) && err.as_slice() == text && server.turns == fails_at);
         }
     }
-    let mut server = Turning {
-        turns: 0,
-        stops_at: 2,
-        fails_at: 5,
-        kind: ErrorKind::Other,
-    };
+    Ok(())
+}
+
+#[test]
+fn a_stop_that_cannot_be_told_ends_nothing(rt: HostRuntime) -> Result<(), Fail> {
+    let mut server = stopping_server(2, 5, ErrorKind::Other);
     let mut err = Counting { writes: 0 };
     assert!(rt; serve_turns(&rt, &mut server, &mut err) == Err(Fault::Poll) && err.writes == 1);
-    let mut server = Turning {
-        turns: 0,
-        stops_at: 2,
-        fails_at: 5,
-        kind: ErrorKind::Other,
-    };
+    let mut server = stopping_server(2, 5, ErrorKind::Other);
     assert!(rt;
         serve_turns(&rt, &mut server, &mut Broken) == Err(Fault::Poll) && server.turns == 5
     );

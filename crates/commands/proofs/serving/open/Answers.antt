@@ -4,4 +4,4 @@ use Rattle.sessions.specs.SessionStreams.{hub_over}
 use Rattle.commands.proofs.serving.open.Goals as goal
 
 pub bind-requires : goal.bind-requires
-bind-requires g c = let o = c.in_ok-open.ensures.opens in ∣ (hub_over (opened o.0 o.1 _), c.new-hub.ensures.stands _ o.2, (refl, refl)) ∣₁
+bind-requires g c = let o = c.in_ok-hub.ensures.begins in ∣ (hub_over (opened o.0 o.1 _), o.2, (refl, refl)) ∣₁

@@ -20,3 +20,12 @@ invariant_of-self g c = record {
       (below_after c.args.self.now.next c.make_polled_ready.new.table.slots c.drive_ready.new.table.slots
       (polled_numbers c.args.self.now.table.slots c.make_polled_ready.new.table.slots (items c.args.self.now.events) c.make_polled_ready.ensures c.args.self.now.next c.args.self.now.numbers) c.drive_ready.ensures.numbers);
 }
+
+pub returns-clause-drives : goal.returns-clause-drives
+returns-clause-drives g c = record {
+  ready = c.make_polled_ready.new.table.slots;
+  told = c.make_polled_ready.ensures;
+  driven = c.drive_ready.new.table.slots;
+  drives = c.drive_ready.ensures.driven;
+  ended = c.end_drives.ensures;
+}
