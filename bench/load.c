@@ -1,12 +1,14 @@
 /* The load generator: N connections on T threads, each with one transaction after another (a closed loop). It checks each reply and each
  * value, and prints how many transactions a second were committed, and those of the connection that was served least and most.
  *
- *   load --server echo|resp|postgres --address 127.0.0.1:PORT --work ping|pings|read|write|fill [options]
+ *   load --server echo|resp|redis|postgres --address 127.0.0.1:PORT --work ping|pings|read|range|write|hot|fill [options]
  *
  *   ping    PING
  *   pings   32 PINGs, sent together
  *   read    BEGIN, 4 GET of any keys, COMMIT
+ *   range   BEGIN, RANGE of 64 keys, COMMIT
  *   write   BEGIN, SET of a key that no other connection writes, COMMIT
+ *   hot     BEGIN, GET and SET of one of 16 keys that all connections write, COMMIT
  *   fill    sets every key once, 64 in a transaction, on one connection
  *
  *   --connections N (1)  --threads T (1)  --seconds S (1)  --warm-up S (0.1)  --keys K (10000)  --value-bytes B (100)
@@ -31,13 +33,14 @@
 
 #define GETS 4
 #define PINGS 32
+#define HOT_KEYS 16
 #define FILL_WRITES 64
 #define REQUESTS_MAX (FILL_WRITES + 2)
 #define CONNECTIONS_MAX 1024
 #define RECEIVE_ROOM 65536
 
-enum work { WORK_PING, WORK_PINGS, WORK_READ, WORK_WRITE, WORK_FILL };
-static const char *const work_names[] = {"ping", "pings", "read", "write", "fill"};
+enum work { WORK_PING, WORK_PINGS, WORK_READ, WORK_RANGE, WORK_WRITE, WORK_HOT, WORK_FILL };
+static const char *const work_names[] = {"ping", "pings", "read", "range", "write", "hot", "fill"};
 
 static const struct protocol *server = &resp;
 static struct sockaddr_in address = {.sin_family = AF_INET};
@@ -116,6 +119,14 @@ void check_value(const char *value, size_t length, uint32_t key) {
     if (length != value_bytes || memcmp(value, expected, length)) fail("a wrong value", value, length);
 }
 
+void check_pair(const char *key, size_t key_length, const char *value, size_t length, uint32_t first) {
+    char low[KEY_BYTES], high[KEY_BYTES];
+    write_key(low, first);
+    write_key(high, first + RANGE_PAIRS);
+    if (key_length != KEY_BYTES || memcmp(key, low, KEY_BYTES) < 0 || memcmp(key, high, KEY_BYTES) >= 0) fail("a wrong key", key, key_length);
+    check_value(value, length, (uint32_t)strtoul(key + 1, NULL, 10));
+}
+
 void send_all(int socket, const struct bytes *bytes) {
     for (size_t sent = 0; sent < bytes->length;) {
         ssize_t moved = send(socket, bytes->at + sent, bytes->length - sent, MSG_NOSIGNAL);
@@ -144,6 +155,16 @@ static void add_accesses(struct worker *worker, struct connection *connection) {
     }
     if (work == WORK_READ) {
         for (int i = 0; i < GETS; i++) add(connection, GET, random_below(&worker->random, keys));
+        return;
+    }
+    if (work == WORK_RANGE) {
+        add(connection, RANGE, random_below(&worker->random, keys - RANGE_PAIRS));
+        return;
+    }
+    if (work == WORK_HOT) {
+        uint32_t key = random_below(&worker->random, HOT_KEYS);
+        add(connection, GET, key);
+        add(connection, SET, key);
         return;
     }
     for (int i = 0; i < FILL_WRITES && worker->filled < keys; i++) add(connection, SET, worker->filled++);
@@ -319,8 +340,8 @@ static void run_workers(struct worker *workers) {
 }
 
 static void read_server(const char *text) {
-    const struct protocol *const all[] = {&echo, &resp, &postgres};
-    for (int i = 0; i < 3; i++) {
+    const struct protocol *const all[] = {&echo, &resp, &redis, &postgres};
+    for (int i = 0; i < 4; i++) {
         server = all[i];
         if (!strcmp(text, server->name)) return;
     }
@@ -370,7 +391,7 @@ static void read_options(int count, char **words) {
         at_once = true;
     }
     if (threads > connections) threads = connections;
-    if (threads < 1 || connections > CONNECTIONS_MAX || keys < connections || keys > 99999999) fail("an option is out of range", "", 0);
+    if (threads < 1 || connections > CONNECTIONS_MAX || keys < connections || keys <= RANGE_PAIRS || keys > 99999999) fail("an option is out of range", "", 0);
     if (value_bytes < KEY_BYTES || value_bytes > VALUE_BYTES_MAX) fail("an option is out of range", "", 0);
 }
 

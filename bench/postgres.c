@@ -94,6 +94,7 @@ static void postgres_greet(int socket) {
     append_parse(&out, "begin", "BEGIN ISOLATION LEVEL SERIALIZABLE READ WRITE");
     append_parse(&out, "get", "SELECT v FROM kv WHERE k = $1");
     append_parse(&out, "set", "UPDATE kv SET v = $2 WHERE k = $1");
+    append_parse(&out, "range", "SELECT k, v FROM kv WHERE k >= $1 AND k < $2 ORDER BY k");
     append_parse(&out, "commit", "COMMIT");
     append_sync(&out);
     send_all(socket, &out);
@@ -108,19 +109,18 @@ static void append_key(struct bytes *out, uint32_t key) {
     append(out, text, KEY_BYTES);
 }
 
-/* Binds the parameters, and executes. All formats are binary. */
-static void append_execute(struct bytes *out, const char *name, uint16_t parameters, uint32_t key) {
+static size_t begin_bind(struct bytes *out, const char *name, uint16_t parameters) {
     size_t at = begin_message(out, 'B');
     append_text(out, "");
     append_text(out, name);
     append_u16(out, 1);
     append_u16(out, 1);
     append_u16(out, parameters);
-    if (parameters > 0) append_key(out, key);
-    if (parameters > 1) {
-        append_u32(out, (uint32_t)value_bytes);
-        append_value(out, key);
-    }
+    return at;
+}
+
+/* Ends a binding, and executes. All formats are binary. */
+static void execute(struct bytes *out, size_t at) {
     append_u16(out, 1);
     append_u16(out, 1);
     end_message(out, at);
@@ -131,24 +131,31 @@ static void append_execute(struct bytes *out, const char *name, uint16_t paramet
 }
 
 static void postgres_encode(struct bytes *out, struct request request) {
-    switch (request.kind) {
-    case BEGIN: append_execute(out, "begin", 0, 0); break;
-    case GET: append_execute(out, "get", 1, request.key); break;
-    case SET: append_execute(out, "set", 2, request.key); break;
-    case COMMIT: append_execute(out, "commit", 0, 0); break;
-    case PING: fail("no PING here", "", 0);
+    static const char *const names[] = {[BEGIN] = "begin", [GET] = "get", [SET] = "set", [RANGE] = "range", [COMMIT] = "commit"};
+    static const uint16_t parameters[] = {[GET] = 1, [SET] = 2, [RANGE] = 2, [COMMIT] = 0};
+    if (request.kind == PING) fail("no PING here", "", 0);
+    size_t at = begin_bind(out, names[request.kind], parameters[request.kind]);
+    if (parameters[request.kind] > 0) append_key(out, request.key);
+    if (request.kind == RANGE) append_key(out, request.key + RANGE_PAIRS);
+    if (request.kind == SET) {
+        append_u32(out, (uint32_t)value_bytes);
+        append_value(out, request.key);
     }
+    execute(out, at);
 }
 
-/* A row of one column. */
+/* A row: the number of its columns, and for each its length and its bytes. */
 static void check_row(const char *body, size_t length, struct request request) {
-    if (request.kind != GET || length < 6) fail("an unexpected row", body, length);
-    check_value(body + 6, length - 6, request.key);
+    const size_t key_end = 6 + KEY_BYTES;
+    if (request.kind == GET && length >= 6) check_value(body + 6, length - 6, request.key);
+    else if (request.kind == RANGE && length >= key_end + 4) check_pair(body + 6, KEY_BYTES, body + key_end + 4, length - key_end - 4, request.key);
+    else fail("an unexpected row", body, length);
 }
 
 static enum found completed(const char *tag, struct request request) {
     if (request.kind == GET && strcmp(tag, "SELECT 1")) fail("GET", tag, strlen(tag));
     if (request.kind == SET && strcmp(tag, "UPDATE 1")) fail("SET", tag, strlen(tag));
+    if (request.kind == RANGE && strcmp(tag, "SELECT 64")) fail("RANGE", tag, strlen(tag));
     return request.kind == COMMIT && strcmp(tag, "COMMIT") ? REFUSED : ANSWERED;
 }
 

@@ -19,8 +19,12 @@ void write_key(char text[KEY_BYTES], uint32_t key);
 void append_value(struct bytes *bytes, uint32_t key);
 /* Ends the program where this is not the key's value. */
 void check_value(const char *value, size_t length, uint32_t key);
+/* Ends the program where these are not a key from this one on, below the end of a range, and its value. */
+void check_pair(const char *key, size_t key_length, const char *value, size_t length, uint32_t first);
 
-enum kind { PING, BEGIN, GET, SET, COMMIT };
+/* A RANGE is over so many keys from its first one on, all of which have values. */
+#define RANGE_PAIRS 64
+enum kind { PING, BEGIN, GET, SET, RANGE, COMMIT };
 struct request {
     enum kind kind;
     uint32_t key;
@@ -46,7 +50,12 @@ struct protocol {
      * ends the program. */
     size_t (*take)(const char *from, size_t length, struct request request, enum found *found);
 };
-extern const struct protocol resp, echo, postgres;
+extern const struct protocol resp, echo, redis, postgres;
+
+/* RESP2's frame of a request, for all that speak it. `begin` and `commit` are the names of the commands. */
+void append_frame(struct bytes *out, struct request request, const char *begin, const char *commit);
+/* A whole bulk string at the front: the length of all of it, 0 where it is not whole. */
+size_t take_bulk(const char *from, size_t length, const char **text, size_t *text_length);
 
 _Noreturn void fail(const char *what, const char *text, size_t length);
 void send_all(int socket, const struct bytes *bytes);

@@ -15,28 +15,22 @@ for ssikvd. On a machine that does other work the ratios say more than the rates
 import argparse
 import contextlib
 import json
-import multiprocessing
 import os
-import select
 import shutil
 import signal
-import socket
 import statistics
 import subprocess
 import sys
 import tempfile
 import time
 
+from beside import BEGIN, PING, busy_figures, connect
 from logs import write_log
-from servers import HERE, POSTGRES_SETTINGS, PROGRAMS, Echo, Failure, Postgres, Redis, Ssikvd, count_records, find_postgres, run
+from servers import HERE, POSTGRES_SETTINGS, PROGRAMS, Echo, Failure, Postgres, Redis, Ssikvd, StandIn, count_records, find_postgres, run
 
 DEFAULT_PROGRAM = os.path.join(HERE, "..", "crates", "ssikvd", "out", "ssikvd")
-PING = b"*1\r\n$4\r\nPING\r\n"
-BEGIN = b"*1\r\n$5\r\nBEGIN\r\n"
 IDLE_CONNECTIONS = 100
-PARTS = ["ping", "batch", "fair", "read", "old", "commit", "start", "memory"]
-FLOODING, WAVE, FLOOD_SECONDS = 60, 8, 3.0
-VALUE_OF_RANGE, PAIRS_OF_RANGE = 4_096, 128
+PARTS = ["ping", "batch", "fair", "busy", "read", "old", "commit", "start", "memory"]
 
 
 class Load:
@@ -54,7 +48,7 @@ class Load:
         words += ["--connections", str(self.connections), "--threads", str(options.threads), "--seconds", str(seconds)]
         words += ["--warm-up", str(seconds / 5), "--keys", str(options.keys), "--value-bytes", str(options.value_bytes)] + ["--at-once"] * self.at_once
         before = server.processor_seconds()
-        figures = read_figures(run(words))
+        figures = read_figures(run(words)) | {"seconds": seconds}
         figures["processor_seconds"] = server.processor_seconds() - before
         self.was_limit |= figures["busy"] > 0.9
         if isinstance(server, Ssikvd):
@@ -160,130 +154,59 @@ def ping_rows(options, ssikvd):
             yield row
 
 
-def batch_rows(options, ssikvd):
-    """32 PINGs at a time, beside Redis where it is installed."""
-    program = shutil.which("redis-server")
-    if not program:
-        return
-    with Redis(program) as redis:
-        for connections in (1, 16):
-            row = Row(f"32 PINGs sent at once, {counted(connections)}", "Redis")
-            yield compare(options, row, Load(options, "pings", connections), ssikvd, redis)
+def batch_rows(options, ssikvd, redis):
+    """32 PINGs at a time, beside Redis."""
+    for connections in (1, 16):
+        row = Row(f"32 PINGs sent at once, {counted(connections)}", "Redis", 1.0)
+        yield compare(options, row, Load(options, "pings", connections), ssikvd, redis)
 
 
-def fairness_remarks(options, ssikvd):
+def fairness_figures(options, ssikvd):
     """How evenly connections are served that send one request at a time."""
     alone = argparse.Namespace(**{**vars(options), "threads": 1})  # two threads are not served evenly by the system
     for work, what in (("ping", "PING"), ("read", "BEGIN, 4 GET, COMMIT")):
         slices = [Load(alone, work, 64).measure(ssikvd, options.seconds) for _ in range(options.rounds)]
         ratios = [it["most"] / max(it["least"], 1) for it in slices]
         text = f"{quartile(ratios, 2):.2f}; {min(ratios):.2f} to {max(ratios):.2f} in {len(ratios)} slices"
-        yield f"Best over worst served of 64 connections, {what}, one request at a time: {text}."
+        yield {"what": f"Best over worst served of 64 connections, {what}, one request at a time", "figure": quartile(ratios, 2), "unit": "times", "text": text}
 
 
-def frame(*parts):
-    return b"*%d\r\n" % len(parts) + b"".join(b"$%d\r\n%s\r\n" % (len(part), part) for part in parts)
+class Peer:
+    """What stands beside ssikvd in a row, if it is there."""
+
+    def __init__(self, name, server, goals):
+        self.name, self.server, self.goals = name, server, goals
+
+    def row(self, options, ssikvd, what, work, how):
+        load = Load(options, work, 16, how == "sent at once")
+        return compare(options, Row(f"{what}, 16 connections, {how}", self.name, self.goals.get((work, how))), load, ssikvd, self.server)
 
 
-def connect(address):
-    host, port = address.rsplit(":", 1)
-    return socket.create_connection((host, int(port)), 10)
+def read_rows(options, ssikvd, peers):
+    """Transactions that write nothing."""
+    kinds = [("BEGIN, 4 GET, COMMIT", "read", "one request at a time"), ("BEGIN, 4 GET, COMMIT", "read", "sent at once"),
+             ("BEGIN, RANGE of 64, COMMIT", "range", "one request at a time"), ("BEGIN, RANGE of 64, COMMIT", "range", "sent at once")]
+    for what, work, how in kinds:
+        for peer in peers:
+            if (work, how) in peer.goals:
+                yield peer.row(options, ssikvd, what, work, how)
 
 
-def exchange(connection, request, length):
-    """A request, and the reply, of which the length is known."""
-    connection.sendall(request)
-    came = bytearray()
-    while len(came) < length:
-        piece = connection.recv(1 << 20)
-        if not piece:
-            raise Failure("the connection was closed")
-        came += piece
-    return came
-
-
-def fill_large(ssikvd):
-    """Pairs for the largest RANGE. Gives its reply's length, and how long it takes alone."""
-    keys = [b"large%03d" % i for i in range(PAIRS_OF_RANGE)]
-    with connect(ssikvd.address) as connection:
-        for part in (keys[:64], keys[64:]):
-            batch = BEGIN + b"".join(frame(b"SET", key, b"x" * VALUE_OF_RANGE) for key in part) + frame(b"COMMIT")
-            reply = exchange(connection, batch, 5 + 5 * len(part) + 4)
-            if not reply.startswith(b"+OK") or b"-" in reply:
-                raise Failure(f"large values were answered {bytes(reply[-80:])!r}")
-    ssikvd.committed += 2
-    return len(b"*%d\r\n" % (2 * len(keys))) + sum(len(frame(key, b"x" * VALUE_OF_RANGE)) - 4 for key in keys)
-
-
-def range_request(pairs):
-    return frame(b"RANGE", b"large", b"largf", b"%d" % pairs)
-
-
-def flood(address, seconds):
-    """Connections that each have some of the largest RANGE under way all the time."""
-    wave = BEGIN + range_request(PAIRS_OF_RANGE) * WAVE + frame(b"ABORT")
-    connections = [connect(address) for _ in range(FLOODING)]
-    poll, buffer, due, end = select.epoll(), bytearray(1 << 20), {}, time.monotonic() + seconds
-    for connection in connections:
-        connection.setblocking(False)
-        connection.send(wave * 4)
-        poll.register(connection.fileno(), select.EPOLLIN)
-        due[connection.fileno()] = connection
-    taken = {number: 0 for number in due}
-    while time.monotonic() < end:
-        for number, _ in poll.poll(0.1):
-            with contextlib.suppress(BlockingIOError):
-                taken[number] += due[number].recv_into(buffer)
-                if taken[number] > WAVE * PAIRS_OF_RANGE * VALUE_OF_RANGE:
-                    taken[number] = 0
-                    due[number].send(wave)
-
-
-def flooded_remark(ssikvd):
-    """PING of one connection while others pipeline the largest RANGE."""
-    fill_large(ssikvd)
-    with connect(ssikvd.address) as connection:
-        other = multiprocessing.Process(target=flood, args=(ssikvd.address, FLOOD_SECONDS + 1))
-        other.start()
-        time.sleep(0.5)
-        times, end = [], time.monotonic() + FLOOD_SECONDS
-        while time.monotonic() < end:
-            start = time.monotonic()
-            exchange(connection, PING, 7)
-            times.append(1000 * (time.monotonic() - start))
-        other.join()
-    times.sort()
-    text = f"{times[len(times) // 2]:.1f} ms median, {times[len(times) * 99 // 100]:.1f} ms 99th of 100, {times[-1]:.1f} ms longest, {len(times)} PINGs"
-    return f"PING beside {FLOODING} connections that pipeline RANGE of {PAIRS_OF_RANGE} values of {VALUE_OF_RANGE} bytes: {text}."
-
-
-def range_remarks(options, ssikvd):
-    """Rates of one connection's RANGE of large values."""
-    with connect(ssikvd.address) as connection:
-        for pairs in (64, 128):
-            request = range_request(pairs)
-            exchange(connection, BEGIN, 5)
-            length = len(b"*%d\r\n" % (2 * pairs)) + pairs * (len(frame(b"large000", b"x" * VALUE_OF_RANGE)) - 4)
-            end, count = time.monotonic() + options.seconds, 0
-            while time.monotonic() < end:
-                exchange(connection, request, length)
-                count += 1
-            exchange(connection, frame(b"ABORT"), 5)
-            yield f"RANGE of {pairs} values of {VALUE_OF_RANGE} bytes, one connection: {count / options.seconds:,.0f} a second."
-
-
-def read_rows(options, ssikvd, postgres):
-    kinds = [(False, "one request at a time", 1.2), (True, "sent at once", None)]
-    for at_once, how, goal in kinds:
-        row = Row(f"BEGIN, 4 GET, COMMIT, 16 connections, {how}", "PostgreSQL SERIALIZABLE", goal)
-        yield compare(options, row, Load(options, "read", 16, at_once), ssikvd, postgres)
+def peers_of_reads(postgres, redis, stand_in):
+    """Those that are there, with the kinds that each is measured in and what is aimed at."""
+    one, at_once = "one request at a time", "sent at once"
+    all_of_them = [
+        Peer("PostgreSQL SERIALIZABLE", postgres, {("read", one): 2.0, ("read", at_once): 2.5, ("range", one): 3.0, ("range", at_once): None}),
+        Peer("Redis, MULTI and EXEC", redis, {("read", at_once): 1.5}),
+        Peer("C stand-in", stand_in, {("read", one): None, ("read", at_once): 0.7, ("range", one): 0.8, ("range", at_once): None}),
+    ]
+    return [it for it in all_of_them if it.server]
 
 
 @contextlib.contextmanager
 def open_transaction(ssikvd):
     """A transaction that stays open."""
-    host, port = ssikvd.address.rsplit(":", 1)
-    with socket.create_connection((host, int(port)), 10) as connection:
+    with connect(ssikvd.address) as connection:
         connection.sendall(BEGIN)
         if connection.recv(64) != b"+OK\r\n":
             raise Failure("no transaction was opened")
@@ -322,11 +245,20 @@ def commit_rows(options, ssikvd, postgres):
         row = Row(f"BEGIN, SET, COMMIT, {counted(connections)}, {how}", "the device, two syncs", goal, on_disk=True)
         yield row.measure(rounds, lambda: load.measure(ssikvd, seconds), lambda: device.measure(seconds))
         ssikvd.committed += load.committed
-    for connections in (1, 16) if postgres else ():
-        load = Load(options, "write", connections)
-        row = Row(f"BEGIN, SET, COMMIT, {counted(connections)}, one request at a time", "PostgreSQL, durable", on_disk=True)
+    kinds = [("write", 1, "BEGIN, SET, COMMIT"), ("write", 16, "BEGIN, SET, COMMIT"), ("hot", 16, "BEGIN, GET, SET of one of 16 keys, COMMIT")]
+    for work, connections, what in kinds if postgres else ():
+        load = Load(options, work, connections)
+        row = Row(f"{what}, {counted(connections)}, one request at a time", "PostgreSQL, durable", on_disk=True)
         yield row.measure(rounds, lambda: load.measure(ssikvd, seconds), lambda: load.measure(postgres, seconds))
         ssikvd.committed += load.committed
+        if work == "hot":
+            row.notes.append(f"refused: {refused(row.ours):.0%} of all, of PostgreSQL {refused(row.theirs):.0%}.")
+
+
+def refused(slices):
+    """The part of the transactions of these slices that was refused for a conflict."""
+    count = sum(it["refused"] for it in slices)
+    return count / max(count + sum(it["rate"] * it["seconds"] for it in slices), 1)
 
 
 def timed(words):
@@ -353,14 +285,19 @@ def start_rows(options):
 def memory_of_connections(ssikvd):
     """How much the process grows by a connection that has sent one PING."""
     before = ssikvd.resident_bytes()
-    host, port = ssikvd.address.rsplit(":", 1)
     with contextlib.ExitStack() as opened:
         for _ in range(IDLE_CONNECTIONS):
-            connection = opened.enter_context(socket.create_connection((host, int(port)), 10))
+            connection = opened.enter_context(connect(ssikvd.address))
             connection.sendall(PING)
             if connection.recv(64) != b"+PONG\r\n":
                 raise Failure("no PONG")
         return (ssikvd.resident_bytes() - before) / IDLE_CONNECTIONS
+
+
+def memory_figure(ssikvd):
+    kilobytes = memory_of_connections(ssikvd) / 1024
+    what = f"Resident memory of a connection that has sent one PING, of {IDLE_CONNECTIONS}"
+    return {"what": what, "figure": kilobytes, "unit": "KiB", "text": f"{kilobytes:.1f} KiB"}
 
 
 def check_commits(ssikvd):
@@ -382,34 +319,51 @@ def needs_postgres(options):
     return "read" in options.only or "commit" in options.only
 
 
-def measure_all(options, stack, postgres):
-    """The rows of the parts that are wanted, and what is printed below them."""
-    ssikvd = stack.enter_context(Ssikvd(options.ssikvd, options.folder, options.sectors))
-    rows, remarks = [], []
-    if "memory" in options.only:
-        memory = memory_of_connections(ssikvd)
-        remarks.append(f"Memory: {memory / 1024:.1f} KiB resident for a connection that has sent one PING ({IDLE_CONNECTIONS} connections).")
-    fill(options, ssikvd)
-    if "ping" in options.only:
-        rows += ping_rows(options, ssikvd)
-    if "batch" in options.only:
-        rows += batch_rows(options, ssikvd)
-    if "fair" in options.only:
-        remarks += fairness_remarks(options, ssikvd)
-        remarks.append(flooded_remark(ssikvd))
-        remarks += range_remarks(options, ssikvd)
-    if "read" in options.only and postgres:
-        rows += read_rows(options, ssikvd, postgres)
-    if "old" in options.only:
-        rows += old_rows(options, ssikvd)
-    if "commit" in options.only:
-        rows += commit_rows(options, ssikvd, postgres)
-    if "start" in options.only:
-        rows += start_rows(options)
+def missing_peers(options, postgres, redis):
+    """What is told of rows that are missing."""
     if not postgres and needs_postgres(options):
-        remarks.append("PostgreSQL was not found: its rows are missing.")
-    remarks.append(check_commits(ssikvd))
-    return rows, remarks
+        yield "PostgreSQL was not found: its rows are missing."
+    if not redis and ("batch" in options.only or "read" in options.only):
+        yield "Redis was not found: its rows are missing."
+
+
+def started(stack, options, server, parts):
+    """A server that some of these parts need, filled where it is asked for reads."""
+    if not set(parts) & set(options.only):
+        return None
+    server = stack.enter_context(server())
+    if "read" in parts:
+        Load(options, "fill", 1).measure(server, 0)
+    return server
+
+
+def measure_all(options, stack, postgres):
+    """The rows of the parts that are wanted, the figures that have no peer, and what else is to be told."""
+    ssikvd = stack.enter_context(Ssikvd(options.ssikvd, options.folder, options.sectors))
+    redis_program, only = shutil.which("redis-server"), options.only
+    redis = redis_program and started(stack, options, lambda: Redis(redis_program), ["batch", "read"])
+    stand_in = started(stack, options, StandIn, ["read"])
+    rows, figures = [], []
+    if "memory" in only:
+        figures.append(memory_figure(ssikvd))
+    fill(options, ssikvd)
+    if "ping" in only:
+        rows += ping_rows(options, ssikvd)
+    if "batch" in only and redis:
+        rows += batch_rows(options, ssikvd, redis)
+    if "fair" in only:
+        figures += fairness_figures(options, ssikvd)
+    if "busy" in only:
+        figures += busy_figures(options, ssikvd)
+    if "read" in only:
+        rows += read_rows(options, ssikvd, peers_of_reads(postgres, redis, stand_in))
+    if "old" in only:
+        rows += old_rows(options, ssikvd)
+    if "commit" in only:
+        rows += commit_rows(options, ssikvd, postgres)
+    if "start" in only:
+        rows += start_rows(options)
+    return rows, figures, [*missing_peers(options, postgres, redis), check_commits(ssikvd)]
 
 
 def machine(folder):
@@ -421,13 +375,30 @@ def machine(folder):
     return f"{os.cpu_count()} x {model}, {system.sysname} {system.release}; {folder} is {disk[1]} on {disk[0]}"
 
 
-def write_results(options, rows, remarks):
-    """The figures as JSON: each row with its slices, from which pictures can be made."""
-    kept = [{"what": row.what, "peer": row.peer, "goal": row.goal, "ratio": row.ratio(), "middle_half": [quartile(row.ratios(), 1), quartile(row.ratios(), 3)],
-             "rate": row.rate(row.ours), "peer_rate": row.rate(row.theirs), "load": row.load, "ours": row.ours, "theirs": row.theirs} for row in rows]
+def result_of(row):
+    """A row of the results file."""
+    middle_half = [quartile(row.ratios(), 1), quartile(row.ratios(), 3)]
+    return {"what": row.what, "peer": row.peer, "goal": row.goal, "ratio": row.ratio(), "middle_half": middle_half, "rate": row.rate(row.ours),
+            "peer_rate": row.rate(row.theirs), "load": row.load, "notes": row.notes, "rates": [it["rate"] for it in row.ours],
+            "peer_rates": [it["rate"] for it in row.theirs]}
+
+
+def rounded(value):
+    """The value with four significant digits in each number."""
+    if isinstance(value, dict):
+        return {name: rounded(part) for name, part in value.items()}
+    if isinstance(value, list):
+        return [rounded(part) for part in value]
+    return float(f"{value:.4g}") if isinstance(value, float) else value
+
+
+def write_results(options, rows, figures):
+    """The figures as JSON, a row a line, from which tables and pictures are made: see report.py."""
+    head = {"when": time.strftime("%Y-%m-%d %H:%MZ", time.gmtime()), "machine": machine(options.folder), "rounds": options.rounds, "seconds": options.seconds}
     with open(options.results, "w") as file:
-        json.dump({"when": time.strftime("%Y-%m-%d %H:%MZ", time.gmtime()), "machine": machine(options.folder), "rounds": options.rounds,
-                   "seconds": options.seconds, "rows": kept, "remarks": remarks}, file, indent=1)
+        file.write(json.dumps(head)[:-1] + ', "rows": [\n')
+        file.write(",\n".join(json.dumps(rounded(result_of(row))) for row in rows))
+        file.write('],\n"figures": [\n' + ",\n".join(json.dumps(rounded(figure)) for figure in figures) + "]}\n")
 
 
 def print_machine(options, postgres):
@@ -454,7 +425,7 @@ def read_options():
     parser.add_argument("--threads", type=int, default=2, help="of the load generator (%(default)s)")
     parser.add_argument("--keys", type=int, default=10_000, help="(%(default)s)")
     parser.add_argument("--value-bytes", type=int, default=100, help="(%(default)s)")
-    parser.add_argument("--sectors", type=int, default=1 << 18, help="of the data file (%(default)s)")
+    parser.add_argument("--sectors", type=int, default=1 << 20, help="of the data file (%(default)s)")
     return parser.parse_args()
 
 
@@ -471,12 +442,14 @@ def main():
             programs = find_postgres(options.postgres) if needs_postgres(options) else None
             postgres = programs and stack.enter_context(Postgres(programs, options.folder, options.keys, options.value_bytes))
             print_machine(options, postgres)
-            rows, remarks = measure_all(options, stack, postgres)
+            rows, figures, remarks = measure_all(options, stack, postgres)
         print_table(rows)
+        for figure in figures:
+            print(f"\n{figure['what']}: {figure['text']}.")
         for remark in remarks:
             print(f"\n{remark}")
         if options.results:
-            write_results(options, rows, remarks)
+            write_results(options, rows, figures)
     except Failure as failure:
         sys.exit(f"run.py: {failure}")
 

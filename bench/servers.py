@@ -85,6 +85,15 @@ class Echo(Listening):
         super().__init__([os.path.join(PROGRAMS, "echo")])
 
 
+class StandIn(Listening):
+    """A server in C with the same commands and none of the promises, which keeps nothing on disk."""
+
+    name = "resp"
+
+    def __init__(self):
+        super().__init__([os.path.join(PROGRAMS, "stand_in")])
+
+
 class Ssikvd(Listening):
     """The server, over a data file of its own."""
 
@@ -123,7 +132,7 @@ class Ssikvd(Listening):
 class Redis(Process):
     """A Redis that keeps nothing on disk. It speaks the same frames, and answers PING alike."""
 
-    name = "resp"
+    name = "redis"
 
     def __init__(self, program):
         self.address = f"127.0.0.1:{free_port()}"

@@ -1,14 +1,18 @@
 #!/usr/bin/env python3
 """Draws the pictures of the documents: `draw.py` writes them beside itself, `draw.py --check` looks whether they are as they would be drawn.
 
-The crates come from crates.txt, the figures from figures.csv, which has the rows of docs/PERFORMANCE.md. Text stays text.
+The crates come from crates.txt, the figures from the results of bench/run.py in docs/runs. Text stays text.
 """
-import csv
+import math
 import os
 import sys
 from xml.sax.saxutils import escape
 
 HERE = os.path.dirname(os.path.abspath(__file__))
+sys.path.insert(0, os.path.join(HERE, "..", "..", "bench"))
+
+from report import runs_of_documents  # noqa: E402
+
 INK, SOFT, PALE = "#1b2a3a", "#5b7083", "#eef3f7"
 BLUE, GREEN, AMBER, RED = "#2f6fab", "#3c8a5a", "#c98a1b", "#b5483a"
 STYLE = "font-family: sans-serif; font-size: 13px; fill: " + INK
@@ -194,33 +198,59 @@ def cycle():
 
 # Figures
 
-def figures():
-    with open(os.path.join(HERE, "figures.csv"), encoding="utf-8", newline="") as file:
-        return list(csv.DictReader(file))
+# The rows of each chart: what was measured, beside whom, and both as the chart says it.
+POSTGRES, DEVICE = "PostgreSQL SERIALIZABLE", "the device, two syncs"
+CHARTS = {
+    "requests": [
+        ("PING, 1 connection", "C epoll echo", "an echo server in C"),
+        ("PING, 16 connections", "C epoll echo", "an echo server in C"),
+        ("PING, 64 connections", "C epoll echo", "an echo server in C"),
+        ("32 PINGs sent at once, 16 connections", "Redis", "Redis"),
+        ("BEGIN, 4 GET, COMMIT, 16 connections, one request at a time", POSTGRES, "PostgreSQL"),
+        ("BEGIN, 4 GET, COMMIT, 16 connections, sent at once", POSTGRES, "PostgreSQL"),
+        ("BEGIN, RANGE of 64, COMMIT, 16 connections, one request at a time", POSTGRES, "PostgreSQL")],
+    "commits": [
+        ("BEGIN, SET, COMMIT, 16 connections, one request at a time", DEVICE, "two syncs of the device"),
+        ("BEGIN, SET, COMMIT, 1 connection, sent at once", DEVICE, "two syncs of the device"),
+        ("BEGIN, SET, COMMIT, 1 connection, one request at a time", DEVICE, "two syncs of the device"),
+        ("BEGIN, SET, COMMIT, 1 connection, one request at a time", "PostgreSQL, durable", "PostgreSQL"),
+        ("BEGIN, SET, COMMIT, 16 connections, one request at a time", "PostgreSQL, durable", "PostgreSQL"),
+        ("BEGIN, GET, SET of one of 16 keys, COMMIT, 16 connections, one request at a time", "PostgreSQL, durable", "PostgreSQL")]}
+
+
+def measured(what, peer):
+    """The row of this name in each run that has it."""
+    rows = [row for run in runs_of_documents() for row in run["rows"] if (row["what"], row["peer"]) == (what, peer)]
+    if not rows:
+        raise SystemExit(f"draw.py: no run has {what} beside {peer}")
+    return rows
 
 
 def bars(chart, title):
-    rows = [row for row in figures() if row["chart"] == chart]
-    left, scale, row_height = 430, 190, 44
-    picture = Picture(title, left + 2.1 * scale + 70, len(rows) * row_height + 96)
+    rows = [(what, beside, measured(what, peer)) for what, peer, beside in CHARTS[chart]]
+    most = math.ceil(max(max(row["ratio"], row["middle_half"][1]) for _, _, found in rows for row in found))
+    left, width, row_height = 500, 400, 44
+    scale = width / most
+    picture = Picture(title, left + width + 70, len(rows) * row_height + 96)
     picture.text(20, 26, title, weight="bold")
     bottom = 46 + len(rows) * row_height
-    for tenth in (0, 5, 10, 15, 20):
-        x = left + scale * tenth / 10
-        picture.line(x, 42, x, bottom, INK if tenth == 10 else "#d5dde4", False, 1)
-        picture.text(x, bottom + 16, f"{tenth / 10:g}", "middle", SOFT)
-    for number, row in enumerate(rows):
-        y, ratio, low, high = 50 + number * row_height, *(float(row[name]) for name in ("ratio", "low", "high"))
-        picture.text(20, y + 13, row["what"])
-        picture.text(20, y + 28, "beside " + row["beside"], fill=SOFT, size=11)
+    for half in range(2 * most + 1):
+        x = left + scale * half / 2
+        picture.line(x, 42, x, bottom, INK if half == 2 else "#d5dde4", False, 1)
+        picture.text(x, bottom + 16, f"{half / 2:g}", "middle", SOFT)
+    for number, (what, beside, found) in enumerate(rows):
+        y, ratio, (low, high) = 50 + number * row_height, found[0]["ratio"], found[0]["middle_half"]
+        picture.text(20, y + 13, what, size=12)
+        picture.text(20, y + 28, "beside " + beside, fill=SOFT, size=11)
         picture.box(left, y + 4, scale * ratio, 20, BLUE if ratio >= 1 else AMBER, "none")
         picture.line(left + scale * low, y + 14, left + scale * high, y + 14, INK, False, 2)
         for edge in (low, high):
             picture.line(left + scale * edge, y + 8, left + scale * edge, y + 20, INK, False, 2)
-        second = left + scale * float(row["second"])
-        picture.line(second, y + 2, second, y + 26, RED, False, 2)
-        picture.text(left + scale * max(ratio, high) + 10, y + 19, f"{ratio:.2f}")
-    picture.text(20, bottom + 34, "ssikvd's rate divided by the other's; more is better. Black: the middle half of the slices. Red: a second run.", fill=SOFT, size=11)
+        for other in found[1:]:
+            x = left + scale * other["ratio"]
+            picture.line(x, y + 2, x, y + 26, RED, False, 2)
+        picture.text(left + scale * max(high, *(row["ratio"] for row in found)) + 10, y + 19, f"{ratio:.2f}")
+    picture.text(20, bottom + 34, "ssikvd's rate divided by the other's; more is better. Black: the middle half of the slices. Red: further runs.", fill=SOFT, size=11)
     return picture
 
 

@@ -1,0 +1,83 @@
+#!/usr/bin/env python3
+"""What `compact` costs beside reading the old file and writing the new one: seconds by the clock, medians of some runs.
+
+    bench/copies.py [PROGRAM] [--keys N] [--runs R] [--folder F]
+
+Logs of N keys of 16 bytes with values of 100, 64 keys a record, once by rising keys over the whole log and once in a random order. Each is copied
+by `compact`; beside it stand `sha256sum` of the old file and writing as many bytes as the new one has, with one sync. The folder is one in
+memory, unless another is named. Needs Python 3 and sha256sum.
+"""
+import argparse
+import os
+import random
+import resource
+import statistics
+import subprocess
+import tempfile
+import time
+
+from logs import write_records
+from servers import HERE
+
+PROGRAM = os.path.normpath(os.path.join(HERE, "..", "crates", "ssikvd", "out", "ssikvd"))
+VALUE, IN_RECORD = b"v" * 100, 64
+
+
+def write_log(path, keys, order):
+    """A log of so many keys, which rise within each record."""
+    names = [b"key%013d" % number for number in range(keys)]
+    if order == "random":
+        random.Random(7).shuffle(names)
+    parts = (names[at:at + IN_RECORD] for at in range(0, keys, IN_RECORD))
+    write_records(path, ([(key, VALUE) for key in sorted(part)] for part in parts))
+
+
+def timed(work):
+    begun = time.monotonic()
+    work()
+    return time.monotonic() - begun
+
+
+def write_once(path, block, length):
+    """Writes so many bytes, and syncs once."""
+    with open(path, "wb", buffering=0) as file:
+        for _ in range(length // len(block)):
+            file.write(block)
+        os.fdatasync(file.fileno())
+    os.unlink(path)
+
+
+def measured(options, folder, order):
+    """The times of each kind, and the most memory that a copy held."""
+    old, new = os.path.join(folder, "old"), os.path.join(folder, "new")
+    write_log(old, options.keys, order)
+    times = {"compact": [], "sha256sum of the file": [], "writing as many bytes with one sync": []}
+    block, quiet = os.urandom(1 << 20), {"stdout": subprocess.DEVNULL, "check": True}
+    for _ in range(options.runs):
+        times["compact"].append(timed(lambda: subprocess.run([options.program, "compact", "--from", old, "--to", new], **quiet)))
+        length = os.path.getsize(new)
+        os.unlink(new)
+        times["sha256sum of the file"].append(timed(lambda: subprocess.run(["sha256sum", old], **quiet)))
+        times["writing as many bytes with one sync"].append(timed(lambda: write_once(new, block, length)))
+    print(f"{order} order, {os.path.getsize(old) / 1e6:.0f} MB:")
+    for name, found in times.items():
+        print(f"  {name}: {statistics.median(found):.2f} s ({min(found):.2f} to {max(found):.2f})")
+    other = sum(statistics.median(found) for name, found in times.items() if name != "compact")
+    print(f"  compact over three times the others together: {statistics.median(times['compact']) / (3 * other):.2f}")
+
+
+def main():
+    parser = argparse.ArgumentParser(description=__doc__, formatter_class=argparse.RawDescriptionHelpFormatter)
+    parser.add_argument("program", nargs="?", default=PROGRAM, help="the program that was built (%(default)s)")
+    parser.add_argument("--keys", type=int, default=1_000_000, help="(%(default)s)")
+    parser.add_argument("--runs", type=int, default=11, help="(%(default)s)")
+    parser.add_argument("--folder", default="/dev/shm", help="where the files lie (%(default)s)")
+    options = parser.parse_args()
+    with tempfile.TemporaryDirectory(prefix="ssikvd-copies-", dir=options.folder) as folder:
+        for order in ("rising", "random"):
+            measured(options, folder, order)
+    print(f"the most that a process held: {resource.getrusage(resource.RUSAGE_CHILDREN).ru_maxrss / 1024:.0f} MB")
+
+
+if __name__ == "__main__":
+    main()
