@@ -9,7 +9,6 @@ Then: no table cell over 120 characters and no sentence over 40 words, no link t
 them, with the figures of docs/PERFORMANCE.md, and the crates of docs/ARCHITECTURE.md as crates.txt has them. Of each block of ```ini and
 ```python: a unit that `systemd-analyze verify` takes, Python that is Python.
 """
-import csv
 import os
 import re
 import select
@@ -312,13 +311,11 @@ def pictures(tally):
         draw = os.path.join(TOP, "docs", "pictures", "draw.py")
         ran = subprocess.run([sys.executable, "-B", draw, "--check"], capture_output=True, text=True)
         expect(ran.returncode == 0, (ran.stdout + ran.stderr).strip())
-    with tally.run("the figures"), open(os.path.join(TOP, "docs", "pictures", "figures.csv"), encoding="utf-8", newline="") as file:
-        lines = [line for line in text_of("docs/PERFORMANCE.md").splitlines() if line.startswith("|")]
-        table = [[cell.strip() for cell in line.strip("|").split("|")] for line in lines]
-        due = {(row[3], row[4], row[5]) for row in table if len(row) == 6}
-        for row in csv.DictReader(file):
-            found = row["ratio"], row["second"], f"{row['low']} to {row['high']}"
-            expect(found in due, f"PERFORMANCE.md has no row with {found}, of {row['what']}")
+    with tally.run("the figures"):
+        runs = [os.path.join(TOP, "docs", "runs", name) for name in os.listdir(os.path.join(TOP, "docs", "runs"))]
+        report = subprocess.run([sys.executable, "-B", os.path.join(TOP, "bench", "report.py"), *runs], capture_output=True, text=True)
+        missing = [line for line in report.stdout.splitlines() if line not in text_of("docs/PERFORMANCE.md").splitlines()]
+        expect(report.returncode == 0 and not missing, f"PERFORMANCE.md has not {missing[:1]} {report.stderr}")
 
 
 def layers(tally):
@@ -333,10 +330,24 @@ def layers(tally):
             expect(set(re.findall(r"\w+", lows)) == own, f"{name} stands on {sorted(own)}, the table says {lows}")
 
 
+def sealed(tally):
+    """The lemmas that would refute the premise on files are cited where a call is made of a file, and nowhere else."""
+    with tally.run("the lemmas of HappenedCalls"):
+        users = [line for line in text_of("crates.txt").splitlines() if re.search(r":.*\bfile_calls\b", line)]
+        expect(users == ["sector: thiserror file_calls"], f"file_calls stands in {users}")
+        found = set()
+        for path in subprocess.check_output(["git", "-C", TOP, "ls-files", "crates"], text=True).split():
+            if path.endswith((".antt", ".rt")) and re.search(r"\breal_(read|write|sync)\b", text_of(path)):
+                found.add(path)
+        own = "crates/file_calls/"
+        due = {f"{own}specs/HappenedCalls.antt", *(f"{own}proofs/counted/CountedFile/{name}/Answers.antt" for name in ("read", "write", "sync"))}
+        expect(found == due, f"they are named in {sorted(found)}")
+
+
 def main():
     need(PROGRAM)
     tally = Tally("documents")
-    for part in (run_commands, worked, other_blocks, style, links, pictures, layers):
+    for part in (run_commands, worked, other_blocks, style, links, pictures, layers, sealed):
         part(tally)
     return 0 if tally.end() else 1
 
