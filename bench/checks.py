@@ -2,11 +2,13 @@
 """How long the check of each crate takes from nothing, in a copy of the repository: a table of seconds, for docs/MAINTAINING.md.
 
 The crates are checked one after the other, in the order of crates.txt, each over the work of those below it. `checks.py NAME ..` prints the
-named ones alone; those below them are checked as well. It needs `rt`, and does not touch the repository.
+named ones alone; those below them are checked as well. `--processors 2` keeps to two of the machine's. Beside the time by the clock stands that
+of the processors, which says more where the machine does other work. It needs `rt`, and does not touch the repository.
 """
 import argparse
 import os
 import re
+import resource
 import shutil
 import subprocess
 import tempfile
@@ -41,12 +43,19 @@ def in_order(stands_on, names):
     return order
 
 
+def processor_seconds():
+    """What ended child processes took of the processors so far."""
+    used = resource.getrusage(resource.RUSAGE_CHILDREN)
+    return used.ru_utime + used.ru_stime
+
+
 def main():
     stands_on = crates()
     parser = argparse.ArgumentParser(description=__doc__, formatter_class=argparse.RawDescriptionHelpFormatter)
     parser.add_argument("crates", nargs="*", metavar="NAME", help="of a crate (all)")
-    parser.add_argument("--jobs", type=int, default=os.cpu_count(), help="of a check (%(default)s)")
+    parser.add_argument("--processors", type=int, default=os.cpu_count(), help="that the checks run on, one job each (%(default)s)")
     options = parser.parse_args()
+    os.sched_setaffinity(0, sorted(os.sched_getaffinity(0))[:options.processors])
     unknown = [name for name in options.crates if name not in stands_on]
     if unknown or not shutil.which("rt"):
         raise SystemExit(f"checks.py: no crate {unknown[0]}" if unknown else "checks.py: there is no rt")
@@ -55,17 +64,17 @@ def main():
         shutil.copytree(os.path.join(TOP, "crates"), os.path.join(copy, "crates"), ignore=shutil.ignore_patterns("out"))
         for name in ("crates.txt", "HANDLES"):
             shutil.copy(os.path.join(TOP, name), copy)
-        print(f"{os.cpu_count()} processors, {options.jobs} jobs\n\n| Crate | Seconds |\n|---|---|")
+        print(f"on {options.processors} of {os.cpu_count()} processors\n\n| Crate | Seconds | of the processors |\n|---|---|---|")
         for name in in_order(stands_on, wanted):
-            begun = time.monotonic()
+            begun, used = time.monotonic(), processor_seconds()
             ran = subprocess.run(
-                ["rt", "check", "--jobs", str(options.jobs)], cwd=os.path.join(copy, "crates", name), capture_output=True, text=True)
-            took = time.monotonic() - begun
+                ["rt", "check", "--jobs", str(options.processors)], cwd=os.path.join(copy, "crates", name), capture_output=True, text=True)
+            took, used = time.monotonic() - begun, processor_seconds() - used
             total += took
             if ran.returncode:
                 raise SystemExit(f"checks.py: {name} is not proved\n{ran.stdout[-2_000:]}{ran.stderr[-2_000:]}")
             if name in wanted:
-                print(f"| `{name}` | {took:.0f} |", flush=True)
+                print(f"| `{name}` | {took:.0f} | {used:.0f} |", flush=True)
     print(f"\nin all {total / 60:.0f} minutes")
 
 

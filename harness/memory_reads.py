@@ -1,7 +1,8 @@
 """Reads while every request for memory is refused.
 
 A session reads keys and ranges, which marks them and makes its output large enough. Then all allocations are refused, and it reads them
-again: each reply is the model's, and none has asked for memory. What does need memory closes its connection, and no other.
+again: each reply is the model's, and none has asked for memory. What does need memory closes its connection, and no other; a reply beyond
+the bytes that an output keeps needs it each time, since the room was given back.
 """
 import os
 
@@ -9,8 +10,13 @@ from client import MEMORY, Connection, Refusals, Server, Tally, create, expect, 
 from model import KEY_MAX, LARGEST_REPLY, Store, VALUE_MAX, frame
 
 SECTORS = 8_192
-KEYS = [b"%03d" % i + b"k" * (KEY_MAX - 3) for i in range(128)]
-VALUE = b"v" * VALUE_MAX
+KEYS = [b"%03d" % i + b"k" * (KEY_MAX - 3) for i in range(100)]
+VALUE = b"v" * 8
+LARGE_KEYS = [b"L%03d" % i + b"k" * (KEY_MAX - 4) for i in range(128)]
+LARGE_VALUE = b"v" * VALUE_MAX
+LARGE_RANGE = [b"RANGE", b"L", b"M", b"128"]
+# What an output keeps of its room once all was sent. Room grows by doubling: that of all small pairs, and of a large value, stays below.
+OUTPUT_KEPT = 65_536
 ROUNDS = 3
 
 FIRST = [
@@ -20,10 +26,11 @@ FIRST = [
     [b"GET", b"absent"],
     [b"GET", KEYS[1]],
     [b"RANGE", b"0", b"1", b"128"],
-    [b"RANGE", b"001", b"", b"128"],
+    [b"RANGE", b"001", b"1", b"128"],
     # A reply that reaches another limit asks for another mark.
-    [b"RANGE", b"001", b"", b"7"],
+    [b"RANGE", b"001", b"1", b"7"],
     [b"RANGE", b"own", b"owo", b"1"],
+    [b"GET", LARGE_KEYS[0]],
 ]
 
 AGAIN = [
@@ -32,8 +39,9 @@ AGAIN = [
     [b"GET", b"absent"],
     [b"GET", KEYS[1]],
     [b"RANGE", b"0", b"1", b"128"],
-    [b"RANGE", b"001", b"", b"128"],
-    [b"RANGE", b"001", b"", b"7"],
+    [b"RANGE", b"001", b"1", b"128"],
+    [b"RANGE", b"001", b"1", b"7"],
+    [b"GET", LARGE_KEYS[0]],
     [b"RANGE", b"own", b"owo", b"1"],
     [b"RANGE", b"b", b"a", b"5"],
     [b"RANGE", b"b", b"b", b"5"],
@@ -62,16 +70,26 @@ class Session:
 
 
 def fill(server, store):
-    """128 of the largest pairs, which one reply holds, by rising key."""
+    """128 pairs that one reply holds, of the room that an output keeps, and 128 of the largest."""
     session = Session(server, store, "fill")
-    for half in (KEYS[:64], KEYS[64:]):
-        for parts in ([b"BEGIN"], *([b"SET", key, VALUE] for key in half), [b"COMMIT"]):
-            session.ask(parts)
+    for keys, value in ((KEYS, VALUE), (LARGE_KEYS, LARGE_VALUE)):
+        for half in (keys[:64], keys[64:]):
+            for parts in ([b"BEGIN"], *([b"SET", key, value] for key in half), [b"COMMIT"]):
+                session.ask(parts)
     session.ask([b"BEGIN"])
-    reply = session.ask([b"RANGE", b"0", b"", b"128"])
-    expect(len(reply) == LARGEST_REPLY, f"the largest reply has {len(reply)} bytes")
+    reply = session.ask([b"RANGE", b"0", b"1", b"128"])
+    expect(VALUE_MAX < len(reply) <= OUTPUT_KEPT // 2, f"the reply of all small pairs has {len(reply)} bytes")
     session.ask([b"ABORT"])
     session.connection.close()
+
+
+def read_largest(server, store):
+    """A session whose mark of the largest range is there, and whose output gave back what that reply took."""
+    session = Session(server, store, "largest")
+    session.ask([b"BEGIN"])
+    reply = session.ask(LARGE_RANGE)
+    expect(len(reply) == LARGEST_REPLY, f"the largest reply has {len(reply)} bytes")
+    return session
 
 
 def starve(server, allocations, store, tally):
@@ -81,10 +99,14 @@ def starve(server, allocations, store, tally):
         starved.ask(parts)
         open_reader.ask(parts)
     fresh.ask([b"PING"])
+    largest = read_largest(server, store)
     allocations.fail_all()
     with tally.run("a SET that needs memory"):
         expect(starved.connection.ask(frame("SET", "new", "2")) is None, "it was answered")
         store.leave("starved")
+    with tally.run("the largest reply, whose room was given back"):
+        expect(largest.connection.ask(frame(*LARGE_RANGE)) is None, "it was answered")
+        store.leave("largest")
     with tally.run("a connection that needs memory"), Connection(server.port) as refused:
         expect(refused.ask(frame("PING")) is None, "it was served")
     with tally.run("an open session and one without a transaction"):
