@@ -14,8 +14,8 @@ N_MAX = 2_000
 
 
 def key_of(number):
-    """Keys that don't rise with their numbers, another for each below 65,536."""
-    return b"%05d" % (number * 7919 % 65536)
+    """Keys that don't rise with their numbers, another for each below 65,536. They are long enough to take memory of their own."""
+    return b"%05d" % (number * 7919 % 65536) + b"k" * 15
 
 
 class Session:

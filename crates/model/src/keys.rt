@@ -4,6 +4,7 @@ ghost use Rattle.model.specs.Key.{IsKey};
 ghost use Rattle.model.specs.Map.{key_cmp};
 
 use crate::refusals::Memory;
+use crate::stored::Stored;
 use std::alloc::Global;
 use std::cmp::Ordering;
 use std::marker::Model;
@@ -56,47 +57,51 @@ impl<'a> KeyRef<'a> {
     }
 }
 
-/// A key of 1 to 256 bytes that owns them. A clause sees its bytes.
+/// A key of 1 to 256 bytes that owns them. A clause sees its bytes. Up to 16 bytes stand in the value itself; only more take memory of
+/// their own.
 #[derive(Drop)]
 pub struct Key {
-    bytes: Vec<u8>,
+    bytes: Stored,
 }
 
 impl Model for Key {
     ghost use Rattle.std.specs.Prelude.{ℕ, List};
     ghost use Rattle.model.specs.Key.{IsKey};
+    ghost use Rattle.model.specs.Stored.{stored_bytes};
 
     ghost Value = { List ℕ };
 
-    ghost view = { λ k. k.bytes.items };
+    ghost view = { λ k. stored_bytes k.bytes };
 
-    ghost invariant = { λ k. IsKey k.bytes.items };
+    ghost invariant = { λ k. IsKey (stored_bytes k.bytes) };
 }
 
 impl Key {
-    /// A copy of a lent key. It takes as many bytes as the key has; `Memory` where they are refused.
+    /// A copy of a lent key. It takes as many bytes as the key has, where these are more than 16; `Memory` where they are refused.
     pub fn from_ref(alloc: Global, key: KeyRef<'_>) -> Result<Key, Memory>
         ensures { IfOk result (λ k. k ≡ key.entry.bytes.now) }
     {
         Ok(Key {
-            bytes: Vec::from_slice(alloc, key.bytes())?,
+            bytes: Stored::from_slice(alloc, key.bytes())?,
         })
     }
 
     // The key of bytes that are known to be one.
-    pub(crate) fn from_bytes(bytes: Vec<u8>) -> Key
+    pub(crate) fn from_vec(bytes: Vec<u8>) -> Key
         requires { IsKey bytes.items }
         ensures { result ≡ bytes.items }
     {
-        Key { bytes }
+        Key {
+            bytes: Stored::from_vec(bytes),
+        }
     }
 
-    /// A key of the same bytes. It takes as many bytes as the key has; `Memory` where they are refused.
+    /// A key of the same bytes. It takes as many bytes as the key has, where these are more than 16; `Memory` where they are refused.
     pub fn copy(&self) -> Result<Key, Memory>
         ensures { IfOk result (λ k. k ≡ self.now) }
     {
         Ok(Key {
-            bytes: self.bytes.clone()?,
+            bytes: self.bytes.copy()?,
         })
     }
 
@@ -109,12 +114,12 @@ impl Key {
         }
     }
 
-    /// The key's bytes. Takes no memory.
-    pub fn into_bytes(self) -> Vec<u8>
-        ensures bytes { result.items ≡ self }
+    // The key's bytes. It takes memory for them where they are 16 or fewer.
+    pub(crate) fn into_vec(self, alloc: Global) -> Result<Vec<u8>, Memory>
+        ensures bytes { IfOk result (λ v. v.items ≡ self) }
         ensures sized { IsKey self }
     {
         let Key { bytes } = self;
-        bytes
+        bytes.into_vec(alloc)
     }
 }

@@ -11,6 +11,7 @@ pub mod maps;
 pub mod pairs;
 pub mod ranges;
 pub mod refusals;
+mod stored;
 pub mod values;
 pub mod writes;
 

@@ -13,6 +13,7 @@ use std::marker::Model;
 /// A finite map from keys to values of at most `VALUE_MAX` bytes. A clause sees its pairs by rising key.
 #[derive(Drop)]
 pub struct Map {
+    alloc: Global,
     pairs: BTreeMap<Vec<u8>, Vec<u8>>,
 }
 
@@ -33,6 +34,7 @@ impl Map {
         ensures { result ≡ [] }
     {
         Map {
+            alloc,
             pairs: BTreeMap::new(alloc),
         }
     }
@@ -63,14 +65,15 @@ impl Map {
         Pairs::new(self.pairs.iter())
     }
 
-    /// Gives the key this value, in the place of the one that it may have. It may take nodes of the tree; where they are refused it
-    /// answers `Memory`, and the map is as it was.
+    /// Gives the key this value, in the place of the one that it may have. It may take nodes of the tree, and memory for the key's bytes;
+    /// where they are refused it answers `Memory`, and the map is as it was.
     pub fn put(&mut self, key: Key, value: Vec<u8>) -> Result<(), Memory>
         requires { IsValue value.items }
         ensures ok { OnOk result (self.new ≡ after_write self.old key (Some value.items)) }
         ensures err { OnErr result (self.new ≡ self.old) }
     {
-        match self.pairs.insert(key.into_bytes(), value) {
+        let key = key.into_vec(self.alloc)?;
+        match self.pairs.insert(key, value) {
             Ok(_) => Ok(()),
             Err(_) => Err(Memory),
         }
@@ -90,7 +93,7 @@ impl Map {
         ensures none { IfNone result (self.old ≡ []) }
     {
         match self.pairs.pop_first() {
-            Some((key, value)) => Some((Key::from_bytes(key), value)),
+            Some((key, value)) => Some((Key::from_vec(key), value)),
             None => None,
         }
     }

@@ -1,0 +1,68 @@
+//! The bytes of owned keys.
+ghost use Rattle.std.specs.Prelude.{◌≡◌, IfOk};
+ghost use Rattle.model.specs.Stored.{stored_bytes};
+
+use crate::refusals::Memory;
+use arrayvec::ArrayVec;
+use std::alloc::Global;
+
+// The most bytes that stand in the value itself.
+const SHORT_MAX: usize = 16;
+
+// The bytes of an owned key: few stand in the value itself, more in memory of their own.
+#[derive(Drop)]
+pub(crate) enum Stored {
+    Short(ArrayVec<u8, SHORT_MAX>),
+    Long(Vec<u8>),
+}
+
+impl Stored {
+    // A copy of these bytes.
+    pub(crate) fn from_slice(alloc: Global, bytes: &[u8]) -> Result<Stored, Memory>
+        ensures { IfOk result (λ s. stored_bytes s ≡ bytes.now) }
+    {
+        match ArrayVec::try_from(bytes) {
+            Ok(short) => Ok(Stored::Short(short)),
+            Err(_) => Ok(Stored::Long(Vec::from_slice(alloc, bytes)?)),
+        }
+    }
+
+    // These bytes. Takes no memory.
+    pub(crate) fn from_vec(bytes: Vec<u8>) -> Stored
+        ensures { stored_bytes result ≡ bytes.items }
+    {
+        match ArrayVec::try_from(bytes.as_slice()) {
+            Ok(short) => Stored::Short(short),
+            Err(_) => Stored::Long(bytes),
+        }
+    }
+
+    pub(crate) fn as_slice(&self) -> &[u8]
+        ensures { result.now ≡ stored_bytes self.now }
+    {
+        match self {
+            Stored::Short(bytes) => bytes.as_slice(),
+            Stored::Long(bytes) => bytes.as_slice(),
+        }
+    }
+
+    // A copy of the same bytes.
+    pub(crate) fn copy(&self) -> Result<Stored, Memory>
+        ensures { IfOk result (λ s. stored_bytes s ≡ stored_bytes self.now) }
+    {
+        match self {
+            Stored::Short(bytes) => Ok(Stored::Short(bytes.clone()?)),
+            Stored::Long(bytes) => Ok(Stored::Long(bytes.clone()?)),
+        }
+    }
+
+    // The bytes, in memory of their own.
+    pub(crate) fn into_vec(self, alloc: Global) -> Result<Vec<u8>, Memory>
+        ensures { IfOk result (λ v. v.items ≡ stored_bytes self) }
+    {
+        match self {
+            Stored::Short(bytes) => Ok(Vec::from_slice(alloc, bytes.as_slice())?),
+            Stored::Long(bytes) => Ok(bytes),
+        }
+    }
+}
