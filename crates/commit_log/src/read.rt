@@ -18,6 +18,7 @@ use crate::encode::sectors_for;
 use crate::faults::LogFault;
 use crate::formats::LogFormat;
 use byteorder::{BigEndian, ByteOrder};
+use latest_writes::LatestWrites;
 use model::{Map, Memory, Write};
 use sector::{SECTOR_SIZE, Sector, Sectors};
 use std::alloc::Global;
@@ -103,29 +104,19 @@ fn read_record<D: Sectors>(
     }
 }
 
-fn apply_write(map: &mut Map, write: Write) -> Result<(), Memory>
-    requires { IsWithinLimits current write }
-    ensures { OnOk result (map.new ≡ after_write map.old write.0 write.1) }
-{
-    let (key, value) = write.into_parts();
-    match value {
-        Some(value) => map.put(key, value),
-        None => {
-            map.remove(key.lend());
-            Ok(())
-        }
-    }
-}
-
-/// Puts the writes into the map, one after another.
-fn apply(map: &mut Map, writes: Vec<Write>) -> Result<(), Memory>
+// Adds the writes to those of the log, one after another.
+fn apply(
+    alloc: Global,
+    mut latest: LatestWrites,
+    writes: Vec<Write>,
+) -> Result<LatestWrites, Memory>
     requires { All (IsWithinLimits current) writes.items }
-    ensures { OnOk result (map.new ≡ after_writes map.old writes.items) }
+    ensures { IfOk result (λ after. after ≡ after_writes latest writes.items) }
 {
     for write in writes {
-        apply_write(map, write)?;
+        latest = latest.write(alloc, write)?;
     }
-    Ok(())
+    Ok(latest)
 }
 
 /// What a log was found to hold: its closed gate, its records with the digest of the last, and the map that their writes make.
@@ -157,7 +148,7 @@ pub(crate) fn read_records<D: Sectors>(
     let mut gate = 1;
     let mut records = 0;
     let mut digest = Digest { bytes: [0; 32] };
-    let mut map = Map::new(alloc);
+    let mut latest = LatestWrites::new(alloc);
     let mut sector = [0; 512];
     'records: loop {
         match device.read(gate, &mut sector) {
@@ -165,6 +156,7 @@ pub(crate) fn read_records<D: Sectors>(
             Err(_) => return Err(LogFault::Device),
         }
         if sector[0] != 1 {
+            let map = latest.into_map(alloc)?;
             return Ok(Found {
                 gate,
                 records,
@@ -182,7 +174,7 @@ pub(crate) fn read_records<D: Sectors>(
             records,
         )? {
             Some(record) => {
-                apply(&mut map, record.writes)?;
+                latest = apply(alloc, latest, record.writes)?;
                 gate += 1 + record.sectors;
                 records += 1;
                 digest = record.digest;

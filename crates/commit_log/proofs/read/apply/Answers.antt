@@ -13,6 +13,6 @@ limits_left writes rest w is limits k d lt = (rw is at limits) (suc k) d (omega 
 
 pub loop-write-preserved : goal.loop-write-preserved
 loop-write-preserved c = record {
-  map = applied _ _ _ _ _ c.in-Some.write c.in-Some.ensures.steps.0 c.loop-write.invariant.map c.in_ok-apply_write.ensures;
+  map = applied _ _ _ _ _ c.in-Some.write c.in-Some.ensures.steps.0 c.loop-write.invariant.map c.in_ok-latest.ensures;
   limits = limits_left _ _ c.in-Some.write c.in-Some.ensures.steps.0 c.loop-write.invariant.limits;
 }

@@ -6,6 +6,6 @@ use Rattle.commit_log.proofs.read.apply.Given as goal
 
 abbrev pub invariant-loop-write : goal.invariant-loop-write
 invariant-loop-write l = record {
-  map : after_writes l.map l.write-iterator.rest.items ≡ after_writes l.fn.map l.fn.writes.items;
+  map : after_writes l.latest l.write-iterator.rest.items ≡ after_writes l.fn.latest l.fn.writes.items;
   limits : All (IsWithinLimits current) l.write-iterator.rest.items;
 }

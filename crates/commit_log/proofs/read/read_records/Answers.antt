@@ -13,7 +13,7 @@ records-init g c = record {
   only_reads = λ keeps. no_reads g.D.Sectors c.args.device.now (g.met.D.Sectors.only_now keeps c.args.device.now);
   in_range = omega arith;
   counted = omega arith;
-  found = λ keeps image size reads. nothing_read c.args.format (drop 1 image) _ _ (sym first_digest_is) c.new-map.ensures;
+  found = λ keeps image size reads. nothing_read c.args.format (drop 1 image) _ _ (sym first_digest_is) c.new-latest.ensures;
 }
 
 pub returns-then-sector-ne1-clause-found : goal.returns-then-sector-ne1-clause-found
@@ -23,12 +23,12 @@ returns-then-sector-ne1-clause-found g c keeps image size reads =
     record {
       lists = read.lists;
       holds = ended c.args.format image _ _ _ _ _ read there c.if-sector-ne1.true;
-      tells = record { gate = read.gate_is; records = read.records_are; digest = read.digest_is; map = read.map_is };
+      tells = record { gate = read.gate_is; records = read.records_are; digest = read.digest_is; map = c.in_ok-map.ensures ∙ read.map_is };
     }
 
 pub returns-in_err-record-clause-found : goal.returns-in_err-record-clause-found
 returns-in_err-record-clause-found g c keeps image size reads =
-    let p = err_from_is_err_and c.from_residual.result c.from_residual.ensures.1 in
+    let p = err_from_is_err_and c.from_residual-in_err-record.result c.from_residual-in_err-record.ensures.1 in
     rw (p.1, p.2) (read_fault c.args.format (drop 1 image) _ c.in_err-record.ensures.errors)
 
 pub records-preserved : goal.records-preserved
@@ -43,7 +43,7 @@ records-preserved g c = record {
       let mid : ReadsAs (g.D.Sectors.may_read c.read.new.self) image = λ i s read. reads i s ((c.records.invariant.only_reads keeps).reads i s (c.read.ensures.reads keeps i s read)) in
       let read = c.records.invariant.found keeps image size reads in
       more c.args.format image _ _ _ _ _ read there c.if-sector-ne1.false c.in-Some.record.writes.items c.in-Some.record.sectors c.in-Some.record.digest.bytes _
-      (rw c.in-Some.is at (c.in_ok-record.ensures.some keeps image size mid)) (rw c.in-Some.is at (c.in_ok-record.ensures.counted keeps image size mid)) (rw c.in-Some.is at c.in_ok-record.ensures.digest) c.in_ok-apply-in-Some.ensures;
+      (rw c.in-Some.is at (c.in_ok-record.ensures.some keeps image size mid)) (rw c.in-Some.is at (c.in_ok-record.ensures.counted keeps image size mid)) (rw c.in-Some.is at c.in_ok-record.ensures.digest) c.in_ok-latest-in-Some.ensures;
 }
 
 pub returns-in-None-clause-found : goal.returns-in-None-clause-found

@@ -1,0 +1,4 @@
+-- The lemmas of this crate.
+pub mod Ordered
+pub mod Stable
+pub mod Sweeping

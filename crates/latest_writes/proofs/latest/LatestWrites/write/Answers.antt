@@ -1,0 +1,12 @@
+use Rattle.std.proofs.Common.{◌≡◌, subst}
+use Rattle.std.specs.Prelude.{IfOk}
+use Rattle.model.specs.Map.{KeyMap}
+use Rattle.latest_writes.proofs.Stable.{pushed}
+use Rattle.latest_writes.proofs.latest.LatestWrites.write.Goals as goal
+
+pub returns-then-weight-limit : goal.returns-then-weight-limit
+returns-then-weight-limit c = pushed _ _ _ _ _ c.in_ok-push.ensures.items c.new-entry.ensures c.self.view_is
+
+pub returns : goal.returns
+returns c =
+    subst (λ (m : KeyMap). IfOk c.sweep.result (λ latest. latest ≡ m)) (pushed _ _ _ _ _ c.in_ok-push.ensures.items c.new-entry.ensures c.self.view_is) c.sweep.ensures

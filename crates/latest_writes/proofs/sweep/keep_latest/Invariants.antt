@@ -1,0 +1,7 @@
+use Rattle.std.proofs.Common.{[]}
+use Rattle.model.specs.Map.{after_writes}
+use Rattle.latest_writes.proofs.Sweeping.{IsSwept}
+use Rattle.latest_writes.proofs.sweep.keep_latest.Given as goal
+
+abbrev pub invariant-loop-entry : goal.invariant-loop-entry
+invariant-loop-entry l = IsSwept l.fn.entries.items (after_writes [] l.kept.items) l.latest l.entry-iterator.rest.items

@@ -1,0 +1,101 @@
+//! The writes that were collected.
+ghost use Rattle.std.specs.Prelude.{◌≡◌, [], IfOk, IfSome};
+ghost use Rattle.model.specs.Key.{IsValue};
+ghost use Rattle.model.specs.Map.{after_write, after_writes};
+
+use crate::entries::Entry;
+use crate::sweep::{keep_latest, sort, weight_of};
+use model::{Map, Memory, Write};
+use std::alloc::Global;
+use std::marker::Model;
+
+/// About as many bytes are taken before writes are left out for the first time.
+const LEAST_LIMIT: usize = 1 << 23;
+
+/// The writes of a log, which make a map. A clause sees the map.
+///
+/// It takes about twice the memory of the map, and `LEAST_LIMIT` bytes at least.
+#[derive(Drop)]
+pub struct LatestWrites {
+    entries: Vec<Entry>,
+    /// About what the entries take in memory.
+    weight: usize,
+    /// The weight from which on those are left out that others have replaced.
+    limit: usize,
+}
+
+impl Model for LatestWrites {
+    ghost use Rattle.std.specs.Prelude.{[]};
+    ghost use Rattle.model.specs.Map.{KeyMap, after_writes};
+
+    ghost Value = { KeyMap };
+
+    ghost view = { λ l. after_writes [] l.entries.items };
+}
+
+impl LatestWrites {
+    /// No writes. Takes no memory.
+    pub fn new(alloc: Global) -> LatestWrites
+        ensures { result ≡ [] }
+    {
+        LatestWrites {
+            entries: Vec::new(alloc),
+            weight: 0,
+            limit: LEAST_LIMIT,
+        }
+    }
+
+    /// Adds a write behind the others. Where memory is refused it answers `Memory`, and the writes are given up.
+    pub fn write(self, alloc: Global, write: Write) -> Result<LatestWrites, Memory>
+        requires { IfSome write.1 IsValue }
+        ensures { IfOk result (λ latest. latest ≡ after_write self write.0 write.1) }
+    {
+        let entry = Entry::new(write);
+        let weight = self.weight.saturating_add(entry.weight());
+        let limit = self.limit;
+        let mut entries = self.entries;
+        entries.push(entry)?;
+        if weight < limit {
+            return Ok(LatestWrites {
+                entries,
+                weight,
+                limit,
+            });
+        }
+        sweep(alloc, entries)
+    }
+
+    /// The map that the writes make. `Memory` where memory is refused, and the writes are given up.
+    pub fn into_map(self, alloc: Global) -> Result<Map, Memory>
+        ensures { IfOk result (λ map. map ≡ self) }
+    {
+        let mut entries = self.entries;
+        sort(&mut entries)?;
+        put_all(alloc, entries)
+    }
+}
+
+// Leaves out the writes that others have replaced.
+fn sweep(alloc: Global, mut entries: Vec<Entry>) -> Result<LatestWrites, Memory>
+    ensures { IfOk result (λ latest. latest ≡ after_writes [] entries.items) }
+{
+    sort(&mut entries)?;
+    let kept = keep_latest(alloc, entries)?;
+    let weight = weight_of(&kept);
+    Ok(LatestWrites {
+        entries: kept,
+        weight,
+        limit: weight.saturating_mul(2).max(LEAST_LIMIT),
+    })
+}
+
+// Puts the writes into an empty map, one after another. The keys fall, so that each stands before the first of the leaf that it comes to.
+fn put_all(alloc: Global, entries: Vec<Entry>) -> Result<Map, Memory>
+    ensures { IfOk result (λ map. map ≡ after_writes [] entries.items) }
+{
+    let mut map = Map::new(alloc);
+    for entry in entries {
+        entry.apply(&mut map)?;
+    }
+    Ok(map)
+}

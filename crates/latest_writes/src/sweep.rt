@@ -1,0 +1,47 @@
+//! Leaving out the writes that others have replaced.
+ghost use Rattle.std.specs.Prelude.{◌≡◌, [], OnOk, IfOk};
+ghost use Rattle.std.specs.List.Sorted.{IsSortedBy};
+ghost use Rattle.model.specs.Map.{after_writes};
+ghost use Rattle.latest_writes.specs.Falling.{is_above};
+
+use crate::entries::Entry;
+use model::Memory;
+use std::alloc::Global;
+
+// Sorts the entries by falling key. Those of one key stay in their order.
+pub(crate) fn sort(entries: &mut Vec<Entry>) -> Result<(), Memory>
+    ensures same { after_writes [] entries.new.items ≡ after_writes [] entries.old.items }
+    ensures falling { OnOk result (IsSortedBy is_above entries.new.items) }
+{
+    entries.sort_by(|a, b| b.order(a))?;
+    Ok(())
+}
+
+// Of each key keeps the last write, and of deletions at most the last of all.
+pub(crate) fn keep_latest(alloc: Global, entries: Vec<Entry>) -> Result<Vec<Entry>, Memory>
+    requires { IsSortedBy is_above entries.items }
+    ensures { IfOk result (λ kept. after_writes [] kept.items ≡ after_writes [] entries.items) }
+{
+    let mut kept = Vec::new(alloc);
+    let mut rest = entries.into_iter();
+    let Some(mut latest) = rest.next() else {
+        return Ok(kept);
+    };
+    for entry in rest {
+        if !latest.is_superseded(&entry) {
+            kept.push(latest)?;
+        }
+        latest = entry;
+    }
+    kept.push(latest)?;
+    Ok(kept)
+}
+
+// About what the entries take in memory.
+pub(crate) fn weight_of(entries: &[Entry]) -> usize {
+    let mut weight: usize = 0;
+    for entry in entries {
+        weight = weight.saturating_add(entry.weight());
+    }
+    weight
+}
