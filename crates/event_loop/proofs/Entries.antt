@@ -9,7 +9,7 @@ use Rattle.sessions.specs.declared.events.Status.{Status}
 use Rattle.sessions.specs.declared.events.Status.TheVariants.{Absent, Open, Ending, Refused}
 use Rattle.sessions.specs.declared.hub.Hub.{Hub}
 use Rattle.sessions.specs.SessionStreams.{HubState, SessionStream, IsReachedHub, Continued, Leaves, stream_of}
-use Rattle.sessions.specs.StandsFor.{StandsFor, at_hand, failures, status_in}
+use Rattle.sessions.specs.StandsFor.{StandsFor, at_hand, status_in}
 use Rattle.stream_driver.specs.declared.answers.Progress.{Progress}
 use Rattle.stream_driver.specs.declared.answers.Progress.TheVariants.{Waiting, Again, Gone}
 use Rattle.stream_driver.specs.declared.entries.EntryState.{EntryState}
@@ -25,6 +25,7 @@ use Rattle.mio.specs.declared.event.event.Event.{Event}
 use Rattle.mio.specs.Event.{event_token, is_priority, is_read_closed}
 use Rattle.event_loop.specs.Numbers.{AreBelow}
 use Rattle.event_loop.specs.Tables.{EndsTurn, HasNobody, HaveEntries, IsWithoutEntry, after_event, after_poll, readied, slot_at, told, told_slot}
+use Rattle.event_loop.proofs.Leading.{at_end, at_point, point_of}
 use Rattle.event_loop.proofs.Present.{test, reached-run, absent_then, others_then}
 
 -- ---- the states that one hub stands for
@@ -68,18 +69,18 @@ module _ {D : Type 0} {g : Ghosts D} (hub : Hub D g) where
 ends_other : (s : ℕ) (last new : Point) (answer : Progress) (t : ℕ) → t ≢ s → EndsAs s last new answer → stream_of new.hub t ≡ stream_of last.hub t
 ends_other s last new Waiting t d e = ap (λ p. stream_of p.hub t) e
 ends_other s last new Again t d e = ap (λ p. stream_of p.hub t) e
-ends_other s last new Gone t d e = ap (λ h. stream_of h t) e.leaves ∙ others_then last.hub s e.choice t d
+ends_other s last new Gone t d e = ap (λ h. stream_of h t) e.adds.run_is ∙ others_then last.hub s e.choice t d
 
 ends_reached : (s : ℕ) (last new : Point) (answer : Progress) → EndsAs s last new answer → IsReachedHub last.hub → IsReachedHub new.hub
 ends_reached s last new Waiting e reached = subst (λ p. IsReachedHub p.hub) (sym e) reached
 ends_reached s last new Again e reached = subst (λ p. IsReachedHub p.hub) (sym e) reached
-ends_reached s last new Gone e reached = subst (λ h. IsReachedHub h) (sym e.leaves) (Continued last.hub (Leaves s) e.choice tt reached)
+ends_reached s last new Gone e reached = subst (λ h. IsReachedHub h) (sym e.adds.run_is) (Continued last.hub (Leaves s) e.choice tt reached)
 
 -- an entry is gone only where its session has left
 ends_absent : (s : ℕ) (last new : Point) (answer : Progress) → state_after answer ≡ EntryGone → EndsAs s last new answer → IsReachedHub last.hub → status_at new.hub s ≡ Absent
 ends_absent s last new Waiting gone e reached = absurd (let bad : Idle ≡ EntryGone = gone in cc)
 ends_absent s last new Again gone e reached = absurd (let bad : Ready ≡ EntryGone = gone in cc)
-ends_absent s last new Gone gone e reached = ap (λ h. status_at h s) e.leaves ∙ absent_then last.hub s e.choice reached
+ends_absent s last new Gone gone e reached = ap (λ h. status_at h s) e.adds.run_is ∙ absent_then last.hub s e.choice reached
 
 readied_gone : (state : EntryState) → readied state ≡ EntryGone → state ≡ EntryGone
 readied_gone Idle e = absurd (let bad : Ready ≡ EntryGone = e in cc)
@@ -117,7 +118,7 @@ module _ {T : Type 0} where
   module _ (tells : Bool) (traffic : T → Traffic) (s : ℕ) where
     last_reached : (earlier : Point) (old : Entry T) (later : Point) (new : Entry T) (d : DrivenOnce tells traffic earlier old later new) → IsReachedHub earlier.hub → IsReachedHub d.drove.last.hub
     last_reached earlier old later new d reached =
-        let runs = d.drove.carried.runs in subst (λ h. IsReachedHub h) (sym runs.run_is) (reached-run earlier.hub runs.events runs.possible reached)
+        let runs = d.drove.carried.runs in subst (λ h. IsReachedHub h) (sym runs.adds.run_is) (reached-run earlier.hub runs.events runs.possible reached)
 
     entry_reached : (state : EntryState) (earlier : Point) (old : Entry T) (later : Point) (new : Entry T) → DrivenIn tells traffic state earlier old later new → IsReachedHub earlier.hub → IsReachedHub later.hub
     entry_reached Ready earlier old later new d reached = ends_reached old.session d.drove.last later d.answer d.drove.ends (last_reached earlier old later new d reached)
@@ -163,8 +164,8 @@ module _ {T : Type 0} where
     driven_entries tells traffic slots new some leads has = λ k stands s without.
         absent_in_each later s
         (∥∥₁_map some (λ w. (
-        let p = leads (record { hub = w.0; failures = failures hub }) (record { state = w.1; count = refl }) in
-        (p.0.hub, p.1.state, driven_absent tells traffic s (record { hub = w.0; failures = failures hub }) slots p.0 new p.2 w.1.reached without (λ none. has w.0 w.1 s none))
+        let p = leads.to (point_of hub w.0) (at_point hub w.0 w.1) in
+        (p.0.hub, (at_end hub later (point_of hub w.0) p.0 p.1).state, driven_absent tells traffic s (point_of hub w.0) slots p.0 new p.2 w.1.reached without (λ none. has w.0 w.1 s none))
         ))) k stands
 
   -- ---- the table alone changes

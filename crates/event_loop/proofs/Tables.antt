@@ -9,15 +9,16 @@ use Rattle.sessions.specs.declared.events.Outcome.{Outcome}
 use Rattle.sessions.specs.declared.events.Outcome.TheVariants.{Done}
 use Rattle.sessions.specs.declared.hub.Hub.{Hub}
 use Rattle.sessions.specs.SessionStreams.{Joins, hub_step}
-use Rattle.sessions.specs.StandsFor.{HubLeads, failures, status_in}
+use Rattle.sessions.specs.StandsFor.{HubLeads, status_in}
 use Rattle.stream_driver.specs.declared.entries.Entry.{Entry}
 use Rattle.stream_driver.specs.Sessions.{Point, Stands, IsPresent, Leads}
 use Rattle.stream_driver.specs.Entries.{HaveSessions, KeepSessions}
 use Rattle.event_loop.specs.Numbers.{AreBelow}
 use Rattle.event_loop.proofs.Joins.{joins_other, joins_same}
+use Rattle.event_loop.proofs.Leading.{at_end, at_point, point_of}
 
 pub stands_after : {D : Type 0} {g : Ghosts D} (a b : Hub D g) (P : Point → Point → Type 0) → Stands a → Leads a b P → Stands b
-stands_after a b P some leads = ∥∥₁_map some (λ w. let k = leads (record { hub = w.0; failures = failures a }) (record { state = w.1; count = refl }) in (k.0.hub, k.1.state, tt))
+stands_after a b P some leads = ∥∥₁_map some (λ w. let k = leads.to (point_of a w.0) (at_point a w.0 w.1) in (k.0.hub, (at_end a b (point_of a w.0) k.0 k.1).state, tt))
 
 -- a session was to join
 module _ {D : Type 0} {g : Ghosts D} (hub later : Hub D g) (s : ℕ) (outcome : Outcome) (leads : HubLeads hub later (Joins s) outcome) where

@@ -1,5 +1,6 @@
 -- The table of connections: what a turn makes of it, and its sessions.
-use Rattle.std.specs.Prelude.{◌≡◌, ◌≢◌, ◌⊎◌, ℕ, ◌+◌, ◌<◌, ◌==◌, ◌||◌, Bool, true, false, cond, List, [], ◌∷◌, Option, Some, None, slice_index_or}
+use Rattle.std.specs.Prelude.{◌≡◌, ◌≢◌, ◌⊎◌, ℕ, ◌+◌, ◌<◌, ◌==◌, ◌||◌, Bool, true, false, cond, List, [], ◌∷◌, ◌++◌, Option, Some, None, slice_index_or}
+use Rattle.std.proofs.Common.{inl, inr}
 use Rattle.mio.specs.declared.event.event.Event.{Event}
 use Rattle.mio.specs.Event.{event_token, is_priority, is_read_closed}
 use Rattle.sector.specs.declared.device.Sectors.{Ghosts}
@@ -7,7 +8,7 @@ use Rattle.sessions.specs.declared.events.Outcome.{Outcome}
 use Rattle.sessions.specs.declared.events.Outcome.TheVariants.{Done}
 use Rattle.sessions.specs.declared.events.Status.TheVariants.{Absent}
 use Rattle.sessions.specs.declared.hub.Hub.{Hub}
-use Rattle.sessions.specs.SessionStreams.{HubState, Joins}
+use Rattle.sessions.specs.SessionStreams.{HubState, HubEvent, Joins, Choice}
 use Rattle.sessions.specs.StandsFor.{StandsFor, HubLeads}
 use Rattle.stream_driver.specs.declared.entries.EntryState.{EntryState}
 use Rattle.stream_driver.specs.declared.entries.EntryState.TheVariants.{Idle, Ready, Gone}
@@ -15,7 +16,7 @@ use Rattle.stream_driver.specs.declared.entries.Entry.{Entry}
 use Rattle.stream_driver.specs.declared.buffered.BufferedStream.{BufferedStream}
 use Rattle.stream_driver.specs.Entries.{EndsDrive, is_over}
 use Rattle.stream_driver.specs.Traffic.{Traffic}
-use Rattle.stream_driver.specs.Sessions.{InSomeState, status_at}
+use Rattle.stream_driver.specs.Sessions.{Adds, InSomeState, Leads, status_at}
 
 -- no session is present, and none has joined
 abbrev pub HasNobody : {D : Type 0} {g : Ghosts D} → Hub D g → Type 0
@@ -26,6 +27,12 @@ abbrev pub readied : EntryState → EntryState
 readied Idle = Ready
 readied Ready = Ready
 readied Gone = Gone
+
+module _ {D : Type 0} {g : Ghosts D} where
+  -- what happened to the hub as a connection was turned away: its session was to join, or nothing
+  abbrev pub join_tried : (hub later : Hub D g) (next : ℕ) → (later ≡ hub) ⊎ ((outcome : Outcome) × (outcome ≢ Done) × HubLeads hub later (Joins next) outcome) → List (HubEvent × Choice)
+  join_tried hub later next (inl same) = []
+  join_tried hub later next (inr tried) = (Joins next, tried.2.0) ∷ []
 
 module _ {T : Type 0} where
   -- what is at a key
@@ -63,11 +70,31 @@ module _ {T : Type 0} where
     abbrev pub Admits : Hub D g → ℕ → List (Option (Entry T)) → Hub D g → ℕ → List (Option (Entry T)) → Type 0
     Admits hub next slots later then new = TurnsAway hub next slots later then new ⊎ LetsIn hub next slots later then new
 
+    -- what happened to the hub as a connection came: the join of its session, or nothing
+    abbrev pub join_of : (hub : Hub D g) (next : ℕ) (slots : List (Option (Entry T))) (later : Hub D g) (then : ℕ) (new : List (Option (Entry T))) → Admits hub next slots later then new → List (HubEvent × Choice)
+    join_of hub next slots later then new (inl away) = join_tried hub later next away.hub_is
+    join_of hub next slots later then new (inr within) = (Joins next, within.joined.0) ∷ []
+
+    -- a connection came, and nothing else happened to the hub
+    abbrev pub Comes : Hub D g → ℕ → List (Option (Entry T)) → Hub D g → ℕ → List (Option (Entry T)) → Type 0
+    Comes hub next slots later then new = (admits : Admits hub next slots later then new) × Leads hub later (λ h k. Adds h (join_of hub next slots later then new admits) k)
+
 -- so many connections came one after another, and each was let in or turned away
 pub data AdmitsEach {T D : Type 0} {g : Ghosts D} (hub : Hub D g) (next : ℕ) (slots : List (Option (Entry T))) : ℕ → Hub D g → ℕ → List (Option (Entry T)) → Type 0 where
   Nobody : AdmitsEach hub next slots 0 hub next slots
   OneMore : (count : ℕ) (mid later : Hub D g) (number then : ℕ) (between new : List (Option (Entry T))) → AdmitsEach hub next slots count mid number between
       → Admits mid number between later then new → AdmitsEach hub next slots (count + 1) later then new
+
+module _ {T D : Type 0} {g : Ghosts D} where
+  -- what happened to the hub as they came
+  abbrev pub joins_of : {hub : Hub D g} {next : ℕ} {slots : List (Option (Entry T))} {count : ℕ} {later : Hub D g} {then : ℕ} {new : List (Option (Entry T))}
+      → AdmitsEach hub next slots count later then new → List (HubEvent × Choice)
+  joins_of Nobody = []
+  joins_of (OneMore count mid later number then between new each admits) = joins_of each ++ join_of mid number between later then new admits
+
+  -- so many connections came, and nothing else happened to the hub
+  abbrev pub ComeEach : Hub D g → ℕ → List (Option (Entry T)) → ℕ → Hub D g → ℕ → List (Option (Entry T)) → Type 0
+  ComeEach hub next slots count later then new = (each : AdmitsEach hub next slots count later then new) × Leads hub later (λ h k. Adds h (joins_of each) k)
 
 module _ {T : Type 0} where
   -- an entry that the poll told of: one that waited is to be driven, and is it to be read until its stream blocks?

@@ -1,5 +1,5 @@
 -- What one turn of the loop does to its hub and its table.
-use Rattle.std.specs.Prelude.{◌≡◌, ◌==◌, ℕ, Bool, true, false, List, Option}
+use Rattle.std.specs.Prelude.{◌≡◌, ◌==◌, ℕ, Bool, true, false, List, [], Option}
 use Rattle.std.specs.List.{list_any}
 use Rattle.mio.specs.declared.token.Token.{Token}
 use Rattle.mio.specs.Event.{event_token}
@@ -7,11 +7,13 @@ use Rattle.mio.specs.declared.event.event.Event.{Event}
 use Rattle.mio.specs.Events.{items}
 use Rattle.sector.specs.declared.device.Sectors.{Ghosts}
 use Rattle.sessions.specs.declared.hub.Hub.{Hub}
+use Rattle.sessions.specs.Laws.{HasRun}
+use Rattle.sessions.specs.SessionStreams.{HubEvent, Choice}
 use Rattle.stream_driver.specs.declared.buffered.BufferedStream.{BufferedStream}
 use Rattle.stream_driver.specs.declared.entries.Entry.{Entry}
 use Rattle.stream_driver.specs.Buffers.{traffic_through}
 use Rattle.stream_driver.specs.Entries.{DrivenAll}
-use Rattle.stream_driver.specs.Sessions.{Leads}
+use Rattle.stream_driver.specs.Sessions.{Adds, Leads, Point}
 use Rattle.stream_driver.specs.Traffic.{Traffic}
 use Rattle.event_loop.specs.declared.server.EventLoop.{EventLoop}
 use Rattle.event_loop.specs.declared.server.TheConstants.{LISTENER}
@@ -20,7 +22,7 @@ use Rattle.event_loop.specs.declared.listener.Port.{Port}
 use Rattle.event_loop.specs.declared.connections.Backlog.{Backlog}
 use Rattle.event_loop.specs.declared.connections.Backlog.TheVariants.{Empty, Full, Failed}
 use Rattle.event_loop.specs.Accepts.{Accepts, TurnAccepts}
-use Rattle.event_loop.specs.Tables.{AdmitsEach, EndsTurn, after_poll, slot_at}
+use Rattle.event_loop.specs.Tables.{ComeEach, EndsTurn, after_poll, joins_of, slot_at}
 
 -- The drives of a turn in which the poll told of these events. The entries that waited and that it told of became ready. Each that is
 -- ready was driven once, by rising key, and no other event came to the hub. What their streams hold was written, and those that are
@@ -47,8 +49,13 @@ pub record IsUntouched {D : Type 0} {g : Ghosts D} (old new : EventLoop D g) : T
 -- where a turn accepts, each connection that it took was let in or turned away, and no other event came to the hub
 abbrev pub Accepted : {D : Type 0} {g : Ghosts D} → Bool → EventLoop D g → EventLoop D g → Type 0
 Accepted true old new =
-    TurnAccepts (λ n. AdmitsEach old.hub old.next old.table.slots n new.hub new.next new.table.slots) (answers_of old.port) new.backlog (answers_of new.port)
+    TurnAccepts (λ n. ComeEach old.hub old.next old.table.slots n new.hub new.next new.table.slots) (answers_of old.port) new.backlog (answers_of new.port)
 Accepted false old new = IsUntouched old new
+
+-- what happened to the hub as it accepted
+abbrev pub accepted_joins : {D : Type 0} {g : Ghosts D} (accepts : Bool) (old new : EventLoop D g) → Accepted accepts old new → List (HubEvent × Choice)
+accepted_joins true old new accepted = joins_of accepted.became.0
+accepted_joins false old new untouched = []
 
 -- the poll told of this token
 abbrev pub is_told_of : Token → List Event → Bool
@@ -60,10 +67,17 @@ accepts_now Empty events = is_told_of LISTENER events
 accepts_now Full events = true
 accepts_now Failed events = true
 
--- One turn: the drives, by the events that the poll told of, and then the accepts.
+-- One turn: the drives, by the events that the poll told of, and then the accepts. The events of these drives, followed by the joins of
+-- these accepts, are one run of the hub: lawful at each moment, with the device's failures counted, and what a crash leaves known.
 pub record IsTurn {D : Type 0} {g : Ghosts D} (tells : Bool) (traffic : Socket → Traffic) (old new : EventLoop D g) : Type 0 where
   pub driven : EventLoop D g
   pub drives : DrivesReady tells traffic (items new.events) old.hub old.table.slots driven.hub driven.table.slots
   pub next_is : driven.next ≡ old.next
   pub port_is : driven.port ≡ old.port
   pub accepts : Accepted (accepts_now old.backlog (items new.events)) driven new
+  pub run : Leads old.hub new.hub (λ h l. (k : Point) × DrivenAll tells (traffic_through traffic) h drives.ready k drives.driven
+      × Adds k (accepted_joins (accepts_now old.backlog (items new.events)) driven new accepts) l)
+
+-- what a turn does to its hub is a run of the hub
+abbrev pub TurnsAreRuns : {D : Type 0} {g : Ghosts D} → Bool → (Socket → Traffic) → EventLoop D g → Type 0
+TurnsAreRuns {D} {g} tells traffic events = (old new : EventLoop D g) → IsTurn tells traffic old new → HasRun old.hub new.hub

@@ -2,12 +2,11 @@
 ghost use Rattle.std.specs.Prelude.{◌≡◌, ◌≢◌, ◌||◌, ℕ};
 ghost use Rattle.mio.specs.Event.{is_priority, is_read_closed};
 ghost use Rattle.mio.specs.Events.{items};
-ghost use Rattle.sessions.specs.Laws.{HasRun};
 ghost use Rattle.stream_driver.specs.Sessions.{Stands};
 ghost use Rattle.stream_driver.specs.Entries.{HaveSessions};
 ghost use Rattle.event_loop.specs.Accepts.{TurnAccepts};
 ghost use Rattle.event_loop.specs.Numbers.{AreBelow};
-ghost use Rattle.event_loop.specs.Tables.{Admits, AdmitsEach, EndsTurn, HaveEntries, after_poll, slot_at, told};
+ghost use Rattle.event_loop.specs.Tables.{ComeEach, Comes, EndsTurn, HaveEntries, after_poll, slot_at, told};
 
 use crate::lingering::Lingering;
 use crate::listener::{AcceptAnswer, Listener};
@@ -129,8 +128,7 @@ pub fn accept_some<D: Sectors, L: Listener>(
     requires sessions { HaveSessions hub.old table.old.slots }
     requires numbers { AreBelow next.old table.old.slots }
     requires entries { HaveEntries hub.old table.old.slots }
-    ensures accepts { TurnAccepts (λ n. AdmitsEach hub.old next.old table.old.slots n hub.new next.new table.new.slots) (L.accepts listener.old) result (L.accepts listener.new) }
-    ensures ran { HasRun hub.old hub.new }
+    ensures accepts { TurnAccepts (λ n. ComeEach hub.old next.old table.old.slots n hub.new next.new table.new.slots) (L.accepts listener.old) result (L.accepts listener.new) }
     ensures stands { Stands hub.new }
     ensures sessions { HaveSessions hub.new table.new.slots }
     ensures numbers { AreBelow next.new table.new.slots }
@@ -172,8 +170,7 @@ fn admit<D: Sectors>(
     next: &mut u64,
     table: &mut Slab<Entry<BufferedStream<Socket>>>,
 )
-    ensures admits { Admits hub.old next.old table.old.slots hub.new next.new table.new.slots }
-    ensures ran { HasRun hub.old hub.new }
+    ensures { Comes hub.old next.old table.old.slots hub.new next.new table.new.slots }
 {
     hub.runs_follow();
     let session = *next;

@@ -47,11 +47,10 @@ pub struct EventLoop<D: Sectors> {
 impl<D: Sectors> EventLoop<D> {
     ghost use Rattle.std.specs.Prelude.{◌≡◌, true, IfOk, OnOk, OnErr};
     ghost use Rattle.mio.specs.Events.{items};
-    ghost use Rattle.sessions.specs.Laws.{HasRun};
     ghost use Rattle.sessions.specs.SessionStreams.{HubState};
     ghost use Rattle.sessions.specs.StandsFor.{StandsFor};
-    ghost use Rattle.event_loop.specs.Loops.{hub_of};
-    ghost use Rattle.event_loop.specs.Turns.{Accepted, DrivesReady, IsTurn, IsUntouched, accepts_now, is_told_of};
+    ghost use Rattle.event_loop.specs.Loops.{HasItsSessions, hub_of};
+    ghost use Rattle.event_loop.specs.Turns.{Accepted, DrivesReady, IsTurn, IsUntouched, TurnsAreRuns, accepts_now, is_told_of};
 
     /// Listens at an address for the sessions of a hub that none has joined, over an engine that was opened. Port 0 stands for one that
     /// the system picks.
@@ -118,18 +117,19 @@ impl<D: Sectors> EventLoop<D> {
     /// It answers a fault exactly where the poll failed; nothing else was done then. It may grow the table, and what the sessions'
     /// requests grow.
     ///
-    /// The hub's events are those of the drives, each of its own session over its own stream, and of the accepts, and no others: which
-    /// entries are ready is what the poll told. No entry is taken out but one whose session has left.
+    /// The hub's events are those of the drives, each of its own session over its own stream, and then the joins of the accepts, and no
+    /// others: which entries are ready is what the poll told. No entry is taken out but one whose session has left. Before the turn and
+    /// after it the entries that aren't gone are those of the hub's sessions, so that none is lost or made up.
     ///
-    /// Whatever the connections send, and however their bytes are cut and interleaved, what a turn does to the hub is a run of events. So
+    /// Whatever the connections send, and however their bytes are cut and interleaved, these events are one run of the hub. So
     /// every reply between a transaction's begin and its commit or abort is what a private copy of the map committed at its begin
     /// answers to its own requests alone, and the committed transactions, run one at a time in one order, give the same replies and the
     /// same final map. (Serializable snapshot isolation as in Cahill, Röhm and Fekete, SIGMOD 2008.) A crash at any moment of the turn
     /// leaves a map that was committed at one, or that with a COMMIT that was under way.
     pub fn turn<C: Clock>(&mut self, clock: &C, timeout: Option<Duration>) -> io::Result<()>
-        ensures ran { HasRun (hub_of self.old) (hub_of self.new) }
         ensures turned { OnOk result (IsTurn ⟦<Socket as Stream>⟧.tells ⟦<Socket as Stream>⟧.traffic self.old self.new) }
         ensures fault { OnErr result (IsUntouched self.old self.new) }
+        ensures sessions { HasItsSessions self.old × HasItsSessions self.new }
     {
         self.hub.runs_follow();
         let patience = self.lingering.patience(Instant::now(clock).ok());
@@ -149,9 +149,14 @@ impl<D: Sectors> EventLoop<D> {
         Ok(())
     }
 
+    /// Does nothing, and takes no memory. Its contract says that what a turn does to its hub is a run of the hub, as a life of a store has
+    /// it.
+    pub fn turns_are_runs(&self)
+        ensures runs { TurnsAreRuns ⟦<Socket as Stream>⟧.tells ⟦<Socket as Stream>⟧.traffic self.now }
+    {}
+
     // Accepts connections. After an accept that failed, as for want of descriptors, none lingers.
     fn accept(&mut self)
-        ensures ran { HasRun self.old.hub self.new.hub }
         ensures accepts { Accepted true self.old self.new }
         ensures events { self.new.events ≡ self.old.events }
     {
@@ -170,7 +175,6 @@ impl<D: Sectors> EventLoop<D> {
 
     // Drives the sessions that are ready, those that the last poll told of among them.
     fn drive(&mut self, now: Option<Instant>)
-        ensures ran { HasRun self.old.hub self.new.hub }
         ensures drives { DrivesReady ⟦<Socket as Stream>⟧.tells ⟦<Socket as Stream>⟧.traffic (items self.old.events) self.old.hub self.old.table.slots self.new.hub self.new.table.slots }
         ensures events { self.new.events ≡ self.old.events }
         ensures next { self.new.next ≡ self.old.next }

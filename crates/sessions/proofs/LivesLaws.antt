@@ -18,9 +18,9 @@ left dev hub disk map begins (InOpening l) only_now keeps = (map, refl, begins.d
 left {g = g} dev hub disk map begins (InRun answered last ran more l) only_now keeps =
     let h : HubState = hub_over (opened map begins.used (g.size dev)) in
     let x = ran.run h begins.stands in
-    let y = more.run (run h x.1.choices) x.1.stands in
-    let z = loses_nothing hub answered last h x.1.choices y.1.choices (x.1.survives keeps) (y.1.survives keeps) only_now keeps refl disk l in
-    (z.0, record { events = x.0; ran = x.1; more_events = y.0; more = y.1; may = z.2 }, z.1)
+    let y = more.run (run h x.0) x.1.stands in
+    let z = loses_nothing hub answered last h x.0 y.0 (x.1.survives keeps) (y.1.survives keeps) only_now keeps refl disk l in
+    (z.0, record { choices = x.0; ran = x.1; more_choices = y.0; more = y.1; may = z.2 }, z.1)
 
 pub lose_nothing : {D : Type 0} {g : Ghosts D} (lives : List (Life D g)) → (g.keeps_model → (d : D) (c : List (List ℕ)) → g.left_since d (g.moment d) c → g.may_leave d c) → g.keeps_model
     → (disk : List (List ℕ)) (map : KeyMap) → HoldsMap disk map → FollowOn disk lives → LoseNothing map disk lives

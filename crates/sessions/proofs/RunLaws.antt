@@ -16,8 +16,8 @@ use Rattle.engine.specs.Meaning.{has_risen}
 use Rattle.sessions.specs.declared.hub.Hub.{Hub}
 use Rattle.sessions.specs.declared.events.Outcome.{Outcome}
 use Rattle.sessions.specs.SessionStreams.{HubState, SessionStream, HubEvent, Joins, Receives, Serves, Sends, Leaves, Front, Whole, More, Bad, Choice, Effect, IsPossible, IsServePossible, ArePossible, hub_step, run, stream_of, with_effect, may_serve, serve_session, serve_front, served_with, asks, IsReachedHub, Continued}
-use Rattle.sessions.specs.StandsFor.{StandsFor, Reaches}
-use Rattle.sessions.specs.Laws.{Runs, IsLawful, failures_in}
+use Rattle.sessions.specs.StandsFor.{StandsFor, Reaches, failures}
+use Rattle.sessions.specs.Laws.{RunsBy, IsLawful, failures_in}
 use Rattle.sessions.specs.Life.{Survives}
 use Rattle.sessions.proofs.OpenTransactions.{always}
 use Rattle.sessions.proofs.StreamLaws.{machine_reached, are_streams, Moved, Rests, Lets, Steps, moved, by_if}
@@ -188,13 +188,12 @@ lawful_run law h (e ∷ es) reached possible zero = lawful_at law h reached
 lawful_run law h (e ∷ es) reached possible (suc n) = lawful_run law (hub_step h e.0 e.1).0 es (Continued h e.0 e.1 possible.0 reached) possible.1 n
 
 -- before the first event
-pub no_events : {D : Type 0} {g : Ghosts D} (hub : Hub D g) (h : HubState) (risen : Bool) → MachineLaw → StandsFor hub h → (g.keeps_model → Survives hub hub h []) → Runs hub hub h [] risen
-no_events hub h risen law stands survives = record {
-  choices = [];
-  are = refl;
+pub no_events : {D : Type 0} {g : Ghosts D} (hub : Hub D g) (h : HubState) → MachineLaw → StandsFor hub h → (g.keeps_model → Survives hub hub h []) → RunsBy hub hub h []
+no_events hub h law stands survives = record {
   possible = tt;
   one_failure = omega arith;
   stopped = λ some. absurd (omega (arith, some));
+  counted = omega arith;
   risen_then = λ some. absurd (omega (arith, some));
   none_then = λ stop. refl;
   stands = stands;
@@ -202,70 +201,72 @@ no_events hub h risen law stands survives = record {
   survives = survives;
 }
 
-module _ {D : Type 0} {g : Ghosts D} (old mid new : Hub D g) (h : HubState) (hs : List HubEvent) (e : HubEvent) (outcome : Outcome) (a b c : ℕ) (ab : a ≤ b) (bc : b ≤ c)
-    (law : MachineLaw) (reached : IsReachedHub h) (so_far : Runs old mid h hs (has_risen a b)) (choice : Choice) (told : choice.failed ≡ has_risen b c)
-    (more : (n : Choice) → StandsFor new (hub_step (run h so_far.choices) e n).0 → g.keeps_model → Survives old new h (so_far.choices ++ (e, n) ∷ [])) where
+module _ {D : Type 0} {g : Ghosts D} (old mid new : Hub D g) (h : HubState) (es : List (HubEvent × Choice)) (e : HubEvent) (outcome : Outcome) (bc : failures mid ≤ failures new)
+    (law : MachineLaw) (reached : IsReachedHub h) (so_far : RunsBy old mid h es) (choice : Choice) (told : choice.failed ≡ has_risen (failures mid) (failures new))
+    (more : (n : Choice) → StandsFor new (hub_step (run h es) e n).0 → g.keeps_model → Survives old new h (es ++ (e, n) ∷ [])) where
   abbrev there : HubState
-  there = run h so_far.choices
+  there = run h es
 
   abbrev pushed : Choice → List (HubEvent × Choice)
-  pushed n = so_far.choices ++ (e, n) ∷ []
+  pushed n = es ++ (e, n) ∷ []
+
+  all_counted : failures old ≤ failures new
+  all_counted = omega (arith, so_far.counted, bc)
 
   -- one more event, under a choice in which the device fails only where the store stops
-  push : (n : Choice) → IsPossible there e n → StandsFor new (hub_step there e n).0 → (n.failed ≡ true → (has_risen b c ≡ true) × (there.machine.stopped ≡ false) × ((hub_step there e n).0.machine.stopped ≡ true)) →
-      Runs old new h (hs ++ e ∷ []) (has_risen a c)
+  push : (n : Choice) → IsPossible there e n → StandsFor new (hub_step there e n).0
+      → (n.failed ≡ true → (has_risen (failures mid) (failures new) ≡ true) × (there.machine.stopped ≡ false) × ((hub_step there e n).0.machine.stopped ≡ true)) → RunsBy old new h (pushed n)
   push n possible stands fails = by_flag n.failed refl
     where
-      are : map (λ x. x.0) (pushed n) ≡ hs ++ e ∷ []
-      are = map-append (λ (x : HubEvent × Choice). x.0) so_far.choices ((e, n) ∷ []) ∙ ap (λ xs. xs ++ e ∷ []) so_far.are
-
-      by_flag : (f : Bool) → n.failed ≡ f → Runs old new h (hs ++ e ∷ []) (has_risen a c)
+      by_flag : (f : Bool) → n.failed ≡ f → RunsBy old new h (pushed n)
       by_flag false is =
-          let count : failures_in (pushed n) ≡ failures_in so_far.choices = failures-push so_far.choices e n ∙ ap (λ x. failures_in so_far.choices + (if x then 1 else 0)) is ∙ (let z : failures_in so_far.choices + 0 ≡ failures_in so_far.choices = omega arith in z) in
+          let count : failures_in (pushed n) ≡ failures_in es = failures-push es e n ∙ ap (λ x. failures_in es + (if x then 1 else 0)) is ∙ (let z : failures_in es + 0 ≡ failures_in es = omega arith in z) in
           record {
-            choices = pushed n;
-            are = are;
-            possible = possible-push h so_far.choices e n so_far.possible possible;
+            possible = possible-push h es e n so_far.possible possible;
             one_failure = omega (arith, count, so_far.one_failure);
-            stopped = λ some. (let P : HubState → Type 0 = λ x. x.machine.stopped ≡ true in subst P (sym (run-push h so_far.choices e n)) (hub-stopped there e n (so_far.stopped (omega (arith, count, some)))));
-            risen_then = λ some. risen-later a b c ab bc (so_far.risen_then (omega (arith, count, some)));
+            stopped = λ some. (let P : HubState → Type 0 = λ x. x.machine.stopped ≡ true in subst P (sym (run-push h es e n)) (hub-stopped there e n (so_far.stopped (omega (arith, count, some)))));
+            counted = all_counted;
+            risen_then = λ some. risen-later (failures old) (failures mid) (failures new) so_far.counted bc (so_far.risen_then (omega (arith, count, some)));
             none_then = λ stop. count ∙ so_far.none_then stop;
-            stands = subst (StandsFor new) (sym (run-push h so_far.choices e n)) stands;
-            lawful = lawful_run law h (pushed n) reached (possible-push h so_far.choices e n so_far.possible possible);
+            stands = subst (StandsFor new) (sym (run-push h es e n)) stands;
+            lawful = lawful_run law h (pushed n) reached (possible-push h es e n so_far.possible possible);
             survives = more n stands;
           }
       by_flag true is =
           let x = fails is in
-          let none : failures_in so_far.choices ≡ 0 = no_failure (failures_in so_far.choices) (λ some. (let bad : false ≡ true = sym x.1 ∙ so_far.stopped some in cc)) in
-          let count : failures_in (pushed n) ≡ 1 = failures-push so_far.choices e n ∙ ap (λ y. failures_in so_far.choices + (if y then 1 else 0)) is ∙ (let z : failures_in so_far.choices + 1 ≡ 1 = omega (arith, none) in z) in
+          let none : failures_in es ≡ 0 = no_failure (failures_in es) (λ some. (let bad : false ≡ true = sym x.1 ∙ so_far.stopped some in cc)) in
+          let count : failures_in (pushed n) ≡ 1 = failures-push es e n ∙ ap (λ y. failures_in es + (if y then 1 else 0)) is ∙ (let z : failures_in es + 1 ≡ 1 = omega (arith, none) in z) in
           record {
-            choices = pushed n;
-            are = are;
-            possible = possible-push h so_far.choices e n so_far.possible possible;
+            possible = possible-push h es e n so_far.possible possible;
             one_failure = omega (arith, count);
-            stopped = λ some. (let P : HubState → Type 0 = λ y. y.machine.stopped ≡ true in subst P (sym (run-push h so_far.choices e n)) x.2);
-            risen_then = λ some. risen-last a b c ab bc x.0;
-            none_then = λ stop. (let bad : false ≡ true = sym x.1 ∙ stays_stopped h so_far.choices stop in absurd (cc));
-            stands = subst (StandsFor new) (sym (run-push h so_far.choices e n)) stands;
-            lawful = lawful_run law h (pushed n) reached (possible-push h so_far.choices e n so_far.possible possible);
+            stopped = λ some. (let P : HubState → Type 0 = λ y. y.machine.stopped ≡ true in subst P (sym (run-push h es e n)) x.2);
+            counted = all_counted;
+            risen_then = λ some. risen-last (failures old) (failures mid) (failures new) so_far.counted bc x.0;
+            none_then = λ stop. (let bad : false ≡ true = sym x.1 ∙ stays_stopped h es stop in absurd (cc));
+            stands = subst (StandsFor new) (sym (run-push h es e n)) stands;
+            lawful = lawful_run law h (pushed n) reached (possible-push h es e n so_far.possible possible);
             survives = more n stands;
           }
 
-  pub one_more : Reaches new there e choice outcome → Runs old new h (hs ++ e ∷ []) (has_risen a c)
+  -- by this choice, or by one that tells of no failure and leads to the same
+  pub one_more : Reaches new there e choice outcome → (n : Choice) × ((hub_step there e n).0 ≡ (hub_step there e choice).0) × RunsBy old new h (pushed n)
   one_more reaches = by_flag choice.failed refl
     where
-      by_flag : (f : Bool) → choice.failed ≡ f → Runs old new h (hs ++ e ∷ []) (has_risen a c)
-      by_flag false is = push choice reaches.possible reaches.stands (λ up. (let bad : false ≡ true = sym is ∙ up in absurd (cc)))
+      by_flag : (f : Bool) → choice.failed ≡ f → (n : Choice) × ((hub_step there e n).0 ≡ (hub_step there e choice).0) × RunsBy old new h (pushed n)
+      by_flag false is = (choice, refl, push choice reaches.possible reaches.stands (λ up. (let bad : false ≡ true = sym is ∙ up in absurd (cc))))
       by_flag true is =
           let same = choice_is choice true is in
           elim (hub-flagged there e choice) [
             | inl quiet ↦
                 let P : HubState × Outcome → Type 0 = λ r. StandsFor new r.0 in
-                let Q : Choice → Type 0 = λ m. StandsFor new (hub_step there e m).0 in
-                push (flag choice false) (possible-flag there e choice false reaches.possible) (subst P quiet (subst Q same reaches.stands)) (λ up. (let bad : false ≡ true = up in absurd (cc)))
+                let Q : Choice → Type 0 = λ m. StandsFor new (hub_step there e m).0 in (
+                  flag choice false,
+                  sym (ap (λ r. r.0) quiet) ∙ sym (ap (λ m. (hub_step there e m).0) same),
+                  push (flag choice false) (possible-flag there e choice false reaches.possible) (subst P quiet (subst Q same reaches.stands)) (λ up. (let bad : false ≡ true = up in absurd (cc))),
+                )
             | inr stops ↦
                 let Q : Choice → Type 0 = λ m. (hub_step there e m).0.machine.stopped ≡ true in
-                push choice reaches.possible reaches.stands (λ up. (sym told ∙ up, stops.0, subst Q (sym same) stops.1))
+                (choice, refl, push choice reaches.possible reaches.stands (λ up. (sym told ∙ up, stops.0, subst Q (sym same) stops.1)))
           ]
 
 pub take_push : {A : Type 0} (xs : List A) (i : ℕ) (d : A) → i < length xs → take (i + 1) xs ≡ take i xs ++ get_or xs i d ∷ []
@@ -299,15 +300,9 @@ either : (m n : ℕ) → 1 ≤ m + n → (1 ≤ m) ⊎ (1 ≤ n)
 either zero n le = inr (omega (arith, le))
 either (suc m) n le = inl (omega arith)
 
-module _ {D : Type 0} {g : Ghosts D} (old mid new : Hub D g) (h : HubState) (hs gs : List HubEvent) (a b c : ℕ) (ab : a ≤ b) (bc : b ≤ c)
-    (law : MachineLaw) (reached : IsReachedHub h) (first : Runs old mid h hs (has_risen a b)) (second : Runs mid new (run h first.choices) gs (has_risen b c))
-    (survive : g.keeps_model → Survives old new h (first.choices ++ second.choices)) where
-  abbrev es : List (HubEvent × Choice)
-  es = first.choices
-
-  abbrev fs : List (HubEvent × Choice)
-  fs = second.choices
-
+module _ {D : Type 0} {g : Ghosts D} (old mid new : Hub D g) (h : HubState) (es fs : List (HubEvent × Choice))
+    (law : MachineLaw) (reached : IsReachedHub h) (first : RunsBy old mid h es) (second : RunsBy mid new (run h es) fs)
+    (survive : g.keeps_model → Survives old new h (es ++ fs)) where
   count : failures_in (es ++ fs) ≡ failures_in es + failures_in fs
   count = failures-append es fs
 
@@ -320,10 +315,8 @@ module _ {D : Type 0} {g : Ghosts D} (old mid new : Hub D g) (h : HubState) (hs 
   possible : ArePossible h (es ++ fs)
   possible = possible-append h es fs first.possible second.possible
 
-  pub follow : Runs old new h (hs ++ gs) (has_risen a c)
+  pub follow : RunsBy old new h (es ++ fs)
   follow = record {
-    choices = es ++ fs;
-    are = map-append (λ (x : HubEvent × Choice). x.0) es fs ∙ ap (λ xs. xs ++ map (λ (x : HubEvent × Choice). x.0) fs) first.are ∙ ap (λ xs. hs ++ xs) second.are;
     possible = possible;
     one_failure = at_most (run h es).machine.stopped refl;
     stopped = λ some. (
@@ -332,9 +325,10 @@ module _ {D : Type 0} {g : Ghosts D} (old mid new : Hub D g) (h : HubState) (hs 
           | inl x ↦ stays_stopped (run h es) fs (first.stopped x)
           | inr y ↦ second.stopped y
         ]));
+    counted = omega (arith, first.counted, second.counted);
     risen_then = λ some. elim (either (failures_in es) (failures_in fs) (omega (arith, count, some))) [
-      | inl x ↦ risen-later a b c ab bc (first.risen_then x)
-      | inr y ↦ risen-last a b c ab bc (second.risen_then y)
+      | inl x ↦ risen-later (failures old) (failures mid) (failures new) first.counted second.counted (first.risen_then x)
+      | inr y ↦ risen-last (failures old) (failures mid) (failures new) first.counted second.counted (second.risen_then y)
     ];
     none_then = λ stop. (
         let one = first.none_then stop in

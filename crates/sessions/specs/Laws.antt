@@ -1,5 +1,5 @@
 -- What holds of every state that a hub stands for.
-use Rattle.std.specs.Prelude.{◌≡◌, ◌≤◌, ◌+◌, if◌then◌else◌, ℕ, Bool, true, List, [], ◌∷◌, ◌++◌, map, take, Some}
+use Rattle.std.specs.Prelude.{◌≡◌, ◌≤◌, ◌+◌, if◌then◌else◌, ℕ, true, List, [], ◌∷◌, ◌++◌, map, take, Some}
 use Rattle.std.specs.List.{AllByRecursion, flat_map}
 use Rattle.sector.specs.declared.device.Sectors.{Ghosts}
 use Rattle.model.specs.Map.{Bytes}
@@ -8,10 +8,12 @@ use Rattle.model.specs.Operations.{Operation, Response}
 use Rattle.model.specs.Machine.{IsReached, Running, running_of, snapshot}
 use Rattle.model.specs.ReplyText.{reply_text}
 use Rattle.sessions.specs.declared.events.Status.TheVariants.{Open}
+use Rattle.sessions.specs.declared.events.Outcome.{Outcome}
 use Rattle.sessions.specs.declared.hub.Hub.{Hub}
-use Rattle.sessions.specs.SessionStreams.{HubState, SessionStream, HubEvent, Choice, ArePossible, run, replies_text, requests_text, asks, stream_of}
+use Rattle.sessions.specs.Calls.{has_failed}
+use Rattle.sessions.specs.SessionStreams.{HubState, SessionStream, HubEvent, Choice, ArePossible, run, replies_text, requests_text, asks, stream_of, hub_step}
 use Rattle.engine.specs.Meaning.{has_risen}
-use Rattle.sessions.specs.StandsFor.{StandsFor, failures}
+use Rattle.sessions.specs.StandsFor.{StandsFor, Reaches, failures}
 use Rattle.sessions.specs.Life.{Survives}
 
 -- what came in is the spellings of the requests that were served and then the inbox, until it was emptied for good;
@@ -49,30 +51,46 @@ abbrev pub failures_in : List (HubEvent × Choice) → ℕ
 failures_in [] = 0
 failures_in (e ∷ es) = if e.1.failed then failures_in es + 1 else failures_in es
 
--- A run over the events by some choices. The device fails in one of them at most, then the store is stopped, and in none where
--- the count of its failures did not rise. At each moment of the run, and so for each transaction up to its commit or abort, the
--- laws hold.
-pub record Runs {D : Type 0} {g : Ghosts D} (old new : Hub D g) (h : HubState) (events : List HubEvent) (risen : Bool) : Type 0 where
-  pub choices : List (HubEvent × Choice)
-  pub are : map (λ e. e.0) choices ≡ events
+-- A run of events, each with its choice, from the state h. The device fails in one of them at most, then the store is stopped, and
+-- in none where the count of its failures did not rise. At each moment of the run, and so for each transaction up to its commit or
+-- abort, the laws hold.
+pub record RunsBy {D : Type 0} {g : Ghosts D} (old new : Hub D g) (h : HubState) (choices : List (HubEvent × Choice)) : Type 0 where
   pub possible : ArePossible h choices
   pub one_failure : failures_in choices ≤ 1
   pub stopped : 1 ≤ failures_in choices → (run h choices).machine.stopped ≡ true
-  pub risen_then : 1 ≤ failures_in choices → risen ≡ true
+  pub counted : failures old ≤ failures new
+  pub risen_then : 1 ≤ failures_in choices → has_risen (failures old) (failures new) ≡ true
   pub none_then : h.machine.stopped ≡ true → failures_in choices ≡ 0
   pub stands : StandsFor new (run h choices)
   pub lawful : (n : ℕ) → IsLawful (run h (take n choices))
   -- a crash at any moment of the run leaves a map that was committed at one, or one with a COMMIT that was under way
   pub survives : g.keeps_model → Survives old new h choices
 
+-- some run of these events
+pub record Runs {D : Type 0} {g : Ghosts D} (old new : Hub D g) (h : HubState) (events : List HubEvent) : Type 0 where
+  pub choices : List (HubEvent × Choice)
+  pub are : map (λ e. e.0) choices ≡ events
+  pub by : RunsBy old new h choices
+
 -- From each state that the old hub stood for, some run leads to the new one, and each of its failures is counted.
 pub record HasRun {D : Type 0} {g : Ghosts D} (old new : Hub D g) : Type 0 where
   pub counted : failures old ≤ failures new
-  pub run : (h : HubState) → StandsFor old h → (events : List HubEvent) × Runs old new h events (has_risen (failures old) (failures new))
+  pub run : (h : HubState) → StandsFor old h → (choices : List (HubEvent × Choice)) × RunsBy old new h choices
+
+-- Alone, the event is a run: where it leads on by a choice, it does by one that tells of a failure only where the store stops.
+abbrev pub RunsAlone : {D : Type 0} {g : Ghosts D} → Hub D g → Hub D g → HubEvent → Type 0
+RunsAlone old new e =
+    (h : HubState) (c : Choice) (outcome : Outcome) → StandsFor old h → c.failed ≡ has_failed old.engine new.engine → Reaches new h e c outcome
+    → (d : Choice) × ((hub_step h e d).0 ≡ (hub_step h e c).0) × RunsBy old new h ((e, d) ∷ [])
+
+-- no event is a run
+abbrev pub NoneRuns : {D : Type 0} {g : Ghosts D} → Hub D g → Type 0
+NoneRuns hub = (h : HubState) → StandsFor hub h → RunsBy hub hub h []
 
 -- runs that follow each other are one run
 abbrev pub RunsFollow : {D : Type 0} {g : Ghosts D} → Hub D g → Type 0
-RunsFollow {D} {g} hub = (old mid new : Hub D g) → HasRun old mid → HasRun mid new → HasRun old new
+RunsFollow {D} {g} hub =
+    (old mid new : Hub D g) (h : HubState) (es fs : List (HubEvent × Choice)) → StandsFor old h → RunsBy old mid h es → RunsBy mid new (run h es) fs → RunsBy old new h (es ++ fs)
 
 -- the bytes of a transaction's own replies
 abbrev pub own_bytes : Running → Bytes

@@ -8,13 +8,12 @@ use Rattle.commit_log.specs.declared.faults.LogFault.{LogFault}
 use Rattle.commit_log.specs.Format.{current}
 use Rattle.commit_log.specs.LogFaults.{IsDeviceOrMemory}
 use Rattle.commit_log.specs.LogImage.{IsLogImage}
-use Rattle.engine.specs.Meaning.{has_risen}
 use Rattle.engine.specs.Recovery.{HoldsMap}
 use Rattle.sessions.specs.declared.hub.Hub.{Hub}
-use Rattle.sessions.specs.Laws.{HasRun, Runs}
+use Rattle.sessions.specs.Laws.{HasRun, RunsBy}
 use Rattle.sessions.specs.Life.{MayFind}
-use Rattle.sessions.specs.SessionStreams.{HubState, HubEvent, hub_over, run}
-use Rattle.sessions.specs.StandsFor.{StandsFor, device, failures}
+use Rattle.sessions.specs.SessionStreams.{HubState, HubEvent, Choice, hub_over, run}
+use Rattle.sessions.specs.StandsFor.{StandsFor, device}
 
 -- the hub begins with this map, and a crash at any moment of its opening left it
 pub record Begins {D : Type 0} {g : Ghosts D} (dev : D) (hub : Hub D g) (map : KeyMap) : Type 0 where
@@ -49,11 +48,11 @@ FollowOn {D} {g} disk (life ∷ lives) = IsSettled (g.size life.dev) (g.may_read
 -- was answered: the one committed then or later, one with a COMMIT that was under way since, or one with a COMMIT that was answered a
 -- store fault.
 pub record IsLeft {D : Type 0} {g : Ghosts D} (hub answered last : Hub D g) (h : HubState) (map : KeyMap) : Type 0 where
-  pub events : List HubEvent
-  pub ran : Runs hub answered h events (has_risen (failures hub) (failures answered))
-  pub more_events : List HubEvent
-  pub more : Runs answered last (run h ran.choices) more_events (has_risen (failures answered) (failures last))
-  pub may : MayFind h (ran.choices ++ more.choices) (length ran.choices) map
+  pub choices : List (HubEvent × Choice)
+  pub ran : RunsBy hub answered h choices
+  pub more_choices : List (HubEvent × Choice)
+  pub more : RunsBy answered last (run h choices) more_choices
+  pub may : MayFind h (choices ++ more_choices) (length choices) map
 
 -- a crash while the store was opened left its map
 abbrev pub Leaves : {D : Type 0} {g : Ghosts D} {dev : D} {hub : Hub D g} {disk : List (List ℕ)} → Crash dev hub disk → HubState → KeyMap → KeyMap → Type 0

@@ -1,10 +1,10 @@
 //! The sessions that are present, over one engine.
 ghost use Rattle.std.specs.Prelude.{◌≡◌, ◌≤◌, ℕ, true, [], map};
-ghost use Rattle.engine.specs.Meaning.{has_risen, device_of};
+ghost use Rattle.engine.specs.Meaning.{device_of};
 ghost use Rattle.engine.specs.Meaning.{StandsFor as EngineStandsFor};
 ghost use Rattle.model.specs.Machine.{State};
 ghost use Rattle.sessions.specs.Crashes.{SurvivesEvent, SurvivesCrash, IsStored};
-ghost use Rattle.sessions.specs.Laws.{HasRun, IsLawful, Runs, RunsFollow};
+ghost use Rattle.sessions.specs.Laws.{IsLawful, NoneRuns, Runs, RunsAlone, RunsFollow};
 ghost use Rattle.sessions.specs.Life.{RunsGoOn, LosesNothing};
 ghost use Rattle.sessions.specs.Lives.{LivesLoseNothing, LivesFromNothing};
 ghost use Rattle.sessions.specs.SessionStreams.{HubState, is_above, hub_over, stream_of, Joins, Receives, Serves, Sends, Leaves};
@@ -228,12 +228,13 @@ impl<D: Sectors> Hub<D> {
     ///
     /// A crash at any moment of the event leaves the map committed before it or, where it executes a COMMIT, that with the
     /// transaction's writes; after the event it leaves the map that is then committed. A store that is stopped leaves the device alone.
+    /// The event, alone, is a run.
     pub fn step(&mut self, event: &Event<'_>) -> Outcome
         ensures step { HubLeads self.old self.new (event_of event.now) result }
         ensures crash { SurvivesCrash self.old self.new (event_of event.now) }
         ensures still { is_stopped self.old ≡ true → device self.new ≡ device self.old }
         ensures stored { IsStored self.new }
-        ensures ran { HasRun self.old self.new }
+        ensures ran { RunsAlone self.old self.new (event_of event.now) }
         ensures device { failures self.old ≤ failures self.new }
     {
         machine_is_serializable();
@@ -250,7 +251,7 @@ impl<D: Sectors> Hub<D> {
     /// transactions, run one at a time in one order, give the same replies and the same final map. (Serializable snapshot isolation
     /// as in Cahill, Röhm and Fekete, SIGMOD 2008.)
     pub fn run(&mut self, events: &[Event<'_>])
-        ensures run { (h : HubState) → StandsFor self.old h → Runs self.old self.new h (map event_of events.now) (has_risen (failures self.old) (failures self.new)) }
+        ensures run { (h : HubState) → StandsFor self.old h → Runs self.old self.new h (map event_of events.now) }
         ensures device { failures self.old ≤ failures self.new }
     {
         machine_is_serializable();
@@ -262,7 +263,7 @@ impl<D: Sectors> Hub<D> {
 
     /// Does nothing, and takes no memory. Its contract says that no event is a run, and that runs that follow each other are one run.
     pub fn runs_follow(&self)
-        ensures none { HasRun self.now self.now }
+        ensures none { NoneRuns self.now }
         ensures follow { RunsFollow self.now }
     {
         machine_is_serializable();

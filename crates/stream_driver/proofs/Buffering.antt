@@ -1,5 +1,5 @@
 -- A buffer that holds nothing has room.
-use Rattle.std.proofs.Common.{◌≡◌, ℕ, ◌-◌, ◌<◌, Bool, [], length, drop, vec_len, sym, ap, ◌∙◌, length-drop, arith}
+use Rattle.std.proofs.Common.{◌≡◌, ◌-◌, ◌<◌, Bool, [], length, vec_len, sym, ap, ◌∙◌, length-drop, arith}
 use Rattle.stream_driver.specs.declared.held.Held.{Held}
 use Rattle.stream_driver.specs.declared.buffered.Flushed.{Flushed}
 use Rattle.stream_driver.specs.declared.buffered.Flushed.TheVariants.{All, Blocked, Failed}

@@ -1,15 +1,15 @@
 -- Parts of a run follow one another.
-use Rattle.std.proofs.Common.{◌≡◌, ◌⊎◌, inl, inr, ℕ, ◌+◌, ◌≤◌, Bool, true, false, if◌then◌else◌, IsTrue, List, [], ◌∷◌, ◌++◌, Some, refl, sym, ap, subst, ◌∙◌, arith, append_assoc}
+use Rattle.std.proofs.Common.{◌≡◌, ◌⊎◌, inl, inr, ℕ, ◌+◌, ◌≤◌, Bool, true, false, if◌then◌else◌, IsTrue, List, [], ◌∷◌, ◌++◌, map, Some, refl, sym, ap, subst, ◌∙◌, arith, append_assoc}
 use Rattle.std.specs.List.{flat_map, AllByRecursion}
 use Rattle.std.proofs.lemmas.Bool.Decides.{nat_tests}
-use Rattle.std.proofs.lemmas.List.{append-nil}
+use Rattle.std.proofs.lemmas.List.{append-nil, map-append}
 use Rattle.std.proofs.lemmas.List.Concat.{flat_map-append}
 use Rattle.model.specs.ReplyText.{reply_text}
 use Rattle.sessions.specs.SessionStreams.{HubState, SessionStream, HubEvent, Choice, ArePossible, run, hub_step}
 use Rattle.stream_driver.specs.Traffic.{Traffic}
 use Rattle.sessions.specs.Laws.{failures_in}
 use Rattle.engine.specs.Meaning.{has_risen}
-use Rattle.stream_driver.specs.Sessions.{ComeInTurn, GoesOn, Point, Runs, session_of, IsPresentIn}
+use Rattle.stream_driver.specs.Sessions.{Adds, ComeInTurn, GoesOn, Point, Runs, session_of, IsPresentIn}
 use Rattle.stream_driver.specs.Drives.{Carried}
 use Rattle.stream_driver.proofs.Events.{no_events}
 
@@ -45,6 +45,14 @@ pub run_then : (h : HubState) (xs ys : List (HubEvent × Choice)) → run h (xs 
 run_then h [] ys = refl
 run_then h (x ∷ xs) ys = run_then (hub_step h x.0 x.1).0 xs ys
 
+pub adds_then : (a b c : Point) (es fs : List (HubEvent × Choice)) → Adds a es b → Adds b fs c → Adds a (es ++ fs) c
+adds_then a b c es fs p q = record {
+  run_is = q.run_is ∙ ap (λ v. run v fs) p.run_is ∙ sym (run_then a.hub es fs);
+  events_are =
+      grown a.events b.events b.events c.events (map (λ (e : HubEvent × Choice). e.0) es) (map (λ (e : HubEvent × Choice). e.0) fs) p.events_are refl q.events_are
+      ∙ ap (λ l. a.events ++ l) (sym (map-append (λ (e : HubEvent × Choice). e.0) es fs));
+}
+
 pub possible_then : (h : HubState) (xs ys : List (HubEvent × Choice)) → ArePossible h xs → ArePossible (run h xs) ys → ArePossible h (xs ++ ys)
 possible_then h [] ys a b = b
 possible_then h (x ∷ xs) ys a b = (a.0, possible_then (hub_step h x.0 x.1).0 xs ys a.1 b)
@@ -75,8 +83,8 @@ abbrev pub runs_then : (s : ℕ) (a b c : Point) → Runs s a b → Runs s b c �
 runs_then s a b c p q = record {
   events = p.events ++ q.events;
   own = all_then (λ e. session_of e.0 ≡ s) p.events q.events p.own q.own;
-  possible = possible_then a.hub p.events q.events p.possible (subst (λ v. ArePossible v q.events) p.run_is q.possible);
-  run_is = q.run_is ∙ ap (λ v. run v q.events) p.run_is ∙ sym (run_then a.hub p.events q.events);
+  possible = possible_then a.hub p.events q.events p.possible (subst (λ v. ArePossible v q.events) p.adds.run_is q.possible);
+  adds = adds_then a b c p.events q.events p.adds q.adds;
   counted = (let first = p.counted in let second = q.counted in omega arith);
   risen_then = λ some. risen_either p.events q.events a.failures b.failures c.failures p.counted q.counted p.risen_then q.risen_then some;
   first = p.first;
@@ -120,7 +128,7 @@ module _ (s : ℕ) (tells : Bool) where
       → Carried s tells old before new after
   and_then old before mid between new after p q = record {
     runs = runs_then s old mid new p.runs q.runs;
-    in_turn = in_turn_then old.hub p.runs.events q.runs.events p.in_turn (subst (λ v. ComeInTurn v q.runs.events) p.runs.run_is q.in_turn);
+    in_turn = in_turn_then old.hub p.runs.events q.runs.events p.in_turn (subst (λ v. ComeInTurn v q.runs.events) p.runs.adds.run_is q.in_turn);
     given = λ t. grown before.given between.given between.given after.given p.runs.history.received q.runs.history.received (p.given t) refl (q.given t);
     taken = λ t. grown before.taken between.taken between.taken after.taken p.runs.history.sent q.runs.history.sent (p.taken t) refl (q.taken t);
   }

@@ -14,7 +14,7 @@ use Rattle.sessions.specs.SessionStreams.{HubState, IsServed, SessionState, Sess
 use Rattle.sessions.specs.StandsFor.{status_in}
 use Rattle.sessions.specs.Laws.{failures_in}
 use Rattle.engine.specs.Meaning.{has_risen}
-use Rattle.stream_driver.specs.Sessions.{GoesOn, Point, Runs, session_of, status_at, IsPresentIn}
+use Rattle.stream_driver.specs.Sessions.{Adds, GoesOn, Point, Runs, session_of, status_at, IsPresentIn}
 use Rattle.stream_driver.proofs.Lookups.{test, set-same, set-other, remove-other}
 
 pub found : (o : Option SessionStream) → status_in o ≢ Absent → (st : SessionStream) × (o ≡ Some st)
@@ -38,12 +38,15 @@ same_history st = record {
   texts = sym (append-nil st.now.pending);
 }
 
+abbrev pub adds_none : (p : Point) → Adds p [] p
+adds_none p = record { run_is = refl; events_are = sym (append-nil p.events) }
+
 abbrev pub no_events : (s : ℕ) (p : Point) → IsPresentIn p.hub s → Runs s p p
 no_events s p present = record {
   events = [];
   own = tt;
   possible = tt;
-  run_is = refl;
+  adds = adds_none p;
   counted = omega arith;
   risen_then = λ some. absurd (omega (arith, some));
   first = (found (stream_of p.hub s) present).0;
@@ -62,7 +65,7 @@ pub record Happens (p : Point) (e : HubEvent) (c : Choice) (count : ℕ) : Type 
   pub failed : c.failed ≡ has_risen p.failures count
 
 abbrev pub point_after : Point → HubEvent → Choice → ℕ → Point
-point_after p e c count = record { hub = (hub_step p.hub e c).0; failures = count }
+point_after p e c count = record { hub = (hub_step p.hub e c).0; failures = count; events = p.events ++ e ∷ [] }
 
 pub fails_then : (e : HubEvent) (c : Choice) (risen : Bool) → c.failed ≡ risen → 1 ≤ failures_in ((e, c) ∷ []) → risen ≡ true
 fails_then e c risen same some = elim c.failed as (λ b. b ≡ risen → 1 ≤ (if b then 0 + 1 else 0) → risen ≡ true) [ true ↦ λ is _. sym is | false ↦ λ _ none. absurd (omega (arith, none)) ] same some
@@ -74,7 +77,7 @@ one_event s p e c count first last own happens is changes history present = reco
   events = (e, c) ∷ [];
   own = (own, tt);
   possible = (happens.possible, tt);
-  run_is = refl;
+  adds = record { run_is = refl; events_are = refl };
   counted = happens.counted;
   risen_then = λ some. fails_then e c (has_risen p.failures count) happens.failed some;
   first = first;

@@ -12,6 +12,7 @@ use Rattle.sessions.specs.declared.events.Outcome.TheVariants.{Done, Memory, Idl
 use Rattle.sessions.specs.SessionStreams.{SessionStream, Serves, Choice, hub_step}
 use Rattle.sector.specs.declared.device.Sectors.{Ghosts}
 use Rattle.sessions.specs.declared.hub.Hub.{Hub}
+use Rattle.sessions.specs.Laws.{RunsAlone}
 use Rattle.sessions.specs.StandsFor.{HubLeads, status_in, pending_in, room_in, failures}
 use Rattle.stream_driver.specs.declared.answers.Call.TheVariants.{Read, Write}
 use Rattle.stream_driver.specs.declared.answers.ReadAnswer.TheVariants.{Moved, Blocked, Failed, Ended}
@@ -24,7 +25,7 @@ use Rattle.stream_driver.specs.Traffic.{Traffic, AllMoved}
 use Rattle.stream_driver.specs.Sessions.{Point, Leads, Runs, AwaitsMore, status_at, pending_at, room_at, inbox_at, inbox_in, IsPresentIn}
 use Rattle.stream_driver.specs.Drives.{Carried, Drove, Departs}
 use Rattle.stream_driver.specs.Calls.{Moves, WritesSome, ReadsSome, Flushes, Exchanges, WrittenSoFar, ReadSoFar, DrivenSoFar, DrivenOut, served_in}
-use Rattle.stream_driver.proofs.States.{leads_step}
+use Rattle.stream_driver.proofs.States.{Follow, leads_step}
 use Rattle.stream_driver.proofs.Inboxes.{beginning_short}
 use Rattle.stream_driver.proofs.Events.{Happens, point_after, Comes, Answered, IsBroken, IsStarved, Awaits, comes_to, serves_is, served_event, effect, open_present}
 use Rattle.stream_driver.proofs.Answered.{none_called, moved_then, ends_then}
@@ -402,8 +403,8 @@ module _ (s : ℕ) (tells : Bool) (old : Point) (before : Traffic) (mid : Point)
 abbrev pub HasRead : ℕ → Bool → Traffic → Traffic → ℕ → Point → Point → Type 0
 HasRead s tells before between room h k = ReadSoFar s tells h before k between room × AwaitsMore k.hub s × (0 < room)
 
-pub waits : {D : Type 0} {g : Ghosts D} (a b c : Hub D g) (s : ℕ) (tells : Bool) (before between : Traffic) (room : ℕ) (outcome : Outcome) → Leads a b (λ h k. ReadSoFar s tells h before k between room)
-    → HubLeads b c (Serves s) outcome → failures b ≤ failures c → outcome ≢ Done → outcome ≢ Memory → Leads a c (HasRead s tells before between room)
-waits a b c s tells before between room outcome p q counted not_done not_memory =
-    leads_step a b c (λ h k. ReadSoFar s tells h before k between room) (HasRead s tells before between room) (Serves s) outcome p q counted
+pub waits : {D : Type 0} {g : Ghosts D} → Follow D g → (a b c : Hub D g) (s : ℕ) (tells : Bool) (before between : Traffic) (room : ℕ) (outcome : Outcome) → Leads a b (λ h k. ReadSoFar s tells h before k between room)
+    → HubLeads b c (Serves s) outcome → RunsAlone b c (Serves s) → failures b ≤ failures c → outcome ≢ Done → outcome ≢ Memory → Leads a c (HasRead s tells before between room)
+waits follow a b c s tells before between room outcome p q alone counted not_done not_memory =
+    leads_step follow a b c (λ h k. ReadSoFar s tells h before k between room) (HasRead s tells before between room) (Serves s) outcome p q alone counted
     (λ h k choice happens is stands r. serve_awaits s tells h before k between room r choice (failures c) happens outcome is not_done not_memory)

@@ -1,5 +1,5 @@
 -- The states that one hub stands for agree on what its sessions have at hand.
-use Rattle.std.proofs.Common.{◌≡◌, ℕ, ◌-◌, ◌≤◌, arith, subst, List, [], ◌∷◌, length, Option, Some, None, option_map, refl, sym, ap, ◌∙◌}
+use Rattle.std.proofs.Common.{◌≡◌, ℕ, ◌-◌, ◌≤◌, arith, subst, List, [], ◌∷◌, ◌++◌, length, Option, Some, None, option_map, refl, sym, ap, ◌∙◌}
 use Rattle.std.specs.Map.{lookup}
 use Rattle.std.proofs.Math.Logic.{∥∥₁_elim, ∥∥₁_map}
 use Rattle.std.proofs.Math.Bridge.{le_prop}
@@ -10,10 +10,12 @@ use Rattle.sessions.specs.declared.events.Outcome.{Outcome}
 use Rattle.engine.specs.Meaning.{has_risen}
 use Rattle.sector.specs.declared.device.Sectors.{Ghosts}
 use Rattle.sessions.specs.declared.hub.Hub.{Hub}
-use Rattle.sessions.specs.SessionStreams.{HubState, SessionState, HubEvent, Choice, hub_step, SessionStream, stream_of}
+use Rattle.sessions.specs.SessionStreams.{HubState, SessionState, HubEvent, Choice, hub_step, run, SessionStream, stream_of}
 use Rattle.sessions.specs.StandsFor.{StandsFor, HubLeads, status_in, room_in, pending_in, failures}
-use Rattle.stream_driver.specs.Sessions.{InSomeState, Point, StandsAt, Leads, IsPresentIn, status_at, pending_at, room_at}
-use Rattle.stream_driver.proofs.Events.{Happens, point_after}
+use Rattle.sessions.specs.Laws.{HasRun, NoneRuns, RunsAlone, RunsBy}
+use Rattle.stream_driver.specs.Sessions.{InSomeState, Point, StandsAt, Leads, RunsTo, IsPresentIn, status_at, pending_at, room_at}
+use Rattle.stream_driver.proofs.Events.{Happens, adds_none, point_after}
+use Rattle.stream_driver.proofs.Carry.{adds_then}
 use Rattle.stream_driver.proofs.Lookups.{test, lookup-at_hand}
 
 alike : {D : Type 0} {g : Ghosts D} (hub : Hub D g) (h k : HubState) (s : ℕ) → StandsFor hub h → StandsFor hub k → option_map (λ st. st.now) (stream_of h s) ≡ option_map (λ st. st.now) (stream_of k s)
@@ -70,16 +72,74 @@ module _ {D : Type 0} {g : Ghosts D} (hub : Hub D g) (s : ℕ) (h : HubState) (s
 -- ---- from hub to hub
 
 abbrev point_of : {D : Type 0} {g : Ghosts D} → Hub D g → HubState → Point
-point_of hub h = record { hub = h; failures = failures hub }
+point_of hub h = record { hub = h; failures = failures hub; events = [] }
 
 at_point : {D : Type 0} {g : Ghosts D} (hub : Hub D g) (h : HubState) → StandsFor hub h → StandsAt hub (point_of hub h)
 at_point hub h stands = record { state = stands; count = refl }
 
-pub leads_map : {D : Type 0} {g : Ghosts D} (a b : Hub D g) (P Q : Point → Point → Type 0) → Leads a b P → ((h k : Point) → StandsFor b k.hub → P h k → Q h k) → Leads a b Q
-leads_map a b P Q p f = λ h stands. let k = p h stands in (k.0, k.1, f h k.0 k.1.state k.2)
+-- runs that follow each other are one run
+abbrev pub Follow : (D : Type 0) → Ghosts D → Type 0
+Follow D g =
+    (old mid new : Hub D g) (h : HubState) (es fs : List (HubEvent × Choice)) → StandsFor old h → RunsBy old mid h es → RunsBy mid new (run h es) fs → RunsBy old new h (es ++ fs)
 
-pub leads_then : {D : Type 0} {g : Ghosts D} (a b c : Hub D g) (P Q R : Point → Point → Type 0) → Leads a b P → Leads b c Q → ((h k l : Point) → StandsFor c l.hub → P h k → Q k l → R h l) → Leads a c R
-leads_then a b c P Q R p q f = λ h stands. let k = p h stands in let l = q k.0 k.1 in (l.0, l.1, f h k.0 l.0 l.1.state k.2 l.2)
+pub at_end : {D : Type 0} {g : Ghosts D} (a b : Hub D g) (h k : Point) → RunsTo a b h k → StandsAt b k
+at_end a b h k r = record { state = subst (StandsFor b) (sym r.adds.run_is) r.ran.stands; count = r.count }
+
+pub runs_none : {D : Type 0} {g : Ghosts D} (hub : Hub D g) → NoneRuns hub → (h : Point) → StandsAt hub h → RunsTo hub hub h h
+runs_none hub none h at = record { choices = []; adds = adds_none h; ran = none h.hub at.state; count = at.count }
+
+pub runs_on : {D : Type 0} {g : Ghosts D} → Follow D g → (a b c : Hub D g) (h k l : Point) → StandsAt a h → RunsTo a b h k → RunsTo b c k l → RunsTo a c h l
+runs_on follow a b c h k l at p q = record {
+  choices = p.choices ++ q.choices;
+  adds = adds_then h k l p.choices q.choices p.adds q.adds;
+  ran = follow a b c h.hub p.choices q.choices at.state p.ran (subst (λ v. RunsBy b c v q.choices) p.adds.run_is q.ran);
+  count = q.count;
+}
+
+-- what leads from one hub to another is a run of the hub
+pub are_runs : {D : Type 0} {g : Ghosts D} (a b : Hub D g) (P : Point → Point → Type 0) → Leads a b P → HasRun a b
+are_runs a b P p = record { counted = p.counted; run = λ h stands. (let k = p.to (point_of a h) (at_point a h stands) in (k.1.choices, k.1.ran)) }
+
+-- nothing happens
+pub leads_none : {D : Type 0} {g : Ghosts D} (hub : Hub D g) → NoneRuns hub → (P : Point → Point → Type 0) → ((h : Point) → StandsAt hub h → P h h) → Leads hub hub P
+leads_none hub none P f = record { counted = omega arith; to = λ h at. (h, runs_none hub none h at, f h at) }
+
+pub leads_map : {D : Type 0} {g : Ghosts D} (a b : Hub D g) (P Q : Point → Point → Type 0) → Leads a b P → ((h k : Point) → StandsFor b k.hub → P h k → Q h k) → Leads a b Q
+leads_map a b P Q p f = record { counted = p.counted; to = λ h at. (let k = p.to h at in (k.0, k.1, f h k.0 (at_end a b h k.0 k.1).state k.2)) }
+
+-- with what the hub between stands for
+pub leads_two_at : {D : Type 0} {g : Ghosts D} → Follow D g → (a b c : Hub D g) (P Q R : Point → Point → Type 0) → Leads a b P → Leads b c Q
+    → ((h k l : Point) → StandsFor b k.hub → StandsFor c l.hub → P h k → Q k l → R h l) → Leads a c R
+leads_two_at follow a b c P Q R p q f = record {
+  counted = (let first = p.counted in let second = q.counted in omega arith);
+  to = λ h at. (
+      let k = p.to h at in
+      let between = at_end a b h k.0 k.1 in
+      let l = q.to k.0 between in
+      (l.0, runs_on follow a b c h k.0 l.0 at k.1 l.1, f h k.0 l.0 between.state (at_end b c k.0 l.0 l.1).state k.2 l.2));
+}
+
+pub leads_then : {D : Type 0} {g : Ghosts D} → Follow D g → (a b c : Hub D g) (P Q R : Point → Point → Type 0) → Leads a b P → Leads b c Q → ((h k l : Point) → StandsFor c l.hub → P h k → Q k l → R h l)
+    → Leads a c R
+leads_then follow a b c P Q R p q f = leads_two_at follow a b c P Q R p q (λ h k l was stands x y. f h k l stands x y)
+
+pub leads_three_at : {D : Type 0} {g : Ghosts D} → Follow D g → (a b c d : Hub D g) (P Q R S : Point → Point → Type 0) → Leads a b P → Leads b c Q → Leads c d R
+    → ((h k l m : Point) → StandsFor b k.hub → StandsFor c l.hub → P h k → Q k l → R l m → S h m) → Leads a d S
+leads_three_at follow a b c d P Q R S p q r f =
+    leads_two_at follow a c d (λ h l. (k : Point) × StandsFor b k.hub × P h k × Q k l) R S
+    (leads_two_at follow a b c P Q (λ h l. (k : Point) × StandsFor b k.hub × P h k × Q k l) p q (λ h k l was stands x y. (k, was, x, y))) r
+    (λ h l m stands last x z. f h x.0 l m x.1 stands x.2 x.3 z)
+
+pub leads_three : {D : Type 0} {g : Ghosts D} → Follow D g → (a b c d : Hub D g) (P Q R S : Point → Point → Type 0) → Leads a b P → Leads b c Q → Leads c d R
+    → ((h k l m : Point) → StandsFor c l.hub → P h k → Q k l → R l m → S h m) → Leads a d S
+leads_three follow a b c d P Q R S p q r f = leads_three_at follow a b c d P Q R S p q r (λ h k l m was stands x y z. f h k l m stands x y z)
+
+pub leads_four : {D : Type 0} {g : Ghosts D} → Follow D g → (a b c d e : Hub D g) (P Q R S T : Point → Point → Type 0) → Leads a b P → Leads b c Q → Leads c d R → Leads d e S
+    → ((h k l m n : Point) → P h k → Q k l → R l m → S m n → T h n) → Leads a e T
+leads_four follow a b c d e P Q R S T p q r s f =
+    leads_two_at follow a d e (λ h m. (k : Point) × (l : Point) × P h k × Q k l × R l m) S T
+    (leads_three_at follow a b c d P Q R (λ h m. (k : Point) × (l : Point) × P h k × Q k l × R l m) p q r (λ h k l m was stands x y z. (k, l, x, y, z))) s
+    (λ h m n was stands x w. f h x.0 x.1 m n x.2 x.3 x.4 w)
 
 -- an event of the hub, from a point of it
 pub happens_at : {D : Type 0} {g : Ghosts D} (b c : Hub D g) (e : HubEvent) (outcome : Outcome) (q : HubLeads b c e outcome) → failures b ≤ failures c → (p : Point) → StandsAt b p → Happens p e q.0 (failures c)
@@ -89,32 +149,28 @@ happens_at b c e outcome q counted p at = record {
   failed = q.2 ∙ ap (λ n. has_risen n (failures c)) (sym at.count);
 }
 
-pub leads_step : {D : Type 0} {g : Ghosts D} (a b c : Hub D g) (P R : Point → Point → Type 0) (e : HubEvent) (outcome : Outcome) → Leads a b P → HubLeads b c e outcome → failures b ≤ failures c
+-- it is a run
+pub runs_alone : {D : Type 0} {g : Ghosts D} (b c : Hub D g) (e : HubEvent) (outcome : Outcome) (q : HubLeads b c e outcome) → RunsAlone b c e → (p : Point) → StandsAt b p
+    → RunsTo b c p (point_after p e q.0 (failures c))
+runs_alone b c e outcome q alone p at =
+    let x = alone p.hub q.0 outcome at.state q.2 (q.3 p.hub at.state) in
+    record { choices = (e, x.0) ∷ []; adds = record { run_is = sym x.1; events_are = refl }; ran = x.2; count = refl }
+
+pub leads_step : {D : Type 0} {g : Ghosts D} → Follow D g → (a b c : Hub D g) (P R : Point → Point → Type 0) (e : HubEvent) (outcome : Outcome) → Leads a b P → HubLeads b c e outcome → RunsAlone b c e → failures b ≤ failures c
     → ((h k : Point) (choice : Choice) → Happens k e choice (failures c) → outcome ≡ (hub_step k.hub e choice).1 → StandsFor c (hub_step k.hub e choice).0 → P h k → R h (point_after k e choice (failures c))) → Leads a c R
-leads_step a b c P R e outcome p q counted f = λ h stands.
-    let k = p h stands in
-    let there = q.3 k.0.hub k.1.state in
-    (point_after k.0 e q.0 (failures c), record { state = there.stands; count = refl }, f h k.0 q.0 (happens_at b c e outcome q counted k.0 k.1) there.outcome_is there.stands k.2)
+leads_step follow a b c P R e outcome p q alone counted f = record {
+  counted = (let first = p.counted in omega arith);
+  to = λ h at. (
+      let k = p.to h at in
+      let between = at_end a b h k.0 k.1 in
+      let there = q.3 k.0.hub between.state in
+      let last = point_after k.0 e q.0 (failures c) in
+      (last, runs_on follow a b c h k.0 last at k.1 (runs_alone b c e outcome q alone k.0 between), f h k.0 q.0 (happens_at b c e outcome q counted k.0 between) there.outcome_is there.stands k.2));
+}
 
 pub some_after : {D : Type 0} {g : Ghosts D} (a b : Hub D g) (P : HubState → Type 0) (Q : Point → Point → Type 0) (R : HubState → Type 0) → InSomeState a P → Leads a b Q → ((h k : Point) → P h.hub → Q h k → R k.hub) → InSomeState b R
-some_after a b P Q R some q f = ∥∥₁_map some (λ w. let h = point_of a w.0 in let k = q h (at_point a w.0 w.1) in (k.0.hub, k.1.state, f h k.0 w.2 k.2))
+some_after a b P Q R some q f = ∥∥₁_map some (λ w. let h = point_of a w.0 in let k = q.to h (at_point a w.0 w.1) in (k.0.hub, (at_end a b h k.0 k.1).state, f h k.0 w.2 k.2))
 
 -- what holds of numbers in some state holds
 pub le_after : {D : Type 0} {g : Ghosts D} (a b : Hub D g) (P : HubState → Type 0) (Q : Point → Point → Type 0) (m n : ℕ) → InSomeState a P → Leads a b Q → ((h k : Point) → Q h k → m ≤ n) → m ≤ n
-le_after a b P Q m n some q f = ∥∥₁_elim some le_prop (λ w. let h = point_of a w.0 in let k = q h (at_point a w.0 w.1) in f h k.0 k.2)
-
-pub leads_three : {D : Type 0} {g : Ghosts D} (a b c d : Hub D g) (P Q R S : Point → Point → Type 0) → Leads a b P → Leads b c Q → Leads c d R
-    → ((h k l m : Point) → StandsFor c l.hub → P h k → Q k l → R l m → S h m) → Leads a d S
-leads_three a b c d P Q R S p q r f = λ h stands. let k = p h stands in let l = q k.0 k.1 in let m = r l.0 l.1 in (m.0, m.1, f h k.0 l.0 m.0 l.1.state k.2 l.2 m.2)
-
--- the same, with what the hub between stands for
-pub leads_two_at : {D : Type 0} {g : Ghosts D} (a b c : Hub D g) (P Q R : Point → Point → Type 0) → Leads a b P → Leads b c Q → ((h k l : Point) → StandsFor b k.hub → StandsFor c l.hub → P h k → Q k l → R h l) → Leads a c R
-leads_two_at a b c P Q R p q f = λ h stands. let k = p h stands in let l = q k.0 k.1 in (l.0, l.1, f h k.0 l.0 k.1.state l.1.state k.2 l.2)
-
-pub leads_three_at : {D : Type 0} {g : Ghosts D} (a b c d : Hub D g) (P Q R S : Point → Point → Type 0) → Leads a b P → Leads b c Q → Leads c d R
-    → ((h k l m : Point) → StandsFor b k.hub → StandsFor c l.hub → P h k → Q k l → R l m → S h m) → Leads a d S
-leads_three_at a b c d P Q R S p q r f = λ h stands. let k = p h stands in let l = q k.0 k.1 in let m = r l.0 l.1 in (m.0, m.1, f h k.0 l.0 m.0 k.1.state l.1.state k.2 l.2 m.2)
-
-pub leads_four : {D : Type 0} {g : Ghosts D} (a b c d e : Hub D g) (P Q R S T : Point → Point → Type 0) → Leads a b P → Leads b c Q → Leads c d R → Leads d e S
-    → ((h k l m n : Point) → P h k → Q k l → R l m → S m n → T h n) → Leads a e T
-leads_four a b c d e P Q R S T p q r s f = λ h stands. let k = p h stands in let l = q k.0 k.1 in let m = r l.0 l.1 in let n = s m.0 m.1 in (n.0, n.1, f h k.0 l.0 m.0 n.0 k.2 l.2 m.2 n.2)
+le_after a b P Q m n some q f = ∥∥₁_elim some le_prop (λ w. let h = point_of a w.0 in let k = q.to h (at_point a w.0 w.1) in f h k.0 k.2)

@@ -6,7 +6,8 @@ use Rattle.std.proofs.Math.ListN.{get_or-eq_default}
 use Rattle.sector.specs.declared.device.Sectors.{Ghosts}
 use Rattle.sessions.specs.declared.hub.Hub.{Hub}
 use Rattle.sessions.specs.SessionStreams.{stream_of}
-use Rattle.sessions.specs.StandsFor.{status_in, failures}
+use Rattle.sessions.specs.Laws.{NoneRuns}
+use Rattle.sessions.specs.StandsFor.{status_in}
 use Rattle.stream_driver.specs.declared.answers.Progress.{Progress}
 use Rattle.stream_driver.specs.declared.answers.Progress.TheVariants.{Waiting, Again, Gone}
 use Rattle.stream_driver.specs.declared.entries.EntryState.{EntryState}
@@ -17,12 +18,12 @@ use Rattle.stream_driver.specs.Sessions.{Point, Leads, IsPresent, IsPresentIn}
 use Rattle.stream_driver.specs.Drives.{Drove, EndsAs}
 use Rattle.stream_driver.specs.Entries.{HaveSessions, DrivenEntry, DrivenIn, DrivenSlot, DrivenAll, EntriesSoFar, state_after}
 use Rattle.stream_driver.proofs.Events.{leaves_others}
-use Rattle.stream_driver.proofs.States.{leads_then, leads_map, some_after}
+use Rattle.stream_driver.proofs.States.{Follow, leads_none, leads_then, leads_map, some_after}
 
 ends_other : (s : ℕ) (last new : Point) (answer : Progress) (t : ℕ) → t ≢ s → EndsAs s last new answer → stream_of new.hub t ≡ stream_of last.hub t
 ends_other s last new Waiting t d e = ap (λ p. stream_of p.hub t) e
 ends_other s last new Again t d e = ap (λ p. stream_of p.hub t) e
-ends_other s last new Gone t d e = ap (λ h. stream_of h t) e.leaves ∙ leaves_others last.hub s e.choice t d
+ends_other s last new Gone t d e = ap (λ h. stream_of h t) e.adds.run_is ∙ leaves_others last.hub s e.choice t d
 
 ends_present : (s : ℕ) (last new : Point) (answer : Progress) → answer ≢ Gone → EndsAs s last new answer → IsPresentIn last.hub s → IsPresentIn new.hub s
 ends_present s last new Waiting d e p = subst (λ v. IsPresentIn v.hub s) (sym e) p
@@ -51,6 +52,15 @@ module _ {T : Type 0} (tells : Bool) (traffic : T → Traffic) where
   driven_once earlier later old answer stream state ready is drove =
       let new : Entry T = record { session = old.session; stream = stream; state = state } in
       subst (λ (s : EntryState). DrivenIn tells traffic s earlier old later new) (sym ready) (record { answer = answer; drove = drove; session = refl; state = is })
+
+  -- one that isn't ready is left alone
+  pub left_alone : {D : Type 0} {g : Ghosts D} (hub : Hub D g) (old : Entry T) → NoneRuns hub → old.state ≢ Ready → Leads hub hub (λ h k. DrivenEntry tells traffic h old k old)
+  left_alone hub old none differs = leads_none hub none _ (λ h at. by old.state differs h)
+    where
+      by : (state : EntryState) → state ≢ Ready → (h : Point) → DrivenIn tells traffic state h old h old
+      by Ready d h = absurd (d refl)
+      by Idle d h = (refl, refl)
+      by EntryGone d h = (refl, refl)
 
   -- each other session is as it was
   entry_other : (state : EntryState) (earlier : Point) (old : Entry T) (later : Point) (new : Entry T) → old.state ≡ state → DrivenIn tells traffic state earlier old later new
@@ -127,8 +137,8 @@ module _ {T : Type 0} (tells : Bool) (traffic : T → Traffic) where
   drop_next : (key : ℕ) (slots new : List (Option (Entry T))) → drop key new ≡ drop key slots → drop (key + 1) new ≡ drop (key + 1) slots
   drop_next key slots new e = sym (drop-drop 1 key new) ∙ ap (λ (l : List (Option (Entry T))). drop 1 l) e ∙ drop-drop 1 key slots
 
-  pub entries_none : {D : Type 0} {g : Ghosts D} (hub : Hub D g) (slots : List (Option (Entry T))) → HaveSessions hub slots → EntriesSoFar tells traffic 0 hub slots hub slots
-  entries_none hub slots has = record { counted = omega arith; driven = λ h stands. (h, stands, (refl, refl)); rest = refl; len = refl; sessions = has; numbers = λ key entry e. (entry, e, refl) }
+  pub entries_none : {D : Type 0} {g : Ghosts D} (hub : Hub D g) (slots : List (Option (Entry T))) → NoneRuns hub → HaveSessions hub slots → EntriesSoFar tells traffic 0 hub slots hub slots
+  entries_none hub slots none has = record { driven = leads_none hub none _ (λ h stands. (refl, refl)); rest = refl; len = refl; sessions = has; numbers = λ key entry e. (entry, e, refl) }
 
   one_vacant : (key : ℕ) (slots new : List (Option (Entry T))) → length new ≡ length slots → drop key new ≡ drop key slots → get_or new key None ≡ None → (h k : Point) → DrivenAll tells traffic h (take key slots) k (take key new)
       → DrivenAll tells traffic h (take (key + 1) slots) k (take (key + 1) new)
@@ -142,7 +152,6 @@ module _ {T : Type 0} (tells : Bool) (traffic : T → Traffic) where
   pub entries_vacant : {D : Type 0} {g : Ghosts D} (key : ℕ) (hub : Hub D g) (slots : List (Option (Entry T))) (later : Hub D g) (new : List (Option (Entry T))) → EntriesSoFar tells traffic key hub slots later new
       → get_or new key None ≡ None → EntriesSoFar tells traffic (key + 1) hub slots later new
   entries_vacant key hub slots later new p none = record {
-    counted = p.counted;
     driven =
         leads_map hub later (λ h k. DrivenAll tells traffic h (take key slots) k (take key new)) (λ h k. DrivenAll tells traffic h (take (key + 1) slots) k (take (key + 1) new)) p.driven
         (λ h k stands now. one_vacant key slots new p.len p.rest none h k now);
@@ -160,13 +169,12 @@ module _ {T : Type 0} (tells : Bool) (traffic : T → Traffic) where
       rw (take_more slots key None lt, take_more_set new key (Some entry) lt_new, same_slot key slots new rest, is)
       (driven_more h (take key slots) k (take key new) (Some old) l (Some entry) now (entry, refl, d))
 
-  pub entries_driven : {D : Type 0} {g : Ghosts D} (key : ℕ) (hub : Hub D g) (slots : List (Option (Entry T))) (mid : Hub D g) (new : List (Option (Entry T))) (old : Entry T) (later : Hub D g) (entry : Entry T)
+  pub entries_driven : {D : Type 0} {g : Ghosts D} → Follow D g → (key : ℕ) (hub : Hub D g) (slots : List (Option (Entry T))) (mid : Hub D g) (new : List (Option (Entry T))) (old : Entry T) (later : Hub D g) (entry : Entry T)
       → EntriesSoFar tells traffic key hub slots mid new → get_or new key None ≡ Some old → entry.session ≡ old.session → (old.state ≡ EntryGone → entry.state ≡ EntryGone)
-      → failures mid ≤ failures later → Leads mid later (λ h k. DrivenEntry tells traffic h old k entry) → EntriesSoFar tells traffic (key + 1) hub slots later (set new key (Some entry))
-  entries_driven key hub slots mid new old later entry p is same stays counted leads = record {
-    counted = (let so_far = p.counted in omega arith);
+      → Leads mid later (λ h k. DrivenEntry tells traffic h old k entry) → EntriesSoFar tells traffic (key + 1) hub slots later (set new key (Some entry))
+  entries_driven follow key hub slots mid new old later entry p is same stays leads = record {
     driven =
-        leads_then hub mid later (λ h k. DrivenAll tells traffic h (take key slots) k (take key new)) (λ h k. DrivenEntry tells traffic h old k entry)
+        leads_then follow hub mid later (λ h k. DrivenAll tells traffic h (take key slots) k (take key new)) (λ h k. DrivenEntry tells traffic h old k entry)
         (λ h k. DrivenAll tells traffic h (take (key + 1) slots) k (take (key + 1) (set new key (Some entry)))) p.driven leads
         (λ h k l stands now d. one_driven key slots new old entry p.len p.rest is h k l now d);
     rest = rw (drop-set-lt (key + 1) new key (Some entry) (omega arith)) (drop_next key slots new p.rest);

@@ -1,15 +1,15 @@
 -- What a drive does to the hub and to the stream.
-use Rattle.std.specs.Prelude.{◌≡◌, ◌≢◌, ◌⊎◌, ℕ, ◌≤◌, Bool, IsTrue, [], ◌++◌, length}
+use Rattle.std.specs.Prelude.{◌≡◌, ◌≢◌, ◌⊎◌, ℕ, ◌≤◌, Bool, IsTrue, [], ◌∷◌, ◌++◌, length}
 use Rattle.sessions.specs.declared.events.Status.TheVariants.{Open, Ending, Refused}
 use Rattle.engine.specs.Meaning.{has_risen}
-use Rattle.sessions.specs.SessionStreams.{HubState, Leaves, Choice, hub_step}
+use Rattle.sessions.specs.SessionStreams.{HubState, Leaves, Choice}
 use Rattle.stream_driver.specs.declared.answers.Call.TheVariants.{Read, Write}
 use Rattle.stream_driver.specs.declared.answers.ReadAnswer.TheVariants.{Blocked as ReadBlocked, Failed as ReadFailed, Ended as ReadEnded}
 use Rattle.stream_driver.specs.declared.answers.WriteAnswer.TheVariants.{Blocked as WriteBlocked, Failed as WriteFailed}
 use Rattle.stream_driver.specs.declared.answers.Progress.{Progress}
 use Rattle.stream_driver.specs.declared.answers.Progress.TheVariants.{Waiting, Again, Gone}
 use Rattle.stream_driver.specs.Traffic.{Traffic, AllMoved, EndsWith}
-use Rattle.stream_driver.specs.Sessions.{Point, Runs, AwaitsMore, ComeInTurn, status_at, pending_at}
+use Rattle.stream_driver.specs.Sessions.{Adds, Point, Runs, AwaitsMore, ComeInTurn, status_at, pending_at}
 
 -- a run of one session over a stream: what the stream gave received in, each time where the session waited for it, and what was sent the stream took
 pub record Carried (s : ℕ) (tells : Bool) (old : Point) (before : Traffic) (new : Point) (after : Traffic) : Type 0 where
@@ -34,7 +34,7 @@ Why s last before after served sent Gone =
 -- the session leaves
 pub record Departs (s : ℕ) (last new : Point) : Type 0 where
   pub choice : Choice
-  pub leaves : new.hub ≡ (hub_step last.hub (Leaves s) choice).0
+  pub adds : Adds last ((Leaves s, choice) ∷ []) new
   pub counted : last.failures ≤ new.failures
   pub failed : choice.failed ≡ has_risen last.failures new.failures
 

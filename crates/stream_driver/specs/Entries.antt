@@ -1,8 +1,7 @@
 -- What a turn over the table of connections does.
-use Rattle.std.specs.Prelude.{◌≡◌, ◌≢◌, ℕ, ◌≤◌, ◌&&◌, Bool, true, false, List, [], ◌∷◌, Option, Some, None, slice_index_or, take, drop, length}
+use Rattle.std.specs.Prelude.{◌≡◌, ◌≢◌, ℕ, ◌&&◌, Bool, true, false, List, [], ◌∷◌, Option, Some, None, slice_index_or, take, drop, length}
 use Rattle.sector.specs.declared.device.Sectors.{Ghosts}
 use Rattle.sessions.specs.declared.hub.Hub.{Hub}
-use Rattle.sessions.specs.StandsFor.{failures}
 use Rattle.stream_driver.specs.declared.answers.Progress.{Progress}
 use Rattle.stream_driver.specs.declared.answers.Progress.TheVariants.{Waiting, Again, Gone}
 use Rattle.stream_driver.specs.declared.entries.EntryState.{EntryState}
@@ -59,7 +58,6 @@ module _ {T : Type 0} (tells : Bool) (traffic : T → Traffic) where
 
   -- the slots below a key were driven, and the others stand as they were
   pub record EntriesSoFar {D : Type 0} {g : Ghosts D} (key : ℕ) (hub : Hub D g) (slots : List (Option (Entry T))) (later : Hub D g) (new : List (Option (Entry T))) : Type 0 where
-    pub counted : failures hub ≤ failures later
     pub driven : Leads hub later (λ h k. DrivenAll h (take key slots) k (take key new))
     pub rest : drop key new ≡ drop key slots
     pub len : length new ≡ length slots

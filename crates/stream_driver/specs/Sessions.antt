@@ -1,5 +1,5 @@
 -- One session of a hub, and what a run of its events adds to its history.
-use Rattle.std.specs.Prelude.{◌≡◌, ◌≢◌, ℕ, ◌≤◌, true, List, [], ◌∷◌, ◌++◌, Option, Some, None}
+use Rattle.std.specs.Prelude.{◌≡◌, ◌≢◌, ℕ, ◌≤◌, true, List, [], ◌∷◌, ◌++◌, map, Option, Some, None}
 use Rattle.std.specs.List.{flat_map, AllByRecursion}
 use Rattle.model.specs.Map.{Bytes}
 use Rattle.model.specs.Operations.{Response}
@@ -12,7 +12,7 @@ use Rattle.engine.specs.Meaning.{has_risen}
 use Rattle.sessions.specs.declared.hub.Hub.{Hub}
 use Rattle.sessions.specs.SessionStreams.{HubState, SessionStream, HubEvent, Joins, Receives, Serves, Sends, Leaves, Choice, ArePossible, hub_step, run, stream_of}
 use Rattle.sessions.specs.StandsFor.{StandsFor, status_in, room_in, pending_in, failures}
-use Rattle.sessions.specs.Laws.{failures_in}
+use Rattle.sessions.specs.Laws.{HasRun, RunsBy, failures_in}
 
 abbrev pub inbox_in : Option SessionStream → Bytes
 inbox_in None = []
@@ -49,19 +49,38 @@ Stands hub = InSomeState hub (λ h. Unit {0})
 abbrev pub IsPresent : {D : Type 0} {g : Ghosts D} → Hub D g → ℕ → Type 0
 IsPresent hub s = InSomeState hub (λ h. IsPresentIn h s)
 
--- a state, and how many calls of the device have failed by then
+-- a state, how many calls of the device have failed by then, and the events so far
 pub record Point : Type 0 where
   pub hub : HubState
   pub failures : ℕ
+  pub events : List HubEvent
 
 -- the hub stands for this state, and so many calls of its device have failed
 pub record StandsAt {D : Type 0} {g : Ghosts D} (hub : Hub D g) (p : Point) : Type 0 where
   pub state : StandsFor hub p.hub
   pub count : p.failures ≡ failures hub
 
--- from every point at which the old hub stands to one at which the new hub stands and that is so related to it
-abbrev pub Leads : {D : Type 0} {g : Ghosts D} → Hub D g → Hub D g → (Point → Point → Type 0) → Type 0
-Leads old new P = (h : Point) → StandsAt old h → (k : Point) × StandsAt new k × P h k
+-- these events, with their choices, lead from one point to the other
+pub record Adds (old : Point) (choices : List (HubEvent × Choice)) (new : Point) : Type 0 where
+  pub run_is : new.hub ≡ run old.hub choices
+  pub events_are : new.events ≡ old.events ++ map (λ e. e.0) choices
+
+-- What happened between the two points is a run, at whose end the new hub stands: lawful at each moment, with the device's failures
+-- counted, and what a crash leaves known.
+pub record RunsTo {D : Type 0} {g : Ghosts D} (old new : Hub D g) (h k : Point) : Type 0 where
+  pub choices : List (HubEvent × Choice)
+  pub adds : Adds h choices k
+  pub ran : RunsBy old new h.hub choices
+  pub count : k.failures ≡ failures new
+
+-- from every point at which the old hub stands a run leads to one at which the new hub stands and that is so related to it
+pub record Leads {D : Type 0} {g : Ghosts D} (old new : Hub D g) (P : Point → Point → Type 0) : Type 0 where
+  pub counted : failures old ≤ failures new
+  pub to : (h : Point) → StandsAt old h → (k : Point) × RunsTo old new h k × P h k
+
+-- it is a run of the hub, whatever else is said of the points
+abbrev pub LeadsAreRuns : {D : Type 0} {g : Ghosts D} → Hub D g → Type 0
+LeadsAreRuns {D} {g} hub = (old new : Hub D g) → Leads old new (λ h k. Unit {0}) → HasRun old new
 
 -- whose event it is
 abbrev pub session_of : HubEvent → ℕ
@@ -90,7 +109,7 @@ pub record Runs (s : ℕ) (old new : Point) : Type 0 where
   pub events : List (HubEvent × Choice)
   pub own : AllByRecursion (λ e. session_of e.0 ≡ s) events
   pub possible : ArePossible old.hub events
-  pub run_is : new.hub ≡ run old.hub events
+  pub adds : Adds old events new
   pub counted : old.failures ≤ new.failures
   pub risen_then : 1 ≤ failures_in events → has_risen old.failures new.failures ≡ true
   pub first : SessionStream

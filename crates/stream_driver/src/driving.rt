@@ -1,7 +1,6 @@
 //! One drive.
 ghost use Rattle.std.specs.Prelude.{◌≡◌, ◌<◌, length, []};
 ghost use Rattle.sessions.specs.declared.events.Status.TheVariants.{Open};
-ghost use Rattle.sessions.specs.Laws.{HasRun};
 ghost use Rattle.stream_driver.specs.Sessions.{AwaitsMore, InSomeState, IsPresent, IsPresentIn, Leads, pending_at, status_at, room_at};
 ghost use Rattle.stream_driver.specs.Drives.{Drove, Departs};
 ghost use Rattle.stream_driver.specs.Calls.{WritesSome, Flushes, ReadsSome, Exchanges};
@@ -42,7 +41,6 @@ enum Exchange {
 // One write of what is pending.
 fn write_some<D: Sectors, S: Stream>(hub: &mut Hub<D>, s: u64, stream: &mut S) -> WriteAnswer
     requires { InSomeState hub.old (λ h. IsPresentIn h s × (0 < length (pending_at h s))) }
-    ensures ran { HasRun hub.old hub.new }
     ensures written { Leads hub.old hub.new (λ h k. WritesSome s S.tells h (S.traffic stream.old) result k (S.traffic stream.new)) }
 {
     hub.runs_follow();
@@ -56,7 +54,6 @@ fn write_some<D: Sectors, S: Stream>(hub: &mut Hub<D>, s: u64, stream: &mut S) -
 // Writes what is pending, as far as the stream takes it.
 fn write_out<D: Sectors, S: Stream>(hub: &mut Hub<D>, s: u64, stream: &mut S) -> Flush
     requires { IsPresent hub.old s }
-    ensures ran { HasRun hub.old hub.new }
     ensures written { Leads hub.old hub.new (λ h k. Flushes s S.tells h (S.traffic stream.old) result k (S.traffic stream.new)) }
 {
     hub.runs_follow();
@@ -80,7 +77,6 @@ fn read_some<D: Sectors, S: Stream>(
 ) -> ReadAnswer
     requires some { 0 < room }
     requires opened { InSomeState hub.old (λ h. (status_at h s ≡ Open) × (room ≡ room_at h s)) }
-    ensures ran { HasRun hub.old hub.new }
     ensures read { Leads hub.old hub.new (λ h k. AwaitsMore h.hub s → ReadsSome s S.tells h (S.traffic stream.old) result k (S.traffic stream.new)) }
 {
     hub.runs_follow();
@@ -97,7 +93,6 @@ fn read_some<D: Sectors, S: Stream>(
 // Reads until one request can be served, and serves it.
 fn serve_one<D: Sectors, S: Stream>(hub: &mut Hub<D>, s: u64, stream: &mut S) -> Exchange
     requires { InSomeState hub.old (λ h. (status_at h s ≡ Open) × (pending_at h s ≡ [])) }
-    ensures ran { HasRun hub.old hub.new }
     ensures served { Leads hub.old hub.new (λ h k. Exchanges s S.tells h (S.traffic stream.old) result k (S.traffic stream.new)) }
 {
     hub.runs_follow();
@@ -125,7 +120,6 @@ fn serve_one<D: Sectors, S: Stream>(hub: &mut Hub<D>, s: u64, stream: &mut S) ->
 // The session leaves.
 fn depart<D: Sectors>(hub: &mut Hub<D>, s: u64) -> Progress
     ensures answer { result ≡ Progress.Gone }
-    ensures ran { HasRun hub.old hub.new }
     ensures left { Leads hub.old hub.new (λ h k. Departs s h k) }
 {
     let _ = hub.step(&Event::Left(s));
@@ -143,12 +137,11 @@ fn depart<D: Sectors>(hub: &mut Hub<D>, s: u64) -> Progress
 /// failed, the stream ended (what was read of a request is dropped), a request was refused memory, or there was a broken frame, whose reply
 /// is written. Other sessions are unchanged.
 ///
-/// What it did is a run of the hub: lawful at each moment, with the device's failures counted, and what a crash leaves known.
+/// Its events are a run of the hub: lawful at each moment, with the device's failures counted, and what a crash leaves known.
 ///
 /// It may grow what the requests grow, and the output of the session.
 pub fn drive<D: Sectors, S: Stream>(hub: &mut Hub<D>, s: u64, stream: &mut S) -> Progress
     requires { IsPresent hub.old s }
-    ensures ran { HasRun hub.old hub.new }
     ensures driven { Leads hub.old hub.new (λ h k. Drove s S.tells h (S.traffic stream.old) result k (S.traffic stream.new)) }
 {
     hub.runs_follow();

@@ -1,6 +1,5 @@
 //! A table of connections.
 ghost use Rattle.std.specs.Prelude.{◌≡◌, ◌≢◌};
-ghost use Rattle.sessions.specs.Laws.{HasRun};
 ghost use Rattle.stream_driver.specs.Sessions.{IsPresent, Leads};
 ghost use Rattle.stream_driver.specs.Entries.{DrivenEntry, DrivenAll, HaveSessions, KeepSessions, EndsDrive, is_over};
 
@@ -34,7 +33,6 @@ pub struct Entry<S: Stream> {
 // Drives an entry, if it is ready.
 fn drive_entry<D: Sectors, S: Stream>(hub: &mut Hub<D>, entry: &mut Entry<S>)
     requires { entry.old.state ≢ EntryState.Gone → IsPresent hub.old entry.old.session }
-    ensures ran { HasRun hub.old hub.new }
     ensures driven { Leads hub.old hub.new (λ h k. DrivenEntry S.tells S.traffic h entry.old k entry.new) }
     ensures session { entry.new.session ≡ entry.old.session }
     ensures gone { entry.old.state ≡ EntryState.Gone → entry.new.state ≡ EntryState.Gone }
@@ -57,7 +55,6 @@ fn drive_entry<D: Sectors, S: Stream>(hub: &mut Hub<D>, entry: &mut Entry<S>)
 /// It may grow what the requests grow, and the outputs of the sessions.
 pub fn drive_ready<D: Sectors, S: Stream>(hub: &mut Hub<D>, table: &mut Slab<Entry<S>>)
     requires { HaveSessions hub.old table.old.slots }
-    ensures ran { HasRun hub.old hub.new }
     ensures driven { Leads hub.old hub.new (λ h k. DrivenAll S.tells S.traffic h table.old.slots k table.new.slots) }
     ensures sessions { HaveSessions hub.new table.new.slots }
     ensures numbers { KeepSessions table.old.slots table.new.slots }

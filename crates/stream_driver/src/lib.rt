@@ -7,6 +7,7 @@ mod buffered;
 mod driving;
 mod entries;
 mod held;
+mod laws;
 mod stream;
 
 pub use answers::{Call, Progress, ReadAnswer, WriteAnswer};
@@ -14,4 +15,5 @@ pub use buffered::{BufferedStream, Flushed};
 pub use driving::{OUTPUT_MAX, READ_MAX, REQUESTS_MAX, drive};
 pub use entries::{Entry, EntryState, drive_ready, end_drive};
 pub use held::HELD_MAX;
+pub use laws::leads_are_runs;
 pub use stream::Stream;

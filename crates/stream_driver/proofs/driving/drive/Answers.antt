@@ -1,63 +1,60 @@
 use Rattle.std.proofs.Common.{inl, inr, ◌≡◌, ◌+◌, ◌<◌, ◌≤◌, length, arith, sym, ap, ◌∙◌, []}
 use Rattle.sessions.specs.declared.events.Status.TheVariants.{Open}
 use Rattle.stream_driver.specs.Sessions.{status_at, pending_at}
-use Rattle.stream_driver.proofs.States.{present_at, leads_then, leads_two_at, leads_three, leads_three_at, leads_four, some_after}
+use Rattle.stream_driver.proofs.States.{present_at, leads_none, leads_then, leads_two_at, leads_three, leads_three_at, leads_four, some_after}
 use Rattle.stream_driver.proofs.Loops.{driven_none, driven_flushed, out_served, out_broke, again_full, waits_to_write, waits_to_read, gone_writing, gone_serving, gone_closed, again}
 use Rattle.stream_driver.proofs.driving.drive.Goals as goal
 
 pub requests-init : goal.requests-init
 requests-init g c =
-    (c.runs_follow.ensures.none, λ h stands. (h, stands, record { driven = driven_none c.args.s g.S.Stream.tells h (g.S.Stream.traffic c.args.stream.now) (present_at c.args.hub.now c.args.s h.hub stands.state _ c.requires (λ k p. p)); out = omega arith }))
+    leads_none c.args.hub.now c.runs_follow.ensures.none _
+    (λ h stands. record { driven = driven_none c.args.s g.S.Stream.tells h (g.S.Stream.traffic c.args.stream.now) (present_at c.args.hub.now c.args.s h.hub stands.state _ c.requires (λ k p. p)); out = omega arith })
 
 pub write_out-requires : goal.write_out-requires
-write_out-requires g c = some_after c.args.hub.now c.requests.hub _ _ _ c.requires c.requests.invariant.1 (λ h k before p. p.driven.carried.runs.present)
+write_out-requires g c = some_after c.args.hub.now c.requests.hub _ _ _ c.requires c.requests.invariant (λ h k before p. p.driven.carried.runs.present)
 
 pub returns-in-Blocked : goal.returns-in-Blocked
 returns-in-Blocked g c =
     record {
-      ran = c.runs_follow.ensures.follow _ _ _ c.requests.invariant.0 c.write_out.ensures.ran;
       driven =
           let below : c.requests._served ≤ 64 = omega arith in
-          leads_then c.args.hub.now c.requests.hub c.write_out.new.hub _ _ _ c.requests.invariant.1 c.in-Blocked.ensures.written
+          leads_then c.runs_follow.ensures.follow c.args.hub.now c.requests.hub c.write_out.new.hub _ _ _ c.requests.invariant c.in-Blocked.ensures.written
           (λ h k l stands p q. waits_to_write c.args.s g.S.Stream.tells h (g.S.Stream.traffic c.args.stream.now) k (g.S.Stream.traffic c.requests.stream) l (g.S.Stream.traffic c.write_out.new.stream) c.requests._served p.driven below q);
     }
 
 pub returns-in-Failed : goal.returns-in-Failed
 returns-in-Failed g c =
     record {
-      ran = c.runs_follow.ensures.follow _ _ _ (c.runs_follow.ensures.follow _ _ _ c.requests.invariant.0 c.write_out.ensures.ran) c.depart.ensures.ran;
       driven =
           let below : c.requests._served ≤ 64 = omega arith in
           rw c.depart.ensures.answer
-          (leads_three c.args.hub.now c.requests.hub c.write_out.new.hub c.depart.new.hub _ _ _ _ c.requests.invariant.1 c.in-Failed.ensures.written c.depart.ensures.left
+          (leads_three c.runs_follow.ensures.follow c.args.hub.now c.requests.hub c.write_out.new.hub c.depart.new.hub _ _ _ _ c.requests.invariant c.in-Failed.ensures.written c.depart.ensures.left
           (λ h k l m stands p q r. gone_writing c.args.s g.S.Stream.tells h (g.S.Stream.traffic c.args.stream.now) k (g.S.Stream.traffic c.requests.stream) l (g.S.Stream.traffic c.write_out.new.stream) c.requests._served p.driven m r below q));
     }
 
 pub returns-in_default : goal.returns-in_default
 returns-in_default g c =
     record {
-      ran = c.runs_follow.ensures.follow _ _ _ (c.runs_follow.ensures.follow _ _ _ c.requests.invariant.0 c.write_out.ensures.ran) c.depart-in_default.ensures.ran;
       driven =
           let below : c.requests._served ≤ 64 = omega arith in
           rw c.depart-in_default.ensures.answer
-          (leads_three c.args.hub.now c.requests.hub c.write_out.new.hub c.depart-in_default.new.hub _ _ _ _ c.requests.invariant.1 c.in-Empty.ensures.written c.depart-in_default.ensures.left
+          (leads_three c.runs_follow.ensures.follow c.args.hub.now c.requests.hub c.write_out.new.hub c.depart-in_default.new.hub _ _ _ _ c.requests.invariant c.in-Empty.ensures.written c.depart-in_default.ensures.left
           (λ h k l m stands p q r. gone_closed c.args.s g.S.Stream.tells h (g.S.Stream.traffic c.args.stream.now) k (g.S.Stream.traffic c.requests.stream) l (g.S.Stream.traffic c.write_out.new.stream) c.requests._served p.driven m r below q (λ e. c.in_default.not-Open (c.status.ensures l.hub stands ∙ e))));
     }
 
 pub serve_one-requires : goal.serve_one-requires
 serve_one-requires g c =
     some_after c.args.hub.now c.write_out.new.hub _ _ _ c.requires
-    (leads_then c.args.hub.now c.requests.hub c.write_out.new.hub _ _ (λ h l. (status_at l.hub c.args.s ≡ Open) × (pending_at l.hub c.args.s ≡ [])) c.requests.invariant.1 c.in-Empty.ensures.written
+    (leads_then c.runs_follow.ensures.follow c.args.hub.now c.requests.hub c.write_out.new.hub _ _ (λ h l. (status_at l.hub c.args.s ≡ Open) × (pending_at l.hub c.args.s ≡ [])) c.requests.invariant c.in-Empty.ensures.written
     (λ h k l stands p q. (sym (c.in-Open.ensures l.hub stands), q.why.1)))
     (λ h l before r. r)
 
 pub returns-in-Blocked-serve_one : goal.returns-in-Blocked-serve_one
 returns-in-Blocked-serve_one g c =
     record {
-      ran = c.runs_follow.ensures.follow _ _ _ (c.runs_follow.ensures.follow _ _ _ c.requests.invariant.0 c.write_out.ensures.ran) c.serve_one.ensures.ran;
       driven =
           let fewer : c.requests._served < 64 = omega arith in
-          leads_three c.args.hub.now c.requests.hub c.write_out.new.hub c.serve_one.new.hub _ _ _ _ c.requests.invariant.1 c.in-Empty.ensures.written c.in-Blocked-serve_one.ensures.served
+          leads_three c.runs_follow.ensures.follow c.args.hub.now c.requests.hub c.write_out.new.hub c.serve_one.new.hub _ _ _ _ c.requests.invariant c.in-Empty.ensures.written c.in-Blocked-serve_one.ensures.served
           (λ h k l m stands p q r.
           waits_to_read c.args.s g.S.Stream.tells h (g.S.Stream.traffic c.args.stream.now) l (g.S.Stream.traffic c.write_out.new.stream) m (g.S.Stream.traffic c.serve_one.new.stream) c.requests._served
           (driven_flushed c.args.s g.S.Stream.tells h (g.S.Stream.traffic c.args.stream.now) k (g.S.Stream.traffic c.requests.stream) l (g.S.Stream.traffic c.write_out.new.stream) c.requests._served p.driven q.moves q.why.0) fewer r);
@@ -66,11 +63,10 @@ returns-in-Blocked-serve_one g c =
 pub returns-in_default-serve_one : goal.returns-in_default-serve_one
 returns-in_default-serve_one g c =
     record {
-      ran = c.runs_follow.ensures.follow _ _ _ (c.runs_follow.ensures.follow _ _ _ (c.runs_follow.ensures.follow _ _ _ c.requests.invariant.0 c.write_out.ensures.ran) c.serve_one.ensures.ran) c.depart-in_default-serve_one.ensures.ran;
       driven =
           let fewer : c.requests._served < 64 = omega arith in
           rw c.depart-in_default-serve_one.ensures.answer
-          (leads_four c.args.hub.now c.requests.hub c.write_out.new.hub c.serve_one.new.hub c.depart-in_default-serve_one.new.hub _ _ _ _ _ c.requests.invariant.1 c.in-Empty.ensures.written c.serve_one.ensures.served c.depart-in_default-serve_one.ensures.left
+          (leads_four c.runs_follow.ensures.follow c.args.hub.now c.requests.hub c.write_out.new.hub c.serve_one.new.hub c.depart-in_default-serve_one.new.hub _ _ _ _ _ c.requests.invariant c.in-Empty.ensures.written c.serve_one.ensures.served c.depart-in_default-serve_one.ensures.left
           (λ h k l m n p q r t.
           gone_serving c.args.s g.S.Stream.tells h (g.S.Stream.traffic c.args.stream.now) l (g.S.Stream.traffic c.write_out.new.stream) m (g.S.Stream.traffic c.serve_one.new.stream) c.requests._served
           (driven_flushed c.args.s g.S.Stream.tells h (g.S.Stream.traffic c.args.stream.now) k (g.S.Stream.traffic c.requests.stream) l (g.S.Stream.traffic c.write_out.new.stream) c.requests._served p.driven q.moves q.why.0) n t fewer c.serve_one.result
@@ -78,74 +74,70 @@ returns-in_default-serve_one g c =
     }
 
 pub write_out-requires-2 : goal.write_out-requires-2
-write_out-requires-2 g c = some_after c.args.hub.now c.requests.hub _ _ _ c.requires c.requests.invariant.1 (λ h k before p. p.driven.carried.runs.present)
+write_out-requires-2 g c = some_after c.args.hub.now c.requests.hub _ _ _ c.requires c.requests.invariant (λ h k before p. p.driven.carried.runs.present)
 
 pub returns-in-Blocked-write_out : goal.returns-in-Blocked-write_out
 returns-in-Blocked-write_out g c =
     record {
-      ran = c.runs_follow.ensures.follow _ _ _ c.requests.invariant.0 c.write_out-2.ensures.ran;
       driven =
           let below : c.requests._served ≤ 64 = omega arith in
-          leads_then c.args.hub.now c.requests.hub c.write_out-2.new.hub _ _ _ c.requests.invariant.1 c.in-Blocked-write_out.ensures.written
+          leads_then c.runs_follow.ensures.follow c.args.hub.now c.requests.hub c.write_out-2.new.hub _ _ _ c.requests.invariant c.in-Blocked-write_out.ensures.written
           (λ h k l stands p q. waits_to_write c.args.s g.S.Stream.tells h (g.S.Stream.traffic c.args.stream.now) k (g.S.Stream.traffic c.requests.stream) l (g.S.Stream.traffic c.write_out-2.new.stream) c.requests._served p.driven below q);
     }
 
 pub returns-in-Failed-write_out : goal.returns-in-Failed-write_out
 returns-in-Failed-write_out g c =
     record {
-      ran = c.runs_follow.ensures.follow _ _ _ (c.runs_follow.ensures.follow _ _ _ c.requests.invariant.0 c.write_out-2.ensures.ran) c.depart-in-Failed-write_out.ensures.ran;
       driven =
           let below : c.requests._served ≤ 64 = omega arith in
           rw c.depart-in-Failed-write_out.ensures.answer
-          (leads_three c.args.hub.now c.requests.hub c.write_out-2.new.hub c.depart-in-Failed-write_out.new.hub _ _ _ _ c.requests.invariant.1 c.in-Failed-write_out.ensures.written c.depart-in-Failed-write_out.ensures.left
+          (leads_three c.runs_follow.ensures.follow c.args.hub.now c.requests.hub c.write_out-2.new.hub c.depart-in-Failed-write_out.new.hub _ _ _ _ c.requests.invariant c.in-Failed-write_out.ensures.written c.depart-in-Failed-write_out.ensures.left
           (λ h k l m stands p q r. gone_writing c.args.s g.S.Stream.tells h (g.S.Stream.traffic c.args.stream.now) k (g.S.Stream.traffic c.requests.stream) l (g.S.Stream.traffic c.write_out-2.new.stream) c.requests._served p.driven m r below q));
     }
 
 pub returns-in-Open-status : goal.returns-in-Open-status
 returns-in-Open-status g c =
     record {
-      ran = c.runs_follow.ensures.follow _ _ _ c.requests.invariant.0 c.write_out-2.ensures.ran;
       driven =
           let all : c.requests._served ≡ 64 = omega arith in
-          leads_then c.args.hub.now c.requests.hub c.write_out-2.new.hub _ _ _ c.requests.invariant.1 c.in-Empty-write_out.ensures.written
+          leads_then c.runs_follow.ensures.follow c.args.hub.now c.requests.hub c.write_out-2.new.hub _ _ _ c.requests.invariant c.in-Empty-write_out.ensures.written
           (λ h k l stands p q. again c.args.s g.S.Stream.tells h (g.S.Stream.traffic c.args.stream.now) k (g.S.Stream.traffic c.requests.stream) l (g.S.Stream.traffic c.write_out-2.new.stream) c.requests._served p.driven q all (sym (c.in-Open-status.ensures l.hub stands)));
     }
 
 pub returns-in_default-status : goal.returns-in_default-status
 returns-in_default-status g c =
     record {
-      ran = c.runs_follow.ensures.follow _ _ _ (c.runs_follow.ensures.follow _ _ _ c.requests.invariant.0 c.write_out-2.ensures.ran) c.depart-in_default-status.ensures.ran;
       driven =
           let below : c.requests._served ≤ 64 = omega arith in
           rw c.depart-in_default-status.ensures.answer
-          (leads_three c.args.hub.now c.requests.hub c.write_out-2.new.hub c.depart-in_default-status.new.hub _ _ _ _ c.requests.invariant.1 c.in-Empty-write_out.ensures.written c.depart-in_default-status.ensures.left
+          (leads_three c.runs_follow.ensures.follow c.args.hub.now c.requests.hub c.write_out-2.new.hub c.depart-in_default-status.new.hub _ _ _ _ c.requests.invariant c.in-Empty-write_out.ensures.written c.depart-in_default-status.ensures.left
           (λ h k l m stands p q r. gone_closed c.args.s g.S.Stream.tells h (g.S.Stream.traffic c.args.stream.now) k (g.S.Stream.traffic c.requests.stream) l (g.S.Stream.traffic c.write_out-2.new.stream) c.requests._served p.driven m r below q (λ e. c.in_default-status.not-Open (c.status-2.ensures l.hub stands ∙ e))));
     }
 
 pub requests-preserved : goal.requests-preserved
 requests-preserved g c =
-    let added : c.saturating_add-sent.result ≤ c.requests.sent + length c.pending-owed.result.now = omega (arith, c.saturating_add-sent.ensures) in (
-      c.runs_follow.ensures.follow _ _ _ (c.runs_follow.ensures.follow _ _ _ c.requests.invariant.0 c.write_out.ensures.ran) c.serve_one.ensures.ran,
-      elim c.in-Served.is [
-        | inl e ↦
-            leads_three_at c.args.hub.now c.requests.hub c.write_out.new.hub c.serve_one.new.hub _ _ _ _ c.requests.invariant.1 c.in-Empty.ensures.written (rw e at c.serve_one.ensures.served)
-            (λ h k l m was stands p q r.
-            out_served c.args.s g.S.Stream.tells h (g.S.Stream.traffic c.args.stream.now) k (g.S.Stream.traffic c.requests.stream) l (g.S.Stream.traffic c.write_out.new.stream) m (g.S.Stream.traffic c.serve_one.new.stream) c.requests._served c.requests.sent
-            (length c.pending-owed.result.now) c.saturating_add-sent.result p (ap length (c.pending-owed.ensures k.hub was)) added q (sym (c.in-Open.ensures l.hub stands)) r)
-        | inr e ↦
-            leads_three_at c.args.hub.now c.requests.hub c.write_out.new.hub c.serve_one.new.hub _ _ _ _ c.requests.invariant.1 c.in-Empty.ensures.written (rw e at c.serve_one.ensures.served)
-            (λ h k l m was stands p q r.
-            out_broke c.args.s g.S.Stream.tells h (g.S.Stream.traffic c.args.stream.now) k (g.S.Stream.traffic c.requests.stream) l (g.S.Stream.traffic c.write_out.new.stream) m (g.S.Stream.traffic c.serve_one.new.stream) c.requests._served c.requests.sent
-            (length c.pending-owed.result.now) c.saturating_add-sent.result p (ap length (c.pending-owed.ensures k.hub was)) added q r)
-      ],
-    )
-
-pub returns-then-sent-ge-OUTPUT_MAX-clause-driven : goal.returns-then-sent-ge-OUTPUT_MAX-clause-driven
-returns-then-sent-ge-OUTPUT_MAX-clause-driven g c =
     let added : c.saturating_add-sent.result ≤ c.requests.sent + length c.pending-owed.result.now = omega (arith, c.saturating_add-sent.ensures) in
-    let below : c.requests._served ≤ 64 = omega arith in
-    let enough : 262144 ≤ c.saturating_add-sent.result = omega (arith, c.if-sent-ge-OUTPUT_MAX.true) in
-    leads_two_at c.args.hub.now c.requests.hub c.write_out.new.hub _ _ _ c.requests.invariant.1 c.in-Empty.ensures.written
-    (λ h k l was stands p q.
-    again_full c.args.s g.S.Stream.tells h (g.S.Stream.traffic c.args.stream.now) k (g.S.Stream.traffic c.requests.stream) l (g.S.Stream.traffic c.write_out.new.stream) c.requests._served p.driven c.requests.sent (length c.pending-owed.result.now)
-    c.saturating_add-sent.result p.out (ap length (c.pending-owed.ensures k.hub was)) added q below enough (sym (c.in-Open.ensures l.hub stands)))
+    elim c.in-Served.is [
+      | inl e ↦
+          leads_three_at c.runs_follow.ensures.follow c.args.hub.now c.requests.hub c.write_out.new.hub c.serve_one.new.hub _ _ _ _ c.requests.invariant c.in-Empty.ensures.written (rw e at c.serve_one.ensures.served)
+          (λ h k l m was stands p q r.
+          out_served c.args.s g.S.Stream.tells h (g.S.Stream.traffic c.args.stream.now) k (g.S.Stream.traffic c.requests.stream) l (g.S.Stream.traffic c.write_out.new.stream) m (g.S.Stream.traffic c.serve_one.new.stream) c.requests._served c.requests.sent
+          (length c.pending-owed.result.now) c.saturating_add-sent.result p (ap length (c.pending-owed.ensures k.hub was)) added q (sym (c.in-Open.ensures l.hub stands)) r)
+      | inr e ↦
+          leads_three_at c.runs_follow.ensures.follow c.args.hub.now c.requests.hub c.write_out.new.hub c.serve_one.new.hub _ _ _ _ c.requests.invariant c.in-Empty.ensures.written (rw e at c.serve_one.ensures.served)
+          (λ h k l m was stands p q r.
+          out_broke c.args.s g.S.Stream.tells h (g.S.Stream.traffic c.args.stream.now) k (g.S.Stream.traffic c.requests.stream) l (g.S.Stream.traffic c.write_out.new.stream) m (g.S.Stream.traffic c.serve_one.new.stream) c.requests._served c.requests.sent
+          (length c.pending-owed.result.now) c.saturating_add-sent.result p (ap length (c.pending-owed.ensures k.hub was)) added q r)
+    ]
+
+pub returns-then-sent-ge-OUTPUT_MAX : goal.returns-then-sent-ge-OUTPUT_MAX
+returns-then-sent-ge-OUTPUT_MAX g c = record {
+  driven =
+      let added : c.saturating_add-sent.result ≤ c.requests.sent + length c.pending-owed.result.now = omega (arith, c.saturating_add-sent.ensures) in
+      let below : c.requests._served ≤ 64 = omega arith in
+      let enough : 262144 ≤ c.saturating_add-sent.result = omega (arith, c.if-sent-ge-OUTPUT_MAX.true) in
+      leads_two_at c.runs_follow.ensures.follow c.args.hub.now c.requests.hub c.write_out.new.hub _ _ _ c.requests.invariant c.in-Empty.ensures.written
+      (λ h k l was stands p q.
+      again_full c.args.s g.S.Stream.tells h (g.S.Stream.traffic c.args.stream.now) k (g.S.Stream.traffic c.requests.stream) l (g.S.Stream.traffic c.write_out.new.stream) c.requests._served p.driven c.requests.sent (length c.pending-owed.result.now)
+      c.saturating_add-sent.result p.out (ap length (c.pending-owed.ensures k.hub was)) added q below enough (sym (c.in-Open.ensures l.hub stands)));
+}

@@ -1,7 +1,6 @@
-use Rattle.sessions.specs.Laws.{HasRun}
 use Rattle.stream_driver.specs.Sessions.{Leads}
 use Rattle.stream_driver.specs.Calls.{DrivenOut}
 use Rattle.stream_driver.proofs.driving.drive.Given as goal
 
 abbrev pub invariant-requests : goal.invariant-requests
-invariant-requests g l = HasRun l.fn.hub l.hub × Leads l.fn.hub l.hub (λ h k. DrivenOut l.fn.s g.S.Stream.tells h (g.S.Stream.traffic l.fn.stream) k (g.S.Stream.traffic l.stream) l._served l.sent)
+invariant-requests g l = Leads l.fn.hub l.hub (λ h k. DrivenOut l.fn.s g.S.Stream.tells h (g.S.Stream.traffic l.fn.stream) k (g.S.Stream.traffic l.stream) l._served l.sent)

@@ -1,49 +1,42 @@
 use Rattle.std.proofs.Common.{◌≤◌, ◌+◌, ◌-◌, arith, sym, ◌∙◌}
 use Rattle.sessions.specs.StandsFor.{failures}
-use Rattle.stream_driver.proofs.States.{open_at, nothing_at, leads_then, leads_step, some_after, le_after}
+use Rattle.stream_driver.proofs.States.{open_at, nothing_at, leads_none, leads_then, leads_step, some_after, le_after}
 use Rattle.stream_driver.proofs.Loops.{read_nothing, read_then, read_within, read_blocked, read_failed, read_ended, serve_starved, serve_open, serve_closed, waits}
 use Rattle.stream_driver.proofs.driving.serve_one.Goals as goal
 
 pub loop-hub-init : goal.loop-hub-init
-loop-hub-init g c = (
-  c.runs_follow.ensures.none,
-  λ h stands. (
-    h,
-    stands,
-    read_nothing c.args.s g.S.Stream.tells h (g.S.Stream.traffic c.args.stream.now) c.room-room.result (open_at c.args.hub.now c.args.s h.hub stands.state _ c.requires (λ k p. p.0)) (nothing_at c.args.hub.now c.args.s h.hub stands.state _ c.requires (λ k p. p.1)) (c.room-room.ensures h.hub stands.state),
-  ),
-)
+loop-hub-init g c =
+    leads_none c.args.hub.now c.runs_follow.ensures.none _
+    (λ h stands.
+    read_nothing c.args.s g.S.Stream.tells h (g.S.Stream.traffic c.args.stream.now) c.room-room.result (open_at c.args.hub.now c.args.s h.hub stands.state _ c.requires (λ k p. p.0)) (nothing_at c.args.hub.now c.args.s h.hub stands.state _ c.requires (λ k p. p.1)) (c.room-room.ensures h.hub stands.state))
 
 pub returns-in-Memory : goal.returns-in-Memory
 returns-in-Memory g c =
     record {
-      ran = c.runs_follow.ensures.follow _ _ _ c.loop-hub.invariant.0 c.step.ensures.ran;
       served =
-          leads_step c.args.hub.now c.loop-hub.hub c.step.new.self _ _ _ c.step.result c.loop-hub.invariant.1 c.step.ensures.step c.step.ensures.device
+          leads_step c.runs_follow.ensures.follow c.args.hub.now c.loop-hub.hub c.step.new.self _ _ _ c.step.result c.loop-hub.invariant c.step.ensures.step c.step.ensures.ran c.step.ensures.device
           (λ h k choice happens is stands p. serve_starved c.args.s g.S.Stream.tells h (g.S.Stream.traffic c.args.stream.now) k (g.S.Stream.traffic c.loop-hub.stream) c.loop-hub.room p choice (failures c.step.new.self) happens c.step.result is c.in-Memory.is);
     }
 
 pub returns-in-Open : goal.returns-in-Open
 returns-in-Open g c =
     record {
-      ran = c.runs_follow.ensures.follow _ _ _ c.loop-hub.invariant.0 c.step.ensures.ran;
       served =
-          leads_step c.args.hub.now c.loop-hub.hub c.step.new.self _ _ _ c.step.result c.loop-hub.invariant.1 c.step.ensures.step c.step.ensures.device
+          leads_step c.runs_follow.ensures.follow c.args.hub.now c.loop-hub.hub c.step.new.self _ _ _ c.step.result c.loop-hub.invariant c.step.ensures.step c.step.ensures.ran c.step.ensures.device
           (λ h k choice happens is stands p. serve_open c.args.s g.S.Stream.tells h (g.S.Stream.traffic c.args.stream.now) k (g.S.Stream.traffic c.loop-hub.stream) c.loop-hub.room p choice (failures c.step.new.self) happens c.step.result is c.in-Done.is (sym (c.in-Open.ensures _ stands)));
     }
 
 pub returns-in_default-status : goal.returns-in_default-status
 returns-in_default-status g c =
     record {
-      ran = c.runs_follow.ensures.follow _ _ _ c.loop-hub.invariant.0 c.step.ensures.ran;
       served =
-          leads_step c.args.hub.now c.loop-hub.hub c.step.new.self _ _ _ c.step.result c.loop-hub.invariant.1 c.step.ensures.step c.step.ensures.device
+          leads_step c.runs_follow.ensures.follow c.args.hub.now c.loop-hub.hub c.step.new.self _ _ _ c.step.result c.loop-hub.invariant c.step.ensures.step c.step.ensures.ran c.step.ensures.device
           (λ h k choice happens is stands p. serve_closed c.args.s g.S.Stream.tells h (g.S.Stream.traffic c.args.stream.now) k (g.S.Stream.traffic c.loop-hub.stream) c.loop-hub.room p choice (failures c.step.new.self) happens c.step.result is c.in-Done.is (λ e. c.in_default-status.not-Open (c.status.ensures _ stands ∙ e)));
     }
 
 pub read_some-requires : goal.read_some-requires
 read_some-requires g c =
-    let waited = waits c.args.hub.now c.loop-hub.hub c.step.new.self c.args.s g.S.Stream.tells (g.S.Stream.traffic c.args.stream.now) (g.S.Stream.traffic c.loop-hub.stream) c.loop-hub.room c.step.result c.loop-hub.invariant.1 c.step.ensures.step c.step.ensures.device c.in_default.not-Done c.in_default.not-Memory in
+    let waited = waits c.runs_follow.ensures.follow c.args.hub.now c.loop-hub.hub c.step.new.self c.args.s g.S.Stream.tells (g.S.Stream.traffic c.args.stream.now) (g.S.Stream.traffic c.loop-hub.stream) c.loop-hub.room c.step.result c.loop-hub.invariant c.step.ensures.step c.step.ensures.ran c.step.ensures.device c.in_default.not-Done c.in_default.not-Memory in
     record {
       some = le_after c.args.hub.now c.step.new.self _ _ 1 c.loop-hub.room c.requires waited (λ h k p. p.2);
       opened = some_after c.args.hub.now c.step.new.self _ _ _ c.requires waited (λ h k before p. (p.0.is_open, p.0.room_is));
@@ -51,56 +44,51 @@ read_some-requires g c =
 
 pub overflow_sub-room : goal.overflow_sub-room
 overflow_sub-room g c =
-    let waited = waits c.args.hub.now c.loop-hub.hub c.step.new.self c.args.s g.S.Stream.tells (g.S.Stream.traffic c.args.stream.now) (g.S.Stream.traffic c.loop-hub.stream) c.loop-hub.room c.step.result c.loop-hub.invariant.1 c.step.ensures.step c.step.ensures.device c.in_default.not-Done c.in_default.not-Memory in
+    let waited = waits c.runs_follow.ensures.follow c.args.hub.now c.loop-hub.hub c.step.new.self c.args.s g.S.Stream.tells (g.S.Stream.traffic c.args.stream.now) (g.S.Stream.traffic c.loop-hub.stream) c.loop-hub.room c.step.result c.loop-hub.invariant c.step.ensures.step c.step.ensures.ran c.step.ensures.device c.in_default.not-Done c.in_default.not-Memory in
     le_after c.args.hub.now c.read_some.new.hub _ _ c.in-Moved.n c.loop-hub.room c.requires
-    (leads_then c.args.hub.now c.step.new.self c.read_some.new.hub _ _ (λ h l. c.in-Moved.n ≤ c.loop-hub.room) waited c.in-Moved.ensures.read
+    (leads_then c.runs_follow.ensures.follow c.args.hub.now c.step.new.self c.read_some.new.hub _ _ (λ h l. c.in-Moved.n ≤ c.loop-hub.room) waited c.in-Moved.ensures.read
     (λ h k l stands p q. read_within c.args.s g.S.Stream.tells h (g.S.Stream.traffic c.args.stream.now) k (g.S.Stream.traffic c.loop-hub.stream) l (g.S.Stream.traffic c.read_some.new.stream) c.loop-hub.room p.0 c.in-Moved.n (q p.1)))
     (λ h l le. le)
 
 pub loop-hub-smaller : goal.loop-hub-smaller
 loop-hub-smaller g c =
-    let waited = waits c.args.hub.now c.loop-hub.hub c.step.new.self c.args.s g.S.Stream.tells (g.S.Stream.traffic c.args.stream.now) (g.S.Stream.traffic c.loop-hub.stream) c.loop-hub.room c.step.result c.loop-hub.invariant.1 c.step.ensures.step c.step.ensures.device c.in_default.not-Done c.in_default.not-Memory in
+    let waited = waits c.runs_follow.ensures.follow c.args.hub.now c.loop-hub.hub c.step.new.self c.args.s g.S.Stream.tells (g.S.Stream.traffic c.args.stream.now) (g.S.Stream.traffic c.loop-hub.stream) c.loop-hub.room c.step.result c.loop-hub.invariant c.step.ensures.step c.step.ensures.ran c.step.ensures.device c.in_default.not-Done c.in_default.not-Memory in
     let both : c.loop-hub.room - c.in-Moved.n + 1 ≤ c.loop-hub.room =
     le_after c.args.hub.now c.read_some.new.hub _ _ (c.loop-hub.room - c.in-Moved.n + 1) c.loop-hub.room c.requires
-    (leads_then c.args.hub.now c.step.new.self c.read_some.new.hub _ _ (λ h l. c.loop-hub.room - c.in-Moved.n + 1 ≤ c.loop-hub.room) waited c.in-Moved.ensures.read
+    (leads_then c.runs_follow.ensures.follow c.args.hub.now c.step.new.self c.read_some.new.hub _ _ (λ h l. c.loop-hub.room - c.in-Moved.n + 1 ≤ c.loop-hub.room) waited c.in-Moved.ensures.read
     (λ h k l stands p q. (let some = (q p.1).why.0 in let room = p.2 in omega arith)))
     (λ h l le. le) in
     omega arith
 
 pub loop-hub-preserved : goal.loop-hub-preserved
-loop-hub-preserved g c = (
-  c.runs_follow.ensures.follow _ _ _ (c.runs_follow.ensures.follow _ _ _ c.loop-hub.invariant.0 c.step.ensures.ran) c.read_some.ensures.ran,
-  leads_then c.args.hub.now c.step.new.self c.read_some.new.hub _ _ _
-      (waits c.args.hub.now c.loop-hub.hub c.step.new.self c.args.s g.S.Stream.tells (g.S.Stream.traffic c.args.stream.now) (g.S.Stream.traffic c.loop-hub.stream) c.loop-hub.room c.step.result c.loop-hub.invariant.1 c.step.ensures.step c.step.ensures.device c.in_default.not-Done c.in_default.not-Memory) c.in-Moved.ensures.read
-      (λ h k l stands p q. read_then c.args.s g.S.Stream.tells h (g.S.Stream.traffic c.args.stream.now) k (g.S.Stream.traffic c.loop-hub.stream) l (g.S.Stream.traffic c.read_some.new.stream) c.loop-hub.room p.0 c.in-Moved.n (q p.1)),
-)
+loop-hub-preserved g c =
+    leads_then c.runs_follow.ensures.follow c.args.hub.now c.step.new.self c.read_some.new.hub _ _ _
+    (waits c.runs_follow.ensures.follow c.args.hub.now c.loop-hub.hub c.step.new.self c.args.s g.S.Stream.tells (g.S.Stream.traffic c.args.stream.now) (g.S.Stream.traffic c.loop-hub.stream) c.loop-hub.room c.step.result c.loop-hub.invariant c.step.ensures.step c.step.ensures.ran c.step.ensures.device c.in_default.not-Done c.in_default.not-Memory) c.in-Moved.ensures.read
+    (λ h k l stands p q. read_then c.args.s g.S.Stream.tells h (g.S.Stream.traffic c.args.stream.now) k (g.S.Stream.traffic c.loop-hub.stream) l (g.S.Stream.traffic c.read_some.new.stream) c.loop-hub.room p.0 c.in-Moved.n (q p.1))
 
 pub returns-in-Blocked : goal.returns-in-Blocked
 returns-in-Blocked g c =
     record {
-      ran = c.runs_follow.ensures.follow _ _ _ (c.runs_follow.ensures.follow _ _ _ c.loop-hub.invariant.0 c.step.ensures.ran) c.read_some.ensures.ran;
       served =
-          leads_then c.args.hub.now c.step.new.self c.read_some.new.hub _ _ _
-          (waits c.args.hub.now c.loop-hub.hub c.step.new.self c.args.s g.S.Stream.tells (g.S.Stream.traffic c.args.stream.now) (g.S.Stream.traffic c.loop-hub.stream) c.loop-hub.room c.step.result c.loop-hub.invariant.1 c.step.ensures.step c.step.ensures.device c.in_default.not-Done c.in_default.not-Memory) c.in-Blocked.ensures.read
+          leads_then c.runs_follow.ensures.follow c.args.hub.now c.step.new.self c.read_some.new.hub _ _ _
+          (waits c.runs_follow.ensures.follow c.args.hub.now c.loop-hub.hub c.step.new.self c.args.s g.S.Stream.tells (g.S.Stream.traffic c.args.stream.now) (g.S.Stream.traffic c.loop-hub.stream) c.loop-hub.room c.step.result c.loop-hub.invariant c.step.ensures.step c.step.ensures.ran c.step.ensures.device c.in_default.not-Done c.in_default.not-Memory) c.in-Blocked.ensures.read
           (λ h k l stands p q. read_blocked c.args.s g.S.Stream.tells h (g.S.Stream.traffic c.args.stream.now) k (g.S.Stream.traffic c.loop-hub.stream) l (g.S.Stream.traffic c.read_some.new.stream) c.loop-hub.room p.0 p.1 (q p.1));
     }
 
 pub returns-in-Failed : goal.returns-in-Failed
 returns-in-Failed g c =
     record {
-      ran = c.runs_follow.ensures.follow _ _ _ (c.runs_follow.ensures.follow _ _ _ c.loop-hub.invariant.0 c.step.ensures.ran) c.read_some.ensures.ran;
       served =
-          leads_then c.args.hub.now c.step.new.self c.read_some.new.hub _ _ _
-          (waits c.args.hub.now c.loop-hub.hub c.step.new.self c.args.s g.S.Stream.tells (g.S.Stream.traffic c.args.stream.now) (g.S.Stream.traffic c.loop-hub.stream) c.loop-hub.room c.step.result c.loop-hub.invariant.1 c.step.ensures.step c.step.ensures.device c.in_default.not-Done c.in_default.not-Memory) c.in-Failed.ensures.read
+          leads_then c.runs_follow.ensures.follow c.args.hub.now c.step.new.self c.read_some.new.hub _ _ _
+          (waits c.runs_follow.ensures.follow c.args.hub.now c.loop-hub.hub c.step.new.self c.args.s g.S.Stream.tells (g.S.Stream.traffic c.args.stream.now) (g.S.Stream.traffic c.loop-hub.stream) c.loop-hub.room c.step.result c.loop-hub.invariant c.step.ensures.step c.step.ensures.ran c.step.ensures.device c.in_default.not-Done c.in_default.not-Memory) c.in-Failed.ensures.read
           (λ h k l stands p q. read_failed c.args.s g.S.Stream.tells h (g.S.Stream.traffic c.args.stream.now) k (g.S.Stream.traffic c.loop-hub.stream) l (g.S.Stream.traffic c.read_some.new.stream) c.loop-hub.room p.0 p.1 (q p.1));
     }
 
 pub returns-in-Ended : goal.returns-in-Ended
 returns-in-Ended g c =
     record {
-      ran = c.runs_follow.ensures.follow _ _ _ (c.runs_follow.ensures.follow _ _ _ c.loop-hub.invariant.0 c.step.ensures.ran) c.read_some.ensures.ran;
       served =
-          leads_then c.args.hub.now c.step.new.self c.read_some.new.hub _ _ _
-          (waits c.args.hub.now c.loop-hub.hub c.step.new.self c.args.s g.S.Stream.tells (g.S.Stream.traffic c.args.stream.now) (g.S.Stream.traffic c.loop-hub.stream) c.loop-hub.room c.step.result c.loop-hub.invariant.1 c.step.ensures.step c.step.ensures.device c.in_default.not-Done c.in_default.not-Memory) c.in-Ended.ensures.read
+          leads_then c.runs_follow.ensures.follow c.args.hub.now c.step.new.self c.read_some.new.hub _ _ _
+          (waits c.runs_follow.ensures.follow c.args.hub.now c.loop-hub.hub c.step.new.self c.args.s g.S.Stream.tells (g.S.Stream.traffic c.args.stream.now) (g.S.Stream.traffic c.loop-hub.stream) c.loop-hub.room c.step.result c.loop-hub.invariant c.step.ensures.step c.step.ensures.ran c.step.ensures.device c.in_default.not-Done c.in_default.not-Memory) c.in-Ended.ensures.read
           (λ h k l stands p q. read_ended c.args.s g.S.Stream.tells h (g.S.Stream.traffic c.args.stream.now) k (g.S.Stream.traffic c.loop-hub.stream) l (g.S.Stream.traffic c.read_some.new.stream) c.loop-hub.room p.0 p.1 (q p.1));
     }

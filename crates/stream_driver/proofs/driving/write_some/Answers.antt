@@ -1,4 +1,4 @@
-use Rattle.std.proofs.Common.{◌≤◌, ◌<◌, arith, length, sym, ap, subst, ◌∙◌, take, ◌++◌}
+use Rattle.std.proofs.Common.{◌≤◌, ◌<◌, length, sym, ap, subst, ◌∙◌, take, ◌++◌}
 use Rattle.std.proofs.Math.Logic.{∥∥₁_elim}
 use Rattle.std.proofs.Math.Bridge.{le_prop}
 use Rattle.stream_driver.proofs.States.{present_at}
@@ -11,9 +11,8 @@ write-answer-requires g c = ∥∥₁_elim c.requires le_prop (λ w. subst (λ l
 pub returns-in-Moved : goal.returns-in-Moved
 returns-in-Moved g c =
     record {
-      ran = c.step.ensures.ran;
       written =
-          wrote_moved c.args.hub.now c.step.new.self c.args.s g.S.Stream.tells (g.S.Stream.traffic c.args.stream.now) (g.S.Stream.traffic c.write-answer.new.self) c.in-Moved.n c.in-Moved.ensures.within.0 c.step.result c.step.ensures.step c.step.ensures.device
+          wrote_moved c.args.hub.now c.step.new.self c.args.s g.S.Stream.tells (g.S.Stream.traffic c.args.stream.now) (g.S.Stream.traffic c.write-answer.new.self) c.in-Moved.n c.in-Moved.ensures.within.0 c.step.result c.step.ensures.step c.step.ensures.ran c.step.ensures.device
           (λ h stands. (present_at c.args.hub.now c.args.s h stands _ c.requires (λ k p. p.0), subst (λ l. c.in-Moved.n ≤ length l) (c.pending.ensures h stands) c.in-Moved.ensures.within.1))
           (λ h stands t. c.in-Moved.ensures.taken t ∙ ap (λ l. (g.S.Stream.traffic c.args.stream.now).taken ++ take c.in-Moved.n l) (c.pending.ensures h stands))
           c.in-Moved.ensures.given c.in-Moved.ensures.answered;
@@ -22,8 +21,7 @@ returns-in-Moved g c =
 pub returns-in_default : goal.returns-in_default
 returns-in_default g c =
     record {
-      ran = c.runs_follow.ensures.none;
       written =
-          wrote_none c.args.hub.now c.args.s g.S.Stream.tells (g.S.Stream.traffic c.args.stream.now) (g.S.Stream.traffic c.write-answer.new.self) c.write-answer.result c.in_default.not-Moved
+          wrote_none c.args.hub.now c.runs_follow.ensures.none c.args.s g.S.Stream.tells (g.S.Stream.traffic c.args.stream.now) (g.S.Stream.traffic c.write-answer.new.self) c.write-answer.result c.in_default.not-Moved
           (λ h stands. present_at c.args.hub.now c.args.s h stands _ c.requires (λ k p. p.0)) c.pending.result.now c.write-answer.ensures.given c.write-answer.ensures.taken c.write-answer.ensures.answered;
     }

@@ -1,15 +1,16 @@
 use Rattle.std.proofs.Common.{◌≡◌, sym, ap, ◌∙◌}
 use Rattle.stream_driver.specs.Entries.{state_after}
+use Rattle.stream_driver.proofs.States.{leads_map}
 use Rattle.stream_driver.proofs.Turns.{driven_once}
 use Rattle.stream_driver.proofs.entries.drive_entry.Goals as goal
 use Rattle.stream_driver.proofs.entries.drive_entry.Goals.{in-Waiting, in-Again, in-Gone}
 
 pub returns-after-drive-clause-driven : goal.returns-after-drive-clause-driven
-returns-after-drive-clause-driven g c h stands =
-    let x = c.drive.ensures.driven h stands in
+returns-after-drive-clause-driven g c =
     let is : c.match-drive.entry ≡ state_after c.drive.result = elim c.match-drive.branch [
       | in-Waiting w ↦ w.entry-is ∙ ap state_after (sym w.in-Waiting.is)
       | in-Again w ↦ w.entry-is ∙ ap state_after (sym w.in-Again.is)
       | in-Gone w ↦ w.entry-is ∙ ap state_after (sym w.in-Gone.is)
     ] in
-    (x.0, x.1, driven_once g.S.Stream.tells g.S.Stream.traffic h x.0 c.args.entry.now c.drive.result c.drive.new.stream c.match-drive.entry c.in-Ready.is is x.2)
+    leads_map c.args.hub.now c.drive.new.hub _ _ c.drive.ensures.driven
+    (λ h k stands x. driven_once g.S.Stream.tells g.S.Stream.traffic h k c.args.entry.now c.drive.result c.drive.new.stream c.match-drive.entry c.in-Ready.is is x)

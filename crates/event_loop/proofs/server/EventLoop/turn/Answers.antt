@@ -1,7 +1,9 @@
-use Rattle.std.proofs.Common.{◌≡◌, ◌∙◌, refl, sym, ap, subst, true, false}
+use Rattle.std.proofs.Common.{◌≡◌, ◌∙◌, refl, sym, ap, true, false}
 use Rattle.mio.specs.Events.{items}
 use Rattle.event_loop.specs.contracts.socket.SocketStream.TheImpl.{ghosts}
-use Rattle.event_loop.specs.Turns.{Accepted, DrivesReady, accepts_now}
+use Rattle.event_loop.specs.Turns.{accepts_now}
+use Rattle.event_loop.proofs.Leading.{adds_none, leads_map, leads_then}
+use Rattle.event_loop.proofs.OneTurn.{turned_by}
 use Rattle.event_loop.proofs.server.EventLoop.turn.Goals as goal
 
 pub returns-then-accepts_now-clause-turned : goal.returns-then-accepts_now-clause-turned
@@ -10,27 +12,15 @@ returns-then-accepts_now-clause-turned g c =
     ap (λ events. accepts_now c.args.self.now.backlog (items events)) c.accept.ensures.events ∙ ap (λ backlog. accepts_now backlog (items c.drive.new.self.events)) (sym c.drive.ensures.backlog) ∙ sym c.accepts_now.ensures
     ∙ c.if-accepts_now.true
     in
-    record {
-      driven = c.drive.new.self;
-      drives =
-          subst (λ events. DrivesReady ghosts.tells ghosts.traffic (items events) c.args.self.now.hub c.args.self.now.table.slots c.drive.new.self.hub c.drive.new.self.table.slots)
-          (sym (c.accept.ensures.events ∙ c.drive.ensures.events)) c.drive.ensures.drives;
-      next_is = c.drive.ensures.next;
-      port_is = c.drive.ensures.port;
-      accepts = subst (λ b. Accepted b c.drive.new.self c.accept.new.self) (sym due) c.accept.ensures.accepts;
-    }
+    turned_by ghosts.tells ghosts.traffic c.args.self.now c.drive.new.self c.accept.new.self c.drive.ensures.next c.drive.ensures.port _ (ap items (c.accept.ensures.events ∙ c.drive.ensures.events)) true due
+    c.drive.ensures.drives c.accept.ensures.accepts
+    (leads_then c.runs_follow.ensures.follow c.args.self.now.hub c.drive.new.self.hub c.accept.new.self.hub _ _ _ c.drive.ensures.drives.drives c.accept.ensures.accepts.became.1 (λ h k l p q. (k, p, q)))
 
 pub returns-else-accepts_now-clause-turned : goal.returns-else-accepts_now-clause-turned
 returns-else-accepts_now-clause-turned g c =
     let none : accepts_now c.args.self.now.backlog (items c.drive.new.self.events) ≡ false =
     ap (λ backlog. accepts_now backlog (items c.drive.new.self.events)) (sym c.drive.ensures.backlog) ∙ sym c.accepts_now.ensures ∙ c.if-accepts_now.false
     in
-    record {
-      driven = c.drive.new.self;
-      drives =
-          subst (λ events. DrivesReady ghosts.tells ghosts.traffic (items events) c.args.self.now.hub c.args.self.now.table.slots c.drive.new.self.hub c.drive.new.self.table.slots)
-          (sym c.drive.ensures.events) c.drive.ensures.drives;
-      next_is = c.drive.ensures.next;
-      port_is = c.drive.ensures.port;
-      accepts = rw none (record { hub = refl; table = refl; next = refl; port = refl; backlog = refl });
-    }
+    turned_by ghosts.tells ghosts.traffic c.args.self.now c.drive.new.self _ c.drive.ensures.next c.drive.ensures.port _ (ap items c.drive.ensures.events) false none
+    c.drive.ensures.drives (record { hub = refl; table = refl; next = refl; port = refl; backlog = refl })
+    (leads_map c.args.self.now.hub c.drive.new.self.hub _ _ c.drive.ensures.drives.drives (λ h k p. (k, p, adds_none k)))

@@ -1,5 +1,4 @@
 use Rattle.std.proofs.Common.{◌≤◌, map, take}
-use Rattle.engine.specs.Meaning.{has_risen}
 use Rattle.sessions.specs.SessionStreams.{HubState}
 use Rattle.sessions.specs.StandsFor.{StandsFor, event_of, failures}
 use Rattle.sessions.specs.Laws.{Runs}
@@ -9,5 +8,5 @@ use Rattle.sessions.proofs.hub.Hub.run.Given as goal
 abbrev pub invariant-loop-event : goal.invariant-loop-event
 invariant-loop-event g l = record {
   device : failures l.initial.self ≤ failures l.self;
-  runs : (h : HubState) → StandsFor l.initial.self h → Runs l.initial.self l.self h (map event_of (take l.event-index l.events)) (has_risen (failures l.initial.self) (failures l.self));
+  runs : (h : HubState) → StandsFor l.initial.self h → Runs l.initial.self l.self h (map event_of (take l.event-index l.events));
 }

@@ -1,0 +1,5 @@
+use Rattle.event_loop.proofs.Leading.{are_runs}
+use Rattle.event_loop.proofs.server.EventLoop.turns_are_runs.Goals as goal
+
+pub returns : goal.returns
+returns g c = record { runs = λ old new turn. are_runs old.hub new.hub _ turn.run }
