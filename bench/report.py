@@ -3,13 +3,28 @@
 
     bench/report.py FILE..
 
-The first table has the ratios with what was aimed at, the second the figures that stand beside nobody. The last column of the first is the
-middle half of the first run's slices. Needs Python 3 alone.
+The first table has the ratios with what was aimed at, and what they were before replies were gathered into one write; the second has the
+figures that stand beside nobody. The last column of the first is the middle half of the first run's slices. Needs Python 3 alone.
 """
 import json
 import os
 import sys
 
+# What the rows gave when each reply left by a write of its own.
+BEFORE = {
+    ("PING, 1 connection", "C epoll echo"): "0.95",
+    ("PING, 16 connections", "C epoll echo"): "0.9",
+    ("PING, 64 connections", "C epoll echo"): "0.9",
+    ("32 PINGs sent at once, 1 connection", "Redis"): "0.18",
+    ("32 PINGs sent at once, 16 connections", "Redis"): "0.18",
+    ("BEGIN, 4 GET, COMMIT, 16 connections, one request at a time", "PostgreSQL SERIALIZABLE"): "1.8",
+    ("BEGIN, 4 GET, COMMIT, 16 connections, sent at once", "PostgreSQL SERIALIZABLE"): "0.97",
+    ("BEGIN, 4 GET, COMMIT, 16 connections, sent at once", "Redis, MULTI and EXEC"): "0.66",
+    ("BEGIN, 4 GET, COMMIT, 16 connections, sent at once", "C stand-in"): "0.22",
+    ("BEGIN, RANGE of 64, COMMIT, 16 connections, one request at a time", "PostgreSQL SERIALIZABLE"): "2.1",
+    ("BEGIN, RANGE of 64, COMMIT, 16 connections, one request at a time", "C stand-in"): "0.6",
+    ("BEGIN, SET, COMMIT, 16 connections, one request at a time", "the device, two syncs"): "0.8",
+}
 RUNS = os.path.normpath(os.path.join(os.path.dirname(os.path.abspath(__file__)), "..", "docs", "runs"))
 
 
@@ -34,12 +49,13 @@ def in_all(runs, part, key):
 
 
 def ratios(runs):
-    yield ["What", "Beside", "Aim"] + [f"Run {number + 1}" for number in range(len(runs))] + ["Middle half of run 1"]
+    yield ["What", "Beside", "Before", "Aim"] + [f"Run {number + 1}" for number in range(len(runs))] + ["Middle half of run 1"]
     for rows in in_all(runs, "rows", lambda row: (row["what"], row["peer"])):
         first = rows[0]
         aim = "" if first["goal"] is None else f"{first['goal']:g}"
         cells = [f"{row['ratio']:.2f}" if row else "" for row in rows]
-        yield [first["what"], first["peer"], aim, *cells, "{:.2f} to {:.2f}".format(*first["middle_half"])]
+        before = BEFORE.get((first["what"], first["peer"]), "")
+        yield [first["what"], first["peer"], before, aim, *cells, "{:.2f} to {:.2f}".format(*first["middle_half"])]
 
 
 def figures(runs):

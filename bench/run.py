@@ -141,6 +141,13 @@ def processor_us(slices):
     return 1e6 * sum(it["processor_seconds"] for it in slices) / sum(it["committed"] for it in slices)
 
 
+def processor_figures(rows):
+    """What each kind of transaction takes of the server's processor."""
+    for what, row in {row.what: row for row in reversed(rows) if "processor_seconds" in row.ours[0]}.items():
+        took = processor_us(row.ours)
+        yield {"what": f"Processor time of the server: {what}", "figure": took, "unit": "us", "text": f"{took:.1f} us for each"}
+
+
 def counted(connections):
     return "1 connection" if connections == 1 else f"{connections} connections"
 
@@ -150,7 +157,7 @@ def ping_rows(options, ssikvd):
         for connections in (1, 16, 64):
             row = Row(f"PING, {counted(connections)}", "C epoll echo", 0.8)
             compare(options, row, Load(options, "ping", connections), ssikvd, echo)
-            row.notes.append(f"processor time for each: {processor_us(row.ours):.1f} us, of the echo server {processor_us(row.theirs):.1f} us.")
+            row.notes.append(f"processor time for each, of the echo server: {processor_us(row.theirs):.1f} us.")
             yield row
 
 
@@ -363,6 +370,7 @@ def measure_all(options, stack, postgres):
         rows += commit_rows(options, ssikvd, postgres)
     if "start" in only:
         rows += start_rows(options)
+    figures += list(processor_figures(rows))[::-1]
     return rows, figures, [*missing_peers(options, postgres, redis), check_commits(ssikvd)]
 
 
