@@ -44,8 +44,9 @@ impl<D: Sectors> Log<D> {
     /// each sector up to the last closed gate once.
     ///
     /// The first fault met is answered: `Device` where a call of the device fails, `NotALog` where it has fewer than two sectors or the
-    /// first is no head, `OldFormat` where it is the head of format 1, `Damaged` where an open gate has not its record behind it, `Memory` where memory is refused, for the map or
-    /// for one record. After a fault the device has been given up; `read_log`, which borrows it, says what it leaves.
+    /// first is no head, `OldFormat` where it is the head of format 1, `Damaged` where an open gate has not its record behind it,
+    /// `Memory` where memory is refused. After a fault the device has been given up; `read_log`, which borrows it, says what it leaves and
+    /// what memory it takes.
     pub fn open(alloc: Global, mut device: D) -> Result<(Self, Map), LogFault>
         ensures size { IfOk result (λ r. sector_count r.0 ≡ D.size device) }
         ensures running { IfOk result (λ r. is_stopped r.0 ≡ false) }

@@ -244,7 +244,10 @@ fn read_head<D: Sectors>(device: &mut D) -> Result<(Option<LogFormat>, u64), Log
 }
 
 /// Settles a device, and reads the log that it holds, as `Log::open` says. `Device` is answered exactly where a call of the device
-/// failed; the device may be read again. It takes memory for the map, and for one record at a time.
+/// failed; the device may be read again.
+///
+/// It takes memory for the writes of the log, which are collected: about twice that of the map they make, and 8 MiB at least. The map is
+/// made of them, and one record is held at a time. The time is that of one digest of what is read and of a sort of the writes.
 pub fn read_log<D: Sectors>(alloc: Global, device: &mut D) -> Result<Found, LogFault>
     ensures fault { FaultIs (D.failures device.old) (D.failures device.new) result }
     ensures no_fault { OnOk result (Stayed (D.failures device.old) (D.failures device.new)) }
@@ -272,8 +275,8 @@ pub fn read_log<D: Sectors>(alloc: Global, device: &mut D) -> Result<Found, LogF
 /// the number of its format, 1 or 2. It writes no sector, and reads each up to the last closed gate once.
 ///
 /// The first fault met is answered: `Device` where a call of the device fails, `NotALog` where it has fewer than two sectors or the
-/// first is the head of no format, `Damaged` where an open gate has not its record behind it, `Memory` where memory is refused, for the
-/// map or for one record. After each the device may be read again.
+/// first is the head of no format, `Damaged` where an open gate has not its record behind it, `Memory` where memory is refused. After
+/// each the device may be read again. It takes the memory that `read_log` takes.
 pub fn read_map<D: Sectors>(alloc: Global, device: &mut D) -> Result<(Map, u8), LogFault>
     ensures fault { FaultIs (D.failures device.old) (D.failures device.new) result }
     ensures no_fault { OnOk result (Stayed (D.failures device.old) (D.failures device.new)) }
