@@ -145,7 +145,7 @@ def processor_figures(rows):
     """What each kind of transaction takes of the server's processor."""
     for what, row in {row.what: row for row in reversed(rows) if "processor_seconds" in row.ours[0]}.items():
         took = processor_us(row.ours)
-        yield {"what": f"Processor time of the server: {what}", "figure": took, "unit": "us", "text": f"{took:.1f} us for each"}
+        yield {"what": what, "figure": took, "unit": "us of the processor", "text": f"{took:.1f} us of the server's processor for each"}
 
 
 def counted(connections):
