@@ -114,7 +114,7 @@ module _ {D : Type 0} {g : Ghosts D} where
       → ((m : State) → StandsFor e m → step_outside m s q ≡ (m, Refused refusal)) → Leads e e' s q failed (Some (Refused refusal))
   refused_outside e e' s q failed refusal same entries none says m h =
       let is : step m s q failed ≡ (m, Refused refusal) = step_without m s q failed (not_open e m s h none) ∙ says m h in
-      (subst (λ (p : State × Response). StandsFor e' p.0) (sym is) (stands_same e e' m same entries h), ap (λ (p : State × Response). p.1) is)
+      (m, stands_same e e' m same entries h, is)
 
   pub begin_stopped : (e : Engine D g) (s : ℕ) → entry_of s e ≡ None → is_stopped e.log ≡ true → Leads e e s Begin false (Some (Refused StoreStopped))
   begin_stopped e s none stopped = refused_outside e e s Begin false StoreStopped (same_store e) refl none (λ m h. rw (h.stopped ∙ stopped) refl)
@@ -153,10 +153,10 @@ module _ {D : Type 0} {g : Ghosts D} where
       let others = beside_weaker (Held e m h) (λ t r. IsRunning facts held m.base m.history t r) wider e.running.entries m.running h.running in
       let running = beside_insert (λ t r. IsRunning facts held m.base m.history t r) s (new_view facts.last) run e.running.entries m.running others new in
       let reached : IsReached (with_running m s run) = subst (λ (p : State × Response). IsReached p.0) is (reached_step m s Begin false h.reached) in (
-        subst (λ (p : State × Response). StandsFor e' p.0) (sym is)
-            (stands_with e e' m (put nat_cmp s run m.running) held same h reached history (subst (λ es. AreRunning facts held m.base m.history es (put nat_cmp s run m.running)) (sym entries) running)
-            (is_sorted-put nat_cmp nat_cmp_total s run m.running h.sorted) few_after),
-        ap (λ (p : State × Response). p.1) is,
+        with_running m s run,
+        stands_with e e' m (put nat_cmp s run m.running) held same h reached history (subst (λ es. AreRunning facts held m.base m.history es (put nat_cmp s run m.running)) (sym entries) running)
+            (is_sorted-put nat_cmp nat_cmp_total s run m.running h.sorted) few_after,
+        is,
       )
 
   -- memory was refused where there is room
@@ -200,10 +200,10 @@ module _ {D : Type 0} {g : Ghosts D} where
       } in
       let running = beside_set (Held e m h) s t t' run e.running.entries m.running h.sorted h.running some here in
       let reached : IsReached (with_running m s run) = subst (λ (p : State × Response). IsReached p.0) is (reached_step m s q failed h.reached) in (
-        subst (λ (p : State × Response). StandsFor e' p.0) (sym is)
-            (stands_with e e' m (put nat_cmp s run m.running) h.held same h reached h.history (subst (λ es. AreRunning facts h.held m.base m.history es (put nat_cmp s run m.running)) (sym entries) running)
-            (is_sorted-put nat_cmp nat_cmp_total s run m.running h.sorted) (subst (λ n. n ≤ 64) (sym long) h.few_open)),
-        ap (λ (p : State × Response). p.1) is ∙ made.0,
+        with_running m s run,
+        stands_with e e' m (put nat_cmp s run m.running) h.held same h reached h.history (subst (λ es. AreRunning facts h.held m.base m.history es (put nat_cmp s run m.running)) (sym entries) running)
+            (is_sorted-put nat_cmp nat_cmp_total s run m.running h.sorted) (subst (λ n. n ≤ 64) (sym long) h.few_open),
+        is ∙ ap (λ x. (with_running m s run, x)) made.0,
       )
 
   -- a request of the session's own transaction
@@ -238,7 +238,7 @@ module _ {D : Type 0} {g : Ghosts D} where
       by (Some t) some = own_same e s q false t response own some (answered t)
       by None none = λ m h.
           let is : step m s q false ≡ (m, response) = step_without m s q false (not_open e m s h none) ∙ outside m in
-          (subst (λ (p : State × Response). StandsFor e p.0) (sym is) h, ap (λ (p : State × Response). p.1) is)
+          (m, h, is)
 
   -- ---- the end of a transaction
 
@@ -255,7 +255,7 @@ module _ {D : Type 0} {g : Ghosts D} where
   ended e e' s t q failed response some leaves says m h =
       let f = found_open e m s t h some in
       let is : step m s q failed ≡ (leave m s, response) = step_with m s q failed f.run f.is ∙ says m f.run h f.is f.same in
-      (subst (λ (p : State × Response). StandsFor e' p.0) (sym is) (leave_call e e' s leaves m h), ap (λ (p : State × Response). p.1) is)
+      (leave m s, leave_call e e' s leaves m h, is)
 
   pub abort_call : (e e' : Engine D g) (s : ℕ) (t : View) → entry_of s e ≡ Some t → Leaves e e' s → Leads e e' s Abort false (Some Done)
   abort_call e e' s t some leaves = ended e e' s t Abort false Done some leaves (λ m r h is same. refl)

@@ -138,7 +138,7 @@ module _ {D : Type 0} {g : Ghosts D} where
   pub ended_refused : {A : Type 0} (e e' : Engine D g) (s : ℕ) (failed : Bool) (f : A → Response) (fault : EngineFault) (refusal : Refusal) → IsRefused e s refusal → Leaves e e' s → fault ≡ Refusing refusal → Leads e e' s Commit failed (response_to f (Err fault))
   ended_refused e e' s failed f fault refusal refused leaves is =
       fault_told e e' s failed f fault refusal is
-      (λ m h. (subst (λ (p : State × Response). StandsFor e' p.0) (sym (refused m failed h)) (leave_call e e' s leaves m h), ap (λ (p : State × Response). p.1) (refused m failed h)))
+      (λ m h. (leave m s, leave_call e e' s leaves m h, refused m failed h))
 
   refused_if : (e : Engine D g) (s : ℕ) (t : View) (refusal : Refusal) → entry_of s e ≡ Some t → ((m : State) (r : Running) (failed : Bool) (h : StandsFor e m) → Held e m h t r → commit m s r failed ≡ refuse m s refusal) → IsRefused e s refusal
   refused_if e s t refusal entry says m failed h = let at = found_open e m s t h entry in step_with m s Commit failed at.run at.is ∙ says m at.run failed h at.same
@@ -212,23 +212,23 @@ module _ {D : Type 0} {g : Ghosts D} where
       let facts : e'.history.committed.facts ≡ e.history.committed.facts = ap (λ (v : HistoryValue). v.committed.facts) leaves.store.history ∙ same.facts in
       let removed : e'.running.entries ≡ remove_entry (is_at (nat_cmp s)) e.running.entries = leaves.entries ∙ ap (remove_entry (is_at (nat_cmp s))) entries in
       let running = beside_remove (Held e m h) s e.running.entries m.running h.sorted h.running in (
-        subst (λ (p : State × Response). StandsFor e' p.0) (sym is)
-            (record {
-              reached = reached;
-              stopped = sym (ap is_stopped log ∙ stops.stopped);
-              used = h.used ∙ sym (ap (λ (l : Log D g). l.gate + 1) log ∙ stops.used);
-              count = h.count ∙ sym (ap (λ (l : Log D g). g.size l.device) log ∙ stops.size);
-              stored = λ keeps runs. absurd (both_ways (is_stopped e'.log) runs (ap is_stopped log ∙ stops.stopped));
-              doubt = λ keeps _. subst (λ (l : Log D g). IsInDoubt (committed_map m) (g.may_leave l.device)) (sym log) (doubt keeps (committed_map m) (h.stored keeps j.asked.running));
-              held = h.held;
-              history = subst (λ (v : HistoryValue). HistoryStandsFor v h.held m.base m.history) (sym leaves.store.history) (same_history e.history f.history h.held m.base m.history same h.history);
-              kept = subst (λ (x : Facts). x.oldest ≤ length m.history) (sym facts) h.kept;
-              few = h.few;
-              running = are_running e.history.committed.facts e'.history.committed.facts h.held m.base m.history (remove_entry (is_at (nat_cmp s)) e.running.entries) e'.running.entries (where_key nat_cmp (λ x. not (x == s)) m.running) (sym facts) (sym removed) running;
-              sorted = is_sorted-where_key nat_cmp (λ x. not (x == s)) m.running h.sorted;
-              few_open = (let few = h.few_open in let fewer = leaves.fewer in let e2 = ap length entries in omega (arith, few, fewer, e2));
-            }),
-        ap (λ (p : State × Response). p.1) is,
+        after.0,
+        record {
+          reached = reached;
+          stopped = sym (ap is_stopped log ∙ stops.stopped);
+          used = h.used ∙ sym (ap (λ (l : Log D g). l.gate + 1) log ∙ stops.used);
+          count = h.count ∙ sym (ap (λ (l : Log D g). g.size l.device) log ∙ stops.size);
+          stored = λ keeps runs. absurd (both_ways (is_stopped e'.log) runs (ap is_stopped log ∙ stops.stopped));
+          doubt = λ keeps _. subst (λ (l : Log D g). IsInDoubt (committed_map m) (g.may_leave l.device)) (sym log) (doubt keeps (committed_map m) (h.stored keeps j.asked.running));
+          held = h.held;
+          history = subst (λ (v : HistoryValue). HistoryStandsFor v h.held m.base m.history) (sym leaves.store.history) (same_history e.history f.history h.held m.base m.history same h.history);
+          kept = subst (λ (x : Facts). x.oldest ≤ length m.history) (sym facts) h.kept;
+          few = h.few;
+          running = are_running e.history.committed.facts e'.history.committed.facts h.held m.base m.history (remove_entry (is_at (nat_cmp s)) e.running.entries) e'.running.entries (where_key nat_cmp (λ x. not (x == s)) m.running) (sym facts) (sym removed) running;
+          sorted = is_sorted-where_key nat_cmp (λ x. not (x == s)) m.running h.sorted;
+          few_open = (let few = h.few_open in let fewer = leaves.fewer in let e2 = ap length entries in omega (arith, few, fewer, e2));
+        },
+        is,
       )
 
   -- ---- a commit that is answered a number
@@ -279,8 +279,9 @@ module _ {D : Type 0} {g : Ghosts D} where
       let at = found_open e m s t h j.asked.entry in
       let facts = e.history.committed.facts in let facts' = e'.history.committed.facts in
       let r : Record = record_to_commit m at.run in
-      let is : step m s Commit failed ≡ join_history m s r (sectors_taken t.writes) = step_joined e s t failed j quiet m h at in
-      let reached : IsReached (join_history m s r (sectors_taken t.writes)).0 = subst (λ (p : State × Response). IsReached p.0) is (reached_step m s Commit failed h.reached) in
+      let join : State × Response = join_history m s r (sectors_taken t.writes) in
+      let is : step m s Commit failed ≡ join = step_joined e s t failed j quiet m h at in
+      let reached : IsReached join.0 = subst (λ (p : State × Response). IsReached p.0) is (reached_step m s Commit failed h.reached) in
       let l = h.history.committed.last in let used = h.used in let taken = joins.logged.used in
       let long : length (m.history ++ r ∷ []) ≡ length m.history + 1 = length-append m.history (r ∷ []) in
       let clear : IsClear facts t = j.clear at.same.in_reach in
@@ -295,23 +296,23 @@ module _ {D : Type 0} {g : Ghosts D} where
       } in
       let running = beside_weaker (Held e m h) (λ u x. IsRunning facts' h.held m.base (m.history ++ r ∷ []) u x) later (remove_entry (is_at (nat_cmp s)) e.running.entries) (where_key nat_cmp (λ x. not (x == s)) m.running)
       (beside_remove (Held e m h) s e.running.entries m.running h.sorted h.running) in (
-        subst (λ (p : State × Response). StandsFor e' p.0) (sym is)
-            (record {
-              reached = reached;
-              stopped = h.stopped ∙ j.asked.running ∙ sym joins.logged.running;
-              used = omega (arith, used, taken);
-              count = h.count ∙ sym joins.logged.size;
-              stored = λ keeps runs. subst (IsStored e'.log) (sym (map_joined e s t j m h at)) (joins.stored keeps (committed_map m) (h.stored keeps j.asked.running));
-              doubt = λ keeps stop. absurd (both_ways (is_stopped e'.log) joins.logged.running stop);
-              held = h.held;
-              history = joins.history h.held m.base m.history r h.history at.same.in_reach clear (own_record e m t at.run h j.made at.same);
-              kept = (let k = h.kept in let o = joins.oldest in omega (arith, k, o, long));
-              few = (let n = j.asked.numbers in omega (arith, n, l, long));
-              running = subst (λ (es : List (ℕ × View)). AreRunning facts' h.held m.base (m.history ++ r ∷ []) es (where_key nat_cmp (λ x. not (x == s)) m.running)) (sym joins.entries) running;
-              sorted = is_sorted-where_key nat_cmp (λ x. not (x == s)) m.running h.sorted;
-              few_open = (let few = h.few_open in let fewer = joins.fewer in omega (arith, few, fewer));
-            }),
-        ap (λ (p : State × Response). p.1) is ∙ ap Number (number l),
+        join.0,
+        record {
+          reached = reached;
+          stopped = h.stopped ∙ j.asked.running ∙ sym joins.logged.running;
+          used = omega (arith, used, taken);
+          count = h.count ∙ sym joins.logged.size;
+          stored = λ keeps runs. subst (IsStored e'.log) (sym (map_joined e s t j m h at)) (joins.stored keeps (committed_map m) (h.stored keeps j.asked.running));
+          doubt = λ keeps stop. absurd (both_ways (is_stopped e'.log) joins.logged.running stop);
+          held = h.held;
+          history = joins.history h.held m.base m.history r h.history at.same.in_reach clear (own_record e m t at.run h j.made at.same);
+          kept = (let k = h.kept in let o = joins.oldest in omega (arith, k, o, long));
+          few = (let n = j.asked.numbers in omega (arith, n, l, long));
+          running = subst (λ (es : List (ℕ × View)). AreRunning facts' h.held m.base (m.history ++ r ∷ []) es (where_key nat_cmp (λ x. not (x == s)) m.running)) (sym joins.entries) running;
+          sorted = is_sorted-where_key nat_cmp (λ x. not (x == s)) m.running h.sorted;
+          few_open = (let few = h.few_open in let fewer = joins.fewer in omega (arith, few, fewer));
+        },
+        is ∙ ap (λ n. (join.0, Number n)) (number l),
       )
     where
       number : e.history.committed.facts.last ≡ length m.history → suc (length m.history) ≡ e.history.committed.facts.last + 1

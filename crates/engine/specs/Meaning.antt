@@ -5,6 +5,7 @@ use Rattle.model.specs.Operations.Operation.{Commit}
 use Rattle.model.specs.Operations.Response.{Refused}
 use Rattle.model.specs.declared.refusals.Refusal.TheVariants.{NotOpen, FullMarks}
 use Rattle.model.specs.Map.{Bytes}
+use Rattle.model.specs.Leading.{LeadsBy}
 use Rattle.model.specs.PrivateCopy.{PrivateCopy, copy_of, copy_after, writes, is_written, is_same_mark}
 use Rattle.model.specs.PrivateCopy.Mark.{OfKey}
 use Rattle.model.specs.Machine.{State, Running, running_of, snapshot, step}
@@ -47,8 +48,7 @@ IsNotRefused e s q = (m : State) → StandsFor e m → IsFalse (is_refused (step
 -- from every state that the old engine stood for to the machine's next one, with the machine's response; where memory was
 -- refused, there is no response, the machine's would have been no refusal, and the states are as they were
 abbrev pub Leads : {D : Type 0} {g : Ghosts D} → Engine D g → Engine D g → ℕ → Operation → Bool → Option Response → Type 0
-Leads old new s q failed (Some response) =
-    (m : State) → StandsFor old m → StandsFor new (step m s q failed).0 × ((step m s q failed).1 ≡ response)
+Leads old new s q failed (Some response) = LeadsBy StandsFor old new (λ m n. step m s q failed ≡ (n, response))
 Leads old new s q failed None = StandsForSame old new × IsNotRefused old s q
 
 -- the response that a result says, and nothing where memory was refused

@@ -7,6 +7,7 @@ use Rattle.sessions.specs.declared.events.Outcome.TheVariants.{Done}
 use Rattle.sessions.specs.declared.hub.Hub.{Hub}
 use Rattle.sessions.specs.SessionStreams.{Joins, hub_step}
 use Rattle.sessions.specs.StandsFor.{StandsFor, HubLeads, status_in}
+use Rattle.sessions.proofs.Reached.{reached}
 use Rattle.stream_driver.specs.declared.entries.EntryState.TheVariants.{Ready, Gone}
 use Rattle.stream_driver.specs.declared.entries.Entry.{Entry}
 use Rattle.stream_driver.specs.Sessions.{Stands, status_at}
@@ -41,7 +42,7 @@ module _ {T D : Type 0} {g : Ghosts D} (hub later : Hub D g) (next then : ℕ) (
         let apart : s ≢ next = λ same. (let bad : Ready ≡ Gone = sym l.state ∙ without l.key l.entry l.changed (l.session ∙ sym same) in cc) in
         let before : IsWithoutEntry s slots = λ key entry e same. without key entry (l.others key (λ at. (let bad : None ≡ Some entry = sym l.vacant ∙ ap (slot_at slots) (sym at) ∙ e in cc)) ∙ e) same in
         absent_in_each later s
-        (∥∥₁_map some (λ w. ((hub_step w.0 (Joins next) l.joined.0).0, (l.joined.3 w.0 w.1).stands, ap status_in (joins_other w.0 next l.joined.0 s apart) ∙ has w.0 w.1 s before))) k stands
+        (∥∥₁_map some (λ w. ((hub_step w.0 (Joins next) l.joined.0).0, (reached hub later (Joins next) Done l.joined w.0 w.1).stands, ap status_in (joins_other w.0 next l.joined.0 s apart) ∙ has w.0 w.1 s before))) k stands
 
   module _ (a : TurnsAway hub next slots later then new) where
     away_sessions : AreBelow next slots → HaveSessions hub slots → HaveSessions later new
@@ -62,8 +63,8 @@ module _ {T D : Type 0} {g : Ghosts D} (hub later : Hub D g) (next then : ℕ) (
               absent_in_each later s
               (∥∥₁_map some (λ w. (
                 (hub_step w.0 (Joins next) j.2.0).0,
-                (j.2.3 w.0 w.1).stands,
-                ap (λ h. status_at h s) (joins_not w.0 next j.2.0 (λ done. j.1 ((j.2.3 w.0 w.1).outcome_is ∙ done)))
+                (reached hub later (Joins next) j.0 j.2 w.0 w.1).stands,
+                ap (λ h. status_at h s) (joins_not w.0 next j.2.0 (λ done. j.1 ((reached hub later (Joins next) j.0 j.2 w.0 w.1).outcome_is ∙ done)))
                     ∙ has w.0 w.1 s before,
               ))) k stands
         ]

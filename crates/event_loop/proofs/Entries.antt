@@ -25,7 +25,7 @@ use Rattle.mio.specs.declared.event.event.Event.{Event}
 use Rattle.mio.specs.Event.{event_token, is_priority, is_read_closed}
 use Rattle.event_loop.specs.Numbers.{AreBelow}
 use Rattle.event_loop.specs.Tables.{EndsTurn, HasNobody, HaveEntries, IsWithoutEntry, after_event, after_poll, readied, slot_at, told, told_slot}
-use Rattle.event_loop.proofs.Leading.{at_end, at_point, point_of}
+use Rattle.stream_driver.proofs.States.{at_point, point_of}
 use Rattle.event_loop.proofs.Present.{test, reached-run, absent_then, others_then}
 
 -- ---- the states that one hub stands for
@@ -165,7 +165,7 @@ module _ {T : Type 0} where
         absent_in_each later s
         (∥∥₁_map some (λ w. (
         let p = leads.to (point_of hub w.0) (at_point hub w.0 w.1) in
-        (p.0.hub, (at_end hub later (point_of hub w.0) p.0 p.1).state, driven_absent tells traffic s (point_of hub w.0) slots p.0 new p.2 w.1.reached without (λ none. has w.0 w.1 s none))
+        (p.0.hub, p.1.state, driven_absent tells traffic s (point_of hub w.0) slots p.0 new p.2.1 w.1.reached without (λ none. has w.0 w.1 s none))
         ))) k stands
 
   -- ---- the table alone changes

@@ -1,5 +1,5 @@
 -- The table keeps a session of its own for each entry, under a number that is below the next.
-use Rattle.std.proofs.Common.{◌≡◌, ◌≢◌, ◌⊎◌, inl, inr, ℕ, ◌+◌, ◌<◌, List, get_or, refl, sym, ap, subst, ◌∙◌, arith, Option, Some, None, unwrap_or}
+use Rattle.std.proofs.Common.{◌≡◌, ◌≢◌, ◌⊎◌, inl, inr, ℕ, ◌+◌, ◌<◌, List, get_or, sym, ap, subst, ◌∙◌, arith, Option, Some, None, unwrap_or}
 use Rattle.std.proofs.lemmas.Bool.{cases_eq}
 use Rattle.std.proofs.Math.Logic.{∥∥₁_map}
 use Rattle.slab.specs.Slab.{Slab, Updates}
@@ -10,23 +10,24 @@ use Rattle.sessions.specs.declared.events.Outcome.TheVariants.{Done}
 use Rattle.sessions.specs.declared.hub.Hub.{Hub}
 use Rattle.sessions.specs.SessionStreams.{Joins, hub_step}
 use Rattle.sessions.specs.StandsFor.{HubLeads, status_in}
+use Rattle.sessions.proofs.Reached.{reached}
 use Rattle.stream_driver.specs.declared.entries.Entry.{Entry}
 use Rattle.stream_driver.specs.Sessions.{Point, Stands, IsPresent, Leads}
 use Rattle.stream_driver.specs.Entries.{HaveSessions, KeepSessions}
 use Rattle.event_loop.specs.Numbers.{AreBelow}
 use Rattle.event_loop.proofs.Joins.{joins_other, joins_same}
-use Rattle.event_loop.proofs.Leading.{at_end, at_point, point_of}
+use Rattle.stream_driver.proofs.States.{some_after}
 
 pub stands_after : {D : Type 0} {g : Ghosts D} (a b : Hub D g) (P : Point → Point → Type 0) → Stands a → Leads a b P → Stands b
-stands_after a b P some leads = ∥∥₁_map some (λ w. let k = leads.to (point_of a w.0) (at_point a w.0 w.1) in (k.0.hub, (at_end a b (point_of a w.0) k.0 k.1).state, tt))
+stands_after a b P some leads = some_after a b _ P _ some leads (λ h k is related. tt)
 
 -- a session was to join
 module _ {D : Type 0} {g : Ghosts D} (hub later : Hub D g) (s : ℕ) (outcome : Outcome) (leads : HubLeads hub later (Joins s) outcome) where
   pub joined_stands : Stands hub → Stands later
-  joined_stands some = ∥∥₁_map some (λ w. (let there = leads.3 w.0 w.1 in ((hub_step w.0 (Joins s) leads.0).0, there.stands, tt)))
+  joined_stands some = ∥∥₁_map some (λ w. (let there = leads.3 w.0 w.1 in (there.0, there.1, tt)))
 
   pub still : (t : ℕ) → t ≢ s → IsPresent hub t → IsPresent later t
-  still t apart has = ∥∥₁_map has (λ w. (let there = leads.3 w.0 w.1 in ((hub_step w.0 (Joins s) leads.0).0, there.stands, λ gone. w.2 (sym (ap status_in (joins_other w.0 s leads.0 t apart)) ∙ gone))))
+  still t apart has = ∥∥₁_map has (λ w. (let there = reached hub later (Joins s) outcome leads w.0 w.1 in ((hub_step w.0 (Joins s) leads.0).0, there.stands, λ gone. w.2 (sym (ap status_in (joins_other w.0 s leads.0 t apart)) ∙ gone))))
 
 module _ {T : Type 0} where
   some_inj : {a b : Entry T} → Some a ≡ Some b → a ≡ b
@@ -46,7 +47,7 @@ module _ {T : Type 0} where
   module _ {D : Type 0} {g : Ghosts D} (hub later : Hub D g) (old new : Slab (Entry T)) (key : ℕ) (entry : Entry T) (up : Updates old new key (Some entry)) (leads : HubLeads hub later (Joins entry.session) Done) where
     there_now : Stands hub → IsPresent later entry.session
     there_now some = ∥∥₁_map some (λ w. (
-        let there = leads.3 w.0 w.1 in
+        let there = reached hub later (Joins entry.session) Done leads w.0 w.1 in
         ((hub_step w.0 (Joins entry.session) leads.0).0, there.stands, λ gone. (let bad : Open ≡ Absent = sym (ap status_in (joins_same w.0 entry.session leads.0 there.outcome_is)) ∙ gone in cc))
         ))
 

@@ -16,4 +16,5 @@ pub mod Cycle
 pub mod Verdict
 pub mod Machine
 pub mod SerialOrder
+pub mod Leading
 pub mod Laws

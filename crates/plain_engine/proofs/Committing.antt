@@ -182,11 +182,8 @@ ended : (e : Engine) (n : BTreeMap ℕ Transaction) (s : ℕ) (t : Transaction) 
 ended e n s t failed refusal out says m h =
     let f = zip_some m.base m.history s t e.running.entries m.running h.running out.found in
     let is : step m s Commit failed ≡ refuse m s refusal = step_with m s Commit failed f.run f.is ∙ says m f.run h f.same in
-    let reached : IsReached (leave m s) = subst (λ p. IsReached p.0) is (reached_next m (Asks s Commit failed) h.reached) in (
-      subst (λ p. StandsFor (record e { running = n }) p.0) (sym is)
-          (record { reached = reached; current = h.current; committed = h.committed; used = h.used; count = h.count; stopped = h.stopped; running = running_left e m s t n.entries h out }),
-      ap (λ p. p.1) is,
-    )
+    let reached : IsReached (leave m s) = subst (λ p. IsReached p.0) is (reached_next m (Asks s Commit failed) h.reached) in
+    (leave m s, record { reached = reached; current = h.current; committed = h.committed; used = h.used; count = h.count; stopped = h.stopped; running = running_left e m s t n.entries h out }, is)
 
 pub ended_stopped : (e : Engine) (n : BTreeMap ℕ Transaction) (s : ℕ) (t : Transaction) (failed : Bool) → TakesOut e n.entries s t → e.stopped ≡ true →
     Leads e (record e { running = n }) s Commit failed (Some (Refused StoreStopped))
@@ -223,11 +220,8 @@ ended_fault e n s t failed out tried v wrote room f m h =
     let is : step m s Commit failed ≡ after =
     step_with m s Commit failed found.run found.is ∙ clear_is e m s t found.run failed h found.same tried v
     ∙ store-fault m s (record_to_commit m found.run) (record_of e t).writes failed wrote (omega arith) f in
-    let reached : IsReached after.0 = subst (λ p. IsReached p.0) is (reached_next m (Asks s Commit failed) h.reached) in (
-      subst (λ p. StandsFor (record e { running = n; stopped = true }) p.0) (sym is)
-          (record { reached = reached; current = h.current; committed = h.committed; used = h.used; count = h.count; stopped = refl; running = running_left e m s t n.entries h out }),
-      ap (λ p. p.1) is,
-    )
+    let reached : IsReached after.0 = subst (λ p. IsReached p.0) is (reached_next m (Asks s Commit failed) h.reached) in
+    (after.0, record { reached = reached; current = h.current; committed = h.committed; used = h.used; count = h.count; stopped = refl; running = running_left e m s t n.entries h out }, is)
 
 -- a commit that is answered a number
 joined : (e e' : Engine) (s : ℕ) (t : Transaction) (failed : Bool) (n : ℕ) (sectors : ℕ) → n ≡ length e.commits.items → TakesOut e e'.running.entries s t →
@@ -254,7 +248,7 @@ joined e e' s t failed n sectors counted out says stopped count used current com
       count = h.count ∙ sym count;
       stopped = h.stopped ∙ sym stopped;
     } in
-    (subst (λ p. StandsFor e' p.0) (sym is) stands, ap (λ p. p.1) is ∙ (let next : suc (last m) ≡ n + 1 = omega (arith, last_is e m h) in ap Number next))
+    ((join_history m s r sectors).0, stands, is ∙ (let next : suc (last m) ≡ n + 1 = omega (arith, last_is e m h) in ap (λ k. ((join_history m s r sectors).0, Number k)) next))
 
 pub joined_unwritten : (e e' : Engine) (s : ℕ) (t : Transaction) (failed : Bool) (n : ℕ) → n ≡ length e.commits.items → TakesOut e e'.running.entries s t → IsTried e →
     None ≡ verdict e.commits.items (record_of e t) → (record_of e t).writes ≡ [] → e'.stopped ≡ e.stopped → e'.count ≡ e.count → e'.used ≡ e.used →

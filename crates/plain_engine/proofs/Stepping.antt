@@ -79,7 +79,7 @@ pub refused_outside : (e : Engine) (n : BTreeMap ℕ Transaction) (s : ℕ) (q :
 refused_outside e n s q failed refusal same none says m h =
     let absent : running_of m s ≡ None = zip_none m.base m.history s e.running.entries m.running h.running none in
     let is : step m s q failed ≡ (m, Refused refusal) = step_without m s q failed absent ∙ says m h in
-    (subst (λ p. StandsFor (record e { running = n }) p.0) (sym is) (stands_at e n m same h), ap (λ p. p.1) is)
+    (m, stands_at e n m same h, is)
 
 own_step_call : (e : Engine) (n : BTreeMap ℕ Transaction) (s : ℕ) (q : Operation) (failed : Bool) (t t' : Transaction) (response : Response) →
     ((m : State) (r : Running) → step_inside m s r q failed ≡ own_step m s r q) →
@@ -98,9 +98,9 @@ own_step_call e n s q failed t t' response own some ordered entries begin answer
     subst (λ es. AreRunning m.base m.history es (put nat_cmp s run m.running)) (sym entries)
     (zip_set m.base m.history s t t' run e.running.entries m.running h.running ordered some here) in
     let reached : IsReached (own_step m s f.run q).0 = subst (λ p. IsReached p.0) is (reached_next m (Asks s q failed) h.reached) in (
-      subst (λ p. StandsFor (record e { running = n }) p.0) (sym is)
-          (record { reached = reached; current = h.current; committed = h.committed; used = h.used; count = h.count; stopped = h.stopped; running = zipped }),
-      ap (λ p. p.1) is ∙ ap (λ c. (respond c q).0) (sym f.same.copy) ∙ sym answers.0,
+      (own_step m s f.run q).0,
+      record { reached = reached; current = h.current; committed = h.committed; used = h.used; count = h.count; stopped = h.stopped; running = zipped },
+      is ∙ ap (λ x. ((own_step m s f.run q).0, x)) (ap (λ c. (respond c q).0) (sym f.same.copy) ∙ sym answers.0),
     )
 
 -- a request of the session's own transaction
@@ -121,11 +121,8 @@ abort_call e n s failed t some entries ordered m h =
     let zipped : AreRunning m.base m.history n.entries ((leave m s).running) =
     subst (λ es. AreRunning m.base m.history es ((leave m s).running)) (sym entries)
     (zip_remove m.base m.history s e.running.entries m.running h.running ordered) in
-    let reached : IsReached (leave m s) = subst (λ p. IsReached p.0) is (reached_next m (Asks s Abort failed) h.reached) in (
-      subst (λ p. StandsFor (record e { running = n }) p.0) (sym is)
-          (record { reached = reached; current = h.current; committed = h.committed; used = h.used; count = h.count; stopped = h.stopped; running = zipped }),
-      ap (λ p. p.1) is,
-    )
+    let reached : IsReached (leave m s) = subst (λ p. IsReached p.0) is (reached_next m (Asks s Abort failed) h.reached) in
+    (leave m s, record { reached = reached; current = h.current; committed = h.committed; used = h.used; count = h.count; stopped = h.stopped; running = zipped }, is)
 
 -- BEGIN inside a transaction is an own request that is refused
 pub begin_inside : (e : Engine) (s : ℕ) (failed : Bool) (t : Transaction) → get_by (nat_cmp s) e.running ≡ Some t → IsOrdered nat_cmp e.running →
@@ -159,11 +156,8 @@ begin_call e n s failed t none stopped few entries begin copy m h =
     let zipped : AreRunning m.base m.history n.entries (put nat_cmp s run m.running) =
     subst (λ es. AreRunning m.base m.history es (put nat_cmp s run m.running)) (sym entries)
     (zip_insert m.base m.history s t run e.running.entries m.running h.running here) in
-    let reached : IsReached (with_running m s run) = subst (λ p. IsReached p.0) is (reached_next m (Asks s Begin failed) h.reached) in (
-      subst (λ p. StandsFor (record e { running = n }) p.0) (sym is)
-          (record { reached = reached; current = h.current; committed = h.committed; used = h.used; count = h.count; stopped = h.stopped; running = zipped }),
-      ap (λ p. p.1) is,
-    )
+    let reached : IsReached (with_running m s run) = subst (λ p. IsReached p.0) is (reached_next m (Asks s Begin failed) h.reached) in
+    (with_running m s run, record { reached = reached; current = h.current; committed = h.committed; used = h.used; count = h.count; stopped = h.stopped; running = zipped }, is)
 
 pub leave_call : (e : Engine) (n : BTreeMap ℕ Transaction) (s : ℕ) → n.entries ≡ remove_entry (is_at (nat_cmp s)) e.running.entries → IsOrdered nat_cmp e.running →
     (m : State) → StandsFor e m → StandsFor (record e { running = n }) (leave m s)
@@ -183,10 +177,10 @@ pub passed : (e : Engine) (s : ℕ) (q : Operation) (response : Response) → Is
     ((c : PrivateCopy) → respond c q ≡ (response, c)) → Leads e e s q false (Some response)
 passed e s q response ordered inside outside same m h = by (get_by (nat_cmp s) e.running) refl
   where
-    by : (o : Option Transaction) → get_by (nat_cmp s) e.running ≡ o → StandsFor e (step m s q false).0 × ((step m s q false).1 ≡ response)
+    by : (o : Option Transaction) → get_by (nat_cmp s) e.running ≡ o → (n : State) × StandsFor e n × (step m s q false ≡ (n, response))
     by None none =
         let is : step m s q false ≡ (m, response) = step_without m s q false (zip_none m.base m.history s e.running.entries m.running h.running none) ∙ outside m in
-        (subst (λ p. StandsFor e p.0) (sym is) h, ap (λ p. p.1) is)
+        (m, h, is)
     by (Some t) some =
         own_call e e.running s q false t t (Some response) inside some ordered (sym (set_value_same (is_at (nat_cmp s)) e.running.entries t some)) refl
         (ap (λ p. p.0) (sym (same t.copy)), ap (λ p. p.1) (sym (same t.copy))) m h

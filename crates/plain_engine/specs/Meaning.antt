@@ -6,6 +6,7 @@ use Rattle.std.specs.BTreeMap.{is_at, IsOrdered}
 use Rattle.std.specs.Ordering.{nat_cmp}
 use Rattle.model.specs.Map.{KeyMap}
 use Rattle.model.specs.Operations.{Operation, Response}
+use Rattle.model.specs.Leading.{LeadsBy}
 use Rattle.model.specs.PrivateCopy.{copy_of, copy_after}
 use Rattle.model.specs.History.{Record, map_at}
 use Rattle.model.specs.Machine.{State, Running, IsReached, last, step}
@@ -35,7 +36,7 @@ pub record StandsFor (e : Engine) (m : State) : Type 0 where
 -- was refused there is no response, and the new one stands for the same states. This says less than the engine's word of that name: it
 -- leaves open whether the machine would have refused the request, since this engine copies before it judges.
 abbrev pub Leads : Engine → Engine → ℕ → Operation → Bool → Option Response → Type 0
-Leads old new s q failed (Some response) = (m : State) → StandsFor old m → StandsFor new (step m s q failed).0 × ((step m s q failed).1 ≡ response)
+Leads old new s q failed (Some response) = LeadsBy StandsFor old new (λ m n. step m s q failed ≡ (n, response))
 Leads old new s q failed None = (m : State) → StandsFor old m ↔ StandsFor new m
 
 -- the same engine without the session's transaction

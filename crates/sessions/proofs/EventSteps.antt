@@ -7,6 +7,7 @@ use Rattle.std.specs.Map.{lookup, remove_entry, set_value}
 use Rattle.std.specs.BTreeMap.{insert_entry, is_at}
 use Rattle.std.proofs.lemmas.Map.Steps.{set_value_same}
 use Rattle.std.proofs.lemmas.Bool.Decides.{nat_tests}
+use Rattle.model.specs.Leading.{LeadsBy}
 use Rattle.model.specs.Map.{Bytes}
 use Rattle.model.specs.Machine.{leave}
 use Rattle.engine.specs.declared.engine.Engine.{Engine}
@@ -92,15 +93,15 @@ plain refused failed = record { front = More; refused = refused; failed = failed
 
 module _ {D : Type 0} {g : Ghosts D} (old new : Hub D g) (h : HubState) (stands : StandsFor old h) (e : HubEvent) (c : Choice) (outcome : Outcome) where
   pub reaches : (after : HubState) → IsPossible h e c → hub_step h e c ≡ (after, outcome) → EngineStandsFor new.engine after.machine → new.sessions ≡ at_hand after.present → new.latest ≡ after.latest
-      → Reaches new h e c outcome
+      → (later : HubState) × StandsFor new later × Reaches h e c later outcome
   reaches after possible step engine sessions latest =
-      let P : HubState × Outcome → Type 0 = λ r. IsReachedHub r.0 → StandsFor new r.0 × (outcome ≡ r.1) in
-      let all = subst P (sym step) (λ reached. (record { engine = engine; sessions = sessions; latest = latest; reached = reached }, refl)) (Continued h e c possible stands.reached) in
-      record { possible = possible; stands = all.0; outcome_is = all.1 }
+      let reached : IsReachedHub after = subst (λ (r : HubState × Outcome). IsReachedHub r.0) step (Continued h e c possible stands.reached) in
+      (after, record { engine = engine; sessions = sessions; latest = latest; reached = reached }, record { possible = possible; step = step })
 
 -- nothing changed
 module _ {D : Type 0} {g : Ghosts D} (hub new : Hub D g) (h : HubState) (stands : StandsFor hub h) (e : HubEvent) (outcome : Outcome) (failed : Bool) (engine : new.engine ≡ hub.engine) (sessions : new.sessions ≡ hub.sessions) (latest : new.latest ≡ hub.latest) where
-  pub unchanged : (refused : Bool) → IsPossible h e (plain refused failed) → hub_step h e (plain refused failed) ≡ (h, outcome) → Reaches new h e (plain refused failed) outcome
+  pub unchanged : (refused : Bool) → IsPossible h e (plain refused failed) → hub_step h e (plain refused failed) ≡ (h, outcome)
+      → (later : HubState) × StandsFor new later × Reaches h e (plain refused failed) later outcome
   unchanged refused possible step =
       let P : Engine D g → Type 0 = λ x. EngineStandsFor x h.machine in
       reaches hub new h stands e (plain refused failed) outcome h possible step (subst P (sym engine) stands.engine) (sessions ∙ stands.sessions) (latest ∙ stands.latest)
@@ -221,7 +222,7 @@ module _ {D : Type 0} {g : Ghosts D} (old new : Hub D g) (s : ℕ) (before after
       c : Choice
       c = chosen x.0 outcome (has_failed old.engine new.engine)
 
-      leads : (h : HubState) → StandsFor old h → Reaches new h (Serves s) c outcome
+      leads : LeadsBy StandsFor old new (λ h later. Reaches h (Serves s) c later outcome)
       leads h stands =
           let f = stream-some old h stands s before found in
           let E : SessionState → Type 0 = λ n. HasEffect old.engine new.engine s c h.machine n after outcome in

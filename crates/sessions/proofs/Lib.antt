@@ -4,6 +4,7 @@ pub mod EventSteps
 pub mod StreamLaws
 pub mod OpenTransactions
 pub mod CrashSteps
+pub mod Reached
 pub mod RunLaws
 pub mod LifeLaws
 pub mod LivesLaws

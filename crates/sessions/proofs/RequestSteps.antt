@@ -12,9 +12,9 @@ use Rattle.model.specs.Operations.{Operation, Response}
 use Rattle.model.specs.Operations.Operation.{Begin, Get, Set, Del, Range, Commit, Abort, Ping, Faulty}
 use Rattle.model.specs.Machine.{State, Running, step, step_of, leave, running_of, with_running}
 use Rattle.model.specs.ReplyText.{reply_text}
+use Rattle.model.proofs.Leading.{stepped}
 use Rattle.engine.specs.declared.engine.Engine.{Engine}
-use Rattle.engine.specs.Meaning.{StandsFor}
-use Rattle.engine.specs.Meaning.{Leads, StandsForSame, IsNotRefused}
+use Rattle.engine.specs.Meaning.{StandsFor, Leads, StandsForSame, IsNotRefused, device_of, failures_of, has_risen}
 use Rattle.snapshot.specs.Made.{is_refused}
 use Rattle.engine.specs.Meaning.{response_to, response_to_read}
 use Rattle.engine.specs.declared.faults.EngineFault.{EngineFault}
@@ -22,7 +22,7 @@ use Rattle.engine.specs.declared.faults.EngineFault.TheVariants.{Refused as Refu
 use Rattle.model.specs.Operations.Response.{Done, Refused as Refusing}
 use Rattle.engine.specs.declared.faults.ReadFault.{ReadFault}
 use Rattle.engine.specs.declared.faults.ReadFault.TheVariants.{NotOpen, FullMarks, Memory as NoMemory}
-use Rattle.sessions.specs.Calls.{Writes, Executes, refusal_to_read}
+use Rattle.sessions.specs.Calls.{Writes, Executes, has_failed, refusal_to_read}
 use Rattle.sessions.specs.SessionStreams.{takes_memory}
 
 -- ---- the machine
@@ -121,17 +121,16 @@ written response before after (Ok done) empty ok is_ok = ok ∙ ap (λ xs. xs ++
 written response before after (Err refused) empty ok is_ok = absurd (cc)
 
 module _ {D : Type 0} {g : Ghosts D} (old new : Engine D g) (s : ℕ) (q : Operation) (b : Bool) where
-  -- a call, and then its response written
+  -- a call that takes no memory, and then its response written
+  pub executes_always : (response : Response) (after : Bytes) (r : Result (Unit {0}) Memory) → Leads old new s q b (Some response) → Writes (Some response) after r → Executes old new s q b after r
+  executes_always response after (Ok done) leads said = λ m h. let n = leads m h in let x = stepped StandsFor new n.0 response (step m s q b) n.1 n.2 in (x.0, said ∙ ap reply_text (sym x.1))
+  executes_always response after (Err refused) leads said = absurd said
+
+  -- the same of one that may be refused memory
   pub executes_from : (response : Option Response) (after : Bytes) (r : Result (Unit {0}) Memory) → IsTrue (takes_memory q) → Leads old new s q b response → Writes response after r → Executes old new s q b after r
-  executes_from (Some response) after (Ok done) takes leads said = λ m h. let x = leads m h in (x.0, said ∙ ap reply_text (sym x.1))
-  executes_from (Some response) after (Err refused) takes leads said = absurd said
+  executes_from (Some response) after r takes leads said = executes_always response after r leads said
   executes_from None after (Ok done) takes leads said = absurd said
   executes_from None after (Err refused) takes leads said = (takes, λ m h. (m, (leads.0 m).0 h, refl), said, leads.1)
-
-  -- the same of a call that takes no memory
-  pub executes_always : (response : Response) (after : Bytes) (r : Result (Unit {0}) Memory) → Leads old new s q b (Some response) → Writes (Some response) after r → Executes old new s q b after r
-  executes_always response after (Ok done) leads said = λ m h. let x = leads m h in (x.0, said ∙ ap reply_text (sym x.1))
-  executes_always response after (Err refused) leads said = absurd said
 
   -- the same with the flag that such a request doesn't see
   pub executes_flag : (after : Bytes) (r : Result (Unit {0}) Memory) → is_commit q ≡ false → Executes old new s q false after r → Executes old new s q b after r
@@ -143,19 +142,29 @@ pub executes_call : {D : Type 0} {g : Ghosts D} (old new : Engine D g) (s : ℕ)
     → is_commit q ≡ false → IsTrue (takes_memory q) → Leads old new s q false response → Writes response after r → Executes old new s q b after r
 executes_call old new s q b response after r no_commit takes leads said = executes_flag old new s q b after r no_commit (executes_from old new s q false response after r takes leads said)
 
--- a call and a reclamation after it
-pub leads_kept : {D : Type 0} {g : Ghosts D} (old mid new : Engine D g) (s : ℕ) (q : Operation) (b : Bool) (response : Response) → Leads old mid s q b (Some response)
-    → ((m : State) → StandsFor mid m → StandsFor new m) → Leads old new s q b (Some response)
-leads_kept old mid new s q b response leads keeps = λ m h. let x = leads m h in (keeps _ x.0, x.1)
+-- a call that takes no memory and a reclamation after it, and then its response written
+executes_kept : {D : Type 0} {g : Ghosts D} (old mid new : Engine D g) (s : ℕ) (q : Operation) (b : Bool) (response : Response) (after : Bytes) (r : Result (Unit {0}) Memory) → Leads old mid s q b (Some response)
+    → ((m : State) → StandsFor mid m → StandsFor new m) → Writes (Some response) after r → Executes old new s q b after r
+executes_kept old mid new s q b response after r leads keeps said = executes_always old new s q b response after r (λ m h. let n = leads m h in (n.0, keeps n.0 n.1, n.2)) said
+
+-- the same of a COMMIT
+pub executes_commit : {D : Type 0} {g : Ghosts D} (old mid new : Engine D g) (s : ℕ) (response : Response) (after : Bytes) (r : Result (Unit {0}) Memory) → device_of new ≡ device_of mid
+    → Leads old mid s Commit (has_failed old mid) (Some response) → ((m : State) → StandsFor mid m → StandsFor new m) → Writes (Some response) after r → Executes old new s Commit (has_failed old new) after r
+executes_commit {D} {g} old mid new s response after r same leads keeps said =
+    executes_kept old mid new s Commit (has_failed old new) response after r
+    (subst (λ (d : D). Leads old mid s Commit (has_risen (failures_of old) (g.failures d)) (Some response)) (sym same) leads) keeps said
 
 module _ {D : Type 0} {g : Ghosts D} (old new : Engine D g) (s : ℕ) (q : Operation) where
   -- a read whose response may be too long
   pub executes_read : (response : Response) (before after : Vec ℕ Global) (r : Result (Unit {0}) Memory) → IsRead q → Leads old new s q false (Some response) → is_refused response ≡ false → before.items ≡ []
       → OnOk r (after.items ≡ before.items ++ reply_text response) → OnErr r (after.items ≡ before.items) → Executes old new s q false after.items r
-  executes_read response before after (Ok done) read leads plain empty ok err =
-      λ m h. let x = leads m h in (x.0, ok ∙ ap (λ xs. xs ++ reply_text response) empty ∙ ap reply_text (sym x.1))
-  executes_read response before after (Err refused) read leads plain empty ok err =
-      (read_takes q read, λ m h. ((step m s q false).0, (leads m h).0, leave-read m s q read), err ∙ empty, λ m h. ap is_refused (leads m h).1 ∙ plain)
+  executes_read response before after (Ok done) read leads plain empty ok err = executes_always old new s q false response after.items (Ok done) leads (ok ∙ ap (λ xs. xs ++ reply_text response) empty)
+  executes_read response before after (Err refused) read leads plain empty ok err = (
+    read_takes q read,
+    λ m h. let n = leads m h in (n.0, n.1, ap (λ r. leave r.0 s) (sym n.2) ∙ leave-read m s q read),
+    err ∙ empty,
+    λ m h. ap (λ r. is_refused r.1) (leads m h).2 ∙ plain,
+  )
 
 -- a read's refusal doesn't depend on what it reads
 same_refusal : {T : Type 0} (f : T → Response) (fault : ReadFault) → response_to_read f (Err fault) ≡ refusal_to_read fault
@@ -178,7 +187,6 @@ memory_same old new s q b f result is leads = subst (λ o. Leads old new s q b o
 pub executes_ended : {D : Type 0} {g : Ghosts D} (old mid new : Engine D g) (s : ℕ) (q : Operation) (answer : Result (Unit {0}) EngineFault) (after : Bytes) (r : Result (Unit {0}) Memory)
     → answer ≢ Err OutOfMemory → Leads old mid s q false (response_to (λ (u : Unit {0}). Done) answer) → ((m : State) → StandsFor mid m → StandsFor new m)
     → Writes (response_to (λ (u : Unit {0}). Done) answer) after r → Executes old new s q false after r
-executes_ended old mid new s q (Ok done) after r answered leads keeps said = executes_always old new s q false Done after r (leads_kept old mid new s q false Done leads keeps) said
-executes_ended old mid new s q (Err (RefusedFor refusal)) after r answered leads keeps said =
-    executes_always old new s q false (Refusing refusal) after r (leads_kept old mid new s q false (Refusing refusal) leads keeps) said
+executes_ended old mid new s q (Ok done) after r answered leads keeps said = executes_kept old mid new s q false Done after r leads keeps said
+executes_ended old mid new s q (Err (RefusedFor refusal)) after r answered leads keeps said = executes_kept old mid new s q false (Refusing refusal) after r leads keeps said
 executes_ended old mid new s q (Err OutOfMemory) after r answered leads keeps said = absurd (answered refl)

@@ -16,7 +16,7 @@ use Rattle.engine.specs.Meaning.{has_risen}
 use Rattle.sessions.specs.declared.hub.Hub.{Hub}
 use Rattle.sessions.specs.declared.events.Outcome.{Outcome}
 use Rattle.sessions.specs.SessionStreams.{HubState, SessionStream, HubEvent, Joins, Receives, Serves, Sends, Leaves, Front, Whole, More, Bad, Choice, Effect, IsPossible, IsServePossible, ArePossible, hub_step, run, stream_of, with_effect, may_serve, serve_session, serve_front, served_with, asks, IsReachedHub, Continued}
-use Rattle.sessions.specs.StandsFor.{StandsFor, Reaches, failures}
+use Rattle.sessions.specs.StandsFor.{StandsFor, failures}
 use Rattle.sessions.specs.Laws.{RunsBy, IsLawful, failures_in}
 use Rattle.sessions.specs.Life.{Survives}
 use Rattle.sessions.proofs.OpenTransactions.{always}
@@ -201,7 +201,7 @@ no_events hub h law stands survives = record {
   survives = survives;
 }
 
-module _ {D : Type 0} {g : Ghosts D} (old mid new : Hub D g) (h : HubState) (es : List (HubEvent × Choice)) (e : HubEvent) (outcome : Outcome) (bc : failures mid ≤ failures new)
+module _ {D : Type 0} {g : Ghosts D} (old mid new : Hub D g) (h : HubState) (es : List (HubEvent × Choice)) (e : HubEvent) (bc : failures mid ≤ failures new)
     (law : MachineLaw) (reached : IsReachedHub h) (so_far : RunsBy old mid h es) (choice : Choice) (told : choice.failed ≡ has_risen (failures mid) (failures new))
     (more : (n : Choice) → StandsFor new (hub_step (run h es) e n).0 → g.keeps_model → Survives old new h (es ++ (e, n) ∷ [])) where
   abbrev there : HubState
@@ -249,11 +249,11 @@ module _ {D : Type 0} {g : Ghosts D} (old mid new : Hub D g) (h : HubState) (es 
           }
 
   -- by this choice, or by one that tells of no failure and leads to the same
-  pub one_more : Reaches new there e choice outcome → (n : Choice) × ((hub_step there e n).0 ≡ (hub_step there e choice).0) × RunsBy old new h (pushed n)
-  one_more reaches = by_flag choice.failed refl
+  pub one_more : IsPossible there e choice → StandsFor new (hub_step there e choice).0 → (n : Choice) × ((hub_step there e n).0 ≡ (hub_step there e choice).0) × RunsBy old new h (pushed n)
+  one_more possible stands = by_flag choice.failed refl
     where
       by_flag : (f : Bool) → choice.failed ≡ f → (n : Choice) × ((hub_step there e n).0 ≡ (hub_step there e choice).0) × RunsBy old new h (pushed n)
-      by_flag false is = (choice, refl, push choice reaches.possible reaches.stands (λ up. (let bad : false ≡ true = sym is ∙ up in absurd (cc))))
+      by_flag false is = (choice, refl, push choice possible stands (λ up. (let bad : false ≡ true = sym is ∙ up in absurd (cc))))
       by_flag true is =
           let same = choice_is choice true is in
           elim (hub-flagged there e choice) [
@@ -262,11 +262,11 @@ module _ {D : Type 0} {g : Ghosts D} (old mid new : Hub D g) (h : HubState) (es 
                 let Q : Choice → Type 0 = λ m. StandsFor new (hub_step there e m).0 in (
                   flag choice false,
                   sym (ap (λ r. r.0) quiet) ∙ sym (ap (λ m. (hub_step there e m).0) same),
-                  push (flag choice false) (possible-flag there e choice false reaches.possible) (subst P quiet (subst Q same reaches.stands)) (λ up. (let bad : false ≡ true = up in absurd (cc))),
+                  push (flag choice false) (possible-flag there e choice false possible) (subst P quiet (subst Q same stands)) (λ up. (let bad : false ≡ true = up in absurd (cc))),
                 )
             | inr stops ↦
                 let Q : Choice → Type 0 = λ m. (hub_step there e m).0.machine.stopped ≡ true in
-                (choice, refl, push choice reaches.possible reaches.stands (λ up. (sym told ∙ up, stops.0, subst Q (sym same) stops.1)))
+                (choice, refl, push choice possible stands (λ up. (sym told ∙ up, stops.0, subst Q (sym same) stops.1)))
           ]
 
 pub take_push : {A : Type 0} (xs : List A) (i : ℕ) (d : A) → i < length xs → take (i + 1) xs ≡ take i xs ++ get_or xs i d ∷ []

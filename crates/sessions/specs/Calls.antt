@@ -2,6 +2,7 @@
 use Rattle.std.specs.Prelude.{◌≡◌, ℕ, Bool, List, [], drop, Option, Some, None, Result, Ok, Err, true, false, IsTrue}
 use Rattle.sector.specs.declared.device.Sectors.{Ghosts}
 use Rattle.model.specs.declared.refusals.Memory.{Memory}
+use Rattle.model.specs.Leading.{LeadsBy}
 use Rattle.model.specs.Map.{Bytes}
 use Rattle.model.specs.Operations.{Operation, Response}
 use Rattle.model.specs.Operations.Response.{Done}
@@ -39,7 +40,7 @@ refusal_to_read fault = response_to_read (λ (u : Unit {0}). Done) (Err fault)
 
 -- from every state that the old engine stood for to one that is the same once the session has left
 abbrev pub LeavesSame : {D : Type 0} {g : Ghosts D} → Engine D g → Engine D g → ℕ → Type 0
-LeavesSame old new s = (m : State) → StandsFor old m → (left : State) × StandsFor new left × (leave left s ≡ leave m s)
+LeavesSame old new s = LeadsBy StandsFor old new (λ m left. leave left s ≡ leave m s)
 
 -- the request was executed and its response written to an empty output; where memory was refused, though the request isn't, nothing
 -- was written, and the transaction is still to be aborted

@@ -8,12 +8,11 @@ use Rattle.model.specs.Operations.{Operation, Response}
 use Rattle.model.specs.Machine.{IsReached, Running, running_of, snapshot}
 use Rattle.model.specs.ReplyText.{reply_text}
 use Rattle.sessions.specs.declared.events.Status.TheVariants.{Open}
-use Rattle.sessions.specs.declared.events.Outcome.{Outcome}
 use Rattle.sessions.specs.declared.hub.Hub.{Hub}
 use Rattle.sessions.specs.Calls.{has_failed}
-use Rattle.sessions.specs.SessionStreams.{HubState, SessionStream, HubEvent, Choice, ArePossible, run, replies_text, requests_text, asks, stream_of, hub_step}
+use Rattle.sessions.specs.SessionStreams.{HubState, SessionStream, HubEvent, Choice, IsPossible, ArePossible, run, replies_text, requests_text, asks, stream_of, hub_step}
 use Rattle.engine.specs.Meaning.{has_risen}
-use Rattle.sessions.specs.StandsFor.{StandsFor, Reaches, failures}
+use Rattle.sessions.specs.StandsFor.{StandsFor, failures}
 use Rattle.sessions.specs.Life.{Survives}
 
 -- what came in is the spellings of the requests that were served and then the inbox, until it was emptied for good;
@@ -80,7 +79,7 @@ pub record HasRun {D : Type 0} {g : Ghosts D} (old new : Hub D g) : Type 0 where
 -- Alone, the event is a run: where it leads on by a choice, it does by one that tells of a failure only where the store stops.
 abbrev pub RunsAlone : {D : Type 0} {g : Ghosts D} → Hub D g → Hub D g → HubEvent → Type 0
 RunsAlone old new e =
-    (h : HubState) (c : Choice) (outcome : Outcome) → StandsFor old h → c.failed ≡ has_failed old.engine new.engine → Reaches new h e c outcome
+    (h : HubState) (c : Choice) → StandsFor old h → c.failed ≡ has_failed old.engine new.engine → IsPossible h e c → StandsFor new (hub_step h e c).0
     → (d : Choice) × ((hub_step h e d).0 ≡ (hub_step h e c).0) × RunsBy old new h ((e, d) ∷ [])
 
 -- no event is a run

@@ -1,6 +1,7 @@
 -- Which states a hub stands for, and what an event does to them.
 use Rattle.std.specs.Prelude.{◌≡◌, ℕ, Bool, List, [], map, Option, Some, None}
 use Rattle.sector.specs.declared.device.Sectors.{Ghosts}
+use Rattle.model.specs.Leading.{LeadsBy}
 use Rattle.engine.specs.Meaning.{StandsFor as EngineStandsFor}
 use Rattle.engine.specs.Meaning.{device_of, failures_of, is_stopped as has_engine_stopped}
 use Rattle.sessions.specs.declared.events.Status.{Status}
@@ -41,17 +42,16 @@ failures hub = failures_of hub.engine
 abbrev pub is_stopped : {D : Type 0} {g : Ghosts D} → Hub D g → Bool
 is_stopped hub = has_engine_stopped hub.engine
 
--- the state and the outcome that an event leads to by a choice
-pub record Reaches {D : Type 0} {g : Ghosts D} (new : Hub D g) (h : HubState) (e : HubEvent) (c : Choice) (outcome : Outcome) : Type 0 where
+-- by a choice that is possible, an event leads to this state and outcome
+pub record Reaches (h : HubState) (e : HubEvent) (c : Choice) (later : HubState) (outcome : Outcome) : Type 0 where
   pub possible : IsPossible h e c
-  pub stands : StandsFor new (hub_step h e c).0
-  pub outcome_is : outcome ≡ (hub_step h e c).1
+  pub step : hub_step h e c ≡ (later, outcome)
 
 -- by one choice, in which memory was refused exactly where the outcome says so, and the device failed exactly where its
 -- count says so, from every state that the old hub stood for to the next
 abbrev pub HubLeads : {D : Type 0} {g : Ghosts D} → Hub D g → Hub D g → HubEvent → Outcome → Type 0
 HubLeads old new e outcome =
-    (c : Choice) × (c.refused ≡ is_memory outcome) × (c.failed ≡ has_failed old.engine new.engine) × ((h : HubState) → StandsFor old h → Reaches new h e c outcome)
+    (c : Choice) × (c.refused ≡ is_memory outcome) × (c.failed ≡ has_failed old.engine new.engine) × LeadsBy StandsFor old new (λ h later. Reaches h e c later outcome)
 
 abbrev pub status_in : Option SessionStream → Status
 status_in None = Absent

@@ -18,89 +18,77 @@ use Rattle.stream_driver.specs.declared.answers.WriteAnswer.TheVariants.{Moved a
 use Rattle.stream_driver.specs.Traffic.{Traffic, EndsWith, bytes_read, bytes_written}
 use Rattle.stream_driver.specs.Sessions.{AwaitsMore, Leads, Runs, status_at, pending_at, room_at, IsPresentIn}
 use Rattle.stream_driver.specs.Calls.{WritesSome, ReadsSome}
-use Rattle.stream_driver.proofs.Events.{found, Happens, point_after, one_event, received_by, receives, bytes_came, sent_from, sends, bytes_went, open_present}
+use Rattle.stream_driver.proofs.Events.{found, point_after, one_event, received_by, receives, bytes_came, sent_from, sends, bytes_went, open_present}
 use Rattle.stream_driver.proofs.Carry.{answered}
-use Rattle.stream_driver.proofs.States.{happens_at, leads_none, runs_alone}
+use Rattle.stream_driver.proofs.States.{leads_event, leads_none}
 
 module _ {D : Type 0} {g : Ghosts D} (hub new : Hub D g) (s : ℕ) (tells : Bool) (b a : Traffic) where
   pub wrote_moved : (n : ℕ) → 0 < n → (outcome : Rattle.sessions.specs.declared.events.Outcome.Outcome) → HubLeads hub new (Sends s n) outcome → RunsAlone hub new (Sends s n) → failures hub ≤ failures new
       → ((h : HubState) → StandsFor hub h → IsPresentIn h s × (n ≤ length (pending_at h s)))
       → ((h : HubState) → StandsFor hub h → IsTrue tells → a.taken ≡ b.taken ++ take n (pending_at h s)) → (IsTrue tells → a.given ≡ b.given) → EndsWith (Write (Wrote n)) b a
       → Leads hub new (λ h k. WritesSome s tells h b (Wrote n) k a)
-  wrote_moved n some outcome leads alone counted here taken given calls = record {
-    counted = counted;
-    to = λ h stands.
-        let c = leads.0 in
-        let happens : Happens h (Sends s n) c (failures new) = happens_at hub new (Sends s n) outcome leads counted h stands in
-        let st = found (stream_of h.hub s) (here h.hub stands.state).0 in
-        let is : stream_of h.hub s ≡ Some st.0 = st.1 in
-        let pending : pending_at h.hub s ≡ st.0.now.pending = ap pending_in is in
-        let fits : n ≤ length st.0.now.pending = subst (λ l. n ≤ length l) pending (here h.hub stands.state).1 in
-        let stays : st.0.now.status ≢ Absent = λ gone. (here h.hub stands.state).0 (ap status_in is ∙ gone) in
-        let step : hub_step h.hub (Sends s n) c ≡ (with_stream h.hub s (sent_from st.0 n), Done) = sends h.hub s n c st.0 is fits in
-        let runs : Runs s h (point_after h (Sends s n) c (failures new)) = one_event s h (Sends s n) c (failures new) st.0 (sent_from st.0 n) refl happens is (ap (λ r. r.0.present) step) (bytes_went st.0 n) stays in (
-          point_after h (Sends s n) c (failures new),
-          runs_alone hub new (Sends s n) outcome leads alone h stands,
-          record {
-            moves = record {
-              carried = record {
-                runs = one_event s h (Sends s n) c (failures new) st.0 (sent_from st.0 n) refl happens is (ap (λ r. r.0.present) step) (bytes_went st.0 n) stays;
-                given = λ t. given t ∙ sym (append-nil b.given);
-                taken = λ t. taken h.hub stands.state t ∙ ap (λ l. b.taken ++ take n l) pending;
-                in_turn = (tt, tt);
-              };
-              none_served = refl;
-              status = ap status_in runs.last_is ∙ sym (ap status_in is);
-            };
-            answered = calls;
-            why =
-                let left : length (pending_at (hub_step h.hub (Sends s n) c).0 s) ≡ length (drop n st.0.now.pending) = ap (λ o. length (pending_in o)) runs.last_is in
-                let rest : length (drop n st.0.now.pending) ≡ length st.0.now.pending - n = length-drop n st.0.now.pending in
-                let all : length (pending_at h.hub s) ≡ length st.0.now.pending = ap length pending in
-                (some, omega arith);
-          },
-        );
-  }
+  wrote_moved n some outcome leads alone counted here taken given calls =
+      leads_event hub new _ (Sends s n) outcome leads alone counted (λ h stands happens outcome_is after.
+      let c = leads.0 in
+      let st = found (stream_of h.hub s) (here h.hub stands.state).0 in
+      let is : stream_of h.hub s ≡ Some st.0 = st.1 in
+      let pending : pending_at h.hub s ≡ st.0.now.pending = ap pending_in is in
+      let fits : n ≤ length st.0.now.pending = subst (λ l. n ≤ length l) pending (here h.hub stands.state).1 in
+      let stays : st.0.now.status ≢ Absent = λ gone. (here h.hub stands.state).0 (ap status_in is ∙ gone) in
+      let step : hub_step h.hub (Sends s n) c ≡ (with_stream h.hub s (sent_from st.0 n), Done) = sends h.hub s n c st.0 is fits in
+      let runs : Runs s h (point_after h (Sends s n) c (failures new)) = one_event s h (Sends s n) c (failures new) st.0 (sent_from st.0 n) refl happens is (ap (λ r. r.0.present) step) (bytes_went st.0 n) stays in
+      record {
+        moves = record {
+          carried = record {
+            runs = runs;
+            given = λ t. given t ∙ sym (append-nil b.given);
+            taken = λ t. taken h.hub stands.state t ∙ ap (λ l. b.taken ++ take n l) pending;
+            in_turn = (tt, tt);
+          };
+          none_served = refl;
+          status = ap status_in runs.last_is ∙ sym (ap status_in is);
+        };
+        answered = calls;
+        why =
+            let left : length (pending_at (hub_step h.hub (Sends s n) c).0 s) ≡ length (drop n st.0.now.pending) = ap (λ o. length (pending_in o)) runs.last_is in
+            let rest : length (drop n st.0.now.pending) ≡ length st.0.now.pending - n = length-drop n st.0.now.pending in
+            let all : length (pending_at h.hub s) ≡ length st.0.now.pending = ap length pending in
+            (some, omega arith);
+      })
 
   pub read_moved : (n : ℕ) → 0 < n → (piece : Bytes) (outcome : Rattle.sessions.specs.declared.events.Outcome.Outcome) → HubLeads hub new (Receives s piece) outcome → RunsAlone hub new (Receives s piece) → failures hub ≤ failures new
       → ((h : HubState) → StandsFor hub h → (status_at h s ≡ Open) × (length piece ≤ room_at h s)) → length piece ≡ n
       → (IsTrue tells → a.given ≡ b.given ++ piece) → (IsTrue tells → a.taken ≡ b.taken) → EndsWith (Read (Moved n)) b a
       → Leads hub new (λ h k. AwaitsMore h.hub s → ReadsSome s tells h b (Moved n) k a)
-  read_moved n some piece outcome leads alone counted here long given taken calls = record {
-    counted = counted;
-    to = λ h stands.
-        let c = leads.0 in
-        let happens : Happens h (Receives s piece) c (failures new) = happens_at hub new (Receives s piece) outcome leads counted h stands in
-        let st = found (stream_of h.hub s) (open_present h.hub s (here h.hub stands.state).0) in
-        let is : stream_of h.hub s ≡ Some st.0 = st.1 in
-        let opened : st.0.now.status ≡ Open = sym (ap status_in is) ∙ (here h.hub stands.state).0 in
-        let fits : length piece ≤ inbox_max - length st.0.now.inbox = subst (λ r. length piece ≤ r) (ap room_in is) (here h.hub stands.state).1 in
-        let step : hub_step h.hub (Receives s piece) c ≡ (with_stream h.hub s (received_by st.0 piece), Done) = receives h.hub s piece c st.0 is opened fits in
-        let stays : st.0.now.status ≢ Absent = λ gone. (let bad : Open ≡ Absent = sym opened ∙ gone in cc) in
-        let runs : Runs s h (point_after h (Receives s piece) c (failures new)) = one_event s h (Receives s piece) c (failures new) st.0 (received_by st.0 piece) refl happens is (ap (λ r. r.0.present) step) (bytes_came st.0 piece) stays in (
-          point_after h (Receives s piece) c (failures new),
-          runs_alone hub new (Receives s piece) outcome leads alone h stands,
-          λ awaits. record {
-            moves = record {
-              carried = record {
-                runs = one_event s h (Receives s piece) c (failures new) st.0 (received_by st.0 piece) refl happens is (ap (λ r. r.0.present) step) (bytes_came st.0 piece) stays;
-                given = given;
-                taken = λ t. taken t ∙ sym (append-nil b.taken);
-                in_turn = (awaits, tt);
-              };
-              none_served = refl;
-              status = ap status_in runs.last_is ∙ sym (ap status_in is);
-            };
-            pending = ap pending_in runs.last_is ∙ sym (ap pending_in is);
-            answered = calls;
-            why =
-                let after : room_at (hub_step h.hub (Receives s piece) c).0 s ≡ inbox_max - length (st.0.now.inbox ++ piece) = ap room_in runs.last_is in
-                let before : room_at h.hub s ≡ inbox_max - length st.0.now.inbox = ap room_in is in
-                let joined : length (st.0.now.inbox ++ piece) ≡ length st.0.now.inbox + length piece = length-append st.0.now.inbox piece in
-                (some, omega arith);
-          },
-        );
-  }
+  read_moved n some piece outcome leads alone counted here long given taken calls =
+      leads_event hub new _ (Receives s piece) outcome leads alone counted (λ h stands happens outcome_is after awaits.
+      let c = leads.0 in
+      let st = found (stream_of h.hub s) (open_present h.hub s (here h.hub stands.state).0) in
+      let is : stream_of h.hub s ≡ Some st.0 = st.1 in
+      let opened : st.0.now.status ≡ Open = sym (ap status_in is) ∙ (here h.hub stands.state).0 in
+      let fits : length piece ≤ inbox_max - length st.0.now.inbox = subst (λ r. length piece ≤ r) (ap room_in is) (here h.hub stands.state).1 in
+      let step : hub_step h.hub (Receives s piece) c ≡ (with_stream h.hub s (received_by st.0 piece), Done) = receives h.hub s piece c st.0 is opened fits in
+      let stays : st.0.now.status ≢ Absent = λ gone. (let bad : Open ≡ Absent = sym opened ∙ gone in cc) in
+      let runs : Runs s h (point_after h (Receives s piece) c (failures new)) = one_event s h (Receives s piece) c (failures new) st.0 (received_by st.0 piece) refl happens is (ap (λ r. r.0.present) step) (bytes_came st.0 piece) stays in
+      record {
+        moves = record {
+          carried = record {
+            runs = runs;
+            given = given;
+            taken = λ t. taken t ∙ sym (append-nil b.taken);
+            in_turn = (awaits, tt);
+          };
+          none_served = refl;
+          status = ap status_in runs.last_is ∙ sym (ap status_in is);
+        };
+        pending = ap pending_in runs.last_is ∙ sym (ap pending_in is);
+        answered = calls;
+        why =
+            let after : room_at (hub_step h.hub (Receives s piece) c).0 s ≡ inbox_max - length (st.0.now.inbox ++ piece) = ap room_in runs.last_is in
+            let before : room_at h.hub s ≡ inbox_max - length st.0.now.inbox = ap room_in is in
+            let joined : length (st.0.now.inbox ++ piece) ≡ length st.0.now.inbox + length piece = length-append st.0.now.inbox piece in
+            (some, omega arith);
+      })
 
 -- the stream didn't move
 module _ {D : Type 0} {g : Ghosts D} (hub : Hub D g) (none : NoneRuns hub) (s : ℕ) (tells : Bool) (b a : Traffic) where

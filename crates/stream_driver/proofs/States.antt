@@ -4,6 +4,7 @@ use Rattle.std.specs.Map.{lookup}
 use Rattle.std.proofs.Math.Logic.{∥∥₁_elim, ∥∥₁_map}
 use Rattle.std.proofs.Math.Bridge.{le_prop}
 use Rattle.model.specs.Bounds.{inbox_max}
+use Rattle.model.proofs.Leading.{compose, weaken}
 use Rattle.sessions.specs.declared.events.Status.{Status}
 use Rattle.sessions.specs.declared.events.Status.TheVariants.{Absent, Open, Ending, Refused}
 use Rattle.sessions.specs.declared.events.Outcome.{Outcome}
@@ -13,6 +14,7 @@ use Rattle.sessions.specs.declared.hub.Hub.{Hub}
 use Rattle.sessions.specs.SessionStreams.{HubState, SessionState, HubEvent, Choice, hub_step, run, SessionStream, stream_of}
 use Rattle.sessions.specs.StandsFor.{StandsFor, HubLeads, status_in, room_in, pending_in, failures}
 use Rattle.sessions.specs.Laws.{HasRun, NoneRuns, RunsAlone, RunsBy}
+use Rattle.sessions.proofs.Reached.{reached}
 use Rattle.stream_driver.specs.Sessions.{InSomeState, Point, StandsAt, Leads, RunsTo, IsPresentIn, status_at, pending_at, room_at}
 use Rattle.stream_driver.proofs.Events.{Happens, adds_none, point_after}
 use Rattle.stream_driver.proofs.Carry.{adds_then}
@@ -71,10 +73,10 @@ module _ {D : Type 0} {g : Ghosts D} (hub : Hub D g) (s : ℕ) (h : HubState) (s
 
 -- ---- from hub to hub
 
-abbrev point_of : {D : Type 0} {g : Ghosts D} → Hub D g → HubState → Point
+abbrev pub point_of : {D : Type 0} {g : Ghosts D} → Hub D g → HubState → Point
 point_of hub h = record { hub = h; failures = failures hub; events = [] }
 
-at_point : {D : Type 0} {g : Ghosts D} (hub : Hub D g) (h : HubState) → StandsFor hub h → StandsAt hub (point_of hub h)
+pub at_point : {D : Type 0} {g : Ghosts D} (hub : Hub D g) (h : HubState) → StandsFor hub h → StandsAt hub (point_of hub h)
 at_point hub h stands = record { state = stands; count = refl }
 
 -- runs that follow each other are one run
@@ -82,41 +84,33 @@ abbrev pub Follow : (D : Type 0) → Ghosts D → Type 0
 Follow D g =
     (old mid new : Hub D g) (h : HubState) (es fs : List (HubEvent × Choice)) → StandsFor old h → RunsBy old mid h es → RunsBy mid new (run h es) fs → RunsBy old new h (es ++ fs)
 
-pub at_end : {D : Type 0} {g : Ghosts D} (a b : Hub D g) (h k : Point) → RunsTo a b h k → StandsAt b k
-at_end a b h k r = record { state = subst (StandsFor b) (sym r.adds.run_is) r.ran.stands; count = r.count }
-
 pub runs_none : {D : Type 0} {g : Ghosts D} (hub : Hub D g) → NoneRuns hub → (h : Point) → StandsAt hub h → RunsTo hub hub h h
-runs_none hub none h at = record { choices = []; adds = adds_none h; ran = none h.hub at.state; count = at.count }
+runs_none hub none h at = record { choices = []; adds = adds_none h; ran = none h.hub at.state }
 
 pub runs_on : {D : Type 0} {g : Ghosts D} → Follow D g → (a b c : Hub D g) (h k l : Point) → StandsAt a h → RunsTo a b h k → RunsTo b c k l → RunsTo a c h l
 runs_on follow a b c h k l at p q = record {
   choices = p.choices ++ q.choices;
   adds = adds_then h k l p.choices q.choices p.adds q.adds;
   ran = follow a b c h.hub p.choices q.choices at.state p.ran (subst (λ v. RunsBy b c v q.choices) p.adds.run_is q.ran);
-  count = q.count;
 }
 
 -- what leads from one hub to another is a run of the hub
 pub are_runs : {D : Type 0} {g : Ghosts D} (a b : Hub D g) (P : Point → Point → Type 0) → Leads a b P → HasRun a b
-are_runs a b P p = record { counted = p.counted; run = λ h stands. (let k = p.to (point_of a h) (at_point a h stands) in (k.1.choices, k.1.ran)) }
+are_runs a b P p = record { counted = p.counted; run = λ h stands. (let k = p.to (point_of a h) (at_point a h stands) in (k.2.0.choices, k.2.0.ran)) }
 
 -- nothing happens
 pub leads_none : {D : Type 0} {g : Ghosts D} (hub : Hub D g) → NoneRuns hub → (P : Point → Point → Type 0) → ((h : Point) → StandsAt hub h → P h h) → Leads hub hub P
-leads_none hub none P f = record { counted = omega arith; to = λ h at. (h, runs_none hub none h at, f h at) }
+leads_none hub none P f = record { counted = omega arith; to = λ h at. (h, at, (runs_none hub none h at, f h at)) }
 
 pub leads_map : {D : Type 0} {g : Ghosts D} (a b : Hub D g) (P Q : Point → Point → Type 0) → Leads a b P → ((h k : Point) → StandsFor b k.hub → P h k → Q h k) → Leads a b Q
-leads_map a b P Q p f = record { counted = p.counted; to = λ h at. (let k = p.to h at in (k.0, k.1, f h k.0 (at_end a b h k.0 k.1).state k.2)) }
+leads_map a b P Q p f = record { counted = p.counted; to = weaken StandsAt a b _ _ p.to (λ h k at last x. (x.0, f h k last.state x.1)) }
 
 -- with what the hub between stands for
 pub leads_two_at : {D : Type 0} {g : Ghosts D} → Follow D g → (a b c : Hub D g) (P Q R : Point → Point → Type 0) → Leads a b P → Leads b c Q
     → ((h k l : Point) → StandsFor b k.hub → StandsFor c l.hub → P h k → Q k l → R h l) → Leads a c R
 leads_two_at follow a b c P Q R p q f = record {
   counted = (let first = p.counted in let second = q.counted in omega arith);
-  to = λ h at. (
-      let k = p.to h at in
-      let between = at_end a b h k.0 k.1 in
-      let l = q.to k.0 between in
-      (l.0, runs_on follow a b c h k.0 l.0 at k.1 l.1, f h k.0 l.0 between.state (at_end b c k.0 l.0 l.1).state k.2 l.2));
+  to = compose StandsAt a b c _ _ _ p.to q.to (λ h k l at between last x y. (runs_on follow a b c h k l at x.0 y.0, f h k l between.state last.state x.1 y.1));
 }
 
 pub leads_then : {D : Type 0} {g : Ghosts D} → Follow D g → (a b c : Hub D g) (P Q R : Point → Point → Type 0) → Leads a b P → Leads b c Q → ((h k l : Point) → StandsFor c l.hub → P h k → Q k l → R h l)
@@ -141,36 +135,30 @@ leads_four follow a b c d e P Q R S T p q r s f =
     (leads_three_at follow a b c d P Q R (λ h m. (k : Point) × (l : Point) × P h k × Q k l × R l m) p q r (λ h k l m was stands x y z. (k, l, x, y, z))) s
     (λ h m n was stands x w. f h x.0 x.1 m n x.2 x.3 x.4 w)
 
--- an event of the hub, from a point of it
-pub happens_at : {D : Type 0} {g : Ghosts D} (b c : Hub D g) (e : HubEvent) (outcome : Outcome) (q : HubLeads b c e outcome) → failures b ≤ failures c → (p : Point) → StandsAt b p → Happens p e q.0 (failures c)
-happens_at b c e outcome q counted p at = record {
-  possible = (q.3 p.hub at.state).possible;
-  counted = (let same = at.count in omega arith);
-  failed = q.2 ∙ ap (λ n. has_risen n (failures c)) (sym at.count);
+-- one event of the hub
+pub leads_event : {D : Type 0} {g : Ghosts D} (b c : Hub D g) (P : Point → Point → Type 0) (e : HubEvent) (outcome : Outcome) (q : HubLeads b c e outcome) → RunsAlone b c e → failures b ≤ failures c
+    → ((h : Point) → StandsAt b h → Happens h e q.0 (failures c) → outcome ≡ (hub_step h.hub e q.0).1 → StandsFor c (hub_step h.hub e q.0).0 → P h (point_after h e q.0 (failures c))) → Leads b c P
+leads_event b c P e outcome q alone counted f = record {
+  counted = counted;
+  to = λ h at. (
+      let there = reached b c e outcome q h.hub at.state in
+      let happens : Happens h e q.0 (failures c) = record { possible = there.possible; counted = (let same = at.count in omega arith); failed = q.2 ∙ ap (λ n. has_risen n (failures c)) (sym at.count) } in
+      let run = alone h.hub q.0 at.state q.2 there.possible there.stands in (
+        point_after h e q.0 (failures c),
+        record { state = there.stands; count = refl },
+        (record { choices = (e, run.0) ∷ []; adds = record { run_is = sym run.1; events_are = refl }; ran = run.2 }, f h at happens there.outcome_is there.stands),
+      ));
 }
-
--- it is a run
-pub runs_alone : {D : Type 0} {g : Ghosts D} (b c : Hub D g) (e : HubEvent) (outcome : Outcome) (q : HubLeads b c e outcome) → RunsAlone b c e → (p : Point) → StandsAt b p
-    → RunsTo b c p (point_after p e q.0 (failures c))
-runs_alone b c e outcome q alone p at =
-    let x = alone p.hub q.0 outcome at.state q.2 (q.3 p.hub at.state) in
-    record { choices = (e, x.0) ∷ []; adds = record { run_is = sym x.1; events_are = refl }; ran = x.2; count = refl }
 
 pub leads_step : {D : Type 0} {g : Ghosts D} → Follow D g → (a b c : Hub D g) (P R : Point → Point → Type 0) (e : HubEvent) (outcome : Outcome) → Leads a b P → HubLeads b c e outcome → RunsAlone b c e → failures b ≤ failures c
     → ((h k : Point) (choice : Choice) → Happens k e choice (failures c) → outcome ≡ (hub_step k.hub e choice).1 → StandsFor c (hub_step k.hub e choice).0 → P h k → R h (point_after k e choice (failures c))) → Leads a c R
-leads_step follow a b c P R e outcome p q alone counted f = record {
-  counted = (let first = p.counted in omega arith);
-  to = λ h at. (
-      let k = p.to h at in
-      let between = at_end a b h k.0 k.1 in
-      let there = q.3 k.0.hub between.state in
-      let last = point_after k.0 e q.0 (failures c) in
-      (last, runs_on follow a b c h k.0 last at k.1 (runs_alone b c e outcome q alone k.0 between), f h k.0 q.0 (happens_at b c e outcome q counted k.0 between) there.outcome_is there.stands k.2));
-}
+leads_step follow a b c P R e outcome p q alone counted f =
+    leads_two_at follow a b c P (λ k l. (h : Point) → P h k → R h l) R p
+    (leads_event b c (λ k l. (h : Point) → P h k → R h l) e outcome q alone counted (λ k at happens is stands h x. f h k q.0 happens is stands x)) (λ h k l was stands x y. y h x)
 
 pub some_after : {D : Type 0} {g : Ghosts D} (a b : Hub D g) (P : HubState → Type 0) (Q : Point → Point → Type 0) (R : HubState → Type 0) → InSomeState a P → Leads a b Q → ((h k : Point) → P h.hub → Q h k → R k.hub) → InSomeState b R
-some_after a b P Q R some q f = ∥∥₁_map some (λ w. let h = point_of a w.0 in let k = q.to h (at_point a w.0 w.1) in (k.0.hub, (at_end a b h k.0 k.1).state, f h k.0 w.2 k.2))
+some_after a b P Q R some q f = ∥∥₁_map some (λ w. let h = point_of a w.0 in let k = q.to h (at_point a w.0 w.1) in (k.0.hub, k.1.state, f h k.0 w.2 k.2.1))
 
 -- what holds of numbers in some state holds
 pub le_after : {D : Type 0} {g : Ghosts D} (a b : Hub D g) (P : HubState → Type 0) (Q : Point → Point → Type 0) (m n : ℕ) → InSomeState a P → Leads a b Q → ((h k : Point) → Q h k → m ≤ n) → m ≤ n
-le_after a b P Q m n some q f = ∥∥₁_elim some le_prop (λ w. let h = point_of a w.0 in let k = q.to h (at_point a w.0 w.1) in f h k.0 k.2)
+le_after a b P Q m n some q f = ∥∥₁_elim some le_prop (λ w. let h = point_of a w.0 in let k = q.to h (at_point a w.0 w.1) in f h k.0 k.2.1)

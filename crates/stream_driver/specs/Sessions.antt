@@ -1,6 +1,7 @@
 -- One session of a hub, and what a run of its events adds to its history.
 use Rattle.std.specs.Prelude.{◌≡◌, ◌≢◌, ℕ, ◌≤◌, true, List, [], ◌∷◌, ◌++◌, map, Option, Some, None}
 use Rattle.std.specs.List.{flat_map, AllByRecursion}
+use Rattle.model.specs.Leading.{LeadsBy}
 use Rattle.model.specs.Map.{Bytes}
 use Rattle.model.specs.Operations.{Response}
 use Rattle.model.specs.Grammar.{IsProperBeginning}
@@ -65,18 +66,16 @@ pub record Adds (old : Point) (choices : List (HubEvent × Choice)) (new : Point
   pub run_is : new.hub ≡ run old.hub choices
   pub events_are : new.events ≡ old.events ++ map (λ e. e.0) choices
 
--- What happened between the two points is a run, at whose end the new hub stands: lawful at each moment, with the device's failures
--- counted, and what a crash leaves known.
+-- What happened between the two points is a run, at whose end the new hub stands: lawful at each moment, and what a crash leaves known.
 pub record RunsTo {D : Type 0} {g : Ghosts D} (old new : Hub D g) (h k : Point) : Type 0 where
   pub choices : List (HubEvent × Choice)
   pub adds : Adds h choices k
   pub ran : RunsBy old new h.hub choices
-  pub count : k.failures ≡ failures new
 
 -- from every point at which the old hub stands a run leads to one at which the new hub stands and that is so related to it
 pub record Leads {D : Type 0} {g : Ghosts D} (old new : Hub D g) (P : Point → Point → Type 0) : Type 0 where
   pub counted : failures old ≤ failures new
-  pub to : (h : Point) → StandsAt old h → (k : Point) × RunsTo old new h k × P h k
+  pub to : LeadsBy StandsAt old new (λ h k. RunsTo old new h k × P h k)
 
 -- it is a run of the hub, whatever else is said of the points
 abbrev pub LeadsAreRuns : {D : Type 0} {g : Ghosts D} → Hub D g → Type 0

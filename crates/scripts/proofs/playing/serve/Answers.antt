@@ -2,6 +2,7 @@ use Rattle.std.proofs.Common.{◌≡◌, ap, subst, ◌∙◌, false, take, min,
 use Rattle.std.proofs.lemmas.List.{take_min}
 use Rattle.sessions.specs.SessionStreams.{Receives, Serves, More, IsPossible, hub_step, stream_of}
 use Rattle.sessions.specs.StandsFor.{StandsFor, room_in}
+use Rattle.sessions.proofs.Reached.{reached}
 use Rattle.scripts.specs.Transcript.{granted, received}
 use Rattle.scripts.proofs.Steps.{receives_alike, granted_is, not_memory}
 use Rattle.scripts.proofs.playing.serve.Goals as goal
@@ -16,13 +17,13 @@ returns-in_default g c h stands =
     let taken : take c.min-given.result frame ≡ take room frame = ap (λ n. take n frame) given ∙ take_min room frame in
     let same : (hub_step h (Receives s (take c.min-given.result frame)) came.0).0 ≡ received h s frame =
     ap (λ piece. (hub_step h (Receives s piece) came.0).0) taken ∙ ap (λ r. r.0) (receives_alike h s (take room frame) came.0 (granted More false)) in
-    let there = subst (λ k. StandsFor c.step.new.self k) same (came.3 h stands).stands in
+    let there = subst (λ k. StandsFor c.step.new.self k) same (reached c.args.hub.now _ _ _ came h stands).stands in
     let served = c.step-2.ensures.step in
-    let reached = served.3 (received h s frame) there in
+    let after = reached _ c.step-2.new.self _ _ served (received h s frame) there in
     let is : served.0 ≡ granted served.0.front served.0.failed = granted_is served.0 (served.1 ∙ not_memory c.step-2.result c.in_default.not-Memory) in
     record {
       front = served.0.front;
       failed = served.0.failed;
-      possible = subst (λ choice. IsPossible (received h s frame) (Serves s) choice) is reached.possible;
-      stands = subst (λ choice. StandsFor c.step-2.new.self (hub_step (received h s frame) (Serves s) choice).0) is reached.stands;
+      possible = subst (λ choice. IsPossible (received h s frame) (Serves s) choice) is after.possible;
+      stands = subst (λ choice. StandsFor c.step-2.new.self (hub_step (received h s frame) (Serves s) choice).0) is after.stands;
     }

@@ -2,7 +2,8 @@ use Rattle.std.proofs.Common.{◌≡◌, ◌∙◌, refl, sym, ap, true, false}
 use Rattle.mio.specs.Events.{items}
 use Rattle.event_loop.specs.contracts.socket.SocketStream.TheImpl.{ghosts}
 use Rattle.event_loop.specs.Turns.{accepts_now}
-use Rattle.event_loop.proofs.Leading.{adds_none, leads_map, leads_then}
+use Rattle.stream_driver.proofs.Events.{adds_none}
+use Rattle.stream_driver.proofs.States.{leads_map, leads_then}
 use Rattle.event_loop.proofs.OneTurn.{turned_by}
 use Rattle.event_loop.proofs.server.EventLoop.turn.Goals as goal
 
@@ -14,7 +15,7 @@ returns-then-accepts_now-clause-turned g c =
     in
     turned_by ghosts.tells ghosts.traffic c.args.self.now c.drive.new.self c.accept.new.self c.drive.ensures.next c.drive.ensures.port _ (ap items (c.accept.ensures.events ∙ c.drive.ensures.events)) true due
     c.drive.ensures.drives c.accept.ensures.accepts
-    (leads_then c.runs_follow.ensures.follow c.args.self.now.hub c.drive.new.self.hub c.accept.new.self.hub _ _ _ c.drive.ensures.drives.drives c.accept.ensures.accepts.became.1 (λ h k l p q. (k, p, q)))
+    (leads_then c.runs_follow.ensures.follow c.args.self.now.hub c.drive.new.self.hub c.accept.new.self.hub _ _ _ c.drive.ensures.drives.drives c.accept.ensures.accepts.became.1 (λ h k l last p q. (k, p, q)))
 
 pub returns-else-accepts_now-clause-turned : goal.returns-else-accepts_now-clause-turned
 returns-else-accepts_now-clause-turned g c =
@@ -23,4 +24,4 @@ returns-else-accepts_now-clause-turned g c =
     in
     turned_by ghosts.tells ghosts.traffic c.args.self.now c.drive.new.self _ c.drive.ensures.next c.drive.ensures.port _ (ap items c.drive.ensures.events) false none
     c.drive.ensures.drives (record { hub = refl; table = refl; next = refl; port = refl; backlog = refl })
-    (leads_map c.args.self.now.hub c.drive.new.self.hub _ _ c.drive.ensures.drives.drives (λ h k p. (k, p, adds_none k)))
+    (leads_map c.args.self.now.hub c.drive.new.self.hub _ _ c.drive.ensures.drives.drives (λ h k last p. (k, p, adds_none k)))

@@ -1,4 +1,4 @@
-use Rattle.event_loop.proofs.Leading.{are_runs}
+use Rattle.stream_driver.proofs.States.{are_runs}
 use Rattle.event_loop.proofs.server.EventLoop.turns_are_runs.Goals as goal
 
 pub returns : goal.returns

@@ -5,6 +5,7 @@ use Rattle.model.specs.Map.{Bytes}
 use Rattle.sessions.specs.declared.events.Status.TheVariants.{Open}
 use Rattle.sessions.specs.SessionStreams.{HubState, Serves, Sends, More, hub_step, stream_of}
 use Rattle.sessions.specs.StandsFor.{StandsFor, status_in}
+use Rattle.sessions.proofs.Reached.{reached}
 use Rattle.scripts.specs.Lines.{frame_of, printed_line}
 use Rattle.scripts.specs.Transcript.{Scene, granted, after, received, PrintsIn}
 use Rattle.scripts.specs.Calls.{Served}
@@ -29,7 +30,7 @@ returns g c here is_at =
     record {
       scene = record { hub = after done (Sends s (length reply)); labels = here.labels };
       printed = printed_line line.label reply;
-      at = record { hub = subst (λ k. StandsFor c.step.new.self k) (ap (λ r. r.0) (sends_alike done s (length reply) leads.0 (granted More false))) (leads.3 done served.stands).stands; labels = is_at.labels };
+      at = record { hub = subst (λ k. StandsFor c.step.new.self k) (ap (λ r. r.0) (sends_alike done s (length reply) leads.0 (granted More false))) (reached c.serve.new.hub c.step.new.self (Sends s (length reply)) c.step.result leads done served.stands).stands; labels = is_at.labels };
       prints = subst (λ st. PrintsIn st here s line (record { hub = after done (Sends s (length reply)); labels = here.labels }) (printed_line line.label reply)) (sym opened) (
         reply,
         record { front = served.front; failed = served.failed; possible = served.possible; reply_is = c.pending-pending.ensures done served.stands; new_is = refl },

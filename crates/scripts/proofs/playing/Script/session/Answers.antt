@@ -3,6 +3,7 @@ use Rattle.sessions.specs.Calls.{is_memory}
 use Rattle.scripts.specs.declared.playing.Script.{Script}
 use Rattle.sessions.specs.SessionStreams.{Joins, hub_step}
 use Rattle.sessions.specs.StandsFor.{StandsFor}
+use Rattle.sessions.proofs.Reached.{reached}
 use Rattle.scripts.specs.Transcript.{place_of, after}
 use Rattle.scripts.specs.Calls.{IsAt}
 use Rattle.scripts.proofs.Steps.{joins_alike}
@@ -43,7 +44,7 @@ returns-in-Done g c scene is_at =
       len ∙ fresh_session scene c.args.label fresh,
       (λ crowded. let many : 128 ≤ length scene.labels = crowded.1 in omega arith),
       subst (λ k. IsAt script k) (sym (fresh_scene scene c.args.label fresh)) (record {
-        hub = subst (λ k. StandsFor c.step.new.self k) same (leads.3 scene.hub is_at.hub).stands;
+        hub = subst (λ k. StandsFor c.step.new.self k) same (reached c.args.self.now.hub c.step.new.self (Joins c.len-session.result) c.step.result leads scene.hub is_at.hub).stands;
         labels = c.in_ok-push.ensures.items ∙ ap (λ ls. ls ++ c.args.label ∷ []) is_at.labels;
       }),
     )

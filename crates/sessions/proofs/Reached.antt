@@ -1,0 +1,19 @@
+-- What an event led to, said of its step.
+use Rattle.std.proofs.Common.{◌≡◌, sym}
+use Rattle.sector.specs.declared.device.Sectors.{Ghosts}
+use Rattle.model.proofs.Leading.{stepped}
+use Rattle.sessions.specs.declared.events.Outcome.{Outcome}
+use Rattle.sessions.specs.declared.hub.Hub.{Hub}
+use Rattle.sessions.specs.SessionStreams.{HubState, HubEvent, Choice, IsPossible, hub_step}
+use Rattle.sessions.specs.StandsFor.{StandsFor, HubLeads}
+
+pub record Reached {D : Type 0} {g : Ghosts D} (new : Hub D g) (h : HubState) (e : HubEvent) (c : Choice) (outcome : Outcome) : Type 0 where
+  pub possible : IsPossible h e c
+  pub stands : StandsFor new (hub_step h e c).0
+  pub outcome_is : outcome ≡ (hub_step h e c).1
+
+pub reached : {D : Type 0} {g : Ghosts D} (old new : Hub D g) (e : HubEvent) (outcome : Outcome) (leads : HubLeads old new e outcome) (h : HubState) → StandsFor old h → Reached new h e leads.0 outcome
+reached old new e outcome leads h stands =
+    let later = leads.3 h stands in
+    let all = stepped StandsFor new later.0 outcome (hub_step h e leads.0) later.1 later.2.step in
+    record { possible = later.2.possible; stands = all.0; outcome_is = sym all.1 }
