@@ -1,6 +1,6 @@
 //! Keys and maps.
 use crate::helpers::{is_pair, key, put};
-use model::{KeyRef, Map};
+use model::{KeyRef, Map, Pair};
 use std::cmp::Ordering;
 
 fn length(bytes: &[u8]) -> Option<usize> {
@@ -32,9 +32,9 @@ fn keys_stand_in_the_order_of_their_bytes(rt: HostRuntime) {
     }
 }
 
-fn pops(map: &mut Map, key: &[u8], value: &[u8]) -> bool {
-    match map.pop_first() {
-        Some((found, its_value)) => found.lend().bytes() == key && its_value.as_slice() == value,
+fn is_owned_pair(pair: Option<Pair>, key: &[u8], value: &[u8]) -> bool {
+    match pair {
+        Some(pair) => pair.lend_key().bytes() == key && pair.value() == value,
         None => false,
     }
 }
@@ -52,6 +52,9 @@ fn maps_keep_the_last_value(rt: HostRuntime) {
     let mut pairs = map.pairs();
     assert!(rt; is_pair(pairs.next(), b"a", b"2"));
     assert!(rt; is_pair(pairs.next(), b"b", b"4"));
-    assert!(rt; pops(&mut map, b"a", b"2"));
-    assert!(rt; map.len() == 1);
+    assert!(rt; map.len() == 2);
+    let mut owned = map.into_pairs();
+    assert!(rt; is_owned_pair(owned.pop(), b"b", b"4"));
+    assert!(rt; is_owned_pair(owned.pop(), b"a", b"2"));
+    assert!(rt; owned.is_empty());
 }

@@ -1,5 +1,5 @@
 -- What a binary search by key finds among entries that stand by strictly rising key.
-use Rattle.std.proofs.Common.{◌≡◌, ℕ, zero, suc, ◌<◌, ◌≤◌, Bool, true, false, T, not, cond, ◌&&◌, List, [], ◌∷◌, length, take, drop, get_or, set, Some, None, Result, Ok, Err, IfOk, IfErr, refl, sym, ap, subst, ◌∙◌, arith}
+use Rattle.std.proofs.Common.{◌≡◌, ℕ, zero, suc, ◌-◌, ◌<◌, ◌≤◌, Bool, true, false, T, not, cond, ◌&&◌, List, [], ◌∷◌, length, take, drop, get_or, set, Some, None, Result, Ok, Err, IfOk, IfErr, refl, sym, ap, subst, ◌∙◌, arith}
 use Rattle.std.specs.List.{insert}
 use Rattle.std.specs.List.Sorted.{IsSearchInRange, IsBinarySearchResult, IsNonDecreasingBy}
 use Rattle.std.specs.declared.cmp.Ordering.{Ordering}
@@ -125,6 +125,21 @@ module _ {X : Type 0} where
         found = tt;
         absent = record { in_range = within; absent = none_gap es k i within before from; inserted = λ c. put_gap es k c i within before from };
       }
+
+  -- a key above the last one has its gap behind it
+  pub gap_behind : (es : List (Bytes × X)) (k : Bytes) (n : ℕ) (last : Bytes × X) → IsSorted es → ((d : Bytes × X) → last ≡ get_or es (length es - 1) d) → is_lt (key_cmp last.0 k) ≡ true → n ≡ length es → IsGap es k n
+  gap_behind es k n last h at lt end =
+      let before : LessBefore es k n = λ j d below. first (key_cmp (key_at es j d) k) (key_cmp last.0 k) lt
+      (subst (λ (e : Bytes × X). ordering_index (key_cmp (key_at es j d) k) ≤ ordering_index (key_cmp e.0 k)) (sym (at d)) (rise es k h j (length es - 1) d (omega arith) (omega arith))) in
+      let from : GreaterFrom es k n = λ j d le below. absurd (omega arith) in
+      record { in_range = omega arith; absent = none_gap es k n (omega arith) before from; inserted = λ c. put_gap es k c n (omega arith) before from }
+    where
+      first : (o p : Ordering) → is_lt p ≡ true → ordering_index o ≤ ordering_index p → o ≡ Less
+      first Less p t h = refl
+      first Equal Less t h = absurd (omega arith)
+      first Greater Less t h = absurd (omega arith)
+      first o Equal t h = cc
+      first o Greater t h = cc
 
   -- ---- a list in two parts by a key
 

@@ -1,7 +1,6 @@
 -- Keys, ranges of keys, and finite maps from keys to values. Keys stand in the order of their bytes, a shorter key before its
 -- extensions.
-use Rattle.std.specs.Prelude.{Vec, ℕ, ⊤, Bool, T, true, not, ◌&&◌, List, [], ◌∷◌, Option, Some, None}
-use Rattle.std.specs.declared.alloc.Global.{Global}
+use Rattle.std.specs.Prelude.{ℕ, ⊤, Bool, T, true, not, ◌&&◌, List, [], ◌∷◌, Option, Some, None}
 use Rattle.std.specs.declared.cmp.Ordering.{Ordering}
 use Rattle.std.specs.Ordering.{is_eq, is_lt, is_le, nat_cmp}
 use Rattle.std.specs.Cmp.Lexicographic.{slice_cmp}
@@ -63,8 +62,3 @@ is_empty_range lo hi = not (is_below lo hi)
 -- the pairs with lo ≤ k < hi, by rising key
 abbrev pub pairs_in_range : KeyMap → Bytes → Option Bytes → List (Bytes × Bytes)
 pairs_in_range m lo hi = where_key (slice_cmp nat_cmp) (is_in_range lo hi) m
-
--- the bytes of the pairs of a `Map`
-abbrev pub pairs_of : List (Vec ℕ Global × Vec ℕ Global) → KeyMap
-pairs_of [] = []
-pairs_of (e ∷ es) = (e.0.items, e.1.items) ∷ pairs_of es

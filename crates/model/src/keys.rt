@@ -32,14 +32,6 @@ impl<'a> KeyRef<'a> {
         }
     }
 
-    // The key of bytes that are known to be one.
-    pub(crate) fn from_bytes(bytes: &'a [u8]) -> KeyRef<'a>
-        requires { IsKey bytes.now }
-        ensures { result.bytes.now ≡ bytes.now }
-    {
-        KeyRef { bytes }
-    }
-
     /// Which of two keys stands first. Takes no memory.
     pub fn order(self, other: KeyRef<'_>) -> Ordering
         ensures { result ≡ key_cmp self.entry.bytes.now other.entry.bytes.now }
@@ -86,16 +78,6 @@ impl Key {
         })
     }
 
-    // The key of bytes that are known to be one.
-    pub(crate) fn from_vec(bytes: Vec<u8>) -> Key
-        requires { IsKey bytes.items }
-        ensures { result ≡ bytes.items }
-    {
-        Key {
-            bytes: Stored::from_vec(bytes),
-        }
-    }
-
     /// A key of the same bytes. It takes as many bytes as the key has, where these are more than 16; `Memory` where they are refused.
     pub fn copy(&self) -> Result<Key, Memory>
         ensures { IfOk result (λ k. k ≡ self.now) }
@@ -112,14 +94,5 @@ impl Key {
         KeyRef {
             bytes: self.bytes.as_slice(),
         }
-    }
-
-    // The key's bytes. It takes memory for them where they are 16 or fewer.
-    pub(crate) fn into_vec(self, alloc: Global) -> Result<Vec<u8>, Memory>
-        ensures bytes { IfOk result (λ v. v.items ≡ self) }
-        ensures sized { IsKey self }
-    {
-        let Key { bytes } = self;
-        bytes.into_vec(alloc)
     }
 }

@@ -8,6 +8,7 @@ pub mod commands;
 pub mod keys;
 pub mod laws;
 pub mod maps;
+pub mod pair;
 pub mod pairs;
 pub mod ranges;
 pub mod refusals;
@@ -21,6 +22,7 @@ pub use laws::{
     cycle_has_dangerous_pivot, cycle_has_pivot, history_has_serial_order, machine_is_serializable,
 };
 pub use maps::Map;
+pub use pair::Pair;
 pub use pairs::Pairs;
 pub use ranges::{Range, RangeRef};
 pub use refusals::{Memory, Refusal};

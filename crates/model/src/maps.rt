@@ -1,31 +1,34 @@
 //! Maps from keys to values.
-ghost use Rattle.std.specs.Prelude.{◌≡◌, ◌≤◌, [], ◌∷◌, length, Some, None, option_copied, OnOk, OnErr, IfSome, IfNone};
+ghost use Rattle.std.specs.Prelude.{◌≡◌, ◌≤◌, [], length, Some, None, option_copied, IfOk, IfErr, OnOk, OnErr};
 ghost use Rattle.model.specs.Key.{IsValue};
 ghost use Rattle.model.specs.Map.{IsMap, IsInBounds, value_at, after_write};
+ghost use Rattle.model.specs.Entries.{IsAt, IsGap};
 
 use crate::keys::{Key, KeyRef};
+use crate::pair::Pair;
 use crate::pairs::Pairs;
 use crate::refusals::Memory;
 use std::alloc::Global;
-use std::collections::BTreeMap;
 use std::marker::Model;
 
 /// A finite map from keys to values of at most `VALUE_MAX` bytes. A clause sees its pairs by rising key.
+///
+/// The pairs stand by rising key in one vector, which doubles where it is full. Beside it each value takes memory, and each key of more
+/// than 16 bytes.
 #[derive(Drop)]
 pub struct Map {
-    alloc: Global,
-    pairs: BTreeMap<Vec<u8>, Vec<u8>>,
+    pairs: Vec<Pair>,
 }
 
 impl Model for Map {
     ghost use Rattle.std.specs.Prelude.{ℕ, List};
-    ghost use Rattle.model.specs.Map.{IsMap, IsInBounds, pairs_of};
+    ghost use Rattle.model.specs.Map.{IsMap, IsInBounds};
 
     ghost Value = { List (List ℕ × List ℕ) };
 
-    ghost view = { λ m. pairs_of m.pairs.entries };
+    ghost view = { λ m. m.pairs.items };
 
-    ghost invariant = { λ m. IsMap (pairs_of m.pairs.entries) × IsInBounds (pairs_of m.pairs.entries) };
+    ghost invariant = { λ m. IsMap m.pairs.items × IsInBounds m.pairs.items };
 }
 
 impl Map {
@@ -34,8 +37,7 @@ impl Map {
         ensures { result ≡ [] }
     {
         Map {
-            alloc,
-            pairs: BTreeMap::new(alloc),
+            pairs: Vec::new(alloc),
         }
     }
 
@@ -48,13 +50,24 @@ impl Map {
         self.pairs.len()
     }
 
-    /// Lends the value of the key, or answers `None` where it has none. Takes no memory.
+    // Where the key's pair is, or where it would stand. A key above all others is compared with the last alone.
+    fn search(&self, key: &[u8]) -> Result<usize, usize>
+        ensures found { IfOk result (IsAt self.now key.now) }
+        ensures absent { IfErr result (IsGap self.now key.now) }
+    {
+        match self.pairs.last() {
+            Some(last) if last.compare(key).is_lt() => Err(self.pairs.len()),
+            _ => self.pairs.binary_search_by(|pair| pair.compare(key)),
+        }
+    }
+
+    /// Lends the value of the key, or answers `None` where it has none. It compares as many keys as a binary search does. Takes no memory.
     pub fn get(&self, key: KeyRef<'_>) -> Option<&[u8]>
         ensures { option_copied result ≡ value_at self.now key.entry.bytes.now }
     {
-        match self.pairs.get(key.bytes()) {
-            Some(value) => Some(value.as_slice()),
-            None => None,
+        match self.search(key.bytes()) {
+            Ok(i) => Some(self.pairs[i].value()),
+            Err(_) => None,
         }
     }
 
@@ -62,39 +75,40 @@ impl Map {
     pub fn pairs(&self) -> Pairs<'_>
         ensures { result ≡ self.now }
     {
-        Pairs::new(self.pairs.iter())
+        Pairs::new(&self.pairs)
     }
 
-    /// Gives the key this value, in the place of the one that it may have. It may take nodes of the tree, and memory for the key's bytes;
-    /// where they are refused it answers `Memory`, and the map is as it was.
+    /// Gives the key this value, in the place of the one that it may have. For a new key the vector of pairs may grow; where that is
+    /// refused it answers `Memory`, and the map is as it was. A new key above all others is compared with the last one alone and moves
+    /// no pair; for another one the pairs above it move.
     pub fn put(&mut self, key: Key, value: Vec<u8>) -> Result<(), Memory>
         requires { IsValue value.items }
         ensures ok { OnOk result (self.new ≡ after_write self.old key (Some value.items)) }
         ensures err { OnErr result (self.new ≡ self.old) }
     {
-        let key = key.into_vec(self.alloc)?;
-        match self.pairs.insert(key, value) {
-            Ok(_) => Ok(()),
-            Err(_) => Err(Memory),
+        match self.search(key.lend().bytes()) {
+            Ok(i) => self.pairs[i].set_value(value),
+            Err(i) => self.pairs.insert(i, Pair::new(key, value))?,
         }
+        Ok(())
     }
 
-    /// Takes the key out with its value, if it has one. Takes no memory.
+    /// Takes the key out with its value, if it has one. The pairs above it move. Takes no memory.
     pub fn remove(&mut self, key: KeyRef<'_>)
         ensures { self.new ≡ after_write self.old key.entry.bytes.now None }
     {
-        let _ = self.pairs.remove(key.bytes());
+        if let Ok(i) = self.search(key.bytes()) {
+            let _ = self.pairs.remove(i);
+        }
     }
 
-    /// Takes the pair of the least key out, or answers `None` where the map is empty. Takes no memory.
-    pub fn pop_first(&mut self) -> Option<(Key, Vec<u8>)>
-        ensures first { IfSome result (λ p. self.old ≡ (p.0, p.1.items) ∷ self.new) }
-        ensures value { IfSome result (λ p. IsValue p.1.items) }
-        ensures none { IfNone result (self.old ≡ []) }
+    /// Hands the pairs out, by rising key. Takes no memory.
+    pub fn into_pairs(self) -> Vec<Pair>
+        ensures pairs { result.items ≡ self }
+        ensures is_map { IsMap self }
+        ensures in_bounds { IsInBounds self }
     {
-        match self.pairs.pop_first() {
-            Some((key, value)) => Some((Key::from_vec(key), value)),
-            None => None,
-        }
+        let Map { pairs } = self;
+        pairs
     }
 }

@@ -1,35 +1,35 @@
 //! The pairs of a map, lent.
 ghost use Rattle.std.specs.Prelude.{◌≡◌};
-ghost use Rattle.model.specs.Map.{pairs_of, IsInBounds};
+ghost use Rattle.model.specs.Map.{IsInBounds};
 
 use crate::keys::KeyRef;
-use std::collections::btree_map;
+use crate::pair::Pair;
 use std::marker::Model;
 
 /// The pairs of a map by rising key, lent one by one. A clause sees those that are left.
 #[derive(Drop)]
 pub struct Pairs<'a> {
-    entries: btree_map::Iter<'a, Vec<u8>, Vec<u8>>,
+    rest: &'a [Pair],
 }
 
 impl<'a> Model for Pairs<'a> {
     ghost use Rattle.std.specs.Prelude.{ℕ, List};
-    ghost use Rattle.model.specs.Map.{IsInBounds, pairs_of};
+    ghost use Rattle.model.specs.Map.{IsInBounds};
 
     ghost Value = { List (List ℕ × List ℕ) };
 
-    ghost view = { λ p. pairs_of p.entries };
+    ghost view = { λ p. p.rest.now };
 
-    ghost invariant = { λ p. IsInBounds (pairs_of p.entries) };
+    ghost invariant = { λ p. IsInBounds p.rest.now };
 }
 
 impl<'a> Pairs<'a> {
-    // The pairs of these entries of a map.
-    pub(crate) fn new(entries: btree_map::Iter<'a, Vec<u8>, Vec<u8>>) -> Pairs<'a>
-        requires { IsInBounds (pairs_of entries) }
-        ensures { result ≡ pairs_of entries.entry }
+    // These pairs of a map.
+    pub(crate) fn new(rest: &'a [Pair]) -> Pairs<'a>
+        requires { IsInBounds rest.now }
+        ensures { result ≡ rest.entry.now }
     {
-        Pairs { entries }
+        Pairs { rest }
     }
 }
 
@@ -45,8 +45,11 @@ impl<'a> Iterator for Pairs<'a> {
 
     /// The pair of the next key, or `None` after the last. Takes no memory.
     fn next(&mut self) -> Option<(KeyRef<'a>, &'a [u8])> {
-        match self.entries.next() {
-            Some((key, value)) => Some((KeyRef::from_bytes(key.as_slice()), value.as_slice())),
+        match self.rest.split_first() {
+            Some((pair, rest)) => {
+                self.rest = rest;
+                Some((pair.lend_key(), pair.value()))
+            }
             None => None,
         }
     }

@@ -27,16 +27,6 @@ impl Stored {
         }
     }
 
-    // These bytes. Takes no memory.
-    pub(crate) fn from_vec(bytes: Vec<u8>) -> Stored
-        ensures { stored_bytes result ≡ bytes.items }
-    {
-        match ArrayVec::try_from(bytes.as_slice()) {
-            Ok(short) => Stored::Short(short),
-            Err(_) => Stored::Long(bytes),
-        }
-    }
-
     pub(crate) fn as_slice(&self) -> &[u8]
         ensures { result.now ≡ stored_bytes self.now }
     {
@@ -53,16 +43,6 @@ impl Stored {
         match self {
             Stored::Short(bytes) => Ok(Stored::Short(bytes.clone()?)),
             Stored::Long(bytes) => Ok(Stored::Long(bytes.clone()?)),
-        }
-    }
-
-    // The bytes, in memory of their own.
-    pub(crate) fn into_vec(self, alloc: Global) -> Result<Vec<u8>, Memory>
-        ensures { IfOk result (λ v. v.items ≡ stored_bytes self) }
-    {
-        match self {
-            Stored::Short(bytes) => Ok(Vec::from_slice(alloc, bytes.as_slice())?),
-            Stored::Long(bytes) => Ok(bytes),
         }
     }
 }

@@ -57,11 +57,9 @@ impl Versions {
     pub fn from_map(alloc: Global, map: Map) -> Result<Versions, Memory>
         ensures { IfOk result (λ v. StandsFor v (λ _. true) map []) }
     {
-        let mut rest = map;
-        // a map's keys rise
-        let _ = rest.len();
         let mut chains = SortedPages::new(alloc);
-        while let Some((key, value)) = rest.pop_first() {
+        for pair in map.into_pairs() {
+            let (key, value) = pair.into_parts();
             let newest = Version {
                 number: 0,
                 value: Some(value),

@@ -1,6 +1,6 @@
 use Rattle.std.proofs.Common.{◌≡◌, [], ◌∷◌, ◌++◌, sym, ap, subst, ◌∙◌, refl}
-use Rattle.std.proofs.lemmas.List.{append-nil}
-use Rattle.model.specs.Map.{KeyMap}
+use Rattle.std.proofs.lemmas.List.{append-nil, nil_from_length}
+use Rattle.model.specs.Map.{Bytes, KeyMap}
 use Rattle.sorted_pages.specs.Pages.{entries}
 use Rattle.versions.specs.Chains.{ChainValue, Chains, IsKept, base_chains}
 use Rattle.model.proofs.Entries.{IsSorted}
@@ -16,12 +16,16 @@ all_made es m rest none is = sym (ap (λ l. es ++ base_chains l) none ∙ append
 
 pub invariant_of-result : goal.invariant_of-result
 invariant_of-result c =
-    let is = sym (all_made (entries c.loop-key.chains) c.args.map c.loop-key.rest c.in_default.ensures.none c.loop-key.invariant) in
-    (subst (λ (es : Chains). IsKept es 0) is (kept-base c.args.map c.len.ensures.is_map), subst (λ (es : Chains). IsListed es c.new-2.result.items) is (listed-base c.args.map c.new-2.result.items), ap versions_in c.new-3.ensures)
+    let none : c.loop-pair.pair-iterator.rest.items ≡ [] = nil_from_length _ (sym c.loop-pair.pair-iterator.rest.ok.0 ∙ c.in-None.ensures.steps.0) in
+    let is = sym (all_made (entries c.loop-pair.chains) c.args.map _ none c.loop-pair.invariant) in
+    (subst (λ (es : Chains). IsKept es 0) is (kept-base c.args.map c.into_pairs-pair-items.ensures.is_map), subst (λ (es : Chains). IsListed es c.new-2.result.items) is (listed-base c.args.map c.new-2.result.items), ap versions_in c.new-3.ensures)
 
 pub returns : goal.returns
-returns c = stands-opened _ c.args.map c.len.ensures.is_map (all_made (entries c.loop-key.chains) c.args.map c.loop-key.rest c.in_default.ensures.none c.loop-key.invariant) refl
+returns c =
+    let none : c.loop-pair.pair-iterator.rest.items ≡ [] = nil_from_length _ (sym c.loop-pair.pair-iterator.rest.ok.0 ∙ c.in-None.ensures.steps.0) in
+    stands-opened _ c.args.map c.into_pairs-pair-items.ensures.is_map (all_made (entries c.loop-pair.chains) c.args.map _ none c.loop-pair.invariant) refl
 
 pub push-requires : goal.push-requires
-push-requires c = subst (λ (d : ChainValue). IsSorted (entries c.loop-key.chains ++ (c.in-Some.key, d) ∷ [])) (sym c.new.ensures)
-    (base-next (entries c.loop-key.chains) c.args.map c.loop-key.rest c.pop_first.new.self (c.in-Some.key, c.in-Some.value.items) c.len.ensures.is_map c.in-Some.ensures.first c.loop-key.invariant)
+push-requires c = subst (λ (d : ChainValue). IsSorted (entries c.loop-pair.chains ++ (c.into_parts-key.result.0, d) ∷ [])) (sym c.new.ensures)
+    (base-next (entries c.loop-pair.chains) c.args.map c.loop-pair.pair-iterator.rest.items c.next.new.self.rest.items (c.into_parts-key.result.0, c.into_parts-key.result.1.items) c.into_pairs-pair-items.ensures.is_map
+    (c.in-Some.ensures.steps.0 ∙ ap (λ (p : Bytes × Bytes). p ∷ c.next.new.self.rest.items) (sym c.into_parts-key.ensures)) c.loop-pair.invariant)
