@@ -3,7 +3,7 @@ use Rattle.std.proofs.Common.{◌≡◌, Bool, true, false, not, cond, ◌&&◌,
 use Rattle.std.specs.List.{filter}
 use Rattle.std.specs.List.Sorted.{ties, IsStableBy}
 use Rattle.std.specs.Cmp.{IsStrictWeakOrder}
-use Rattle.std.proofs.lemmas.List.Sorted.{ranks_by, IsStrictWeakOrder-flip}
+use Rattle.std.proofs.lemmas.List.Sorted.{ranks_by}
 use Rattle.std.specs.declared.cmp.Ordering.{Ordering}
 use Rattle.std.specs.declared.cmp.Ordering.TheVariants.{Less, Equal, Greater}
 use Rattle.std.specs.Ordering.{is_eq, is_lt, nat_cmp, ordering_reverse}
@@ -11,7 +11,7 @@ use Rattle.std.specs.Cmp.Lexicographic.{slice_cmp, nat_list_cmp_total}
 use Rattle.std.specs.FinMap.Entries.{find-put, find-where_key, is_sorted-put, is_sorted-where_key, same_entries}
 use Rattle.std.proofs.lemmas.Map.Lookups.{exact_bytes}
 use Rattle.std.proofs.lemmas.Cmp.{eq_by_cmp_equiv}
-use Rattle.latest_writes.specs.Falling.{is_above}
+use Rattle.latest_writes.specs.Rising.{is_before}
 use Rattle.model.specs.Map.{Bytes, KeyMap, KeyWrite, IsMap, value_at, key_cmp, is_same_key, after_write, after_writes}
 
 pub after_writes-push : (m : KeyMap) (ws : List KeyWrite) (w : KeyWrite) → after_writes m (ws ++ w ∷ []) ≡ after_write (after_writes m ws) w.0 w.1
@@ -48,31 +48,31 @@ same_map m n h g e = same_entries (slice_cmp nat_cmp) nat_list_cmp_total exact_b
 
 -- ---- only the writes to a key count there
 
-pub is_above_order : IsStrictWeakOrder is_above
-is_above_order = IsStrictWeakOrder-flip _ (ranks_by nat_list_cmp_total (λ (w : KeyWrite). w.0))
+pub is_before_order : IsStrictWeakOrder is_before
+is_before_order = ranks_by nat_list_cmp_total (λ (w : KeyWrite). w.0)
 
-no_less : (o : Ordering) → (not (is_lt (ordering_reverse o)) && not (is_lt o)) ≡ is_eq o
+no_less : (o : Ordering) → (not (is_lt o) && not (is_lt (ordering_reverse o))) ≡ is_eq o
 no_less Less = refl
 no_less Equal = refl
 no_less Greater = refl
 
 -- such a list ties just the writes to one key
-ties_same : (q : Bytes) (v : Option Bytes) (w : KeyWrite) → ties is_above (q, v) w ≡ is_same_key q w.0
-ties_same q v w = ap (λ o. not (is_lt o) && not (is_lt (key_cmp q w.0))) (nat_list_cmp_total.antisymm w.0 q) ∙ no_less (key_cmp q w.0)
+ties_same : (q : Bytes) (v : Option Bytes) (w : KeyWrite) → ties is_before (q, v) w ≡ is_same_key q w.0
+ties_same q v w = ap (λ o. not (is_lt (key_cmp q w.0)) && not (is_lt o)) (nat_list_cmp_total.antisymm w.0 q) ∙ no_less (key_cmp q w.0)
 
 alike : (ws : List KeyWrite) (m n : KeyMap) (q : Bytes) → value_at m q ≡ value_at n q → value_at (after_writes m ws) q ≡ value_at (after_writes n ws) q
 alike [] m n q h = h
 alike (w ∷ ws) m n q h = alike ws (after_write m w.0 w.1) (after_write n w.0 w.1) q
     (value_after_write m w.0 w.1 q ∙ ap (λ o. cond (is_same_key q w.0) w.1 o) h ∙ sym (value_after_write n w.0 w.1 q))
 
-counted : (ws : List KeyWrite) (m : KeyMap) (q : Bytes) → value_at (after_writes m (filter (ties is_above (q, None)) ws)) q ≡ value_at (after_writes m ws) q
+counted : (ws : List KeyWrite) (m : KeyMap) (q : Bytes) → value_at (after_writes m (filter (ties is_before (q, None)) ws)) q ≡ value_at (after_writes m ws) q
 counted [] m q = refl
 counted (w ∷ ws) m q =
-    elim (ties is_above (q, None) w) as (λ b. ties is_above (q, None) w ≡ b → value_at (after_writes m (cond b (w ∷ filter (ties is_above (q, None)) ws) (filter (ties is_above (q, None)) ws))) q ≡ value_at (after_writes (after_write m w.0 w.1) ws) q) [
+    elim (ties is_before (q, None) w) as (λ b. ties is_before (q, None) w ≡ b → value_at (after_writes m (cond b (w ∷ filter (ties is_before (q, None)) ws) (filter (ties is_before (q, None)) ws))) q ≡ value_at (after_writes (after_write m w.0 w.1) ws) q) [
       | true ↦ λ e. counted ws (after_write m w.0 w.1) q
       | false ↦ λ e. counted ws m q ∙ alike ws m (after_write m w.0 w.1) q (sym (value_after_write m w.0 w.1 q ∙ ap (λ b. cond b w.1 (value_at m q)) (sym (ties_same q None w) ∙ e)))
     ] refl
 
-pub stable : (xs ys : List KeyWrite) → IsStableBy is_above xs ys → after_writes [] ys ≡ after_writes [] xs
+pub stable : (xs ys : List KeyWrite) → IsStableBy is_before xs ys → after_writes [] ys ≡ after_writes [] xs
 stable xs ys h = same_map _ _ (IsMap-after_writes [] ys tt) (IsMap-after_writes [] xs tt)
     (λ q. sym (counted ys [] q) ∙ ap (λ l. value_at (after_writes [] l) q) (h (q, None)) ∙ counted xs [] q)

@@ -7,7 +7,7 @@ use Rattle.std.specs.Ordering.{is_eq, is_lt, is_gt, ordering_reverse}
 use Rattle.std.specs.Cmp.Lexicographic.{nat_list_cmp_total}
 use Rattle.std.proofs.lemmas.Map.Lookups.{exact_bytes}
 use Rattle.std.proofs.lemmas.Cmp.{tied_itself, upto}
-use Rattle.latest_writes.specs.Falling.{is_above}
+use Rattle.latest_writes.specs.Rising.{is_before}
 use Rattle.latest_writes.proofs.Stable.{after_writes-push, value_after_write, IsMap-after_write, same_map}
 use Rattle.model.specs.Map.{Bytes, KeyMap, KeyWrite, IsMap, value_at, key_cmp, is_same_key, after_write, after_writes}
 
@@ -15,38 +15,38 @@ use Rattle.model.specs.Map.{Bytes, KeyMap, KeyWrite, IsMap, value_at, key_cmp, i
 abbrev pub IsUpTo : Bytes → Bytes → Type 0
 IsUpTo q k = is_gt (key_cmp q k) ≡ false
 
--- the keys fall, or stay, from k on
-abbrev pub Falls : Bytes → List KeyWrite → Type 0
-Falls k [] = Unit {0}
-Falls k (w ∷ ws) = IsUpTo w.0 k × Falls w.0 ws
+-- the keys rise, or stay, from k on
+abbrev pub Rises : Bytes → List KeyWrite → Type 0
+Rises k [] = Unit {0}
+Rises k (w ∷ ws) = IsUpTo k w.0 × Rises w.0 ws
 
 turned : (o : Ordering) → is_lt o ≡ false → is_gt (ordering_reverse o) ≡ false
 turned Less e = e
 turned Equal e = refl
 turned Greater e = refl
 
-pub falls : (w : KeyWrite) (ws : List KeyWrite) → IsSortedBy is_above (w ∷ ws) → Falls w.0 ws
-falls w [] h = tt
-falls w (v ∷ ws) h = (
-  ap is_gt (nat_list_cmp_total.antisymm v.0 w.0) ∙ turned (key_cmp w.0 v.0) (h 0 w (omega arith) (omega arith)),
-  falls v ws (λ k d le lt.
+pub rises : (w : KeyWrite) (ws : List KeyWrite) → IsSortedBy is_before (w ∷ ws) → Rises w.0 ws
+rises w [] h = tt
+rises w (v ∷ ws) h = (
+  ap is_gt (nat_list_cmp_total.antisymm w.0 v.0) ∙ turned (key_cmp v.0 w.0) (h 0 w (omega arith) (omega arith)),
+  rises v ws (λ k d le lt.
       let step : suc k + 1 ≡ suc (k + 1) = omega arith in
-      subst (λ (n : ℕ). is_above (get_or (w ∷ v ∷ ws) n d) (get_or (w ∷ v ∷ ws) (suc k) d) ≡ false) step (h (suc k) d (omega arith) (omega arith))),
+      subst (λ (n : ℕ). is_before (get_or (w ∷ v ∷ ws) n d) (get_or (w ∷ v ∷ ws) (suc k) d) ≡ false) step (h (suc k) d (omega arith) (omega arith))),
 )
 
 -- what the loop keeps: m is the map of the writes that were kept, p the write that is latest, and behind it come `rest`
 pub record IsSwept (all : List KeyWrite) (m : KeyMap) (p : KeyWrite) (rest : List KeyWrite) : Type 0 where
   pub is_map : IsMap m
   pub makes : after_writes (after_write m p.0 p.1) rest ≡ after_writes [] all
-  pub fresh : (q : Bytes) → IsUpTo q p.0 → value_at m q ≡ None
-  pub falling : Falls p.0 rest
+  pub fresh : (q : Bytes) → IsUpTo p.0 q → value_at m q ≡ None
+  pub rising : Rises p.0 rest
 
-pub begun : (all rest : List KeyWrite) (p : KeyWrite) → all ≡ p ∷ rest → IsSortedBy is_above all → IsSwept all [] p rest
+pub begun : (all rest : List KeyWrite) (p : KeyWrite) → all ≡ p ∷ rest → IsSortedBy is_before all → IsSwept all [] p rest
 begun all rest p is h = record {
   is_map = tt;
   makes = ap (λ (l : List KeyWrite). after_writes [] l) (sym is);
   fresh = λ q le. refl;
-  falling = falls p rest (subst (λ (l : List KeyWrite). IsSortedBy is_above l) is h);
+  rising = rises p rest (subst (λ (l : List KeyWrite). IsSortedBy is_before l) is h);
 }
 
 itself : (k : Bytes) → IsUpTo k k
@@ -65,7 +65,7 @@ not_both true h g = cc
 not_both false h g = cc
 
 -- the latest write is left out
-left_out_at : (m : KeyMap) (p e : KeyWrite) (q : Bytes) → ((q : Bytes) → IsUpTo q p.0 → value_at m q ≡ None) → (is_same_key p.0 e.0 ≡ true) ⊎ (p.1 ≡ None)
+left_out_at : (m : KeyMap) (p e : KeyWrite) (q : Bytes) → ((q : Bytes) → IsUpTo p.0 q → value_at m q ≡ None) → (is_same_key p.0 e.0 ≡ true) ⊎ (p.1 ≡ None)
     → cond (is_same_key q e.0) e.1 (cond (is_same_key q p.0) p.1 (value_at m q)) ≡ cond (is_same_key q e.0) e.1 (value_at m q)
 left_out_at m p e q fresh (inl same) =
     let is : is_same_key q p.0 ≡ is_same_key q e.0 = ap (λ k. is_same_key q k) (same_key p.0 e.0 same) in
@@ -77,7 +77,7 @@ left_out_at m p e q fresh (inl same) =
 left_out_at m p e q fresh (inr none) = ap (λ o. cond (is_same_key q e.0) e.1 o) (at_key (is_same_key q p.0) refl)
   where
     at_key : (b : Bool) → is_same_key q p.0 ≡ b → cond b p.1 (value_at m q) ≡ value_at m q
-    at_key true t = none ∙ sym (fresh q (subst (λ (k : Bytes). IsUpTo k p.0) (sym (same_key q p.0 t)) (itself p.0)))
+    at_key true t = none ∙ sym (fresh q (subst (λ (k : Bytes). IsUpTo p.0 k) (sym (same_key q p.0 t)) (itself p.0)))
     at_key false t = refl
 
 pub left_out : (all rest : List KeyWrite) (m : KeyMap) (p e : KeyWrite) → IsSwept all m p (e ∷ rest) → (is_same_key p.0 e.0 ≡ true) ⊎ (p.1 ≡ None) → IsSwept all m e rest
@@ -87,13 +87,13 @@ left_out all rest m p e h why = record {
       ap (λ (n : KeyMap). after_writes n rest) (same_map _ _ (IsMap-after_write m e.0 e.1 h.is_map) (IsMap-after_write (after_write m p.0 p.1) e.0 e.1 (IsMap-after_write m p.0 p.1 h.is_map))
       (λ q. value_after_write m e.0 e.1 q ∙ sym (left_out_at m p e q h.fresh why) ∙ ap (λ o. cond (is_same_key q e.0) e.1 o) (sym (value_after_write m p.0 p.1 q)) ∙ sym (value_after_write (after_write m p.0 p.1) e.0 e.1 q)))
       ∙ h.makes;
-  fresh = λ q le. h.fresh q (upto nat_list_cmp_total q e.0 p.0 le h.falling.0);
-  falling = h.falling.1;
+  fresh = λ q le. h.fresh q (upto nat_list_cmp_total p.0 e.0 q h.rising.0 le);
+  rising = h.rising.1;
 }
 
 -- the latest write is kept
-below : (q e p : Bytes) → IsUpTo q e → IsUpTo e p → is_same_key p e ≡ false → is_same_key q p ≡ false
-below q e p le lt apart = at_key (is_same_key q p) refl
+above : (q e p : Bytes) → IsUpTo e q → IsUpTo p e → is_same_key p e ≡ false → is_same_key q p ≡ false
+above q e p le lt apart = at_key (is_same_key q p) refl
   where
     tied : (o : Ordering) → is_gt o ≡ false → is_gt (ordering_reverse o) ≡ false → is_eq o ≡ true
     tied Less h g = sym g
@@ -103,16 +103,16 @@ below q e p le lt apart = at_key (is_same_key q p) refl
     at_key : (b : Bool) → is_same_key q p ≡ b → b ≡ false
     at_key false t = refl
     at_key true t =
-        let up : IsUpTo p e = subst (λ (k : Bytes). IsUpTo k e) (same_key q p t) le in
-        absurd (not_both (is_same_key p e) (tied (key_cmp p e) up (ap is_gt (sym (nat_list_cmp_total.antisymm e p)) ∙ lt)) apart)
+        let down : IsUpTo e p = subst (λ (k : Bytes). IsUpTo e k) (same_key q p t) le in
+        absurd (not_both (is_same_key p e) (tied (key_cmp p e) lt (ap is_gt (sym (nat_list_cmp_total.antisymm e p)) ∙ down)) apart)
 
 pub kept_more : (all rest kept new : List KeyWrite) (p e : KeyWrite) → IsSwept all (after_writes [] kept) p (e ∷ rest) → is_same_key p.0 e.0 ≡ false → new ≡ kept ++ p ∷ [] → IsSwept all (after_writes [] new) e rest
 kept_more all rest kept new p e h apart is =
     subst (λ (n : KeyMap). IsSwept all n e rest) (sym (ap (λ (l : List KeyWrite). after_writes [] l) is ∙ after_writes-push [] kept p)) record {
       is_map = IsMap-after_write _ p.0 p.1 h.is_map;
       makes = h.makes;
-      fresh = λ q le. value_after_write _ p.0 p.1 q ∙ ap (λ b. cond b p.1 (value_at (after_writes [] kept) q)) (below q e.0 p.0 le h.falling.0 apart) ∙ h.fresh q (upto nat_list_cmp_total q e.0 p.0 le h.falling.0);
-      falling = h.falling.1;
+      fresh = λ q le. value_after_write _ p.0 p.1 q ∙ ap (λ b. cond b p.1 (value_at (after_writes [] kept) q)) (above q e.0 p.0 le h.rising.0 apart) ∙ h.fresh q (upto nat_list_cmp_total p.0 e.0 q h.rising.0 le);
+      rising = h.rising.1;
     }
 
 -- at the end the latest write is kept

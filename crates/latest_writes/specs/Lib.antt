@@ -1,3 +1,3 @@
 -- The definitions of heads, and of the order in which writes are sorted.
 pub mod Heads
-pub mod Falling
+pub mod Rising

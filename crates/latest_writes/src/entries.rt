@@ -75,7 +75,7 @@ impl Entry {
         }
     }
 
-    /// Writes it into the map. `Memory` where a node of the tree is refused.
+    /// Writes it into the map. `Memory` where the map can't grow.
     pub(crate) fn apply(self, map: &mut Map) -> Result<(), Memory>
         ensures { OnOk result (map.new ≡ after_write map.old self.0 self.1) }
     {

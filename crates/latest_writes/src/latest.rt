@@ -1,5 +1,5 @@
 //! The writes that were collected.
-ghost use Rattle.std.specs.Prelude.{◌≡◌, [], IfOk, IfSome};
+ghost use Rattle.std.specs.Prelude.{◌≡◌, [], reverse, IfOk, IfSome};
 ghost use Rattle.model.specs.Key.{IsValue};
 ghost use Rattle.model.specs.Map.{after_write, after_writes};
 
@@ -65,12 +65,14 @@ impl LatestWrites {
         sweep(alloc, entries)
     }
 
-    /// The map that the writes make. `Memory` where memory is refused, and the writes are given up.
+    /// The map that the writes make. The writes are let go as the map takes them up, so that the two take about the memory of one of
+    /// them. `Memory` where memory is refused, and the writes are given up.
     pub fn into_map(self, alloc: Global) -> Result<Map, Memory>
         ensures { IfOk result (λ map. map ≡ self) }
     {
         let mut entries = self.entries;
         sort(&mut entries)?;
+        entries.reverse();
         put_all(alloc, entries)
     }
 }
@@ -89,13 +91,23 @@ fn sweep(alloc: Global, mut entries: Vec<Entry>) -> Result<LatestWrites, Memory>
     })
 }
 
-// Puts the writes into an empty map, one after another. The keys fall, so that each stands before the first of the leaf that it comes to.
-fn put_all(alloc: Global, entries: Vec<Entry>) -> Result<Map, Memory>
-    ensures { IfOk result (λ map. map ≡ after_writes [] entries.items) }
+// Gives the room of entries back, where no more than half of it is used.
+fn give_back(entries: &mut Vec<Entry>)
+    ensures { entries.new.items ≡ entries.old.items }
+{
+    if entries.len() <= entries.capacity() / 2 {
+        entries.shrink_to_fit();
+    }
+}
+
+// Puts the writes into an empty map, from the last to the first. Their keys rise then, so that each comes to the map's end.
+fn put_all(alloc: Global, mut rest: Vec<Entry>) -> Result<Map, Memory>
+    ensures { IfOk result (λ map. map ≡ after_writes [] (reverse rest.items)) }
 {
     let mut map = Map::new(alloc);
-    for entry in entries {
+    while let Some(entry) = rest.pop() {
         entry.apply(&mut map)?;
+        give_back(&mut rest);
     }
     Ok(map)
 }

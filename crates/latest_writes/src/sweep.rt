@@ -2,24 +2,24 @@
 ghost use Rattle.std.specs.Prelude.{◌≡◌, [], OnOk, IfOk};
 ghost use Rattle.std.specs.List.Sorted.{IsSortedBy};
 ghost use Rattle.model.specs.Map.{after_writes};
-ghost use Rattle.latest_writes.specs.Falling.{is_above};
+ghost use Rattle.latest_writes.specs.Rising.{is_before};
 
 use crate::entries::Entry;
 use model::Memory;
 use std::alloc::Global;
 
-// Sorts the entries by falling key. Those of one key stay in their order.
+// Sorts the entries by rising key. Those of one key stay in their order.
 pub(crate) fn sort(entries: &mut Vec<Entry>) -> Result<(), Memory>
     ensures same { after_writes [] entries.new.items ≡ after_writes [] entries.old.items }
-    ensures falling { OnOk result (IsSortedBy is_above entries.new.items) }
+    ensures rising { OnOk result (IsSortedBy is_before entries.new.items) }
 {
-    entries.sort_by(|a, b| b.order(a))?;
+    entries.sort_by(|a, b| a.order(b))?;
     Ok(())
 }
 
 // Of each key keeps the last write, and of deletions at most the last of all.
 pub(crate) fn keep_latest(alloc: Global, entries: Vec<Entry>) -> Result<Vec<Entry>, Memory>
-    requires { IsSortedBy is_above entries.items }
+    requires { IsSortedBy is_before entries.items }
     ensures { IfOk result (λ kept. after_writes [] kept.items ≡ after_writes [] entries.items) }
 {
     let mut kept = Vec::new(alloc);
