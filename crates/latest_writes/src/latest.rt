@@ -65,8 +65,9 @@ impl LatestWrites {
         sweep(alloc, entries)
     }
 
-    /// The map that the writes make. The writes are let go as the map takes them up, so that the two take about the memory of one of
-    /// them. `Memory` where memory is refused, and the writes are given up.
+    /// The map that the writes make. Sorting takes room for as many entries again for a while, unless their keys rise already. Then each
+    /// write is let go as the map takes it up, and the entries' room is given back by halves. `Memory` where memory is refused, and the
+    /// writes are given up.
     pub fn into_map(self, alloc: Global) -> Result<Map, Memory>
         ensures { IfOk result (λ map. map ≡ self) }
     {
