@@ -1,7 +1,7 @@
 -- Which postings a mark covers, and walks over marks and runs.
-use Rattle.std.proofs.Common.{◌≡◌, ◌≤◌, ◌<◌, ℕ, zero, suc, Bool, true, false, not, cond, ◌&&◌, ◌||◌, List, [], ◌∷◌, Option, Some, None, length, get_or, take, drop, refl, sym, ap, ◌∙◌, arith}
+use Rattle.std.proofs.Common.{◌≡◌, ◌≤◌, ◌<◌, ℕ, zero, suc, Bool, true, false, not, cond, ◌&&◌, ◌||◌, List, [], ◌∷◌, Option, Some, None, length, get_or, take, drop, refl, sym, ap, subst, ◌∙◌, arith}
 use Rattle.std.specs.Prelude.{nat_lt, min, is_some, ◌++◌, slice_get}
-use Rattle.std.specs.List.{list_all, insert, filter}
+use Rattle.std.specs.List.{list_all, insert, remove}
 use Rattle.std.proofs.lemmas.List.{take-append-drop, drop_all}
 use Rattle.std.specs.List.Sorted.{IsPartitionPoint, IsPartitionedBy}
 use Rattle.std.specs.declared.cmp.Ordering.{Ordering}
@@ -292,10 +292,14 @@ pushed c (q ∷ rs) r =
     ∙ sym (lesser_assoc (least c q.written.items) (least c (postings_in rs)) (least c r.written.items))
     ∙ ap (λ o. lesser o (least c r.written.items)) (sym (least-append c q.written.items (postings_in rs)))
 
--- runs without later numbers are left out
-pub later_runs : (o : ℕ) (c : Posting → Bool) (rs : List Run) → least (λ p. nat_lt o p.number && c p) (postings_in (filter (λ r. nat_lt o r.last) rs)) ≡ least (λ p. nat_lt o p.number && c p) (postings_in rs)
-later_runs o c [] = refl
-later_runs o c (r ∷ rs) = by (nat_lt o r.last) refl (later_runs o c rs)
+-- the first run is left out, where it has no later number
+pub without_first : (o : ℕ) (c : Posting → Bool) (rs : List Run) (r : Run) → Some r ≡ slice_get rs 0 → r.last ≤ o
+    → least (λ p. nat_lt o p.number && c p) (postings_in (remove rs 0)) ≡ least (λ p. nat_lt o p.number && c p) (postings_in rs)
+without_first o c [] r is le = cc
+without_first o c (q ∷ rs) r is le =
+    let same : r ≡ q = cc in
+    sym (ap (λ u. lesser u (least test (postings_in rs))) (none_above o q.last c (subst (λ (x : Run). x.last ≤ o) same le) q.written.items (none (least (λ p. nat_lt q.last p.number) q.written.items) q.upto)))
+    ∙ sym (least-append test q.written.items (postings_in rs))
   where
     test : Posting → Bool
     test p = nat_lt o p.number && c p
@@ -303,11 +307,3 @@ later_runs o c (r ∷ rs) = by (nat_lt o r.last) refl (later_runs o c rs)
     none : (u : Option ℕ) → not (is_some u) ≡ true → u ≡ None
     none None e = refl
     none (Some n) e = absurd (both_ways _ refl e)
-
-    older : nat_lt o r.last ≡ false → (ps : List Posting) → least (λ p. nat_lt r.last p.number) ps ≡ None → least test ps ≡ None
-    older f ps e = none_above o r.last c (ltb-false o r.last f) ps e
-
-    by : (v : Bool) → nat_lt o r.last ≡ v → least test (postings_in (filter (λ r. nat_lt o r.last) rs)) ≡ least test (postings_in rs)
-        → least test (postings_in (cond v (r ∷ filter (λ r. nat_lt o r.last) rs) (filter (λ r. nat_lt o r.last) rs))) ≡ least test (r.written.items ++ postings_in rs)
-    by true e rest = least-append test r.written.items (postings_in (filter (λ r. nat_lt o r.last) rs)) ∙ ap (lesser (least test r.written.items)) rest ∙ sym (least-append test r.written.items (postings_in rs))
-    by false e rest = rest ∙ sym (ap (λ u. lesser u (least test (postings_in rs))) (older e r.written.items (none (least (λ p. nat_lt r.last p.number) r.written.items) r.upto))) ∙ sym (least-append test r.written.items (postings_in rs))

@@ -9,7 +9,7 @@ ghost use Rattle.pivot_check.specs.StandsFor.{StandsFor, IsRecordOf, IsVerdict, 
 use crate::merges::merge_runs;
 use crate::ready::Ready;
 use crate::run::Run;
-use crate::runs::{add_run, first_overwritten, least_covered};
+use crate::runs::{add_run, drop_old, first_overwritten, least_covered};
 use crate::sources::last_source;
 use crate::verdict::Verdict;
 use crate::written::add_all;
@@ -193,10 +193,8 @@ impl Committed {
         self.merge();
     }
 
-    /// Drops what was kept of the transactions that committed at or before number `oldest`, from the runs as soon as the whole run is as
-    /// old: from then on none may ask that began before it. What is left stands for the same histories, since a flag was fixed when it was
-    /// noted. Constant time where `oldest` isn't above `self.oldest()`, else one pass over the runs. Takes no memory.
-    pub fn forget(&mut self, oldest: u64)
+    // From now on none may ask that began before number `oldest`: readers that committed at or before it are dropped.
+    fn raise(&mut self, oldest: u64)
         requires { oldest ≤ self.old.facts.last }
         ensures stands_for { (h : List Record) → StandsFor self.old.facts h → StandsFor self.new.facts h }
         ensures readers { IsForgotten oldest self.old.facts.readers self.new.facts.readers }
@@ -206,8 +204,33 @@ impl Committed {
     {
         if oldest > self.oldest {
             self.readers.forget(oldest);
-            self.runs.retain(|run| oldest < run.last);
             self.oldest = oldest;
         }
+    }
+
+    // Drops some of the runs that have no number for which one may ask.
+    fn drop_runs(&mut self)
+        ensures stands_for { (h : List Record) → StandsFor self.old.facts h → StandsFor self.new.facts h }
+        ensures readers { self.new.facts.readers ≡ self.old.facts.readers }
+        ensures oldest { self.new.facts.oldest ≡ self.old.facts.oldest }
+        ensures last { self.new.facts.last ≡ self.old.facts.last }
+    {
+        drop_old(&mut self.runs, self.oldest);
+    }
+
+    /// Drops what was kept of the transactions that committed at or before number `oldest`, from the runs when the whole run is as
+    /// old: from then on none may ask that began before it. What is left stands for the same histories, since a flag was fixed when it was
+    /// noted. One call drops two runs at most, of 131,072 written keys each, so that it is short also at the end of a transaction that was
+    /// open for long; those that are left go in the next calls. Takes no memory.
+    pub fn forget(&mut self, oldest: u64)
+        requires { oldest ≤ self.old.facts.last }
+        ensures stands_for { (h : List Record) → StandsFor self.old.facts h → StandsFor self.new.facts h }
+        ensures readers { IsForgotten oldest self.old.facts.readers self.new.facts.readers }
+        ensures forgotten { HasForgotten oldest self.new.facts }
+        ensures oldest { self.new.facts.oldest ≡ max self.old.facts.oldest oldest }
+        ensures last { self.new.facts.last ≡ self.old.facts.last }
+    {
+        self.raise(oldest);
+        self.drop_runs();
     }
 }

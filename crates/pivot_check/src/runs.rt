@@ -1,5 +1,5 @@
 //! Runs of written keys.
-ghost use Rattle.std.specs.Prelude.{◌≡◌, ◌<◌, ◌-◌, IsTrue, Bool, List, map, position, is_some};
+ghost use Rattle.std.specs.Prelude.{◌≡◌, ◌<◌, ◌-◌, ◌&&◌, nat_lt, IsTrue, Bool, List, map, position, is_some};
 ghost use Rattle.std.specs.List.{filter};
 ghost use Rattle.std.specs.Vec.{vec_len, vec_capacity};
 ghost use Rattle.model.specs.Map.{KeyWrite};
@@ -14,6 +14,9 @@ use crate::run::Run;
 use crate::written::Written;
 use marks::{Held, MarkRef};
 use model::Write;
+
+/// The most runs that are dropped in one call, since each of their postings is looked at then.
+const DROPPED_MAX: u64 = 2;
 
 // The least commit number above `begin` that has written a key that the mark covers, of those with the flag where these alone are asked
 // for.
@@ -70,5 +73,25 @@ pub(crate) fn add_run(runs: &mut Vec<Run>, written: Vec<Written>, last: u64)
     }) {
         Ok(()) => {}
         Err(_) => unreachable!(),
+    }
+}
+
+// Drops the first run where it has no number above `oldest`.
+fn drop_first(runs: &mut Vec<Run>, oldest: u64)
+    ensures { (c : Posting → Bool) → least (λ p. nat_lt oldest p.number && c p) (postings_in runs.new.items) ≡ least (λ p. nat_lt oldest p.number && c p) (postings_in runs.old.items) }
+{
+    match runs.first() {
+        Some(run) if run.last <= oldest => {}
+        _ => return,
+    }
+    let _ = runs.remove(0);
+}
+
+// Drops the first runs as long as they have no number above `oldest`, and leaves some of them for later calls where there are many.
+pub(crate) fn drop_old(runs: &mut Vec<Run>, oldest: u64)
+    ensures { (c : Posting → Bool) → least (λ p. nat_lt oldest p.number && c p) (postings_in runs.new.items) ≡ least (λ p. nat_lt oldest p.number && c p) (postings_in runs.old.items) }
+{
+    for _dropped in 0..DROPPED_MAX {
+        drop_first(runs, oldest);
     }
 }

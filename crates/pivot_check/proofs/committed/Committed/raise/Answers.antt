@@ -1,26 +1,15 @@
-use Rattle.std.proofs.Common.{rules, ◌≡◌, ◌≤◌, sym, ap, subst, ◌∙◌, arith}
-use Rattle.std.specs.Prelude.{nat_lt, Bool, ◌&&◌}
-use Rattle.std.proofs.lemmas.Fn.{filter_same}
+use Rattle.std.proofs.Common.{◌≡◌, ◌≤◌, refl, sym, ap, subst, arith}
 use Rattle.last_readers.specs.Readers.{last_reader, IsForgotten}
-use Rattle.pivot_check.specs.declared.run.Run.{Run}
 use Rattle.pivot_check.specs.Kept.{Facts, CommittedValue, AreAbove}
-use Rattle.pivot_check.specs.Postings.{Posting, least}
 use Rattle.pivot_check.specs.Inside.{postings_in}
 use Rattle.pivot_check.specs.StandsFor.{StandsFor}
 use Rattle.pivot_check.proofs.Judging.{forgotten}
-use Rattle.pivot_check.proofs.Walks.{later_runs}
 use Rattle.pivot_check.proofs.LastSources.{cut_all, above_after, low_after}
-use Rattle.pivot_check.proofs.committed.Committed.forget.Goals as goal
+use Rattle.pivot_check.proofs.committed.Committed.raise.Goals as goal
 
--- what `forget` and `retain` leave
+-- what `forget` leaves
 left : (c : goal.After-self-1) → IsForgotten c.args.oldest c.args.self.now.facts.readers c.forget.new.self.readers
 left c = subst (λ (v : CommittedValue). IsForgotten c.args.oldest v.facts.readers c.forget.new.self.readers) c.self.view_is c.forget.ensures.forgotten
-
-runs_left : (c : goal.After-self-1) (t : Posting → Bool) → least (λ p. nat_lt c.args.oldest p.number && t p) (postings_in c.retain.new.self.items)
-    ≡ least (λ p. nat_lt c.args.oldest p.number && t p) c.args.self.now.facts.postings
-runs_left c t = ap (λ rs. least (λ p. nat_lt c.args.oldest p.number && t p) (postings_in rs)) (filter_same _ (λ (k : Run). nat_lt c.args.oldest k.last) _ (λ x b f' k. search rules) _ _ c.retain.ensures.filtered)
-    ∙ later_runs c.args.oldest t c.self.inside.runs.items
-    ∙ ap (λ (v : CommittedValue). least (λ p. nat_lt c.args.oldest p.number && t p) v.facts.postings) c.self.view_is
 
 above : (c : goal.After-self-1) → AreAbove c.args.oldest (last_reader c.forget.new.self.readers)
 above c k some = above_after c.args.oldest (last_reader c.self.inside.readers.readers k) (last_reader c.forget.new.self.readers k) (c.forget.ensures.forgotten k) some
@@ -30,11 +19,11 @@ returns-then-oldest-self-clause-stands_for c = λ h s.
     let was = ap (λ (v : CommittedValue). v.facts.oldest) c.self.view_is in
     let later = c.if-oldest-self.true in
     let above : c.args.self.now.facts.oldest ≤ c.args.oldest = omega (arith, was, later) in
-    subst (λ (f : Facts). StandsFor f h) (same c) (forgotten c.args.self.now.facts h s c.args.oldest above c.forget.new.self.readers (left c) (postings_in c.retain.new.self.items) (runs_left c))
+    subst (λ (f : Facts). StandsFor f h) (same c) (forgotten c.args.self.now.facts h s c.args.oldest above c.forget.new.self.readers (left c) c.args.self.now.facts.postings (λ t. refl))
   where
-    same : (c : goal.After-self-1) → ◌≡◌ {A = Facts} (record { readers = c.forget.new.self.readers; postings = postings_in c.retain.new.self.items; oldest = c.args.oldest; last = c.args.self.now.facts.last })
-        (record { readers = c.forget.new.self.readers; postings = postings_in c.retain.new.self.items; oldest = c.args.oldest; last = c.self.inside.last })
-    same c = λ i. record { readers = c.forget.new.self.readers; postings = postings_in c.retain.new.self.items; oldest = c.args.oldest; last = ap (λ (v : CommittedValue). v.facts.last) (sym c.self.view_is) i }
+    same : (c : goal.After-self-1) → ◌≡◌ {A = Facts} (record { readers = c.forget.new.self.readers; postings = c.args.self.now.facts.postings; oldest = c.args.oldest; last = c.args.self.now.facts.last })
+        (record { readers = c.forget.new.self.readers; postings = postings_in c.self.inside.runs.items; oldest = c.args.oldest; last = c.self.inside.last })
+    same c = λ i. record { readers = c.forget.new.self.readers; postings = ap (λ (v : CommittedValue). v.facts.postings) (sym c.self.view_is) i; oldest = c.args.oldest; last = ap (λ (v : CommittedValue). v.facts.last) (sym c.self.view_is) i }
 
 pub returns-then-oldest-self-clause-readers : goal.returns-then-oldest-self-clause-readers
 returns-then-oldest-self-clause-readers c = left c
