@@ -2,8 +2,9 @@
 ghost use Rattle.std.specs.Prelude.{◌≡◌, ◌≢◌, ◌⊎◌};
 ghost use Rattle.std.specs.IoError.{error_kind};
 
-use commit_log::LogFault;
+use commit_log::{LogFault, Unopened};
 use scripts::ScriptFault;
+use sector::Sectors;
 use std::fmt::{Display, Formatter};
 use std::io::ErrorKind;
 use std::{fmt, io};
@@ -77,6 +78,17 @@ impl From<LogFault> for Fault {
             LogFault::OldFormat => Fault::OldFormat,
             LogFault::NotEmpty => Fault::NotEmpty,
         }
+    }
+}
+
+impl<D: Sectors> From<Unopened<D>> for Fault {
+    ghost use Rattle.std.specs.Prelude.{◌≡◌};
+    ghost use Rattle.commands.specs.Faults.{of_log};
+
+    ghost from_gives = { λ unopened e. e ≡ of_log unopened.fault };
+
+    fn from(unopened: Unopened<D>) -> Fault {
+        Fault::from(unopened.fault)
     }
 }
 

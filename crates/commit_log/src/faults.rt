@@ -2,7 +2,9 @@
 ghost use Rattle.std.specs.Prelude.{◌≡◌};
 ghost use Rattle.commit_log.specs.declared.faults.LogFault.TheVariants.{Memory};
 
+use sector::Sectors;
 use std::alloc::{AllocError, AllocFailed};
+use std::fmt;
 use thiserror::Error;
 
 /// Why a call of the log gave up.
@@ -55,5 +57,28 @@ impl From<model::Memory> for LogFault {
 
     fn from(_error: model::Memory) -> Self {
         LogFault::Memory
+    }
+}
+
+/// A device whose log could not be opened, and why. It becomes a `LogFault` by `?`, and the device is then given up.
+#[derive(Drop)]
+pub struct Unopened<D: Sectors> {
+    /// Why not.
+    pub fault: LogFault,
+    /// The device, as the opening left it.
+    pub device: D,
+}
+
+impl<D: Sectors> fmt::Debug for Unopened<D> {
+    fn fmt<W: fmt::Write>(&self, f: &mut fmt::Formatter<W>) -> fmt::Result {
+        write!(f, "unopened: {}", self.fault)
+    }
+}
+
+impl<D: Sectors> From<Unopened<D>> for LogFault {
+    ghost from_gives = { λ unopened e. e ≡ unopened.fault };
+
+    fn from(unopened: Unopened<D>) -> Self {
+        unopened.fault
     }
 }

@@ -2,7 +2,7 @@
 ghost use Rattle.std.specs.Prelude.{◌≡◌, ◌≢◌, ◌⊎◌, ℕ, length, MatchResult, IsErrAnd, ◌<◌, ◌≤◌, ◌^◌, ◌-◌, ◌+◌, ◌↔◌, true, false, List, [], ◌∷◌, ◌++◌, IsTrue, IfOk, IfErr, OnOk, OnErr, IsErrOf};
 
 use crate::encode::{encode, payload_len};
-use crate::faults::LogFault;
+use crate::faults::{LogFault, Unopened};
 use crate::read::read_log;
 use crate::record::write_record;
 use model::{Map, Write};
@@ -28,7 +28,7 @@ impl<D: Sectors> Log<D> {
     ghost use Rattle.sector.specs.Failures.{Rose, Stayed};
     ghost use Rattle.sector.specs.SectorModel.{IsSettled, LeavesOnly};
     ghost use Rattle.model.specs.Map.{KeyWrite};
-    ghost use Rattle.model.specs.Machine.{body_sectors};
+    ghost use Rattle.model.specs.Machine.{body_sectors, payload_size};
     ghost use Rattle.commit_log.specs.declared.formats.LogFormat.{LogFormat};
     ghost use Rattle.commit_log.specs.declared.formats.LogFormat.TheVariants.{One};
     ghost use Rattle.commit_log.specs.Format.{current};
@@ -45,9 +45,57 @@ impl<D: Sectors> Log<D> {
     ///
     /// The first fault met is answered: `Device` where a call of the device fails, `NotALog` where it has fewer than two sectors or the
     /// first is no head, `OldFormat` where it is the head of format 1, `Damaged` where an open gate has not its record behind it,
-    /// `Memory` where memory is refused. After a fault the device has been given up; `read_log`, which borrows it, says what it leaves and
-    /// what memory it takes.
-    pub fn open(alloc: Global, mut device: D) -> Result<(Self, Map), LogFault>
+    /// `Memory` where memory is refused. The device is given back with it. `read_log`, which borrows the device, says what memory it takes.
+    pub fn open_or_return(alloc: Global, mut device: D) -> Result<(Self, Map), Unopened<D>>
+        ensures size { MatchResult result (λ r. sector_count r.0 ≡ D.size device) (λ u. D.size u.device ≡ D.size device) }
+        ensures running { IfOk result (λ r. is_stopped r.0 ≡ false) }
+        ensures failures { IfOk result (λ r. Stayed (D.failures device) (failure_count r.0)) }
+        ensures faults { IfErr result (λ u. IsOpenFault u.fault) }
+
+        // `Device` is told exactly where a call has failed: the device then counts more failures.
+        ensures cause { IfErr result (λ u. (u.fault ≡ LogFault.Device → Rose (D.failures device) (D.failures u.device)) × (u.fault ≢ LogFault.Device → D.failures u.device ≡ D.failures device)) }
+        ensures short { D.size device < 2 → IsErrAnd result (λ u. (u.fault ≡ LogFault.NotALog) ⊎ (u.fault ≡ LogFault.Device)) }
+
+        // The log stands for an image that a crash before the call might have left; the device now holds it, and nothing else.
+        ensures stands { D.keeps_model → IfOk result (λ r. (lists : List (List KeyWrite)) × StandsFor r.0 lists × (r.1 ≡ map_after [] lists)
+            × (image : List (List ℕ)) × IsLogImage current lists image × CanSettle (D.size device) (D.may_read device) (D.may_leave device) image
+            × IsSettled (sector_count r.0) (D.may_read (device_of r.0)) (D.may_leave (device_of r.0)) image) }
+
+        // During the call, also where it fails, a crash leaves what one before it could have left.
+        ensures during { D.keeps_model → MatchResult result (λ r. LeavesOnly D.moment D.left_since device (device_of r.0) (D.may_leave device))
+            (λ u. LeavesOnly D.moment D.left_since device u.device (D.may_leave device)) }
+
+        // A log is read as what it is.
+        ensures found { D.keeps_model → (disk : List (List ℕ)) (lists : List (List KeyWrite)) → length disk ≡ D.size device → ReadsAs (D.may_read device) disk
+            → IsLogImage current lists disk → MatchResult result (λ r. StandsFor r.0 lists × (r.1 ≡ map_after [] lists)) (λ u. IsDeviceOrMemory u.fault) }
+        ensures damaged { D.keeps_model → (disk : List (List ℕ)) (lists : List (List KeyWrite)) → length disk ≡ D.size device → ReadsAs (D.may_read device) disk
+            → IsDamaged current lists disk → IsErrAnd result (λ u. (u.fault ≡ LogFault.Damaged (length lists)) ⊎ IsDeviceOrMemory u.fault) }
+        ensures no_log { D.keeps_model → (disk : List (List ℕ)) → length disk ≡ D.size device → ReadsAs (D.may_read device) disk
+            → ((f : LogFormat) → IsNoLog f disk) → IsErrAnd result (λ u. (u.fault ≡ LogFault.NotALog) ⊎ IsDeviceOrMemory u.fault) }
+        ensures older { D.keeps_model → (disk : List (List ℕ)) → length disk ≡ D.size device → ReadsAs (D.may_read device) disk
+            → HasHead One disk → IsErrAnd result (λ u. (u.fault ≡ LogFault.OldFormat) ⊎ IsDeviceOrMemory u.fault) }
+
+        // Where each crash leaves some log, one is found.
+        ensures undamaged { D.keeps_model → ((c : List (List ℕ)) → D.may_leave device c → (lists : List (List KeyWrite)) × IsLogImage current lists c) → IfErr result (λ u. IsDeviceOrMemory u.fault) }
+    {
+        let found = match read_log(alloc, &mut device) {
+            Ok(found) => found,
+            Err(fault) => return Err(Unopened { fault, device }),
+        };
+        let digest = found.digest.bytes;
+        let log = Log {
+            device,
+            gate: found.gate,
+            records: found.records,
+            digest,
+            stopped: false,
+        };
+        Ok((log, found.map))
+    }
+
+    /// The log that `open_or_return` opens. Where that gives the device back with a fault, the fault alone is answered and the device is
+    /// given up; `open_or_return` says what a crash then leaves.
+    pub fn open(alloc: Global, device: D) -> Result<(Self, Map), LogFault>
         ensures size { IfOk result (λ r. sector_count r.0 ≡ D.size device) }
         ensures running { IfOk result (λ r. is_stopped r.0 ≡ false) }
         ensures failures { IfOk result (λ r. Stayed (D.failures device) (failure_count r.0)) }
@@ -78,16 +126,10 @@ impl<D: Sectors> Log<D> {
         // Where each crash leaves some log, one is found.
         ensures undamaged { D.keeps_model → ((c : List (List ℕ)) → D.may_leave device c → (lists : List (List KeyWrite)) × IsLogImage current lists c) → IfErr result IsDeviceOrMemory }
     {
-        let found = read_log(alloc, &mut device)?;
-        let digest = found.digest.bytes;
-        let log = Log {
-            device,
-            gate: found.gate,
-            records: found.records,
-            digest,
-            stopped: false,
-        };
-        Ok((log, found.map))
+        match Log::open_or_return(alloc, device) {
+            Ok(opened) => Ok(opened),
+            Err(unopened) => Err(unopened.fault),
+        }
     }
 
     /// Adds a record of these writes, and answers its index, 0 for the first. The device is written once for each sector and synced twice.
@@ -131,6 +173,49 @@ impl<D: Sectors> Log<D> {
         if !self.room(len) {
             return Err(LogFault::Full);
         }
+        self.append_in_room(alloc, writes, len)
+    }
+
+    /// Adds a record of these writes to a log that runs and has room for it, as `append` does, and answers its index. `len` is what
+    /// `payload_len` answers of them, and `room` of that. The device is written once for each sector and synced twice.
+    ///
+    /// `Memory` where the memory for the record's body is refused: the log is then as it was, and no call of the device was made. `Device`
+    /// where a call of the device fails, and the log is then stopped.
+    pub fn append_in_room(
+        &mut self,
+        alloc: Global,
+        writes: &[Write],
+        len: u32,
+    ) -> Result<u64, LogFault>
+        requires proper { IsWriteSet current writes.now }
+        requires running { is_stopped self.old ≡ false }
+        requires room { used_sectors self.old + body_sectors writes.now < sector_count self.old }
+        requires len { len ≡ payload_size writes.now }
+        ensures index { IfOk result (λ index. index ≡ record_count self.old) }
+        ensures counted { OnOk result (record_count self.new ≡ record_count self.old + 1) }
+        ensures used { OnOk result (used_sectors self.new ≡ used_sectors self.old + (body_sectors writes.now + 1)) }
+        ensures running { OnOk result (is_stopped self.new ≡ false) }
+        ensures size { sector_count self.new ≡ sector_count self.old }
+
+        // When each fault comes, and what it leaves.
+        ensures faults { IfErr result IsDeviceOrMemory }
+        ensures device { IsErrOf result LogFault.Device → Rose (failure_count self.old) (failure_count self.new) }
+        ensures stops { IsErrOf result LogFault.Device → is_stopped self.new ≡ true }
+        ensures same { IsErrOf result LogFault.Device → (record_count self.new ≡ record_count self.old) × (used_sectors self.new ≡ used_sectors self.old) }
+        ensures unchanged { IfErr result (λ e. e ≢ LogFault.Device → self.new ≡ self.old) }
+        ensures no_fault { OnOk result (Stayed (failure_count self.old) (failure_count self.new)) }
+
+        // At `Ok` the log stands for its write sets and this one: reads give them, and a crash leaves them.
+        ensures appended { D.keeps_model → (lists : List (List KeyWrite)) → StandsFor self.old lists → OnOk result (StandsFor self.new (lists ++ writes.now ∷ [])) }
+
+        // A crash at any moment of the call leaves the write sets from before it, with this one or without.
+        ensures any_moment { D.keeps_model → (lists : List (List KeyWrite)) → StandsFor self.old lists
+            → LeavesOnly D.moment D.left_since (device_of self.old) (device_of self.new) (IsBeforeOrAfter lists writes.now) }
+
+        // So does a crash after it, also where it failed.
+        ensures left { D.keeps_model → (lists : List (List KeyWrite)) → StandsFor self.old lists
+            → (c : List (List ℕ)) → D.may_leave (device_of self.new) c → IsBeforeOrAfter lists writes.now c }
+    {
         let before = self.digest;
         let (body, digest) = encode(alloc, &before, self.records, writes, len)?;
         match write_record(&mut self.device, self.gate, &body) {

@@ -243,7 +243,7 @@ fn read_head<D: Sectors>(device: &mut D) -> Result<(Option<LogFormat>, u64), Log
     Ok((format_of(&sector), count))
 }
 
-/// Settles a device, and reads the log that it holds, as `Log::open` says. `Device` is answered exactly where a call of the device
+/// Settles a device, and reads the log that it holds, as `Log::open_or_return` says. `Device` is answered exactly where a call of the device
 /// failed; the device may be read again.
 ///
 /// It takes memory for the writes of the log, which are collected: about twice that of the map they make, and 8 MiB at least. The map is

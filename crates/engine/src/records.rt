@@ -46,10 +46,10 @@ pub(crate) fn carry_out<D: Sectors>(
     if history.prepare(transaction).is_err() {
         return Err(StoreFault::Memory);
     }
-    let Some(_len) = payload else {
+    let Some(len) = payload else {
         return Ok(());
     };
-    match log.append(alloc, transaction.entries()) {
+    match log.append_in_room(alloc, transaction.entries(), len) {
         Ok(_) => Ok(()),
         Err(LogFault::Memory) => Err(StoreFault::Memory),
         Err(LogFault::Device) => Err(StoreFault::Device),

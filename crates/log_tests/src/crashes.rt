@@ -51,6 +51,24 @@ fn stopped_within(alloc: Global, call: u64, fill: Fill) -> Result<u64, Fail>
     records_on(alloc, crashed(log.into_device(), fill))
 }
 
+/// Each call of an opening fails in turn: the device that is given back holds the record.
+#[test]
+fn failure_of_each_call_of_an_opening(rt: HostRuntime) -> Result<(), Fail> {
+    let alloc = rt.alloc();
+    for call in 1..OPENING + 1 {
+        let mut device = one_record(alloc)?;
+        device.fail_call(call);
+        match Log::open_or_return(alloc, device) {
+            Ok(_) => assert!(rt; false, "opened"),
+            Err(unopened) => {
+                assert_eq!(rt; unopened.fault, LogFault::Device);
+                assert_eq!(rt; records_on(alloc, unopened.device)?, 1);
+            }
+        }
+    }
+    Ok(())
+}
+
 /// The append writes the body at 4 and a closed gate at 5, syncs, opens the gate at 3, and syncs.
 #[test]
 fn crash_points_of_an_append(rt: HostRuntime) -> Result<(), Fail> {

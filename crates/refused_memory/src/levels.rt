@@ -22,7 +22,7 @@ fn new_engine(alloc: Global) -> Result<Engine<MemSectors>, LogFault>
         return Err(LogFault::Memory);
     };
     format(&mut device)?;
-    Engine::open(alloc, device)
+    Ok(Engine::open(alloc, device)?)
 }
 
 /// A store, by the calls of its engine or by the events of a hub.

@@ -251,7 +251,9 @@ fn failure_of_each_call_of_the_opening(rt: HostRuntime) -> Result<(), Fail> {
         let mut device = empty_log(rt.alloc(), SECTORS)?;
         device.fail_call(call);
         assert_eq!(rt;
-            Engine::open(rt.alloc(), device).err(),
+            Engine::open(rt.alloc(), device)
+                .err()
+                .map(|unopened| unopened.fault),
             Some(LogFault::Device)
         );
     }

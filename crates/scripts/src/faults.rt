@@ -1,7 +1,8 @@
 //! Why a script ends early.
 
-use commit_log::LogFault;
+use commit_log::{LogFault, Unopened};
 use model::Memory;
+use sector::Sectors;
 use std::alloc::{AllocError, AllocFailed};
 use std::io;
 use std::io::ErrorKind;
@@ -62,6 +63,17 @@ impl From<LogFault> for ScriptFault {
 
     fn from(fault: LogFault) -> ScriptFault {
         ScriptFault::Log(fault)
+    }
+}
+
+impl<D: Sectors> From<Unopened<D>> for ScriptFault {
+    ghost use Rattle.std.specs.Prelude.{◌≡◌};
+    ghost use Rattle.scripts.specs.declared.faults.ScriptFault.TheVariants.{Log};
+
+    ghost from_gives = { λ unopened e. e ≡ Log unopened.fault };
+
+    fn from(unopened: Unopened<D>) -> ScriptFault {
+        ScriptFault::Log(unopened.fault)
     }
 }
 

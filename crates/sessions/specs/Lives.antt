@@ -4,7 +4,7 @@ use Rattle.sector.specs.declared.device.Sectors.{Ghosts}
 use Rattle.sector.specs.SectorModel.{IsSettled, LeavesOnly}
 use Rattle.model.specs.Map.{KeyMap}
 use Rattle.model.specs.Machine.{opened}
-use Rattle.commit_log.specs.declared.faults.LogFault.{LogFault}
+use Rattle.commit_log.specs.declared.faults.Unopened.{Unopened}
 use Rattle.commit_log.specs.Format.{current}
 use Rattle.commit_log.specs.LogFaults.{IsDeviceOrMemory}
 use Rattle.commit_log.specs.LogImage.{IsLogImage}
@@ -13,31 +13,35 @@ use Rattle.sessions.specs.declared.hub.Hub.{Hub}
 use Rattle.sessions.specs.Laws.{HasRun, RunsBy}
 use Rattle.sessions.specs.Life.{MayFind}
 use Rattle.sessions.specs.SessionStreams.{HubState, HubEvent, Choice, hub_over, run}
-use Rattle.sessions.specs.StandsFor.{StandsFor, device}
+use Rattle.sessions.specs.StandsFor.{StandsFor, device, device_after}
 
--- the hub begins with this map, and a crash at any moment of its opening left it
+-- the hub begins with this map
 pub record Begins {D : Type 0} {g : Ghosts D} (dev : D) (hub : Hub D g) (map : KeyMap) : Type 0 where
   pub used : ℕ
   pub stands : StandsFor hub (hub_over (opened map used (g.size dev)))
-  pub during : LeavesOnly g.moment g.left_since dev (device hub) (λ c. HoldsMap c map)
 
--- Over a device that has the image of a map, a hub begins with that map, a failing device and want of memory aside.
-abbrev pub Opens : {D : Type 0} {g : Ghosts D} → D → Result (Hub D g) LogFault → Type 0
-Opens {D} {g} dev result =
-    (disk : List (List ℕ)) (map : KeyMap) → IsSettled (g.size dev) (g.may_read dev) (g.may_leave dev) disk → HoldsMap disk map → MatchResult result (λ hub. Begins dev hub map) IsDeviceOrMemory
+-- A crash at any moment of the opening left this map. Its hub begins with that or, where there is none, the device failed or memory was
+-- refused.
+pub record EndsWith {D : Type 0} {g : Ghosts D} (dev : D) (result : Result (Hub D g) (Unopened D)) (map : KeyMap) : Type 0 where
+  pub during : LeavesOnly g.moment g.left_since dev (device_after result) (λ c. HoldsMap c map)
+  pub ends : MatchResult result (λ hub. Begins dev hub map) (λ u. IsDeviceOrMemory u.fault)
 
--- A crash left this image: while the hub was opened, or at a moment after `answered`, up to `last`, of a run.
-pub data Crash {D : Type 0} {g : Ghosts D} (dev : D) (hub : Hub D g) (disk : List (List ℕ)) : Type 0 where
-  InOpening : g.left_since (device hub) (g.moment dev) disk → Crash dev hub disk
-  InRun : (answered last : Hub D g) → HasRun hub answered → HasRun answered last → g.left_since (device last) (g.moment (device answered)) disk → Crash dev hub disk
+-- over a device that has the image of a map, the opening ends with that map
+abbrev pub Opens : {D : Type 0} {g : Ghosts D} → D → Result (Hub D g) (Unopened D) → Type 0
+Opens {D} {g} dev result = (disk : List (List ℕ)) (map : KeyMap) → IsSettled (g.size dev) (g.may_read dev) (g.may_leave dev) disk → HoldsMap disk map → EndsWith dev result map
 
--- one life of a store: a hub was opened over a device, and a crash left an image
+-- A crash left this image: in the opening, be it one that then failed, or at a moment after `answered`, up to `last`, of a run of its hub.
+pub data Crash {D : Type 0} {g : Ghosts D} (dev : D) (result : Result (Hub D g) (Unopened D)) (disk : List (List ℕ)) : Type 0 where
+  InOpening : g.left_since (device_after result) (g.moment dev) disk → Crash dev result disk
+  InRun : (hub answered last : Hub D g) → result ≡ Ok hub → HasRun hub answered → HasRun answered last → g.left_since (device last) (g.moment (device answered)) disk → Crash dev result disk
+
+-- one life of a store: an opening over a device, with its result, and the image that a crash left
 pub record Life (D : Type 0) (g : Ghosts D) : Type 0 where
   pub dev : D
-  pub hub : Hub D g
-  pub opens : Opens dev (Ok hub)
+  pub result : Result (Hub D g) (Unopened D)
+  pub opens : Opens dev result
   pub disk : List (List ℕ)
-  pub crash : Crash dev hub disk
+  pub crash : Crash dev result disk
 
 -- each life's device has the image that the crash of the one before left, the first one's has this
 abbrev pub FollowOn : {D : Type 0} {g : Ghosts D} → List (List ℕ) → List (Life D g) → Type 0
@@ -54,22 +58,21 @@ pub record IsLeft {D : Type 0} {g : Ghosts D} (hub answered last : Hub D g) (h :
   pub more : RunsBy answered last (run h choices) more_choices
   pub may : MayFind h (choices ++ more_choices) (length choices) map
 
--- a crash while the store was opened left its map
-abbrev pub Leaves : {D : Type 0} {g : Ghosts D} {dev : D} {hub : Hub D g} {disk : List (List ℕ)} → Crash dev hub disk → HubState → KeyMap → KeyMap → Type 0
-Leaves (InOpening left) h map next = next ≡ map
-Leaves {D} {g} {dev} {hub} (InRun answered last ran more left) h map next = IsLeft hub answered last h next
+-- a crash in the opening left the map of before it; one in a run of the hub, which began with that map, left one that it may leave
+abbrev pub Leaves : {D : Type 0} {g : Ghosts D} {dev : D} {result : Result (Hub D g) (Unopened D)} {disk : List (List ℕ)} → Crash dev result disk → KeyMap → KeyMap → Type 0
+Leaves (InOpening left) map next = next ≡ map
+Leaves {D} {g} {dev} {result} (InRun hub answered last is ran more left) map next = (begins : Begins dev hub map) × IsLeft hub answered last (hub_over (opened map begins.used (g.size dev))) next
 
--- a life that began with a map, and after which the device holds the next
+-- a life over a device that had a map, and after which the device holds the next
 pub record Lived {D : Type 0} {g : Ghosts D} (life : Life D g) (map next : KeyMap) : Type 0 where
-  pub begins : Begins life.dev life.hub map
-  pub leaves : Leaves life.crash (hub_over (opened map begins.used (g.size life.dev))) map next
+  pub opening : EndsWith life.dev life.result map
+  pub leaves : Leaves life.crash map next
   pub holds : HoldsMap life.disk next
 
--- Each life begins with the map that the one before left, the first with this one. A store that is opened after them begins with what
--- the last one left; it is never found damaged.
+-- Each life's opening ends with the map that the one before left, the first one's with this. So does that of a store that is opened after
+-- them; it is never found damaged.
 abbrev pub LoseNothing : {D : Type 0} {g : Ghosts D} → KeyMap → List (List ℕ) → List (Life D g) → Type 0
-LoseNothing {D} {g} map disk [] =
-    (dev : D) (result : Result (Hub D g) LogFault) → IsSettled (g.size dev) (g.may_read dev) (g.may_leave dev) disk → Opens dev result → MatchResult result (λ hub. Begins dev hub map) IsDeviceOrMemory
+LoseNothing {D} {g} map disk [] = (dev : D) (result : Result (Hub D g) (Unopened D)) → IsSettled (g.size dev) (g.may_read dev) (g.may_leave dev) disk → Opens dev result → EndsWith dev result map
 LoseNothing map disk (life ∷ lives) = (next : KeyMap) × Lived life map next × LoseNothing next life.disk lives
 
 -- of any number of lives, from the image of any map

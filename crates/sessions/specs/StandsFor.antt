@@ -1,9 +1,10 @@
 -- Which states a hub stands for, and what an event does to them.
-use Rattle.std.specs.Prelude.{◌≡◌, ℕ, Bool, List, [], map, Option, Some, None}
+use Rattle.std.specs.Prelude.{◌≡◌, ℕ, Bool, List, [], map, Option, Some, None, Result, Ok, Err}
 use Rattle.sector.specs.declared.device.Sectors.{Ghosts}
 use Rattle.model.specs.Leading.{LeadsBy}
 use Rattle.engine.specs.Meaning.{StandsFor as EngineStandsFor}
 use Rattle.engine.specs.Meaning.{device_of, failures_of, is_stopped as has_engine_stopped}
+use Rattle.commit_log.specs.declared.faults.Unopened.{Unopened}
 use Rattle.sessions.specs.declared.events.Status.{Status}
 use Rattle.sessions.specs.declared.events.Status.TheVariants.{Absent}
 use Rattle.sessions.specs.declared.events.Outcome.{Outcome}
@@ -37,6 +38,11 @@ device hub = device_of hub.engine
 
 abbrev pub failures : {D : Type 0} {g : Ghosts D} → Hub D g → ℕ
 failures hub = failures_of hub.engine
+
+-- the device after an opening: that of the hub, or the one that was given back
+abbrev pub device_after : {D : Type 0} {g : Ghosts D} → Result (Hub D g) (Unopened D) → D
+device_after (Ok hub) = device hub
+device_after (Err unopened) = unopened.device
 
 -- whether the device has failed in a COMMIT
 abbrev pub is_stopped : {D : Type 0} {g : Ghosts D} → Hub D g → Bool

@@ -37,19 +37,29 @@ returns-in-Ok-clause-during g c keeps h es answered left =
     subst (λ d. LeavesOnly g.D.Sectors.moment g.D.Sectors.left_since c.args.dev d (Holds h es answered)) (sym c.new.ensures.device)
     (weaker g.D.Sectors.moment g.D.Sectors.left_since c.args.dev (device_of c.in-Ok.engine) (g.D.Sectors.may_leave c.args.dev) (Holds h es answered) left (c.in-Ok.ensures.during keeps))
 
+pub returns-in-Err-clause-during : goal.returns-in-Err-clause-during
+returns-in-Err-clause-during g c keeps h es answered left =
+    weaker g.D.Sectors.moment g.D.Sectors.left_since c.args.dev c.in-Err.unopened.device (g.D.Sectors.may_leave c.args.dev) (Holds h es answered) left (c.in-Err.ensures.during keeps)
+
 pub returns-in-Ok-clause-opens : goal.returns-in-Ok-clause-opens
 returns-in-Ok-clause-opens g c keeps disk map settled x =
     let found = c.in-Ok.ensures.found keeps disk x.0 settled.size_is settled.read x.1 in
     let P : KeyMap → Type 0 = λ m. StandsFor c.new.result (hub_over (opened m (2 + span x.0) (g.D.Sectors.size c.args.dev))) in
     let H : List (List ℕ) → Type 0 = λ c. HoldsMap c map in
     record {
-      used = 2 + span x.0;
-      stands = subst P x.2 (c.new.ensures.stands _ found);
       during =
           subst (λ d. LeavesOnly g.D.Sectors.moment g.D.Sectors.left_since c.args.dev d H) (sym c.new.ensures.device)
           (weaker g.D.Sectors.moment g.D.Sectors.left_since c.args.dev (device_of c.in-Ok.engine) (g.D.Sectors.may_leave c.args.dev) H (λ c l. subst H (sym (settled.left c l)) x)
           (c.in-Ok.ensures.during keeps));
+      ends = record { used = 2 + span x.0; stands = subst P x.2 (c.new.ensures.stands _ found) };
     }
 
 pub returns-in-Err-clause-opens : goal.returns-in-Err-clause-opens
-returns-in-Err-clause-opens g c keeps disk map settled x = c.in-Err.ensures.found keeps disk x.0 settled.size_is settled.read x.1
+returns-in-Err-clause-opens g c keeps disk map settled x =
+    let H : List (List ℕ) → Type 0 = λ c. HoldsMap c map in
+    record {
+      during =
+          weaker g.D.Sectors.moment g.D.Sectors.left_since c.args.dev c.in-Err.unopened.device (g.D.Sectors.may_leave c.args.dev) H (λ c l. subst H (sym (settled.left c l)) x)
+          (c.in-Err.ensures.during keeps);
+      ends = c.in-Err.ensures.found keeps disk x.0 settled.size_is settled.read x.1;
+    }
