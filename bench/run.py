@@ -154,8 +154,8 @@ def counted(connections):
 
 def ping_rows(options, ssikvd):
     with Echo() as echo:
-        for connections in (1, 16, 64):
-            row = Row(f"PING, {counted(connections)}", "C epoll echo", 0.8)
+        for connections, goal in ((1, 0.95), (16, 0.9), (64, 0.9)):
+            row = Row(f"PING, {counted(connections)}", "C epoll echo", goal)
             compare(options, row, Load(options, "ping", connections), ssikvd, echo)
             row.notes.append(f"processor time for each, of the echo server: {processor_us(row.theirs):.1f} us.")
             yield row
@@ -246,7 +246,7 @@ class Device:
 def commit_rows(options, ssikvd, postgres):
     """Durable commits. Very short slices and many rounds, since a disk's speed changes from moment to moment."""
     device, seconds, rounds = Device(ssikvd.folder), options.seconds / 10, options.rounds * 8
-    kinds = [(16, False, "one request at a time", 0.8), (1, True, "sent at once", None), (1, False, "one request at a time", None)]
+    kinds = [(16, False, "one request at a time", 0.9), (1, True, "sent at once", None), (1, False, "one request at a time", None)]
     for connections, at_once, how, goal in kinds:
         load = Load(options, "write", connections, at_once)
         row = Row(f"BEGIN, SET, COMMIT, {counted(connections)}, {how}", "the device, two syncs", goal, on_disk=True)
