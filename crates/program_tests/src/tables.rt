@@ -43,6 +43,13 @@ fn row(place: usize) -> Option<(&'static str, &'static [Line])> {
             "reader finds a committed pivot",
             &READER_FINDS_A_COMMITTED_PIVOT,
         ),
+        _ => return row_from_nine(place),
+    })
+}
+
+/// The same from place 9 on.
+fn row_from_nine(place: usize) -> Option<(&'static str, &'static [Line])> {
+    Some(match place {
         9 => (
             "writer finds a committed pivot",
             &WRITER_FINDS_A_COMMITTED_PIVOT,
@@ -64,6 +71,13 @@ fn row(place: usize) -> Option<(&'static str, &'static [Line])> {
         ),
         16 => ("range over own writes", &RANGE_OVER_OWN_WRITES),
         17 => ("old version is kept", &OLD_VERSION_IS_KEPT),
+        _ => return row_from_eighteen(place),
+    })
+}
+
+/// The same from place 18 on.
+fn row_from_eighteen(place: usize) -> Option<(&'static str, &'static [Line])> {
+    Some(match place {
         18 => (
             "pivot after its target was forgotten",
             &PIVOT_AFTER_ITS_TARGET_WAS_FORGOTTEN,
