@@ -18,6 +18,7 @@ use sector::{FileSectors, Sectors};
 use std::alloc::Global;
 use std::fs::File;
 use std::io::{self, Write};
+use std::mem;
 use std::rt::Files;
 use std::time::{Clock, Duration, Instant};
 
@@ -27,7 +28,8 @@ use std::time::{Clock, Duration, Instant};
 ///
 /// The first fault met is told: one of opening or reading `from`; `LogFull` where the map needs more sectors than `to` may have, and then
 /// `to` isn't made; `File` or `Memory` where `to` can't be made, after which no file is there that it made; one of `copy_device`, after
-/// which `to` stays: it is no log, or the whole copy. It takes the memory of the map and of one record.
+/// which `to` stays: it is no log, or the whole copy. It takes the memory of the map and of one record. That of the map is left to the end
+/// of the process: to give a million values back one by one takes a twentieth of the whole.
 pub fn compact<R: Files<File = File> + Clock, O: Write, E: Write>(
     rt: &R,
     alloc: Global,
@@ -46,7 +48,9 @@ pub fn compact<R: Files<File = File> + Clock, O: Write, E: Write>(
     if is_terminal && is_long(rt, begun) {
         let _ = tell_copying(err);
     }
-    copy_device(alloc, &mut new, &map, out)
+    let copied = copy_device(alloc, &mut new, &map, out);
+    mem::forget(map);
+    copied
 }
 
 // Has a second passed since then? Not where the clock can't be read.

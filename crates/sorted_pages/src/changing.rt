@@ -19,8 +19,9 @@ const PAGE_MAX: usize = 512;
 // A page of fewer entries isn't split.
 const SPLIT_MIN: usize = 256;
 
-// How many entries a page is given where all come in by rising key.
-const FILL: usize = 448;
+// How many entries a page is given where all come in by rising key. It has room for more, so that the first keys that come in between
+// don't move it.
+const FILL: usize = 384;
 
 // Adds an entry of a new key in the room that was made for it.
 pub(crate) fn insert<V: Aging>(pages: &mut [Page<V>], key: Key, value: V)
@@ -120,7 +121,7 @@ fn push_last<V: Aging + Drop>(pages: &mut [Page<V>], key: Key, value: V) -> Resu
     pages[last].push(key, value)
 }
 
-// Adds a page of one entry, with room for as many as it is given, and no more.
+// Adds a page of one entry, with room for as many as a page may have.
 fn push_page<V: Aging + Drop>(
     pages: &mut Vec<Page<V>>,
     key: Key,
@@ -132,7 +133,7 @@ fn push_page<V: Aging + Drop>(
     ensures entries { entries pages.new.items ≡ (if is_ok result then entries pages.old.items ++ (key, value) ∷ [] else entries pages.old.items) }
 {
     let alloc = *pages.allocator();
-    let mut page = Page::with_room(alloc, FILL)?;
+    let mut page = Page::with_room(alloc, PAGE_MAX)?;
     page.push(key, value)?;
     pages.push(page)?;
     Ok(())
