@@ -12,7 +12,8 @@ tell of what was done until then, and `cut` of how much that was. Needs Python 3
 
 The rows, and the figures of each. Times are by the clock of the client; those with `cpu` are the server's processor time.
 
-    fill       N new keys in random order into an empty store, commits of 64: seconds in all, the longest COMMIT, memory for each key
+    fill       N new keys in random order into an empty store, commits of 64: seconds in all, the longest COMMIT, the longest whole
+               transaction by the server's processor time, memory for each key
     insert     a store of N keys: a new key in commits of 64 at random places; in falling order before all others; alone in its commit;
                and a COMMIT of 64 of them
     rewrite    a store of N keys: a written key in commits of 64, and alone in its commit
@@ -228,12 +229,19 @@ def us(seconds):
 def row_fill(options, keys):
     rounds = -(-keys // COMMIT_WRITES)
     with Store(options, 0, rounds) as server:
-        client, empty_bytes = Client(server.address), server.resident_bytes()
-        work = Work(server, options, rounds).do(lambda n: client.commit(map_keys(scattered, n * COMMIT_WRITES)))
+        client, empty_bytes, processor = Client(server.address), server.resident_bytes(), []
+
+        def fill(number):
+            before = server.processor_seconds()
+            seconds = client.commit(map_keys(scattered, number * COMMIT_WRITES))
+            processor.append(server.processor_seconds() - before)
+            return seconds
+
+        work = Work(server, options, rounds).do(fill)
         wall, cpu = work.us_per(COMMIT_WRITES)
         memory = (server.resident_bytes() - empty_bytes) / (work.done() * COMMIT_WRITES)
         return {"seconds": round(work.seconds, 2), "us_per_key": wall, "cpu_us_per_key": cpu, "longest_commit_ms": ms(max(work.times)),
-                "bytes_per_key": round(memory), **work.cut()}
+                "cpu_longest_transaction_ms": ms(max(processor)), "bytes_per_key": round(memory), **work.cut()}
 
 
 def map_keys(key_of, start, count=COMMIT_WRITES):

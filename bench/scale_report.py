@@ -19,6 +19,7 @@ LINES = [
     ("fill", "seconds", "a random load of N keys, commits of 64, s", "15 at a million", None),
     ("fill", "us_per_key", "the same, for each key, us", "", None),
     ("fill", "longest_commit_ms", "the same, longest COMMIT, ms", "5", None),
+    ("fill", "cpu_longest_transaction_ms", "the same, longest of 64 SETs and COMMIT, ms of the processor", "", None),
     ("fill", "bytes_per_key", "the same, memory for each key, bytes", "280", None),
     ("insert", "us_per_key", "one more of N keys, commits of 64, us", "2 times that of 10,000", "one new key among N, in commits of 64"),
     ("insert", "longest_commit_ms", "the same, longest COMMIT, ms", "5", "the longest COMMIT of 64 new keys among N"),
