@@ -14,6 +14,7 @@ ghost use Rattle.sessions.specs.SessionStreams.{HubState};
 ghost use Rattle.sessions.specs.StandsFor.{StandsFor, event_of, device};
 ghost use Rattle.sessions.specs.Crashes.{IsLeftByEvent};
 ghost use Rattle.sessions.specs.Lives.{LivesLoseNothing, LivesFromNothing};
+ghost use Rattle.sessions.specs.OneOrder.{LivesHaveOneHistory};
 
 use commit_log::{Log, LogFault};
 use model::Write;
@@ -41,10 +42,12 @@ pub fn step(hub: &mut Hub<FileSectors>, event: &Event<'_>) -> Outcome
 }
 
 /// Does nothing. Through any number of lives over files, each opened over what a crash of the one before left, a store begins with the
-/// map of the last answered COMMIT, or with that and one COMMIT more; it is never found damaged.
+/// map of the last answered COMMIT, or with that and one COMMIT more; it is never found damaged. All that was committed in them has one
+/// order, at whose end the map is the one found.
 pub fn lives(hub: &Hub<FileSectors>)
     ensures lives { FileKeepsModel → LivesLoseNothing hub.now }
     ensures from_nothing { FileKeepsModel → LivesFromNothing hub.now }
+    ensures one_history { FileKeepsModel → LivesHaveOneHistory hub.now }
 {
     hub.lives_lose_nothing()
 }

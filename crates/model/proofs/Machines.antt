@@ -17,12 +17,12 @@ use Rattle.model.specs.PrivateCopy.{PrivateCopy, copy_of, copy_after, respond, r
 use Rattle.model.specs.History.{Record, record_of, map_at, IsNumberedFrom, IsFaithful, IsTrueRecord}
 use Rattle.model.specs.Dependency.{is_concurrent, writes_key, write_alike, is_dangerous_pivot, NoConcurrentWriters}
 use Rattle.model.specs.Verdict.{verdict, is_overwritten, conflict_of, pivot_refusal, HasNoDangerousPivot}
-use Rattle.model.specs.Machine.{Running, State, Input, opened, last, snapshot, running_of, with_running, leave, record_to_commit, refuse, join_history, store, store_unless, body_sectors, commit, step_outside, own_step, step_inside, step_of, step, next, state_after}
+use Rattle.model.specs.Machine.{Running, State, Input, IsReached, opened, last, snapshot, running_of, with_running, leave, record_to_commit, refuse, join_history, store, store_unless, body_sectors, commit, step_outside, own_step, step_inside, step_of, step, next, state_after}
 use Rattle.model.specs.Machine.Input.{Asks, Leaves}
-use Rattle.model.specs.Laws.{IsIsolated, IsSerializable, MachineLaw}
+use Rattle.model.specs.SerialOrder.{serial_order}
+use Rattle.model.specs.Laws.{MachineLaw, VerdictHolds}
 use Rattle.model.proofs.Lookups.{same_key_comm}
 use Rattle.model.proofs.Members.{In, in_from_Contains, Contains-from_in, at_in, each_in, any_from_in, any_witness, none_found}
-use Rattle.model.proofs.Places.{places_rise}
 use Rattle.model.proofs.SerialOrders.{replay_law}
 
 -- ---- lists
@@ -55,7 +55,7 @@ each_left P test [] g = tt
 each_left P test (e ∷ es) g =
     elim (test e.0) as (λ b. AllByRecursion P (cond b (e ∷ where_key nat_cmp test es) (where_key nat_cmp test es))) [ true ↦ (g.0, each_left P test es g.1) | false ↦ each_left P test es g.1 ]
 
-at_found : {X : Type 0} (P : X → Type 0) (s : ℕ) (es : List (ℕ × X)) → AllByRecursion (λ e. P e.1) es → (x : X) → value_of nat_cmp s es ≡ Some x → P x
+pub at_found : {X : Type 0} (P : X → Type 0) (s : ℕ) (es : List (ℕ × X)) → AllByRecursion (λ e. P e.1) es → (x : X) → value_of nat_cmp s es ≡ Some x → P x
 at_found P s [] g x e = cc
 at_found P s (f ∷ es) g x e =
     elim (eq_by_cmp nat_cmp s f.0) as (λ b. cond b (Some f.1) (value_of nat_cmp s es) ≡ Some x → P x) [
@@ -275,8 +275,10 @@ pub state_kept : (st : State) (inputs : List Input) → Sound st → Sound (stat
 state_kept st [] k = k
 state_kept st (i ∷ inputs) k = state_kept (next st i) inputs (next_kept st i k)
 
-pub machine_law : MachineLaw
-machine_law st reached = from st (subst Sound (sym reached.is) (state_kept (opened reached.contents reached.sectors_used reached.sectors) reached.inputs start))
+-- ---- what holds of each state that it reaches
+
+pub reached_sound : (st : State) → IsReached st → Sound st
+reached_sound st reached = subst Sound (sym reached.is) (state_kept (opened reached.contents reached.sectors_used reached.sectors) reached.inputs start)
   where
     start : Sound (opened reached.contents reached.sectors_used reached.sectors)
     start = record {
@@ -286,10 +288,13 @@ machine_law st reached = from st (subst Sound (sym reached.is) (state_kept (open
       open_true = tt;
     }
 
-    from : (st : State) → Sound st → IsIsolated st × IsSerializable st
-    from st k =
-        let law = replay_law st.base st.history k.faithful k.no_pivot k.apart in (
-          All-from_recursion (λ e. e.1.replies ≡ responses (copy_of (snapshot st e.1)) e.1.requests) st.running
-              (each_in (λ e. e.1.replies ≡ responses (copy_of (snapshot st e.1)) e.1.requests) st.running (λ e e_in. let is = at_in (λ f. IsTrueRunning st.base st.history f.1) st.running e k.open_true e_in in is.replies)),
-          record { faithful = k.faithful; no_pivot = k.no_pivot; apart = k.apart; dependencies = places_rise st.base st.history k.faithful k.no_pivot k.apart; replies = law.0; final_map = law.1 },
-        )
+pub verdict_holds : VerdictHolds
+verdict_holds st reached = let k = reached_sound st reached in (k.no_pivot, k.apart)
+
+pub machine_law : MachineLaw
+machine_law st reached =
+    let k = reached_sound st reached in (
+      All-from_recursion (λ e. e.1.replies ≡ responses (copy_of (snapshot st e.1)) e.1.requests) st.running
+          (each_in (λ e. e.1.replies ≡ responses (copy_of (snapshot st e.1)) e.1.requests) st.running (λ e e_in. let is = at_in (λ f. IsTrueRunning st.base st.history f.1) st.running e k.open_true e_in in is.replies)),
+      record { faithful = k.faithful; order = serial_order st.history; serial = replay_law st.base st.history k.faithful k.no_pivot k.apart },
+    )

@@ -1,13 +1,14 @@
 -- Each dependency leads to a later place in the serial order.
 use Rattle.std.proofs.Common.{◌≡◌, ◌⊎◌, ◌<◌, ◌≤◌, false, ◌&&◌, List, Option, Some, None, refl, ap, arith, inl, inr}
-use Rattle.std.specs.Prelude.{IsTrue, nat_lt}
+use Rattle.std.specs.Prelude.{IsTrue, nat_lt, Contains}
 use Rattle.std.specs.List.{list_any}
 use Rattle.std.proofs.lemmas.Bool.{le-leb, ltb-true, eq-eqb, lt-ltb, or_left, or_right, and_parts, and_from, cases_lt, cases_Bool, cases_order, both_ways}
 use Rattle.std.proofs.lemmas.List.Elements.{All-contains}
-use Rattle.model.specs.History.{Record, IsTrueRecord}
+use Rattle.model.specs.Map.{KeyMap}
+use Rattle.model.specs.History.{Record, IsFaithful, IsTrueRecord}
 use Rattle.model.specs.Dependency.{makes_dangerous_pivot, is_concurrent, read_write_dependency, concurrent_read_write, is_dangerous_pivot}
 use Rattle.model.specs.SerialOrder.{Place, is_before, place, place_before, first_overwriter}
-use Rattle.model.specs.Laws.{PlacesRise}
+use Rattle.model.specs.Laws.{PlacesRise, PlacesKeepTime}
 use Rattle.model.proofs.Cycles.{concurrent_from, read_write_begins, read_write_differs, dependency_cases}
 use Rattle.model.proofs.Members.{In, in_from_Contains, any_from_in, found, none_found, first_is_least, IsRising, rising_from_numbered}
 
@@ -67,7 +68,7 @@ before_by_second p q e h = or_right (nat_lt p.first q.first) _ (and_from _ _ (eq
 -- ---- the dependencies
 
 -- one that had committed when the other began stands before it
-apart_rise : (history : List Record) → IsRising history → (a b : Record) → b.begin < b.commit → a.commit ≤ b.begin → IsTrue (is_before (place history a) (place history b))
+pub apart_rise : (history : List Record) → IsRising history → (a b : Record) → b.begin < b.commit → a.commit ≤ b.begin → IsTrue (is_before (place history a) (place history b))
 apart_rise history rise a b begins over =
     let low = first_le_commit history rise a in
     elim (stand_of history rise b) [
@@ -115,13 +116,17 @@ concurrent_rise history rise a b a_in b_in no_pivot rw' conc =
     dependency_in : IsTrue (concurrent_read_write a b)
     dependency_in = and_from _ _ rw' conc
 
+pub begins_before : (base : KeyMap) (history : List Record) → IsFaithful base history → (t : Record) → Contains history t → t.begin < t.commit
+begins_before base history faithful t t_in = let is : IsTrueRecord base history t = All-contains (IsTrueRecord base history) history t faithful.records t_in in is.begins_before
+
+pub places_keep_time : PlacesKeepTime
+places_keep_time base history faithful a b a_in b_in over = apart_rise history (rising_from_numbered 0 history faithful.numbered) a b (begins_before base history faithful b b_in) over
+
 pub places_rise : PlacesRise
 places_rise base history faithful no_pivot apart a b a_in b_in e =
     let rise = rising_from_numbered 0 history faithful.numbered in
-    let a_true = All-contains (IsTrueRecord base history) history a faithful.records a_in in
-    let b_true = All-contains (IsTrueRecord base history) history b faithful.records b_in in
-    let a_begins : a.begin < a.commit = a_true.begins_before in
-    let b_begins : b.begin < b.commit = b_true.begins_before in
+    let a_begins : a.begin < a.commit = begins_before base history faithful a a_in in
+    let b_begins : b.begin < b.commit = begins_before base history faithful b b_in in
     elim (dependency_cases a b e) [
       | inl w ↦ elim (cases_Bool (is_concurrent a b)) [
         | inl t ↦ absurd (apart a b a_in b_in (let less = w.earlier in omega arith) t w.alike)

@@ -1,10 +1,12 @@
--- The history sorted by place, and its replay.
+-- The history sorted by place: it has each record once, keeps real time, and replays.
 use Rattle.std.proofs.Common.{◌≡◌, ◌≢◌, ℕ, suc, ◌+◌, ◌<◌, Bool, true, false, cond, ◌||◌, List, [], ◌∷◌, ◌++◌, refl, sym, ap, subst, ◌∙◌, length, arith, append_assoc, append-nil, inl, inr}
-use Rattle.std.specs.Prelude.{IsTrue, nat_le, ◌==◌, ⊤}
+use Rattle.std.specs.Prelude.{IsTrue, nat_le, ◌==◌, ⊤, AllPairs, IsPermutation}
 use Rattle.std.specs.List.{filter, AllByRecursion}
 use Rattle.std.proofs.lemmas.Bool.{both_ways, or_left, or_right, and_from, cases_lt, lt-ltb, le-leb, lt-leb, ne_eqb, not_from_false}
 use Rattle.std.proofs.lemmas.Bool.Decides.{nat_tests}
-use Rattle.std.proofs.lemmas.List.Elements.{All-contains, filter-append}
+use Rattle.std.proofs.lemmas.List.Elements.{All-contains, All-from_recursion, filter-append}
+use Rattle.std.proofs.lemmas.List.Kept.{AllPairs-cons}
+use Rattle.std.proofs.lemmas.List.Sorted.{IsPermutation-refl, IsPermutation-cons, IsPermutation-middle, IsPermutation-trans}
 use Rattle.model.specs.Map.{Bytes, KeyMap, IsMap, value_at, after_writes}
 use Rattle.model.specs.PrivateCopy.{copy_of, copy_after, is_covered}
 use Rattle.model.specs.History.{Record, map_at, IsNumberedFrom, IsFaithful, IsTrueRecord}
@@ -15,7 +17,7 @@ use Rattle.model.specs.Laws.{ReplayLaw}
 use Rattle.model.proofs.Members.{In, Contains-from_in, at_in, each_in, in_append_right, IsRising, rising_from_numbered}
 use Rattle.model.proofs.Lookups.{any_at_key, value_after_alike, value_after_others, IsMap-after_writes, same_map}
 use Rattle.model.proofs.Copies.{replayed}
-use Rattle.model.proofs.Places.{places_rise}
+use Rattle.model.proofs.Places.{apart_rise, begins_before, places_rise}
 use Rattle.model.proofs.Cycles.{AllByRecursion-parts}
 
 -- ---- the order of places
@@ -43,7 +45,7 @@ filter_all : (p : Record → Bool) (xs : List Record) → AllByRecursion (λ x. 
 filter_all p [] h = refl
 filter_all p (x ∷ xs) h = ap (λ b. cond b (x ∷ filter p xs) (filter p xs)) h.0 ∙ ap (λ l. x ∷ l) (filter_all p xs h.1)
 
-filter_none : (p : Record → Bool) (xs : List Record) → AllByRecursion (λ x. p x ≡ false) xs → filter p xs ≡ []
+pub filter_none : (p : Record → Bool) (xs : List Record) → AllByRecursion (λ x. p x ≡ false) xs → filter p xs ≡ []
 filter_none p [] h = refl
 filter_none p (x ∷ xs) h = ap (λ b. cond b (x ∷ filter p xs) (filter p xs)) h.0 ∙ filter_none p xs h.1
 
@@ -115,6 +117,20 @@ module _ (history : List Record) where
       (each_by_place (λ u. t.commit ≢ u.commit) ts (each_in (λ u. t.commit ≢ u.commit) ts (λ u u_in. let above : t.commit < u.commit = at_in (λ w. t.commit < w.commit) ts u h.0 u_in in omega arith)))
       (ordered_by_place ts h.1)
 
+  -- each stands in the order once
+  permuted_placed : (t : Record) (us : List Record) → IsPermutation (t ∷ us) (placed history t us)
+  permuted_placed t [] = IsPermutation-refl (t ∷ [])
+  permuted_placed t (u ∷ us) =
+      elim (is_before (place history t) (place history u)) as (λ b. IsPermutation (t ∷ u ∷ us) (cond b (t ∷ u ∷ us) (u ∷ placed history t us))) [
+        | true ↦ IsPermutation-refl (t ∷ u ∷ us)
+        | false ↦ IsPermutation-trans (t ∷ u ∷ us) (u ∷ t ∷ us) (u ∷ placed history t us) (IsPermutation-middle (t ∷ []) u us) (IsPermutation-cons u (t ∷ us) (placed history t us) (permuted_placed t us))
+      ]
+
+  permuted_by_place : (ts : List Record) → IsPermutation ts (by_place history ts)
+  permuted_by_place [] = IsPermutation-refl []
+  permuted_by_place (t ∷ ts) = IsPermutation-trans (t ∷ ts) (t ∷ by_place history ts) (placed history t (by_place history ts))
+      (IsPermutation-cons t ts (by_place history ts) (permuted_by_place ts)) (permuted_placed t (by_place history ts))
+
   -- those that pass keep their order, where they stand in place
   filter_placed_skips : (p : Record → Bool) (t : Record) (us : List Record) → p t ≡ false → filter p (placed history t us) ≡ filter p us
   filter_placed_skips p t [] h = ap (λ b. cond b (t ∷ []) []) h
@@ -144,6 +160,21 @@ module _ (history : List Record) where
             filter_placed p t (by_place history ts) e (subst (AllByRecursion (Precedes t)) (sym rest) h'.0) ∙ ap (λ l. t ∷ l) rest
         | false ↦ λ e h'. filter_placed_skips p t (by_place history ts) e ∙ filter_by_place p ts h'
       ] refl h
+
+-- ---- real time
+
+module _ (base : KeyMap) (history : List Record) (faithful : IsFaithful base history) where
+  began_before : (t u : Record) → In t history → MayPrecede history t u → t.begin < u.commit
+  began_before t u t_in may = elim (cases_lt t.begin u.commit) [
+    | inl less ↦ less
+    | inr over ↦ absurd (both_ways _ may.not_after (apart_rise history (rising_from_numbered 0 history faithful.numbered) u t (begins_before base history faithful t (Contains-from_in history t t_in)) over))
+  ]
+
+  in_time : (ts : List Record) → AllByRecursion (λ t. In t history) ts → IsOrdered history ts → AllPairs (λ (a b : Record). a.begin < b.commit) ts
+  in_time [] are order = λ i j d less lt. absurd (omega arith)
+  in_time (t ∷ ts) are order = AllPairs-cons (λ (a b : Record). a.begin < b.commit) t ts
+      (All-from_recursion (λ (u : Record). t.begin < u.commit) ts (each_in (λ u. t.begin < u.commit) ts (λ u u_in. began_before t u are.0 (at_in (MayPrecede history t) ts u order.0 u_in))))
+      (in_time ts are.1 order.1)
 
 -- ---- maps after records
 
@@ -326,4 +357,11 @@ pub replay_law : ReplayLaw
 unfolding serial_order
 replay_law base history faithful no_pivot apart =
     let w = walk base history faithful no_pivot apart [] (by_place history history) refl in
-    (w.0, w.1 ∙ same_end_map base history faithful no_pivot apart)
+    let are = in_order base history faithful no_pivot apart in
+    let order = ordered base history faithful no_pivot apart in
+    record {
+      each_once = permuted_by_place history history;
+      real_time = in_time base history faithful (by_place history history) are order;
+      replies = w.0;
+      final_map = w.1 ∙ same_end_map base history faithful no_pivot apart;
+    }

@@ -1,12 +1,15 @@
 -- The laws of histories and of the machine's runs.
-use Rattle.std.specs.Prelude.{◌≡◌, List, IsTrue, All, Contains, length}
+use Rattle.std.specs.Prelude.{◌≡◌, ◌<◌, ◌≤◌, ℕ, Bool, List, ◌∷◌, ◌++◌, Some, None, IsTrue, All, Contains}
+use Rattle.model.specs.declared.refusals.Refusal.{Refusal}
 use Rattle.model.specs.Map.{KeyMap}
+use Rattle.model.specs.Operations.Operation.{Commit}
+use Rattle.model.specs.Operations.Response.{Refused}
 use Rattle.model.specs.PrivateCopy.{copy_of, responses}
-use Rattle.model.specs.History.{Record, IsFaithful, map_at}
+use Rattle.model.specs.History.{Record, IsFaithful}
 use Rattle.model.specs.Dependency.{dependency, NoConcurrentWriters}
-use Rattle.model.specs.Verdict.{HasNoDangerousPivot}
-use Rattle.model.specs.Machine.{State, IsReached, last, snapshot}
-use Rattle.model.specs.SerialOrder.{place, is_before, serial_order, replay, ReplaysReplies}
+use Rattle.model.specs.Verdict.{verdict, is_conflict, HasNoDangerousPivot}
+use Rattle.model.specs.Machine.{State, Running, IsReached, last, snapshot, running_of, record_to_commit, step}
+use Rattle.model.specs.SerialOrder.{IsSerialOrder, place, is_before, serial_order}
 
 -- without dangerous pivots and concurrent writers of one key each dependency leads to a later place
 abbrev pub PlacesRise : Type 0
@@ -15,21 +18,33 @@ PlacesRise = (base : KeyMap) (history : List Record) →
     (a b : Record) → Contains history a → Contains history b → IsTrue (dependency a b) →
     IsTrue (is_before (place history a) (place history b))
 
--- then the transactions, run one at a time by their places, give the same replies and the same final map
+-- pivots or not, one that had committed when another began has the earlier place
+abbrev pub PlacesKeepTime : Type 0
+PlacesKeepTime = (base : KeyMap) (history : List Record) → IsFaithful base history →
+    (a b : Record) → Contains history a → Contains history b → a.commit ≤ b.begin →
+    IsTrue (is_before (place history a) (place history b))
+
+-- without dangerous pivots and concurrent writers of one key the order by places is a serial order
 abbrev pub ReplayLaw : Type 0
 ReplayLaw = (base : KeyMap) (history : List Record) →
     IsFaithful base history → HasNoDangerousPivot history → NoConcurrentWriters history →
-    ReplaysReplies base (serial_order history) × (replay base (serial_order history) ≡ map_at base history (length history))
+    IsSerialOrder base history (serial_order history)
 
--- the history is faithful, has no dangerous pivot and no concurrent writers of one key, each dependency leads to a later place, and the
--- committed transactions, run one at a time by their places, give the same replies and the same final map
+-- a stands before b in the order
+abbrev pub IsAhead : List Record → Record → Record → Type 0
+IsAhead order a b = (front middle back : List Record) × (order ≡ front ++ a ∷ (middle ++ b ∷ back))
+
+-- in a serial order one that had committed when another began stands before that
+abbrev pub OrdersKeepTime : Type 0
+OrdersKeepTime = (base : KeyMap) (history order : List Record) → IsFaithful base history → IsSerialOrder base history order →
+    (a b : Record) → Contains history a → Contains history b → a.commit ≤ b.begin → IsAhead order a b
+
+-- each committed transaction was answered as a private copy of the map committed at its begin answers its own requests alone, and the
+-- committed transactions have a serial order
 pub record IsSerializable (st : State) : Type 0 where
   pub faithful : IsFaithful st.base st.history
-  pub no_pivot : HasNoDangerousPivot st.history
-  pub apart : NoConcurrentWriters st.history
-  pub dependencies : (a b : Record) → Contains st.history a → Contains st.history b → IsTrue (dependency a b) → IsTrue (is_before (place st.history a) (place st.history b))
-  pub replies : ReplaysReplies st.base (serial_order st.history)
-  pub final_map : replay st.base (serial_order st.history) ≡ map_at st.base st.history (last st)
+  pub order : List Record
+  pub serial : IsSerialOrder st.base st.history order
 
 -- each open transaction was answered as a private copy of the map committed at its begin answers its own requests alone
 abbrev pub IsIsolated : State → Type 0
@@ -38,3 +53,17 @@ IsIsolated st = All (λ e. e.1.replies ≡ responses (copy_of (snapshot st e.1))
 -- whatever the sessions ask, and whenever the device fails
 abbrev pub MachineLaw : Type 0
 MachineLaw = (st : State) → IsReached st → IsIsolated st × IsSerializable st
+
+-- what has committed has no dangerous pivot and no concurrent writers of one key: so the laws of histories hold of it
+abbrev pub VerdictHolds : Type 0
+VerdictHolds = (st : State) → IsReached st → HasNoDangerousPivot st.history × NoConcurrentWriters st.history
+
+-- nothing speaks against a transaction where no other has committed since its begin
+abbrev pub LastMayCommit : Type 0
+LastMayCommit = (st : State) → IsReached st → (s : ℕ) (t : Running) → running_of st s ≡ Some t → t.begin ≡ last st →
+    verdict st.history (record_to_commit st t) ≡ None
+
+-- So where a COMMIT is refused for a conflict, another transaction has committed since its BEGIN: of those that contend one gets through.
+abbrev pub ConflictsAreRecent : Type 0
+ConflictsAreRecent = (st : State) → IsReached st → (s : ℕ) (t : Running) → running_of st s ≡ Some t → (failed : Bool) (refusal : Refusal) →
+    (step st s Commit failed).1 ≡ Refused refusal → IsTrue (is_conflict refusal) → t.begin < last st

@@ -18,3 +18,4 @@ pub mod Machine
 pub mod SerialOrder
 pub mod Leading
 pub mod Laws
+pub mod Restarts

@@ -1,11 +1,31 @@
--- A serial order of a history without dangerous pivots, and its replay. The order is this project's own: it makes each dependency rise.
-use Rattle.std.specs.Prelude.{◌≡◌, ℕ, Bool, ◌&&◌, ◌||◌, List, [], ◌∷◌, Option, Some, None, find, nat_lt, ◌==◌, if◌then◌else◌, ⊤}
+-- Serial orders of a history, and its replay. Behind them stands the order that this project gives of a history without dangerous
+-- pivots, in which each dependency rises.
+use Rattle.std.specs.Prelude.{◌≡◌, ◌<◌, ℕ, Bool, ◌&&◌, ◌||◌, List, [], ◌∷◌, Option, Some, None, find, length, nat_lt, ◌==◌, if◌then◌else◌, ⊤, AllPairs, IsPermutation}
 use Rattle.model.specs.Map.{KeyMap}
 use Rattle.model.specs.PrivateCopy.{copy_of, copy_after, responses}
-use Rattle.model.specs.History.{Record}
+use Rattle.model.specs.History.{Record, map_at}
 use Rattle.model.specs.Dependency.{concurrent_read_write}
 
--- where a transaction stands in the serial order: places are compared number by number, from the left
+-- the map after the transactions have run alone, one after another, each on the copy that the one before left
+abbrev pub replay : KeyMap → List Record → KeyMap
+replay m [] = m
+replay m (r ∷ rs) = replay (copy_after (copy_of m) r.requests).contents rs
+
+-- run so, each is given the replies that its record has
+abbrev pub ReplaysReplies : KeyMap → List Record → Type 0
+ReplaysReplies m [] = ⊤
+ReplaysReplies m (r ∷ rs) = (responses (copy_of m) r.requests ≡ r.replies) × ReplaysReplies (copy_after (copy_of m) r.requests).contents rs
+
+-- The order has each record of the history once. A commit number is the next at COMMIT, and a begin number the last at BEGIN: so each
+-- record began before any that stands behind it had committed, and one that had committed when another began stands before that. Run one
+-- at a time in this order, the transactions give the same replies and the same final map.
+pub record IsSerialOrder (base : KeyMap) (history order : List Record) : Type 0 where
+  pub each_once : IsPermutation history order
+  pub real_time : AllPairs (λ a b. a.begin < b.commit) order
+  pub replies : ReplaysReplies base order
+  pub final_map : replay base order ≡ map_at base history (length history)
+
+-- where a transaction stands in the order by places: places are compared number by number, from the left
 pub record Place : Type 0 where
   pub first : ℕ
   pub second : ℕ
@@ -39,13 +59,3 @@ by_place history (t ∷ ts) = placed history t (by_place history ts)
 -- the history sorted by place
 unfoldable pub serial_order : List Record → List Record
 serial_order history = by_place history history
-
--- the map after the transactions have run alone, one after another, each on the copy that the one before left
-abbrev pub replay : KeyMap → List Record → KeyMap
-replay m [] = m
-replay m (r ∷ rs) = replay (copy_after (copy_of m) r.requests).contents rs
-
--- run so, each is given the replies that its record has
-abbrev pub ReplaysReplies : KeyMap → List Record → Type 0
-ReplaysReplies m [] = ⊤
-ReplaysReplies m (r ∷ rs) = (responses (copy_of m) r.requests ≡ r.replies) × ReplaysReplies (copy_after (copy_of m) r.requests).contents rs

@@ -1,12 +1,19 @@
 -- Whether a transaction may commit: the first committer wins (snapshot isolation, Fekete et al. 2005), and no dangerous pivot may
 -- appear (Cahill, Röhm, Fekete 2008; Ports, Grittner 2012). Which conflict is named is this project's profile.
-use Rattle.std.specs.Prelude.{Bool, ◌&&◌, List, [], ◌∷◌, ◌++◌, Option, Some, None, find, nat_lt, if◌then◌else◌, Contains, IsFalse}
+use Rattle.std.specs.Prelude.{Bool, true, false, ◌&&◌, List, [], ◌∷◌, ◌++◌, Option, Some, None, find, nat_lt, if◌then◌else◌, Contains, IsFalse}
 use Rattle.std.specs.List.{list_any}
 use Rattle.model.specs.declared.refusals.Refusal.{Refusal}
 use Rattle.model.specs.declared.refusals.Refusal.TheVariants.{Overwritten, PivotSelf, Pivot}
 use Rattle.model.specs.Map.{Bytes, KeyWrite}
 use Rattle.model.specs.History.{Record}
 use Rattle.model.specs.Dependency.{writes_key, is_dangerous_pivot}
+
+-- whether the refusal names a conflict
+abbrev pub is_conflict : Refusal → Bool
+is_conflict (Overwritten k) = true
+is_conflict PivotSelf = true
+is_conflict (Pivot n) = true
+is_conflict other = false
 
 -- whether a transaction that committed after t began has written the key
 abbrev pub is_overwritten : List Record → Record → Bytes → Bool

@@ -1,6 +1,8 @@
 //! The laws of histories and of the machine. Each is the contract of a function that does nothing.
 ghost use Rattle.model.specs.Cycle.{CycleLaw, DangerousCycleLaw, DangerousPivotLaw};
-ghost use Rattle.model.specs.Laws.{MachineLaw, PlacesRise, ReplayLaw};
+ghost use Rattle.model.specs.Laws.{ConflictsAreRecent, LastMayCommit, VerdictHolds};
+ghost use Rattle.model.specs.Laws.{MachineLaw, OrdersKeepTime, PlacesKeepTime, PlacesRise, ReplayLaw};
+ghost use Rattle.model.specs.Restarts.{ReplaysFollow, RestartLaw};
 
 /// Each cycle of dependencies has a pivot, and the one after it committed first of all, if no two concurrent transactions write one
 /// key (Fekete et al. 2005).
@@ -15,15 +17,33 @@ pub fn cycle_has_dangerous_pivot()
     ensures cycles { DangerousCycleLaw }
 {}
 
-/// Without dangerous pivots and without concurrent writers of one key, the transactions of a history, run one at a time in one
-/// order, give the same replies and the same final map.
+/// Without dangerous pivots and without concurrent writers of one key, the transactions of a history have a serial order, which is the
+/// one by their places: each dependency rises in it. In every serial order one that had committed when another began stands before that;
+/// by their places it does, be there pivots or not.
 pub fn history_has_serial_order()
     ensures dependencies { PlacesRise }
+    ensures real_time { PlacesKeepTime }
     ensures replay { ReplayLaw }
+    ensures ahead { OrdersKeepTime }
 {}
 
 /// Whatever the sessions ask of the store, each open transaction was answered by its own copy alone, and the committed ones have a
-/// serial order that gives the same replies and the same final map.
+/// serial order, which respects real time and gives the same replies and the same final map.
 pub fn machine_is_serializable()
     ensures { MachineLaw }
+{}
+
+/// What COMMIT lets pass never has a dangerous pivot or concurrent writers of one key, so the laws of histories hold of it. And it refuses
+/// for a conflict only where another transaction has committed since the BEGIN: of those that contend one gets through.
+pub fn verdict_is_sound()
+    ensures holds { VerdictHolds }
+    ensures none { LastMayCommit }
+    ensures recent { ConflictsAreRecent }
+{}
+
+/// Of a store that is opened several times, each time over the map that it had come to before, all that was committed has one order, in
+/// which each transaction is given the replies that it had, and at whose end the map is the one found.
+pub fn restarts_have_one_order()
+    ensures follow { ReplaysFollow }
+    ensures order { RestartLaw }
 {}

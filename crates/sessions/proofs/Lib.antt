@@ -8,6 +8,7 @@ pub mod Reached
 pub mod RunLaws
 pub mod LifeLaws
 pub mod LivesLaws
+pub mod OneOrders
 pub mod PrivateReplies
 pub mod HubEvents
 pub mod PiecesOfStreams

@@ -27,7 +27,7 @@ by_case P false x y p q = q refl
 -- ---- what a step makes of the commits
 
 -- no more, one more, or the device failed in one
-data CommitsBy (m : State) (f : Bool) (n : State) : Type 0 where
+pub data CommitsBy (m : State) (f : Bool) (n : State) : Type 0 where
   NoMore : n.base ≡ m.base → n.history ≡ m.history → n.stopped ≡ m.stopped → CommitsBy m f n
   OneMore : (r : Record) → m.stopped ≡ false → n.base ≡ m.base → n.history ≡ m.history ++ r ∷ [] → n.stopped ≡ m.stopped → CommitsBy m f n
   Fails : f ≡ true → m.stopped ≡ false → n.base ≡ m.base → n.history ≡ m.history → n.stopped ≡ true → CommitsBy m f n
@@ -54,7 +54,7 @@ module _ (m : State) (s : ℕ) (t : Running) (f : Bool) where
       by_case (Answers m f) m.stopped _ _ (λ _. NoMore refl refl refl)
       (λ up. by_case (Answers m f) (last m == 2 ^ 63 - 1) _ _ (λ _. NoMore refl refl refl) (λ _. commits_unless up (verdict m.history r)))
 
-commits_in_step : (m : State) (s : ℕ) (q : Operation) (f : Bool) → Answers m f (step m s q f)
+pub commits_in_step : (m : State) (s : ℕ) (q : Operation) (f : Bool) → Answers m f (step m s q f)
 unfolding step
 commits_in_step m s q f = elim (running_of m s) as (λ o. Answers m f (step_of o m s q f)) [ None ↦ outside q | Some t ↦ inside t q ]
   where
@@ -89,7 +89,7 @@ module _ (h : HubState) (e : HubEvent) (c : Choice) where
   abbrev after : HubState
   after = (hub_step h e c).0
 
-  commits_in_event : CommitsBy h.machine c.failed after.machine
+  pub commits_in_event : CommitsBy h.machine c.failed after.machine
   commits_in_event = by_move (moved h e c)
     where
       by_move : {m : State} → Moved c h.machine m → CommitsBy h.machine c.failed m

@@ -13,7 +13,7 @@ use Rattle.sessions.specs.Lives.Crash.{InOpening, InRun}
 use Rattle.sessions.proofs.LifeLaws.{loses_nothing}
 
 -- what a crash left of a life whose opening ended with this map
-left : {D : Type 0} {g : Ghosts D} (dev : D) (result : Result (Hub D g) (Unopened D)) (disk : List (List ℕ)) (map : KeyMap) (opening : EndsWith dev result map) (crash : Crash dev result disk)
+pub left : {D : Type 0} {g : Ghosts D} (dev : D) (result : Result (Hub D g) (Unopened D)) (disk : List (List ℕ)) (map : KeyMap) (opening : EndsWith dev result map) (crash : Crash dev result disk)
     → (g.keeps_model → (d : D) (c : List (List ℕ)) → g.left_since d (g.moment d) c → g.may_leave d c) → g.keeps_model
     → (next : KeyMap) × Leaves crash map next × HoldsMap disk next
 left dev result disk map opening (InOpening l) only_now keeps = (map, refl, opening.during.each disk l)

@@ -75,7 +75,7 @@ state_after-append : (m : State) (is js : List Input) → state_after m (is ++ j
 state_after-append m [] js = refl
 state_after-append m (i ∷ is) js = state_after-append (next m i) is js
 
-reached_next : (m : State) (i : Input) → IsReached m → IsReached (next m i)
+pub reached_next : (m : State) (i : Input) → IsReached m → IsReached (next m i)
 reached_next m i r = record {
   contents = r.contents;
   sectors_used = r.sectors_used;
@@ -85,7 +85,7 @@ reached_next m i r = record {
   is = ap (λ x. next x i) r.is ∙ sym (state_after-append _ r.inputs (i ∷ []));
 }
 
-reached_moved : (c : Choice) (m after : State) → IsReached m → Moved c m after → IsReached after
+pub reached_moved : (c : Choice) (m after : State) → IsReached m → Moved c m after → IsReached after
 reached_moved c m after r Rests = r
 reached_moved c m after r (Lets s) = reached_next m (LeavesIt s) r
 reached_moved c m after r (Steps s q) = reached_next m (Asks s q c.failed) r

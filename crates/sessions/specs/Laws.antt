@@ -34,8 +34,8 @@ abbrev pub EndsItsStream : HubState → ℕ → Running → Type 0
 EndsItsStream h s t = (st : SessionStream) × (stream_of h s ≡ Some st) × EndsStream st t
 
 -- Each open transaction was answered as a private copy of the map at its begin answers its own requests alone. The committed
--- transactions, one after another in the serial order, give the same replies and the same final map. Each session's bytes
--- are those of its requests and of the machine's replies.
+-- transactions, one after another in an order that respects real time, give the same replies and the same final map. Each session's
+-- bytes are those of its requests and of the machine's replies.
 pub record IsLawful (h : HubState) : Type 0 where
   pub reached : IsReached h.machine
   pub isolated : IsIsolated h.machine

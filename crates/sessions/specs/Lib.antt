@@ -6,4 +6,5 @@ pub mod Laws
 pub mod Crashes
 pub mod Reopening
 pub mod Lives
+pub mod OneOrder
 pub mod Places

@@ -7,6 +7,7 @@ ghost use Rattle.sessions.specs.Crashes.{SurvivesEvent, SurvivesCrash, IsStored}
 ghost use Rattle.sessions.specs.Laws.{IsLawful, NoneRuns, Runs, RunsAlone, RunsFollow};
 ghost use Rattle.sessions.specs.Life.{RunsGoOn, LosesNothing};
 ghost use Rattle.sessions.specs.Lives.{LivesLoseNothing, LivesFromNothing};
+ghost use Rattle.sessions.specs.OneOrder.{LivesHaveOneHistory};
 ghost use Rattle.sessions.specs.SessionStreams.{HubState, is_above, hub_over, stream_of, Joins, Receives, Serves, Sends, Leaves};
 ghost use Rattle.sessions.specs.StandsFor.{HubLeads, StandsFor, event_of, status_in, room_in, pending_in, device, failures, is_stopped};
 
@@ -15,7 +16,7 @@ use crate::present::Present;
 use crate::requests::abort_transaction;
 use crate::session::Session;
 use engine::Engine;
-use model::machine_is_serializable;
+use model::{machine_is_serializable, restarts_have_one_order};
 use sector::Sectors;
 use std::alloc::Global;
 
@@ -281,11 +282,15 @@ impl<D: Sectors> Hub<D> {
     /// Does nothing, and takes no memory. Its contract is the law of a store's lives, one after another: each is opened over what a crash
     /// at any moment of the one before left, during its opening too, and begins with the map of the last answered COMMIT, or with that and
     /// one COMMIT more, which was under way at the crash or was answered a store fault. A log that was made empty, or that a map was
-    /// copied into, is never found damaged.
+    /// copied into, is never found damaged. All that was committed in them has one order, in which each transaction is given the replies
+    /// that it had, and at whose end the map is the one found.
     pub fn lives_lose_nothing(&self)
         ensures lives { D.keeps_model → LivesLoseNothing self.now }
         ensures from_nothing { D.keeps_model → LivesFromNothing self.now }
-    {}
+        ensures one_history { D.keeps_model → LivesHaveOneHistory self.now }
+    {
+        restarts_have_one_order();
+    }
 
     /// Does nothing, and takes no memory. Its contract says what holds of every state that the hub stands for: no reply of an open
     /// transaction depends on others, what has committed has a serial order, and each session's bytes are those of its requests and of

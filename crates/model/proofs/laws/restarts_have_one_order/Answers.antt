@@ -1,0 +1,5 @@
+use Rattle.model.proofs.Restarts.{replays_follow, restart_law}
+use Rattle.model.proofs.laws.restarts_have_one_order.Goals as goal
+
+pub returns : goal.returns
+returns c = record { follow = replays_follow; order = restart_law }
