@@ -1,7 +1,7 @@
 /* Writes down the system's calls of a program on files, and what it sends on sockets, in their order.
  *
  * Preloaded into a program. To the file named by TRACE_LOG it appends, behind each call, five numbers of 64 bits, and then bytes: the kind,
- * the descriptor, the place (of an opening its flags), the result, and how many bytes follow: what was written or sent as far as the call
+ * the descriptor, the place (of an opening its flags, of an advice which it is), the result, and how many bytes follow: what was written or sent as far as the call
  * took it, or the path of an opening or a removal. Where TRACE_SKIP is `fdatasync`, that call isn't made, succeeds, and is not written down.
  */
 #define _GNU_SOURCE
@@ -16,7 +16,7 @@
 #include <sys/uio.h>
 #include <unistd.h>
 
-enum kind { OPEN, WRITE, WRITE_AT, READ_AT, SYNC, SYNC_DATA, CLOSE, REMOVE, TRUNCATE, SEND };
+enum kind { OPEN, WRITE, WRITE_AT, READ_AT, SYNC, SYNC_DATA, CLOSE, REMOVE, TRUNCATE, SEND, ADVISE };
 
 /* The descriptors below are the program's own. */
 static const int LEAST_DESCRIPTOR = 500;
@@ -135,6 +135,15 @@ int fsync(int file) {
 
 int fdatasync(int file) {
     return skips ? 0 : (int)note(SYNC_DATA, file, 0, syscall(SYS_fdatasync, file), NULL, 0);
+}
+
+int posix_fadvise(int file, off_t at, off_t size, int advice) {
+    int64_t error = syscall(SYS_fadvise64, file, at, size, advice) ? errno : 0;
+    return (int)note(ADVISE, file, advice, error, NULL, 0);
+}
+
+int posix_fadvise64(int file, off_t at, off_t size, int advice) {
+    return posix_fadvise(file, at, size, advice);
 }
 
 ssize_t send(int file, const void *from, size_t size, int flags) {

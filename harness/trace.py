@@ -1,8 +1,9 @@
 """The order of the system's calls, and what a crash between any two of them leaves.
 
 A library that is preloaded writes down what the program does to the data file and its directory, and what it sends. `create` must write
-zeros, sync file and directory, and format; an opening syncs once, then reads, and writes nothing; a COMMIT that writes makes the calls of
-docs/LOG_FORMAT.md and no other, and its reply is sent behind them; all other requests make none.
+zeros, sync file and directory, and format; an opening syncs the directory and the file, drops the system's copies of its pages, then reads,
+and writes nothing, all before `listening` is printed; a COMMIT that writes makes the calls of docs/LOG_FORMAT.md and no other, and its reply
+is sent after them; all other requests make none.
 
 From the calls the file is built up again. Behind each call a crash may leave each sector that was written since the last sync, and no
 other, with any bytes. Of these images are taken: all written, none, each one alone, all but one, and one with zeros or ones. A reader of
@@ -13,11 +14,12 @@ in what was written down. `long` plays more and larger transactions.
 """
 import os
 import random
+from dataclasses import replace
 
 from client import PROGRAM, TRACER, Connection, Deviation, Server, Tally, expect, folder, is_long, need, run, run_harness
 from model import (
     AT_FIRST, HEAD, KEY_MAX, PONG, SECTOR, VALUE_MAX, WRITES_MAX, Damaged, NotALog, Store, body_sectors, frame, log_image, payload, read_log)
-from tracing import CLOSE, OPEN, READ_AT, REMOVE, SEND, SYNC, SYNC_DATA, WRITE, WRITE_AT, Trace
+from tracing import ADVISE, CLOSE, OPEN, READ_AT, REMOVE, SEND, SYNC, SYNC_DATA, SYNC_NAMES, WRITE, WRITE_AT, Trace
 
 SECTORS_OF_CREATE = 40
 ZEROS, ONES = bytes(SECTOR), b"\1" * SECTOR
@@ -95,7 +97,7 @@ def own_calls(calls, data):
         if name == data or call.kind == SEND or call.kind == REMOVE and os.path.realpath(call.data.decode()) == data:
             found.append(call)
         elif name == os.path.dirname(data) and call.kind in (SYNC, SYNC_DATA):
-            found.append(call)
+            found.append(replace(call, kind=SYNC_NAMES))
         if call.kind == CLOSE:
             files.pop(call.file, None)
     expect(any(call.kind == OPEN for call in found), "the data file isn't opened by a call that is seen")
@@ -154,21 +156,31 @@ def judge_create(calls, data):
     expect(content == bytes(SECTOR * SECTORS_OF_CREATE), f"{len(content)} bytes are written, or not all are zeros")
     rest = [call for call in own[1:] if call.kind not in (WRITE, CLOSE)]
     expect(own[1:len(writes) + 1] == writes, "there is another call between those that write zeros")
-    syncs = [call.file for call in rest[:2] if call.kind == SYNC and call.result == 0]
-    expect(len(syncs) == 2 and syncs[0] == own[0].result != syncs[1], f"behind the zeros file and directory aren't synced: {rest[:2]}")
+    syncs = [call.kind for call in rest[:2] if call.result == 0]
+    expect(syncs == [SYNC, SYNC_NAMES], f"behind the zeros file and directory aren't synced: {rest[:2]}")
     expect_steps(steps_of(rest[2:]), [(1, CLOSED_GATE), "sync", (0, HEAD), "sync"], "the format")
     return rest[2:]
 
 
-def judge_order(calls, data, answered):
-    """An opening, and then the calls of each request before its reply."""
+def behind_opening(calls, data):
+    """What follows an opening, which syncs the directory and the file, drops the copies of its pages, reads, and listens only then."""
     own = [call for call in own_calls(calls, data) if call.kind != CLOSE]
     expect(own[0].kind == OPEN and not own[0].at & (os.O_CREAT | os.O_TRUNC), "the file is opened as a new one")
     reads = [i for i, call in enumerate(own) if call.kind == READ_AT]
-    at_front = reads == list(range(2, 2 + len(reads)))
-    expect(reads and own[1].kind in (SYNC, SYNC_DATA) and at_front, "an opening isn't one sync and then reads")
+    kinds = [call.kind for call in own[1:4] if call.result == 0]
+    due = [SYNC_NAMES, SYNC_DATA, ADVISE]
+    expect(reads == list(range(4, 4 + len(reads))) and reads and kinds == due, f"an opening isn't two syncs, an advice, and reads: {own[1:5]}")
+    expect(own[3].at == os.POSIX_FADV_DONTNEED, "the advice isn't to drop the copies")
+    listening = [i for i, call in enumerate(calls) if call.kind == WRITE and call.data.startswith(b"listening ")]
+    last = max(i for i, call in enumerate(calls) if call.kind == READ_AT)
+    expect(len(listening) == 1 and last < listening[0], "the server listens before the file is read")
+    return own[4 + len(reads):]
+
+
+def judge_order(calls, data, answered):
+    """An opening, and then the calls of each request before its reply."""
     log, since, sent, replies = list(answered.before), [], b"", list(answered.replies)
-    for call in own[2 + len(reads):]:
+    for call in behind_opening(calls, data):
         if call.kind != SEND:
             since.append(call)
             continue
@@ -205,7 +217,7 @@ class Crashes:
         elif call.kind == WRITE_AT:
             self.unsettled.update(sector_writes(call))
         else:
-            expect(call.kind in (OPEN, READ_AT, CLOSE), f"a call that no log needs: {call}")
+            expect(call.kind in (OPEN, READ_AT, CLOSE, ADVISE, SYNC_NAMES), f"a call that no log needs: {call}")
 
     def _learn(self):
         """What is settled of the log is not read again."""
@@ -320,7 +332,22 @@ def changed(calls, data, answered):
         yield "a gate that opens before the body", calls[:first] + [calls[gate]] + calls[first:gate] + calls[gate + 1:]
 
 
+def changed_openings(calls, data):
+    """Calls of another opening: a sync or the advice is left out, the advice comes before the sync of the file, or `listening` comes first."""
+    own = [call for call in calls if call.kind in (SYNC, SYNC_DATA, ADVISE)][:3]
+    places = [calls.index(call) for call in own]
+    for name, place in zip(("the directory's sync", "the file's sync", "the advice"), places):
+        yield f"{name} left out of the opening", calls[:place] + calls[place + 1:]
+    sync, advice = places[1:]
+    yield "an advice before the sync", calls[:sync] + [calls[advice]] + calls[sync:advice] + calls[advice + 1:]
+    line = next(i for i, call in enumerate(calls) if call.kind == WRITE and call.data.startswith(b"listening "))
+    yield "a server that listens before it has synced", calls[:places[0]] + [calls[line]] + calls[places[0]:line] + calls[line + 1:]
+
+
 def show_that_they_fail(tally, calls, data, answered):
+    for what, others in changed_openings(calls, data):
+        with tally.run(f"{what}, which judge order is to report"):
+            expect(is_reported(judge_order, others, data, answered), f"{what} isn't reported")
     for what, others in changed(calls, data, answered):
         for judge in (judge_order, judge_crashes):
             with tally.run(f"{what}, which {judge.__name__.replace('_', ' ')} is to report"):

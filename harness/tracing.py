@@ -5,13 +5,14 @@ from dataclasses import dataclass
 
 from client import TRACER
 
-OPEN, WRITE, WRITE_AT, READ_AT, SYNC, SYNC_DATA, CLOSE, REMOVE, TRUNCATE, SEND = range(10)
-NAMES = ("open", "write", "write at", "read at", "sync", "sync of data", "close", "remove", "truncate", "send")
+OPEN, WRITE, WRITE_AT, READ_AT, SYNC, SYNC_DATA, CLOSE, REMOVE, TRUNCATE, SEND, ADVISE, SYNC_NAMES = range(12)
+NAMES = ("open", "write", "write at", "read at", "sync", "sync of data", "close", "remove", "truncate", "send", "advise", "sync of names")
 
 
 @dataclass(frozen=True)
 class Call:
-    """A call: its kind, descriptor, place and result, and the bytes that it moved out, or its path."""
+    """A call: its kind, descriptor, place and result, and the bytes that it moved out, or its path. `SYNC_NAMES` is the sync of a directory,
+    which who reads the calls tells from that of a file."""
 
     kind: int
     file: int

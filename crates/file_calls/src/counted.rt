@@ -3,6 +3,7 @@ ghost use Rattle.std.specs.Prelude.{◌≡◌, is_ok};
 
 use std::fs::File;
 use std::io;
+use std::os::fd::AsRawFd;
 use std::os::unix::fs::FileExt;
 use std::time::{Clock, SystemTime};
 
@@ -65,6 +66,17 @@ impl CountedFile {
     {
         self.count_call();
         self.file.sync_data()
+    }
+
+    /// Asks the system to drop its copies of the file's pages, so that what is read next comes from the device; pages that wait to be
+    /// written stay. Under the sector model this changes nothing, so it is no counted call. Answers the system's error. Takes no memory.
+    pub fn drop_copies(&self) -> io::Result<()> {
+        let advised = libc::posix_fadvise(self.file.as_raw_fd(), 0, 0, libc::POSIX_FADV_DONTNEED);
+        if advised == 0 {
+            Ok(())
+        } else {
+            Err(io::Error::from_raw_os_error(advised))
+        }
     }
 
     /// Counts a call.

@@ -1,4 +1,8 @@
 -- The premise that files keep the sector model, over the open facts of a file and the calls that were really made of it.
+--
+-- What breaks it on Linux: after a sync that failed, ext4 and xfs keep the new content of a page in memory and take the page for written. The
+-- next sync succeeds and settles nothing of it (`SyncKeeps.settles`), and reads give what a power cut won't leave (Rebello and others, Can
+-- Applications Recover from fsync Failures?, USENIX ATC 2020). So an opening asks the system to drop its copies after its first sync.
 use Rattle.std.specs.Prelude.{◌≡◌, ℕ, ◌+◌, ◌*◌, ◌/◌, ◌<◌, ◌≤◌, Bool, true, List, length}
 use Rattle.file_calls.specs.OpenFacts.{may_read, may_leave, moment, left_since, next}
 use Rattle.file_calls.specs.HappenedCalls.{WasRead, WasWritten, WasSynced}

@@ -16,6 +16,8 @@ use std::time::Clock;
 pub struct FileSectors {
     file: CountedFile,
     failures: u64,
+    /// The first sync that succeeds then drops the system's copies of the pages.
+    drops_copies: bool,
     ghost fits: { file.sectors < 2 ^ 55 },
 }
 
@@ -38,6 +40,7 @@ impl FileSectors {
             Ok(()) => Ok(FileSectors {
                 file: CountedFile::new(rt, file, count),
                 failures: 0,
+                drops_copies: false,
             }),
             Err(error) => {
                 // The first error is the one to tell.
@@ -47,19 +50,27 @@ impl FileSectors {
         }
     }
 
-    /// Opens a file of whole sectors. Answers an error where there is none of this name, where its length is no multiple of 512
-    /// (`InvalidData`), and where a call of the system fails. Takes no memory.
+    /// Opens a file of whole sectors, and syncs its directory: a crash then finds the file under this name, also where it was renamed
+    /// just before. After the first sync that succeeds, reads come from the device and not from the system's copies. After a sync
+    /// that failed, Linux keeps pages that never reached the device and takes them for written (Rebello and others, Can Applications
+    /// Recover from fsync Failures?, USENIX ATC 2020).
+    ///
+    /// Answers an error where there is no file of this name, where its length is no multiple of 512 (`InvalidData`), and where a call
+    /// of the system fails. Takes no memory.
     pub fn open<R: Files<File = File> + Clock>(rt: &R, path: &str) -> io::Result<Self>
         ensures { IfOk result (λ f. f.failures ≡ 0) }
     {
-        with_whole_sectors(rt, options().open(rt, path)?)
+        let file = options().open(rt, path)?;
+        sync_directory(rt, path)?;
+        with_whole_sectors(rt, file, true)
     }
 
-    /// Opens a file of whole sectors to be read alone, with the errors of `open`: the system refuses each write to it. Takes no memory.
+    /// Opens a file of whole sectors to be read alone, with the errors of `open`: the system refuses each write to it. Its directory is
+    /// not synced, and the system's copies stay, which may be all that is left where a device fails. Takes no memory.
     pub fn open_to_read<R: Files<File = File> + Clock>(rt: &R, path: &str) -> io::Result<Self>
         ensures { IfOk result (λ f. f.failures ≡ 0) }
     {
-        with_whole_sectors(rt, File::open(rt, Path::new(path))?)
+        with_whole_sectors(rt, File::open(rt, Path::new(path))?, false)
     }
 
     /// Counts a call of the file, and tells how it ended. Where the count stands at its end, each call fails.
@@ -75,16 +86,29 @@ impl FileSectors {
         self.failures = self.failures.saturating_add(1);
         Err(DeviceFault)
     }
+
+    /// Drops the system's copies of the pages, where that is still to be done.
+    fn drop_copies(&mut self) -> io::Result<()>
+        ensures file { self.new.file ≡ self.old.file }
+        ensures failures { self.new.failures ≡ self.old.failures }
+    {
+        if !self.drops_copies {
+            return Ok(());
+        }
+        self.drops_copies = false;
+        self.file.drop_copies()
+    }
 }
 
 /// A device over an open file, with an error where its length is no multiple of 512.
-fn with_whole_sectors<C: Clock>(rt: &C, file: File) -> io::Result<FileSectors>
+fn with_whole_sectors<C: Clock>(rt: &C, file: File, drops_copies: bool) -> io::Result<FileSectors>
     ensures { IfOk result (λ f. f.failures ≡ 0) }
 {
     match whole_sectors(file.metadata()?.len()) {
         Some(count) => Ok(FileSectors {
             file: CountedFile::new(rt, file, count),
             failures: 0,
+            drops_copies,
         }),
         None => Err(io::Error::from(ErrorKind::InvalidData)),
     }
@@ -119,6 +143,11 @@ fn write_zeros<R: Files<File = File>>(
 ) -> io::Result<()> {
     let _written = io::copy(&mut io::repeat(0).take(len), file)?;
     file.sync_all()?;
+    sync_directory(rt, path)
+}
+
+/// Settles the names in the directory of this path.
+fn sync_directory<R: Files<File = File>>(rt: &R, path: &str) -> io::Result<()> {
     let directory = match Path::new(path).parent() {
         Some(parent) if !parent.as_str().is_empty() => parent,
         _ => Path::new("."),
@@ -176,8 +205,12 @@ impl Sectors for FileSectors {
         self.told(outcome)
     }
 
+    /// Of a file that was opened, the first that succeeds drops the system's copies of its pages; where these can't be dropped, it fails.
     fn sync(&mut self) -> Result<(), DeviceFault> {
-        let outcome = self.file.sync();
+        let outcome = match self.file.sync() {
+            Ok(()) => self.drop_copies(),
+            Err(error) => Err(error),
+        };
         self.told(outcome)
     }
 }
