@@ -45,7 +45,7 @@ last_may_commit st reached s t is since = none_since st (reached_sound st reache
 
 -- ---- what COMMIT answers
 
-by_case : {A : Type 0} (P : A → Type 0) (b : Bool) (x y : A) → P x → P y → P (if b then x else y)
+pub by_case : {A : Type 0} (P : A → Type 0) (b : Bool) (x y : A) → P x → P y → P (if b then x else y)
 by_case P true x y p q = p
 by_case P false x y p q = q
 

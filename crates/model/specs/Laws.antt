@@ -2,13 +2,13 @@
 use Rattle.std.specs.Prelude.{◌≡◌, ◌<◌, ◌≤◌, ℕ, Bool, List, ◌∷◌, ◌++◌, Some, None, IsTrue, All, Contains}
 use Rattle.model.specs.declared.refusals.Refusal.{Refusal}
 use Rattle.model.specs.Map.{KeyMap}
-use Rattle.model.specs.Operations.Operation.{Commit}
-use Rattle.model.specs.Operations.Response.{Refused}
+use Rattle.model.specs.Operations.Operation.{Begin, Commit}
+use Rattle.model.specs.Operations.Response.{Number, Refused}
 use Rattle.model.specs.PrivateCopy.{copy_of, responses}
 use Rattle.model.specs.History.{Record, IsFaithful}
 use Rattle.model.specs.Dependency.{dependency, NoConcurrentWriters}
 use Rattle.model.specs.Verdict.{verdict, is_conflict, HasNoDangerousPivot}
-use Rattle.model.specs.Machine.{State, Running, IsReached, last, snapshot, running_of, record_to_commit, step}
+use Rattle.model.specs.Machine.{State, Running, Input, IsReached, last, snapshot, running_of, record_to_commit, step, state_after}
 use Rattle.model.specs.SerialOrder.{IsSerialOrder, place, is_before, serial_order}
 
 -- without dangerous pivots and concurrent writers of one key each dependency leads to a later place
@@ -38,6 +38,14 @@ IsAhead order a b = (front middle back : List Record) × (order ≡ front ++ a �
 abbrev pub OrdersKeepTime : Type 0
 OrdersKeepTime = (base : KeyMap) (history order : List Record) → IsFaithful base history → IsSerialOrder base history order →
     (a b : Record) → Contains history a → Contains history b → a.commit ≤ b.begin → IsAhead order a b
+
+-- Where a COMMIT was answered a number, and some inputs later a BEGIN opens a transaction, that number is at most the begin number. So who was
+-- answered before another's BEGIN is executed stands before it in a serial order.
+abbrev pub AnswersComeBefore : Type 0
+AnswersComeBefore = (st : State) (s n : ℕ) (failed : Bool) → (step st s Commit failed).1 ≡ Number n →
+    (inputs : List Input) (s' : ℕ) (failed' : Bool) (t : Running) →
+    let later : State = state_after (step st s Commit failed).0 inputs in
+    running_of later s' ≡ None → running_of (step later s' Begin failed').0 s' ≡ Some t → n ≤ t.begin
 
 -- each committed transaction was answered as a private copy of the map committed at its begin answers its own requests alone, and the
 -- committed transactions have a serial order

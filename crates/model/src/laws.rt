@@ -1,6 +1,6 @@
 //! The laws of histories and of the machine. Each is the contract of a function that does nothing.
 ghost use Rattle.model.specs.Cycle.{CycleLaw, DangerousCycleLaw, DangerousPivotLaw};
-ghost use Rattle.model.specs.Laws.{ConflictsAreRecent, LastMayCommit, VerdictHolds};
+ghost use Rattle.model.specs.Laws.{AnswersComeBefore, ConflictsAreRecent, LastMayCommit, VerdictHolds};
 ghost use Rattle.model.specs.Laws.{MachineLaw, OrdersKeepTime, PlacesKeepTime, PlacesRise, ReplayLaw};
 ghost use Rattle.model.specs.Restarts.{ReplaysFollow, RestartLaw};
 
@@ -31,6 +31,12 @@ pub fn history_has_serial_order()
 /// serial order, which respects real time and gives the same replies and the same final map.
 pub fn machine_is_serializable()
     ensures { MachineLaw }
+{}
+
+/// A number that was answered to a COMMIT before another's BEGIN is executed is at most that one's begin number. So the real time that a
+/// serial order respects is that of the answers.
+pub fn answers_come_before()
+    ensures { AnswersComeBefore }
 {}
 
 /// What COMMIT lets pass never has a dangerous pivot or concurrent writers of one key, so the laws of histories hold of it. And it refuses

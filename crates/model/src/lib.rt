@@ -19,8 +19,8 @@ pub mod writes;
 pub use commands::{Command, Reply};
 pub use keys::{KEY_MAX, Key, KeyRef};
 pub use laws::{
-    cycle_has_dangerous_pivot, cycle_has_pivot, history_has_serial_order, machine_is_serializable,
-    restarts_have_one_order, verdict_is_sound,
+    answers_come_before, cycle_has_dangerous_pivot, cycle_has_pivot, history_has_serial_order,
+    machine_is_serializable, restarts_have_one_order, verdict_is_sound,
 };
 pub use maps::Map;
 pub use pair::Pair;

@@ -12,9 +12,9 @@ use rows::worked::{
     PIVOT_BEFORE_ITS_TARGET_IS_HARMLESS, PIVOT_WITH_A_LATER_WRITER_IS_HARMLESS,
     RANGE_AT_ITS_LIMIT_MARKS_LESS, RANGE_BELOW_ITS_LIMIT_MARKS_ALL, RANGE_BOUNDS_AND_LIMITS,
     RANGE_OVER_OWN_WRITES, READ_ONLY_ANOMALY, READER_FINDS_A_COMMITTED_PIVOT,
-    REFUSALS_OUTSIDE_A_TRANSACTION, SECTORS, SERIAL_ORDER_IS_NOT_COMMIT_ORDER,
-    SIXTY_FOUR_TRANSACTIONS, SIXTY_FOUR_WRITES, SNAPSHOT_IS_KEPT, TWO_HUNDRED_FIFTY_SIX_MARKS,
-    WRITE_SKEW, WRITER_FINDS_A_COMMITTED_PIVOT,
+    REAL_TIME_IS_NOT_COMMIT_ORDER, REFUSALS_OUTSIDE_A_TRANSACTION, SECTORS,
+    SERIAL_ORDER_IS_NOT_COMMIT_ORDER, SIXTY_FOUR_TRANSACTIONS, SIXTY_FOUR_WRITES, SNAPSHOT_IS_KEPT,
+    TWO_HUNDRED_FIFTY_SIX_MARKS, WRITE_SKEW, WRITER_FINDS_A_COMMITTED_PIVOT,
 };
 use rows::{Store, first_difference, with_number};
 use scripts::play;
@@ -23,7 +23,7 @@ use std::io::Write;
 use std::test::Fail;
 
 /// How many rows there are over a device with room for all.
-const ROWS: usize = 26;
+const ROWS: usize = 27;
 
 /// The row of this place with its name.
 fn row(place: usize) -> Option<(&'static str, &'static [Line])> {
@@ -106,6 +106,10 @@ fn row_from_eighteen(place: usize) -> Option<(&'static str, &'static [Line])> {
         25 => (
             "range below its limit marks all",
             &RANGE_BELOW_ITS_LIMIT_MARKS_ALL,
+        ),
+        26 => (
+            "real time is not commit order",
+            &REAL_TIME_IS_NOT_COMMIT_ORDER,
         ),
         _ => return None,
     })

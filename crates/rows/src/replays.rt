@@ -312,7 +312,7 @@ fn is_replayed(alloc: Global, sectors: u64, row: &[Line]) -> Result<bool, Fail> 
 
 #[test]
 fn serial_order_gives_the_same_replies_and_map(rt: HostRuntime) -> Result<(), Fail> {
-    let rows: [&[Line]; 23] = [
+    let rows: [&[Line]; 24] = [
         &worked::COMMITTED_WRITE_IS_SEEN,
         &worked::SNAPSHOT_IS_KEPT,
         &worked::OWN_WRITE_IS_PRIVATE,
@@ -335,6 +335,7 @@ fn serial_order_gives_the_same_replies_and_map(rt: HostRuntime) -> Result<(), Fa
         &worked::PIVOT_WITH_A_LATER_WRITER_IS_HARMLESS,
         &worked::DELETED_KEY,
         &worked::SERIAL_ORDER_IS_NOT_COMMIT_ORDER,
+        &worked::REAL_TIME_IS_NOT_COMMIT_ORDER,
         &worked::OLD_VERSION_IS_KEPT,
     ];
     for (i, row) in rows.iter().enumerate() {
@@ -356,5 +357,17 @@ fn commit_order_gives_another_reply(rt: HostRuntime) -> Result<(), Fail> {
         Replayed::Other(reply) => reply.as_str() == "$1 1",
     };
     assert!(rt; is_other);
+    Ok(())
+}
+
+/// A reader that commits last has the first place, and one that began after another's COMMIT has a later place than that one.
+#[test]
+fn places_keep_real_time(rt: HostRuntime) -> Result<(), Fail> {
+    let all = committed(rt.alloc(), &worked::REAL_TIME_IS_NOT_COMMIT_ORDER)?;
+    let places = places(rt.alloc(), &all)?;
+    assert_eq!(rt;
+        places.as_slice(),
+        [(1, 1, 0), (2, 1, 0), (1, 0, 3)].as_slice()
+    );
     Ok(())
 }

@@ -215,6 +215,11 @@ fn serial_order_is_not_commit_order(rt: HostRuntime) -> Result<(), Fail> {
 }
 
 #[test]
+fn real_time_is_not_commit_order(rt: HostRuntime) -> Result<(), Fail> {
+    run(&rt, &worked::REAL_TIME_IS_NOT_COMMIT_ORDER)
+}
+
+#[test]
 fn range_over_own_writes(rt: HostRuntime) -> Result<(), Fail> {
     run(&rt, &worked::RANGE_OVER_OWN_WRITES)
 }

@@ -350,6 +350,19 @@ pub static SERIAL_ORDER_IS_NOT_COMMIT_ORDER: [Line; 7] = [
     ("1 COMMIT", ":2"),
 ];
 
+pub static REAL_TIME_IS_NOT_COMMIT_ORDER: [Line; 10] = [
+    ("1 BEGIN", "+OK"),
+    ("1 GET a", "$-1"),
+    ("2 BEGIN", "+OK"),
+    ("2 SET a 1", "+OK"),
+    ("2 COMMIT", ":1"),
+    ("3 BEGIN", "+OK"),
+    ("3 GET a", "$1 1"),
+    ("3 SET b 1", "+OK"),
+    ("3 COMMIT", ":2"),
+    ("1 COMMIT", ":3"),
+];
+
 pub static RANGE_OVER_OWN_WRITES: [Line; 12] = [
     ("9 BEGIN", "+OK"),
     ("9 SET b 1", "+OK"),

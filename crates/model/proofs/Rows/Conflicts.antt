@@ -6,7 +6,7 @@ use Rattle.model.specs.Operations.Response.{Done, Number, Value, Pairs, Refused}
 use Rattle.model.specs.Machine.{step}
 use Rattle.model.specs.SerialOrder.{place, serial_order, replay}
 use Rattle.model.specs.Verdict.{verdict}
-use Rattle.model.proofs.Rows.Words.{Request, begin, get, set, range, commit, value, pair, start, run, after, commits}
+use Rattle.model.proofs.Rows.Words.{Request, begin, get, set, range, commit, value, pair, start, run, after, begin_numbers, commits}
 
 first_committer_wins : run start
     (begin 1 ∷ begin 2 ∷
@@ -215,6 +215,31 @@ serial_order_is_not_commit_order_order = refl
 serial_order_is_not_commit_order_map : replay [] (serial_order (after start overtaken).history) ≡ pair "a" "1" ∷ pair "b" "1" ∷ []
 unfolding step verdict serial_order
 serial_order_is_not_commit_order_map = refl
+
+-- Real time is kept, and not commit order. 1 read the key before 2 wrote it, so it stands first, though it commits last. 3 began when 2's COMMIT
+-- was answered, and stands after it.
+abbrev in_real_time : List Request
+in_real_time =
+    begin 1 ∷ get 1 "a" ∷
+    begin 2 ∷ set 2 "a" "1" ∷ commit 2 ∷
+    begin 3 ∷ get 3 "a" ∷ set 3 "b" "1" ∷ commit 3 ∷
+    commit 1 ∷ []
+
+real_time_is_not_commit_order : run start in_real_time
+    ≡ Done ∷ Value None ∷
+    Done ∷ Done ∷ Number 1 ∷
+    Done ∷ value "1" ∷ Done ∷ Number 2 ∷
+    Number 3 ∷ []
+unfolding step verdict
+real_time_is_not_commit_order = refl
+
+real_time_is_not_commit_order_order : commits (serial_order (after start in_real_time).history) ≡ 3 ∷ 1 ∷ 2 ∷ []
+unfolding step verdict serial_order
+real_time_is_not_commit_order_order = refl
+
+real_time_is_not_commit_order_begins : begin_numbers (serial_order (after start in_real_time).history) ≡ 0 ∷ 0 ∷ 1 ∷ []
+unfolding step verdict serial_order
+real_time_is_not_commit_order_begins = refl
 
 -- the last to commit stands first, before one that ended before the other began
 abbrev overtaken_twice : List Request

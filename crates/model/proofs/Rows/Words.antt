@@ -66,6 +66,10 @@ abbrev pub after : State → List Request → State
 after st [] = st
 after st (q ∷ qs) = after (step st q.0 q.1 false).0 qs
 
+-- the begin numbers of records
+abbrev pub begin_numbers : List Record → List ℕ
+begin_numbers rs = map (λ r. r.begin) rs
+
 -- the commit numbers of records
 abbrev pub commits : List Record → List ℕ
 commits rs = map (λ r. r.commit) rs

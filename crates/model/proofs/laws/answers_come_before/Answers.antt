@@ -1,0 +1,5 @@
+use Rattle.model.proofs.Answered.{answers_come_before}
+use Rattle.model.proofs.laws.answers_come_before.Goals as goal
+
+pub returns : goal.returns
+returns c = answers_come_before
