@@ -36,7 +36,7 @@ pub fn machine_is_serializable()
 /// A number that was answered to a COMMIT before another's BEGIN is executed is at most that one's begin number. So the real time that a
 /// serial order respects is that of the answers.
 pub fn answers_come_before()
-    ensures { AnswersComeBefore }
+    ensures before { AnswersComeBefore }
 {}
 
 /// What COMMIT lets pass never has a dangerous pivot or concurrent writers of one key, so the laws of histories hold of it. And it refuses

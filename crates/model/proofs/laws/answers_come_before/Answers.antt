@@ -2,4 +2,4 @@ use Rattle.model.proofs.Answered.{answers_come_before}
 use Rattle.model.proofs.laws.answers_come_before.Goals as goal
 
 pub returns : goal.returns
-returns c = answers_come_before
+returns c = record { before = answers_come_before }
