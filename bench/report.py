@@ -3,28 +3,14 @@
 
     bench/report.py FILE..
 
-The first table has the ratios with what was aimed at, and what they were before replies were gathered into one write; the second has the
-figures that stand beside nobody. The last column of the first is the middle half of the first run's slices. Needs Python 3 alone.
+The first table numbers the workloads. The second has for each its rate beside another program's, the median of the runs, the ratio of the two in
+each run, the middle half of the first run's slices, and what was aimed at. The third has the figures that stand beside nobody. Needs Python 3 alone.
 """
 import json
 import os
+import statistics
 import sys
 
-# What the rows gave when each reply left by a write of its own.
-BEFORE = {
-    ("PING, 1 connection", "C epoll echo"): "0.95",
-    ("PING, 16 connections", "C epoll echo"): "0.9",
-    ("PING, 64 connections", "C epoll echo"): "0.9",
-    ("32 PINGs sent at once, 1 connection", "Redis"): "0.18",
-    ("32 PINGs sent at once, 16 connections", "Redis"): "0.18",
-    ("BEGIN, 4 GET, COMMIT, 16 connections, one request at a time", "PostgreSQL SERIALIZABLE"): "1.8",
-    ("BEGIN, 4 GET, COMMIT, 16 connections, sent at once", "PostgreSQL SERIALIZABLE"): "0.97",
-    ("BEGIN, 4 GET, COMMIT, 16 connections, sent at once", "Redis, MULTI and EXEC"): "0.66",
-    ("BEGIN, 4 GET, COMMIT, 16 connections, sent at once", "C stand-in"): "0.22",
-    ("BEGIN, RANGE of 64, COMMIT, 16 connections, one request at a time", "PostgreSQL SERIALIZABLE"): "2.1",
-    ("BEGIN, RANGE of 64, COMMIT, 16 connections, one request at a time", "C stand-in"): "0.6",
-    ("BEGIN, SET, COMMIT, 16 connections, one request at a time", "the device, two syncs"): "0.8",
-}
 RUNS = os.path.normpath(os.path.join(os.path.dirname(os.path.abspath(__file__)), "..", "docs", "runs"))
 
 
@@ -48,14 +34,32 @@ def in_all(runs, part, key):
     return [[run.get(name) for run in found] for name in found[0]]
 
 
+def workloads(runs):
+    """The workloads in their order, numbered from 1."""
+    return {what: number + 1 for number, what in enumerate(dict.fromkeys(row["what"] for row in runs[0]["rows"]))}
+
+
+def numbered(runs):
+    yield ["No.", "Workload"]
+    for what, number in workloads(runs).items():
+        yield [str(number), what]
+
+
+def rate(rows, name):
+    """The median over the runs, in three digits."""
+    value = statistics.median(row[name] for row in rows if row)
+    return f"{float(f'{value:.3g}'):,.10g}"
+
+
 def ratios(runs):
-    yield ["What", "Beside", "Before", "Aim"] + [f"Run {number + 1}" for number in range(len(runs))] + ["Middle half of run 1"]
+    yield ["No.", "Beside", "ssikvd, a second", "the other, a second"] + [f"Ratio {number + 1}" for number in range(len(runs))] + ["Middle half of 1", "Aim"]
+    numbers = workloads(runs)
     for rows in in_all(runs, "rows", lambda row: (row["what"], row["peer"])):
         first = rows[0]
         aim = "" if first["goal"] is None else f"{first['goal']:g}"
         cells = [f"{row['ratio']:.2f}" if row else "" for row in rows]
-        before = BEFORE.get((first["what"], first["peer"]), "")
-        yield [first["what"], first["peer"], before, aim, *cells, "{:.2f} to {:.2f}".format(*first["middle_half"])]
+        middle = "{:.2f} to {:.2f}".format(*first["middle_half"])
+        yield [str(numbers[first["what"]]), first["peer"], rate(rows, "rate"), rate(rows, "peer_rate"), *cells, middle, aim]
 
 
 def figures(runs):
@@ -73,7 +77,7 @@ def main():
     if len(sys.argv) < 2 or sys.argv[1].startswith("-"):
         raise SystemExit(__doc__)
     runs = read_runs(sys.argv[1:])
-    print(markdown(ratios(runs)) + "\n\n" + markdown(figures(runs)))
+    print("\n\n".join(markdown(table(runs)) for table in (numbered, ratios, figures)))
 
 
 if __name__ == "__main__":
