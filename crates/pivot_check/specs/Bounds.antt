@@ -1,12 +1,12 @@
--- Lower bounds of the numbers of postings, by which postings are passed over.
+-- Bounds of the numbers of postings, by which postings are passed over.
 use Rattle.std.specs.Prelude.{◌≡◌, ◌<◌, ℕ, ◌*◌, Bool, true, not, ◌&&◌, ◌||◌, List, Option, Some, nat_le, length, take, drop, slice_index_or}
 use Rattle.std.specs.List.{list_all, AllByRecursion}
 use Rattle.pivot_check.specs.declared.bound.Bound.{Bound}
 use Rattle.pivot_check.specs.Postings.{Posting, lesser, is_asked}
 
--- whether the posting's number isn't below the bound, nor below that of flagged ones where it has the flag
+-- whether the posting's number isn't below the bound nor above its last, nor below that of flagged ones where it has the flag
 abbrev pub is_from_bound : Bound → Posting → Bool
-is_from_bound b p = nat_le b.number p.number && (not p.has_earlier_target || nat_le b.flagged p.number)
+is_from_bound b p = nat_le b.number p.number && (nat_le p.number b.last && (not p.has_earlier_target || nat_le b.flagged p.number))
 
 abbrev pub are_from_bound : Bound → List Posting → Bool
 are_from_bound b ps = list_all (is_from_bound b) ps

@@ -1,4 +1,4 @@
-//! Lower bounds of the numbers of written keys.
+//! Bounds of the numbers of written keys.
 ghost use Rattle.std.specs.Prelude.{◌≡◌, ◌<◌, IsTrue, IfOk, ℕ, true, false};
 ghost use Rattle.pivot_check.specs.Postings.{Posting, is_asked};
 ghost use Rattle.pivot_check.specs.Bounds.{is_from_bound, are_from_bound, AreBounds};
@@ -10,11 +10,12 @@ use std::alloc::Global;
 /// How many postings have one bound.
 pub(crate) const BLOCK: usize = 64;
 
-/// A number that the commit number of no posting is below, and one that that of no flagged posting is below.
+/// A number that the commit number of no posting is below, one that that of no flagged posting is below, and one that none is above.
 #[derive(Clone, Copy)]
 pub(crate) struct Bound {
     pub(crate) number: u64,
     pub(crate) flagged: u64,
+    pub(crate) last: u64,
 }
 
 impl Bound {
@@ -24,24 +25,27 @@ impl Bound {
         ensures others { (p : Posting) → IsTrue (is_from_bound self p) → IsTrue (is_from_bound result p) }
     {
         let number = self.number.min(posting.number());
-        if posting.has_earlier_target() {
-            let flagged = self.flagged.min(posting.number());
-            Bound { number, flagged }
+        let last = self.last.max(posting.number());
+        let flagged = if posting.has_earlier_target() {
+            self.flagged.min(posting.number())
         } else {
-            Bound {
-                number,
-                flagged: self.flagged,
-            }
+            self.flagged
+        };
+        Bound {
+            number,
+            flagged,
+            last,
         }
     }
 
-    // The bound of these postings: `u64::MAX` where there are none.
+    // The bound of these postings, by which none is asked for where there are none.
     pub(crate) fn of(postings: &[Written]) -> Bound
         ensures { IsTrue (are_from_bound result postings.now) }
     {
         let mut bound = Bound {
             number: u64::MAX,
             flagged: u64::MAX,
+            last: 0,
         };
         for posting in postings {
             bound = bound.with(posting);
@@ -49,12 +53,12 @@ impl Bound {
         bound
     }
 
-    // May a posting of this bound that is asked for have a number up to this one?
+    // May a posting of this bound that is asked for, above `begin`, have a number up to `most`?
     pub(crate) fn allows(self, most: u64, begin: u64, flagged: bool) -> bool
         ensures { result ≡ false → (p : Posting) → is_from_bound self p ≡ true → is_asked begin flagged p ≡ true → most < p.number }
     {
         let least = if flagged { self.flagged } else { self.number };
-        begin < most && least <= most
+        begin < most && begin < self.last && least <= most
     }
 }
 
