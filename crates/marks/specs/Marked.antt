@@ -4,6 +4,7 @@ use Rattle.std.specs.List.{list_any}
 use Rattle.marks.specs.declared.held.Held.{Held}
 use Rattle.marks.specs.declared.held.Held.TheVariants.{Key, Range, ClosedRange}
 use Rattle.model.specs.declared.ranges.RangeRef.{RangeRef}
+use Rattle.model.specs.Map.{Bytes}
 use Rattle.model.specs.PrivateCopy.{Mark, is_same_mark}
 use Rattle.model.specs.PrivateCopy.Mark.{OfKey, OfRange, OfClosedRange}
 
@@ -15,6 +16,12 @@ mark_of (ClosedRange lo last) = OfClosedRange lo last
 abbrev pub marks_of : List Held → List Mark
 marks_of [] = []
 marks_of (h ∷ hs) = mark_of h ∷ marks_of hs
+
+-- the least key that the mark may cover
+abbrev pub start_of : Mark → Bytes
+start_of (OfKey k) = k
+start_of (OfRange lo hi) = lo
+start_of (OfClosedRange lo last) = lo
 
 abbrev pub range_mark : RangeRef → Mark
 range_mark r = OfRange r.lo.bytes.now (option_map (λ k. k.bytes.now) r.hi)

@@ -35,7 +35,7 @@ impl Held {
     ghost use Rattle.std.specs.Prelude.{IfOk};
     ghost use Rattle.marks.specs.Marked.{mark_of, range_mark};
     ghost use Rattle.marks.specs.Lent.{lent_mark};
-    ghost use Rattle.model.specs.PrivateCopy.{covers, is_same_mark};
+    ghost use Rattle.model.specs.PrivateCopy.{is_same_mark};
     ghost use Rattle.model.specs.PrivateCopy.Mark.{OfKey, OfClosedRange};
 
     /// Lends the mark. Takes no memory.
@@ -93,27 +93,6 @@ impl Held {
         let lo = Key::from_ref(alloc, lo)?;
         let last = Key::from_ref(alloc, last)?;
         Ok(Held::ClosedRange { lo, last })
-    }
-
-    // Does the mark cover the key?
-    pub(crate) fn covers(&self, key: KeyRef<'_>) -> bool
-        ensures { result ≡ covers (mark_of self.now) key.entry.bytes.now }
-    {
-        match self {
-            Held::Key(held) => held.lend().order(key).is_eq(),
-            Held::Range(range) => {
-                if range.lo.lend().order(key).is_gt() {
-                    return false;
-                }
-                match &range.hi {
-                    Some(hi) => key.order(hi.lend()).is_lt(),
-                    None => true,
-                }
-            }
-            Held::ClosedRange { lo, last } => {
-                lo.lend().order(key).is_le() && key.order(last.lend()).is_le()
-            }
-        }
     }
 
     // Is it the mark of this key?

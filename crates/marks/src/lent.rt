@@ -2,7 +2,7 @@
 ghost use Rattle.std.specs.Prelude.{◌≡◌};
 ghost use Rattle.model.specs.PrivateCopy.{covers};
 ghost use Rattle.marks.specs.Lent.{lent_mark};
-ghost use Rattle.marks.specs.Sorted.{start_of};
+ghost use Rattle.marks.specs.Marked.{start_of};
 
 use model::{KeyRef, RangeRef};
 

@@ -8,10 +8,8 @@ mod faults;
 mod held;
 mod lent;
 mod marks;
-mod sorted;
 
 pub use faults::MarksFault;
 pub use held::Held;
 pub use lent::MarkRef;
 pub use marks::{MARKS_MAX, Marks};
-pub use sorted::{Keyed, has_key};

@@ -1,16 +1,13 @@
 //! The marks of one transaction.
-ghost use Rattle.std.specs.Prelude.{◌≡◌, ◌↔◌, [], map, IsTrue, IsOk, OnOk, OnErr, IfOk, Err};
-ghost use Rattle.std.specs.List.{list_any};
+ghost use Rattle.std.specs.Prelude.{◌≡◌, ◌↔◌, [], IsTrue, IsOk, OnOk, OnErr, IfOk, Err};
 ghost use Rattle.std.specs.Ordering.{is_le};
 ghost use Rattle.model.specs.PrivateCopy.{is_covered};
 ghost use Rattle.model.specs.Map.{key_cmp};
 ghost use Rattle.model.specs.PrivateCopy.Mark.{OfKey, OfClosedRange};
-ghost use Rattle.marks.specs.Sorted.{is_rising};
 ghost use Rattle.marks.specs.Marked.{has_mark, is_full_for, marks_of, with_mark, range_mark};
 
 use crate::faults::MarksFault;
 use crate::held::Held;
-use crate::sorted::Keyed;
 use model::{Key, KeyRef, Memory, RangeRef};
 use std::alloc::Global;
 use std::marker::Model;
@@ -58,20 +55,7 @@ impl Marks {
         ensures { result ≡ is_covered self.now key.entry.bytes.now }
     {
         for mark in &self.held {
-            if mark.covers(key) {
-                return true;
-            }
-        }
-        false
-    }
-
-    /// Is the key of one of the items, which stand by rising key, among the reads? A binary search for each mark; takes no memory.
-    pub fn covers_any<K: Keyed>(&self, items: &[K]) -> bool
-        requires { IsTrue (is_rising (map K.key items.now)) }
-        ensures { result ≡ list_any (is_covered self.now) (map K.key items.now) }
-    {
-        for mark in &self.held {
-            if mark.covers_any(items) {
+            if mark.lend().covers(key) {
                 return true;
             }
         }

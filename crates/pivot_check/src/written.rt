@@ -4,7 +4,7 @@ ghost use Rattle.std.specs.List.{insert};
 ghost use Rattle.std.specs.Vec.{vec_len, vec_capacity};
 ghost use Rattle.model.specs.PrivateCopy.{covers};
 ghost use Rattle.marks.specs.Lent.{lent_mark};
-ghost use Rattle.marks.specs.Sorted.{start_of};
+ghost use Rattle.marks.specs.Marked.{start_of};
 ghost use Rattle.pivot_check.specs.Postings.{Posting, postings_by, keys_rise, are_from, least, lesser, is_asked, between};
 
 use marks::MarkRef;

@@ -5,7 +5,7 @@ use Rattle.std.proofs.lemmas.Fn.{always_returns_same}
 use Rattle.model.specs.Map.{Bytes, key_cmp}
 use Rattle.model.specs.PrivateCopy.{covers}
 use Rattle.marks.specs.Lent.{lent_mark}
-use Rattle.marks.specs.Sorted.{start_of}
+use Rattle.marks.specs.Marked.{start_of}
 use Rattle.pivot_check.proofs.Lists.{to_the_end}
 use Rattle.pivot_check.specs.Postings.{Posting, keys_rise, are_from, least}
 use Rattle.pivot_check.proofs.Walks.{parted, rest_rises, rest_from, rest_decides}
