@@ -13,9 +13,11 @@ unique for their key. Three kinds of dependency lead from one transaction to ano
 The versions of a list are the prefixes of the longest one read. Those of a register stand by commit number, one life of the server after
 another; one whose reply was lost has no known place among them. A transaction without a reply counts as committed where another read what it wrote.
 """
+import heapq
 from collections import defaultdict
 
 DEPENDENCIES = ("ww", "wr", "rw")
+LAST = (1 << 63, 0)    # the place of one whose commit number isn't known
 
 
 class Transaction:
@@ -24,7 +26,8 @@ class Transaction:
     def __init__(self, invoke, end):
         self.number, self.process, self.begun = invoke["index"], invoke["process"], invoke["index"]
         self.kind = end["type"] if end else "info"
-        self.ended = end["index"] if self.kind == "ok" else None
+        self.left = end["index"] if end else None    # when its process went on
+        self.ended = self.left if self.kind == "ok" else None
         self.operations = end["value"] if self.kind == "ok" else invoke["value"]
         self.place = (end["life"], end["commit"]) if self.kind == "ok" else None
         self.error = end.get("error") if end else None
@@ -250,18 +253,25 @@ class History:
     # The serial order
 
     def serial_order(self):
-        """The committed ones so that each dependency and real time rise. None where there is a cycle."""
+        """The committed ones so that each dependency and real time rise, and else by commit number. None where there is a cycle."""
         waits = {t: 0 for t in self.committed}
         for t in self.committed:
             for other, _, _ in self.after(self.edges, t):
                 waits[other] += 1
-        order, free = [], [t for t in self.committed if not waits[t]]
+        order, free = [], []
+
+        def add(t):
+            heapq.heappush(free, (t.place or LAST, t.number, t))
+
+        for t in self.committed:
+            if not waits[t]:
+                add(t)
         while free:
-            order.append(free.pop())
+            order.append(heapq.heappop(free)[2])
             for other, _, _ in self.after(self.edges, order[-1]):
                 waits[other] -= 1
                 if not waits[other]:
-                    free.append(other)
+                    add(other)
         return order if len(order) == len(self.committed) else None
 
     def replay_differs(self):

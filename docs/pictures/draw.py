@@ -1,54 +1,18 @@
 #!/usr/bin/env python3
 """Draws the pictures of the documents: `draw.py` writes them beside itself, `draw.py --check` looks whether they are as they would be drawn.
 
-The crates come from crates.txt, the figures from the results of bench/run.py in docs/runs. Text stays text.
+The crates come from crates.txt, the examples from the folder examples, by its picture.py, and the figures from the results of bench/run.py in
+docs/runs. Text stays text.
 """
 import math
 import os
 import sys
-from xml.sax.saxutils import escape
 
 HERE = os.path.dirname(os.path.abspath(__file__))
-sys.path.insert(0, os.path.join(HERE, "..", "..", "bench"))
+sys.path += [os.path.join(HERE, "..", "..", name) for name in ("bench", "examples")]
 
-from report import runs_of_documents  # noqa: E402
-
-INK, SOFT, PALE = "#1b2a3a", "#5b7083", "#eef3f7"
-BLUE, GREEN, AMBER, RED = "#2f6fab", "#3c8a5a", "#c98a1b", "#b5483a"
-STYLE = "font-family: sans-serif; font-size: 13px; fill: " + INK
-
-
-class Picture:
-    """An SVG, drawn piece by piece."""
-
-    def __init__(self, title, width, height):
-        self.title, self.width, self.height, self.parts = title, width, height, []
-
-    def box(self, x, y, width, height, fill=PALE, line=SOFT, dashes=""):
-        dashed = f' stroke-dasharray="{dashes}"' if dashes else ""
-        self.parts.append(
-            f'<rect x="{x:g}" y="{y:g}" width="{width:g}" height="{height:g}" rx="4" fill="{fill}" stroke="{line}"{dashed}/>')
-
-    def text(self, x, y, text, anchor="start", fill=INK, size=13, weight="normal"):
-        self.parts.append(
-            f'<text x="{x:g}" y="{y:g}" text-anchor="{anchor}" fill="{fill}" font-size="{size}" font-weight="{weight}">{escape(text)}</text>')
-
-    def line(self, x1, y1, x2, y2, color=SOFT, arrow=False, width=1.5, dashes=""):
-        end = ' marker-end="url(#arrow)"' if arrow else ""
-        dashed = f' stroke-dasharray="{dashes}"' if dashes else ""
-        self.parts.append(
-            f'<line x1="{x1:g}" y1="{y1:g}" x2="{x2:g}" y2="{y2:g}" stroke="{color}" stroke-width="{width:g}"{dashed}{end}/>')
-
-    def svg(self):
-        head = (
-            f'<svg xmlns="http://www.w3.org/2000/svg" viewBox="0 0 {self.width:g} {self.height:g}" width="{self.width:g}" '
-            f'height="{self.height:g}" style="{STYLE}" role="img">')
-        arrow = (
-            '<defs><marker id="arrow" viewBox="0 0 8 8" refX="7" refY="4" markerWidth="7" markerHeight="7" orient="auto">'
-            f'<path d="M0 0 L8 4 L0 8 z" fill="{SOFT}"/></marker></defs>')
-        paper = '<rect width="100%" height="100%" fill="white"/>'
-        return "\n".join([head, f"<title>{escape(self.title)}</title>", arrow, paper, *self.parts, "</svg>"]) + "\n"
-
+from picture import AMBER, BLUE, INK, RED, SOFT, Picture, play_picture  # noqa: E402
+from report import runs_of_documents                                    # noqa: E402
 
 # The crates as layers
 
@@ -167,33 +131,17 @@ def append():
     return picture
 
 
-# A cycle with its pivot
+# Examples
 
-def cycle():
-    picture = Picture("A cycle and its pivot", 760, 330)
-    picture.text(20, 26, "The read-only anomaly: examples/read_only_anomaly.play", weight="bold")
-    rows = [("Y = session 2", 190, 330, ["reads y", "writes y"]), ("X = session 3", 370, 490, ["reads x and y"]),
-            ("P = session 1", 150, 640, ["reads x and y", "writes x"])]
-    for number, (name, begin, end, does) in enumerate(rows):
-        y = 66 + number * 44
-        picture.text(20, y + 5, name, weight="bold")
-        picture.line(begin, y, end, y, RED if name[0] == "P" else BLUE, False, 4)
-        picture.text(begin, y - 9, "begins", "middle", SOFT, 11)
-        picture.text(end, y - 9, "commits" if name[0] != "P" else "COMMIT is refused: pivot self", "middle", RED if name[0] == "P" else SOFT, 11)
-        picture.text((begin + end) / 2, y + 18, ", ".join(does), "middle", INK, 11)
-    places = {"X": (160, 260), "P": (380, 260), "Y": (600, 260)}
-    for name, (x, y) in places.items():
-        picture.box(x - 34, y - 18, 68, 36, "#f6e3c4" if name == "P" else PALE)
-        picture.text(x, y + 5, name, "middle", weight="bold")
-    for one, other, text in (("X", "P", "X read x, which P writes"), ("P", "Y", "P read y, which Y writes")):
-        picture.line(places[one][0] + 34, 260, places[other][0] - 36, 260, RED, True, 2)
-        picture.text((places[one][0] + places[other][0]) / 2, 234, text, "middle", RED, 11)
-    picture.line(600, 278, 600, 304, BLUE, False, 2)
-    picture.line(600, 304, 160, 304, BLUE, False, 2)
-    picture.line(160, 304, 160, 280, BLUE, True, 2)
-    picture.text(380, 298, "X began after Y committed, and read what Y wrote", "middle", BLUE, 11)
-    picture.text(20, 324, "An arrow leads from what stands earlier in any serial order. No order has all three.", fill=SOFT, size=11)
-    return picture
+EXAMPLES = {
+    "write_skew": "Write skew: each reads the key that the other writes",
+    "phantom": "A phantom: each reads the range that the other adds a key to",
+    "read_only_anomaly": "The read-only anomaly: what session 3 read leaves no place for session 1"}
+
+
+def example(name):
+    place = os.path.join(HERE, "..", "..", "examples", name)
+    return play_picture(EXAMPLES[name], place + ".play", place + ".out")
 
 
 # Figures
@@ -255,7 +203,7 @@ def bars(chart, title):
 
 
 PICTURES = {
-    "crates": crates, "commit": commit, "append": append, "cycle": cycle,
+    "crates": crates, "commit": commit, "append": append, **{name: lambda name=name: example(name) for name in EXAMPLES},
     "requests": lambda: bars("requests", "Requests and reads beside other programs"),
     "commits": lambda: bars("commits", "Commits that write, beside the device and PostgreSQL")}
 

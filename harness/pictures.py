@@ -1,0 +1,114 @@
+"""What examples/picture.py draws of scripts and histories, and that it is right.
+
+Of random scripts, answered by the model: where a commit was refused for a pivot, the picture names a dangerous structure with the refused one in it.
+Where it was overwritten, an arrow leads to it from whoever wrote that key. Each dependency between two that committed rises in the serial order
+that is drawn. Each picture is XML, and on those of the documents no label stands on another. The same is looked for where one refused commit
+is said to have been answered a number: then a dependency doesn't rise.
+
+`quick` draws 60 scripts, `long` 1,000.
+"""
+import os
+import sys
+import xml.etree.ElementTree as xml
+
+from client import HERE, Deviation, Tally, expect, is_long, run_harness
+from histories import FORMS, RecentStore, model_history
+from random_scripts import by_model, script_of
+
+sys.path.append(os.path.join(HERE, "..", "examples"))
+
+import picture      # noqa: E402
+
+DRAWN = ("write_skew", "phantom", "read_only_anomaly")
+
+
+def parse(drawn):
+    """The picture is XML, with a title and nothing that is fetched."""
+    text = drawn.svg()
+    root = xml.fromstring(text)
+    expect(root[0].text == drawn.title and "href" not in text, "a picture has no title, or fetches something")
+
+
+def ends_of(arrow):
+    return arrow.kind, arrow.key, arrow.source, arrow.target
+
+
+def drawn_arrows(scene):
+    return {ends_of(arrow) for arrow in scene.arrows}
+
+
+def expect_right(scene):
+    """What a picture of a script says is so."""
+    places = {bar: number for number, bar in enumerate(scene.order)}
+    expect(set(places) == {bar for bar in scene.bars if bar.is_committed()}, "the serial order has others than have committed")
+    arrows = picture.dependencies(scene.bars)
+    for arrow in arrows:
+        rises = not arrow.is_kept() or places[arrow.source] < places[arrow.target]
+        expect(rises and arrow.start and arrow.end, f"{arrow.source.outcome} -{arrow.kind} {arrow.key}-> {arrow.target.outcome} is wrong")
+    for bar in scene.bars:
+        if bar.outcome.startswith("refused: pivot"):
+            structure = picture.dangerous(scene.bars, arrows, bar)
+            expect(structure and drawn_arrows(scene).issuperset(map(ends_of, structure)), f"{bar.outcome}: no structure is named")
+        if bar.outcome.startswith("refused: overwritten"):
+            key = bar.outcome.split(" ")[-1]
+            over = [arrow for arrow in scene.arrows if arrow.target is bar and (arrow.kind, arrow.key) == ("ww", key)]
+            expect(over and over[0].source.is_concurrent(bar), f"{bar.outcome}: nobody has written it")
+
+
+def random_script(number):
+    """The picture of a random script is right. How many it shows that were refused."""
+    lines = script_of(number)
+    scene = picture.scene_of_play(str(number), lines, by_model(lines))
+    expect_right(scene)
+    if scene.bars:
+        parse(picture.drawn(scene))
+    return sum(bar.is_refused() for bar in scene.bars)
+
+
+def labels(name):
+    """On a picture of the documents no label stands on another, and all lie within it."""
+    place = os.path.join(HERE, "..", "examples", name)
+    scene = picture.scene_of_play(name, picture.lines_of(place + ".play"), picture.lines_of(place + ".out"))
+    expect_right(scene)
+    stage = picture.Stage(scene)
+    shown = picture.drawn(scene, stage)
+    parse(shown)
+    for number, box in enumerate(stage.taken):
+        expect(0 <= box[0] and box[2] <= shown.width and 0 <= box[1] and box[3] <= shown.height, f"{name}: a label lies outside")
+        others = stage.taken[:number]
+        stage_of_others = [other for other in others if box[0] < other[2] and other[0] < box[2] and box[1] < other[3] and other[1] < box[3]]
+        expect(not stage_of_others, f"{name}: two labels overlap")
+
+
+def falsified(name):
+    """The picture of an example is wrong where its refused commit is said to have been answered the next number."""
+    place = os.path.join(HERE, "..", "examples", name)
+    script, output = picture.lines_of(place + ".play"), picture.lines_of(place + ".out")
+    number = 1 + sum(" :" in line for line in output)
+    output = [line.split(" ")[0] + f" :{number}" if "CONFLICT" in line else line for line in output]
+    try:
+        expect_right(picture.scene_of_play(name, script, output))
+    except Deviation:
+        return
+    raise Deviation(f"{name}: nothing is wrong though the refused one has committed")
+
+
+def main():
+    tally, refused = Tally("pictures"), 0
+    for name in DRAWN:
+        with tally.run(name):
+            labels(name)
+        with tally.run(f"{name}, falsified"):
+            falsified(name)
+    for number in range(1_000 if is_long() else 60):
+        with tally.run(f"script {number}"):
+            refused += random_script(number)
+    for form in FORMS:
+        with tally.run(f"a history, {form}"):
+            events = model_history(RecentStore(), form, 1, 60)
+            parse(picture.drawn(picture.scene_of_history("A history", form, events, 5, 8)))
+    return 0 if tally.end(f"; {refused} refused commits drawn") else 1
+
+
+if __name__ == "__main__":
+    run_harness(main)
