@@ -274,15 +274,28 @@ class History:
                     add(other)
         return order if len(order) == len(self.committed) else None
 
-    def replay_differs(self):
-        """The first whose reads are others, where lists are run one transaction at a time in the serial order. None where all are right."""
-        lists = defaultdict(list)
-        for t in self.serial_order():
+    def deviation(self, order):
+        """What is wrong with a serial order, looked for without any dependency. Each committed transaction stands in it once, none behind one that
+        began when it had ended, and run one at a time they read what they read. None where all is right. Registers to which one of unknown place
+        has written are left out."""
+        if sorted(t.number for t in order) != sorted(t.number for t in self.committed):
+            return "it has other transactions than have committed"
+        soonest = LAST[0]
+        for t in reversed(order):
+            if soonest < t.begun:
+                return f"one that had ended when {t!r} began stands behind it"
+            soonest = min(soonest, LAST[0] if t.ended is None else t.ended)
+        unknown = set() if self.is_list else {key for t in self.committed if not t.place for key, _ in t.written()}
+        contents = {}
+        for t in order:
             for kind, key, value in t.operations:
-                if kind != "r":
-                    lists[key].append(value)
-                elif t.kind == "ok" and (value or []) != lists[key]:
-                    return t
+                before = contents.get(key, [] if self.is_list else None)
+                if kind == "append":
+                    contents[key] = [*before, value]
+                elif kind == "w":
+                    contents[key] = value
+                elif t.kind == "ok" and key not in unknown and (value or None) != (before or None):
+                    return f"{t!r} read {value} of {key}, where the order gives {before}"
         return None
 
 

@@ -8,7 +8,7 @@
 In the form `list` transactions append to lists and read them. A list of even number is the value of one key, and one of odd number has a key for
 each element, which RANGE reads. In the form `register` they write values without reading, and read. Each value is new. The clients pick few
 keys, so that many commits are refused; some end their connection once they have sent COMMIT. The server is killed and served again amid
-the history. It must have no anomaly (anomalies.py), and lists that are replayed in one serial order are the lists that were read.
+the history. It must have no anomaly (anomalies.py), and run one at a time in one order, which respects real time, they read the same.
 
 The EDN is of Jepsen's form: `list` is for elle.list-append, `register` for elle.rw-register, both with :strict-serializable. Elle itself isn't
 in Debian and was not run.
@@ -481,9 +481,9 @@ def judge(form, events):
     history = History(form, events)
     found = history.anomalies()
     expect(not found, f"{len(found)} anomalies, first {found[:1]}")
-    expect(history.serial_order() is not None, "there is no serial order")
-    if history.is_list:
-        expect(history.replay_differs() is None, f"in the serial order {history.replay_differs()!r} reads other lists")
+    order = history.serial_order()
+    expect(order is not None, "there is no serial order")
+    expect(history.deviation(order) is None, f"the serial order is none: {history.deviation(order)}")
     counts = {kind: sum(t.kind == kind for t in history.all) for kind in ("ok", "fail", "info")}
     expect(counts["ok"] > 50 and counts["fail"] > 5, f"there is little to judge: {counts}")
     return counts
@@ -576,6 +576,19 @@ def planted(tally):
                     expect(due & set(found), f"{store.__name__}, {form}, {seed}: found are {found}, due is one of {due}")
 
 
+def false_orders(tally):
+    """Orders that are none: turned round, with one missing, and with a reader in front of what it read or real time turned round."""
+    for form in FORMS:
+        history = History(form, model_history(RecentStore(), form, 1, MODEL_COUNT))
+        order = history.serial_order()
+        exchanged = [[*order[:at], order[at + 1], order[at], *order[at + 2:]] for at in range(len(order) - 1)]
+        with tally.run(f"false orders, {form}"):
+            expect(history.deviation(order) is None, "the order itself is refused")
+            expect(history.deviation(order[::-1]) and history.deviation(order[1:]), "an order turned round, or with one missing, is taken")
+            found = {(history.deviation(other) or "taken").split(" ")[1] for other in exchanged if history.deviation(other)}
+            expect(found == {"that", "read"}, f"of orders with two exchanged none is refused for what it says: {found}")
+
+
 def served(tally):
     """Histories of the program, the events of which are also written and read again."""
     whole = {"ok": 0, "fail": 0, "info": 0}
@@ -599,6 +612,7 @@ def main():
     need()
     tally = Tally("histories")
     planted(tally)
+    false_orders(tally)
     counts = served(tally)
     return 0 if tally.end(f"; of serve {counts['ok']} committed, {counts['fail']} refused or aborted, {counts['info']} replies lost") else 1
 
