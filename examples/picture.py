@@ -372,7 +372,7 @@ class Stage:
         return (x1, start + BAR, x2, end) if start < end else (x1, start, x2, end + BAR)
 
     def is_free(self, box):
-        return not any(box[0] < other[2] and other[0] < box[2] and box[1] < other[3] and other[1] < box[3] for other in self.taken)
+        return not any(overlap(box, other) for other in self.taken)
 
     def label_place(self, ends, width):
         """The first place along an arrow at which its label meets no other."""
@@ -397,6 +397,10 @@ class Stage:
             x, y = places[0]
         self.taken.append((x, y - 11, x + width, y + 3))
         return x, y
+
+
+def overlap(box, other):
+    return box[0] < other[2] and other[0] < box[2] and box[1] < other[3] and other[1] < box[3]
 
 
 def crosses(ends, box):

@@ -2,13 +2,14 @@
 
 Each row names bytes and says what they are. A client sends them and no more: a proper prefix of a request is answered nothing, broken bytes are
 answered `-ERR frame`, and a request gets one other reply. The model says how many parts and bytes a request has. A row that says anything else
-is a deviation, so no row stands there untried. False rows show that both would notice.
+is a deviation, so no row stands there untried. False rows show that both would notice. Then the table of replies: requests whose replies
+are its bytes, in its order.
 """
 import os
 import re
 import socket
 
-from client import HERE, Connection, Server, Tally, create, expect, folder, need, run_harness
+from client import HERE, PROGRAM, Connection, Server, Tally, create, expect, folder, need, run_harness
 from model import BROKEN_FRAME, FRAME_MAX, VALUE_MAX, Broken, decode, frame
 
 DOCUMENT = os.path.join(HERE, "..", "docs", "PROTOCOL.md")
@@ -82,6 +83,44 @@ def is_refused(port, data, said):
     return by_model(data) != due and by_program(port, data) != kind
 
 
+# What is asked for each row of the table of replies, in the seventh transaction that commits.
+WRITES = (("a", "1"), ("b", "22"), ("v", "ab"), ("w", ""))
+ASKED = {
+    "done": [("SET", *write) for write in WRITES],
+    "a value": [("GET", "v"), ("GET", "w"), ("GET", "x")],
+    "pairs": [("RANGE", "a", "c", "10"), ("RANGE", "x", "y", "10")],
+    "a refusal": [("BEGIN",)],
+    "a number": [("COMMIT",)],
+}
+
+
+def reply_rows():
+    """The rows of the table of replies: the form, and the bytes that it names."""
+    with open(DOCUMENT, encoding="utf-8") as file:
+        table = re.search(r"^\| Form \| Bytes \|\n\|---\|---\|\n((?:\|.*\n)+)", file.read(), re.M)
+    expect(table, "PROTOCOL.md has no table of replies")
+    rows = [line.strip("| ").split(" | ") for line in table[1].splitlines()]
+    return {form: [bytes_of(text) for text in re.findall(r"`[^`]*`", cell)] for form, cell in rows}
+
+
+def replies(port):
+    """The replies of the program by form, each once where they are alike."""
+    found = {}
+    with Connection(port) as client:
+        for _ in range(6):
+            expect([client.ask(frame(name)) for name in ("BEGIN", "COMMIT")][0] == b"+OK\r\n", "BEGIN was refused")
+        client.ask(frame("BEGIN"))
+        for form, requests in ASKED.items():
+            found[form] = list(dict.fromkeys(client.ask(frame(*request)) for request in requests))
+    return found
+
+
+def agree_on_replies(port):
+    due, found = reply_rows(), replies(port)
+    due["a refusal"] = [bytes.replace(text, b"text", b"ERR open") for text in due.get("a refusal", [])]
+    expect(found == due, f"the replies are {found}, PROTOCOL.md says {due}")
+
+
 def largest_frame():
     """The largest frame has as many bytes as the document says, and so has a value."""
     largest = frame(*[bytes(VALUE_MAX)] * 4)
@@ -92,7 +131,7 @@ def largest_frame():
 
 
 def main():
-    need()
+    need(PROGRAM)
     tally = Tally("frames")
     with folder() as place:
         data = os.path.join(place, "data")
@@ -105,6 +144,8 @@ def main():
             for content, said in FALSE_ROWS:
                 with tally.run(f"the false row {content!r}"):
                     expect(is_refused(server.port, content, said), f"{content!r} is taken for {said}")
+            with tally.run("the replies"):
+                agree_on_replies(server.port)
     with tally.run("the bounds"):
         largest_frame()
     return 0 if tally.end() else 1

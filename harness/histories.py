@@ -25,7 +25,7 @@ import threading
 import time
 
 from anomalies import History
-from client import PATIENCE, Connection, Deviation, Server, Tally, create, expect, folder, is_long, need, run_harness
+from client import PATIENCE, PROGRAM, Connection, Deviation, Server, Tally, create, expect, folder, is_long, need, run_harness
 from model import OK, Store, Transaction, decode, frame
 
 FORMS = ("list", "register")
@@ -538,7 +538,7 @@ def read_file(name):
 
 
 def write(form, place, seconds="5", clients=str(CLIENTS), kills="1"):
-    need()
+    need(PROGRAM)
     with folder() as data:
         events = serve_history(data, form, float(seconds), int(clients), int(kills))
     write_files(place, form, events)
@@ -609,7 +609,7 @@ def main():
     commands = {"write": write, "check": check}
     if sys.argv[1:] and sys.argv[1] in commands:
         return commands[sys.argv[1]](*sys.argv[2:])
-    need()
+    need(PROGRAM)
     tally = Tally("histories")
     planted(tally)
     false_orders(tally)

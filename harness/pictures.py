@@ -2,8 +2,8 @@
 
 Of random scripts, answered by the model: where a commit was refused for a pivot, the picture names a dangerous structure with the refused one in it.
 Where it was overwritten, an arrow leads to it from whoever wrote that key. Each dependency between two that committed rises in the serial order
-that is drawn. Each picture is XML, and on those of the documents no label stands on another. The same is looked for where one refused commit
-is said to have been answered a number: then a dependency doesn't rise.
+that is drawn. Each picture is XML, and on those of the documents no label stands on another. So it is of the examples. Where one refused commit of
+theirs is said to have been answered a number, a dependency doesn't rise, and that is seen.
 
 `quick` draws 60 scripts, `long` 1,000.
 """
@@ -14,6 +14,7 @@ import xml.etree.ElementTree as xml
 from client import HERE, Deviation, Tally, expect, is_long, run_harness
 from histories import FORMS, RecentStore, model_history
 from random_scripts import by_model, script_of
+from rows import EXAMPLES, example_files
 
 sys.path.append(os.path.join(HERE, "..", "examples"))
 
@@ -65,25 +66,27 @@ def random_script(number):
     return sum(bar.is_refused() for bar in scene.bars)
 
 
-def labels(name):
-    """On a picture of the documents no label stands on another, and all lie within it."""
-    place = os.path.join(HERE, "..", "examples", name)
-    scene = picture.scene_of_play(name, picture.lines_of(place + ".play"), picture.lines_of(place + ".out"))
+def example(name):
+    """The picture of an example is right."""
+    scene = picture.scene_of_play(name, *(content.decode().splitlines() for content in example_files(name)))
     expect_right(scene)
     stage = picture.Stage(scene)
     shown = picture.drawn(scene, stage)
     parse(shown)
+    if name in DRAWN:
+        labels(name, shown, stage)
+
+
+def labels(name, shown, stage):
+    """No label stands on another, and all lie within the picture."""
     for number, box in enumerate(stage.taken):
         expect(0 <= box[0] and box[2] <= shown.width and 0 <= box[1] and box[3] <= shown.height, f"{name}: a label lies outside")
-        others = stage.taken[:number]
-        stage_of_others = [other for other in others if box[0] < other[2] and other[0] < box[2] and box[1] < other[3] and other[1] < box[3]]
-        expect(not stage_of_others, f"{name}: two labels overlap")
+        expect(not any(picture.overlap(box, other) for other in stage.taken[:number]), f"{name}: two labels overlap")
 
 
 def falsified(name):
     """The picture of an example is wrong where its refused commit is said to have been answered the next number."""
-    place = os.path.join(HERE, "..", "examples", name)
-    script, output = picture.lines_of(place + ".play"), picture.lines_of(place + ".out")
+    script, output = (content.decode().splitlines() for content in example_files(name))
     number = 1 + sum(" :" in line for line in output)
     output = [line.split(" ")[0] + f" :{number}" if "CONFLICT" in line else line for line in output]
     try:
@@ -95,9 +98,10 @@ def falsified(name):
 
 def main():
     tally, refused = Tally("pictures"), 0
-    for name in DRAWN:
+    for name in EXAMPLES:
         with tally.run(name):
-            labels(name)
+            example(name)
+    for name in DRAWN:
         with tally.run(f"{name}, falsified"):
             falsified(name)
     for number in range(1_000 if is_long() else 60):
