@@ -315,6 +315,7 @@ def bar_of(t, history):
     for words, answered, kind, key in asked:
         bar.cells.append(Cell(0, words, answered, kind, (lambda other, key=key: other == key) if kind == "read" else None, key))
     bar.outcome = {"ok": "commit", "fail": "refused", "info": "reply lost"}[t.kind]
+    bar.role = repr(t)
     if t in history.committed:
         bar.number = t.place[1] if t.place else t.number
         bar.outcome += f" {t.place[1]}" if t.place else ", and seen"
@@ -452,6 +453,8 @@ def draw_below(picture, stage, y):
     scene = stage.scene
     picture.text(20, y + 19, "Serial order", weight="bold")
     x = LEFT + 20
+    if not scene.order:
+        picture.text(x, y + 19, "none", fill=RED)
     for number, bar in enumerate(scene.order):
         text = f"{bar.name()}, {bar.outcome}"
         width = LETTER * len(text) + 16

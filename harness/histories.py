@@ -538,24 +538,30 @@ def read_file(name):
 
 
 def write(form, place, seconds="5", clients=str(CLIENTS), kills="1"):
+    """A history of a new server is written and checked. The status."""
     need(PROGRAM)
     with folder() as data:
         events = serve_history(data, form, float(seconds), int(clients), int(kills))
     write_files(place, form, events)
-    print(f"{len(events)} events in {form}.edn and {form}.jsonl; {check_events(form, events)}")
-    return 0
+    return tell(form, events)
 
 
 def check(form, name):
-    print(check_events(form, read_file(name)))
-    return 0
+    """A history of a file is checked. The status."""
+    return tell(form, read_file(name))
 
 
-def check_events(form, events):
-    """Each anomaly on a line, and how many transactions there are."""
+def tell(form, events):
+    """Prints each anomaly, and how many transactions there are. The status is 1 where there is an anomaly."""
     history = History(form, events)
-    lines = [f"{name}: {text}" for name, text in history.anomalies()]
-    return "\n".join([*lines, f"{len(history.all)} transactions, {len(history.committed)} of them committed, {len(lines)} anomalies"])
+    found = history.anomalies()
+    for name, text in found:
+        print(f"{name}: {text}")
+    print(f"{len(history.all)} transactions, {len(history.committed)} of them committed, {len(found)} anomalies")
+    return 1 if found else 0
+
+
+COMMANDS = {"write": write, "check": check}
 
 
 # The harness
@@ -606,9 +612,9 @@ def served(tally):
 
 
 def main():
-    commands = {"write": write, "check": check}
-    if sys.argv[1:] and sys.argv[1] in commands:
-        return commands[sys.argv[1]](*sys.argv[2:])
+    words = sys.argv[1:]
+    if len(words) > 2 and words[0] in COMMANDS and words[1] in FORMS:
+        return COMMANDS[words[0]](*words[1:])
     need(PROGRAM)
     tally = Tally("histories")
     planted(tally)
