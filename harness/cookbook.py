@@ -1,0 +1,573 @@
+"""The recipes of docs/COOKBOOK.md, which stand in examples/cookbook, against `serve` under conflicts.
+
+Each recipe is run by several clients at once, and a judge looks at what they leave. Each judge is also shown a wrong form of the recipe,
+and must see it: a range that is read in another transaction, an index without its deletion, a queue that deletes nothing. The code that
+the document shows must be that of the files. At last it prints how many tries a commit takes.
+
+`quick` does less of each.
+"""
+import bisect
+import collections
+import concurrent.futures
+import contextlib
+import itertools
+import json
+import os
+import random
+import re
+import sys
+import threading
+import time
+
+from client import PATIENCE, PROGRAM, Deviation, Server, Tally, create, expect, folder, is_long, need, run_harness
+
+TOP = os.path.normpath(os.path.join(os.path.dirname(os.path.abspath(__file__)), ".."))
+sys.path[1:1] = [os.path.join(TOP, "examples", "cookbook"), os.path.join(TOP, "examples", "clients")]
+
+import batch                 # noqa: E402
+import counter               # noqa: E402
+import holds                 # noqa: E402
+import index                 # noqa: E402
+import jobs                  # noqa: E402
+import key_parts             # noqa: E402
+import reservations          # noqa: E402
+import simple_client         # noqa: E402
+import unique                # noqa: E402
+import walk                  # noqa: E402
+
+DOCUMENT = "docs/COOKBOOK.md"
+SECTORS = 262_144
+CLIENTS = 8
+key = key_parts.key
+
+
+@contextlib.contextmanager
+def trial(tally, what):
+    """One run over a server of its own, in which a refusal that a recipe did not look for is a deviation. Gives the server's port."""
+    with tally.run(what), folder() as place:
+        data = os.path.join(place, "data")
+        create(data, SECTORS)
+        with Server(data) as server:
+            try:
+                yield server.port
+            except (simple_client.Refused, simple_client.Lost) as found:
+                raise Deviation(f"{type(found).__name__}: {found}") from None
+
+
+def at_once(port, *works):
+    """Runs each work in a transaction of its own, all of them begun before the first commits. What each gave; None where it was refused."""
+    clients = [simple_client.Client(port) for _ in works]
+    for client in clients:
+        client.ask("BEGIN")
+    given = [work(client) for client, work in zip(clients, works)]
+    return [result if is_committed(client) else None for client, result in zip(clients, given)]
+
+
+def is_committed(client):
+    try:
+        client.ask("COMMIT")
+    except simple_client.Conflict:
+        return False
+    return True
+
+
+def crowd(port, play, count=CLIENTS, kind=simple_client.Client):
+    """Runs play(client, number) in so many threads, each with a connection. What each gave."""
+    def one(number):
+        return play(kind(port), number)
+
+    with concurrent.futures.ThreadPoolExecutor(count) as pool:
+        return list(pool.map(one, range(count), timeout=6 * PATIENCE))
+
+
+def once(port, work):
+    return simple_client.Client(port).transact(work)
+
+
+def under(*parts):
+    """A work that gives all pairs whose keys begin with these parts: the other parts, and the value."""
+    def work(store):
+        return [(key_parts.parts_of(found)[len(parts):], value) for found, value in walk.walk(store, key(*parts))]
+
+    return work
+
+
+class Counting(simple_client.Client):
+    """A client that counts the COMMITs that it sends."""
+
+    commits = 0
+
+    def ask(self, *parts):
+        self.commits += parts[0] == "COMMIT"
+        return super().ask(*parts)
+
+
+# The document
+
+def in_document(text):
+    """Each block of Python in a document, with the file that the nearest link before it names."""
+    found, name = [], None
+    pieces = re.split(r"^```(\w*)\n", text, flags=re.M)
+    for kind, piece in zip(["", *pieces[1::2]], pieces[0::2]):
+        if kind == "python":
+            found.append((name, piece))
+        else:
+            name = next(iter(re.findall(r"\]\(\.\./(examples/[^)]*\.py)\)", piece)[::-1]), name)
+    return found
+
+
+def of_other_code(text):
+    """The blocks of a document that are not to be found in the file that they name."""
+    return [block for name, block in in_document(text) if name is None or block not in read(name)]
+
+
+def read(name):
+    with open(os.path.join(TOP, name), encoding="utf-8") as file:
+        return file.read()
+
+
+def document(tally):
+    with tally.run("the code in the document"):
+        text = read(DOCUMENT)
+        expect(not of_other_code(text), f"{DOCUMENT} has code that its file has not: {of_other_code(text)[:1]}")
+        expect(len(of_other_code(text.replace("store.ask", "store.asks"))) > 5, "code that was changed isn't seen")
+        files = {f"examples/cookbook/{name}" for name in os.listdir(os.path.join(TOP, "examples", "cookbook")) if name.endswith(".py")}
+        missing = files - {name for name, _ in in_document(text)}
+        expect(not missing, f"{DOCUMENT} shows nothing of {sorted(missing)}")
+
+
+# Keys
+
+def random_parts(chance):
+    def part():
+        if chance.random() < 0.5:
+            return chance.choice((0, 1, -1, 255, 256, -256, 2 ** 63 - 1, -2 ** 63, chance.randrange(-10 ** 6, 10 ** 6)))
+        return bytes(chance.choice((0, 1, 2, 97, 98, 254, 255)) for _ in range(chance.randrange(4)))
+
+    return [part() for _ in range(chance.randrange(1, 4))]
+
+
+def by_parts(parts):
+    return [(not isinstance(part, int), part) for part in parts]
+
+
+def wrongly_ordered(spell, lists):
+    """Neighbours whose keys stand in another order than their parts."""
+    lists = sorted(lists, key=by_parts)
+    return [pair for pair in itertools.pairwise(lists) if pair[0] != pair[1] and not spell(*pair[0]) < spell(*pair[1])]
+
+
+def wrongly_found(spell, lists, prefix):
+    """Lists of parts that a range under the prefix holds and should not, or lacks."""
+    spelled = sorted((spell(*parts), parts) for parts in lists)
+    lo, hi = spell(*prefix), walk.end_of(spell(*prefix))
+    found = [parts for _, parts in spelled[bisect.bisect_left(spelled, (lo,)):bisect.bisect_left(spelled, (hi,))]]
+    return sorted(map(by_parts, found)) != sorted(by_parts(parts) for parts in lists if by_parts(parts[:len(prefix)]) == by_parts(prefix))
+
+
+def joined(*parts):
+    """A wrong spelling: decimals and texts with a separator between them."""
+    return b"/".join(b"%d" % part if isinstance(part, int) else part for part in parts)
+
+
+def keys(tally):
+    chance = random.Random(5)
+    lists = [random_parts(chance) for _ in range(20_000 if is_long() else 3_000)]
+    with tally.run("keys of several parts"):
+        for parts in lists:
+            expect(key_parts.parts_of(key(*parts)) == parts, f"{parts} come back as {key_parts.parts_of(key(*parts))}")
+        expect(not wrongly_ordered(key, lists), f"in the wrong order: {wrongly_ordered(key, lists)[:1]}")
+        expect(wrongly_ordered(joined, [[9], [10], [2]]), "decimals in a wrong order aren't seen")
+        prefixes = [parts for parts in lists[:300] if len(parts) < 3]
+        expect(not any(wrongly_found(key, lists, prefix) for prefix in prefixes), "a range under a prefix holds others")
+        expect(wrongly_found(joined, [[b"a", b"b"], [b"ab"]], [b"a"]), "a range that holds others isn't seen")
+    with trial(tally, "keys of several parts in the store") as port:
+        some = sorted({key(*parts) for parts in lists[:400]})
+        client = simple_client.Client(port)
+        for at in range(0, len(some), 64):
+            client.transact(lambda store: [store.ask("SET", it, b"") for it in some[at:at + 64]])
+        expect([it for it, _ in client.transact(lambda store: list(walk.walk(store)))] == some, "the store has another order")
+
+
+# Reservations
+
+def overlaps(bookings):
+    """Neighbours of one room of which the second starts before the first ends, of (room, start, end)."""
+    return [pair for pair in itertools.pairwise(sorted(bookings)) if pair[0][0] == pair[1][0] and pair[1][1] < pair[0][2]]
+
+
+def booked(port):
+    return [(room, json.loads(value)[0], end) for (room, end), value in once(port, under("booking"))]
+
+
+def book(room, start, end):
+    return lambda store: reservations.book(store, room, start, end, "x") is None
+
+
+def write_alone(room, start, end):
+    """The wrong form: that nobody has it was read in a transaction before this one."""
+    return lambda store: store.ask("SET", key("booking", room, end), json.dumps([start, "x"]))
+
+
+TIMES = (("equal ends", (9, 11), (10, 11)), ("equal starts", (9, 10), (9, 12)), ("one within the other", (8, 15), (10, 11)),
+         ("one after the other's start", (9, 11), (10, 12)), ("the other way round", (10, 12), (9, 11)))
+
+
+def reservation(tally):
+    for name, one, other in TIMES:
+        with trial(tally, f"two bookings at once, {name}") as port:
+            once(port, book("a", 1, 2)), once(port, book("a", 20, 21)), once(port, book("b", 9, 12))
+            found = at_once(port, book("a", *one), book("a", *other))
+            expect(found == [True, None], f"two bookings at once, {name}: {found}")
+            expect(once(port, book("a", *other)) is False, f"the second, {name}, was booked when it began again")
+            expect(once(port, book("a", 12 if one[1] < 12 else 15, 20)), "what touches others was not booked")
+            expect(not overlaps(booked(port)), f"double bookings: {overlaps(booked(port))}")
+    with trial(tally, "the judge of bookings") as port:
+        expect(once(port, lambda store: reservations.holder(store, "a", 9, 12)) is None, "an empty room is held")
+        at_once(port, write_alone("a", 9, 11), write_alone("a", 10, 12))
+        expect(overlaps(booked(port)), "two bookings without the range were not seen")
+    right, sent = book_in_crowd(tally, True)
+    wrong, _ = book_in_crowd(tally, False)
+    print(f"  reservations: {right} booked in {sent} COMMITs; with the range in another transaction {wrong} were double", flush=True)
+
+
+def book_in_crowd(tally, is_right):
+    """Many clients book times of two rooms. How many bookings there are, how many are double, and the COMMITs that were sent."""
+    count = 150 if is_long() else 25
+
+    def play(client, number):
+        chance, own = random.Random(number), 0
+        for _ in range(count):
+            start, room = chance.randrange(40 * count), chance.choice("ab")
+            end = start + chance.randrange(1, 40)
+            if is_right:
+                own += client.transact(book(room, start, end))
+            elif client.transact(lambda store: reservations.holder(store, room, start, end)) is None:
+                client.transact(write_alone(room, start, end))
+        return own, client.commits
+
+    with trial(tally, "bookings of many clients" if is_right else "bookings without the range") as port:
+        own, sent = map(sum, zip(*crowd(port, play, kind=Counting)))
+        found = booked(port)
+        if not is_right:
+            return len(overlaps(found)), sent
+        expect(not overlaps(found), f"{len(overlaps(found))} double bookings, first {overlaps(found)[:1]}")
+        expect(own == len(found) > CLIENTS, f"{own} were told, {len(found)} are there")
+        return own, sent
+    return 0, 0
+
+
+# A unique index, and an index of many
+
+def not_inverse(port):
+    """Users whose address isn't theirs, and addresses whose user has another."""
+    def both(store):
+        return under("user")(store), under("address")(store)
+
+    users, addresses = once(port, both)
+    return {(user, address) for (user,), address in users} ^ {(user, address) for (address,), user in addresses}
+
+
+def uniqueness(tally):
+    with trial(tally, "one address for two users at once") as port:
+        found = at_once(port, lambda store: unique.register(store, b"ann", b"x"), lambda store: unique.register(store, b"bob", b"x"))
+        expect(found == [True, None], f"two users with one address: {found}")
+        expect(not once(port, lambda store: unique.register(store, b"bob", b"x")), "bob was given ann's address")
+        expect(once(port, lambda store: unique.register(store, b"ann", b"y")), "ann was refused another address")
+        expect(once(port, lambda store: unique.register(store, b"bob", b"x")), "bob was refused a free address")
+        expect(not not_inverse(port), f"the index is wrong: {not_inverse(port)}")
+        once(port, lambda store: [store.ask("SET", key("address", b"y"), b"bob"), store.ask("SET", key("user", b"bob"), b"y")])
+        expect(not_inverse(port), "an address of two users isn't seen")
+    with trial(tally, "addresses of many clients") as port:
+        def play(client, number):
+            chance = random.Random(number)
+            for _ in range(100 if is_long() else 15):
+                user, address = b"u%d" % chance.randrange(6), b"a%d" % chance.randrange(8)
+                client.transact(lambda store: unique.register(store, user, address))
+
+        crowd(port, play)
+        expect(not not_inverse(port), f"the index is wrong: {not_inverse(port)}")
+
+
+def not_indexed(store):
+    """What stands in the tasks or in their index, and not in both."""
+    return {(state, task) for (task,), state in under("task")(store)} ^ {(state, task) for (state, task), _ in under("by state")(store)}
+
+
+def indexes(tally):
+    states = [b"waiting", b"running", b"done", b"wait\0ing"]
+    with trial(tally, "the judge of indexes") as port:
+        once(port, lambda store: [index.put(store, b"t", state) for state in states])
+        expect(once(port, lambda store: [index.with_state(store, it) for it in states]) == [[], [], [], [b"t"]], "a task has two states")
+        once(port, lambda store: store.ask("SET", key("by state", b"done", b"t"), b""))
+        expect(once(port, not_indexed), "an entry that was not deleted isn't seen")
+    with trial(tally, "an index while others write") as port:
+        is_done = threading.Event()
+
+        def play(client, number):
+            chance = random.Random(number)
+            if number == 0:
+                found, looks = 0, 0
+                while not is_done.is_set() or not looks:
+                    found += bool(client.transact(not_indexed))
+                    looks += 1
+                return found
+            for _ in range(100 if is_long() else 15):
+                task, state = b"%d" % chance.randrange(20), chance.choice(states)
+                client.transact(lambda store: index.put(store, task, state))
+            if number == 1:
+                is_done.set()
+            return 0
+
+        expect(not any(crowd(port, play, 5)), "a reader found an index that was not that of the tasks")
+        expect(not once(port, not_indexed), "at the end the index is another")
+
+
+# Holds
+
+def wrong_holds(store):
+    """What of the holds and their ends doesn't fit, and seats that are held and sold."""
+    held = {(seat, json.loads(value)[0]) for (seat,), value in under("hold")(store)}
+    ends = {(seat, end) for (end, seat), _ in under("ends")(store)}
+    sold = {seat for (seat,), _ in under("sold")(store)}
+    return (held ^ ends) | {(seat, end) for seat, end in held if seat in sold}
+
+
+def held_seats(tally):
+    with trial(tally, "holds, step by step") as port:
+        def do(work, *arguments):
+            return once(port, lambda store: work(store, *arguments))
+
+        expect(do(holds.hold, "1", "ann", 100, 10) and not do(holds.hold, "1", "bob", 109, 10), "a held seat was held")
+        expect(not do(holds.buy, "1", "bob", 105) and not do(holds.buy, "1", "ann", 110), "one without a hold bought")
+        expect(do(holds.hold, "1", "bob", 110, 10), "a hold whose time was over was kept")
+        expect(do(holds.sweep, 119) == 0 and do(holds.buy, "1", "bob", 119), "a running hold was swept")
+        expect(not do(holds.hold, "1", "ann", 200, 10) and not do(wrong_holds), "a sold seat was held")
+        do(holds.hold, "2", "ann", 100, 10)
+        found = at_once(port, lambda store: holds.buy(store, "2", "ann", 105), lambda store: holds.sweep(store, 110))
+        expect(found == [True, None], f"a purchase and a sweep at once gave {found}")
+        for seat in range(70):
+            do(holds.hold, f"many {seat}", "ann", 100, seat % 3)
+        swept = [do(holds.sweep, 200) for _ in range(4)]
+        expect(swept == [32, 32, 6, 0] and not do(wrong_holds), f"sweeps dropped {swept}")
+        do(holds.hold, "3", "ann", 100, 10)
+        do(lambda store: store.ask("DEL", key("hold", "3")))
+        expect(do(wrong_holds), "a hold that went without its end isn't seen")
+    with trial(tally, "holds of many clients") as port:
+        clock = itertools.count(100)
+
+        def play(client, number):
+            chance, bought = random.Random(number), []
+            for _ in range(100 if is_long() else 20):
+                seat, now, who = str(chance.randrange(12)), next(clock), str(number)
+                if number == 0:
+                    client.transact(lambda store: holds.sweep(store, now))
+                    expect(not client.transact(wrong_holds), "holds and their ends don't fit")
+                elif client.transact(lambda store: holds.hold(store, seat, who, now, 12)):
+                    later = next(clock)
+                    bought += [seat] if client.transact(lambda store: holds.buy(store, seat, who, later)) else []
+            return bought
+
+        bought = list(itertools.chain(*crowd(port, play)))
+        expect(len(bought) == len(set(bought)) > 0, f"seats were sold twice: {sorted(bought)}")
+        sold = {seat.decode() for (seat,), _ in once(port, under("sold"))}
+        expect(sold == set(bought), f"told are {sorted(bought)}, sold are {sorted(sold)}")
+
+
+# Jobs
+
+def wrong_takes(put, taken):
+    """Jobs that were taken twice, or not at all."""
+    return collections.Counter(put) - collections.Counter(taken) + (collections.Counter(taken) - collections.Counter(put))
+
+
+def queue(tally):
+    with trial(tally, "a queue, step by step") as port:
+        for number in range(5):
+            once(port, lambda store: jobs.put(store, b"%d" % number, number, 1))
+        expect(at_once(port, jobs.take, jobs.take) == [b"0", None], "two clients took the head")
+        puts = [lambda store, at=at: jobs.put(store, b"%d" % at, at, 1) or True for at in (5, 6)]
+        expect(at_once(port, *puts, jobs.take) == [True, True, b"1"], "puts and a take met")
+        found = [once(port, jobs.take) for _ in range(6)]
+        expect(found == [b"2", b"3", b"4", b"5", b"6", None], f"they were taken as {found}")
+        expect(at_once(port, jobs.take, puts[0]) == [None, True], "a take from an empty queue and a put gave another reply")
+    for take in (jobs.take, "near", "kept"):
+        jobs_in_crowd(tally, take)
+
+
+def jobs_in_crowd(tally, take):
+    """Producers and consumers at once. Where the heads are kept, which is the wrong form, jobs are taken twice."""
+    count, is_over = 60 if is_long() else 12, threading.Event()
+
+    def one(client):
+        if take == "near":
+            return jobs.take_near(client, 4)
+        if take == "kept":
+            return client.transact(lambda store: (store.ask("RANGE", *key_parts.under("job"), 1) or [None, None])[1])
+        return client.transact(take)
+
+    def play(client, number):
+        if number < 4:
+            for turn in range(count):
+                client.transact(lambda store: jobs.put(store, b"%d.%d" % (number, turn), time.time_ns(), number))
+            return []
+        taken = []
+        while len(taken) < 4 * count:
+            job = one(client)
+            if job is None and is_over.is_set():
+                break
+            taken += [job] if job is not None else []
+        return taken
+
+    with trial(tally, f"jobs of many clients, {take}") as port:
+        with concurrent.futures.ThreadPoolExecutor(8) as pool:
+            all_of_them = [pool.submit(play, simple_client.Client(port), number) for number in range(8)]
+            for future in all_of_them[:4]:
+                future.result(6 * PATIENCE)
+            is_over.set()
+            taken = list(itertools.chain(*(future.result(6 * PATIENCE) for future in all_of_them[4:])))
+        wrong = wrong_takes([b"%d.%d" % (number, turn) for number in range(4) for turn in range(count)], taken)
+        expect(bool(wrong) == (take == "kept"), f"taken twice or not at all: {list(wrong)[:3]}")
+
+
+# Counters
+
+def counters(tally):
+    with trial(tally, "a counter, step by step") as port:
+        place = key("hits")
+        expect(at_once(port, *[lambda store: counter.add(store, place) or True] * 2) == [True, None], "an addition was lost")
+        spread = [lambda store, number=number: counter.add(store, key("hits", number)) or True for number in range(5)]
+        expect(at_once(port, *spread) == [True] * 5, "writers of keys of their own met")
+        expect(once(port, lambda store: counter.total(store, "hits")) == 6, "the sum is another")
+        read = [once(port, lambda store: int(store.ask("GET", place))) for _ in range(2)]
+        for number in read:
+            once(port, lambda store: store.ask("SET", place, number + 1))
+        expect(once(port, lambda store: counter.total(store, "hits")) != 8, "an addition that was lost isn't seen")
+
+
+def table(tally):
+    """How many COMMITs it takes, for 1, 2, 4 and 8 clients at once, to add to a counter and to take a job from a queue."""
+    for name, fill, work in WORKS:
+        cells = []
+        for clients in (1, 2, 4, 8):
+            count = 1_600 // clients if is_long() else 12
+            with trial(tally, f"{name}, {clients} clients") as port:
+                for at in range(0, clients * count if fill else 0, 64):
+                    once(port, lambda store: [jobs.put(store, b"", it, 0) for it in range(at, min(at + 64, clients * count))])
+                begun = time.monotonic()
+                sent = sum(crowd(port, lambda client, number: commits_of(client, lambda: work(client, number), count), clients, Counting))
+                seconds = time.monotonic() - begun
+                left = once(port, lambda store: counter.total(store, "hits")) if not fill else clients * count - len(once(port, under("job")))
+                expect(left == clients * count, f"{left} were done, due are {clients * count}")
+                expect(sent >= left and (name != "a counter spread" or sent == left), f"{sent} COMMITs for {left}")
+                cells.append(f"{sent / left:.2f} ({left / seconds:,.0f}/s)")
+        print(f"  COMMITs for each of {name}, 1, 2, 4, 8 clients: {', '.join(cells)}", flush=True)
+
+
+WORKS = (
+    ("a counter in one key", False, lambda client, number: client.transact(lambda store: counter.add(store, key("hits")))),
+    ("a counter spread", False, lambda client, number: client.transact(lambda store: counter.add(store, key("hits", number)))),
+    ("the head of a queue", True, lambda client, number: client.transact(jobs.take)),
+    ("one of its first 16 jobs", True, lambda client, number: jobs.take_near(client, 16)))
+
+
+def commits_of(client, work, count):
+    """How many COMMITs the client sends while it does the work so often."""
+    for _ in range(count):
+        work()
+    return client.commits
+
+
+# Batches
+
+def items_of(version, count):
+    return [(b"%04d" % number, b"%d" % version) for number in range(count)]
+
+
+def torn(items, count):
+    """Isn't this a whole version?"""
+    return items != (items_of(int(items[0][1]), count) if items else [])
+
+
+def batches(tally):
+    with trial(tally, "batches of all lengths") as port:
+        for version, count in enumerate((1, 61, 62, 63, 64, 124, 125, 300), 1):
+            batch.load(simple_client.Client(port), "prices", version, items_of(version, count))
+            found = once(port, lambda store: batch.read(store, "prices"))
+            expect(found == items_of(version, count), f"of {count} items {len(found)} are read")
+        expect(once(port, lambda store: batch.clear(store, "prices", 8)) == 0, "the current version was cleared")
+        cleared = [once(port, lambda store: batch.clear(store, "prices", 7)) for _ in range(3)]
+        expect(cleared == [64, 61, 0], f"{cleared} items were cleared")
+        batch.load(simple_client.Client(port), "prices", 6, items_of(6, 124))
+        expect(once(port, lambda store: batch.current(store, "prices")) == 8, "an old version became the current one again")
+    with trial(tally, "batches that are broken off") as port:
+        batch.load(simple_client.Client(port), "prices", 1, items_of(1, 300))
+        for steps in range(6):
+            for _ in range(steps):
+                once(port, lambda store: batch.step(store, "prices", steps + 2, items_of(steps + 2, 300)))
+            found = once(port, lambda store: batch.read(store, "prices"))
+            expect(found == items_of(steps + 2 if steps == 5 else steps + 1, 300), f"behind {steps} steps {len(found)} items are read")
+            batch.load(simple_client.Client(port), "prices", steps + 2, items_of(steps + 2, 300))
+            expect(once(port, lambda store: batch.read(store, "prices")) == items_of(steps + 2, 300), "it did not go on")
+        once(port, lambda store: store.ask("SET", key("item", "prices", 7, b"0123"), b"6"))
+        expect(torn(once(port, lambda store: batch.read(store, "prices")), 300), "a version of two batches isn't seen")
+    batches_in_crowd(tally)
+
+
+def batches_in_crowd(tally):
+    """Two clients load the same versions at once and clear the old ones, while others read."""
+    versions, count, is_done = 12 if is_long() else 4, 300, threading.Event()
+
+    def play(client, number):
+        looks = 0
+        while number > 1 and not (is_done.is_set() and looks):
+            items = client.transact(lambda store: batch.read(store, "prices"))
+            expect(not torn(items, count), f"a reader found {len(items)} items that are no version")
+            looks += 1
+        for version in range(1, versions + 1) if number <= 1 else ():
+            batch.load(client, "prices", version, items_of(version, count))
+            while client.transact(lambda store: batch.clear(store, "prices", version - 1)):
+                pass
+        if number <= 1:
+            is_done.set()
+
+    with trial(tally, "batches while others read") as port:
+        crowd(port, play, 4)
+        expect(once(port, lambda store: batch.read(store, "prices")) == items_of(versions, count), "the last version isn't there")
+        left = once(port, under("item", "prices"))
+        expect(len(left) == count, f"{len(left)} items are left, of which {count} are current")
+
+
+def batches_over_kills(tally):
+    """The server is killed while a batch is loaded, and the loader begins again."""
+    with tally.run("batches over kills"), folder() as place:
+        data, chance, kills = os.path.join(place, "data"), random.Random(3), 0
+        create(data, SECTORS)
+        for version in range(1, 13):
+            is_whole = False
+            while not is_whole:
+                with Server(data) as server:
+                    items = once(server.port, lambda store: batch.read(store, "prices"))
+                    expect(not torn(items, 2_000), f"behind a kill there are {len(items)} items that are no version")
+                    threading.Timer(chance.uniform(0, 0.05), server.process.kill).start()
+                    with contextlib.suppress(simple_client.Lost, ConnectionError):
+                        batch.load(simple_client.Client(server.port), "prices", version, items_of(version, 2_000))
+                        is_whole = True
+                    server.process.wait(PATIENCE)
+                    kills += 1
+        with Server(data) as server:
+            expect(once(server.port, lambda store: batch.read(store, "prices")) == items_of(12, 2_000), "the last version isn't there")
+        print(f"  batches over kills: {kills} kills", flush=True)
+
+
+def main():
+    need(PROGRAM)
+    tally = Tally("cookbook")
+    parts = (document, keys, reservation, uniqueness, indexes, held_seats, queue, counters, table, batches)
+    for part in (*parts, batches_over_kills) if is_long() else parts:
+        part(tally)
+    return 0 if tally.end() else 1
+
+
+if __name__ == "__main__":
+    run_harness(main)
