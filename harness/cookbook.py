@@ -481,7 +481,7 @@ def commits_of(client, work, count):
 # Batches
 
 def items_of(version, count):
-    return [(b"%04d" % number, b"%d" % version) for number in range(count)]
+    return [(b"%05d" % number, b"%d" % version) for number in range(count)]
 
 
 def torn(items, count):
@@ -495,9 +495,9 @@ def batches(tally):
             batch.load(simple_client.Client(port), "prices", version, items_of(version, count))
             found = once(port, lambda store: batch.read(store, "prices"))
             expect(found == items_of(version, count), f"of {count} items {len(found)} are read")
-        expect(once(port, lambda store: batch.clear(store, "prices", 8)) == 0, "the current version was cleared")
-        cleared = [once(port, lambda store: batch.clear(store, "prices", 7)) for _ in range(3)]
-        expect(cleared == [64, 61, 0], f"{cleared} items were cleared")
+        cleared = [once(port, lambda store: batch.clear(store, "prices")) for _ in range(9)]
+        expect(cleared == [*[64] * 7, 52, 0], f"{cleared} items were cleared")
+        expect(once(port, lambda store: batch.read(store, "prices")) == items_of(8, 300), "the current version was cleared")
         batch.load(simple_client.Client(port), "prices", 6, items_of(6, 124))
         expect(once(port, lambda store: batch.current(store, "prices")) == 8, "an old version became the current one again")
     with trial(tally, "batches that are broken off") as port:
@@ -509,7 +509,7 @@ def batches(tally):
             expect(found == items_of(steps + 2 if steps == 5 else steps + 1, 300), f"behind {steps} steps {len(found)} items are read")
             batch.load(simple_client.Client(port), "prices", steps + 2, items_of(steps + 2, 300))
             expect(once(port, lambda store: batch.read(store, "prices")) == items_of(steps + 2, 300), "it did not go on")
-        once(port, lambda store: store.ask("SET", key("item", "prices", 7, b"0123"), b"6"))
+        once(port, lambda store: store.ask("SET", key("item", "prices", 7, b"00123"), b"6"))
         expect(torn(once(port, lambda store: batch.read(store, "prices")), 300), "a version of two batches isn't seen")
     batches_in_crowd(tally)
 
@@ -526,7 +526,7 @@ def batches_in_crowd(tally):
             looks += 1
         for version in range(1, versions + 1) if number <= 1 else ():
             batch.load(client, "prices", version, items_of(version, count))
-            while client.transact(lambda store: batch.clear(store, "prices", version - 1)):
+            while client.transact(lambda store: batch.clear(store, "prices")):
                 pass
         if number <= 1:
             is_done.set()
@@ -560,11 +560,23 @@ def batches_over_kills(tally):
         print(f"  batches over kills: {kills} kills", flush=True)
 
 
+def longest(tally):
+    """The longest list that one transaction reads, and one item more."""
+    with trial(tally, "the longest list") as port:
+        for version, count in ((1, 32_639), (2, 32_640)):
+            batch.load(simple_client.Client(port), "prices", version, items_of(version, count))
+            try:
+                found = len(once(port, lambda store: batch.read(store, "prices")))
+            except simple_client.Refused as refusal:
+                found = str(refusal)
+            expect(found == (count if version == 1 else "FULL marks"), f"a list of {count} items was answered {found}")
+
+
 def main():
     need(PROGRAM)
     tally = Tally("cookbook")
     parts = (document, keys, reservation, uniqueness, indexes, held_seats, queue, counters, table, batches)
-    for part in (*parts, batches_over_kills) if is_long() else parts:
+    for part in (*parts, longest, batches_over_kills) if is_long() else parts:
         part(tally)
     return 0 if tally.end() else 1
 

@@ -15,6 +15,7 @@ import socket
 import ssl
 import subprocess
 import sys
+import threading
 import time
 
 import documents
@@ -145,6 +146,40 @@ def silence(connect, server, is_limited):
     wait_for(lambda: server.descriptors() <= before, "the session of a silent client did not end")
 
 
+class Deaf:
+    """Stands in for the server: it answers PING alone. It counts the BEGINs that come, and closes each connection."""
+
+    def __init__(self):
+        self.begins, self.listener = 0, socket.create_server(("127.0.0.1", 0))
+        self.port = self.listener.getsockname()[1]
+        threading.Thread(target=self._accept, daemon=True).start()
+
+    def _accept(self):
+        with contextlib.suppress(OSError):
+            while True:
+                link, _ = self.listener.accept()
+                with link, contextlib.suppress(OSError):
+                    came = link.recv(1 << 16)
+                    self.begins += b"BEGIN" in came
+                    link.sendall(b"+PONG\r\n" if b"PING" in came else b"")
+
+    def __enter__(self):
+        return self
+
+    def __exit__(self, *_):
+        self.listener.close()
+
+
+def sent_once(tally, what, place, through, connect):
+    """A request whose connection is lost is not sent a second time by the proxy."""
+    with tally.run(f"{what}: a request is sent once"), Deaf() as deaf, through(place, deaf) as port:
+        with contextlib.suppress(OSError, simple_client.Lost):
+            expect(not connect(port).ask("BEGIN"), "it was answered")
+        wait_for(lambda: deaf.begins, "the request did not come")
+        time.sleep(0.3)
+        expect(deaf.begins == 1, f"the request came {deaf.begins} times")
+
+
 # The document
 
 def typed(tally):
@@ -228,6 +263,7 @@ def tls(tally):
             silence(lambda: tls_client.TlsClient(port, "shop.example", keys), server, True)
             if program("redis-cli"):
                 redis_cli_over_tls(keys, port)
+        sent_once(tally, "stunnel", place, stunnel, lambda port: tls_client.TlsClient(port, "shop.example", keys))
         with stunnel(place, server, {"verifyChain = yes": "verifyChain = no", "requireCert = yes": "requireCert = no"}) as port:
             expect(is_served(lambda: NoCertificate(port, keys)), "where none is asked for, a client without a certificate is not served")
             if is_long():
@@ -303,6 +339,8 @@ def limits(tally):
             expect(refused_at([client(port) for _ in range(65)]) == "FULL transactions", "without a limit no BEGIN was refused")
             if is_long():
                 silence(lambda: client(port), server, False)
+    with folder() as place:
+        sent_once(tally, "haproxy", place, haproxy, client)
     with trial(tally, "the idle limit of haproxy") as (place, server):
         with haproxy(place, server, {"timeout client 60s": "timeout client 1s"}) as port:
             wait_for(lambda: state(place) == ("UP", "L7OK"), f"the check says {state(place)}")
@@ -367,6 +405,7 @@ def ssh(tally):
     with trial(tally, "the tunnel without its rule") as (place, server), sshd(place, server, {"PermitOpen 127.0.0.1": "#"}) as words:
         with Server(server_of(place)) as other, tunnel(place, words, other.port) as port:
             expect(is_served(lambda: client(port)), "without the rule the tunnel does not lead to another port")
+        sent_once(tally, "ssh", place, lambda place, deaf: tunnel(place, words, deaf.port), client)
 
 
 def server_of(place):

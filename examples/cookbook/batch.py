@@ -4,7 +4,7 @@ A line is an item, a space and its value. Versions are integers above 0, each gr
 """
 import sys
 
-from key_parts import key, parts_of, under
+from key_parts import key, parts_of
 from simple_client import Client
 from walk import walk
 
@@ -41,11 +41,9 @@ def read(store, name):
     return [(parts_of(found)[3], value) for found, value in walk(store, key("item", name, current(store, name)))]
 
 
-def clear(store, name, version):
-    """Deletes up to 64 items of a version that is no longer current, and gives how many."""
-    if version >= current(store, name):
-        return 0
-    found = store.ask("RANGE", *under("item", name, version), 64)[0::2]
+def clear(store, name):
+    """Deletes up to 64 items of versions before the current one, and gives how many."""
+    found = store.ask("RANGE", key("item", name), key("item", name, current(store, name)), 64)[0::2]
     for place in found:
         store.ask("DEL", place)
     return len(found)
@@ -56,9 +54,8 @@ if __name__ == "__main__":
     if what == "load":
         version = int(sys.argv[4])
         load(client, name, version, sorted(tuple(line.encode().split(None, 1)) for line in sys.stdin.read().splitlines()))
-        for old in range(max(version - 5, 1), version):
-            while client.transact(lambda store: clear(store, name, old)):
-                pass
+        while client.transact(lambda store: clear(store, name)):
+            pass
     else:
         for item, value in client.transact(lambda store: read(store, name)):
             print(item.decode(), value.decode())
