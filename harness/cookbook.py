@@ -66,7 +66,8 @@ def at_once(port, *works):
 def is_committed(client):
     try:
         client.ask("COMMIT")
-    except simple_client.Conflict:
+    except simple_client.Refused as refusal:
+        expect(str(refusal).startswith("CONFLICT"), f"COMMIT was refused {refusal}")
         return False
     return True
 
