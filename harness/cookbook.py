@@ -392,6 +392,13 @@ def queue(tally):
         found = [once(port, jobs.take) for _ in range(6)]
         expect(found == [b"2", b"3", b"4", b"5", b"6", None], f"they were taken as {found}")
         expect(at_once(port, jobs.take, puts[0]) == [None, True], "a take from an empty queue and a put gave another reply")
+
+        def put_behind(store):
+            store.ask("GET", key("job", 5, 1))
+            jobs.put(store, b"7", 7, 1)
+            return True
+
+        expect(at_once(port, jobs.take, put_behind) == [b"5", True], "a take marked more than the head")
     for take in (jobs.take, "near", "kept"):
         jobs_in_crowd(tally, take)
 
