@@ -10,6 +10,7 @@ see it. What isn't installed is left out, and a line says so. Ports are other, f
 import contextlib
 import getpass
 import os
+import pwd
 import shutil
 import socket
 import ssl
@@ -355,12 +356,13 @@ def run_folder():
     name = "/run/sshd"
     is_made = os.getuid() == 0 and not os.path.exists(name)
     if is_made:
-        os.mkdir(name, 0o755)
+        os.makedirs(name, 0o755, exist_ok=True)
     try:
         yield
     finally:
         if is_made:
-            os.rmdir(name)
+            with contextlib.suppress(OSError):    # another run removed it
+                os.rmdir(name)
 
 
 @contextlib.contextmanager
@@ -394,6 +396,9 @@ def tunnel(place, words, target):
 
 def ssh(tally):
     if not are_there("ssh", "ssh", "sshd"):
+        return
+    if os.path.basename(pwd.getpwuid(os.getuid()).pw_shell) in ("nologin", "false"):
+        print("  ssh: not run, for want of a user who may log in", flush=True)
         return
     with trial(tally, "the tunnel") as (place, server), sshd(place, server) as words:
         with tunnel(place, words, server.port) as port:
