@@ -1,6 +1,7 @@
 """The examples of examples/clients against `serve`, under conflicts, and what other clients meet.
 
-Transfers of many clients at once leave the sum as it was, at every moment that a reader sees. A walk gives all pairs of one snapshot while
+Transfers of many clients at once leave the sum as it was, at every moment that a reader sees. A BEGIN that is refused beside 64 others is tried
+again. A pool lends what is whole, to one at a time. A walk gives all pairs of one snapshot while
 others write. An addition with a key of its own is made once, though a proxy cuts connections before and behind its COMMIT, and the
 server is killed. Copies of the data file that are taken under load are each a log with a beginning of the commits, which `check` opens and
 the exporter reads. At last what redis-py, redis-cli and redis-benchmark meet, where they are installed.
@@ -18,13 +19,15 @@ import sys
 import threading
 import time
 
-from client import PATIENCE, PROGRAM, Deviation, Server, Tally, check, create, expect, folder, is_long, need, run_harness
+from client import PATIENCE, PROGRAM, Connection, Deviation, Server, Tally, check, create, expect, folder, is_long, need, run_harness
+from model import OK, OPEN_MAX, frame
 
 sys.path.append(os.path.join(os.path.dirname(os.path.abspath(__file__)), "..", "examples", "clients"))
 
 import export                # noqa: E402
 import load                  # noqa: E402
 import once                  # noqa: E402
+import pool                  # noqa: E402
 import simple_client         # noqa: E402
 import transfer              # noqa: E402
 import walk                  # noqa: E402
@@ -133,6 +136,72 @@ def transfers(tally, connect, name):
     print(f"  {name}: {len(moved)} transfers in {len(tries)} tries", flush=True)
 
 
+def among_others(tally, connect, name):
+    """A transaction whose BEGIN is refused, since 64 are open, begins again until one of them has ended. It stays refused for a while."""
+    with folder() as place, trial(tally, f"64 other transactions, {name}"), Server(fresh(place, 64)) as server:
+        others, threads, done = [Connection(server.port) for _ in range(OPEN_MAX)], Threads(), []
+        expect(all(other.ask(frame("BEGIN")) == OK for other in others), "64 transactions are too many")
+        threads.start(lambda: done.append(connect(server.port).transact(lambda store: store.ask("SET", "a", "1"))))
+        time.sleep(0.2)
+        expect(not done and not threads.failures, f"it ended with {done or threads.failures} while 64 were open")
+        others.pop().close()
+        threads.end()
+        expect(len(done) == 1, "it was not committed")
+        for other in others:
+            other.close()
+
+
+# The pool
+
+def pools(tally):
+    """A pool lends a connection to one at a time, at most as many as its size, and none with a transaction open or a reply to come."""
+    with folder() as place, trial(tally, "a pool"), Server(fresh(place, 1_024)) as server:
+        made, lent, most, threads = [], [], [], Threads()
+
+        def connect():
+            made.append(simple_client.Client(server.port))
+            return made[-1]
+
+        def work():
+            for _ in range(20):
+                with lender.lend() as store:
+                    lent.append(store)
+                    most.append(len(lent))
+                    expect(len(set(map(id, lent))) == len(lent), "a connection is lent to two")
+                    store.ask("PING")
+                    lent.remove(store)
+
+        lender = pool.Pool(connect, 3)
+        for _ in range(CLIENTS):
+            threads.start(work)
+        threads.end()
+        expect(max(most) <= 3 >= len(made), f"{max(most)} were lent at once, of {len(made)}")
+    with folder() as place, trial(tally, "what a pool takes back"), Server(fresh(place, 1_024)) as server:
+        lender = pool.Pool(lambda: simple_client.Client(server.port), 1)
+        with lender.lend() as first:
+            first.ask("BEGIN")
+        with lender.lend() as store:
+            expect(store is first and store.ask("BEGIN") == b"OK", "a transaction was handed on")
+        with contextlib.suppress(KeyError), lender.lend() as store:
+            store.socket.sendall(frame("PING"))
+            raise KeyError
+        with lender.lend() as store:
+            expect(store is not first and store.ask("BEGIN") == b"OK", "a connection was lent again with a reply to come")
+            store.ask("ABORT")
+            store.socket.shutdown(socket.SHUT_RDWR)
+        with lender.lend() as store:
+            expect(store.ask("BEGIN") == b"OK", "a lost connection was lent again")
+    with folder() as place, trial(tally, "a pool over a cutting proxy"), Server(fresh(place)) as server:
+        proxy, done = Cutting(server.port, random.Random(5), 0.3), []
+        lender, threads = pool.Pool(lambda: simple_client.Client(proxy.own_port), 4), Threads()
+        for name in range(CLIENTS):
+            threads.start(lambda name: done.append(once.once(lender.transact, b"%d" % name, lambda store: once.add_one(store, b"counter"))), name)
+        threads.end()
+        proxy.close()
+        found = simple_client.Client(server.port).transact(lambda store: store.ask("GET", b"counter"))
+        expect(len(done) == CLIENTS == int(found or b"0"), f"the counter holds {found}, due is {CLIENTS}")
+
+
 # Walks
 
 def walks(tally):
@@ -211,6 +280,11 @@ class Cutting:
         self.listener.close()
 
 
+def over_new_connection(port):
+    """Runs a transaction over a connection of its own to the port that is asked for."""
+    return lambda work: simple_client.Client(port()).transact(work)
+
+
 def additions(tally):
     """Several clients add to one counter over a proxy that cuts connections. Each addition is made once."""
     count = 100 if is_long() else 12
@@ -221,7 +295,7 @@ def additions(tally):
         def add(name):
             for number in range(count):
                 key = b"%d.%d" % (name, number)
-                once.once(lambda: simple_client.Client(proxy.own_port), key, lambda store: once.add_one(store, b"counter"))
+                once.once(over_new_connection(lambda: proxy.own_port), key, lambda store: once.add_one(store, b"counter"))
 
         for name in range(4):
             threads.start(add, name)
@@ -242,7 +316,7 @@ def additions_over_kills(tally):
         def add():
             while not is_done.is_set():
                 key = b"%d" % len(made)
-                once.once(lambda: simple_client.Client(ports[0]), key, lambda store: once.add_one(store, b"counter"), 1_000)
+                once.once(over_new_connection(lambda: ports[0]), key, lambda store: once.add_one(store, b"counter"))
                 made.append(key)
 
         threads, chance = Threads(), random.Random(11)
@@ -369,6 +443,8 @@ def refusals(tally):
                     found = str(refusal)
                 expect(found == "ERR command" and store.ask("PING") == b"PONG", f"it was answered {found}")
         for name, request in (("an inline command", b"PING\r\n"), ("a fifth part", b"*5\r\n" + 5 * b"$1\r\na\r\n"),
+                              ("HELLO with a password", frame("HELLO", "3", "AUTH", "user", "password")),
+                              ("SET with an end", frame("SET", "k", "v", "EX", "10")),
                               ("a value over the bound", b"*3\r\n$3\r\nSET\r\n$1\r\na\r\n$999999\r\n" + bytes(4_000))):
             with trial(tally, name):
                 found = closed_at(server.port, request + b"*1\r\n$4\r\nPING\r\n")
@@ -411,6 +487,7 @@ def redis_py(tally):
         missing("over_redis.py, and what redis-py meets", "redis-py (Debian's python3-redis)")
         return
     transfers(tally, over_redis.OverRedis, "over_redis.py")
+    among_others(tally, over_redis.OverRedis, "over_redis.py")
     with folder() as place, Server(fresh(place)) as server:
         def value_of(key):
             return simple_client.Client(server.port).transact(lambda store: store.ask("GET", key))
@@ -432,13 +509,13 @@ def redis_py(tally):
             found = pipeline("q", False), value_of("q")
             expect(found == ([b"OK", True, 2], b"1") or found[0][-1] > 0 and found[1] == b"1", f"it gave {found}")
         with trial(tally, "redis-py's pool over several threads"):
-            pool, threads = redis.Redis(port=server.port), Threads()
+            shared, threads = redis.Redis(port=server.port), Threads()
             met = []
 
             def one():
                 for parts in (("BEGIN",), ("SET", "r", "1"), ("COMMIT",)) * 20:
                     try:
-                        pool.execute_command(*parts)
+                        shared.execute_command(*parts)
                     except redis.ResponseError as refusal:
                         met.append(str(refusal))
 
@@ -460,7 +537,8 @@ def main():
     need(PROGRAM)
     tally = Tally("clients")
     transfers(tally, simple_client.Client, "simple_client.py")
-    parts = [walks, additions, additions_over_kills, copies, refusals, redis_tools, redis_py, *([into_postgres] if is_long() else [])]
+    among_others(tally, simple_client.Client, "simple_client.py")
+    parts = [pools, walks, additions, additions_over_kills, copies, refusals, redis_tools, redis_py, *([into_postgres] if is_long() else [])]
     for part in parts:
         part(tally)
     return 0 if tally.end() else 1

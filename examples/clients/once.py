@@ -3,14 +3,16 @@
 Where the connection is lost behind a COMMIT, nobody knows whether it was carried out. So the transaction also writes a key of its own, and
 whoever begins again looks for it first. A lost transaction that is still under way wrote the same key, so of the two one commits.
 """
+import random
 import sys
 import time
 
 from simple_client import Client, Lost
 
 
-def once(connect, name, work, tries=100):
-    """Runs work(store) in a transaction that commits once, over as many connections as it takes. Did this call commit it?"""
+def once(transact, name, work, tries=1_000):
+    """Runs work(store) by `transact` until it is known to be committed, over as many connections as it takes. It commits once. Gives False
+    where an earlier try had committed it."""
     def unless_done(store):
         if store.ask("GET", b"done:" + name) is not None:
             return False
@@ -18,11 +20,11 @@ def once(connect, name, work, tries=100):
         store.ask("SET", b"done:" + name, b"")
         return True
 
-    for _ in range(tries):
+    for turn in range(tries):
         try:
-            return connect().transact(unless_done)
+            return transact(unless_done)
         except (Lost, ConnectionError):
-            time.sleep(0.05)
+            time.sleep(random.uniform(0, 0.001 * 2 ** min(turn, 6)))
     raise Lost(f"{tries} connections, one after another")
 
 
@@ -32,4 +34,5 @@ def add_one(store, counter):
 
 if __name__ == "__main__":
     port, counter, name = int(sys.argv[1]), sys.argv[2].encode(), sys.argv[3].encode()
-    print("added" if once(lambda: Client(port), name, lambda store: add_one(store, counter)) else "was added before")
+    is_new = once(lambda work: Client(port).transact(work), name, lambda store: add_one(store, counter))
+    print("added" if is_new else "was added before")

@@ -1,4 +1,5 @@
 """The same client over redis-py (Debian: python3-redis): `over_redis.py PORT FROM TO AMOUNT` moves money as transfer.py does."""
+import contextlib
 import random
 import sys
 import time
@@ -19,28 +20,26 @@ class OverRedis:
         return self.redis.execute_command(*parts)
 
     def transact(self, work, tries=1_000):
-        """Runs work(self) in a transaction, again after each conflict, until COMMIT is answered. Gives what the work gave."""
+        """Runs work(self) in a transaction until COMMIT is answered a number, and gives what the work gave."""
         for turn in range(tries):
-            self.ask("BEGIN")
             try:
+                self.ask("BEGIN")
                 result = work(self)
                 self.ask("COMMIT")
                 return result
             except redis.ResponseError as refusal:
-                if not str(refusal).startswith("CONFLICT"):
+                if not str(refusal).startswith(("CONFLICT", "FULL transactions")):
                     self.abort()
                     raise
-                time.sleep(random.uniform(0, 0.001 * 2 ** min(turn, 6)))
             except BaseException:
                 self.abort()
                 raise
-        raise redis.ResponseError(f"{tries} conflicts, one after another")
+            time.sleep(random.uniform(0, 0.001 * 2 ** min(turn, 6)))    # so that two do not meet again and again
+        raise redis.ResponseError(f"{tries} times in a row")
 
     def abort(self):
-        try:
+        with contextlib.suppress(redis.RedisError):
             self.ask("ABORT")
-        except redis.RedisError:
-            pass
 
 
 if __name__ == "__main__":

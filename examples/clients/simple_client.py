@@ -9,8 +9,8 @@ class Refused(Exception):
     """The server refused a request; the text says why."""
 
 
-class Conflict(Refused):
-    """COMMIT met a conflict: the transaction has ended and wrote nothing. Begin again."""
+class Again(Refused):
+    """COMMIT met a conflict, or 64 transactions are open. Nothing was written: begin again."""
 
 
 class Lost(Exception):
@@ -38,7 +38,7 @@ class Client:
         if not line.endswith(b"\r\n"):
             raise Lost("the server closed the connection")
         if kind == b"-":
-            raise (Conflict if text.startswith(b"CONFLICT") else Refused)(text.decode())
+            raise (Again if text.startswith(b"CONFLICT") or text == b"FULL transactions" else Refused)(text.decode())
         if kind == b"*":
             return [self._reply() for _ in range(int(text))]
         if kind == b"$" and text != b"-1":
@@ -48,18 +48,22 @@ class Client:
             return data[:-2]
         return {b":": int, b"$": lambda none: None}.get(kind, bytes)(text)
 
+    def close(self):
+        self.replies.close()
+        self.socket.close()
+
     def transact(self, work, tries=1_000):
-        """Runs work(self) in a transaction, again after each conflict, until COMMIT is answered. Gives what the work gave."""
+        """Runs work(self) in a transaction until COMMIT is answered a number, and gives what the work gave."""
         for turn in range(tries):
-            self.ask("BEGIN")
             try:
+                self.ask("BEGIN")
                 result = work(self)
                 self.ask("COMMIT")
                 return result
-            except Conflict:
+            except Again:
                 time.sleep(random.uniform(0, 0.001 * 2 ** min(turn, 6)))    # so that two do not meet again and again
             except BaseException:
                 with contextlib.suppress(Refused, Lost):
                     self.ask("ABORT")
                 raise
-        raise Conflict(f"{tries} conflicts, one after another")
+        raise Again(f"{tries} times in a row")
