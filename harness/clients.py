@@ -1,10 +1,10 @@
 """The examples of examples/clients against `serve`, under conflicts, and what other clients meet.
 
 Transfers of many clients at once leave the sum as it was, at every moment that a reader sees. A BEGIN that is refused beside 64 others is tried
-again. A pool lends what is whole, to one at a time. A walk gives all pairs of one snapshot while
-others write. An addition with a key of its own is made once, though a proxy cuts connections before and behind its COMMIT, and the
-server is killed. Copies of the data file that are taken under load are each a log with a beginning of the commits, which `check` opens and
-the exporter reads. At last what redis-py, redis-cli and redis-benchmark meet, where they are installed.
+again. A pool lends what is whole, to one at a time. A walk gives all pairs of one snapshot while others write. An addition with a key of its own is
+made once, though a proxy cuts connections before and behind its COMMIT, and the server is killed. Copies of the data file that are taken under load
+are each a log with a beginning of the commits, which `check` opens and the exporter reads. At last what redis-py, redis-cli and redis-benchmark meet,
+where they are installed.
 
 `quick` does less of each.
 """
@@ -523,6 +523,24 @@ def redis_py(tally):
                 threads.start(one)
             threads.end()
             expect(met, "eight threads over one pool met no refusal")
+        with trial(tally, "redis-py's refusals"):
+            store = redis.Redis(port=server.port, single_connection_client=True)
+            found = []
+            for parts in (("GET", "a"), ("BEGIN",), ("BEGIN",)):
+                try:
+                    store.execute_command(*parts)
+                except redis.ResponseError as refusal:
+                    found.append(str(refusal))
+            expect(found == ["none", "open"], f"their texts are {found}")
+        with trial(tally, "redis-py's next request on a lost connection"):
+            store.connection._sock.shutdown(socket.SHUT_RDWR)
+            found = []
+            for _ in range(2):
+                try:
+                    store.execute_command("GET", "a")
+                except redis.RedisError as refusal:
+                    found.append(str(refusal))
+            expect(found[-1:] == ["none"], f"they are answered {found}")
         with trial(tally, "redis-py's DEL"):
             store = redis.Redis(port=server.port, single_connection_client=True)
             store.execute_command("BEGIN")
