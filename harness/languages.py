@@ -48,8 +48,7 @@ class Language:
     """A row of the document's table."""
 
     def __init__(self, name, packages, build, run):
-        self.name, self.packages = name, re.sub("`", "", packages)
-        self.build, self.run = (re.sub("^`|`$", "", cell) for cell in (build, run))
+        self.name, self.packages, self.build, self.run = name, packages, build.strip("`"), run.strip("`")
 
     def is_there(self):
         return shell(PROBES[self.name], HERE)[0] == 0
