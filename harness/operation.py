@@ -1,0 +1,798 @@
+"""What stands in dist/: the probe, the fill of a log, backups, compaction in one command, units and alert rules.
+
+Each tool runs as docs/OPERATIONS.md tells. The probe sees a stopped store, too many transactions and too many connections. The fill of a
+log is what `check` counts. A backup that is brought up to date under load is a prefix of the commits, and so is each image that a crash
+within the run may leave. `ssikvd-compact` is killed at each of its steps, before it and after it: then a server is started, or it is run
+again, and all that was acknowledged is there. Of its commands in their order, all names that a loss of power may leave are found. Units
+are read by `systemd-analyze`, not started. At last the judges are shown scripts and backups with planted faults, and must report them.
+
+`quick` kills at few of the steps.
+"""
+import contextlib
+import itertools
+import os
+import random
+import re
+import shutil
+import signal
+import stat
+import subprocess
+import sys
+import threading
+import time
+from importlib.machinery import SourceFileLoader
+
+from client import DEVICE, PATIENCE, PROGRAM, SHIM, Connection, Deviation, Refusals, Server, Tally, check, create, expect, folder, free_port, is_long, need, run_harness
+from model import OK, SECTOR, Damaged, NotALog, apply, frame, log_image, read_log
+
+TOP = os.path.normpath(os.path.join(os.path.dirname(os.path.abspath(__file__)), ".."))
+DIST = os.path.join(TOP, "dist")
+sys.path.append(os.path.join(TOP, "examples", "clients"))
+sys.dont_write_bytecode = True
+
+import simple_client    # noqa: E402
+
+ENVIRONMENT = {**os.environ, "PATH": DIST + ":" + os.environ["PATH"], "SSIKVD": os.path.abspath(PROGRAM), "PYTHONDONTWRITEBYTECODE": "1"}
+SECTORS = 4_096
+
+
+def loaded(name):
+    """A tool as a module."""
+    return SourceFileLoader(name.replace("-", "_"), os.path.join(DIST, name)).load_module()
+
+
+def tool(*words, environment=ENVIRONMENT, seconds=PATIENCE):
+    """Runs a tool: its status, what it printed, and what it said on standard error."""
+    ran = subprocess.run(words, capture_output=True, text=True, env=environment, timeout=seconds, stdin=subprocess.DEVNULL)
+    return ran.returncode, ran.stdout, ran.stderr
+
+
+def missing(what, needed):
+    print(f"  {what}: not run, for want of {needed}", flush=True)
+
+
+def log_of(name):
+    """The write sets of a data file."""
+    with open(name, "rb") as file:
+        image = file.read()
+    return read_log(lambda at: image[SECTOR * at:SECTOR * (at + 1)], len(image) // SECTOR)[0]
+
+
+def map_of(log):
+    found = {}
+    for writes in log:
+        apply(found, writes)
+    return found
+
+
+def commit(port, number):
+    """A transaction that overwrites one key, and writes another."""
+    store = simple_client.Client(port)
+    store.transact(lambda store: (store.ask("SET", "last", number), store.ask("SET", b"%06d" % (number % 40), b"v" * (number * 97 % 1_500))))
+    store.socket.close()
+
+
+def fill(data, count, sectors=SECTORS):
+    """A data file with so many commits."""
+    create(data, sectors)
+    with Server(data) as server:
+        for number in range(count):
+            commit(server.port, number)
+
+
+# The probe
+
+def probe(port, *words):
+    return tool("ssikvd-probe", *words, f"127.0.0.1:{port}")
+
+
+def expect_probe(found, status, text):
+    name = ("OK", "WARNING", "CRITICAL", "UNKNOWN")[status]
+    expect(found[0] == status and found[1].startswith(f"SSIKVD {name}: {text}") and found[1].count("\n") == 1, f"the probe answered {found}")
+
+
+@contextlib.contextmanager
+def held(port, count, *requests):
+    """So many connections, each of which has sent these requests and read the replies."""
+    held = []
+    try:
+        for _ in range(count):
+            held.append(Connection(port))
+            for request in requests:
+                held[-1].ask(frame(request))
+        yield
+    finally:
+        for connection in held:
+            connection.close()
+
+
+def probes(tally):
+    with folder() as place:
+        data = os.path.join(place, "data")
+        create(data, 64)
+        with Server(data) as server:
+            with tally.run("the probe of a server"):
+                expect_probe(probe(server.port), 0, "transactions begin, ")
+                expect_probe(probe(server.port, "--warning", "0"), 1, "transactions begin, ")
+            with tally.run("the probe beside 64 transactions"), held(server.port, 64, "BEGIN"):
+                expect_probe(probe(server.port), 1, "64 transactions are open")
+            with tally.run("the probe beside 128 connections"), held(server.port, 128, "PING"):
+                expect(probe(server.port)[0] == 2, "the probe does not see that no connection is taken")
+        port = free_port()
+        with tally.run("the probe of no server"):
+            expect_probe(probe(port), 2, "Connection refused")
+            expect_probe(tool("ssikvd-probe", "7777"), 3, "argument")
+        with tally.run("the probe waits"):
+            threading.Timer(0.3, late_server, (data, port)).start()
+            found = probe(port, "--wait", "20")
+            expect_probe(found, 0, "transactions begin, ")
+        with tally.run("the probe waits for a process that has ended"):
+            ended = subprocess.Popen(["true"])
+            ended.wait()
+            begun = time.monotonic()
+            found = probe(free_port(), "--wait", "20", "--process", str(ended.pid))
+            expect(found[0] == 2 and time.monotonic() - begun < 10, f"the probe answered {found}")
+    stopped_store(tally)
+
+
+def late_server(data, port):
+    with Server(data, listen=f"127.0.0.1:{port}"):
+        time.sleep(2.0)
+
+
+def stopped_store(tally):
+    """A sync fails: PING is answered, and the probe says that the store has stopped."""
+    with folder() as place, tally.run("the probe of a stopped store"):
+        data, refusals = os.path.join(place, "data"), Refusals(place)
+        create(data, 64)
+        with Server(data, refusals.environment()) as server:
+            refusals.of(DEVICE).fail(refusals.of(DEVICE).made + 2, error=5)
+            try:
+                commit(server.port, 1)
+                said = "nothing"
+            except simple_client.Refused as refusal:
+                said = str(refusal)
+            expect(said == "STORE fault", f"COMMIT was refused with {said}")
+            with Connection(server.port) as client:
+                expect(client.ask(frame("PING")) == b"+PONG\r\n", "PING is not answered")
+            expect_probe(probe(server.port), 2, "the store has stopped")
+
+
+# The fill of a log
+
+def fills(tally):
+    used = loaded("ssikvd-used")
+    with folder() as place:
+        data, state, text = (os.path.join(place, name) for name in ("data", "state", "text"))
+        create(data, SECTORS)
+        with Server(data) as server:
+            for number in range(12):
+                with tally.run(f"the fill after {number} commits"):
+                    records, _, sectors, count = check(data)
+                    line = f"{data}: records {records} sectors {sectors} of {count}\n"
+                    for words in (["ssikvd-used", data], ["ssikvd-used", "--state", state, data]):
+                        found = tool(*words)
+                        expect(found == (0, line, ""), f"it printed {found}, due is {line!r}")
+                for _ in range(number):
+                    commit(server.port, number)
+        with tally.run("the rate"):
+            first, _ = used.figures(data, None, 1_000.0)
+            with Server(data) as server:
+                commit(server.port, 7)
+            second, found = used.figures(data, first, 1_010.0)
+            due = (SECTORS - second["place"] - 1) / ((second["place"] - first["place"]) / 10)
+            expect(found["seconds_to_full"] == due > 0, f"{found} in place of {due}")
+            expect(used.figures(data, second, 1_020.0)[1]["seconds_to_full"] == float("inf"), "a log that does not grow fills")
+        with tally.run("another log of the name"):
+            subprocess.run([PROGRAM, "compact", "--from", data, "--to", data + "2"], check=True, capture_output=True)
+            os.replace(data + "2", data)
+            due = "{0}: records {1} sectors {3} of {4}\n".format(data, *check(data))
+            found = tool("ssikvd-used", "--state", state, data)
+            expect(found == (0, due, ""), f"it printed {found}, due is {due!r}")
+        with tally.run("metrics"):
+            expect(tool("ssikvd-used", "--metrics", text, "--state", state, data) == (0, "", ""), "it failed")
+            metrics = open(text, encoding="utf-8").read()
+            expect(f'ssikvd_log_sectors_used{{data="{data}"}} {check(data)[2]}\n' in metrics, f"the metrics are {metrics}")
+            judge_metrics(metrics)
+        with tally.run("a damaged log"):
+            with open(data, "r+b") as file:
+                file.seek(2 * SECTOR)
+                file.write(b"\xff")
+            found = tool("ssikvd-used", data)
+            expect(found == (2, "", f"{data}: damaged record 0\n"), f"it printed {found}")
+            expect(tool("ssikvd-used", "--metrics", text, data)[0] == 2, "it ended with 0")
+            expect(f'ssikvd_log_damaged{{data="{data}"}} 1\n' in open(text, encoding="utf-8").read(), "the metrics do not tell the damage")
+
+
+def promtool():
+    return os.environ.get("PROMTOOL") or shutil.which("promtool")
+
+
+def judge_metrics(text):
+    if not promtool():
+        missing("`promtool check metrics`", "promtool (Debian's prometheus)")
+        return
+    ran = subprocess.run([promtool(), "check", "metrics"], input=text, capture_output=True, text=True)
+    expect(ran.returncode == 0 and not ran.stderr, f"promtool says {ran.stderr}")
+
+
+# Backups
+
+def backups(tally):
+    """Backups under load, each a prefix of the commits with all that were acknowledged before it began."""
+    with folder() as place:
+        data, copy = os.path.join(place, "data"), os.path.join(place, "copy")
+        create(data, SECTORS)
+        with Server(data) as server:
+            done, is_done = [0], threading.Event()
+
+            def work():
+                while not is_done.is_set() and done[0] < 600:
+                    commit(server.port, done[0])
+                    done[0] += 1
+
+            worker = threading.Thread(target=work, daemon=True)
+            worker.start()
+            found = []
+            for number in range(40 if is_long() else 8):
+                with tally.run(f"backup {number} under load"):
+                    acknowledged = done[0]
+                    status, out, err = tool("ssikvd-ship", data, copy)
+                    expect((status, err) == (0, "") and (", a new copy" in out) == (number == 0), f"it ended with {(status, out, err)}")
+                    found.append(log_of(copy))
+                    expect(len(found[-1]) >= acknowledged, f"{len(found[-1])} records, acknowledged were {acknowledged}")
+                    expect(check(copy)[0] == len(found[-1]), "check counts other records")
+            is_done.set()
+            worker.join()
+        log = log_of(data)
+        with tally.run("backups are prefixes"):
+            expect(all(it == log[:len(it)] for it in found) and len(found[-1]) > len(found[0]), "a backup is no prefix of the commits")
+        with tally.run("a backup as of a record"):
+            half = len(log) // 2
+            expect(tool("ssikvd-ship", "--records", str(half), data, copy + ".half")[0] == 0, "it failed")
+            expect(log_of(copy + ".half") == log[:half], "it has other records")
+            found = tool("ssikvd-ship", "--records", "1", data, copy + ".half")
+            expect(found[0] == 2, f"a copy with more records than asked for gave {found}")
+        with tally.run("a backup of a compacted file"):
+            subprocess.run([PROGRAM, "compact", "--from", data, "--to", data + "2"], check=True, capture_output=True)
+            os.replace(data + "2", data)
+            found = tool("ssikvd-ship", data, copy)
+            expect(found[0] == 0 and found[1].endswith(", a new copy\n"), f"it answered {found}")
+            expect(log_of(copy) == log_of(data) and map_of(log_of(copy)) == map_of(log), "it is another log")
+            expect(len(log_of(copy + ".old")) > 0, "the copy of before is gone")
+        with tally.run("the records before a damaged one"):
+            shutil.copyfile(copy + ".half", copy + ".damaged")
+            with loaded("ssikvd-used").Log(copy + ".damaged") as found:
+                while found.records < 3:
+                    found.step()
+            with open(copy + ".damaged", "r+b") as file:
+                file.seek((found.place + 1) * SECTOR)
+                file.write(b"\xff")
+            expect(tool("ssikvd-ship", copy + ".damaged", copy + ".saved")[0] == 2, "a damaged log was copied")
+            expect(tool("ssikvd-ship", "--records", "3", copy + ".damaged", copy + ".saved")[0] == 0, "it failed")
+            expect(log_of(copy + ".saved") == log[:3], "it has other records")
+        with tally.run("a restore"):
+            expect(subprocess.run(["cp", "--sparse=never", copy, data + ".back"]).returncode == 0, "cp failed")
+            with Server(data + ".back") as server:
+                commit(server.port, 1)
+            expect(len(log_of(data + ".back")) == len(log_of(copy)) + 1, "what was put back is not served")
+
+
+class Recorder:
+    """Writes and syncs of a process, taken in the place of the system's; `images` gives what a crash after each may leave of a file."""
+
+    def __init__(self, image, size):
+        self.settled, self.unsettled = bytearray(image.ljust(size, b"\0")), {}
+
+    def images(self, chance):
+        """Of each unsettled sector the old content, the new, or any."""
+        for kind in ("old", "new", "open", "mixed", "mixed", "mixed"):
+            image = bytearray(self.settled)
+            for at, new in self.unsettled.items():
+                old = bytes(image[SECTOR * at:SECTOR * (at + 1)])
+                other = {"old": old, "new": new, "open": b"\1" * SECTOR, "mixed": chance.choice([old, new, chance.randbytes(SECTOR)])}
+                image[SECTOR * at:SECTOR * (at + 1)] = other[kind]
+            yield bytes(image)
+
+    def write(self, _, data, at):
+        expect(at % SECTOR == 0 and len(data) % SECTOR == 0, "a write of no whole sectors")
+        for i in range(len(data) // SECTOR):
+            self.unsettled[at // SECTOR + i] = bytes(data[SECTOR * i:SECTOR * (i + 1)])
+        return len(data)
+
+    def sync(self, _):
+        for at, new in self.unsettled.items():
+            self.settled[SECTOR * at:SECTOR * (at + 1)] = new
+        self.unsettled = {}
+
+
+def judge_ship(ship, data, copy, is_new):
+    """Each image of a crash within a run over this copy is a log: that of before, or that of the data file. How many were looked at?"""
+    chance, log, images = random.Random(8), log_of(data), 0
+    before = None if is_new else log_of(copy)
+    recorder = Recorder(b"" if is_new else open(copy, "rb").read(), os.path.getsize(data))
+
+    def judged(call):
+        def judge(*arguments):
+            nonlocal images
+            result = call(*arguments)
+            for image in recorder.images(chance):
+                images += 1
+                try:
+                    found = read_log(lambda at: image[SECTOR * at:SECTOR * (at + 1)], len(image) // SECTOR)[0]
+                except NotALog:
+                    found = None
+                except Damaged as damage:
+                    raise Deviation(f"a crash leaves a damaged record {damage}") from None
+                expect(found in (before, log), f"a crash leaves {found and len(found)} records")
+            return result
+
+        return judge
+
+    own = ship.os.pwrite, ship.os.fsync
+    ship.os.pwrite, ship.os.fsync = judged(recorder.write), judged(recorder.sync)
+    try:
+        with ship.used.Log(data) as source:
+            if is_new:
+                ship.new_copy(source.walk(), copy + ".judged")
+            else:
+                place = ship.copy_of(copy).place
+                ship.ship(source.walk(), 0, place)
+    finally:
+        ship.os.pwrite, ship.os.fsync = own
+        with contextlib.suppress(FileNotFoundError):
+            os.remove(copy + ".judged")
+    expect(not recorder.unsettled, "what it wrote last is not settled")
+    expect(bytes(recorder.settled[:SECTOR * 2]) == open(data, "rb").read(2 * SECTOR), "it did not copy the log")
+    return images
+
+
+def crashes_of_backups(tally):
+    ship = loaded("ssikvd-ship")
+    with folder() as place:
+        data, copy = os.path.join(place, "data"), os.path.join(place, "copy")
+        fill(data, 6, 256)
+        images = 0
+        with tally.run("crashes of a new backup"):
+            images += judge_ship(ship, data, copy, True)
+        tool("ssikvd-ship", "--records", "2", data, copy)
+        with tally.run("crashes of a backup"):
+            images += judge_ship(ship, data, copy, False)
+        with tally.run("a gate that is copied first is seen"):
+            planted(ship, data, copy)
+    print(f"  ssikvd-ship: {images} images of crashes", flush=True)
+
+
+def planted(ship, data, copy):
+    """A body of `ship` that copies the gate with what stands behind it."""
+    own = ship.ship
+
+    def wrong(log, target, place):
+        ship.copy_sectors(log.file, target, place, log.place)
+        ship.os.fsync(target)
+
+    ship.ship = wrong
+    try:
+        judge_ship(ship, data, copy, False)
+        raise SystemExit("operation: a backup that copies the gate first was not reported")
+    except Deviation:
+        pass
+    finally:
+        ship.ship = own
+
+
+# Compaction
+
+STEPS = ("ssikvd-used", "ssikvd", "dirname", "date", "flock", "sync", "rm", "chown", "chmod", "ln", "mv", "sh")
+WRAPPER = """#!/bin/sh
+n=$(($(/bin/cat "$STEPS") + 1))
+echo $n >"$STEPS"
+echo {name} "$@" >>"$STEPS.log"
+[ $n != "$BEFORE" ] || kill -9 0
+{real} "$@"
+status=$?
+[ $n != "$AFTER" ] || kill -9 0
+exit $status
+"""
+
+
+class Trial:
+    """A served data file, and `ssikvd-compact` over it, each of whose steps is counted and may be the last."""
+
+    def __init__(self, place, script):
+        self.data, self.script, self.port = os.path.join(place, "data"), script, free_port()
+        self.steps, self.pid = os.path.join(place, "steps"), os.path.join(place, "pid")
+        self.bin = os.path.join(place, "bin")
+        os.mkdir(self.bin)
+        self.acknowledged = 0
+        for name in STEPS:
+            real = os.path.abspath(PROGRAM) if name == "ssikvd" else shutil.which(name, path=ENVIRONMENT["PATH"])
+            self._write(os.path.join(self.bin, name), WRAPPER.format(name=name, real=real))
+        flock = shutil.which("flock")
+        self._write(self.bin + "/starts", f"""#!/bin/sh
+setsid {flock} -n -F -E 75 {self.data}.lock {os.path.abspath(PROGRAM)} serve --data {self.data} --listen 127.0.0.1:{self.port} \\
+    </dev/null >>{place}/out 2>&1 9>&- &
+echo $! >{self.pid}
+exec ssikvd-probe --wait 20 --process $! 127.0.0.1:{self.port} >/dev/null
+""")
+        self._write(self.bin + "/stops", f"#!/bin/sh\nkill -9 $(cat {self.pid})\n{flock} -w 10 {self.data}.lock true\n")
+
+    @staticmethod
+    def _write(name, text):
+        with open(name, "w", encoding="utf-8") as file:
+            file.write(text)
+        os.chmod(name, 0o755)
+
+    def start(self):
+        found = tool(self.bin + "/starts")
+        expect(found[0] == 0, f"no server could be started: {found}")
+
+    def stop(self):
+        """Ends the server by its id, if there is one."""
+        with contextlib.suppress(FileNotFoundError, ProcessLookupError):
+            with open(self.pid, encoding="ascii") as file:
+                process = int(file.read())
+            with open(f"/proc/{process}/cmdline", "rb") as file:
+                if self.data.encode() in file.read():
+                    os.kill(process, signal.SIGKILL)
+            tool("flock", "-w", "10", self.data + ".lock", "true")
+
+    def commit(self, count=1):
+        for _ in range(count):
+            commit(self.port, self.acknowledged)
+            self.acknowledged += 1
+
+    def run(self, before="no", after="no", words=()):
+        """Runs the script, killed with all that it started before or after this step: its status, and the commands that it ran."""
+        with open(self.steps, "w", encoding="ascii") as file:
+            file.write("0\n")
+        open(self.steps + ".log", "w", encoding="ascii").close()
+        environment = {**ENVIRONMENT, "PATH": self.bin + ":" + ENVIRONMENT["PATH"], "SSIKVD": "ssikvd", "STEPS": self.steps}
+        environment.update(BEFORE=str(before), AFTER=str(after))
+        words = [self.script, *words, "--stop", self.bin + "/stops", "--start", self.bin + "/starts", self.data]
+        ran = subprocess.Popen(words, stdin=subprocess.DEVNULL, stdout=subprocess.PIPE, stderr=subprocess.PIPE, env=environment,
+                               start_new_session=True, text=True)
+        out, err = ran.communicate(timeout=3 * PATIENCE)
+        with open(self.steps + ".log", encoding="utf-8") as file:
+            return ran.returncode, out, err, file.read().splitlines()
+
+    def contents(self):
+        """The map of the file."""
+        return map_of(log_of(self.data))
+
+    def due(self):
+        """The map after the acknowledged commits."""
+        found = {}
+        for number in range(self.acknowledged):
+            apply(found, [(b"%06d" % (number % 40), b"v" * (number * 97 % 1_500)), (b"last", b"%d" % number)])
+        return found
+
+
+FILES = {"data", "data.old", "data.new", "data.lock"}
+
+
+def names(trial):
+    place = os.path.dirname(trial.data)
+    return {name for name in os.listdir(place) if name.startswith("data")}
+
+
+def judge_whole(trial, owner):
+    """After a run to its end: the names, the mode and the owner, the map, and a server that commits."""
+    expect(names(trial) == {"data", "data.old", "data.lock"}, f"it left {sorted(names(trial))}")
+    now = os.stat(trial.data)
+    expect((stat.S_IMODE(now.st_mode), now.st_uid, now.st_gid) == owner, f"mode and owner are {oct(now.st_mode), now.st_uid, now.st_gid}")
+    expect(trial.contents() == trial.due() == map_of(log_of(trial.data + ".old")), "a commit is lost, or one is too many")
+    expect(len(log_of(trial.data)) < len(log_of(trial.data + ".old")), "the new log is as long as the old one")
+    trial.commit()
+    expect(trial.contents() == trial.due(), "the server writes to another file")
+
+
+OWNER = (0o640, 12_345 if os.getuid() == 0 else os.getuid(), 12_346 if os.getuid() == 0 else os.getgid())
+
+
+@contextlib.contextmanager
+def trial_of(script, commits=30):
+    with folder() as place:
+        trial = Trial(place, script)
+        create(trial.data, 1_024)
+        os.chmod(trial.data, OWNER[0])
+        os.chown(trial.data, *OWNER[1:])
+        try:
+            trial.start()
+            trial.commit(commits)
+            yield trial
+        finally:
+            trial.stop()
+
+
+def judge_kill(script, step, is_after, is_rerun):
+    """One kill, and what comes after it."""
+    with trial_of(script) as trial:
+        status, out, err, _ = trial.run(**{"after" if is_after else "before": step})
+        expect(status == -signal.SIGKILL, f"it ended with {status}: {out}{err}")
+        expect("data" in names(trial) <= FILES, f"a kill leaves {sorted(names(trial))}")
+        expect(trial.contents() == trial.due(), "a kill leaves another map")
+        if is_rerun:
+            status, out, err, _ = trial.run()
+            expect(status == 0, f"run again it ended with {status}: {out}{err}")
+            expect(names(trial) == {"data", "data.old", "data.lock"}, f"run again it left {sorted(names(trial))}")
+        else:
+            trial.stop()
+            trial.start()
+        trial.commit()
+        expect(trial.contents() == trial.due(), "a commit is lost")
+        now = os.stat(trial.data)
+        expect((stat.S_IMODE(now.st_mode), now.st_uid, now.st_gid) == OWNER, f"mode and owner are {oct(now.st_mode), now.st_uid, now.st_gid}")
+
+
+class Names:
+    """The names of a folder, each with the file that it leads to, as commands leave them. A loss of power undoes any of the changes since
+    the folder was synced, each for itself."""
+
+    def __init__(self):
+        self.settled, self.changes, self.is_settled = {"data": "old"}, [], {"old"}
+
+    def apply(self, line):
+        words = [os.path.basename(word) for word in line.split() if not re.match(r"-(?!-(to|from))", word)]
+        if words[0] == "rm":
+            self.changes += [{name: None} for name in words[1:]]
+        elif words[0] == "ssikvd" and "compact" in words:
+            self.changes = []    # it syncs the folder once the name is made
+            self.settled.update({"data.new": "new"})
+            self.is_settled.add("new")
+        elif words[0] == "ln":
+            self.changes.append({words[2]: self.now()[words[1]]})
+        elif words[0] == "mv":
+            self.changes.append({words[2]: self.now()[words[1]], words[1]: None})
+        elif words[0] == "sync" and words[1] not in FILES:
+            self.settled, self.changes = self.now(), []
+
+    def now(self, kept=None):
+        found = dict(self.settled)
+        for change in self.changes if kept is None else kept:
+            found.update(change)
+        return {name: file for name, file in found.items() if file}
+
+    def after_power_cut(self):
+        for count in range(len(self.changes) + 1):
+            for kept in itertools.combinations(self.changes, count):
+                yield self.now(kept)
+
+
+def judge_power(lines):
+    """What the name of the data file leads to after a loss of power at each step: to a whole file, and once the server is started to the
+    new one. How many cases are there?"""
+    folder_names, cases = Names(), 0
+    for line in lines:
+        is_start = line.startswith("sh ") and "starts" in line
+        for found in folder_names.after_power_cut():
+            cases += 1
+            expect(found.get("data") in folder_names.is_settled, f"before `{line}` a loss of power leaves {found}")
+            expect(not is_start or found["data"] == "new", f"the server is started, and a loss of power leaves {found}")
+        folder_names.apply(line)
+    expect(folder_names.now().get("data") == "new", f"at the end the names are {folder_names.now()}")
+    return cases
+
+
+def compactions(tally):
+    script = os.path.join(DIST, "ssikvd-compact")
+    lines = []
+    with tally.run("ssikvd-compact"), trial_of(script) as trial:
+        status, out, err, lines = trial.run()
+        expect(status == 0 and not err and "sectors were used" in out, f"it ended with {status}: {out}{err}")
+        judge_whole(trial, OWNER)
+        found = trial.run(words=["--above", "90"])
+        expect(found[0] == 0 and "nothing to do" in found[1], f"--above 90 answered {found[:3]}")
+        trial.commit()
+        found = trial.run(words=["--sectors", "1"])
+        expect(found[0] == 3 and "log full" in found[2], f"a file that is too small gave {found[:3]}")
+        expect(names(trial) == {"data", "data.lock"}, f"a step that failed left {sorted(names(trial))}")
+        trial.commit()
+        expect(trial.contents() == trial.due(), "a commit is lost")
+    with tally.run("ssikvd-compact makes room"), trial_of(script, 60) as trial:
+        found = trial.run(words=["--sectors", "2048"])
+        expect(found[0] == 0 and check(trial.data)[3] == 2_048, f"it ended with {found[:3]}")
+    with tally.run("ssikvd-compact of a file whose map fills it"):
+        growing(script)
+    with tally.run("the lock"), trial_of(script) as trial:
+        found = tool("flock", "-n", "-F", "-E", "75", trial.data + ".lock", "true")
+        expect(found[0] == 75, f"a second server would start: {found}")
+        trial.stop()
+        expect(tool("flock", "-n", "-F", "-E", "75", trial.data + ".lock", "true")[0] == 0, "the lock stays after a kill")
+    with tally.run("a loss of power at each step of ssikvd-compact"):
+        cases = judge_power(lines)
+        print(f"  ssikvd-compact: {len(lines)} steps, {cases} cases of names after a loss of power", flush=True)
+    for words, place in (("before", range(1, len(lines) + 1)), ("after", range(1, len(lines) + 1))):
+        for step in place:
+            line = lines[step - 1]
+            if is_long() or words == "before" and re.match(r"(mv|ln) ", line):
+                for is_rerun in (False, True):
+                    with tally.run(f"a kill {words} `{line}`, then {'it is run again' if is_rerun else 'a start'}"):
+                        judge_kill(script, step, words == "after", is_rerun)
+    show_that_they_fail(tally, script, lines)
+
+
+def growing(script):
+    """Where the map takes more than half of the new file, the file grows to twice the map."""
+    with folder() as place:
+        trial = Trial(place, script)
+        create(trial.data, 64)
+        try:
+            trial.start()
+            simple_client.Client(trial.port).transact(lambda store: store.ask("SET", "large", "v" * 16_000))
+            due = trial.contents()
+            status, out, err, _ = trial.run()
+            _, _, used, count = check(trial.data)
+            expect(status == 0 and count >= 2 * used > 64, f"{used} of {count} sectors are used; it said {out}{err}")
+            expect(trial.contents() == due, "a commit is lost")
+        finally:
+            trial.stop()
+
+
+def show_that_they_fail(tally, script, lines):
+    """Scripts with a planted fault, which must be reported."""
+    text = open(script, encoding="utf-8").read()
+    swap = 'ln "$data" "$data.old"\nsync "$folder"\nmv -fT "$new" "$data"\n'.replace("$new", "$data.new")
+    expect(swap in text, "the swap is written in another way")
+    wrong = {
+        "a swap by two renames": (swap, 'mv "$data" "$data.old"\nmv -fT "$data.new" "$data"\n'),
+        "a swap that is not synced": ('mv -fT "$data.new" "$data"\nsync "$folder"\n', 'mv -fT "$data.new" "$data"\n'),
+        "a copy that keeps no mode": ('chmod --reference="$data" "$data.new"\n', ""),
+    }
+    with folder() as place:
+        for name, (old, new) in wrong.items():
+            with tally.run(f"{name} is reported"):
+                expect(old in text, f"{name} can't be planted")
+                changed = os.path.join(place, "ssikvd-compact")
+                Trial._write(changed, text.replace(old, new))
+                expect(is_reported(changed), f"{name} was not reported")
+
+
+def is_reported(script):
+    """Is there a deviation in a run to the end, in the names after a loss of power, or in a kill at the swap?"""
+    try:
+        with trial_of(script) as trial:
+            status, out, err, lines = trial.run()
+            expect(status == 0, f"it ended with {status}: {out}{err}")
+            judge_whole(trial, OWNER)
+        judge_power(lines)
+    except Deviation:
+        return True
+    return False
+
+
+# Before a start
+
+def before_a_start(tally):
+    with folder() as place:
+        data = os.path.join(place, "data")
+        with tally.run("the first start"):
+            found = tool("ssikvd-before", data, "64")
+            expect(found == (0, "", "") and check(data)[3] == 64, f"it answered {found}")
+            expect(stat.S_IMODE(os.stat(data).st_mode) == 0o600 and os.listdir(place) == ["data"], f"it left {os.listdir(place)}")
+        with tally.run("clean pages are dropped"):
+            with open(data, "rb") as file:
+                file.read()
+            os.sync()
+            found = tool("ssikvd-before", data, "64")
+            expect(found == (0, "", ""), f"it answered {found}")
+            pages = tool("fincore", "-n", "-o", "PAGES", data)
+            if pages[0] != 0 or os.path.realpath(place).startswith("/dev/shm"):
+                missing("how many pages stay in memory", "fincore")
+            else:
+                expect(pages[1].strip() == "0", f"{pages[1].strip()} pages stay in memory")
+        with tally.run("a data file that is lost"):
+            os.rename(data, data + ".lost")
+            open(data + ".lock", "w", encoding="ascii").close()
+            found = tool("ssikvd-before", data, "64")
+            expect(found[0] == 1 and "missing and was there before" in found[2] and not os.path.exists(data), f"it answered {found}")
+            os.remove(data + ".lock")
+        with tally.run("what a killed create left"):
+            with open(data + ".new", "wb") as file:
+                file.write(bytes(100))
+            found = tool("ssikvd-before", data, "64")
+            expect(found == (0, "", "") and check(data)[3] == 64, f"it answered {found}")
+
+
+# Units, rules, texts
+
+def operations():
+    with open(os.path.join(TOP, "docs", "OPERATIONS.md"), encoding="utf-8") as file:
+        return file.read()
+
+
+def units(tally):
+    """The units, with the programs of this copy, as `systemd-analyze` reads them."""
+    if not shutil.which("systemd-analyze"):
+        missing("the units", "systemd-analyze")
+        return
+    with folder() as place:
+        for name in sorted(os.listdir(DIST)):
+            if name.endswith((".service", ".timer")):
+                with open(os.path.join(DIST, name), encoding="utf-8") as file:
+                    text = re.sub(r"(?m)^(Exec\w+=-?)(ssikvd-)", rf"\1{DIST}/\2", file.read())
+                with open(os.path.join(place, name), "w", encoding="utf-8") as file:
+                    file.write(text)
+        for name in sorted(os.listdir(place)):
+            with tally.run(f"the unit {name}"):
+                judge_unit(os.path.join(place, name))
+        with tally.run("a unit with a wrong line is reported"):
+            wrong = os.path.join(place, "wrong@.service")
+            with open(os.path.join(place, "ssikvd@.service"), encoding="utf-8") as file:
+                text = file.read().replace("ProtectHome=yes", "ProtectHouse=yes")
+            with open(wrong, "w", encoding="utf-8") as file:
+                file.write(text)
+            try:
+                judge_unit(wrong)
+                expect(False, "it was not reported")
+            except Deviation as found:
+                expect("ProtectHouse" in str(found), str(found))
+        with tally.run("the score of the unit"):
+            judge_score(os.path.join(place, "ssikvd@.service"))
+
+
+def judge_unit(unit):
+    ran = subprocess.run(["systemd-analyze", "--man=no", "verify", unit], capture_output=True, text=True, timeout=PATIENCE)
+    name = os.path.basename(unit).split("@")[0]
+    said = [line for line in (ran.stdout + ran.stderr).splitlines() if name in line]
+    expect(not said, f"systemd-analyze says {said}")
+
+
+def judge_score(unit):
+    version = re.search(r"systemd (\d+)", tool("systemd-analyze", "--version")[1])[1]
+    said = re.search(r"exposure level of ([\d.]+) of 10 \(by systemd (\d+)\)", operations().replace("\n", " "))
+    expect(said, "docs/OPERATIONS.md names no score")
+    found = re.search(r"exposure level for \S+: ([\d.]+)", tool("systemd-analyze", "security", "--offline=true", unit)[1])
+    if said[2] != version:
+        missing("the unit's score", f"systemd {said[2]}, here is {version}")
+    else:
+        expect(found and found[1] == said[1], f"the score is {found and found[1]}, docs/OPERATIONS.md says {said[1]}")
+
+
+def rules(tally):
+    if not promtool():
+        missing("`promtool check rules`", "promtool (Debian's prometheus)")
+        return
+    with tally.run("the alert rules"):
+        found = tool(promtool(), "check", "rules", os.path.join(DIST, "alerts.yml"))
+        expect(found[0] == 0, f"promtool says {found}")
+    with tally.run("the metrics of the rules"):
+        with open(os.path.join(DIST, "alerts.yml"), encoding="utf-8") as file:
+            named = set(re.findall(r"ssikvd_log_(\w+)", file.read()))
+        expect(named <= set(loaded("ssikvd-used").HELP), f"the rules name {named}")
+
+
+def scripts(tally):
+    if not shutil.which("shellcheck"):
+        missing("shellcheck", "shellcheck")
+        return
+    for name in ("ssikvd-before", "ssikvd-compact"):
+        with tally.run(f"shellcheck of {name}"):
+            found = tool("shellcheck", os.path.join(DIST, name))
+            expect(found[0] == 0, found[1])
+
+
+def texts(tally):
+    """Each line that the program writes to standard error by itself stands in the runbook."""
+    sources = os.path.join(TOP, "crates", "commands", "src")
+    with tally.run("the runbook"):
+        found = set()
+        for name in os.listdir(sources):
+            with open(os.path.join(sources, name), encoding="utf-8") as file:
+                found |= set(re.findall(r'"((?:ssikvd: |line \{number\}: )[^"\\]*)', file.read()))
+        expect(len(found) > 10, f"only {len(found)} texts were found")
+        told = operations()
+        lost = [text for text in found if f"`{text.replace('{index}', 'N').replace('{number}', 'N')}`" not in told]
+        expect(not lost, f"docs/OPERATIONS.md does not say what {sorted(lost)} mean")
+
+
+def main():
+    need(PROGRAM, SHIM)
+    tally = Tally("operation")
+    for part in (probes, fills, backups, crashes_of_backups, before_a_start, compactions, units, rules, scripts, texts):
+        part(tally)
+    return 0 if tally.end() else 1
+
+
+if __name__ == "__main__":
+    run_harness(main)
