@@ -22,7 +22,9 @@ import threading
 import time
 from importlib.machinery import SourceFileLoader
 
-from client import DEVICE, PATIENCE, PROGRAM, SHIM, Connection, Deviation, Refusals, Server, Tally, check, create, expect, folder, free_port, is_long, need, run_harness
+from client import (
+    DEVICE, PATIENCE, PROGRAM, SHIM, Connection, Deviation, Refusals, Server, Tally, check, create, expect, folder, free_port, is_long, need,
+    run_harness)
 from model import OK, SECTOR, Damaged, NotALog, apply, frame, log_image, read_log
 
 TOP = os.path.normpath(os.path.join(os.path.dirname(os.path.abspath(__file__)), ".."))
@@ -279,20 +281,28 @@ def backups(tally):
 
 
 class Recorder:
-    """Writes and syncs of a process, taken in the place of the system's; `images` gives what a crash after each may leave of a file."""
+    """Writes and syncs of a process, taken in the place of the system's. What stands behind the copy's last closed gate is any bytes."""
 
-    def __init__(self, image, size):
-        self.settled, self.unsettled = bytearray(image.ljust(size, b"\0")), {}
+    FEW = 8
+
+    def __init__(self, image, size, place):
+        self.settled, self.unsettled = bytearray(image[:SECTOR * (place + 1)].ljust(size, b"\1")), {}
 
     def images(self, chance):
-        """Of each unsettled sector the old content, the new, or any."""
-        for kind in ("old", "new", "open", "mixed", "mixed", "mixed"):
-            image = bytearray(self.settled)
-            for at, new in self.unsettled.items():
-                old = bytes(image[SECTOR * at:SECTOR * (at + 1)])
-                other = {"old": old, "new": new, "open": b"\1" * SECTOR, "mixed": chance.choice([old, new, chance.randbytes(SECTOR)])}
-                image[SECTOR * at:SECTOR * (at + 1)] = other[kind]
-            yield bytes(image)
+        """What a crash now may leave: of the unsettled sectors all old, all new, one of them otherwise, or each for itself."""
+        new, old = dict(self.unsettled), {at: bytes(self.settled[SECTOR * at:SECTOR * (at + 1)]) for at in self.unsettled}
+        yield from (self._image(old), self._image(new))
+        places = sorted(new)
+        for at in {*places[:self.FEW], *places[-self.FEW:]}:
+            yield from (self._image({**old, at: new[at]}), self._image({**new, at: old[at]}), self._image({**new, at: b"\1" * SECTOR}))
+        for _ in range(3):
+            yield self._image({at: chance.choice([old[at], new[at], chance.randbytes(SECTOR)]) for at in new})
+
+    def _image(self, sectors):
+        image = bytearray(self.settled)
+        for at, content in sectors.items():
+            image[SECTOR * at:SECTOR * (at + 1)] = content
+        return bytes(image)
 
     def write(self, _, data, at):
         expect(at % SECTOR == 0 and len(data) % SECTOR == 0, "a write of no whole sectors")
@@ -309,8 +319,8 @@ class Recorder:
 def judge_ship(ship, data, copy, is_new):
     """Each image of a crash within a run over this copy is a log: that of before, or that of the data file. How many were looked at?"""
     chance, log, images = random.Random(8), log_of(data), 0
-    before = None if is_new else log_of(copy)
-    recorder = Recorder(b"" if is_new else open(copy, "rb").read(), os.path.getsize(data))
+    before, place = (None, 0) if is_new else (log_of(copy), ship.copy_of(copy).place)
+    recorder = Recorder(b"", os.path.getsize(data), -1) if is_new else Recorder(open(copy, "rb").read(), os.path.getsize(data), place)
 
     def judged(call):
         def judge(*arguments):
@@ -336,7 +346,6 @@ def judge_ship(ship, data, copy, is_new):
             if is_new:
                 ship.new_copy(source.walk(), copy + ".judged")
             else:
-                place = ship.copy_of(copy).place
                 ship.ship(source.walk(), 0, place)
     finally:
         ship.os.pwrite, ship.os.fsync = own
@@ -663,6 +672,14 @@ def is_reported(script):
 
 # Before a start
 
+def pages_of(data):
+    """How many pages of a file, once it was read and synced, are in memory. None where nothing tells."""
+    with open(data, "rb") as file:
+        os.fsync(file.fileno())
+    found = tool("fincore", "-n", "-o", "PAGES", data) if shutil.which("fincore") else (1, "", "")
+    return int(found[1]) if found[0] == 0 else None
+
+
 def before_a_start(tally):
     with folder() as place:
         data = os.path.join(place, "data")
@@ -671,16 +688,14 @@ def before_a_start(tally):
             expect(found == (0, "", "") and check(data)[3] == 64, f"it answered {found}")
             expect(stat.S_IMODE(os.stat(data).st_mode) == 0o600 and os.listdir(place) == ["data"], f"it left {os.listdir(place)}")
         with tally.run("clean pages are dropped"):
-            with open(data, "rb") as file:
-                file.read()
-            os.sync()
+            check(data)    # which reads it
+            pages = pages_of(data)
             found = tool("ssikvd-before", data, "64")
             expect(found == (0, "", ""), f"it answered {found}")
-            pages = tool("fincore", "-n", "-o", "PAGES", data)
-            if pages[0] != 0 or os.path.realpath(place).startswith("/dev/shm"):
+            if pages is None:
                 missing("how many pages stay in memory", "fincore")
             else:
-                expect(pages[1].strip() == "0", f"{pages[1].strip()} pages stay in memory")
+                expect(pages > 0 == pages_of(data), f"of {pages} pages {pages_of(data)} stay in memory")
         with tally.run("a data file that is lost"):
             os.rename(data, data + ".lost")
             open(data + ".lock", "w", encoding="ascii").close()
