@@ -114,8 +114,8 @@ def probes(tally):
         create(data, 64)
         with Server(data) as server:
             with tally.run("the probe of a server"):
-                expect_probe(probe(server.port), 0, "transactions begin, ")
-                expect_probe(probe(server.port, "--warning", "0"), 1, "transactions begin, ")
+                expect_probe(probe(server.port), 0, "transactions begin | time=")
+                expect_probe(probe(server.port, "--warning", "0"), 1, "transactions begin | time=")
             with tally.run("the probe beside 64 transactions"), held(server.port, 64, "BEGIN"):
                 expect_probe(probe(server.port), 1, "64 transactions are open")
             with tally.run("the probe beside 128 connections"), held(server.port, 128, "PING"):
@@ -127,7 +127,7 @@ def probes(tally):
         with tally.run("the probe waits"):
             threading.Timer(0.3, late_server, (data, port)).start()
             found = probe(port, "--wait", "20")
-            expect_probe(found, 0, "transactions begin, ")
+            expect_probe(found, 0, "transactions begin | time=")
         with tally.run("the probe waits for a process that has ended"):
             ended = subprocess.Popen(["true"])
             ended.wait()
@@ -157,7 +157,12 @@ def stopped_store(tally):
             expect(said == "STORE fault", f"COMMIT was refused with {said}")
             with Connection(server.port) as client:
                 expect(client.ask(frame("PING")) == b"+PONG\r\n", "PING is not answered")
-            expect_probe(probe(server.port), 2, "the store has stopped")
+            text = os.path.join(place, "text")
+            expect_probe(probe(server.port, "--metrics", text), 2, "the store has stopped")
+            with open(text, encoding="utf-8") as file:
+                metrics = file.read()
+            expect(f'ssikvd_probe_status{{address="127.0.0.1:{server.port}"}} 2\n' in metrics, f"the metrics are {metrics}")
+            judge_metrics(metrics)
 
 
 # The fill of a log
@@ -398,6 +403,7 @@ n=$(($(/bin/cat "$STEPS") + 1))
 echo $n >"$STEPS"
 echo {name} "$@" >>"$STEPS.log"
 [ $n != "$BEFORE" ] || kill -9 0
+[ $n != "$FAILS" ] || exit 9
 {real} "$@"
 status=$?
 [ $n != "$AFTER" ] || kill -9 0
@@ -451,14 +457,15 @@ exec ssikvd-probe --wait 20 --process $! 127.0.0.1:{self.port} >/dev/null
             commit(self.port, self.acknowledged)
             self.acknowledged += 1
 
-    def run(self, before="no", after="no", words=()):
-        """Runs the script, killed with all that it started before or after this step: its status, and the commands that it ran."""
+    def run(self, before="no", after="no", fails="no", words=()):
+        """Runs the script, killed with all that it started before or after this step, or with this step failing: its status, its output,
+        and the commands that it ran."""
         with open(self.steps, "w", encoding="ascii") as file:
             file.write("0\n")
         open(self.steps + ".log", "w", encoding="ascii").close()
         environment = {**ENVIRONMENT, "PATH": self.bin + ":" + ENVIRONMENT["PATH"], "SSIKVD": "ssikvd", "STEPS": self.steps}
-        environment.update(BEFORE=str(before), AFTER=str(after))
-        words = [self.script, *words, "--stop", self.bin + "/stops", "--start", self.bin + "/starts", self.data]
+        environment.update(BEFORE=str(before), AFTER=str(after), FAILS=str(fails))
+        words = [self.script, "--stop", self.bin + "/stops", "--start", self.bin + "/starts", *words, self.data]
         ran = subprocess.Popen(words, stdin=subprocess.DEVNULL, stdout=subprocess.PIPE, stderr=subprocess.PIPE, env=environment,
                                start_new_session=True, text=True)
         out, err = ran.communicate(timeout=3 * PATIENCE)
@@ -534,9 +541,19 @@ def judge_kill(script, step, is_after, is_rerun):
         expect((stat.S_IMODE(now.st_mode), now.st_uid, now.st_gid) == OWNER, f"mode and owner are {oct(now.st_mode), now.st_uid, now.st_gid}")
 
 
+def judge_failure(script, step):
+    """A step fails: the server goes on, or is started again, with all commits."""
+    with trial_of(script) as trial:
+        status, out, err, _ = trial.run(fails=step)
+        is_told = status != 0 or "stopped for" in out    # but for the time that it took
+        expect(is_told and names(trial) <= FILES - {"data.new"}, f"it ended with {status}, and left {sorted(names(trial))}: {out}{err}")
+        trial.commit()
+        expect(trial.contents() == trial.due(), "a commit is lost")
+
+
 class Names:
     """The names of a folder, each with the file that it leads to, as commands leave them. A loss of power undoes any of the changes since
-    the folder was synced, each for itself."""
+    the folder was synced, each for itself. `is_settled` has the files whose content, mode and owner are settled."""
 
     def __init__(self):
         self.settled, self.changes, self.is_settled = {"data": "old"}, [], {"old"}
@@ -548,6 +565,10 @@ class Names:
         elif words[0] == "ssikvd" and "compact" in words:
             self.changes = []    # it syncs the folder once the name is made
             self.settled.update({"data.new": "new"})
+            self.is_settled.add("new")
+        elif words[0] in ("chown", "chmod"):
+            self.is_settled.discard("new")
+        elif words == ["sync", "data.new"]:
             self.is_settled.add("new")
         elif words[0] == "ln":
             self.changes.append({words[2]: self.now()[words[1]]})
@@ -608,17 +629,22 @@ def compactions(tally):
         expect(found[0] == 75, f"a second server would start: {found}")
         trial.stop()
         expect(tool("flock", "-n", "-F", "-E", "75", trial.data + ".lock", "true")[0] == 0, "the lock stays after a kill")
+    with tally.run("a server that isn't stopped"), trial_of(script) as trial:
+        found = trial.run(words=["--stop", "true", "--wait", "0.1"])
+        expect(found[0] == 75 and "another process holds" in found[2], f"it answered {found[:3]}")
+        expect(names(trial) == {"data", "data.lock"} and trial.contents() == trial.due(), f"it left {sorted(names(trial))}")
     with tally.run("a loss of power at each step of ssikvd-compact"):
         cases = judge_power(lines)
         print(f"  ssikvd-compact: {len(lines)} steps, {cases} cases of names after a loss of power", flush=True)
-    for words, place in (("before", range(1, len(lines) + 1)), ("after", range(1, len(lines) + 1))):
-        for step in place:
-            line = lines[step - 1]
-            if is_long() or words == "before" and re.match(r"(mv|ln) ", line):
-                for is_rerun in (False, True):
-                    with tally.run(f"a kill {words} `{line}`, then {'it is run again' if is_rerun else 'a start'}"):
-                        judge_kill(script, step, words == "after", is_rerun)
-    show_that_they_fail(tally, script, lines)
+    for step, line in enumerate(lines, 1):
+        kills = itertools.product((False, True), (False, True)) if is_long() else [(False, line.startswith("mv "))]
+        for is_after, is_rerun in kills if is_long() or re.match(r"(mv|ln) ", line) else ():
+            with tally.run(f"a kill {'after' if is_after else 'before'} `{line}`, then {'it is run again' if is_rerun else 'a start'}"):
+                judge_kill(script, step, is_after, is_rerun)
+        if "starts" not in line and (is_long() or re.match("(chown|mv) ", line)):
+            with tally.run(f"`{line}` fails"):
+                judge_failure(script, step)
+    show_that_they_fail(tally, script)
 
 
 def growing(script):
@@ -638,7 +664,7 @@ def growing(script):
             trial.stop()
 
 
-def show_that_they_fail(tally, script, lines):
+def show_that_they_fail(tally, script):
     """Scripts with a planted fault, which must be reported."""
     text = open(script, encoding="utf-8").read()
     swap = 'ln "$data" "$data.old"\nsync "$folder"\nmv -fT "$new" "$data"\n'.replace("$new", "$data.new")
@@ -773,8 +799,9 @@ def rules(tally):
         expect(found[0] == 0, f"promtool says {found}")
     with tally.run("the metrics of the rules"):
         with open(os.path.join(DIST, "alerts.yml"), encoding="utf-8") as file:
-            named = set(re.findall(r"ssikvd_log_(\w+)", file.read()))
-        expect(named <= set(loaded("ssikvd-used").HELP), f"the rules name {named}")
+            named = set(re.findall(r"ssikvd_[a-z]+_\w+", file.read()))
+        due = {f"ssikvd_log_{name}" for name in loaded("ssikvd-used").HELP} | {"ssikvd_probe_status"}
+        expect(named <= due, f"the rules name {sorted(named - due)}")
 
 
 def scripts(tally):
