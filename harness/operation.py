@@ -735,6 +735,42 @@ def before_a_start(tally):
             expect(found == (0, "", "") and check(data)[3] == 64, f"it answered {found}")
 
 
+# Process 1
+
+def ends_as_process_1(data, *before):
+    """Does SIGTERM end a server that is process 1 of a container, or the child of one that is? None where no container can be made."""
+    words = ["unshare", "--pid", "--fork", "--kill-child", *before, PROGRAM, "serve", "--data", data, "--listen", "127.0.0.1:0"]
+    process = subprocess.Popen(words, stdin=subprocess.DEVNULL, stdout=subprocess.PIPE, stderr=subprocess.PIPE)
+    try:
+        line = process.stdout.readline()
+        if not line:
+            return None
+        with open(f"/proc/{process.pid}/task/{process.pid}/children", encoding="ascii") as file:
+            first = int(file.read())
+        os.kill(first, signal.SIGTERM)
+        with contextlib.suppress(subprocess.TimeoutExpired):
+            process.wait(1.0)
+        return process.poll() is not None or probe(int(line.rsplit(b":", 1)[1]))[0] != 0
+    finally:
+        process.kill()
+        process.communicate()
+
+
+def process_1(tally):
+    with folder() as place, tally.run("process 1"):
+        data = os.path.join(place, "data")
+        create(data, 64)
+        found = ends_as_process_1(data)
+        if found is None:
+            missing("a server as process 1", "the right to make a namespace")
+            return
+        expect(not found, "SIGTERM ends a server that is process 1")
+        if shutil.which("tini"):
+            expect(ends_as_process_1(data, "tini", "--"), "SIGTERM to tini does not end the server")
+        else:
+            missing("a server below tini", "tini")
+
+
 # Units, rules, texts
 
 def operations():
@@ -831,7 +867,7 @@ def texts(tally):
 def main():
     need(PROGRAM, SHIM)
     tally = Tally("operation")
-    for part in (probes, fills, backups, crashes_of_backups, before_a_start, compactions, units, rules, scripts, texts):
+    for part in (probes, fills, backups, crashes_of_backups, before_a_start, compactions, process_1, units, rules, scripts, texts):
         part(tally)
     return 0 if tally.end() else 1
 
