@@ -425,6 +425,7 @@ class Trial:
             self._write(os.path.join(self.bin, name), WRAPPER.format(name=name, real=real))
         flock = shutil.which("flock")
         self._write(self.bin + "/starts", f"""#!/bin/sh
+{flock} -n {self.data}.lock true || exit 0    # as systemctl start of a unit that runs
 setsid {flock} -n -F -E 75 {self.data}.lock {os.path.abspath(PROGRAM)} serve --data {self.data} --listen 127.0.0.1:{self.port} \\
     </dev/null >>{place}/out 2>&1 9>&- &
 echo $! >{self.pid}
