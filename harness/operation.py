@@ -173,7 +173,7 @@ def fills(tally):
         data, state, text = (os.path.join(place, name) for name in ("data", "state", "text"))
         create(data, SECTORS)
         with Server(data) as server:
-            for number in range(12):
+            for number in range(12 if is_long() else 7):
                 with tally.run(f"the fill after {number} commits"):
                     records, _, sectors, count = check(data)
                     line = f"{data}: records {records} sectors {sectors} of {count}\n"
@@ -234,14 +234,14 @@ def backups(tally):
             done, is_done = [0], threading.Event()
 
             def work():
-                while not is_done.is_set() and done[0] < 600:
+                while not is_done.is_set() and done[0] < (800 if is_long() else 200):
                     commit(server.port, done[0])
                     done[0] += 1
 
             worker = threading.Thread(target=work, daemon=True)
             worker.start()
             found = []
-            for number in range(40 if is_long() else 8):
+            for number in range(40 if is_long() else 5):
                 with tally.run(f"backup {number} under load"):
                     acknowledged = done[0]
                     status, out, err = tool("ssikvd-ship", data, copy)
@@ -615,7 +615,7 @@ def compactions(tally):
         found = trial.run(words=["--above", "90"])
         expect(found[0] == 0 and "nothing to do" in found[1], f"--above 90 answered {found[:3]}")
         trial.commit()
-        found = trial.run(words=["--sectors", "1"])
+        found = trial.run(words=["--sectors", "2"])
         expect(found[0] == 3 and "log full" in found[2], f"a file that is too small gave {found[:3]}")
         expect(names(trial) == {"data", "data.lock"}, f"a step that failed left {sorted(names(trial))}")
         trial.commit()
