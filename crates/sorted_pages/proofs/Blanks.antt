@@ -1,36 +1,38 @@
 -- Entries of which no number sees anything, and the others.
 use Rattle.std.proofs.Common.{◌≡◌, ℕ, zero, suc, ◌+◌, ◌<◌, ◌≤◌, Bool, true, false, cond, List, [], ◌∷◌, ◌++◌, length, take, drop, get_or, set, refl, sym, ap, subst, ◌∙◌, arith}
 use Rattle.std.specs.List.{AllByRecursion, insert}
+use Rattle.std.proofs.lemmas.List.{length-append, length-take}
 use Rattle.model.specs.Map.{Bytes}
 use Rattle.model.proofs.Entries.{IsSorted, IsBelowAll, parts}
 use Rattle.sorted_pages.specs.Blanks.{IsBlankTo, shown}
 use Rattle.sorted_pages.proofs.Keys.{both}
 
-module _ {X : Type 0} (is_blank : X → Bool) where
-  abbrev pub AreBlank : ℕ → List (Bytes × X) → Type 0
-  AreBlank n es = AllByRecursion (λ e. is_blank e.1 ≡ true) (take n es)
+module _ {X : Type 0} (hides : ℕ → X → Bool) where
+  -- m sees nothing of the first n
+  abbrev AreBlank : ℕ → ℕ → List (Bytes × X) → Type 0
+  AreBlank m n es = AllByRecursion (λ e. hides m e.1 ≡ true) (take n es)
 
   -- ---- how many at the front are blank
 
-  blank-nil : (n : ℕ) → AreBlank n []
-  blank-nil zero = tt
-  blank-nil (suc n) = tt
+  blank-nil : (m n : ℕ) → AreBlank m n []
+  blank-nil m zero = tt
+  blank-nil m (suc n) = tt
 
-  blank-zero : (es : List (Bytes × X)) → AreBlank 0 es
-  blank-zero [] = tt
-  blank-zero (e ∷ es) = tt
+  blank-zero : (m : ℕ) (es : List (Bytes × X)) → AreBlank m 0 es
+  blank-zero m [] = tt
+  blank-zero m (e ∷ es) = tt
 
-  pub none_blank : (es : List (Bytes × X)) → IsBlankTo is_blank es 0
-  none_blank es = record { within = omega arith; blank = blank-zero es }
+  pub none_blank : (es : List (Bytes × X)) → IsBlankTo hides es 0
+  none_blank es = record { within = omega arith; blank = λ m. blank-zero m es }
 
   -- one more
-  pub one_blank : (es : List (Bytes × X)) (n : ℕ) (e : Bytes × X) → n < length es → is_blank (get_or es n e).1 ≡ true → IsBlankTo is_blank es n → IsBlankTo is_blank es (n + 1)
-  one_blank es n e lt t h = record { within = omega arith; blank = subst (λ m. AreBlank m es) {x = suc n} {y = n + 1} (omega arith) (by es n lt t h.blank) }
+  pub one_blank : (es : List (Bytes × X)) (n : ℕ) (e : Bytes × X) → n < length es → ((m : ℕ) → hides m (get_or es n e).1 ≡ true) → IsBlankTo hides es n → IsBlankTo hides es (n + 1)
+  one_blank es n e lt t h = record { within = omega arith; blank = λ m. subst (λ k. AreBlank m k es) {x = suc n} {y = n + 1} (omega arith) (by m es n lt (t m) (h.blank m)) }
     where
-      by : (fs : List (Bytes × X)) (m : ℕ) → m < length fs → is_blank (get_or fs m e).1 ≡ true → AreBlank m fs → AreBlank (suc m) fs
-      by [] m l s g = absurd (omega arith)
-      by (f ∷ fs) zero l s g = (s, blank-zero fs)
-      by (f ∷ fs) (suc m) l s g = (g.0, by fs m (omega arith) s g.1)
+      by : (m : ℕ) (fs : List (Bytes × X)) (k : ℕ) → k < length fs → hides m (get_or fs k e).1 ≡ true → AreBlank m k fs → AreBlank m (suc k) fs
+      by m [] k l s g = absurd (omega arith)
+      by m (f ∷ fs) zero l s g = (s, blank-zero m fs)
+      by m (f ∷ fs) (suc k) l s g = (g.0, by m fs k (omega arith) s g.1)
 
   length-set : (es : List (Bytes × X)) (i : ℕ) (e : Bytes × X) → length (set es i e) ≡ length es
   length-set [] i e = refl
@@ -38,20 +40,20 @@ module _ {X : Type 0} (is_blank : X → Bool) where
   length-set (f ∷ es) (suc i) e = ap suc (length-set es i e)
 
   -- another entry behind those
-  pub blank-set : (es : List (Bytes × X)) (n m i : ℕ) (e : Bytes × X) → m ≤ n → m ≤ i → IsBlankTo is_blank es n → IsBlankTo is_blank (set es i e) m
-  blank-set es n m i e l k h = record { within = (let w = h.within in omega (arith, length-set es i e)); blank = by es n m i l k h.blank }
+  pub blank-set : (es : List (Bytes × X)) (n m i : ℕ) (e : Bytes × X) → m ≤ n → m ≤ i → IsBlankTo hides es n → IsBlankTo hides (set es i e) m
+  blank-set es n m i e l k h = record { within = (let w = h.within in omega (arith, length-set es i e)); blank = λ q. by q es n m i l k (h.blank q) }
     where
-      by : (fs : List (Bytes × X)) (a b j : ℕ) → b ≤ a → b ≤ j → AreBlank a fs → AreBlank b (set fs j e)
-      by [] a b j l k g = blank-nil b
-      by (f ∷ fs) a zero zero l k g = tt
-      by (f ∷ fs) a zero (suc j) l k g = tt
-      by (f ∷ fs) a (suc b) zero l k g = absurd (omega arith)
-      by (f ∷ fs) zero (suc b) (suc j) l k g = absurd (omega arith)
-      by (f ∷ fs) (suc a) (suc b) (suc j) l k g = (g.0, by fs a b j (omega arith) (omega arith) g.1)
+      by : (q : ℕ) (fs : List (Bytes × X)) (a b j : ℕ) → b ≤ a → b ≤ j → AreBlank q a fs → AreBlank q b (set fs j e)
+      by q [] a b j l k g = blank-nil q b
+      by q (f ∷ fs) a zero zero l k g = tt
+      by q (f ∷ fs) a zero (suc j) l k g = tt
+      by q (f ∷ fs) a (suc b) zero l k g = absurd (omega arith)
+      by q (f ∷ fs) zero (suc b) (suc j) l k g = absurd (omega arith)
+      by q (f ∷ fs) (suc a) (suc b) (suc j) l k g = (g.0, by q fs a b j (omega arith) (omega arith) g.1)
 
   -- an entry more behind those
-  pub blank-insert : (es : List (Bytes × X)) (n m i : ℕ) (e : Bytes × X) → i ≤ length es → m ≤ n → m ≤ i → IsBlankTo is_blank es n → IsBlankTo is_blank (insert es i e) m
-  blank-insert es n m i e le l k h = record { within = omega (arith, longer es i le); blank = by es n m i le l k h.blank }
+  pub blank-insert : (es : List (Bytes × X)) (n m i : ℕ) (e : Bytes × X) → i ≤ length es → m ≤ n → m ≤ i → IsBlankTo hides es n → IsBlankTo hides (insert es i e) m
+  blank-insert es n m i e le l k h = record { within = omega (arith, longer es i le); blank = λ q. by q es n m i le l k (h.blank q) }
     where
       longer : (fs : List (Bytes × X)) (j : ℕ) → j ≤ length fs → length (insert fs j e) ≡ suc (length fs)
       longer [] zero q = refl
@@ -59,46 +61,69 @@ module _ {X : Type 0} (is_blank : X → Bool) where
       longer (f ∷ fs) zero q = refl
       longer (f ∷ fs) (suc j) q = ap suc (longer fs j (omega arith))
 
-      by : (fs : List (Bytes × X)) (a b j : ℕ) → j ≤ length fs → b ≤ a → b ≤ j → AreBlank a fs → AreBlank b (insert fs j e)
-      by [] a zero zero q l k g = tt
-      by [] a (suc b) zero q l k g = absurd (omega arith)
-      by [] a b (suc j) q l k g = absurd (omega arith)
-      by (f ∷ fs) a zero zero q l k g = tt
-      by (f ∷ fs) a zero (suc j) q l k g = tt
-      by (f ∷ fs) a (suc b) zero q l k g = absurd (omega arith)
-      by (f ∷ fs) zero (suc b) (suc j) q l k g = absurd (omega arith)
-      by (f ∷ fs) (suc a) (suc b) (suc j) q l k g = (g.0, by fs a b j (omega arith) (omega arith) (omega arith) g.1)
+      by : (p : ℕ) (fs : List (Bytes × X)) (a b j : ℕ) → j ≤ length fs → b ≤ a → b ≤ j → AreBlank p a fs → AreBlank p b (insert fs j e)
+      by p [] a zero zero q l k g = tt
+      by p [] a (suc b) zero q l k g = absurd (omega arith)
+      by p [] a b (suc j) q l k g = absurd (omega arith)
+      by p (f ∷ fs) a zero zero q l k g = tt
+      by p (f ∷ fs) a zero (suc j) q l k g = tt
+      by p (f ∷ fs) a (suc b) zero q l k g = absurd (omega arith)
+      by p (f ∷ fs) zero (suc b) (suc j) q l k g = absurd (omega arith)
+      by p (f ∷ fs) (suc a) (suc b) (suc j) q l k g = (g.0, by p fs a b j (omega arith) (omega arith) (omega arith) g.1)
 
-  -- ---- the others
+  -- an entry more at the end
+  pub blank-push : (es : List (Bytes × X)) (n : ℕ) (e : Bytes × X) → IsBlankTo hides es n → IsBlankTo hides (es ++ e ∷ []) n
+  blank-push es n e h = record { within = (let w = h.within in omega (arith, length-append es (e ∷ []))); blank = λ m. by m es n h.within (h.blank m) }
+    where
+      by : (m : ℕ) (fs : List (Bytes × X)) (k : ℕ) → k ≤ length fs → AreBlank m k fs → AreBlank m k (fs ++ e ∷ [])
+      by m [] zero l g = tt
+      by m [] (suc k) l g = absurd (omega arith)
+      by m (f ∷ fs) zero l g = tt
+      by m (f ∷ fs) (suc k) l g = (g.0, by m fs k (omega arith) g.1)
 
-  pub shown-append : (xs ys : List (Bytes × X)) → shown is_blank (xs ++ ys) ≡ shown is_blank xs ++ shown is_blank ys
+  -- fewer of fewer
+  pub blank-take : (es : List (Bytes × X)) (n m i : ℕ) → i ≤ length es → m ≤ n → m ≤ i → IsBlankTo hides es n → IsBlankTo hides (take i es) m
+  blank-take es n m i le l k h = record { within = omega (arith, length-take i es); blank = λ q. by q es n m i l k (h.blank q) }
+    where
+      by : (q : ℕ) (fs : List (Bytes × X)) (a b j : ℕ) → b ≤ a → b ≤ j → AreBlank q a fs → AreBlank q b (take j fs)
+      by q [] a b zero l k g = blank-nil q b
+      by q [] a b (suc j) l k g = blank-nil q b
+      by q (f ∷ fs) a b zero l k g = blank-nil q b
+      by q (f ∷ fs) a zero (suc j) l k g = tt
+      by q (f ∷ fs) zero (suc b) (suc j) l k g = absurd (omega arith)
+      by q (f ∷ fs) (suc a) (suc b) (suc j) l k g = (g.0, by q fs a b j (omega arith) (omega arith) g.1)
+
+  pub shown-dropped : (m : ℕ) (es : List (Bytes × X)) (n : ℕ) → IsBlankTo hides es n → shown (hides m) (drop n es) ≡ shown (hides m) es
+  shown-dropped m es n h = by es n (h.blank m)
+    where
+      by : (fs : List (Bytes × X)) (k : ℕ) → AreBlank m k fs → shown (hides m) (drop k fs) ≡ shown (hides m) fs
+      by [] zero g = refl
+      by [] (suc k) g = refl
+      by (f ∷ fs) zero g = refl
+      by (f ∷ fs) (suc k) g = by fs k g.1 ∙ sym (ap (λ b. cond b (shown (hides m) fs) (f ∷ shown (hides m) fs)) g.0)
+
+-- ---- the entries that aren't hidden
+
+module _ {X : Type 0} (hides : X → Bool) where
+  pub shown-append : (xs ys : List (Bytes × X)) → shown hides (xs ++ ys) ≡ shown hides xs ++ shown hides ys
   shown-append [] ys = refl
-  shown-append (x ∷ xs) ys = elim (is_blank x.1) as (λ b. cond b (shown is_blank (xs ++ ys)) (x ∷ shown is_blank (xs ++ ys)) ≡ cond b (shown is_blank xs) (x ∷ shown is_blank xs) ++ shown is_blank ys) [
+  shown-append (x ∷ xs) ys = elim (hides x.1) as (λ b. cond b (shown hides (xs ++ ys)) (x ∷ shown hides (xs ++ ys)) ≡ cond b (shown hides xs) (x ∷ shown hides xs) ++ shown hides ys) [
     | true ↦ shown-append xs ys
     | false ↦ ap (λ l. x ∷ l) (shown-append xs ys)
   ]
 
-  pub shown-dropped : (es : List (Bytes × X)) (n : ℕ) → IsBlankTo is_blank es n → shown is_blank (drop n es) ≡ shown is_blank es
-  shown-dropped es n h = by es n h.blank
-    where
-      by : (fs : List (Bytes × X)) (m : ℕ) → AreBlank m fs → shown is_blank (drop m fs) ≡ shown is_blank fs
-      by [] zero g = refl
-      by [] (suc m) g = refl
-      by (f ∷ fs) zero g = refl
-      by (f ∷ fs) (suc m) g = by fs m g.1 ∙ sym (ap (λ b. cond b (shown is_blank fs) (f ∷ shown is_blank fs)) g.0)
-
-  pub all-shown : (P : Bytes × X → Type 0) (es : List (Bytes × X)) → AllByRecursion P es → AllByRecursion P (shown is_blank es)
+  pub all-shown : (P : Bytes × X → Type 0) (es : List (Bytes × X)) → AllByRecursion P es → AllByRecursion P (shown hides es)
   all-shown P [] h = tt
-  all-shown P (e ∷ es) h = elim (is_blank e.1) as (λ b. AllByRecursion P (cond b (shown is_blank es) (e ∷ shown is_blank es))) [ true ↦ all-shown P es h.1 | false ↦ (h.0, all-shown P es h.1) ]
+  all-shown P (e ∷ es) h = elim (hides e.1) as (λ b. AllByRecursion P (cond b (shown hides es) (e ∷ shown hides es))) [ true ↦ all-shown P es h.1 | false ↦ (h.0, all-shown P es h.1) ]
 
-  below-shown : (k : Bytes) (es : List (Bytes × X)) → IsBelowAll k es → IsBelowAll k (shown is_blank es)
+  below-shown : (k : Bytes) (es : List (Bytes × X)) → IsBelowAll k es → IsBelowAll k (shown hides es)
   below-shown k [] h = tt
   below-shown k (e ∷ es) h =
       let p = parts _ _ h in
-      elim (is_blank e.1) as (λ b. IsBelowAll k (cond b (shown is_blank es) (e ∷ shown is_blank es))) [ true ↦ below-shown k es p.1 | false ↦ both _ _ p.0 (below-shown k es p.1) ]
+      elim (hides e.1) as (λ b. IsBelowAll k (cond b (shown hides es) (e ∷ shown hides es))) [ true ↦ below-shown k es p.1 | false ↦ both _ _ p.0 (below-shown k es p.1) ]
 
-  pub sorted-shown : (es : List (Bytes × X)) → IsSorted es → IsSorted (shown is_blank es)
+  pub sorted-shown : (es : List (Bytes × X)) → IsSorted es → IsSorted (shown hides es)
   sorted-shown [] h = tt
   sorted-shown (e ∷ es) h =
       let p = parts _ _ h in
-      elim (is_blank e.1) as (λ b. IsSorted (cond b (shown is_blank es) (e ∷ shown is_blank es))) [ true ↦ sorted-shown es p.1 | false ↦ both _ _ (below-shown e.0 es p.0) (sorted-shown es p.1) ]
+      elim (hides e.1) as (λ b. IsSorted (cond b (shown hides es) (e ∷ shown hides es))) [ true ↦ sorted-shown es p.1 | false ↦ both _ _ (below-shown e.0 es p.0) (sorted-shown es p.1) ]

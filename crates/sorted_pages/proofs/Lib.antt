@@ -1,6 +1,7 @@
 pub mod Blanks
 pub mod Keys
 pub mod Placings
+pub mod Summaries
 pub mod Tails
 pub mod Trims
 pub mod Values

@@ -102,10 +102,10 @@ module _ {X : Type 0} where
   all_both k [] ys h g = g
   all_both k (x ∷ xs) ys h g = (h.0, all_both k xs ys h.1 g)
 
-  -- what isn't blank of what a page has from lo on, and of the pages after it
-  pub range_from : (is_blank : X → Bool) (ps : List (Page X)) (lo : Bytes) (hi : Option Bytes) (i : ℕ) (p : Page X) (front : List (Bytes × X)) (after : List (Page X)) (w : IsPlace ps lo i) → p ≡ get_or ps i p → IsInOrder ps → IsTail p.0 lo front → after ≡ w.after
-      → up_to hi (shown is_blank (front ++ entries after)) ≡ In lo hi (shown is_blank (entries ps))
-  range_from is_blank ps lo hi i p front after w is h t same =
+  -- what isn't hidden of what a page has from lo on, and of the pages after it
+  pub range_from : (hides : X → Bool) (ps : List (Page X)) (lo : Bytes) (hi : Option Bytes) (i : ℕ) (p : Page X) (front : List (Bytes × X)) (after : List (Page X)) (w : IsPlace ps lo i) → p ≡ get_or ps i p → IsInOrder ps → IsTail p.0 lo front → after ≡ w.after
+      → up_to hi (shown hides (front ++ entries after)) ≡ In lo hi (shown hides (entries ps))
+  range_from hides ps lo hi i p front after w is h t same =
       let pre : List (Bytes × X) = entries w.before ++ t.before in
       let rest : List (Bytes × X) = front ++ entries w.after in
       let e : entries ps ≡ pre ++ rest =
@@ -115,10 +115,10 @@ module _ {X : Type 0} where
       ∙ ap (λ (l : List (Bytes × X)). entries w.before ++ l) (append_assoc t.before front (entries w.after))
       ∙ sym (append_assoc (entries w.before) t.before (front ++ entries w.after)) in
       let sorted : IsSorted rest = sorted_right pre rest (subst (λ (l : List (Bytes × X)). IsSorted l) e h.sorted) in
-      ap (λ (l : List (Page X)). up_to hi (shown is_blank (front ++ entries l))) same
-      ∙ in_tail lo hi (shown is_blank rest) (sorted-shown is_blank rest sorted) (all-shown is_blank (λ (d : Bytes × X). is_le (key_cmp lo d.0) ≡ true) rest (from_both lo front (entries w.after) t.from (from_above lo (entries w.after) w.above)))
-      ∙ sym (ap (In lo hi) (ap (shown is_blank) e ∙ shown-append is_blank pre rest)
-      ∙ none_below lo hi (shown is_blank pre) (shown is_blank rest) (all-shown is_blank (λ (d : Bytes × X). key_cmp d.0 lo ≡ Less) pre (all_both lo (entries w.before) t.before w.below t.below)))
+      ap (λ (l : List (Page X)). up_to hi (shown hides (front ++ entries l))) same
+      ∙ in_tail lo hi (shown hides rest) (sorted-shown hides rest sorted) (all-shown hides (λ (d : Bytes × X). is_le (key_cmp lo d.0) ≡ true) rest (from_both lo front (entries w.after) t.from (from_above lo (entries w.after) w.above)))
+      ∙ sym (ap (In lo hi) (ap (shown hides) e ∙ shown-append hides pre rest)
+      ∙ none_below lo hi (shown hides pre) (shown hides rest) (all-shown hides (λ (d : Bytes × X). key_cmp d.0 lo ≡ Less) pre (all_both lo (entries w.before) t.before w.below t.below)))
 
   -- the pages after a place
   pub after_is : (ps : List (Page X)) (k : Bytes) (i : ℕ) (w : IsPlace ps k i) → drop (i + 1) ps ≡ w.after
@@ -171,11 +171,11 @@ one_left hi e es t = ap (λ b. cond b (e ∷ up_to hi es) []) t
 pub none_left : {X : Type 0} (hi : Option Bytes) (e : Bytes × X) (es : List (Bytes × X)) → is_below e.0 hi ≡ false → up_to hi (e ∷ es) ≡ []
 none_left hi e es f = ap (λ b. cond b (e ∷ up_to hi es) []) f
 
--- a page is taken, without blank entries at its front
-pub next_page : {X : Type 0} (is_blank : X → Bool) (hi : Option Bytes) (front from : List (Bytes × X)) (page : Page X) (ps rest : List (Page X)) → front ≡ [] → ps ≡ page ∷ rest → shown is_blank from ≡ shown is_blank page.0
-    → up_to hi (shown is_blank (from ++ entries rest)) ≡ up_to hi (shown is_blank (front ++ entries ps))
-next_page {X} is_blank hi front from page ps rest none next same = ap (up_to hi)
-    (shown-append is_blank from (entries rest)
-    ∙ ap (λ l. l ++ shown is_blank (entries rest)) same
-    ∙ sym (shown-append is_blank page.0 (entries rest))
-    ∙ sym (ap (λ (l : List (Bytes × X)). shown is_blank (l ++ entries ps)) none ∙ ap (λ (l : List (Page X)). shown is_blank (entries l)) next))
+-- a page is taken, without some of its entries that are hidden
+pub next_page : {X : Type 0} (hides : X → Bool) (hi : Option Bytes) (front from : List (Bytes × X)) (page : Page X) (ps rest : List (Page X)) → front ≡ [] → ps ≡ page ∷ rest → shown hides from ≡ shown hides page.0
+    → up_to hi (shown hides (from ++ entries rest)) ≡ up_to hi (shown hides (front ++ entries ps))
+next_page {X} hides hi front from page ps rest none next same = ap (up_to hi)
+    (shown-append hides from (entries rest)
+    ∙ ap (λ l. l ++ shown hides (entries rest)) same
+    ∙ sym (shown-append hides page.0 (entries rest))
+    ∙ sym (ap (λ (l : List (Bytes × X)). shown hides (l ++ entries ps)) none ∙ ap (λ (l : List (Page X)). shown hides (entries l)) next))

@@ -4,7 +4,7 @@ use Rattle.std.specs.Prelude.{option_map, map}
 use Rattle.std.specs.List.{AllByRecursion}
 use Rattle.std.specs.Ordering.{is_eq, is_lt, nat_cmp}
 use Rattle.std.specs.Cmp.Lexicographic.{slice_cmp, nat_list_cmp_total}
-use Rattle.std.specs.FinMap.Entries.{find, find-put, below_all, is_sorted}
+use Rattle.std.specs.FinMap.Entries.{find, put, find-put, below_all, is_sorted}
 use Rattle.std.proofs.lemmas.Cmp.{tied_itself}
 use Rattle.std.proofs.lemmas.List.{map-append}
 use Rattle.model.specs.Map.{Bytes, key_cmp}
@@ -65,6 +65,14 @@ module _ {X : Type 0} (f : X → X) where
       ∙ ap (find (slice_cmp nat_cmp) k) (at.written v)
       ∙ find-put (slice_cmp nat_cmp) nat_list_cmp_total k k v es
       ∙ ap (λ o. cond (is_eq o) (Some v) (find (slice_cmp nat_cmp) k es)) (tied_itself nat_list_cmp_total k)
+
+  -- f of its value is written at the key's place
+  pub written_changed : (k : Bytes) (es : List (Bytes × X)) (i : ℕ) (e : Bytes × X) (v : X) → IsAt es k i → e ≡ get_or es i e → v ≡ f e.1 → set es i (e.0, v) ≡ changed_at f k es
+  written_changed k es i e v at is new =
+      ap (λ (q : Bytes). set es i (q, v)) (ap (λ (d : Bytes × X). d.0) is ∙ at.key e)
+      ∙ at.written v
+      ∙ ap (λ w. put (slice_cmp nat_cmp) k w es) new
+      ∙ sym (ap (λ o. put_some k (option_map f o) es) (at.found e ∙ ap (λ (d : Bytes × X). Some d.1) (sym is)))
 
   pub record ChangedAt (k : Bytes) (old new : List (Page X)) : Type 0 where
     pub order : IsInOrder new

@@ -1,5 +1,6 @@
 -- What contracts say of pages.
 pub mod Blanks
+pub mod Summaries
 pub mod Pages
 pub mod Ranges
 pub mod Lent

@@ -1,5 +1,5 @@
 -- The entries that a range has left.
-use Rattle.std.specs.Prelude.{◌≡◌, Bool, true, false, List, [], ◌∷◌, ◌++◌, Option, if◌then◌else◌, Some, None, ⊤}
+use Rattle.std.specs.Prelude.{◌≡◌, ℕ, Bool, true, false, List, [], ◌∷◌, ◌++◌, Option, if◌then◌else◌, Some, None, ⊤}
 use Rattle.std.specs.Borrow.{Bor}
 use Rattle.std.specs.List.{AllByRecursion}
 use Rattle.std.specs.Ordering.{is_le}
@@ -16,13 +16,13 @@ up_to hi [] = []
 up_to hi (e ∷ es) = if is_below e.0 hi then e ∷ up_to hi es else []
 
 -- the entries that are left
-abbrev pub entries_left : {X : Type 0} → (X → Bool) → Entries X → List (Bytes × X)
-entries_left is_blank r = up_to (end_bytes r.hi) (shown is_blank (r.front.now ++ entries r.pages.now))
+abbrev pub entries_left : {X : Type 0} → (ℕ → X → Bool) → Entries X → List (Bytes × X)
+entries_left hides r = up_to (end_bytes r.hi) (shown (hides r.number) (r.front.now ++ entries r.pages.now))
 
--- the first of the entries isn't blank
+-- the first of the entries isn't hidden
 abbrev pub IsFirstShown : {X : Type 0} → (X → Bool) → List (Bytes × X) → Type 0
-IsFirstShown is_blank [] = ⊤
-IsFirstShown is_blank (e ∷ es) = is_blank e.1 ≡ false
+IsFirstShown hides [] = ⊤
+IsFirstShown hides (e ∷ es) = hides e.1 ≡ false
 
 -- a lent entry's key and value
 abbrev pub entry_of : {X : Type 0} → KeyRef × Bor X → Bytes × X

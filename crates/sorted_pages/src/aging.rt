@@ -2,7 +2,7 @@
 
 /// A value that keeps things for numbers, and of which less is needed once fewer numbers are left.
 pub trait Aging {
-    ghost use Rattle.std.specs.Prelude.{◌≡◌, ℕ, Bool, List};
+    ghost use Rattle.std.specs.Prelude.{◌≡◌, ℕ, ◌<◌, ◌≤◌, Bool, true, false, List};
 
     // what is left of it for these numbers
     ghost trimmed: { List ℕ → Self → Self };
@@ -10,8 +10,20 @@ pub trait Aging {
     // it keeps something of this number
     ghost has: { ℕ → Self → Bool };
 
+    // this number sees nothing of it
+    ghost hides: { ℕ → Self → Bool };
+
     // no number sees anything of it
     ghost is_blank: { Self → Bool };
+
+    // the greatest numbers see something of it
+    ghost shows: { Self → Bool };
+
+    // numbers below this one see nothing of it
+    ghost first: { Self → ℕ };
+
+    // from this number on, numbers see something of it only if it shows
+    ghost last: { Self → ℕ };
 
     /// Drops what none of the numbers needs. Takes no memory.
     fn trim(&mut self, numbers: &[u64])
@@ -21,7 +33,26 @@ pub trait Aging {
     fn has(&self, number: u64) -> bool
         ensures { result ≡ has number self.now };
 
+    /// Does this number see nothing of it? Takes no memory.
+    fn hides(&self, number: u64) -> bool
+        ensures { result ≡ hides number self.now };
+
     /// Does no number see anything of it? Takes no memory.
     fn is_blank(&self) -> bool
-        ensures { result ≡ is_blank self.now };
+        ensures value { result ≡ is_blank self.now }
+        ensures hidden { result ≡ true → (n : ℕ) → hides n self.now ≡ true };
+
+    /// Do the greatest numbers see something of it? Takes no memory.
+    fn shows(&self) -> bool
+        ensures { result ≡ shows self.now };
+
+    /// A number below which none sees anything of it. Takes no memory.
+    fn first(&self) -> u64
+        ensures value { result ≡ first self.now }
+        ensures hidden { (n : ℕ) → n < result → hides n self.now ≡ true };
+
+    /// A number from which on none sees anything of it, unless it shows. Takes no memory.
+    fn last(&self) -> u64
+        ensures value { result ≡ last self.now }
+        ensures hidden { (n : ℕ) → result ≤ n → shows self.now ≡ false → hides n self.now ≡ true };
 }

@@ -36,6 +36,15 @@ pub(crate) fn insert<V: Aging>(pages: &mut [Page<V>], key: Key, value: V)
     pages[i].insert(key, value);
 }
 
+// Has the page at `i`, where there is one, look at the value that was lent for writing last.
+pub(crate) fn look_again<V: Aging>(pages: &mut Vec<Page<V>>, i: usize)
+    ensures { pages.new.items ≡ pages.old.items }
+{
+    if i < pages.len() {
+        pages[i].look_again();
+    }
+}
+
 // Makes room for `n` more entries in the page where the key would stand.
 fn grow<V: Aging>(pages: &mut [Page<V>], key: &[u8], n: usize) -> Result<(), AllocError>
     requires order { IsInOrder pages.old }

@@ -7,6 +7,7 @@ mod page;
 mod pages;
 mod placing;
 mod range;
+mod summary;
 mod trimming;
 
 pub use aging::Aging;

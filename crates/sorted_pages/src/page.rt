@@ -11,6 +11,7 @@ ghost use Rattle.sorted_pages.specs.Blanks.{IsBlankTo, shown};
 ghost use Rattle.sorted_pages.specs.Trims.{all_changed, changed_at, passes};
 
 use crate::aging::Aging;
+use crate::summary::Summary;
 use model::Key;
 use std::alloc::{AllocError, Global};
 use std::cmp::Ordering;
@@ -25,18 +26,20 @@ pub(crate) struct Page<V: Aging> {
     entries: Vec<(Key, V)>,
     // of so many of the first entries no number sees anything
     blank: usize,
+    summary: Summary,
 }
 
 impl<V: Aging> Model for Page<V> {
     ghost use Rattle.std.specs.Prelude.{ℕ, List, ◌-◌};
     ghost use Rattle.std.specs.Vec.{vec_len, vec_capacity};
     ghost use Rattle.sorted_pages.specs.Blanks.{IsBlankTo};
+    ghost use Rattle.sorted_pages.specs.Summaries.{IsSummaryBut};
 
     ghost Value = { List (List ℕ × V) × ℕ };
 
     ghost view = { λ p. (p.entries.items, vec_capacity p.entries - vec_len p.entries) };
 
-    ghost invariant = { λ p. IsBlankTo V.is_blank p.entries.items p.blank };
+    ghost invariant = { λ p. IsBlankTo V.hides p.entries.items p.blank × IsSummaryBut V.hides V.shows p.entries.items p.summary };
 }
 
 // Which of the entry's key and another stands first.
@@ -57,6 +60,7 @@ impl<V: Aging> Page<V> {
         Ok(Page {
             entries: Vec::with_capacity(alloc, room)?,
             blank: 0,
+            summary: Summary::new(),
         })
     }
 
@@ -110,10 +114,14 @@ impl<V: Aging> Page<V> {
         &self.entries
     }
 
-    // Lends the entries behind those at the front of which no number sees anything.
-    pub(crate) fn after_blank(&self) -> &[(Key, V)]
-        ensures { shown V.is_blank result.now ≡ shown V.is_blank self.now.0 }
+    // Lends entries that have all of which the number sees something: none where the page knows that it sees nothing, and otherwise
+    // those behind the ones at the front of which no number sees anything.
+    pub(crate) fn seen_from(&self, number: u64) -> &[(Key, V)]
+        ensures { shown (V.hides number) result.now ≡ shown (V.hides number) self.now.0 }
     {
+        if self.summary.hides(&self.entries, number) {
+            return &[];
+        }
         &self.entries()[self.blank..]
     }
 
@@ -147,11 +155,19 @@ impl<V: Aging> Page<V> {
         match self.search(key) {
             Ok(i) => {
                 self.blank = self.blank.min(i);
+                self.summary = self.summary.leave_out(&self.entries, i);
                 let entry = &mut self.entries[i];
                 &mut entry.1
             }
             Err(_) => unreachable!(),
         }
+    }
+
+    // Looks at the value that was lent for writing last.
+    pub(crate) fn look_again(&mut self)
+        ensures { self.new ≡ self.old }
+    {
+        self.summary = self.summary.take_in(&self.entries);
     }
 
     // Makes room for `n` more entries, and where it is missing for `SPARE` more than that.
@@ -178,10 +194,13 @@ impl<V: Aging> Page<V> {
             Ok(_) => unreachable!(),
             Err(i) => {
                 self.blank = self.blank.min(i);
+                self.summary = self.summary.take_in(&self.entries);
                 match self.entries.insert(i, (key, value)) {
                     Ok(()) => {}
                     Err(_) => unreachable!(),
                 }
+                self.summary.left_out = Some(i);
+                self.summary = self.summary.take_in(&self.entries);
             }
         }
     }
@@ -192,7 +211,11 @@ impl<V: Aging + Drop> Page<V> {
     pub(crate) fn push(&mut self, key: Key, value: V) -> Result<(), AllocError>
         ensures { self.new.0 ≡ (if is_ok result then self.old.0 ++ (key, value) ∷ [] else self.old.0) }
     {
+        let last = self.entries.len();
+        self.summary = self.summary.take_in(&self.entries);
         self.entries.push((key, value))?;
+        self.summary.left_out = Some(last);
+        self.summary = self.summary.take_in(&self.entries);
         Ok(())
     }
 
@@ -209,9 +232,12 @@ impl<V: Aging + Drop> Page<V> {
         match upper.reserve_exact(room) {
             Ok(()) => {
                 self.blank = self.blank.min(at);
+                self.summary = Summary::of(&self.entries);
+                let summary = Summary::of(&upper);
                 Ok(Page {
                     entries: upper,
                     blank: 0,
+                    summary,
                 })
             }
             Err(error) => {
@@ -235,10 +261,12 @@ impl<V: Aging> Page<V> {
     {
         match self.search(key) {
             Ok(i) => {
+                self.summary = self.summary.leave_out(&self.entries, i);
                 let entry = &mut self.entries[i];
                 entry.1.trim(numbers);
                 let left = entry.1.has(number);
                 self.blank = blank_from(&self.entries, self.blank.min(i));
+                self.summary = self.summary.take_in(&self.entries);
                 left
             }
             Err(_) => false,
@@ -252,13 +280,14 @@ impl<V: Aging> Page<V> {
     {
         trim_entries(&mut self.entries, numbers);
         self.blank = blank_from(&self.entries, 0);
+        self.summary = Summary::of(&self.entries);
     }
 }
 
 // How many of the first entries no number sees anything of, where `from` of them are known.
 fn blank_from<V: Aging>(entries: &[(Key, V)], from: usize) -> usize
-    requires { IsBlankTo V.is_blank entries.now from }
-    ensures { IsBlankTo V.is_blank entries.now result }
+    requires { IsBlankTo V.hides entries.now from }
+    ensures { IsBlankTo V.hides entries.now result }
 {
     let mut count = from;
     while count < entries.len() && entries[count].1.is_blank() {

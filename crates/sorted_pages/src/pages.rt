@@ -7,10 +7,11 @@ ghost use Rattle.model.specs.Map.{Bytes};
 ghost use Rattle.sorted_pages.specs.Pages.{entries, room_at};
 
 use crate::aging::Aging;
+use crate::changing::{self, look_again};
 use crate::page::Page;
 use crate::placing::{self, place};
 use crate::range::Entries;
-use crate::{changing, trimming};
+use crate::trimming;
 use model::{Key, KeyRef, RangeRef};
 use std::alloc::{AllocError, Global};
 use std::marker::Model;
@@ -20,6 +21,8 @@ use std::marker::Model;
 #[derive(Drop)]
 pub struct SortedPages<V: Aging> {
     pub(crate) pages: Vec<Page<V>>,
+    // the page of the value that was lent for writing last
+    lent: usize,
 }
 
 impl<V: Aging> Model for SortedPages<V> {
@@ -40,6 +43,7 @@ impl<V: Aging> SortedPages<V> {
     {
         SortedPages {
             pages: Vec::new(alloc),
+            lent: 0,
         }
     }
 
@@ -69,7 +73,9 @@ impl<V: Aging> SortedPages<V> {
         ensures put { (v : V) → entries (with_value self.old key.entry.bytes.now v) ≡ put (slice_cmp nat_cmp) key.entry.bytes.now v (entries self.old) }
         ensures rooms { (v : V) (q : Bytes) → room_at q (with_value self.old key.entry.bytes.now v) ≡ room_at q self.old }
     {
+        look_again(&mut self.pages, self.lent);
         let i = place(&self.pages, key.bytes());
+        self.lent = i;
         self.pages[i].value_mut(key.bytes())
     }
 }
@@ -81,9 +87,9 @@ impl<V: Aging> SortedPages<V> {
     ghost use Rattle.sorted_pages.specs.Blanks.{shown};
     ghost use Rattle.sorted_pages.specs.Ranges.{entries_left, first_key};
 
-    // Lends the entries from one key on, up to another.
-    fn within<'a>(&'a self, lo: KeyRef<'_>, hi: Option<KeyRef<'a>>) -> Entries<'a, V>
-        ensures { entries_left V.is_blank result ≡ where_key (slice_cmp nat_cmp) (is_in_range lo.entry.bytes.now (end_bytes hi.entry)) (shown V.is_blank (entries self.now)) }
+    // Lends the entries from one key on, up to another, of which the number sees something.
+    fn within<'a>(&'a self, lo: KeyRef<'_>, hi: Option<KeyRef<'a>>, number: u64) -> Entries<'a, V>
+        ensures { entries_left V.hides result ≡ where_key (slice_cmp nat_cmp) (is_in_range lo.entry.bytes.now (end_bytes hi.entry)) (shown (V.hides number) (entries self.now)) }
     {
         let pages = self.pages.as_slice();
         if pages.is_empty() {
@@ -91,6 +97,7 @@ impl<V: Aging> SortedPages<V> {
                 front: &[],
                 pages,
                 hi,
+                number,
             };
         }
         let i = place(pages, lo.bytes());
@@ -98,28 +105,30 @@ impl<V: Aging> SortedPages<V> {
             front: pages[i].entries_from(lo.bytes()),
             pages: &pages[i + 1..],
             hi,
+            number,
         }
     }
 
-    // Lends the least key that is at least this one, of those whose values aren't blank.
-    fn first_from(&self, key: KeyRef<'_>) -> Option<KeyRef<'_>>
-        ensures { end_bytes result ≡ first_key (where_key (slice_cmp nat_cmp) (is_in_range key.entry.bytes.now None) (shown V.is_blank (entries self.now))) }
+    // Lends the least key that is at least this one, of those of which the number sees something.
+    fn first_from(&self, key: KeyRef<'_>, number: u64) -> Option<KeyRef<'_>>
+        ensures { end_bytes result ≡ first_key (where_key (slice_cmp nat_cmp) (is_in_range key.entry.bytes.now None) (shown (V.hides number) (entries self.now))) }
     {
-        match self.within(key, None).next() {
+        match self.within(key, None, number).next() {
             None => None,
             Some((first, _)) => Some(first),
         }
     }
 
-    /// Lends the entries of the range whose values aren't blank, by rising key. Of a page the blank ones at its front are passed over
-    /// together. Takes no memory.
-    pub fn range(&self, range: RangeRef<'_>) -> Entries<'_, V>
-        ensures { entries_left V.is_blank result ≡ where_key (slice_cmp nat_cmp) (is_in_range range.entry.lo.bytes.now (end_bytes range.entry.hi)) (shown V.is_blank (entries self.now)) }
+    /// Lends the entries of the range of which the number sees something, by rising key. A page is passed over in one step where all
+    /// of its values came after the number, or where none of them shows and the last of their changes came before it; of the others
+    /// the ones at the front that no number sees. Takes no memory.
+    pub fn range(&self, range: RangeRef<'_>, number: u64) -> Entries<'_, V>
+        ensures { entries_left V.hides result ≡ where_key (slice_cmp nat_cmp) (is_in_range range.entry.lo.bytes.now (end_bytes range.entry.hi)) (shown (V.hides number) (entries self.now)) }
     {
         let _ = &self.pages;
         match range.hi {
-            None => self.within(range.lo, None),
-            Some(hi) => self.within(range.lo, self.first_from(hi)),
+            None => self.within(range.lo, None, number),
+            Some(hi) => self.within(range.lo, self.first_from(hi, number), number),
         }
     }
 }

@@ -4,13 +4,14 @@ use crate::page::Page;
 use model::{Key, KeyRef};
 use std::alloc::AllocError;
 
-/// The entries of a range whose values aren't blank, by rising key, lent one by one. Its calls take no memory.
+/// The entries of a range of which a number sees something, by rising key, lent one by one. Its calls take no memory.
 pub struct Entries<'a, V: Aging> {
     // what is left of a page, and the pages after it
     pub(crate) front: &'a [(Key, V)],
     pub(crate) pages: &'a [Page<V>],
     // the upper end, where there is one
     pub(crate) hi: Option<KeyRef<'a>>,
+    pub(crate) number: u64,
 }
 
 impl<'a, V: Aging> Clone for Entries<'a, V> {
@@ -37,14 +38,14 @@ impl<'a, V: Aging> Entries<'a, V> {
         }
     }
 
-    // Passes over the blank entries at the front.
-    fn pass_blank(&mut self)
-        ensures left { entries_left V.is_blank self.new ≡ entries_left V.is_blank self.old }
-        ensures first { IsFirstShown V.is_blank self.new.front.now }
+    // Passes over the entries at the front of which the number sees nothing.
+    fn pass_hidden(&mut self)
+        ensures left { entries_left V.hides self.new ≡ entries_left V.hides self.old }
+        ensures first { IsFirstShown (V.hides self.new.number) self.new.front.now }
         ensures pages { self.new.pages ≡ self.old.pages }
     {
         while let Some((entry, rest)) = self.front.split_first() {
-            if !entry.1.is_blank() {
+            if !entry.1.hides(self.number) {
                 return;
             }
             self.front = rest;
@@ -58,21 +59,21 @@ impl<'a, V: Aging> Iterator for Entries<'a, V> {
     ghost use Rattle.std.specs.Iterator.{YieldsFirstBy, item_count};
     ghost use Rattle.sorted_pages.specs.Ranges.{entries_left, entry_of};
 
-    ghost next_gives = { YieldsFirstBy entry_of (entries_left V.is_blank) };
+    ghost next_gives = { YieldsFirstBy entry_of (entries_left V.hides) };
 
-    ghost remaining = { item_count (entries_left V.is_blank) };
+    ghost remaining = { item_count (entries_left V.hides) };
 
     fn next(&mut self) -> Option<(KeyRef<'a>, &'a V)> {
-        self.pass_blank();
+        self.pass_hidden();
         while self.front.is_empty() {
             match self.pages.split_first() {
                 None => return None,
                 Some((page, rest)) => {
-                    self.front = page.after_blank();
+                    self.front = page.seen_from(self.number);
                     self.pages = rest;
                 }
             }
-            self.pass_blank();
+            self.pass_hidden();
         }
         match self.front.split_first() {
             None => None,

@@ -1,6 +1,6 @@
 -- What the numbers see when chains change.
-use Rattle.std.proofs.Common.{◌≡◌, ℕ, Bool, true, false, T, cond, ◌&&◌, List, [], ◌∷◌, length, Option, Some, None, refl, sym, ap, ◌∙◌, arith}
-use Rattle.std.specs.Prelude.{◌==◌, is_none, nat_le, if◌then◌else◌}
+use Rattle.std.proofs.Common.{◌≡◌, ℕ, ◌<◌, ◌≤◌, min, Bool, true, false, T, cond, ◌&&◌, List, [], ◌∷◌, length, Option, Some, None, refl, sym, ap, ◌∙◌, arith}
+use Rattle.std.specs.Prelude.{◌==◌, fold, is_none, is_some, nat_le, if◌then◌else◌}
 use Rattle.std.proofs.lemmas.Bool.{and_parts, both_ways}
 use Rattle.std.proofs.lemmas.Bool.Decides.{nat_tests}
 use Rattle.std.specs.declared.cmp.Ordering.{Ordering}
@@ -11,7 +11,7 @@ use Rattle.std.specs.FinMap.Entries.{find, put, where_key, below_all, find-put, 
 use Rattle.model.specs.Map.{Bytes, IsMap, is_same_key, value_at, after_write}
 use Rattle.model.proofs.Lookups.{same_key, same_map, value_after_write, IsMap-after_write}
 use Rattle.sorted_pages.specs.Blanks.{shown}
-use Rattle.versions.specs.Chains.{Stamped, ChainValue, Chains, find_chain, is_blank, last_at, seen, seen_in, value_of, with_value, visible}
+use Rattle.versions.specs.Chains.{Stamped, ChainValue, Chains, find_chain, first_shown, hides, is_blank, last_at, least_value, seen, seen_in, shows, u64_max, value_of, with_value, visible}
 use Rattle.model.proofs.Entries.{IsSorted, IsBelowAll, parts}
 
 both : (a b : Bool) → T a → T b → T (a && b)
@@ -113,6 +113,13 @@ visible-where n p (e ∷ es) =
       ]
     ] refl
 
+no_value : (o : Option Bytes) → is_none o ≡ true → o ≡ None
+no_value None s = refl
+no_value (Some v) s = absurd (both_ways false refl s)
+
+hides_none : (n : ℕ) (c : ChainValue) → seen n c ≡ None → hides n c ≡ true
+hides_none n c e = ap is_none e
+
 -- a blank chain shows nothing
 none-blank : (n : ℕ) (c : ChainValue) → is_blank c ≡ true → seen n c ≡ None
 none-blank n c t =
@@ -123,18 +130,52 @@ none-blank n c t =
       | false ↦ no_older c.older none
     ]
   where
-    no_value : (o : Option Bytes) → is_none o ≡ true → o ≡ None
-    no_value None s = refl
-    no_value (Some v) s = absurd (both_ways false refl s)
-
     no_older : (vs : List Stamped) → length vs ≡ 0 → value_of (last_at n None vs) ≡ None
     no_older [] e = refl
     no_older (v ∷ vs) e = absurd (omega arith)
 
-pub visible-shown : (n : ℕ) (es : Chains) → visible n (shown is_blank es) ≡ visible n es
+pub blank_hides : (n : ℕ) (c : ChainValue) → is_blank c ≡ true → hides n c ≡ true
+blank_hides n c t = hides_none n c (none-blank n c t)
+
+not_some : (o : Option Bytes) → is_some o ≡ false → o ≡ None
+not_some None f = refl
+not_some (Some v) f = absurd (both_ways true f refl)
+
+-- from its newest number on, a chain that doesn't show is hidden
+pub last_hides : (n : ℕ) (c : ChainValue) → c.newest.number ≤ n → shows c ≡ false → hides n c ≡ true
+last_hides n c le f =
+    let t : nat_le c.newest.number n ≡ true = grind (arith, nat_tests) in
+    hides_none n c (ap (λ b. value_of (if b then Some c.newest else last_at n None c.older)) t ∙ not_some c.newest.value f)
+
+least_le : (m : ℕ) (vs : List Stamped) → fold least_value m vs ≤ m
+least_le m [] = omega arith
+least_le m (v ∷ vs) = elim (is_some v.value) as (λ b. fold least_value (if b then min m v.number else m) vs ≤ m) [
+  | true ↦ omega (arith, least_le (min m v.number) vs)
+  | false ↦ least_le m vs
+]
+
+-- a version that is a value is above a number below the least of these
+passed : (n m : ℕ) (d : Option Stamped) (v : Stamped) → value_of d ≡ None → n < least_value m v → value_of (if nat_le v.number n then Some v else d) ≡ None
+passed n m d v none lt = elim (is_some v.value) as (λ b. is_some v.value ≡ b → n < (if b then min m v.number else m) → value_of (if nat_le v.number n then Some v else d) ≡ None) [
+  | true ↦ λ t l. (let above : nat_le v.number n ≡ false = grind (arith, nat_tests) in ap (λ b. value_of (if b then Some v else d)) above ∙ none)
+  | false ↦ λ f l. elim (nat_le v.number n) as (λ b. value_of (if b then Some v else d) ≡ None) [ true ↦ not_some v.value f | false ↦ none ]
+] refl lt
+
+-- below the least number of a value, n sees a deletion of them or none of them
+older_hidden : (n m : ℕ) (d : Option Stamped) (vs : List Stamped) → value_of d ≡ None → n < fold least_value m vs → value_of (last_at n d vs) ≡ None
+older_hidden n m d [] none lt = none
+older_hidden n m d (v ∷ vs) none lt =
+    older_hidden n (least_value m v) (if nat_le v.number n then Some v else d) vs (passed n m d v none (let le = least_le (least_value m v) vs in omega (arith, le, lt))) lt
+
+-- below its first value, a chain is hidden
+pub first_hides : (n : ℕ) (c : ChainValue) → n < first_shown c → hides n c ≡ true
+first_hides n c lt = hides_none n c
+    (passed n u64_max (last_at n None c.older) c.newest (older_hidden n (least_value u64_max c.newest) None c.older refl lt) (let le = least_le (least_value u64_max c.newest) c.older in omega (arith, le, lt)))
+
+pub visible-shown : (n : ℕ) (es : Chains) → visible n (shown (hides n) es) ≡ visible n es
 visible-shown n [] = refl
-visible-shown n (e ∷ es) = elim (is_blank e.1) as (λ b. is_blank e.1 ≡ b → visible n (cond b (shown is_blank es) (e ∷ shown is_blank es)) ≡ with_value e.0 (seen n e.1) (visible n es)) [
-  | true ↦ λ t. visible-shown n es ∙ sym (ap (λ o. with_value e.0 o (visible n es)) (none-blank n e.1 t))
+visible-shown n (e ∷ es) = elim (hides n e.1) as (λ b. hides n e.1 ≡ b → visible n (cond b (shown (hides n) es) (e ∷ shown (hides n) es)) ≡ with_value e.0 (seen n e.1) (visible n es)) [
+  | true ↦ λ t. visible-shown n es ∙ sym (ap (λ o. with_value e.0 o (visible n es)) (no_value (seen n e.1) t))
   | false ↦ λ t. ap (with_value e.0 (seen n e.1)) (visible-shown n es)
 ] refl
 

@@ -1,5 +1,5 @@
 -- Chains of versions by key, as contracts see them.
-use Rattle.std.specs.Prelude.{◌≡◌, ℕ, T, ◌+◌, ◌-◌, ◌<◌, ◌≤◌, Bool, List, [], ◌∷◌, ◌++◌, length, Option, Some, None, option_map, nat_le, nat_lt, ◌&&◌, ◌==◌, is_none, if◌then◌else◌, ⊤}
+use Rattle.std.specs.Prelude.{◌≡◌, ℕ, T, ◌+◌, ◌-◌, ◌<◌, ◌≤◌, Bool, List, [], ◌∷◌, ◌++◌, length, Option, Some, None, option_map, nat_le, nat_lt, ◌&&◌, ◌==◌, ◌^◌, min, fold, is_none, is_some, if◌then◌else◌, ⊤}
 use Rattle.std.specs.List.{AllByRecursion, list_any}
 use Rattle.std.specs.Ordering.{nat_cmp}
 use Rattle.std.specs.Cmp.Lexicographic.{slice_cmp}
@@ -58,6 +58,25 @@ find_chain k es = find (slice_cmp nat_cmp) k es
 abbrev pub with_value : Bytes → Option Bytes → KeyMap → KeyMap
 with_value k None ps = ps
 with_value k (Some v) ps = (k, v) ∷ ps
+
+-- n sees nothing of a chain
+abbrev pub hides : ℕ → ChainValue → Bool
+hides n c = is_none (seen n c)
+
+-- the newest version is a value
+abbrev pub shows : ChainValue → Bool
+shows c = is_some c.newest.value
+
+-- the version's number, where it is a value and that is less than n, and else n
+abbrev pub least_value : ℕ → Stamped → ℕ
+least_value n v = if is_some v.value then min n v.number else n
+
+abbrev pub u64_max : ℕ
+u64_max = 2 ^ 64 - 1
+
+-- the least number of a version that is a value, and the greatest of all where none is
+abbrev pub first_shown : ChainValue → ℕ
+first_shown c = fold least_value (least_value u64_max c.newest) c.older
 
 -- the key is deleted, and nothing older is kept, so no number sees anything
 abbrev pub is_blank : ChainValue → Bool

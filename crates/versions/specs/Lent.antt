@@ -2,7 +2,7 @@
 use Rattle.model.specs.Map.{KeyMap}
 use Rattle.sorted_pages.specs.Ranges.{entries_left}
 use Rattle.versions.specs.declared.pairs.Pairs.{Pairs}
-use Rattle.versions.specs.Chains.{is_blank, visible}
+use Rattle.versions.specs.Chains.{hides, visible}
 
 abbrev pub range_pairs : Pairs → KeyMap
-range_pairs p = visible p.n (entries_left is_blank p.entries)
+range_pairs p = visible p.n (entries_left hides p.entries)

@@ -1,6 +1,6 @@
 //! The versions of one key.
 ghost use Rattle.std.specs.Prelude.{◌≡◌, ◌+◌, ◌<◌, ◌≤◌, length, IsOk, OnOk, Some, option_copied};
-ghost use Rattle.versions.specs.Chains.{seen, longer_chain, fresh_chain, reclaimed, is_between, is_blank};
+ghost use Rattle.versions.specs.Chains.{seen, hides, shows, first_shown, least_value, longer_chain, fresh_chain, reclaimed, is_between, is_blank};
 ghost use Rattle.versions.specs.Listings.{has_version};
 
 use sorted_pages::Aging;
@@ -22,6 +22,18 @@ impl Model for Version {
     ghost Value = { Stamped };
 
     ghost view = { λ v. record { number = v.number; value = option_map (λ b. b.items) v.value } };
+}
+
+impl Version {
+    // The version's number, where it is a value and that is less than `n`, and else `n`.
+    fn least_value(&self, n: u64) -> u64
+        ensures { result ≡ least_value n self.now }
+    {
+        match self.value {
+            None => n,
+            Some(_) => n.min(self.number),
+        }
+    }
 }
 
 /// The newest version of a key, and those before it by rising number.
@@ -135,7 +147,15 @@ impl Aging for Chain {
 
     ghost has = { λ n c. has_version n (Some c) };
 
+    ghost hides = { hides };
+
     ghost is_blank = { is_blank };
+
+    ghost shows = { shows };
+
+    ghost first = { first_shown };
+
+    ghost last = { λ c. c.newest.number };
 
     fn trim(&mut self, numbers: &[u64]) {
         self.reclaim(numbers);
@@ -146,9 +166,33 @@ impl Aging for Chain {
         self.older.iter().any(|version| version.number == number)
     }
 
+    // Does the number see no value?
+    fn hides(&self, number: u64) -> bool {
+        self.seen(number).is_none()
+    }
+
     // Is the key deleted, with nothing older?
     fn is_blank(&self) -> bool {
         self.older.is_empty() && self.newest.value.is_none()
+    }
+
+    // Is the newest version a value?
+    fn shows(&self) -> bool {
+        self.newest.value.is_some()
+    }
+
+    // The least number of a version that is a value.
+    fn first(&self) -> u64 {
+        self.older
+            .iter()
+            .fold(self.newest.least_value(u64::MAX), |first, version| {
+                version.least_value(first)
+            })
+    }
+
+    // The number of the newest version.
+    fn last(&self) -> u64 {
+        self.newest.number
     }
 }
 

@@ -13,11 +13,11 @@ pub struct Pairs<'a> {
 impl<'a> Pairs<'a> {
     ghost use Rattle.std.specs.Prelude.{◌≡◌};
     ghost use Rattle.sorted_pages.specs.Ranges.{entries_left};
-    ghost use Rattle.versions.specs.Chains.{is_blank, visible};
+    ghost use Rattle.versions.specs.Chains.{hides, visible};
     ghost use Rattle.versions.specs.Lent.{range_pairs};
 
     pub(crate) fn new(entries: Entries<'a, Chain>, n: u64) -> Pairs<'a>
-        ensures { range_pairs result ≡ visible n (entries_left is_blank entries.entry) }
+        ensures { range_pairs result ≡ visible n (entries_left hides entries.entry) }
     {
         Pairs { entries, n }
     }

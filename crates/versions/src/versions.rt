@@ -88,7 +88,7 @@ impl Versions {
     pub fn range(&self, n: u64, range: RangeRef<'_>) -> Pairs<'_>
         ensures { range_pairs result ≡ pairs_in_range (map_seen self.now n) range.entry.lo.bytes.now (option_map (λ k. k.bytes.now) range.entry.hi) }
     {
-        Pairs::new(self.chains.range(range), n)
+        Pairs::new(self.chains.range(range, n), n)
     }
 
     /// The number of the key's newest version, be it a value or a deletion: that of its last commit, and 0 for a value of the opened

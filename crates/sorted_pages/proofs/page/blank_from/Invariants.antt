@@ -3,7 +3,7 @@ use Rattle.sorted_pages.specs.Blanks.{IsBlankTo}
 use Rattle.sorted_pages.proofs.page.blank_from.Given as goal
 
 abbrev pub invariant-loop-count : goal.invariant-loop-count
-invariant-loop-count g l = IsBlankTo g.V.Aging.is_blank l.entries l.count
+invariant-loop-count g l = IsBlankTo g.V.Aging.hides l.entries l.count
 
 abbrev pub decreases-loop-count : goal.decreases-loop-count
 decreases-loop-count g l = length l.entries - l.count

@@ -10,9 +10,9 @@ use Rattle.sorted_pages.proofs.pages.SortedPages.range.Goals as goal
 
 pub returns-in-Some : goal.returns-in-Some
 returns-in-Some g c =
-    let es = shown g.V.Aging.is_blank (entries c.args.self.now) in
+    let es = shown (g.V.Aging.hides c.args.number) (entries c.args.self.now) in
     let lo = c.args.range.lo.bytes.now in
-    let sorted = sorted-shown g.V.Aging.is_blank (entries c.args.self.now) (subst (λ (l : List (Page g.row.V.Denot)). IsSorted (entries l)) c.self.view_is c.self.invariant.sorted) in
+    let sorted = sorted-shown (g.V.Aging.hides c.args.number) (entries c.args.self.now) (subst (λ (l : List (Page g.row.V.Denot)). IsSorted (entries l)) c.self.view_is c.self.invariant.sorted) in
     c.within-in-Some.ensures
     ∙ ap (λ (h : Option Bytes). In lo h es) c.first_from.ensures
     ∙ same_range lo c.in-Some.hi.bytes.now es sorted

@@ -24,5 +24,5 @@ returns g c =
     let at = subst (λ (k : Bytes). IsPlace ps k i) c.bytes.ensures.bytes c.place-i.ensures in
     let order = subst (λ (l : List (Page g.row.V.Denot)). IsInOrder l) (sym c.as_slice-pages.ensures.value) c.self.invariant in
     let tail = subst (λ (k : Bytes). IsTail page.0 k front) c.bytes-2.ensures.bytes c.entries_from.ensures in
-    range_from g.V.Aging.is_blank ps lo (end_bytes c.args.hi) i page front _ at c.index-pages-i.is order tail (take_rest ps (i + 1) ∙ after_is ps lo i at)
-    ∙ ap (λ (l : List (Page g.row.V.Denot)). In lo (end_bytes c.args.hi) (shown g.V.Aging.is_blank (entries l))) (c.as_slice-pages.ensures.value ∙ c.self.view_is)
+    range_from (g.V.Aging.hides c.args.number) ps lo (end_bytes c.args.hi) i page front _ at c.index-pages-i.is order tail (take_rest ps (i + 1) ∙ after_is ps lo i at)
+    ∙ ap (λ (l : List (Page g.row.V.Denot)). In lo (end_bytes c.args.hi) (shown (g.V.Aging.hides c.args.number) (entries l))) (c.as_slice-pages.ensures.value ∙ c.self.view_is)

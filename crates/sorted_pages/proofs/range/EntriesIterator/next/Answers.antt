@@ -11,8 +11,8 @@ no_entries (y ∷ ys) t = let none : length (y ∷ ys) ≡ 0 = grind (arith, nat
 
 pub loop-page-preserved : goal.loop-page-preserved
 loop-page-preserved g c = record {
-  left = c.pass_blank-in-loop-page.ensures.left
-      ∙ next_page g.V.Aging.is_blank (end_bytes c.loop-page.self.hi) c.loop-page.self.front.now c.after_blank-self.result.now c.in-Some.page.now c.loop-page.self.pages.now c.in-Some.rest.now (no_entries c.loop-page.self.front.now (sym c.loop-page-test.ensures)) c.in-Some.ensures.cases.0 c.after_blank-self.ensures
+  left = c.pass_hidden-in-loop-page.ensures.left
+      ∙ next_page (g.V.Aging.hides c.loop-page.self.number) (end_bytes c.loop-page.self.hi) c.loop-page.self.front.now c.seen_from-self.result.now c.in-Some.page.now c.loop-page.self.pages.now c.in-Some.rest.now (no_entries c.loop-page.self.front.now (sym c.loop-page-test.ensures)) c.in-Some.ensures.cases.0 c.seen_from-self.ensures
       ∙ c.loop-page.invariant.left;
-  first = c.pass_blank-in-loop-page.ensures.first;
+  first = c.pass_hidden-in-loop-page.ensures.first;
 }

@@ -2,11 +2,11 @@ use Rattle.std.proofs.Common.{◌≡◌, length}
 use Rattle.sorted_pages.specs.Ranges.{IsFirstShown, entries_left}
 use Rattle.sorted_pages.proofs.range.EntriesIterator.next.Given as goal
 
--- pages are taken, and no entry that isn't blank
+-- pages are taken, and no entry that isn't hidden
 abbrev pub invariant-loop-page : goal.invariant-loop-page
 invariant-loop-page g l = record {
-  left : entries_left g.V.Aging.is_blank l.self ≡ entries_left g.V.Aging.is_blank l.fn.self;
-  first : IsFirstShown g.V.Aging.is_blank l.self.front.now;
+  left : entries_left g.V.Aging.hides l.self ≡ entries_left g.V.Aging.hides l.fn.self;
+  first : IsFirstShown (g.V.Aging.hides l.self.number) l.self.front.now;
 }
 
 abbrev pub decreases-loop-page : goal.decreases-loop-page

@@ -3,7 +3,7 @@ use Rattle.model.specs.Map.{is_in_range, pairs_in_range}
 use Rattle.model.specs.KeyBytes.{end_bytes}
 use Rattle.sorted_pages.specs.Pages.{entries}
 use Rattle.sorted_pages.specs.Blanks.{shown}
-use Rattle.versions.specs.Chains.{ChainsValue, is_blank, visible}
+use Rattle.versions.specs.Chains.{ChainsValue, hides, visible}
 use Rattle.versions.proofs.Visibles.{visible-where, visible-shown}
 use Rattle.versions.proofs.versions.Versions.range.Goals as goal
 
@@ -14,6 +14,6 @@ returns c =
     let es = entries c.self.inside.chains in
     c.new.ensures
     ∙ ap (visible c.args.n) c.range.ensures
-    ∙ visible-where c.args.n (is_in_range lo hi) (shown is_blank es)
+    ∙ visible-where c.args.n (is_in_range lo hi) (shown (hides c.args.n) es)
     ∙ ap (λ m. pairs_in_range m lo hi) (visible-shown c.args.n es)
     ∙ ap (λ (v : ChainsValue). pairs_in_range (visible c.args.n v.chains) lo hi) c.self.view_is

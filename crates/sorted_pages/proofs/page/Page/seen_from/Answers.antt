@@ -1,0 +1,23 @@
+use Rattle.std.proofs.Common.{List, drop, ap, sym, subst, ◌∙◌}
+use Rattle.std.proofs.lemmas.List.{take_rest}
+use Rattle.model.specs.Map.{Bytes}
+use Rattle.sorted_pages.specs.Pages.{Page}
+use Rattle.sorted_pages.specs.Blanks.{shown}
+use Rattle.sorted_pages.specs.Summaries.{AreHidden}
+use Rattle.sorted_pages.proofs.Blanks.{shown-dropped}
+use Rattle.sorted_pages.proofs.Summaries.{shown-hidden}
+use Rattle.sorted_pages.proofs.page.Page.seen_from.Goals as goal
+
+pub returns : goal.returns
+returns g c =
+    let b = g.V.Aging.hides c.args.number in
+    let n = c.self.inside.blank in
+    ap (shown b) (take_rest c.entries.result.now n ∙ ap (drop n) c.entries.ensures ∙ ap (λ (p : Page g.row.V.Denot). drop n p.0) (sym c.self.view_is))
+    ∙ shown-dropped g.V.Aging.hides c.args.number c.self.inside.entries.items n c.self.invariant.0
+    ∙ ap (λ (p : Page g.row.V.Denot). shown b p.0) c.self.view_is
+
+pub returns-then-hides : goal.returns-then-hides
+returns-then-hides g c =
+    let b = g.V.Aging.hides c.args.number in
+    sym (ap (λ (p : Page g.row.V.Denot). shown b p.0) (sym c.self.view_is)
+    ∙ shown-hidden b c.self.inside.entries.items (subst (λ (l : List (Bytes × g.row.V.Denot)). AreHidden b l) c.deref.ensures.value (c.hides.ensures c.if-hides.true)))

@@ -1,0 +1,10 @@
+use Rattle.std.proofs.Common.{◌≡◌, None, take}
+use Rattle.sorted_pages.specs.Summaries.{IsSummary}
+use Rattle.sorted_pages.proofs.summary.Summary.of.Given as goal
+
+-- the first i are summed up
+abbrev pub invariant-loop-i : goal.invariant-loop-i
+invariant-loop-i g l = record {
+  summary : IsSummary g.V.Aging.hides g.V.Aging.shows (take l.i l.entries) l.summary;
+  whole : l.summary.left_out ≡ None;
+}
