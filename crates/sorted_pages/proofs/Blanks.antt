@@ -22,9 +22,6 @@ module _ {X : Type 0} (hides : ℕ → X → Bool) where
   blank-zero m [] = tt
   blank-zero m (e ∷ es) = tt
 
-  pub none_blank : (es : List (Bytes × X)) → IsBlankTo hides es 0
-  none_blank es = record { within = omega arith; blank = λ m. blank-zero m es }
-
   -- one more
   pub one_blank : (es : List (Bytes × X)) (n : ℕ) (e : Bytes × X) → n < length es → ((m : ℕ) → hides m (get_or es n e).1 ≡ true) → IsBlankTo hides es n → IsBlankTo hides es (n + 1)
   one_blank es n e lt t h = record { within = omega arith; blank = λ m. subst (λ k. AreBlank m k es) {x = suc n} {y = n + 1} (omega arith) (by m es n lt (t m) (h.blank m)) }

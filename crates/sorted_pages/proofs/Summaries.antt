@@ -1,11 +1,10 @@
 -- Summaries of entries: with an entry more, with an entry less, and what they say of each entry.
-use Rattle.std.proofs.Common.{◌≡◌, ℕ, zero, suc, ◌+◌, ◌-◌, ◌<◌, ◌≤◌, Bool, true, false, cond, ◌||◌, min, max, List, [], ◌∷◌, ◌++◌, length, take, drop, get_or, set, Option, Some, None, refl, sym, ap, subst, ◌∙◌, arith, inl, inr}
-use Rattle.std.specs.Prelude.{◌⊎◌, count_by, remove, if◌then◌else◌}
+use Rattle.std.proofs.Common.{◌≡◌, ℕ, zero, suc, ◌+◌, ◌-◌, ◌<◌, ◌≤◌, Bool, true, false, cond, ◌||◌, min, max, List, [], ◌∷◌, ◌++◌, length, take, get_or, set, Option, Some, None, refl, sym, ap, subst, ◌∙◌, arith, inl, inr}
+use Rattle.std.specs.Prelude.{◌⊎◌, count_by, remove}
 use Rattle.std.specs.List.{AllByRecursion, insert}
 use Rattle.std.proofs.lemmas.Bool.{both_ways}
 use Rattle.std.proofs.lemmas.List.{length-append, length-take}
-use Rattle.std.proofs.lemmas.List.Edits.{length-remove}
-use Rattle.std.proofs.lemmas.List.Sums.{sum_by-remove, sum_by-cons, count_by-le-length}
+use Rattle.std.proofs.lemmas.List.Sums.{sum_by-remove, sum_by-cons}
 use Rattle.model.specs.Map.{Bytes}
 use Rattle.sorted_pages.specs.declared.summary.Summary.{Summary}
 use Rattle.sorted_pages.specs.Blanks.{shown}
@@ -25,23 +24,23 @@ module _ {Y : Type 0} where
   all-restored P (y ∷ xs) zero x lt is p h = (subst P is p, h)
   all-restored P (y ∷ xs) (suc i) x lt is p h = (h.0, all-restored P xs i x (omega arith) is p h.1)
 
-  pub remove-set : (xs : List Y) (i : ℕ) (x : Y) → remove (set xs i x) i ≡ remove xs i
+  remove-set : (xs : List Y) (i : ℕ) (x : Y) → remove (set xs i x) i ≡ remove xs i
   remove-set [] zero x = refl
   remove-set [] (suc i) x = refl
   remove-set (y ∷ xs) zero x = refl
   remove-set (y ∷ xs) (suc i) x = ap (λ l. y ∷ l) (remove-set xs i x)
 
-  pub remove-insert : (xs : List Y) (i : ℕ) (x : Y) → i ≤ length xs → remove (insert xs i x) i ≡ xs
+  remove-insert : (xs : List Y) (i : ℕ) (x : Y) → i ≤ length xs → remove (insert xs i x) i ≡ xs
   remove-insert [] zero x le = refl
   remove-insert [] (suc i) x le = absurd (omega arith)
   remove-insert (y ∷ xs) zero x le = refl
   remove-insert (y ∷ xs) (suc i) x le = ap (λ l. y ∷ l) (remove-insert xs i x (omega arith))
 
-  pub remove-last : (xs : List Y) (x : Y) → remove (xs ++ x ∷ []) (length xs) ≡ xs
+  remove-last : (xs : List Y) (x : Y) → remove (xs ++ x ∷ []) (length xs) ≡ xs
   remove-last [] x = refl
   remove-last (y ∷ xs) x = ap (λ l. y ∷ l) (remove-last xs x)
 
-  pub remove-taken : (xs : List Y) (i : ℕ) → i < length xs → remove (take (suc i) xs) i ≡ take i xs
+  remove-taken : (xs : List Y) (i : ℕ) → i < length xs → remove (take (suc i) xs) i ≡ take i xs
   remove-taken [] i lt = absurd (omega arith)
   remove-taken (y ∷ []) zero lt = refl
   remove-taken (y ∷ z ∷ xs) zero lt = refl
@@ -75,7 +74,8 @@ module _ {X : Type 0} (hides : ℕ → X → Bool) (shows : X → Bool) where
   pub none_seen : (s : Summary) → s.live ≡ 0 → IsSummary hides shows [] s
   none_seen s e = record { before = λ n lt. tt; after = λ n le. tt; live = sym e }
 
-  -- a summary says the same of another's live values
+  -- ---- an entry that is left out, or none
+
   pub but_none : (es : List (Bytes × X)) (s : Summary) → s.left_out ≡ None → IsSummary hides shows es s → IsSummaryBut hides shows es s
   but_none es s e h = record {
     within = subst (λ (o : Option ℕ). IsIndexOf o es) (sym e) tt;
@@ -98,7 +98,7 @@ module _ {X : Type 0} (hides : ℕ → X → Bool) (shows : X → Bool) where
   is_rest es s i e h = subst (λ (o : Option ℕ). IsSummary hides shows (all_but o es) s) e h.rest
 
   -- the same fields but for the entry that is left out
-  pub same_summary : (es : List (Bytes × X)) (s t : Summary) → t.first ≡ s.first → t.last ≡ s.last → t.live ≡ s.live → IsSummary hides shows es s → IsSummary hides shows es t
+  same_summary : (es : List (Bytes × X)) (s t : Summary) → t.first ≡ s.first → t.last ≡ s.last → t.live ≡ s.live → IsSummary hides shows es s → IsSummary hides shows es t
   same_summary es s t f l v h = record {
     before = λ n lt. h.before n (omega arith);
     after = λ n le. h.after n (omega arith);
@@ -106,9 +106,6 @@ module _ {X : Type 0} (hides : ℕ → X → Bool) (shows : X → Bool) where
   }
 
   -- ---- an entry more
-
-  pub fits : (es : List (Bytes × X)) (s : Summary) (i : ℕ) → i < length es → IsSummary hides shows (remove es i) s → s.live < length es
-  fits es s i lt h = omega (arith, h.live, count_by-le-length (λ (e : Bytes × X). shows e.1) (remove es i), length-remove es i lt)
 
   pub taken_in : (es : List (Bytes × X)) (s t : Summary) (i f l : ℕ) (e : Bytes × X) → i < length es → e ≡ get_or es i e → IsSummary hides shows (remove es i) s
       → t.first ≡ min s.first f → ((n : ℕ) → n < f → hides n e.1 ≡ true)
@@ -152,13 +149,6 @@ module _ {X : Type 0} (hides : ℕ → X → Bool) (shows : X → Bool) where
 
       counted : count_by (λ (d : Bytes × X). shows d.1) (remove es i) ≡ t.live
       counted = let a = whole in omega (arith, a, live)
-
-  -- one that shows is counted
-  pub some_live : (es : List (Bytes × X)) (s : Summary) (i : ℕ) (e : Bytes × X) → i < length es → e ≡ get_or es i e → IsSummary hides shows es s → shows e.1 ≡ true → 1 ≤ s.live
-  some_live es s i e lt is h t =
-      let whole : count_by (λ (d : Bytes × X). shows d.1) (remove es i) + one e.1 ≡ s.live = ap (λ (d : Bytes × X). count_by (λ (d : Bytes × X). shows d.1) (remove es i) + one d.1) is ∙ sum_by-remove (λ (d : Bytes × X). one d.1) es i e lt ∙ h.live in
-      let counted : one e.1 ≡ 1 = ap (λ b. cond b 1 0) t in
-      omega (arith, whole, counted)
 
   -- another value in the place of the one that is left out
   pub rest-set : (es : List (Bytes × X)) (s : Summary) (i : ℕ) (e : Bytes × X) → s.left_out ≡ Some i → IsSummaryBut hides shows es s → IsSummaryBut hides shows (set es i e) s

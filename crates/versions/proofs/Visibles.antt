@@ -1,7 +1,7 @@
 -- What the numbers see when chains change.
-use Rattle.std.proofs.Common.{◌≡◌, ℕ, ◌<◌, ◌≤◌, min, Bool, true, false, T, cond, ◌&&◌, List, [], ◌∷◌, length, Option, Some, None, refl, sym, ap, ◌∙◌, arith}
-use Rattle.std.specs.Prelude.{◌==◌, fold, is_none, is_some, nat_le, if◌then◌else◌}
-use Rattle.std.proofs.lemmas.Bool.{and_parts, both_ways}
+use Rattle.std.proofs.Common.{◌≡◌, ℕ, ◌<◌, ◌≤◌, min, Bool, true, false, T, cond, ◌&&◌, List, [], ◌∷◌, Option, Some, None, refl, sym, ap, ◌∙◌, arith}
+use Rattle.std.specs.Prelude.{fold, is_none, is_some, nat_le, if◌then◌else◌}
+use Rattle.std.proofs.lemmas.Bool.{both_ways}
 use Rattle.std.proofs.lemmas.Bool.Decides.{nat_tests}
 use Rattle.std.specs.declared.cmp.Ordering.{Ordering}
 use Rattle.std.specs.declared.cmp.Ordering.TheVariants.{Less, Equal, Greater}
@@ -11,7 +11,7 @@ use Rattle.std.specs.FinMap.Entries.{find, put, where_key, below_all, find-put, 
 use Rattle.model.specs.Map.{Bytes, IsMap, is_same_key, value_at, after_write}
 use Rattle.model.proofs.Lookups.{same_key, same_map, value_after_write, IsMap-after_write}
 use Rattle.sorted_pages.specs.Blanks.{shown}
-use Rattle.versions.specs.Chains.{Stamped, ChainValue, Chains, find_chain, first_shown, hides, is_blank, last_at, least_value, seen, seen_in, shows, u64_max, value_of, with_value, visible}
+use Rattle.versions.specs.Chains.{Stamped, ChainValue, Chains, find_chain, first_shown, hides, last_at, least_value, seen, seen_in, u64_max, value_of, with_value, visible}
 use Rattle.model.proofs.Entries.{IsSorted, IsBelowAll, parts}
 
 both : (a b : Bool) → T a → T b → T (a && b)
@@ -120,32 +120,9 @@ no_value (Some v) s = absurd (both_ways false refl s)
 hides_none : (n : ℕ) (c : ChainValue) → seen n c ≡ None → hides n c ≡ true
 hides_none n c e = ap is_none e
 
--- a blank chain shows nothing
-none-blank : (n : ℕ) (c : ChainValue) → is_blank c ≡ true → seen n c ≡ None
-none-blank n c t =
-    let parts = and_parts (length c.older == 0) (is_none c.newest.value) t in
-    let none : length c.older ≡ 0 = grind (arith, nat_tests, parts.0) in
-    elim (nat_le c.newest.number n) as (λ b. value_of (if b then Some c.newest else last_at n None c.older) ≡ None) [
-      | true ↦ no_value c.newest.value parts.1
-      | false ↦ no_older c.older none
-    ]
-  where
-    no_older : (vs : List Stamped) → length vs ≡ 0 → value_of (last_at n None vs) ≡ None
-    no_older [] e = refl
-    no_older (v ∷ vs) e = absurd (omega arith)
-
-pub blank_hides : (n : ℕ) (c : ChainValue) → is_blank c ≡ true → hides n c ≡ true
-blank_hides n c t = hides_none n c (none-blank n c t)
-
 not_some : (o : Option Bytes) → is_some o ≡ false → o ≡ None
 not_some None f = refl
 not_some (Some v) f = absurd (both_ways true f refl)
-
--- from its newest number on, a chain that doesn't show is hidden
-pub last_hides : (n : ℕ) (c : ChainValue) → c.newest.number ≤ n → shows c ≡ false → hides n c ≡ true
-last_hides n c le f =
-    let t : nat_le c.newest.number n ≡ true = grind (arith, nat_tests) in
-    hides_none n c (ap (λ b. value_of (if b then Some c.newest else last_at n None c.older)) t ∙ not_some c.newest.value f)
 
 least_le : (m : ℕ) (vs : List Stamped) → fold least_value m vs ≤ m
 least_le m [] = omega arith

@@ -1,4 +1,3 @@
-use Rattle.std.proofs.Common.{◌≡◌, ℕ, true, get_or, ap, subst, sym, ◌∙◌}
 use Rattle.sorted_pages.proofs.Blanks.{one_blank}
 use Rattle.sorted_pages.proofs.page.blank_from.Goals as goal
 

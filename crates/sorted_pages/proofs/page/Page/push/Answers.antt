@@ -1,4 +1,4 @@
-use Rattle.std.proofs.Common.{◌≡◌, List, [], ◌∷◌, ◌++◌, length, refl, sym, subst, ◌∙◌, arith}
+use Rattle.std.proofs.Common.{◌≡◌, List, length, refl, sym, subst, ◌∙◌, arith}
 use Rattle.model.specs.Map.{Bytes}
 use Rattle.sorted_pages.specs.Blanks.{IsBlankTo}
 use Rattle.sorted_pages.specs.Summaries.{IsSummary}

@@ -1,4 +1,4 @@
-use Rattle.std.proofs.Common.{List, get_or, ap, sym, subst, ◌∙◌, arith}
+use Rattle.std.proofs.Common.{List, ap, sym, subst, ◌∙◌, arith}
 use Rattle.model.specs.Map.{Bytes}
 use Rattle.model.specs.Entries.{IsAt}
 use Rattle.sorted_pages.specs.Pages.{Page}

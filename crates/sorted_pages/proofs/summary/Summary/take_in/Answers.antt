@@ -1,4 +1,4 @@
-use Rattle.std.proofs.Common.{◌≡◌, ℕ, ◌+◌, cond, get_or, sym, ap, ◌∙◌, arith}
+use Rattle.std.proofs.Common.{◌≡◌, ◌+◌, cond, get_or, sym, ap, ◌∙◌, arith}
 use Rattle.sorted_pages.proofs.Summaries.{index_in, is_rest, taken_in}
 use Rattle.sorted_pages.proofs.summary.Summary.take_in.Goals as goal
 use Rattle.sorted_pages.proofs.summary.Summary.take_in.Goals.{then-shows, else-shows}
