@@ -20,12 +20,11 @@ from tracing import Trace, printed
 
 MORE = "\nFor more information, try '--help'.\n"
 OF_PROGRAM = "\nUsage: ssikvd <COMMAND>\n"
-OF_CREATE = "\nUsage: ssikvd create --data <F> --sectors <N>\n"
-OF_SERVE = "\nUsage: ssikvd serve --data <F> --listen <A>\n"
-OF_CHECK = "\nUsage: ssikvd check --data <F>\n"
-OF_COMPACT = "\nUsage: ssikvd compact [OPTIONS] --from <F> --to <G>\n"
+OF_CREATE = "\nUsage: ssikvd create --data <FILE> --sectors <N>\n"
+OF_SERVE = "\nUsage: ssikvd serve --data <FILE> --listen <ADDR:PORT>\n"
+OF_CHECK = "\nUsage: ssikvd check --data <FILE>\n"
+OF_COMPACT = "\nUsage: ssikvd compact [OPTIONS] --from <FILE> --to <FILE>\n"
 OF_PLAY = "\nUsage: ssikvd play [OPTIONS]\n"
-OF_HELP = "  -h, --help         Print help\n"
 
 HELP = """An ordered store whose transactions are serializable
 """ + OF_PROGRAM + """
@@ -40,15 +39,80 @@ Commands:
 Options:
   -h, --help     Print help
   -V, --version  Print version
+
+Examples:
+  ssikvd create --data shop.data --sectors 1024
+  ssikvd serve --data shop.data --listen 127.0.0.1:7777
+  ssikvd check --data shop.data
+  ssikvd compact --from shop.data --to shop.new --sectors 2048
+  printf '1 BEGIN\\n1 SET a 22\\n1 COMMIT\\n' | ssikvd play
+
+Exit status:
+  0  the command did its work, or printed help or the version
+  1  the command line was refused
+  2  a line of a script was refused
+  3  memory, a file, the log or a socket failed
 """
 HELP_OF_CREATE = "Makes a data file and formats it\n" + OF_CREATE + """
 Options:
-      --data <F>     The file, which must not exist
+      --data <FILE>  The file, which must not exist
       --sectors <N>  How many sectors of 512 bytes, 2 to 4194304
-""" + OF_HELP
+  -h, --help         Print help
 
+Example:
+  ssikvd create --data shop.data --sectors 1024
+"""
+HELP_OF_SERVE = "Serves a data file\n" + OF_SERVE + """
+Options:
+      --data <FILE>         The file
+      --listen <ADDR:PORT>  The numeric address and port, as 127.0.0.1:7777 or [::1]:7777
+  -h, --help                Print help
+
+One server for a file: the program does not stop a second one, which would write over commits.
+There is no authentication and no TLS: whoever can connect reads and writes everything.
+
+Example:
+  ssikvd serve --data shop.data --listen 127.0.0.1:7777
+"""
+HELP_OF_CHECK = "Opens a data file and counts what it holds\n" + OF_CHECK + """
+Options:
+      --data <FILE>  The file
+  -h, --help         Print help
+
+It prints one line: records R keys K sectors U of N, where U of the N sectors are used.
+
+Example:
+  ssikvd check --data shop.data
+"""
+HELP_OF_COMPACT = "Copies the map of a data file into a new data file\n" + OF_COMPACT + """
+Options:
+      --from <FILE>  The file, which is only read
+      --to <FILE>    The new file, which must not exist
+      --sectors <N>  At least how many sectors of 512 bytes, 2 to 4194304 [default: as many as the map needs]
+  -h, --help         Print help
+
+Stop the server first: what it commits meanwhile may be missing from the new file.
+The new file never has fewer sectors than the old one.
+
+Example:
+  ssikvd compact --from shop.data --to shop.new --sectors 2048
+"""
+HELP_OF_PLAY = "Runs the lines of standard input over a device in memory\n" + OF_PLAY + """
+Options:
+      --sectors <N>  How many sectors of 512 bytes, 2 to 65536 [default: 4096]
+  -h, --help         Print help
+
+A line is a session's number and one request of it.
+
+Example:
+  printf '1 BEGIN\\n1 SET a 22\\n1 COMMIT\\n' | ssikvd play
+"""
 HELPS = {
-    "--version": "ssikvd 0.1.0\n", "-V": "ssikvd 0.1.0\n", "help": HELP, "--help": HELP, "-h": HELP, "help create": HELP_OF_CREATE, "create --help": HELP_OF_CREATE, "create -h": HELP_OF_CREATE}
+    "--version": "ssikvd 0.1.0\n", "-V": "ssikvd 0.1.0\n", "help": HELP, "--help": HELP, "-h": HELP,
+    **{form.format(command): text
+       for command, text in (("create", HELP_OF_CREATE), ("serve", HELP_OF_SERVE), ("check", HELP_OF_CHECK), ("compact", HELP_OF_COMPACT),
+                             ("play", HELP_OF_PLAY))
+       for form in ("help {}", "{} --help", "{} -h")}}
 
 
 def out_of_range(value, most):
@@ -74,7 +138,7 @@ REFUSED = {
     "help bogus": "error: unrecognized subcommand 'bogus'\n" + OF_PROGRAM + MORE,
     "Create": "error: unrecognized subcommand 'Create'\n\n  tip: a similar subcommand exists: 'create'\n" + OF_PROGRAM + MORE,
     "check --version": unexpected("--version", OF_CHECK),
-    "create": required(OF_CREATE, "--data <F>", "--sectors <N>"),
+    "create": required(OF_CREATE, "--data <FILE>", "--sectors <N>"),
     "create --data DATA --sectors 0": out_of_range(0, 4_194_304),
     "create --data DATA --sectors 1": out_of_range(1, 4_194_304),
     "create --data DATA --sectors 4194305": out_of_range(4_194_305, 4_194_304),
@@ -86,12 +150,12 @@ REFUSED = {
     "create --data DATA --sectors=": no_number("", "cannot parse integer from empty string"),
     "create --data DATA --sectors": "error: a value is required for '--sectors <N>' but none was supplied\n" + MORE,
     "create --data DATA --sectors 2 --bogus": unexpected("--bogus", OF_CREATE),
-    "create --data DATA --data DATA --sectors 2": "error: the argument '--data <F>' cannot be used multiple times\n" + OF_CREATE + MORE,
-    "serve": required(OF_SERVE, "--data <F>", "--listen <A>"),
-    "check": required(OF_CHECK, "--data <F>"),
-    "check --data": "error: a value is required for '--data <F>' but none was supplied\n" + MORE,
+    "create --data DATA --data DATA --sectors 2": "error: the argument '--data <FILE>' cannot be used multiple times\n" + OF_CREATE + MORE,
+    "serve": required(OF_SERVE, "--data <FILE>", "--listen <ADDR:PORT>"),
+    "check": required(OF_CHECK, "--data <FILE>"),
+    "check --data": "error: a value is required for '--data <FILE>' but none was supplied\n" + MORE,
     "check --data DATA more": unexpected("more", OF_CHECK),
-    "compact": required("\nUsage: ssikvd compact --from <F> --to <G>\n", "--from <F>", "--to <G>"),
+    "compact": required("\nUsage: ssikvd compact --from <FILE> --to <FILE>\n", "--from <FILE>", "--to <FILE>"),
     "compact --from DATA --to DATA --sectors 1": out_of_range(1, 4_194_304),
     "compact --from DATA --to DATA --sectors 4194305": out_of_range(4_194_305, 4_194_304),
     "play --sectors 1": out_of_range(1, 65_536),

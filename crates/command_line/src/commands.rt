@@ -1,5 +1,8 @@
 //! The commands as `clap` reads them.
 
+use crate::texts::{
+    AFTER_CHECK, AFTER_COMPACT, AFTER_CREATE, AFTER_PLAY, AFTER_PROGRAM, AFTER_SERVE,
+};
 use clap::{Arg, ArgAction, Command};
 use std::alloc::{AllocError, Global};
 
@@ -26,34 +29,45 @@ fn create<'a>(alloc: Global) -> Result<Command<'a>, AllocError> {
         .value_parser(clap::value_parser!(u64).range(2..=4_194_304));
     Command::new(alloc, "create")
         .about("Makes a data file and formats it")
-        .arg(text_option(alloc, "data", "F", "The file, which must not exist"))?
+        .after_help(AFTER_CREATE)
+        .arg(text_option(alloc, "data", "FILE", "The file, which must not exist"))?
         .arg(sectors)
 }
 
 fn serve<'a>(alloc: Global) -> Result<Command<'a>, AllocError> {
     Command::new(alloc, "serve")
         .about("Serves a data file")
-        .arg(text_option(alloc, "data", "F", "The file"))?
-        .arg(text_option(alloc, "listen", "A", "The address and port to listen on"))
+        .after_help(AFTER_SERVE)
+        .arg(text_option(alloc, "data", "FILE", "The file"))?
+        .arg(text_option(
+            alloc,
+            "listen",
+            "ADDR:PORT",
+            "The numeric address and port, as 127.0.0.1:7777 or [::1]:7777",
+        ))
 }
 
 fn check<'a>(alloc: Global) -> Result<Command<'a>, AllocError> {
     Command::new(alloc, "check")
         .about("Opens a data file and counts what it holds")
-        .arg(text_option(alloc, "data", "F", "The file"))
+        .after_help(AFTER_CHECK)
+        .arg(text_option(alloc, "data", "FILE", "The file"))
 }
 
 fn compact<'a>(alloc: Global) -> Result<Command<'a>, AllocError> {
     let sectors = Arg::new(alloc, "sectors")
         .long("sectors")
         .value_name("N")
-        .help("At least how many sectors of 512 bytes, 2 to 4194304")
+        .help(
+            "At least how many sectors of 512 bytes, 2 to 4194304 [default: as many as the map needs]",
+        )
         .action(ArgAction::Set)
         .value_parser(clap::value_parser!(u64).range(2..=4_194_304));
     Command::new(alloc, "compact")
         .about("Copies the map of a data file into a new data file")
-        .arg(text_option(alloc, "from", "F", "The file, which is only read"))?
-        .arg(text_option(alloc, "to", "G", "The new file, which must not exist"))?
+        .after_help(AFTER_COMPACT)
+        .arg(text_option(alloc, "from", "FILE", "The file, which is only read"))?
+        .arg(text_option(alloc, "to", "FILE", "The new file, which must not exist"))?
         .arg(sectors)
 }
 
@@ -67,6 +81,7 @@ fn play<'a>(alloc: Global) -> Result<Command<'a>, AllocError> {
         .value_parser(clap::value_parser!(u64).range(2..=65_536));
     Command::new(alloc, "play")
         .about("Runs the lines of standard input over a device in memory")
+        .after_help(AFTER_PLAY)
         .arg(sectors)
 }
 
@@ -74,6 +89,7 @@ fn play<'a>(alloc: Global) -> Result<Command<'a>, AllocError> {
 pub(crate) fn command<'a>(alloc: Global) -> Result<Command<'a>, AllocError> {
     Command::new(alloc, "ssikvd")
         .about("An ordered store whose transactions are serializable")
+        .after_help(AFTER_PROGRAM)
         .version(VERSION)
         .subcommand_required(true)
         .subcommand(create(alloc)?)?

@@ -5,6 +5,7 @@ mod asked;
 mod commands;
 mod reading;
 mod refusals;
+mod texts;
 
 pub use asked::Asked;
 pub use reading::parse;
