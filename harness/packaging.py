@@ -1,0 +1,380 @@
+"""What is installed and packed: man pages, completions, `make install`, `make dist`, the Debian package.
+
+The program's `--help` is what the rest is compared with. Its commands, options and exit statuses are those of ssikvd(1) and of the completions
+for bash, zsh and fish, which are asked in these shells; its examples are run. The refusals of docs/PROTOCOL.md stand in ssikvd(7), and the
+example of docs/LOG_FORMAT.md in ssikvd(5). Then what is installed, and that nothing of it is left behind; that packing the same program twice gives
+the same bytes; that what is packed installs the same. `long` also builds the Debian package, looks at it with lintian, and installs it
+where it runs as root. Where a tool is missing, a line says what was left out.
+"""
+import filecmp
+import os
+import pty
+import re
+import select
+import shutil
+import subprocess
+import sys
+import time
+
+from client import PATIENCE, PROGRAM, Server, Tally, expect, folder, free_port, is_long, need, run, run_harness
+
+TOP = os.path.normpath(os.path.join(os.path.dirname(os.path.abspath(__file__)), ".."))
+BINARY = os.path.abspath(PROGRAM)
+MANUALS = ("man/ssikvd.1", "man/ssikvd.5", "man/ssikvd.7")
+GENERAL = {"-h", "--help"}
+NEVER_PRINTED = {"ssikvd: not empty"}    # of a log made in a file that isn't empty, which no command asks for
+
+
+def text_of(name):
+    with open(os.path.join(TOP, name), encoding="utf-8") as file:
+        return file.read()
+
+
+def left_out(what, tool):
+    """Is this tool missing? Then a line says what is left out."""
+    if not shutil.which(tool):
+        print(f"  {what}: not run, for want of {tool}", flush=True)
+        return True
+    return False
+
+
+def done(words, seconds=PATIENCE, **how):
+    """A tool that ends by itself with status 0: its output."""
+    ran = subprocess.run(words, stdin=subprocess.DEVNULL, capture_output=True, text=True, timeout=seconds, **how)
+    expect(ran.returncode == 0, f"{words} ended with {ran.returncode}: {(ran.stdout + ran.stderr)[-400:]}")
+    return ran.stdout + ran.stderr
+
+
+# What the program says of itself
+
+def help_of(*command):
+    status, out, err = run([*command, "--help"])
+    expect(status == 0 and not err, f"--help of {command} ended with {status}, {err}")
+    return out.decode()
+
+
+def section(text, head):
+    """The lines below a head of a help text, up to the next blank line."""
+    found = re.search(rf"^{head}:\n((?:  .*\n?)+)", text, re.M)
+    expect(found, f"the help has no {head}")
+    return [line.strip() for line in found[1].splitlines()]
+
+
+def options_of(text):
+    """The options of a help text, each with the name of its value, or with None."""
+    found = {}
+    for line in section(text, "Options"):
+        names = re.match(r"(-\w, )?(--\w+)(?: <(.+?)>)?", line)
+        found[names[2]] = names[3]
+        if names[1]:
+            found[names[1][:2]] = None
+    return found
+
+
+def commands_of_program():
+    """Each command with its options, as the program's own help gives them; `help` has none."""
+    names = [line.split()[0] for line in section(help_of(), "Commands")]
+    return {name: {} if name == "help" else options_of(help_of(name)) for name in names}
+
+
+# The man pages
+
+def manual_section(name, head):
+    found = re.search(rf"^\.Sh {head}\n(.*?)(?=^\.Sh |\Z)", text_of(name), re.M | re.S)
+    expect(found, f"{name} has no section {head}")
+    return found[1]
+
+
+def manual_options(text, command_macro):
+    """The commands of a part of ssikvd(1), each with its options and the names of their values."""
+    found = {}
+    for line in text.splitlines():
+        command = re.match(rf"\.{command_macro} (\w+)", line)
+        option = re.match(r"\.(?:It |Op )?Fl Fl (\w+) Ar (\S+)", line)
+        if command:
+            found[command[1]] = {}
+        elif option:
+            list(found.values())[-1]["--" + option[1]] = option[2]
+    return found
+
+
+def literal_lines(text):
+    """The lines of the literal displays of a man page."""
+    return [line.replace("\\e", "\\") for block in re.findall(r"^\.Bd -literal.*?\n(.*?)^\.Ed", text, re.M | re.S) for line in block.splitlines()]
+
+
+def first_manual(tally):
+    commands = commands_of_program()
+    due = {name: {option: value for option, value in options.items() if option not in GENERAL} for name, options in commands.items()}
+    for head, macro in (("SYNOPSIS", "Cm"), ("DESCRIPTION", "It Cm")):
+        with tally.run(f"the {head} of ssikvd(1)"):
+            found = manual_options(manual_section(MANUALS[0], head), macro)
+            expect(found == due, f"it has {found}, the help {due}")
+    with tally.run("the options of the program in ssikvd(1)"):
+        found = {f"-{dashes and '-'}{name}" for dashes, name in re.findall(r"Fl (Fl )?(\w+)(?= ,|\n|$)", manual_section(MANUALS[0], "DESCRIPTION"), re.M)}
+        expect(found == set(options_of(help_of())), f"it has {found}")
+    with tally.run("the exit statuses of ssikvd(1)"):
+        found = re.findall(r"^\.It (\d)\n(.*)\.$", manual_section(MANUALS[0], "EXIT STATUS"), re.M)
+        due = [(line[0], line[1:].strip()) for line in section(help_of(), "Exit status")]
+        expect([(number, text[0].lower() + text[1:]) for number, text in found] == due, f"it has {found}, the help {due}")
+    with tally.run("the examples of ssikvd(1)"):
+        found = literal_lines(manual_section(MANUALS[0], "EXAMPLES"))
+        expect(found == section(help_of(), "Examples"), f"it has {found}")
+    with tally.run("the lines of standard error in ssikvd(1)"):
+        due = {text for text in re.findall(r'"(ssikvd: [^"{]*?) ?(?:\{.*?)?"', text_of("crates/commands/src/faults.rt"))} - NEVER_PRINTED
+        found = {re.sub(r" (Ar|No) .*", "", line) for line in re.findall(r"^\.It (ssikvd: .*)", manual_section(MANUALS[0], "DIAGNOSTICS"), re.M)}
+        expect(due and due <= found, f"it lacks {due - found}")
+
+
+def table(name, head):
+    """The first cells of the rows of a document's table, of which this is the first head."""
+    found = re.search(rf"^\| {head} \|.*\n\|[-|]+\n((?:\|.*\n)+)", text_of(name), re.M)
+    expect(found, f"{name} has no table of {head}")
+    return [row.split("|")[1].strip().strip("`") for row in found[1].splitlines()]
+
+
+def other_manuals(tally):
+    with tally.run("the refusals of ssikvd(7)"):
+        due = [re.sub(r"<(\w+)>", lambda word: "Ar " + word[1].upper(), text) for text in table("docs/PROTOCOL.md", "Text")]
+        found = re.findall(r"^\.It ([A-Z]+ .*)$", text_of(MANUALS[2]), re.M)
+        expect(found == due, f"it has {found}, the protocol {due}")
+    with tally.run("the commands of ssikvd(7)"):
+        found = [line.replace(" Ar", "") for line in re.findall(r"^\.It Ic (.*)$", text_of(MANUALS[2]), re.M)]
+        expect(found == table("docs/PROTOCOL.md", "Command"), f"it has {found}")
+    with tally.run("the example of ssikvd(7)"):
+        rows = [re.split(r" {2,}", line) for line in literal_lines(manual_section(MANUALS[2], "EXAMPLES")) if line[0].isdigit()]
+        found = run(["play"], "".join(request + "\n" for request, _ in rows).encode())
+        due = "".join(f"{request.split()[0]} {reply}\n" for request, reply in rows)
+        expect(rows and found == (0, due.encode(), b""), f"`play` printed {found}, due is {due!r}")
+    with tally.run("the example of ssikvd(5)"):
+        due = set(re.findall(r"`([0-9a-f]{8,})`", text_of("docs/LOG_FORMAT.md").partition("## An example")[2]))
+        found = set(re.findall(r"\b[0-9a-f]{8,}\b", manual_section(MANUALS[1], "EXAMPLES")))
+        expect(due and found == due, f"it has {found}, the document {due}")
+
+
+def man_lints(tally):
+    pages = [os.path.join(TOP, name) for name in MANUALS]
+    with tally.run("the man pages that ours name"):
+        named = set(re.findall(r"^\.Xr (ssikvd) (\d)", "".join(map(text_of, MANUALS)), re.M))
+        expect(named == {("ssikvd", name[-1]) for name in MANUALS}, f"they name {named}")
+    if not left_out("mandoc -Tlint", "mandoc"):
+        with tally.run("mandoc -Tlint"):
+            lint = subprocess.run(["mandoc", "-Tlint", *pages], capture_output=True, text=True, timeout=PATIENCE)
+            said = [line for line in lint.stdout.splitlines() if "referenced manual not found" not in line]
+            expect(not said, f"mandoc says {said[:3]}")
+    if not left_out("man --warnings", "man"):
+        for page in pages:
+            with tally.run(f"man --warnings of {os.path.basename(page)}"):
+                shown = subprocess.run(
+                    ["man", "--warnings", "-l", page], capture_output=True, text=True, timeout=PATIENCE,
+                    env={**os.environ, "LC_ALL": "C.UTF-8", "MANWIDTH": "80", "MANPAGER": "cat"})
+                expect(shown.returncode == 0 and not shown.stderr and "SEE ALSO" in shown.stdout, f"man says {shown.stderr[-300:]}")
+
+
+# The examples of the help
+
+def help_examples(tally):
+    with folder() as place:
+        os.symlink(BINARY, os.path.join(place, "ssikvd"))
+        for line in section(help_of(), "Examples"):
+            with tally.run(f"the example {line}"):
+                if " serve " in line:
+                    with Server(os.path.join(place, "shop.data")) as server:
+                        expect(server.is_listening(), f"it printed {server.line}")
+                else:
+                    done(["sh", "-c", line], cwd=place, env={**os.environ, "PATH": f"{place}:{os.environ['PATH']}"})
+    for command in commands_of_program():
+        with tally.run(f"the example of {command}"):
+            example = [] if command == "help" else section(help_of(command), "Example")
+            expect(set(example) <= set(section(help_of(), "Examples")), f"the help of the program hasn't {example}")
+
+
+# The completions
+
+BASH = """
+. "$1"
+shift
+COMP_WORDS=("$@")
+COMP_CWORD=$(($# - 1))
+_ssikvd
+printf '%s\\n' "${COMPREPLY[@]}"
+"""
+
+
+def by_bash(*words):
+    return done(["bash", "-c", BASH, "bash", os.path.join(TOP, "completions", "ssikvd.bash"), "ssikvd", *words]).split()
+
+
+def by_fish(*words):
+    line = " ".join(("ssikvd", *words))
+    command = f"source {os.path.join(TOP, 'completions', 'ssikvd.fish')}; complete -C '{line}'"
+    return [found.split("\t")[0] for found in done(["fish", "--no-config", "-c", command]).splitlines()]
+
+
+class Zsh:
+    """A zsh at a terminal, which is typed into."""
+
+    SETUP = (
+        "PS1='> '; unsetopt zle_bracketed_paste; fpath=({0} $fpath); autoload -U compinit; compinit -u -D\n"
+        "zstyle ':completion:*' list-prompt ''; zstyle ':completion:*:default' list-colors ''; LISTMAX=0; bindkey '^I' list-choices\n")
+
+    def __init__(self):
+        self.process, self.screen = pty.fork()
+        if not self.process:
+            os.execvpe("zsh", ["zsh", "-f", "-i"], {**os.environ, "TERM": "dumb", "COLUMNS": "150", "LINES": "60"})
+        self._type(self.SETUP.format(os.path.join(TOP, "completions")) + "echo rea''dy\n", "ready")
+
+    def _type(self, keys, due):
+        """Types, and answers what is shown until this text was, or until nothing more comes."""
+        os.write(self.screen, keys.encode())
+        shown, end = "", time.monotonic() + PATIENCE
+        while due not in shown and time.monotonic() < end:
+            if select.select([self.screen], [], [], 1.0)[0]:
+                shown += os.read(self.screen, 65_536).decode(errors="replace")
+            elif due == "--":
+                break
+        return re.sub(r"\x1b\[[0-9;?]*[A-Za-z]|\r", "", shown)
+
+    def choices(self, *words):
+        """The words that are offered at the end of this line."""
+        line = " ".join(("ssikvd", *words))
+        shown = self._type(f"{line}\t\x15echo se''en\n", "seen")
+        return re.findall(r"(?<![\w-])--?\w+|^\w+(?= +--)", shown.partition(line)[2], re.M)
+
+    def end(self):
+        os.write(self.screen, b"\x15exit\n")
+        os.close(self.screen)
+        os.waitpid(self.process, 0)
+
+
+def completions(tally):
+    commands = commands_of_program()
+    asked = []
+    for shell, ask in (("bash", by_bash), ("fish", by_fish)):
+        if not left_out(f"the completion for {shell}", shell):
+            asked.append((shell, ask))
+    zsh = None if left_out("the completion for zsh", "zsh") else Zsh()
+    if zsh:
+        asked.append(("zsh", zsh.choices))
+    for shell, ask in asked:
+        with tally.run(f"the commands that {shell} offers"):
+            found = set(ask("")) - {"-h", "--help", "-V", "--version"}
+            expect(found == set(commands), f"it offers {sorted(found)}")
+        for command, options in commands.items():
+            with tally.run(f"the options of {command} that {shell} offers"):
+                due = {option for option in options if option.startswith("--")}
+                found = {word for word in ask(command, "--") if len(word) > 2 and word.startswith("--")}
+                expect(found == due or command == "help", f"it offers {sorted(found)}, due are {sorted(due)}")
+    if zsh:
+        zsh.end()
+    if not left_out("shellcheck of the completion for bash", "shellcheck"):
+        with tally.run("shellcheck"):
+            done(["shellcheck", "-s", "bash", os.path.join(TOP, "completions", "ssikvd.bash")])
+
+
+# What is installed and packed
+
+def files_below(place):
+    """The files of a folder with their bytes' owners: name, mode."""
+    return {
+        os.path.relpath(os.path.join(at, name), place): os.stat(os.path.join(at, name)).st_mode & 0o777
+        for at, _, names in os.walk(place) for name in names}
+
+
+def make(place, *words):
+    return done(["make", "-C", place, *words], 6 * PATIENCE)
+
+
+def copy_of_top(place, name):
+    """A copy of the repository's files, without what was built."""
+    copy = os.path.join(place, name)
+    shutil.copytree(TOP, copy, ignore=shutil.ignore_patterns("out", ".git", "__pycache__"))
+    return copy
+
+
+def installed(tally, root):
+    with tally.run("make install"):
+        make(TOP, "install", f"DESTDIR={root}", "PREFIX=/usr", f"PROGRAM={BINARY}")
+        found = files_below(root)
+        due = {
+            "usr/bin/ssikvd": 0o755, "usr/share/man/man1/ssikvd.1": 0o644, "usr/share/man/man5/ssikvd.5": 0o644,
+            "usr/share/man/man7/ssikvd.7": 0o644, "usr/share/bash-completion/completions/ssikvd": 0o644,
+            "usr/share/zsh/site-functions/_ssikvd": 0o644, "usr/share/fish/vendor_completions.d/ssikvd.fish": 0o644,
+            "usr/share/doc/ssikvd/LICENSE": 0o644, "usr/share/doc/ssikvd/docs/PROTOCOL.md": 0o644,
+            "usr/share/doc/ssikvd/examples/write_skew.play": 0o644}
+        expect(due.items() <= found.items(), f"it lacks {due.items() - found.items()}")
+        expect(filecmp.cmp(os.path.join(root, "usr/bin/ssikvd"), BINARY, False), "another program was installed")
+    with tally.run("what lies in dist/"):
+        found = {os.path.basename(name) for name in files_below(root)}
+        due = set(os.listdir(os.path.join(TOP, "dist"))) if os.path.isdir(os.path.join(TOP, "dist")) else set()
+        expect(due <= found, f"not installed: {due - found}")
+
+
+def uninstalled(tally, root):
+    with tally.run("make uninstall"):
+        make(TOP, "uninstall", f"DESTDIR={root}", "PREFIX=/usr")
+        expect(not files_below(root), f"left behind: {sorted(files_below(root))[:5]}")
+    with tally.run("make install without a program"):
+        ran = subprocess.run(
+            ["make", "-C", TOP, "install", f"DESTDIR={root}", "PROGRAM=/nowhere/ssikvd"], capture_output=True, text=True, timeout=PATIENCE)
+        expect(ran.returncode and "there is no program /nowhere/ssikvd" in ran.stderr, f"it ended with {ran.returncode}: {ran.stderr[-200:]}")
+        expect(not files_below(root), "it installed something")
+
+
+def packed(tally, root):
+    """Two packings of the same program, of copies with other masks and times, are equal; what one holds installs what the repository does."""
+    with folder() as place:
+        tarballs = []
+        for mask in (0o022, 0o077):
+            with tally.run(f"make dist with a mask of {mask:03o}"):
+                copy, before = copy_of_top(place, f"copy{mask:o}"), os.umask(mask)
+                try:
+                    if mask != 0o022:
+                        done(["chmod", "-R", "go-rwx", copy])
+                        done(["find", copy, "-type", "f", "-exec", "touch", "-d", "2001-02-03", "{}", "+"])
+                    make(copy, "dist", f"PROGRAM={BINARY}")
+                finally:
+                    os.umask(before)
+                names = sorted(os.listdir(os.path.join(copy, "out")))
+                expect(len(names) == 2 and names[1] == names[0] + ".sha256", f"it left {names}")
+                done(["sha256sum", "-c", names[1]], cwd=os.path.join(copy, "out"))
+                tarballs.append(os.path.join(copy, "out", names[0]))
+        with tally.run("the bytes of two tarballs"):
+            expect(len(tarballs) == 2 and filecmp.cmp(*tarballs, False), "they differ")
+        with tally.run("the tarball"):
+            unpacked = os.path.join(place, os.path.basename(tarballs[0]).removesuffix(".tar.gz"))
+            done(["tar", "-xzf", tarballs[0], "-C", place])
+            done(["sha256sum", "-c", "SHA256"], cwd=unpacked)
+            second = os.path.join(place, "root")
+            make(unpacked, "install", f"DESTDIR={second}", "PREFIX=/usr")
+            expect(files_below(second) == files_below(root), f"it installs {set(files_below(second)) ^ set(files_below(root))}")
+            _, other, errors = filecmp.cmpfiles(root, second, files_below(root), False)
+            expect(not other and not errors, f"it installs other bytes in {other[:3]}")
+
+
+def versions(tally):
+    with tally.run("the version"):
+        version = run(["--version"])[1].decode().split()[1]
+        due = {"CHANGELOG.md": r"^## \[(\d.*?)\]", "debian/changelog": r"^ssikvd \(([\d.]+)"}
+        for name, form in due.items():
+            found = re.search(form, text_of(name), re.M)
+            expect(found and found[1] == version, f"{name} has not version {version}")
+
+
+def main():
+    need(PROGRAM)
+    tally = Tally("packaging")
+    for part in (first_manual, other_manuals, man_lints, help_examples, completions, versions):
+        part(tally)
+    with folder() as place:
+        root = os.path.join(place, "root")
+        os.mkdir(root)
+        if not left_out("make install, uninstall and dist", "make"):
+            installed(tally, root)
+            packed(tally, root)
+            uninstalled(tally, root)
+    return 0 if tally.end() else 1
+
+
+if __name__ == "__main__":
+    run_harness(main)
