@@ -361,10 +361,90 @@ def versions(tally):
             expect(found and found[1] == version, f"{name} has not version {version}")
 
 
+# The Debian package
+
+# Over a copy of the system that is thrown away: what is written goes to a folder of its own, and the mounts end with this process.
+OVER_A_COPY = """
+mount -t overlay overlay -o "lowerdir=/,upperdir=$1/upper,workdir=$1/work" "$1/root"
+mount --rbind /dev "$1/root/dev"
+mount -t proc proc "$1/root/proc"
+exec chroot "$1/root" sh -euc "$2" sh "$3" "$4" "$5"
+"""
+INSTALL_AND_REMOVE = """
+dpkg -i "$1" > /dev/null
+test "$(stat -c '%U %G %a' /var/lib/ssikvd)" = 'ssikvd ssikvd 700'
+runuser -u ssikvd -- ssikvd create --data /var/lib/ssikvd/shop.data --sectors 8
+if command -v redis-cli > /dev/null; then PORT=$3 "$2"; fi
+dpkg -r ssikvd > /dev/null
+test ! -e /usr/bin/ssikvd
+test -e /etc/default/ssikvd
+dpkg -P ssikvd > /dev/null
+test "$(runuser -u ssikvd -- stat -c %s /var/lib/ssikvd/shop.data)" = 4096
+"""
+DEBIAN_PATH = {**os.environ, "PATH": "/usr/sbin:/usr/bin:/sbin:/bin", "DEBIAN_FRONTEND": "noninteractive"}
+
+
+def quick_start(tally):
+    """The quick start of README.md, which is the package's own test."""
+    if left_out("debian/tests/quick-start", "redis-cli"):
+        return
+    with folder() as place, tally.run("debian/tests/quick-start"):
+        os.symlink(BINARY, os.path.join(place, "ssikvd"))
+        path = f"{place}:{os.environ['PATH']}"
+        done([os.path.join(TOP, "debian/tests/quick-start")], env={**os.environ, "PATH": path, "PORT": str(free_port())})
+
+
+def without_program(tally, copy):
+    with tally.run("a package without a program"):
+        ran = subprocess.run(["debian/rules", "build"], cwd=copy, capture_output=True, text=True, timeout=PATIENCE, env=DEBIAN_PATH)
+        expect(ran.returncode and "there is no program" in ran.stderr, f"it ended with {ran.returncode}: {ran.stderr[-300:]}")
+
+
+def package(tally):
+    """Builds the package, looks at it, and installs, tries, removes and purges it over a copy of the system."""
+    if left_out("the Debian package", "dpkg-buildpackage") or left_out("the Debian package", "dh"):
+        return
+    with folder() as place:
+        copy = copy_of_top(place, "source")
+        without_program(tally, copy)
+        os.makedirs(os.path.join(copy, "crates/ssikvd/out"), exist_ok=True)
+        shutil.copy(BINARY, os.path.join(copy, "crates/ssikvd/out/ssikvd"))
+        with tally.run("dpkg-buildpackage"):
+            done(["dpkg-buildpackage", "-us", "-uc", "-b"], 300, cwd=copy, env=DEBIAN_PATH)
+        built = [os.path.join(place, name) for name in os.listdir(place) if name.endswith((".deb", ".changes"))]
+        if len(built) != 2:
+            return
+        changes, deb = sorted(built, key=lambda name: name.endswith(".deb"))
+        if not left_out("lintian", "lintian"):
+            with tally.run("lintian"):
+                said = done(["lintian", "--allow-root", "--fail-on", "error,warning", changes], 300, env=DEBIAN_PATH)
+                expect(not said, f"it says {said[:300]}")
+        with tally.run("the program in the package"):
+            done(["dpkg-deb", "-x", deb, os.path.join(place, "unpacked")])
+            expect(filecmp.cmp(os.path.join(place, "unpacked/usr/bin/ssikvd"), BINARY, False), "its bytes were changed")
+        install_package(tally, place, deb, os.path.join(copy, "debian/tests/quick-start"))
+
+
+def install_package(tally, place, deb, test):
+    folders = [os.path.join(place, name) for name in ("upper", "work", "root")]
+    for name in folders:
+        os.mkdir(name)
+    over = ["unshare", "-m", "sh", "-euc", OVER_A_COPY, "sh", place]
+    can = os.geteuid() == 0 and not subprocess.run([*over, "true", "", "", ""], capture_output=True, timeout=PATIENCE, env=DEBIAN_PATH).returncode
+    if not can:
+        print("  dpkg -i: not run, for want of root and an overlay of the system", flush=True)
+        return
+    with tally.run("dpkg -i, -r and -P"):
+        done([*over, INSTALL_AND_REMOVE, deb, test, str(free_port())], 300, env=DEBIAN_PATH)
+        written = [os.path.relpath(os.path.join(at, name), folders[0]) for at, below, names in os.walk(folders[0]) for name in below + names]
+        found = [name for name in written if "ssikvd" in os.path.basename(name)]
+        expect(found == ["var/lib/ssikvd"], f"left behind: {found}")
+
+
 def main():
     need(PROGRAM)
     tally = Tally("packaging")
-    for part in (first_manual, other_manuals, man_lints, help_examples, completions, versions):
+    for part in (first_manual, other_manuals, man_lints, help_examples, completions, versions, quick_start):
         part(tally)
     with folder() as place:
         root = os.path.join(place, "root")
@@ -373,6 +453,8 @@ def main():
             installed(tally, root)
             packed(tally, root)
             uninstalled(tally, root)
+    if is_long():
+        package(tally)
     return 0 if tally.end() else 1
 
 
