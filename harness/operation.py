@@ -21,6 +21,7 @@ import sys
 import threading
 import time
 from importlib.machinery import SourceFileLoader
+from importlib.util import module_from_spec, spec_from_loader
 
 from client import (
     DEVICE, PATIENCE, PROGRAM, SHIM, Connection, Deviation, Refusals, Server, Tally, check, create, expect, folder, free_port, is_long, need,
@@ -40,7 +41,10 @@ SECTORS = 4_096
 
 def loaded(name):
     """A tool as a module."""
-    return SourceFileLoader(name.replace("-", "_"), os.path.join(DIST, name)).load_module()
+    loader = SourceFileLoader(name.replace("-", "_"), os.path.join(DIST, name))
+    module = module_from_spec(spec_from_loader(loader.name, loader))
+    loader.exec_module(module)
+    return module
 
 
 def tool(*words, environment=ENVIRONMENT, seconds=PATIENCE):
