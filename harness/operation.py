@@ -611,45 +611,60 @@ def judge_power(lines):
 
 def compactions(tally):
     script = os.path.join(DIST, "ssikvd-compact")
-    lines = []
     with tally.run("ssikvd-compact"), trial_of(script) as trial:
-        status, out, err, lines = trial.run()
-        expect(status == 0 and not err and "sectors were used" in out, f"it ended with {status}: {out}{err}")
-        judge_whole(trial, OWNER)
-        found = trial.run(words=["--above", "90"])
-        expect(found[0] == 0 and "nothing to do" in found[1], f"--above 90 answered {found[:3]}")
-        trial.commit()
-        found = trial.run(words=["--sectors", "2"])
-        expect(found[0] == 3 and "log full" in found[2], f"a file that is too small gave {found[:3]}")
-        expect(names(trial) == {"data", "data.lock"}, f"a step that failed left {sorted(names(trial))}")
-        trial.commit()
-        expect(trial.contents() == trial.due(), "a commit is lost")
+        lines = whole(trial)
     with tally.run("ssikvd-compact makes room"), trial_of(script, 60) as trial:
         found = trial.run(words=["--sectors", "2048"])
         expect(found[0] == 0 and check(trial.data)[3] == 2_048, f"it ended with {found[:3]}")
     with tally.run("ssikvd-compact of a file whose map fills it"):
         growing(script)
     with tally.run("the lock"), trial_of(script) as trial:
-        found = tool("flock", "-n", "-F", "-E", "75", trial.data + ".lock", "true")
-        expect(found[0] == 75, f"a second server would start: {found}")
-        trial.stop()
-        expect(tool("flock", "-n", "-F", "-E", "75", trial.data + ".lock", "true")[0] == 0, "the lock stays after a kill")
-    with tally.run("a server that isn't stopped"), trial_of(script) as trial:
-        found = trial.run(words=["--stop", "true", "--wait", "0.1"])
-        expect(found[0] == 75 and "another process holds" in found[2], f"it answered {found[:3]}")
-        expect(names(trial) == {"data", "data.lock"} and trial.contents() == trial.due(), f"it left {sorted(names(trial))}")
+        lock(trial)
     with tally.run("a loss of power at each step of ssikvd-compact"):
         cases = judge_power(lines)
         print(f"  ssikvd-compact: {len(lines)} steps, {cases} cases of names after a loss of power", flush=True)
     for step, line in enumerate(lines, 1):
-        kills = itertools.product((False, True), (False, True)) if is_long() else [(False, line.startswith("mv "))]
-        for is_after, is_rerun in kills if is_long() or re.match(r"(mv|ln) ", line) else ():
-            with tally.run(f"a kill {'after' if is_after else 'before'} `{line}`, then {'it is run again' if is_rerun else 'a start'}"):
-                judge_kill(script, step, is_after, is_rerun)
-        if "starts" not in line and (is_long() or re.match("(chown|mv) ", line)):
-            with tally.run(f"`{line}` fails"):
-                judge_failure(script, step)
+        broken_off(tally, script, step, line)
     show_that_they_fail(tally, script)
+
+
+def whole(trial):
+    """Runs to the end, and ones that end at once since there is nothing to do or too little room. Gives the steps of the first."""
+    status, out, err, lines = trial.run()
+    expect(status == 0 and not err and "sectors were used" in out, f"it ended with {status}: {out}{err}")
+    judge_whole(trial, OWNER)
+    found = trial.run(words=["--above", "90"])
+    expect(found[0] == 0 and "nothing to do" in found[1], f"--above 90 answered {found[:3]}")
+    trial.commit()
+    found = trial.run(words=["--sectors", "2"])
+    expect(found[0] == 3 and "log full" in found[2], f"a file that is too small gave {found[:3]}")
+    expect(names(trial) == {"data", "data.lock"}, f"a step that failed left {sorted(names(trial))}")
+    trial.commit()
+    expect(trial.contents() == trial.due(), "a commit is lost")
+    return lines
+
+
+def lock(trial):
+    """The lock is held by the server, so no second one starts, and a server that isn't stopped isn't compacted. A kill gives it back."""
+    takes = "flock", "-n", "-F", "-E", "75", trial.data + ".lock", "true"
+    expect(tool(*takes)[0] == 75, "a second server would start")
+    found = trial.run(words=["--stop", "true", "--wait", "0.1"])
+    expect(found[0] == 75 and "another process holds" in found[2], f"it answered {found[:3]}")
+    expect(names(trial) == {"data", "data.lock"} and trial.contents() == trial.due(), f"it left {sorted(names(trial))}")
+    trial.stop()
+    expect(tool(*takes)[0] == 0, "the lock stays after a kill")
+
+
+def broken_off(tally, script, step, line):
+    """Kills before this step and after it, and a failure of it: in `quick` some of these, at the swap alone."""
+    command = os.path.basename(line.split()[0])
+    kills = itertools.product((False, True), (False, True)) if is_long() else [(False, command == "mv")] if command in ("ln", "mv") else []
+    for is_after, is_rerun in kills:
+        with tally.run(f"a kill {'after' if is_after else 'before'} `{line}`, then {'it is run again' if is_rerun else 'a start'}"):
+            judge_kill(script, step, is_after, is_rerun)
+    if "starts" not in line and (is_long() or command in ("chown", "mv")):
+        with tally.run(f"`{line}` fails"):
+            judge_failure(script, step)
 
 
 def growing(script):
