@@ -846,6 +846,31 @@ def judge_score(unit):
         expect(found and found[1] == said[1], f"the score is {found and found[1]}, docs/OPERATIONS.md says {said[1]}")
 
 
+# For each alert: a series, its values each minute where it fires after an hour, and where it doesn't.
+FIRES = {
+    "SsikvdLogAlmostFull": ("ssikvd_log_sectors_used", "950x60", "890x60"),
+    "SsikvdLogFullSoon": ("ssikvd_log_seconds_to_full", "3500x60", "3700x60"),
+    "SsikvdLogDamaged": ("ssikvd_log_damaged", "1x60", "0x60"),
+    "SsikvdLogNotRead": ("ssikvd_log_read_time_seconds", "2900x60", "3100x60"),
+    "SsikvdDown": ('node_systemd_unit_state{name="ssikvd@shop.service", state="active"}', "0x60", "1x60"),
+    "SsikvdNoTransactions": ("ssikvd_probe_status", "2x60", "1x60"),
+}
+
+
+def judge_alert(name, series, values, is_on):
+    """Does the alert fire over this series, beside a log of 1,000 sectors?"""
+    inputs = [(series, values), *([("ssikvd_log_sectors", "1000x60")] if "sectors_used" in series else [])]
+    test = f"rule_files: [{DIST}/alerts.yml]\ntests:\n  - interval: 1m\n    input_series:\n"
+    test += "".join(f"      - {{series: '{one}', values: '{given}'}}\n" for one, given in inputs)
+    test += f"    promql_expr_test:\n      - expr: 'count(ALERTS{{alertname=\"{name}\", alertstate=\"firing\"}}) or vector(0)'\n"
+    test += f"        eval_time: 1h\n        exp_samples: [{{labels: '{{}}', value: {int(is_on)}}}]\n"
+    with folder() as place:
+        with open(os.path.join(place, "test.yml"), "w", encoding="utf-8") as file:
+            file.write(test)
+        found = tool(promtool(), "test", "rules", os.path.join(place, "test.yml"))
+    expect(found[0] == 0, f"promtool says {found[1]}{found[2]}")
+
+
 def rules(tally):
     if not promtool():
         missing("`promtool check rules`", "promtool (Debian's prometheus)")
@@ -853,6 +878,10 @@ def rules(tally):
     with tally.run("the alert rules"):
         found = tool(promtool(), "check", "rules", os.path.join(DIST, "alerts.yml"))
         expect(found[0] == 0, f"promtool says {found}")
+    for name, series in FIRES.items():
+        for is_on in (True, False):
+            with tally.run(f"the alert {name} {'fires' if is_on else 'does not fire'}"):
+                judge_alert(name, series[0], series[1 if is_on else 2], is_on)
     with tally.run("the metrics of the rules"):
         with open(os.path.join(DIST, "alerts.yml"), encoding="utf-8") as file:
             named = set(re.findall(r"ssikvd_[a-z]+_\w+", file.read()))
