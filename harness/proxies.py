@@ -123,8 +123,7 @@ def is_served(connect):
 
 
 def seconds_until_closed(store, patience):
-    """How long a client that began and is silent stays connected; None where it still is."""
-    store.ask("BEGIN")
+    """How long a client that is silent stays connected; None where it still is."""
     store.socket.settimeout(patience)
     begun = time.monotonic()
     try:
@@ -139,7 +138,9 @@ def seconds_until_closed(store, patience):
 def silence(connect, server, is_limited):
     """A silent client is disconnected after its second, and the server's session ends; where there is no limit neither happens."""
     before = server.descriptors()
-    passed = seconds_until_closed(connect(), 5 if is_limited else 3)
+    store = connect()
+    store.ask("BEGIN")
+    passed = seconds_until_closed(store, 5 if is_limited else 3)
     if not is_limited:
         expect(passed is None, f"without a limit it was disconnected after {passed} seconds")
         return
@@ -346,6 +347,31 @@ def limits(tally):
         with haproxy(place, server, {"timeout client 60s": "timeout client 1s"}) as port:
             wait_for(lambda: state(place) == ("UP", "L7OK"), f"the check says {state(place)}")
             silence(lambda: client(port), server, True)
+    if is_long():
+        with trial(tally, "the end of haproxy's queue") as (place, server):
+            with haproxy(place, server, {"maxconn 60": "maxconn 1", "timeout queue 10s": "timeout queue 1s"}) as port:
+                first = client(port)
+                first.ask("BEGIN")
+                passed = seconds_until_closed(client(port), 5)
+                expect(passed is not None and 0.5 < passed < 4, f"who waited was disconnected after {passed} seconds")
+                expect(first.ask("ABORT") == b"OK", "the one that was served was disconnected")
+
+
+class At:
+    """What listens at a port, in the place of a server."""
+
+    def __init__(self, port):
+        self.port = port
+
+
+def chained(tally):
+    """stunnel in front of haproxy."""
+    if not are_there("stunnel in front of haproxy", "stunnel", "haproxy", "openssl"):
+        return
+    with trial(tally, "stunnel in front of haproxy") as (place, server):
+        keys = certificates(place)
+        with haproxy(place, server) as port, stunnel(place, At(port)) as outer:
+            expect(is_served(lambda: tls_client.TlsClient(outer, "shop.example", keys)), "a client through both is not served")
 
 
 # SSH
@@ -423,7 +449,7 @@ def server_of(place):
 def main():
     need(PROGRAM)
     tally = Tally("proxies")
-    for part in (written, typed, tls, limits, ssh):
+    for part in (written, typed, tls, limits, chained, ssh):
         part(tally)
     return 0 if tally.end() else 1
 
