@@ -2,7 +2,7 @@
 
 Transfers of many clients at once leave the sum as it was, at every moment that a reader sees. A BEGIN that is refused beside 64 others is tried
 again. A pool lends what is whole, to one at a time. A walk gives all pairs of one snapshot while others write. An addition with a key of its own is
-made once, though a proxy cuts connections before and behind its COMMIT, and the server is killed. Copies of the data file that are taken under load
+made once, though a proxy cuts connections before and after its COMMIT, and the server is killed. Copies of the data file that are taken under load
 are each a log with a beginning of the commits, which `check` opens and the exporter reads. At last what redis-py, redis-cli and redis-benchmark meet,
 where they are installed.
 

@@ -14,6 +14,7 @@ import os
 import random
 import re
 import shutil
+import signal
 import subprocess
 import time
 
@@ -57,7 +58,7 @@ class Language:
         """The client as a process, which adds so many times with each worker."""
         command = self.run.removesuffix(AS_TYPED) + f"{port} visits {WORKERS} {times}"
         return subprocess.Popen(["bash", "-c", "exec env " + command], cwd=place, env=ENVIRONMENT, stdout=subprocess.PIPE,
-                                stderr=subprocess.PIPE, text=True)
+                                stderr=subprocess.PIPE, text=True, start_new_session=True)
 
 
 def languages():
@@ -164,7 +165,7 @@ class Run:
 
     def __exit__(self, *_):
         if self.process and self.process.poll() is None:
-            self.process.kill()
+            os.killpg(self.process.pid, signal.SIGKILL)    # its own group: with its workers, where those are processes
             self.process.communicate()
         self.proxy.close()
         self.server.kill()
@@ -191,6 +192,9 @@ def conflicts(tally, language, built):
         run.process = run.begin()
         added, tries = run.result()
         expect(added == run.due < tries, f"{added} were added in {tries} tries")
+        run.process = run.begin()
+        added_again, _ = run.result()
+        expect(added_again == 0, f"the same program with the same name added {added_again} more")
         print(f"  {language.name}: {tries / added:.1f} tries for each commit, with {WORKERS} writers of one key", flush=True)
 
 

@@ -1,6 +1,6 @@
 """Adds 1 to a counter exactly once, though connections are lost: `once.py PORT COUNTER NAME`, NAME being new for each addition.
 
-Where the connection is lost behind a COMMIT, nobody knows whether it was carried out. So the transaction also writes a key of its own, and
+Where the connection is lost after a COMMIT was sent, nobody knows whether it was carried out. So the transaction also writes a key of its own, and
 whoever begins again looks for it first. A lost transaction that is still under way wrote the same key, so of the two one commits.
 """
 import random

@@ -8,7 +8,7 @@
 static redisContext *borrow(struct store *store)
 {
     pthread_mutex_lock(&store->turn);
-    while (store->lent == 64)
+    while (store->lent == store->size)
         pthread_cond_wait(&store->one_is_back, &store->turn);
     store->lent++;
     redisContext *session = store->spares ? store->spare[--store->spares] : NULL;

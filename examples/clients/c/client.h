@@ -2,16 +2,16 @@
 #include <hiredis/hiredis.h>
 #include <pthread.h>
 
-/* At most 64 connections, each lent for one whole transaction: struct store store = STORE("127.0.0.1", port). */
+/* At most `size` connections, each lent for one whole transaction; all programs together may have 64. It begins as STORE(host, port, size). */
 struct store {
     const char *host;
-    int port;
+    int port, size;
     redisContext *spare[64];
     int spares, lent;
     pthread_mutex_t turn;
     pthread_cond_t one_is_back;
 };
-#define STORE(host, port) {host, port, {0}, 0, 0, PTHREAD_MUTEX_INITIALIZER, PTHREAD_COND_INITIALIZER}
+#define STORE(host, port, size) {host, port, size, {0}, 0, 0, PTHREAD_MUTEX_INITIALIZER, PTHREAD_COND_INITIALIZER}
 
 enum outcome {
     DONE,    /* COMMIT was answered a number */

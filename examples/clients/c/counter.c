@@ -48,7 +48,7 @@ int main(int count, char **words)
 {
     if (count != 5)
         return 1;
-    store = (struct store)STORE("127.0.0.1", atoi(words[1]));
+    store = (struct store)STORE("127.0.0.1", atoi(words[1]), 64);
     counter = words[2];
     times = atoi(words[4]);
     srandom(time(NULL) ^ getpid());

@@ -10,13 +10,14 @@ import (
 	"github.com/gomodule/redigo/redis"
 )
 
-// Store runs transactions over at most 64 connections. Each is lent for one whole transaction.
+// Store runs transactions over a pool of connections. Each is lent for one whole transaction.
 type Store struct{ pool redis.Pool }
 
-func NewStore(address string) *Store {
+// NewStore has at most so many connections. All that a server is to serve, of all programs together, are at most 64.
+func NewStore(address string, size int) *Store {
 	rand.Seed(time.Now().UnixNano()) // Go before 1.20 draws the same numbers in each process
 	patience := 30 * time.Second
-	return &Store{redis.Pool{MaxActive: 64, MaxIdle: 64, Wait: true, Dial: func() (redis.Conn, error) {
+	return &Store{redis.Pool{MaxActive: size, MaxIdle: size, Wait: true, Dial: func() (redis.Conn, error) {
 		return redis.Dial("tcp", address, redis.DialReadTimeout(patience), redis.DialWriteTimeout(patience))
 	}}}
 }

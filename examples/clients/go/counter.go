@@ -13,7 +13,7 @@ import (
 )
 
 func main() {
-	store, counter := NewStore("127.0.0.1:"+os.Args[1]), os.Args[2]
+	store, counter := NewStore("127.0.0.1:"+os.Args[1], 64), os.Args[2]
 	workers, _ := strconv.Atoi(os.Args[3])
 	times, _ := strconv.Atoi(os.Args[4])
 	var added, tries int64

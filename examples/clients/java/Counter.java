@@ -9,7 +9,7 @@ final class Counter {
         int workers = Integer.parseInt(words[2]), times = Integer.parseInt(words[3]);
         AtomicInteger tries = new AtomicInteger(), added = new AtomicInteger();
         ExecutorService threads = Executors.newFixedThreadPool(workers);
-        try (Store store = new Store("127.0.0.1", Integer.parseInt(words[0]))) {
+        try (Store store = new Store("127.0.0.1", Integer.parseInt(words[0]), 64)) {
             List<Callable<Void>> all = new ArrayList<>();
             for (int worker = 0; worker < workers; worker++) {
                 String name = counter + "." + worker + ".";

@@ -74,8 +74,8 @@ final class Store implements AutoCloseable {
     private final EventLoopGroup group = new NioEventLoopGroup();
     private final ChannelPool pool;
 
-    /** At most 64 connections, each lent for one whole transaction. */
-    Store(String host, int port) {
+    /** At most so many connections, each lent for one whole transaction. All programs together may have 64. */
+    Store(String host, int port, int size) {
         Bootstrap bootstrap = new Bootstrap().group(group).channel(NioSocketChannel.class).remoteAddress(host, port);
         pool = new FixedChannelPool(bootstrap.option(ChannelOption.TCP_NODELAY, true), new AbstractChannelPoolHandler() {
             @Override public void channelCreated(Channel channel) {
@@ -85,7 +85,7 @@ final class Store implements AutoCloseable {
                 channel.pipeline().addLast(
                     new RedisEncoder(), new RedisDecoder(), new RedisBulkStringAggregator(), new RedisArrayAggregator(), session);
             }
-        }, 64);
+        }, size);
     }
 
     private <T> T attempt(Work<T> work) throws Refused, IOException {
