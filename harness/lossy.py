@@ -1,0 +1,794 @@
+"""`ssikvd` over a file system that loses what wasn't synced.
+
+The file system is lossy.c, which FUSE mounts. A crash kills the program in a call, and leaves each sector that no sync had settled old, new,
+torn or with noise, and names that no sync of the folder had settled undone. After each crash the file is read by a reader of the format, in
+plain Python, by `check` and by RANGE: it must hold every commit that was answered, whole, in order, and nothing but whole transactions
+that were asked for.
+
+    serve      crashes of `serve` under eight clients, of its opening, and kills; what one life left the next one opens
+    create     crashes of `create`: the file is absent, refused, or a whole empty log. `create faults`: calls of it fail
+    compact    crashes of `compact`: the old file is as it was, the new one absent, refused, or a whole copy. `compact faults`: calls fail
+    faults     calls on the data file that fail, move less or are interrupted, under `serve` and in its opening
+    stopped    the sync of a gate fails and drops its page; clean pages are dropped or the file is compacted; later commits outlive a crash
+    swap       a compacted file takes the old one's name; commits over it outlive a crash
+    sight      syncs are left out, one kind at a time, or clean pages are not dropped: each must be seen within a hundred runs
+
+`lossy.py quick` plays some of each, `long` many, and with modes behind it those alone. Two are played only by name: `stopped as before`, in
+which nothing is done behind the stop, and `swap synced`, in which the operator settles the names. All is left out where FUSE isn't there.
+"""
+import argparse
+import contextlib
+import errno
+import os
+import random
+import subprocess
+import sys
+
+import client
+from client import Connection, Deviation, Server, Tally, check, expect, folder, need, run, run_harness
+from kills import parts_of
+from model import (
+    HEAD, OK, SECTOR, WRITES_MAX, Damaged, NotALog, OldFormat, apply, bulk, frame, log_image, read_log, refusal, sectors_used)
+
+LOSSY = os.path.join(client.HERE, "out", "lossy")
+CLIENTS, SHARED_KEYS, SECTORS, ROOM_LEFT, LIVES = 8, 120, 2_400, 900, 25
+STORE_FAULT, STORE_STOPPED, NONE_OPEN, FULL_LOG = (refusal(text) for text in ("STORE fault", "STORE stopped", "ERR none", "FULL log"))
+NOT_A_LOG, FILE_FAULT = b"ssikvd: not a log\n", b"ssikvd: file fault\n"
+KILLED = -9
+SIGHT_MAX = 100
+
+
+# The file system
+
+class NoFuse(Exception):
+    """FUSE isn't there, or nothing can be mounted."""
+
+
+class Disk:
+    """The mounted folder, and what it is told."""
+
+    def __init__(self, place):
+        self.place = os.path.join(place, "disk")
+        os.mkdir(self.place)
+        self.process = subprocess.Popen([LOSSY, self.place], stdin=subprocess.PIPE, stdout=subprocess.PIPE, stderr=subprocess.PIPE, text=True)
+        if not self.process.stdout.readline():
+            raise NoFuse(self.process.communicate()[1].strip())
+
+    def tell(self, *words):
+        """A command. Answers how often it crashed, how many sectors the last crash found unsettled, and whether the plan was met."""
+        print(*words, file=self.process.stdin, flush=True)
+        done, *numbers = self.process.stdout.readline().split()
+        expect(done == "done", f"the file system refused {words}")
+        return tuple(int(number) for number in numbers)
+
+    def crashes(self):
+        return self.tell("state")[0]
+
+    def is_met(self):
+        return self.tell("state")[2] == 1
+
+    def calm(self):
+        self.tell("plan")
+
+    def path(self, name):
+        return os.path.join(self.place, name)
+
+    def is_there(self, name):
+        return name in os.listdir(self.place)
+
+    def read(self, name):
+        with open(self.path(name), "rb") as file:
+            return file.read()
+
+    def write(self, name, content):
+        """A new file, settled with its name."""
+        with open(self.path(name), "xb") as file:
+            file.write(content)
+        self.tell("settle")
+
+    def close(self):
+        self.process.stdin.close()
+        self.process.wait()
+
+
+class Machine:
+    """A disk, chance, and what was counted."""
+
+    def __init__(self, disk, seed):
+        self.disk, self.chance, self.counts = disk, random.Random(seed), {}
+        disk.tell("seed", seed)
+
+    def count(self, name, by=1):
+        self.counts[name] = self.counts.get(name, 0) + by
+
+    def crash_at_once(self):
+        """The machine crashes while no call is under way."""
+        self.disk.tell("crash")
+        self.note_crash()
+
+    def note_crash(self):
+        self.count("crashes")
+        self.count("crashes with something unsettled", by=self.disk.tell("state")[1] > 0)
+
+    def text(self):
+        return ", ".join(f"{count:,} {name}" for name, count in self.counts.items())
+
+
+# What was committed
+
+def log_of(content):
+    """The write sets that these bytes hold."""
+    try:
+        return read_log(lambda at: content[SECTOR * at:SECTOR * at + SECTOR], len(content) // SECTOR)[0]
+    except (NotALog, OldFormat, Damaged) as fault:
+        raise Deviation(f"what is left is no log: {type(fault).__name__} {fault}") from None
+
+
+def map_of(log):
+    contents = {}
+    for writes in log:
+        apply(contents, writes)
+    return contents
+
+
+def copy_of(log):
+    """The write sets that `compact` makes of a log."""
+    rows = sorted(map_of(log).items())
+    return [rows[at:at + WRITES_MAX] for at in range(0, len(rows), WRITES_MAX)]
+
+
+class History:
+    """What a file must hold: what the last opening found, and what was asked for since."""
+
+    def __init__(self, log=()):
+        self.begin(log)
+
+    def begin(self, log):
+        """A life begins over this log."""
+        self.log, self.answered, self.unknown = list(log), {}, []
+
+    def judge(self, content):
+        """The log in these bytes. It has all that was answered, at its number; between stands only what was asked for and not answered."""
+        log = log_of(content)
+        new = log[len(self.log):]
+        expect(log[:len(self.log)] == self.log, f"of {len(self.log)} commits of earlier lives not all are there")
+        last, left = max(self.answered, default=0), list(self.unknown)
+        expect(len(new) >= last, f"{last - len(new)} of {last} acknowledged commits are lost")
+        for number, writes in enumerate(new, 1):
+            if number in self.answered:
+                expect(self.answered[number] == writes, f"commit {number} is another one")
+            else:
+                expect(writes in left, f"commit {number} was not asked for, or was refused")
+                left.remove(writes)
+        return log
+
+
+# Clients
+
+def value(chance, is_large):
+    size = chance.choice((0, 100, 3_000, 9_000, 16_384) if is_large else (0, 1, 30, 100, 463, 464, 1_500))
+    return b"\1" * size if chance.random() < 0.3 else chance.randbytes(size)
+
+
+def some_writes(chance, label, serial):
+    """A client's counter, and up to 63 of the keys that all share. A counter is never the same again."""
+    count = chance.choice((0, 0, 1, 1, 2, 5, 12, chance.randrange(WRITES_MAX)))
+    keys = [b"key %03d" % key for key in chance.sample(range(SHARED_KEYS), count)]
+    shared = [(key, None if chance.random() < 0.1 else value(chance, count < 3)) for key in keys]
+    return sorted([*shared, (counter_of(label), b"%d" % serial)])
+
+
+def counter_of(label):
+    return b"client %d" % label
+
+
+class Asked:
+    """A transaction that reads its client's counter and writes, sent in one to three pieces."""
+
+    def __init__(self, connection, label, counter, writes, pieces):
+        self.connection, self.label, self.counter, self.writes = connection, label, counter, writes
+        sets = [frame("DEL", key) if value is None else frame("SET", key, value) for key, value in writes]
+        self.requests = [frame("BEGIN"), frame("GET", counter_of(label)), *sets, frame("COMMIT")]
+        content = b"".join(self.requests)
+        size = -(-len(content) // pieces)
+        self.pieces = [content[i * size:(i + 1) * size] for i in range(pieces)]
+
+    def outcome(self):
+        """The reply to COMMIT; None where the connection was closed. The others must be the ones due."""
+        replies = []
+        try:
+            for _ in self.requests:
+                replies.append(self.connection.reply())
+        except Deviation as found:
+            if "closed within a reply" not in str(found):
+                raise
+            return None
+        if replies[0] == STORE_STOPPED:
+            expect(set(replies[1:]) == {NONE_OPEN}, f"behind a refused BEGIN came {replies[1:]}")
+            return STORE_STOPPED
+        due = [OK, bulk(self.counter)] + [OK] * len(self.writes)
+        expect(all(found in (wanted, None) for found, wanted in zip(replies, due)), f"{replies} came, {due} was due")
+        return replies[-1]
+
+
+class Clients:
+    """Connections whose transactions are under way at once."""
+
+    def __init__(self, machine, server, history, serial):
+        self.machine, self.server, self.history, self.serial = machine, server, history, serial
+        self.connections = [Connection(server.port) for _ in range(CLIENTS)]
+        contents = map_of(history.log)
+        self.counters = [contents.get(counter_of(label)) for label in range(CLIENTS)]
+        self.rounds = []
+
+    def round(self):
+        """Some of the clients ask at once, and all replies are read. Is the server still there?"""
+        chance = self.machine.chance
+        asked = []
+        for label in chance.sample(range(CLIENTS), chance.randint(1, CLIENTS)):
+            self.serial += 1
+            writes = some_writes(chance, label, self.serial)
+            asked.append(Asked(self.connections[label], label, self.counters[label], writes, chance.randint(1, 3)))
+        for turn in range(3):
+            for one in asked:
+                for piece in one.pieces[turn:turn + 1]:
+                    one.connection.send(piece)
+        self.rounds.append([one.outcome() for one in asked])
+        return all([self.note(one, reply) for one, reply in zip(asked, self.rounds[-1])])
+
+    def note(self, one, reply):
+        """What a reply to COMMIT says of its transaction. Did one come?"""
+        if reply is None or reply == STORE_FAULT:
+            self.history.unknown.append(one.writes)
+        elif reply[:1] == b":":
+            self.history.answered[int(reply[1:])] = one.writes
+            self.counters[one.label] = dict(one.writes)[counter_of(one.label)]
+            self.machine.count("commits answered")
+        else:
+            expect(reply[:10] == b"-CONFLICT " or reply in (FULL_LOG, STORE_STOPPED), f"COMMIT was answered {reply}")
+        return reply is not None
+
+    def commit(self, writes):
+        """One transaction more, alone: the reply to its COMMIT."""
+        one = Asked(self.connections[0], 0, self.counters[0], sorted(writes), 1)
+        one.connection.send(b"".join(one.pieces))
+        reply = one.outcome()
+        self.note(one, reply)
+        return reply
+
+    def end_server(self):
+        self.server.process.kill()
+        self.server.process.wait()
+
+    def close(self):
+        for connection in self.connections:
+            connection.close()
+
+
+def walk(port):
+    """The whole map by RANGE, in one transaction that is then aborted."""
+    found, lo = {}, b"\0"
+    with Connection(port) as reader:
+        expect(reader.ask(frame("BEGIN")) == OK, "BEGIN was refused")
+        while lo:
+            parts = parts_of(reader.ask(frame("RANGE", lo, "", "128")))
+            found.update(zip(parts[0::2], parts[1::2]))
+            lo = parts[-2] + b"\0" if len(parts) == 256 else b""
+        expect(reader.ask(frame("ABORT")) == OK, "ABORT was refused")
+    return found
+
+
+# A data file through many lives
+
+def tail(chance, count):
+    """What may lie behind the closed gate of an empty log: zeros, ones, open gates, noise, or an old record."""
+    old = log_image([[(b"old", b"o" * 2_000)]] * (count // 6), count + 1)[SECTOR:]
+    fills = (bytes(count * SECTOR), b"\1" * (count * SECTOR), b"\1".ljust(SECTOR, b"\0") * count, chance.randbytes(count * SECTOR), old)
+    return chance.choice(fills)[:count * SECTOR]
+
+
+class Store:
+    """A data file that is served through many lives."""
+
+    def __init__(self, machine, name="F"):
+        self.machine, self.disk, self.name, self.serial = machine, machine.disk, name, 0
+        self.history, self.ended, self.was_met = History(), None, False
+        self.disk.tell("wipe")
+        self.disk.write(name, HEAD + bytes(SECTOR) + tail(machine.chance, SECTORS - 2))
+
+    @property
+    def path(self):
+        return self.disk.path(self.name)
+
+    @contextlib.contextmanager
+    def served(self, opening=None):
+        """A server over the file, and its clients, once the map that it found is the one due; None where it didn't come to listen."""
+        if opening:
+            self.disk.tell("plan", *opening)
+        with Server(self.path) as server:
+            self.was_met = self.disk.is_met()
+            self.disk.calm()
+            if server.is_listening():
+                self.history.begin(self.history.judge(self.disk.read(self.name)))
+                expect(walk(server.port) == map_of(self.history.log), "the map by RANGE is another one than the file's")
+                self.machine.count("maps read")
+                clients = Clients(self.machine, server, self.history, self.serial)
+                yield clients
+                self.serial = clients.serial
+                clients.close()
+            else:
+                self.ended = (server.status(), server.error_text())
+                yield None
+
+    def look(self):
+        """Behind a crash: the file holds what it should, and `check` counts it."""
+        expect(self.disk.is_there(self.name), f"{self.name} isn't there")
+        log = self.history.judge(self.disk.read(self.name))
+        found = check(self.path)
+        expect(found == (len(log), len(map_of(log)), sectors_used(log), SECTORS), f"check counts {found}")
+        more = len(log) - len(self.history.log) - len(self.history.answered)
+        self.machine.count("found unanswered", by=more)
+        self.machine.count("unanswered in all", by=len(self.history.unknown))
+        self.history.begin(log)
+
+    def is_full(self):
+        return sectors_used(self.history.log) > SECTORS - ROOM_LEFT
+
+    def crash_in_opening(self):
+        """A life that ends while it opens the file. Did it? Else it is killed once it listens."""
+        chance, before = self.machine.chance, self.disk.crashes()
+        kind, last = chance.choice((("open", 1), ("read", 6), ("sync", 1), ("folder", 1)))
+        plan = (kind, chance.randint(1, last), chance.choice(("before", "after")))
+        with self.served(plan) as clients:
+            if clients:
+                clients.end_server()
+                return False
+        expect(self.disk.crashes() > before and self.ended == (KILLED, b""), f"it ended with {self.ended} before it listened")
+        self.machine.note_crash()
+        self.machine.count("of them within an opening")
+        self.look()
+        return True
+
+    def load(self, plan, rounds):
+        """A life under load, up to its end in a call, or so many rounds, behind which it is killed. Did it end in a call?"""
+        with self.served() as clients:
+            expect(clients, f"it doesn't open the file: {self.ended}")
+            if plan:
+                self.disk.tell("plan", *plan)
+            is_alive = all(clients.round() for _ in range(rounds))
+            expect(is_alive != self.disk.is_met(), "a connection was closed")
+            self.disk.calm()
+            clients.end_server()
+            expect(clients.server.error_text() == b"", f"it wrote {clients.server.error_text()!r}")
+        return not is_alive
+
+    def crash_under_load(self):
+        """A life under load, which a crash ends in a call, or else at any time; or a kill alone. Was it a crash?"""
+        chance = self.machine.chance
+        plan = chance.choice((None, ("write", "before"), *[("write", "after")] * 3, *[("sync", "before")] * 3, ("sync", "after")))
+        if self.load(plan and (plan[0], chance.randint(1, 16), plan[1]), chance.randint(1, 8)):
+            self.machine.note_crash()
+        elif chance.random() < 0.2:
+            self.machine.count("kills alone")
+            return False
+        else:
+            self.machine.crash_at_once()
+        self.look()
+        return True
+
+    def crash_behind_opening(self):
+        """A life that is killed in a commit, and one that opens what this left unsettled. What it found outlives a crash at once."""
+        self.load(("sync", self.machine.chance.randint(1, 8), "kill"), 8)
+        self.machine.count("killed in a call")
+        self.load(None, 0)
+        self.machine.crash_at_once()
+        self.look()
+        return True
+
+    def live(self):
+        """A life. Did the machine crash?"""
+        lives = [self.crash_in_opening] + [self.crash_behind_opening] * 2 + [self.crash_under_load] * 7
+        return self.machine.chance.choice(lives)()
+
+
+def crashes_of_serve(machine):
+    """Crashes, one behind the other, over one file after another. Each is yielded once it was judged."""
+    while True:
+        store = Store(machine)
+        machine.count("files")
+        for _ in range(LIVES):
+            if store.live():
+                yield
+            if store.is_full():
+                break
+
+
+# Commands that make a file
+
+class Maker:
+    """A command that makes a file, and what may be left of it."""
+
+    def __init__(self, machine, words, made, log, prepare):
+        self.machine, self.disk, self.words, self.made, self.log, self.prepare = machine, machine.disk, words, made, log, prepare
+
+    def left(self):
+        """What is left of the file: nothing, a file that is refused, or a whole log."""
+        if not self.disk.is_there(self.made):
+            return "absent"
+        status, _, text = run(["check", "--data", self.disk.path(self.made)])
+        if status:
+            expect(status == 3 and text in (NOT_A_LOG, FILE_FAULT), f"it is refused by {status} {text!r}")
+            return "refused"
+        expect(log_of(self.disk.read(self.made)) == self.log, "a log is left that isn't whole")
+        return "whole"
+
+    def once(self, plan):
+        """The command under a plan, or none, and then a crash. What is left?"""
+        self.prepare()
+        before = self.disk.crashes()
+        if plan:
+            self.disk.tell("plan", *plan)
+        status, _, text = run(self.words)
+        is_down, is_met = self.disk.crashes() > before, plan and self.disk.is_met()
+        self.disk.calm()
+        if is_down:
+            expect((status, text) == (KILLED, b""), f"it ended with {status} {text!r}")
+            self.machine.note_crash()
+        else:
+            expect((status, text) in ((0, b""), (3, FILE_FAULT), (3, client.DEVICE_FAULT)), f"{status} {text!r}")
+            expect(status == 0 or is_met, f"it failed by itself: {status} {text!r}")
+            found = self.left()
+            expect(found == "whole" or status, f"it ended with 0, and its file is {found}")
+            expect(found == "absent" or b"file" not in text, f"it told a file fault, and left a file that is {found}")
+            self.machine.crash_at_once()
+        found = self.left()
+        expect(found == "whole" or status, f"it ended with 0; behind a crash its file is {found}")
+        self.machine.count(found)
+        return found
+
+
+def crash_plan(chance, calls):
+    kind, last = chance.choice(calls)
+    return kind, chance.randint(1, last), chance.choice(("before", "after"))
+
+
+def fault_plan(chance, calls):
+    """A call that fails, and how."""
+    kind, last = chance.choice(calls)
+    actions = {"write": ("error", "done", "part", "short", "none"), "read": ("error", "short", "none"),
+               "sync": ("error", "done", "some", "keep", "revert"), "folder": ("error", "done"), "name": ("error",)}
+    errors = (errno.EIO, errno.ENOSPC, errno.EDQUOT, errno.EINTR)
+    action = chance.choice(actions[kind])
+    return kind, chance.randint(1, last), action, chance.choice(errors if action == "error" and kind in ("read", "write", "sync") else errors[:3])
+
+
+def making_create(machine):
+    sectors = machine.chance.randint(2, 300)
+    words = ["create", "--data", machine.disk.path("F"), "--sectors", str(sectors)]
+    return Maker(machine, words, "F", [], lambda: machine.disk.tell("wipe"))
+
+
+class Compacted:
+    """A file to be compacted, and what the copy holds."""
+
+    def __init__(self, machine):
+        chance = machine.chance
+        self.log = [some_writes(chance, label % CLIENTS, label) for label in range(chance.randint(0, 30))]
+        self.sectors = sectors_used(self.log) + chance.randint(0, 200)
+        self.content, self.machine = log_image(self.log, self.sectors), machine
+        self.copied = copy_of(self.log)
+
+    def prepare(self):
+        self.machine.disk.tell("wipe")
+        self.machine.disk.write("F", self.content)
+
+    def once(self, plan):
+        """`compact` under a plan, and a crash. The old file is as it was."""
+        disk = self.machine.disk
+        words = ["compact", "--from", disk.path("F"), "--to", disk.path("G")]
+        found = Maker(self.machine, words, "G", self.copied, self.prepare).once(plan)
+        expect(disk.read("F") == self.content, "the old file was changed")
+        return found
+
+
+def making(machine, name, plan_of, calls):
+    """Runs of `create` or `compact`, each under a plan. Each is yielded once it was judged."""
+    while True:
+        maker = making_create(machine) if name == "create" else Compacted(machine)
+        plan = plan_of(machine.chance, calls)
+        maker.once(plan if machine.chance.random() < 0.9 else None)
+        yield
+
+
+# Faults of the data file under `serve`
+
+def is_soft(plan):
+    """Is such a call made up for?"""
+    return plan[2] == "short" or plan[2:] == ("error", errno.EINTR)
+
+
+class Faulty(Store):
+    """A data file of which a call fails in some lives."""
+
+    def fail_in_opening(self):
+        plan = fault_plan(self.machine.chance, (("read", 6), ("sync", 1), ("folder", 1)))
+        with self.served(plan) as clients:
+            if clients:
+                expect(not self.was_met or is_soft(plan), f"it listens behind {plan}")
+                clients.end_server()
+                return
+        due = FILE_FAULT if plan[0] == "folder" else client.DEVICE_FAULT
+        expect(self.ended == (3, due) and not is_soft(plan), f"behind {plan} it ended with {self.ended}")
+        self.machine.count("openings refused")
+        self.finish()
+
+    def fail_under_load(self):
+        chance = self.machine.chance
+        plan = fault_plan(chance, (("write", 60), ("sync", 30)))
+        with self.served() as clients:
+            expect(clients, f"it doesn't open the file: {self.ended}")
+            witness = Connection(clients.server.port)
+            expect(witness.ask(frame("BEGIN")) == OK, "BEGIN was refused")
+            self.disk.tell("plan", *plan)
+            for _ in range(chance.randint(2, 6)):
+                expect(clients.round(), "a connection was closed")
+            is_met = self.disk.is_met()
+            self.disk.calm()
+            is_hard = is_met and not is_soft(plan)
+            due = bulk(map_of(self.history.log).get(counter_of(0)))
+            expect(witness.ask(frame("GET", counter_of(0))) == due, "an open transaction doesn't read on")
+            witness.close()
+            self.look_at_stopped(clients, is_hard)
+            clients.end_server()
+        self.machine.count("stores stopped" if is_hard else "faults made up for" if is_met else "faults not met")
+        self.finish()
+
+    @staticmethod
+    def look_at_stopped(clients, is_hard):
+        """A hard fault is one STORE fault, then STORE stopped, told once; at any other nothing is."""
+        faults = [at for at, replies in enumerate(clients.rounds) for reply in replies if reply == STORE_FAULT]
+        expect(len(faults) == is_hard, f"{len(faults)} STORE faults were answered")
+        behind = {reply for replies in clients.rounds[faults[0] + 1 if is_hard else 0:] for reply in replies}
+        expect(behind <= {STORE_STOPPED} if is_hard else STORE_STOPPED not in behind, f"behind {len(faults)} faults came {behind}")
+        told = clients.server.error_text()
+        expect(told == (client.STORE_STOPPED if is_hard else b""), f"it wrote {told!r}")
+
+    def finish(self):
+        """The machine crashes; or the operator drops the clean pages, so that what is read is what the device holds."""
+        if self.machine.chance.random() < 0.5:
+            self.machine.crash_at_once()
+            self.look()
+        else:
+            self.disk.tell("drop", self.name)
+
+
+def faults_of_serve(machine):
+    """Lives with faults and lives without, over one file after another. Each fault is yielded once it was judged."""
+    while True:
+        store = Faulty(machine)
+        for _ in range(LIVES):
+            if machine.chance.random() < 0.3:
+                store.fail_in_opening()
+            else:
+                store.fail_under_load()
+            yield
+            while machine.chance.random() < 0.3:
+                store.live()
+            if store.is_full():
+                break
+
+
+# What the operator does
+
+def small(serial):
+    return [(counter_of(0), b"%d" % serial), (b"key %03d" % (serial % SHARED_KEYS), b"%d" % serial)]
+
+
+def commit_some(store, clients, count):
+    """Small transactions, each of which must be answered."""
+    for _ in range(count):
+        clients.serial += 1
+        reply = clients.commit(small(clients.serial))
+        expect(reply and reply[:1] == b":", f"COMMIT was answered {reply}")
+
+
+def commits_and_crash(store):
+    """A life with acknowledged commits, which a crash ends: are all of them there?"""
+    chance = store.machine.chance
+    with store.served() as clients:
+        expect(clients, f"it doesn't open the file: {store.ended}")
+        commit_some(store, clients, chance.randint(1, 6))
+        clients.end_server()
+    store.machine.crash_at_once()
+    store.look()
+
+
+def stop_the_store(store):
+    """A commit whose gate's sync fails, and drops its page; the record is so long that the next append doesn't touch that page."""
+    with store.served() as clients:
+        expect(clients, "it doesn't open a new file")
+        commit_some(store, clients, store.machine.chance.randint(0, 9))
+        store.disk.tell("plan", "sync", 2, "keep", errno.EIO)
+        clients.serial += 1
+        reply = clients.commit([(counter_of(0), b"%d" % clients.serial), (b"long", b"v" * 9_000)])
+        expect(reply == STORE_FAULT, f"COMMIT was answered {reply}")
+        store.disk.calm()
+        clients.end_server()
+
+
+def swap_in_compacted(store):
+    """`compact`, and the copy takes the file's name; no sync. Answers what was copied."""
+    disk, log = store.disk, store.history.judge(store.disk.read(store.name))
+    status, _, text = run(["compact", "--from", store.path, "--to", disk.path("G")])
+    expect((status, text) == (0, b""), f"compact ended with {status} {text!r}")
+    os.rename(store.path, disk.path("F.old"))
+    os.rename(disk.path("G"), store.path)
+    store.history.begin(copy_of(log))
+    return log
+
+
+def after_a_stop(machine, way):
+    """A store stopped; then this is done: nothing, the clean pages dropped, or a copy by `compact`. Later commits outlive a crash."""
+    store = Store(machine)
+    stop_the_store(store)
+    if way == "drop":
+        store.disk.tell("drop", store.name)
+    elif way == "compact":
+        swap_in_compacted(store)
+        store.disk.tell("settle")
+    commits_and_crash(store)
+
+
+def look_between(store, log):
+    """Behind a crash between the renames and the opening: of the three names one at least is there, and each is the old file or the copy."""
+    disk, wanted = store.disk, map_of(log)
+    left = sorted(name for name in ("F", "F.old", "G") if disk.is_there(name))
+    maps = [map_of(log_of(disk.read(name))) for name in left]
+    expect(left and all(found == wanted for found in maps), f"{left} are left, and {maps.count(wanted)} hold all that was acknowledged")
+    store.machine.count("left as " + " and ".join(left))
+
+
+def after_a_swap(machine, way):
+    """Commits over a file that took another's name outlive a crash; at times it comes before the copy is served. The names are settled by
+    the operator (`synced`), or by the opening, or by neither (`ignored`)."""
+    store = Store(machine)
+    with store.served() as clients:
+        expect(clients, "it doesn't open a new file")
+        commit_some(store, clients, machine.chance.randint(1, 9))
+        clients.end_server()
+    log = swap_in_compacted(store)
+    if way == "synced":
+        store.disk.tell("settle")
+    elif way == "ignored":
+        store.disk.tell("ignore", "folder")
+    if machine.chance.random() < 0.2:
+        machine.crash_at_once()
+        look_between(store, log)
+    else:
+        commits_and_crash(store)
+
+
+def stops(machine, ways):
+    while True:
+        for way in ways:
+            after_a_stop(machine, way)
+            machine.count(f"by {way}")
+            yield
+
+
+def swaps(machine, way):
+    while True:
+        machine.disk.tell("ignore")
+        after_a_swap(machine, way)
+        machine.count("swaps")
+        yield
+
+
+# Modes
+
+CREATED_CALLS = (("name", 1), ("write", 20), ("sync", 3), ("folder", 1))
+COPIED_CALLS = (("name", 1), ("open", 2), ("write", 60), ("sync", 3), ("folder", 1))
+FAULTED_CALLS = (("name", 1), ("write", 40), ("sync", 3), ("folder", 1))
+
+# The runs of each mode, and how many `quick` and `long` make. Those of none are played where they are named, a hundred times.
+MODES = {
+    "serve": (crashes_of_serve, 80, 2_000),
+    "create": (lambda machine: making(machine, "create", crash_plan, CREATED_CALLS), 30, 400),
+    "create faults": (lambda machine: making(machine, "create", fault_plan, FAULTED_CALLS), 30, 400),
+    "compact": (lambda machine: making(machine, "compact", crash_plan, COPIED_CALLS), 20, 300),
+    "compact faults": (lambda machine: making(machine, "compact", fault_plan, FAULTED_CALLS), 20, 300),
+    "faults": (faults_of_serve, 40, 600),
+    "stopped": (lambda machine: stops(machine, ("drop", "compact")), 10, 200),
+    "stopped as before": (lambda machine: stops(machine, ("nothing",)), 0, 0),
+    "swap": (lambda machine: swaps(machine, "opening"), 10, 100),
+    "swap synced": (lambda machine: swaps(machine, "synced"), 0, 0),
+}
+
+# What is left out, and the mode that is to see it.
+SIGHT = (
+    ("a sync of the body", "body", crashes_of_serve),
+    ("a sync of the gate", "gate", crashes_of_serve),
+    ("the sync of an opening", "opening", crashes_of_serve),
+    ("the sync of the folder by `create`", "folder", MODES["create"][0]),
+    ("the sync of the folder by `serve`", None, lambda machine: swaps(machine, "ignored")),
+    ("dropping the clean pages", None, MODES["stopped as before"][0]),
+)
+
+
+def play(disk, name, runs_of, count, seed):
+    """So many runs of a mode."""
+    tally, machine = Tally(f"lossy, {name}"), Machine(disk, seed)
+    runs = runs_of(machine)
+    for number in range(count):
+        with tally.run(f"{name} {number} of seed {seed}"):
+            try:
+                next(runs)
+            except Deviation:
+                runs = runs_of(machine)
+                raise
+    return tally.end("; " + machine.text())
+
+
+def seen_at(disk, ignored, runs_of, seed):
+    """The run in which it is seen that this is left out."""
+    disk.tell("ignore", *([ignored] if ignored else []))
+    runs = runs_of(Machine(disk, seed))
+    try:
+        for number in range(1, SIGHT_MAX + 1):
+            try:
+                next(runs)
+            except Deviation as found:
+                return number, str(found)
+    finally:
+        disk.tell("ignore")
+        disk.calm()
+    raise Deviation(f"not seen in {SIGHT_MAX} runs")
+
+
+def sight(disk, seed):
+    """Is each thing seen that is left out?"""
+    tally, lines = Tally("lossy, sight"), []
+    for what, ignored, runs_of in SIGHT:
+        with tally.run(what):
+            number, text = seen_at(disk, ignored, runs_of, seed)
+            lines.append(f"{what} at run {number}")
+            print(f"  without {what}: run {number}, {text[:100]}", flush=True)
+    return tally.end("; left out and seen: " + ", ".join(lines))
+
+
+def arguments():
+    parser = argparse.ArgumentParser(description="ssikvd over a file system that loses what wasn't synced")
+    parser.add_argument("form", choices=("quick", "long"))
+    parser.add_argument("modes", nargs="*", metavar="mode", help="; ".join([*MODES, "sight"]))
+    parser.add_argument("--program", default=client.PROGRAM)
+    parser.add_argument("--seed", type=int, default=7)
+    parser.add_argument("--runs", type=int, help="so many of each mode")
+    return parser.parse_args()
+
+
+def main():
+    asked = arguments()
+    client.PROGRAM = asked.program
+    need(client.PROGRAM)
+    if not os.access(LOSSY, os.X_OK):
+        print("lossy: left out, since libfuse3 wasn't there when the harnesses were built")
+        return 0
+    holds = True
+    with folder() as place:
+        try:
+            disk = Disk(place)
+        except NoFuse as found:
+            print(f"lossy: left out, {found}")
+            return 0
+        with contextlib.closing(disk):
+            for name in asked.modes or [*MODES, "sight"]:
+                count = asked.runs or MODES.get(name, (0, 0, 0))[1 if asked.form == "quick" else 2] or 100 * bool(asked.modes)
+                if name == "sight":
+                    holds &= sight(disk, asked.seed)
+                elif count:
+                    holds &= play(disk, name, MODES[name][0], count, asked.seed)
+    return 0 if holds else 1
+
+
+if __name__ == "__main__":
+    run_harness(main)
