@@ -3,7 +3,7 @@
  *     lossy FOLDER
  *
  * mounts it there. Commands come on standard input, one on a line, and each is answered by a line on standard output; where the input ends,
- * the folder is unmounted. SIGINT and SIGTERM don't end it. The kernel caches no bytes (direct_io), and there is one thread.
+ * the folder is unmounted. SIGINT and SIGTERM don't end it. There is one thread.
  *
  * Of each sector of 512 bytes it keeps what a read gives, what the device holds, and the first contents that were written between. A sync of
  * a file settles its sectors and its length, one of the folder the names; nothing else does. A crash kills the process whose call meets it
@@ -12,7 +12,8 @@
  * none, a beginning, or each for itself.
  *
  * A sync that fails may drop pages of 4,096 bytes as Linux does: reads still give what was written, later syncs succeed and settle nothing
- * of it, until a write to the page makes it dirty again.
+ * of it, until a write to the page makes it dirty again. Where the kernel has copies of the pages (`copies 1`), a read that it can't serve
+ * from these gives what the device holds, so posix_fadvise takes effect. Where it has none (`copies 0`, at first; direct_io), it has no effect.
  *
  *     seed N                   the seed of all that is random
  *     wipe                     no file is there any more
@@ -21,7 +22,7 @@
  *     plan KIND N ACTION [E]   what the n-th call of this kind from now on meets, counted from 1; E is an error's number
  *     ignore [WHICH..]         syncs that succeed and settle nothing: opening (the first of an open file), body and gate (the second and third
  *                              of an open file, and on in turn), folder
- *     drop NAME                drops the clean pages of a file, as posix_fadvise does: what was dropped reads as the device holds it
+ *     copies 0|1               whether the kernel keeps copies of the pages of files that are opened from now on
  *     state                    answers: how often it crashed, how many sectors the last crash found unsettled, what the plan met (0 or 1)
  *
  * Kinds: open, read, write, sync, folder (a sync of it), name (a file made, moved, linked or removed). Actions: before, after (a crash); kill
@@ -89,13 +90,15 @@ enum { IGNORE_OPENING = 1, IGNORE_BODY = 2, IGNORE_GATE = 4, IGNORE_FOLDER = 8 }
 
 static const char *const ignore_names[] = {"opening", "body", "gate", "folder", NULL};
 
+/* The file at place i has the number first_number + i. No number is given twice. */
 static struct file **files;
 static size_t file_count;
+static fuse_ino_t first_number = FUSE_ROOT_ID + 1;
 static struct folder folder, settled_folder;
 static struct change changes[CHANGES];
 static int change_count;
 static long crashes, lost_sectors;
-static unsigned ignored;
+static unsigned ignored, copies;
 static uint64_t chance = 1;
 
 static struct {
@@ -208,6 +211,15 @@ static size_t read_file(const struct file *file, off_t at, char *into, size_t si
     return moved;
 }
 
+/* What was dropped is read from the device again. */
+static void read_dropped(struct file *file, off_t at, size_t size) {
+    for (size_t i = (size_t)at / SECTOR; i < file->room && (off_t)(i * SECTOR) < at + (off_t)size; i++)
+        if (file->sectors[i].state == DROPPED) {
+            memcpy(file->sectors[i].now, file->sectors[i].old, SECTOR);
+            become(&file->sectors[i], SETTLED);
+        }
+}
+
 /* What a sync does to a file's sectors: one that succeeds (PASS, DONE), or fails. */
 static void sync_file(struct file *file, enum action action) {
     for (size_t i = 0; i < file->room; i++) {
@@ -246,16 +258,17 @@ static void lose_file(struct file *file) {
     }
 }
 
-static fuse_ino_t new_file(void) {
+static fuse_ino_t add_file(struct file *file) {
     struct file **more = realloc(files, (file_count + 1) * sizeof *files);
-    if (!more || !(more[file_count] = calloc(1, sizeof(struct file))))
+    if (!file || !more)
         abort();
     files = more;
-    return FUSE_ROOT_ID + ++file_count;
+    files[file_count] = file;
+    return first_number + file_count++;
 }
 
 static struct file *file_of(fuse_ino_t number) {
-    return number > FUSE_ROOT_ID && number - FUSE_ROOT_ID <= file_count ? files[number - FUSE_ROOT_ID - 1] : NULL;
+    return number >= first_number && number - first_number < file_count ? files[number - first_number] : NULL;
 }
 
 static void free_file(struct file *file) {
@@ -315,6 +328,21 @@ static void lose_names(void) {
     change_count = 0;
 }
 
+/* Gives each file another number, under which the kernel has no copies of its pages; open files fail. */
+static void renumber(void) {
+    size_t count = file_count;
+    for (size_t i = 0; i < count; i++) {
+        if (!files[i])
+            continue;
+        fuse_ino_t number = add_file(files[i]);
+        for (int k = 0; k < folder.count; k++)
+            if (folder.names[k].file == first_number + i)
+                folder.names[k].file = number;
+        files[i] = NULL;
+    }
+    settle_names();
+}
+
 /* Crashes and faults */
 
 static void crash(void) {
@@ -325,6 +353,7 @@ static void crash(void) {
     for (size_t i = 0; i < file_count; i++)
         if (files[i])
             lose_file(files[i]);
+    renumber();
 }
 
 /* Kills the process with this number, where it is a child of the process that started this one. */
@@ -428,7 +457,8 @@ static int open_handle(fuse_ino_t number, struct fuse_file_info *info) {
         return 0;
     *handle = (struct handle){number, crashes, 0};
     info->fh = (uint64_t)(uintptr_t)handle;
-    info->direct_io = 1;
+    info->direct_io = !copies;
+    info->keep_cache = copies;
     return 1;
 }
 
@@ -445,7 +475,7 @@ static void create(fuse_req_t request, fuse_ino_t parent, const char *name, mode
     }
     if (!is_made(request, NAME, &action))
         return;
-    fuse_ino_t number = new_file();
+    fuse_ino_t number = add_file(calloc(1, sizeof(struct file)));
     note_change("", name, number);
     struct fuse_entry_param entry = entry_of(number);
     if (!is_answered(request, action))
@@ -547,6 +577,8 @@ static void read_bytes(fuse_req_t request, fuse_ino_t number, size_t size, off_t
     (void)number;
     if (!file || !is_answered(request, action))
         return;
+    if (copies)
+        read_dropped(file, at, size);
     char *bytes = malloc(size);
     size_t moved = bytes ? read_file(file, at, bytes, moved_of(action, size)) : 0;
     fuse_reply_buf(request, bytes, moved);
@@ -610,10 +642,10 @@ static int place_of(const char *const *names, const char *name) {
 }
 
 static void wipe(void) {
-    for (size_t i = 0; i < file_count; i++) {
+    for (size_t i = 0; i < file_count; i++)
         free_file(files[i]);
-        files[i] = NULL;
-    }
+    first_number += file_count;
+    file_count = 0;
     folder.count = 0;
     settle_names();
 }
@@ -651,18 +683,6 @@ static int set_ignored(char *words) {
     return 1;
 }
 
-/* A dropped page is read from the device again. */
-static int drop(const char *name) {
-    struct name *found = find(&folder, name);
-    struct file *file = found ? file_of(found->file) : NULL;
-    for (size_t i = 0; file && i < file->room; i++)
-        if (file->sectors[i].state == DROPPED) {
-            memcpy(file->sectors[i].now, file->sectors[i].old, SECTOR);
-            become(&file->sectors[i], SETTLED);
-        }
-    return file != NULL;
-}
-
 static int obey(char *line) {
     char word[16] = "";
     int end = 0;
@@ -672,10 +692,10 @@ static int obey(char *line) {
         return set_plan(rest);
     if (!strcmp(word, "ignore"))
         return set_ignored(rest);
-    if (!strcmp(word, "drop"))
-        return drop(rest);
     if (!strcmp(word, "seed"))
         chance = strtoull(rest, NULL, 10) * 0x9e3779b97f4a7c15u | 1;
+    else if (!strcmp(word, "copies"))
+        copies = rest[0] == '1';
     else if (!strcmp(word, "wipe"))
         wipe();
     else if (!strcmp(word, "settle"))

@@ -9,12 +9,14 @@ that were asked for.
     create     crashes of `create`: the file is absent, refused, or a whole empty log. `create faults`: calls of it fail
     compact    crashes of `compact`: the old file is as it was, the new one absent, refused, or a whole copy. `compact faults`: calls fail
     faults     calls on the data file that fail, move less or are interrupted, under `serve` and in its opening
-    stopped    the sync of a gate fails and drops its page; clean pages are dropped or the file is compacted; later commits outlive a crash
+    stopped    the sync of a gate fails and drops its page; the file is opened in place, or behind `dd iflag=nocache`, or compacted; later
+               commits outlive a crash
     swap       a compacted file takes the old one's name; commits over it outlive a crash
-    sight      syncs are left out, one kind at a time, or clean pages are not dropped: each must be seen within a hundred runs
+    sight      syncs are left out, one kind at a time, or pages can't be dropped: each must be seen within a hundred runs
 
-`lossy.py quick` plays some of each, `long` many, and with modes behind it those alone. Two are played only by name: `stopped as before`, in
-which nothing is done behind the stop, and `swap synced`, in which the operator settles the names. All is left out where FUSE isn't there.
+`lossy.py quick` plays some of each, `long` many, and with modes behind it those alone. Two are played only by name: `stopped without copies`,
+where the advice to drop pages has no effect and commits are lost, and `swap synced`, in which the operator settles the names before the file
+is served. All is left out where FUSE isn't there.
 """
 import argparse
 import contextlib
@@ -151,7 +153,7 @@ class History:
         """The log in these bytes. It has all that was answered, at its number; between stands only what was asked for and not answered."""
         log = log_of(content)
         new = log[len(self.log):]
-        expect(log[:len(self.log)] == self.log, f"of {len(self.log)} commits of earlier lives not all are there")
+        expect(log[:len(self.log)] == self.log, "not all commits of earlier lives are there")
         last, left = max(self.answered, default=0), list(self.unknown)
         expect(len(new) >= last, f"{last - len(new)} of {last} acknowledged commits are lost")
         for number, writes in enumerate(new, 1):
@@ -290,11 +292,13 @@ def tail(chance, count):
 class Store:
     """A data file that is served through many lives."""
 
-    def __init__(self, machine, name="F"):
-        self.machine, self.disk, self.name, self.serial = machine, machine.disk, name, 0
+    def __init__(self, machine, has_copies=None):
+        self.machine, self.disk, self.name, self.serial = machine, machine.disk, "F", 0
         self.history, self.ended, self.was_met = History(), None, False
+        self.has_copies = machine.chance.random() < 0.5 if has_copies is None else has_copies
         self.disk.tell("wipe")
-        self.disk.write(name, HEAD + bytes(SECTOR) + tail(machine.chance, SECTORS - 2))
+        self.disk.tell("copies", int(self.has_copies))
+        self.disk.write(self.name, HEAD + bytes(SECTOR) + tail(machine.chance, SECTORS - 2))
 
     @property
     def path(self):
@@ -511,7 +515,8 @@ class Faulty(Store):
     """A data file of which a call fails in some lives."""
 
     def fail_in_opening(self):
-        plan = fault_plan(self.machine.chance, (("read", 6), ("sync", 1), ("folder", 1)))
+        calls = (("sync", 1), ("folder", 1)) if self.has_copies else (("sync", 1), ("folder", 1), ("read", 6))
+        plan = fault_plan(self.machine.chance, calls)
         with self.served(plan) as clients:
             if clients:
                 expect(not self.was_met or is_soft(plan), f"it listens behind {plan}")
@@ -520,7 +525,7 @@ class Faulty(Store):
         due = FILE_FAULT if plan[0] == "folder" else client.DEVICE_FAULT
         expect(self.ended == (3, due) and not is_soft(plan), f"behind {plan} it ended with {self.ended}")
         self.machine.count("openings refused")
-        self.finish()
+        self.finish(plan)
 
     def fail_under_load(self):
         chance = self.machine.chance
@@ -541,7 +546,7 @@ class Faulty(Store):
             self.look_at_stopped(clients, is_hard)
             clients.end_server()
         self.machine.count("stores stopped" if is_hard else "faults made up for" if is_met else "faults not met")
-        self.finish()
+        self.finish(plan)
 
     @staticmethod
     def look_at_stopped(clients, is_hard):
@@ -553,13 +558,11 @@ class Faulty(Store):
         told = clients.server.error_text()
         expect(told == (client.STORE_STOPPED if is_hard else b""), f"it wrote {told!r}")
 
-    def finish(self):
-        """The machine crashes; or the operator drops the clean pages, so that what is read is what the device holds."""
-        if self.machine.chance.random() < 0.5:
+    def finish(self, plan):
+        """The machine crashes, or the next life opens what is there. This must drop pages, where the kernel has copies of them."""
+        if self.machine.chance.random() < 0.5 or plan[2] == "keep" and not self.has_copies:
             self.machine.crash_at_once()
             self.look()
-        else:
-            self.disk.tell("drop", self.name)
 
 
 def faults_of_serve(machine):
@@ -627,16 +630,18 @@ def swap_in_compacted(store):
     return log
 
 
-def after_a_stop(machine, way):
-    """A store stopped; then this is done: nothing, the clean pages dropped, or a copy by `compact`. Later commits outlive a crash."""
-    store = Store(machine)
-    stop_the_store(store)
-    if way == "drop":
-        store.disk.tell("drop", store.name)
-    elif way == "compact":
-        swap_in_compacted(store)
-        store.disk.tell("settle")
-    commits_and_crash(store)
+def after_a_stop(machine, way, has_copies=True):
+    """A store stopped; then this is done: nothing but to open it again, the clean pages are dropped first, or a copy by `compact` is put
+    in its place. Later commits outlive a crash."""
+    store = Store(machine, has_copies)
+    with open(store.path, "rb", buffering=0):    # while it is open, the kernel keeps its copies
+        stop_the_store(store)
+        if way == "dd":
+            subprocess.run(["dd", "if=" + store.path, "iflag=nocache", "count=0", "status=none"], check=True)
+        elif way == "compact":
+            swap_in_compacted(store)
+            store.disk.tell("settle")
+        commits_and_crash(store)
 
 
 def look_between(store, log):
@@ -668,12 +673,15 @@ def after_a_swap(machine, way):
         commits_and_crash(store)
 
 
-def stops(machine, ways):
+def stops(machine, ways, has_copies=True):
     while True:
-        for way in ways:
-            after_a_stop(machine, way)
-            machine.count(f"by {way}")
-            yield
+        way = ways[sum(machine.counts.get(name, 0) for name in ways) % len(ways)]
+        machine.count(way)
+        try:
+            after_a_stop(machine, way, has_copies)
+        except Deviation as found:
+            raise Deviation(f"{way}: {found}") from None
+        yield
 
 
 def swaps(machine, way):
@@ -698,8 +706,8 @@ MODES = {
     "compact": (lambda machine: making(machine, "compact", crash_plan, COPIED_CALLS), 20, 300),
     "compact faults": (lambda machine: making(machine, "compact", fault_plan, FAULTED_CALLS), 20, 300),
     "faults": (faults_of_serve, 40, 600),
-    "stopped": (lambda machine: stops(machine, ("drop", "compact")), 10, 200),
-    "stopped as before": (lambda machine: stops(machine, ("nothing",)), 0, 0),
+    "stopped": (lambda machine: stops(machine, ("opened in place", "dd", "compact")), 12, 300),
+    "stopped without copies": (lambda machine: stops(machine, ("opened in place",), False), 0, 0),
     "swap": (lambda machine: swaps(machine, "opening"), 10, 100),
     "swap synced": (lambda machine: swaps(machine, "synced"), 0, 0),
 }
@@ -711,7 +719,7 @@ SIGHT = (
     ("the sync of an opening", "opening", crashes_of_serve),
     ("the sync of the folder by `create`", "folder", MODES["create"][0]),
     ("the sync of the folder by `serve`", None, lambda machine: swaps(machine, "ignored")),
-    ("dropping the clean pages", None, MODES["stopped as before"][0]),
+    ("the dropping of pages by an opening", None, MODES["stopped without copies"][0]),
 )
 
 
@@ -763,7 +771,11 @@ def arguments():
     parser.add_argument("--program", default=client.PROGRAM)
     parser.add_argument("--seed", type=int, default=7)
     parser.add_argument("--runs", type=int, help="so many of each mode")
-    return parser.parse_args()
+    asked = parser.parse_args()
+    unknown = set(asked.modes) - {*MODES, "sight"}
+    if unknown:
+        parser.error(f"no mode: {', '.join(sorted(unknown))}")
+    return asked
 
 
 def main():
@@ -781,12 +793,12 @@ def main():
             print(f"lossy: left out, {found}")
             return 0
         with contextlib.closing(disk):
-            for name in asked.modes or [*MODES, "sight"]:
-                count = asked.runs or MODES.get(name, (0, 0, 0))[1 if asked.form == "quick" else 2] or 100 * bool(asked.modes)
+            for name in asked.modes or [*(name for name in MODES if MODES[name][1]), "sight"]:
                 if name == "sight":
                     holds &= sight(disk, asked.seed)
-                elif count:
-                    holds &= play(disk, name, MODES[name][0], count, asked.seed)
+                else:
+                    runs_of, quick, long = MODES[name]
+                    holds &= play(disk, name, runs_of, asked.runs or (quick if asked.form == "quick" else long) or 100, asked.seed)
     return 0 if holds else 1
 
 
