@@ -410,10 +410,10 @@ def crashes_of_serve(machine):
 # Commands that make a file
 
 class Maker:
-    """A command that makes a file, and what may be left of it."""
+    """A command that makes a file, what this holds where it is whole, and the file F that is there before and is not to be changed."""
 
-    def __init__(self, machine, words, made, log, prepare):
-        self.machine, self.disk, self.words, self.made, self.log, self.prepare = machine, machine.disk, words, made, log, prepare
+    def __init__(self, machine, words, made, log, before=None):
+        self.machine, self.disk, self.words, self.made, self.log, self.before = machine, machine.disk, words, made, log, before
 
     def left(self):
         """What is left of the file: nothing, a file that is refused, or a whole log."""
@@ -427,28 +427,33 @@ class Maker:
         return "whole"
 
     def once(self, plan):
-        """The command under a plan, or none, and then a crash. What is left?"""
-        self.prepare()
-        before = self.disk.crashes()
-        if plan:
-            self.disk.tell("plan", *plan)
+        """The command under a plan, or none, and then a crash."""
+        self.disk.tell("wipe")
+        if self.before:
+            self.disk.write("F", self.before)
+        crashes = self.disk.crashes()
+        self.disk.tell("plan", *plan)
         status, _, text = run(self.words)
-        is_down, is_met = self.disk.crashes() > before, plan and self.disk.is_met()
+        is_down, is_met = self.disk.crashes() > crashes, self.disk.is_met()
         self.disk.calm()
         if is_down:
             expect((status, text) == (KILLED, b""), f"it ended with {status} {text!r}")
             self.machine.note_crash()
         else:
-            expect((status, text) in ((0, b""), (3, FILE_FAULT), (3, client.DEVICE_FAULT)), f"{status} {text!r}")
-            expect(status == 0 or is_met, f"it failed by itself: {status} {text!r}")
-            found = self.left()
-            expect(found == "whole" or status, f"it ended with 0, and its file is {found}")
-            expect(found == "absent" or b"file" not in text, f"it told a file fault, and left a file that is {found}")
+            self.look_at_end(status, text, is_met)
             self.machine.crash_at_once()
         found = self.left()
         expect(found == "whole" or status, f"it ended with 0; behind a crash its file is {found}")
+        expect(not self.before or self.disk.read("F") == self.before, "the old file was changed")
         self.machine.count(found)
-        return found
+
+    def look_at_end(self, status, text, is_met):
+        """It ended by itself: what did it tell, and what has it left?"""
+        expect((status, text) in ((0, b""), (3, FILE_FAULT), (3, client.DEVICE_FAULT)), f"{status} {text!r}")
+        expect(status == 0 or is_met, f"it failed by itself: {status} {text!r}")
+        found = self.left()
+        expect(found == "whole" or status, f"it ended with 0, and its file is {found}")
+        expect(found == "absent" or text != FILE_FAULT, f"it told a file fault, and left a file that is {found}")
 
 
 def crash_plan(chance, calls):
@@ -466,41 +471,23 @@ def fault_plan(chance, calls):
     return kind, chance.randint(1, last), action, chance.choice(errors if action == "error" and kind in ("read", "write", "sync") else errors[:3])
 
 
-def making_create(machine):
+def creating(machine):
     sectors = machine.chance.randint(2, 300)
-    words = ["create", "--data", machine.disk.path("F"), "--sectors", str(sectors)]
-    return Maker(machine, words, "F", [], lambda: machine.disk.tell("wipe"))
+    return Maker(machine, ["create", "--data", machine.disk.path("F"), "--sectors", str(sectors)], "F", [])
 
 
-class Compacted:
-    """A file to be compacted, and what the copy holds."""
-
-    def __init__(self, machine):
-        chance = machine.chance
-        self.log = [some_writes(chance, label % CLIENTS, label) for label in range(chance.randint(0, 30))]
-        self.sectors = sectors_used(self.log) + chance.randint(0, 200)
-        self.content, self.machine = log_image(self.log, self.sectors), machine
-        self.copied = copy_of(self.log)
-
-    def prepare(self):
-        self.machine.disk.tell("wipe")
-        self.machine.disk.write("F", self.content)
-
-    def once(self, plan):
-        """`compact` under a plan, and a crash. The old file is as it was."""
-        disk = self.machine.disk
-        words = ["compact", "--from", disk.path("F"), "--to", disk.path("G")]
-        found = Maker(self.machine, words, "G", self.copied, self.prepare).once(plan)
-        expect(disk.read("F") == self.content, "the old file was changed")
-        return found
+def compacting(machine):
+    chance = machine.chance
+    log = [some_writes(chance, label % CLIENTS, label) for label in range(chance.randint(0, 30))]
+    words = ["compact", "--from", machine.disk.path("F"), "--to", machine.disk.path("G")]
+    return Maker(machine, words, "G", copy_of(log), log_image(log, sectors_used(log) + chance.randint(0, 200)))
 
 
-def making(machine, name, plan_of, calls):
+def making(machine, maker_of, plan_of, calls):
     """Runs of `create` or `compact`, each under a plan. Each is yielded once it was judged."""
     while True:
-        maker = making_create(machine) if name == "create" else Compacted(machine)
-        plan = plan_of(machine.chance, calls)
-        maker.once(plan if machine.chance.random() < 0.9 else None)
+        maker = maker_of(machine)
+        maker.once(plan_of(machine.chance, calls) if machine.chance.random() < 0.9 else ())
         yield
 
 
@@ -694,17 +681,17 @@ def swaps(machine, way):
 
 # Modes
 
-CREATED_CALLS = (("name", 1), ("write", 20), ("sync", 3), ("folder", 1))
-COPIED_CALLS = (("name", 1), ("open", 2), ("write", 60), ("sync", 3), ("folder", 1))
-FAULTED_CALLS = (("name", 1), ("write", 40), ("sync", 3), ("folder", 1))
+CREATED_CALLS = (("name", 1), ("write", 3), ("write", 20), ("sync", 1), ("sync", 3), ("folder", 1))
+COPIED_CALLS = (("name", 1), ("open", 1), ("write", 9), ("write", 60), ("sync", 1), ("sync", 3), ("folder", 1))
+FAULTED_CALLS = (("name", 1), ("write", 9), ("write", 60), ("sync", 3), ("folder", 1))
 
 # The runs of each mode, and how many `quick` and `long` make. Those of none are played where they are named, a hundred times.
 MODES = {
     "serve": (crashes_of_serve, 80, 2_000),
-    "create": (lambda machine: making(machine, "create", crash_plan, CREATED_CALLS), 30, 400),
-    "create faults": (lambda machine: making(machine, "create", fault_plan, FAULTED_CALLS), 30, 400),
-    "compact": (lambda machine: making(machine, "compact", crash_plan, COPIED_CALLS), 20, 300),
-    "compact faults": (lambda machine: making(machine, "compact", fault_plan, FAULTED_CALLS), 20, 300),
+    "create": (lambda machine: making(machine, creating, crash_plan, CREATED_CALLS), 30, 400),
+    "create faults": (lambda machine: making(machine, creating, fault_plan, FAULTED_CALLS), 30, 400),
+    "compact": (lambda machine: making(machine, compacting, crash_plan, COPIED_CALLS), 20, 300),
+    "compact faults": (lambda machine: making(machine, compacting, fault_plan, FAULTED_CALLS), 20, 300),
     "faults": (faults_of_serve, 40, 600),
     "stopped": (lambda machine: stops(machine, ("opened in place", "dd", "compact")), 12, 300),
     "stopped without copies": (lambda machine: stops(machine, ("opened in place",), False), 0, 0),
