@@ -2,8 +2,9 @@
 """All that the promises of docs/AUDIT.md are said with: `reading.py --write` writes docs/DEFINITIONS.md, `reading.py` looks whether it is true.
 
 It takes the clauses that AUDIT.md names out of the sources, follows every name in them through the definitions of the crates
-(crates/NAME/specs) down to the library's, and lists these in reading order: each behind those that it needs, with its lines. It fails where a
-clause or a definition is not there, or where the page is not what it would write. Needs Python 3 alone.
+(crates/NAME/specs) down to the library's, and prints these in reading order: each after those that it needs, with its text. A name that a file
+hands on by `pub use` is followed to where it is defined. It fails where a clause or a definition is not there, where a name of a file of specs/ is
+neither defined, handed on, a constructor nor a field there, or where the page is not what it would write. Needs Python 3 alone.
 """
 import functools
 import os
@@ -15,7 +16,6 @@ from audit import CLAUSE, DEFINITION
 TOP = os.path.normpath(os.path.join(os.path.dirname(os.path.abspath(__file__)), ".."))
 PAGE = "docs/DEFINITIONS.md"
 DEFINING = ("abbrev", "unfoldable", "record", "data", "pub", "opaque")
-CELL_MAX = 110
 
 
 class Untrue(Exception):
@@ -55,22 +55,48 @@ def head_of(line):
 
 
 @functools.cache
-def definitions(path):
-    """The definitions of a file of specs/: the lines of each, without comments."""
-    found, current, depth = {}, None, 0
+def parts_of(path):
+    """The definitions of a file of specs/: the lines of each, with its comments; those before it at the margin are its own."""
+    found, current, depth, before = {}, None, 0, []
     for line in read(path).split("\n"):
         indent = len(line) - len(line.lstrip())
         if re.match(r" *module _.*where$", line):
             depth = indent + 2
             continue
-        if not line.strip() or line.lstrip().startswith("--") or re.match(r"(?:pub )?(?:use|mod|syntax) ", line):
+        if not line.strip() or re.match(r"(?:pub )?(?:use|mod|syntax) ", line):
+            before = []
             continue
         depth = min(depth, indent)
-        if indent == depth and line[depth] not in "|)]}":
+        is_comment = line.lstrip().startswith("--")
+        if is_comment and indent == depth:
+            before.append(line[depth:])
+            continue
+        if not is_comment and indent == depth and line[depth] not in "|)]}":
             current = head_of(line[depth:]) or current
         if current:
-            found.setdefault(current, []).append(line[depth:])
+            found.setdefault(current, []).extend([*before, line[depth:]])
+        before = []
     return found
+
+
+@functools.cache
+def definitions(path):
+    """The same without comments."""
+    return {name: [line for line in lines if not line.lstrip().startswith("--")] for name, lines in parts_of(path).items()}
+
+
+@functools.cache
+def handed_on(path):
+    """The names that a file of specs/ hands on: each with its module and its name there."""
+    return imports("\n".join(line.removeprefix("pub ") for line in read(path).split("\n") if line.startswith("pub use ")))
+
+
+def owner_of(path, name):
+    """The definition of the file whose constructor or field this is."""
+    for owner, lines in definitions(path).items():
+        if any(re.match(rf"\s+(?:pub )?{re.escape(name)}(?:\s.*)? ?:", line) for line in lines):
+            return owner
+    return None
 
 
 def place_of(module, name):
@@ -84,7 +110,19 @@ def place_of(module, name):
         return "type", f"crates/{crate}/src/{names[0]}.rt", names[1] if len(names) > 1 else name
     if not os.path.exists(os.path.join(TOP, "crates", crate, *parts) + ".antt"):
         name = parts.pop()  # a constructor of a type: the type is what is to be read
-    return "definition", f"crates/{crate}/{'/'.join(parts)}.antt", name
+    return defined_at(f"crates/{crate}/{'/'.join(parts)}.antt", name)
+
+
+def defined_at(path, name):
+    """Where a name of a file of specs/ is defined: there, or where it is handed on from; a constructor or a field by its definition."""
+    if name in definitions(path):
+        return "definition", path, name
+    if name in handed_on(path):
+        return place_of(*handed_on(path)[name])
+    owner = owner_of(path, name)
+    if not owner:
+        raise Untrue(f"{path} does not define {name}")
+    return "definition", path, owner
 
 
 class Reading:
@@ -108,13 +146,9 @@ class Reading:
             return
         self.seen.add((path, name))
         if kind == "type":
-            self.types.append((path, name))
+            self.types += [(path, name)] * (name != "TheConstants")
             return
-        lines = definitions(path).get(name)
-        if lines is None:
-            if re.search(rf"(?<![\w'-]){re.escape(name)}(?![\w'-])", read(path)):
-                return  # a constructor or a field of a definition there
-            raise Untrue(f"{path} does not define {name}")
+        lines = definitions(path)[name]
         self.follow("\n".join(lines), imports(read(path)), path)
         self.order.append((path, name, len(lines)))
 
@@ -151,25 +185,29 @@ def clause_of(path, function, clause):
 
 # ---- The page
 
-def files_in_order(order):
-    """The definitions by file, the files in the order in which their first was found."""
-    by_file = {}
-    for path, name, lines in order:
-        by_file.setdefault(path, []).append((name, lines))
-    return by_file
+def title(path, name):
+    """A definition's head on the page: its crate, its file and its name."""
+    return f"{path.removeprefix('crates/').removesuffix('.antt').replace('/specs/', ': ').replace('/', ': ')}: {name}"
 
 
-def rows_of(path, found):
-    """Rows of the table, none of them too wide."""
-    cells, cell, lines = [], "", 0
-    for name, length in found:
-        piece = f"`{name}` {length}"
-        if cell and len(cell) + len(piece) + 2 > CELL_MAX:
-            cells.append((cell, lines))
-            cell, lines = "", 0
-        cell, lines = f"{cell}, {piece}" if cell else piece, lines + length
-    name = path.removeprefix("crates/").removesuffix(".antt").replace("/specs/", ": ")
-    return [f"| {name} | {text} | {count} |" for text, count in [*cells, (cell, lines)]]
+def anchor(path, name):
+    return re.sub(r"[^\w\- ]", "", title(path, name).lower()).replace(" ", "-")
+
+
+def needed(path, name, shown):
+    """The definitions of the page that this one is said with."""
+    own, names = definitions(path), imports(read(path))
+    for word in dict.fromkeys(words("\n".join(own[name]))):
+        found = (path, word) if word in own else (place_of(*names[word]) or (None,))[1:] if word in names else None
+        if found in shown and found != (path, name):
+            yield found
+
+
+def printed(path, name, shown):
+    """A definition with its text, and links to those that it needs."""
+    out = [f"### {title(path, name)}", "", "```text", *parts_of(path)[name], "```", ""]
+    links = [f"[{other}](#{anchor(file, other)})" for file, other in needed(path, name, shown)]
+    return out + ([f"Needs {', '.join(links)}.", ""] if links else [])
 
 
 def promises():
@@ -192,17 +230,18 @@ def section(reading, head, clauses, named):
     if not further:
         return [f"## {head}", "", "All that this is said with stands above.", ""]
     out = [f"## {head}", "", f"{len(further)} definitions, {sum(lines for _, _, lines in further)} lines.", ""]
-    out += ["| File | Definitions, each with its lines | Lines |", "|---|---|---|"]
-    for path, found in files_in_order(further).items():
-        out += rows_of(path, found)
-    return [*out, ""]
+    shown = {(path, name) for path, name, _ in reading.order}
+    for path, name, _ in further:
+        out += printed(path, name, shown)
+    return out
 
 
 HEAD = """# Definitions
 
 [AUDIT.md](AUDIT.md) names for each promise the clauses that carry it, and what to read first. Here is the rest: every definition that these clauses are
-said with, down to the words of the library (numbers, lists, options). Each stands behind those that it needs, where it is needed first, with its lines
-without comments. `harness/reading.py --write` finds them by their names and writes this page. The gate fails where it isn't true.
+said with, down to the words of the library (numbers, lists, options), with its text. Each stands after those that it needs, where it is needed first.
+Lines are counted without comments. `harness/reading.py --write` finds the definitions by their names and writes this page. The gate fails where it
+isn't what that would write.
 
 Whoever has read them knows what is claimed; the proofs need not be read. The clauses also speak of types of the code:
 """
