@@ -1,4 +1,5 @@
 pub mod Lists
+pub mod Intervals
 pub mod Ends
 pub mod Histories
 pub mod LastSources

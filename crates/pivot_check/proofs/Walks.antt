@@ -14,8 +14,8 @@ use Rattle.model.specs.PrivateCopy.{Mark, covers, is_covered}
 use Rattle.model.proofs.Entries.{turned}
 use Rattle.marks.specs.declared.held.Held.{Held}
 use Rattle.marks.specs.Marked.{mark_of, marks_of, start_of}
-use Rattle.marks.proofs.SortedItems.{covers_below, covers_above}
 use Rattle.pivot_check.specs.Postings.{Posting, keys_rise, are_from, least, lesser, asked_of, covered_of}
+use Rattle.pivot_check.proofs.Intervals.{covers_below, covers_above}
 use Rattle.pivot_check.proofs.Order.{lt_trans, above_both, from_lo}
 use Rattle.pivot_check.specs.declared.run.Run.{Run}
 use Rattle.pivot_check.specs.Inside.{postings_in}
