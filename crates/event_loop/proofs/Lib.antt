@@ -8,3 +8,4 @@ pub mod Polled
 pub mod Counts
 mod OneTurn
 mod Turned
+pub mod Serving

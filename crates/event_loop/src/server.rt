@@ -1,8 +1,9 @@
 //! The loop.
+ghost use Rattle.sessions.specs.Lives.{IsServed};
 ghost use Rattle.stream_driver.specs.Sessions.{Stands};
 ghost use Rattle.stream_driver.specs.Entries.{HaveSessions};
 ghost use Rattle.event_loop.specs.Numbers.{AreBelow};
-ghost use Rattle.event_loop.specs.Tables.{HasNobody, HaveEntries};
+ghost use Rattle.event_loop.specs.Tables.{HaveEntries};
 
 use crate::connections::{
     Backlog, LINGERER, accept_some, any_ready, end_drives, make_polled_ready,
@@ -39,6 +40,7 @@ pub struct EventLoop<D: Sectors> {
     next: u64,
     table: Slab<Entry<BufferedStream<Socket>>>,
     ghost stands: { Stands hub },
+    ghost served: { IsServed hub },
     ghost sessions: { HaveSessions hub table.slots },
     ghost entries: { HaveEntries hub table.slots },
     ghost numbers: { AreBelow next table.slots },
@@ -47,13 +49,13 @@ pub struct EventLoop<D: Sectors> {
 impl<D: Sectors> EventLoop<D> {
     ghost use Rattle.std.specs.Prelude.{◌≡◌, true, IfOk, OnOk, OnErr};
     ghost use Rattle.mio.specs.Events.{items};
+    ghost use Rattle.sessions.specs.Lives.{IsOpened};
     ghost use Rattle.sessions.specs.SessionStreams.{HubState};
     ghost use Rattle.sessions.specs.StandsFor.{StandsFor};
     ghost use Rattle.event_loop.specs.Loops.{HasItsSessions, hub_of};
     ghost use Rattle.event_loop.specs.Turns.{Accepted, DrivesReady, IsTurn, IsUntouched, TurnsAreRuns, accepts_now, is_told_of};
 
-    /// Listens at an address for the sessions of a hub that none has joined, over an engine that was opened. Port 0 stands for one that
-    /// the system picks.
+    /// Listens at an address for the sessions of a hub that was opened. Port 0 stands for one that the system picks.
     ///
     /// A fault is the system's, or a want of memory, which it tells as `OutOfMemory`. It takes memory for the events of one poll, and
     /// for the connections that linger.
@@ -63,9 +65,10 @@ impl<D: Sectors> EventLoop<D> {
         address: SocketAddr,
         hub: Hub<D>,
     ) -> io::Result<EventLoop<D>>
-        requires { HasNobody hub }
+        requires { IsOpened hub }
         ensures { IfOk result (λ events. hub_of events ≡ hub) }
     {
+        hub.runs_follow();
         let poll = Poll::new(rt)?;
         let mut listener = TcpListener::bind(rt, address)?;
         poll.registry()
@@ -124,12 +127,13 @@ impl<D: Sectors> EventLoop<D> {
     /// Whatever the connections send, and however their bytes are cut and interleaved, these events are one run of the hub. So
     /// every reply between a transaction's begin and its commit or abort is what a private copy of the map committed at its begin
     /// answers to its own requests alone, and the committed transactions, run one at a time in one order, give the same replies and the
-    /// same final map. (Serializable snapshot isolation as in Cahill, Röhm and Fekete, SIGMOD 2008.) A crash at any moment of the turn
-    /// leaves a map that was committed at one, or that with a COMMIT that was under way.
+    /// same final map. (Serializable snapshot isolation as in Cahill, Röhm and Fekete, SIGMOD 2008.) All turns since the opening are one
+    /// run, in which the hub after each event is known: a crash at any later moment leaves no map that is older than the one committed there.
     pub fn turn<C: Clock>(&mut self, clock: &C, timeout: Option<Duration>) -> io::Result<()>
         ensures turned { OnOk result (IsTurn ⟦<Socket as Stream>⟧.tells ⟦<Socket as Stream>⟧.traffic self.old self.new) }
         ensures fault { OnErr result (IsUntouched self.old self.new) }
         ensures sessions { HasItsSessions self.old × HasItsSessions self.new }
+        ensures served { IsServed (hub_of self.old) × IsServed (hub_of self.new) }
     {
         self.hub.runs_follow();
         let patience = self.lingering.patience(Instant::now(clock).ok());

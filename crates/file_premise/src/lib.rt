@@ -41,9 +41,9 @@ pub fn step(hub: &mut Hub<FileSectors>, event: &Event<'_>) -> Outcome
     hub.step(event)
 }
 
-/// Does nothing. Through any number of lives over files, each opened over what a crash of the one before left, a store begins with the
+/// Does nothing. Through any number of lives over files, each opened over what the end of the one before left, a store begins with the
 /// map of the last answered COMMIT, or with that and one COMMIT more; it is never found damaged. All that was committed in them has one
-/// order, at whose end the map is the one found.
+/// order, at whose end is the map that is found.
 pub fn lives(hub: &Hub<FileSectors>)
     ensures lives { FileKeepsModel → LivesLoseNothing hub.now }
     ensures from_nothing { FileKeepsModel → LivesFromNothing hub.now }

@@ -1,10 +1,10 @@
 //! Hubs over devices in memory.
 ghost use Rattle.std.specs.Prelude.{◌≤◌, IfOk};
 ghost use Rattle.stream_driver.specs.Sessions.{Stands};
+ghost use Rattle.sessions.specs.Lives.{IsOpened};
 ghost use Rattle.event_loop.specs.Tables.{HasNobody};
 
 use commit_log::format;
-use engine::Engine;
 use model::Memory;
 use rows::Store;
 use sector::{MemSectors, Sectors};
@@ -17,6 +17,7 @@ pub(crate) fn new_hub(alloc: Global, sectors: u64) -> Result<Hub<MemSectors>, Fa
     requires { sectors ≤ 65536 }
     ensures stands { IfOk result (λ hub. Stands hub) }
     ensures nobody { IfOk result (λ hub. HasNobody hub) }
+    ensures opened { IfOk result (λ hub. IsOpened hub) }
 {
     let mut device = MemSectors::new(alloc, sectors)?;
     format(&mut device)?;
@@ -27,9 +28,10 @@ pub(crate) fn new_hub(alloc: Global, sectors: u64) -> Result<Hub<MemSectors>, Fa
 pub(crate) fn opened<D: Sectors>(alloc: Global, device: D) -> Result<Hub<D>, Fail>
     ensures stands { IfOk result (λ hub. Stands hub) }
     ensures nobody { IfOk result (λ hub. HasNobody hub) }
+    ensures opened { IfOk result (λ hub. IsOpened hub) }
 {
-    let engine = Engine::open(alloc, device)?;
-    Ok(Hub::new(alloc, engine))
+    let hub = Hub::open(alloc, device)?;
+    Ok(hub)
 }
 
 /// A hub whose sessions 1 to 70 have joined. Requests come in pieces of `size` bytes.

@@ -7,6 +7,7 @@ pub mod CrashSteps
 pub mod Reached
 pub mod RunLaws
 pub mod LifeLaws
+pub mod Runs
 pub mod LivesLaws
 pub mod OneOrders
 pub mod PrivateReplies

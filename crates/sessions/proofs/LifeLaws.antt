@@ -11,12 +11,12 @@ use Rattle.model.specs.Operations.Operation.{Begin, Get, Set, Del, Range, Commit
 use Rattle.model.specs.History.{Record, map_at}
 use Rattle.model.specs.Verdict.{verdict}
 use Rattle.model.specs.Machine.{State, Running, step, step_of, running_of, commit, store, store_unless, record_to_commit, last, body_sectors}
-use Rattle.engine.specs.Recovery.{committed_map}
+use Rattle.engine.specs.Recovery.{HoldsMap, committed_map}
 use Rattle.sessions.specs.declared.hub.Hub.{Hub}
 use Rattle.sessions.specs.SessionStreams.{HubState, HubEvent, Choice, hub_step, run}
 use Rattle.sessions.specs.StandsFor.{StandsFor, device, is_stopped}
-use Rattle.sessions.specs.Crashes.{SurvivesCrash, IsStored, HoldsBeforeOrAfter, IsLeftByEvent}
-use Rattle.sessions.specs.Life.{MayFind, Holds, Survives, FoundAfter, FoundDuring}
+use Rattle.sessions.specs.Crashes.{HoldsBeforeOrAfter}
+use Rattle.sessions.specs.Life.{MayFind, Holds, FoundAfter, FoundDuring}
 use Rattle.sessions.proofs.StreamLaws.{Moved, Rests, Lets, Steps, moved}
 use Rattle.sessions.proofs.RunLaws.{hub-stopped, stays_stopped}
 
@@ -188,6 +188,15 @@ module _ {D : Type 0} (moment : D → ℕ) (left_since : D → ℕ → List (Lis
     before = λ t c le left. elim (y.before t c (omega (arith, le, x.later)) left) [ inl was ↦ x.before t c le was | inr p ↦ inr p ];
   }
 
+-- What the events leave on the device. A store that was stopped leaves the device alone. Else a crash at any moment since the
+-- first event leaves such an image, and one after the last leaves the map that is then committed, or that with the COMMIT that
+-- the device failed in; of a store that was stopped, what it could have left before.
+pub record Survives {D : Type 0} {g : Ghosts D} (old new : Hub D g) (h : HubState) (es : List (HubEvent × Choice)) : Type 0 where
+  pub still : h.machine.stopped ≡ true → device new ≡ device old
+  pub leaves : h.machine.stopped ≡ false → LeavesOnly g.moment g.left_since (device old) (device new) (Holds h es zero)
+  pub now : (c : List (List ℕ)) → g.may_leave (device new) c
+      → ((h.machine.stopped ≡ false) × Holds h es (length es) c) ⊎ ((h.machine.stopped ≡ true) × g.may_leave (device old) c)
+
 -- what a crash leaves after the events, where the store wasn't stopped before them
 now_up : {D : Type 0} {g : Ghosts D} (old new : Hub D g) (h : HubState) (es : List (HubEvent × Choice)) → Survives old new h es → h.machine.stopped ≡ false → (c : List (List ℕ)) → g.may_leave (device new) c → Holds h es (length es) c
 now_up old new h es x up c left = elim (x.now c left) [ inl a ↦ a.1 | inr b ↦ absurd (both_ways h.machine.stopped up b.0) ]
@@ -244,14 +253,18 @@ module _ {D : Type 0} {g : Ghosts D} (old mid new : Hub D g) (h : HubState) (es 
       → (c : List (List ℕ)) → g.left_since (device new) (g.moment (device mid)) c → Holds h (es ++ fs) (length es) c
   loses_nothing = since_by (run h es).machine.stopped refl
 
+-- the map that is committed is what a crash leaves now, unless the store is stopped
+abbrev pub Stored : {D : Type 0} {g : Ghosts D} → Hub D g → Type 0
+Stored {D} {g} hub = g.keeps_model → (h : HubState) → StandsFor hub h → h.machine.stopped ≡ false → (c : List (List ℕ)) → g.may_leave (device hub) c → HoldsMap c (committed_map h.machine)
+
 -- no event
 pub nothing : {D : Type 0} {g : Ghosts D} (hub : Hub D g) (h : HubState) → (g.keeps_model → (d : D) (c : List (List ℕ)) → g.left_since d (g.moment d) c → g.may_leave d c)
-    → StandsFor hub h → IsStored hub → g.keeps_model → Survives hub hub h []
+    → StandsFor hub h → Stored hub → g.keeps_model → Survives hub hub h []
 nothing {g = g} hub h only_now stands stored keeps = record {
   still = λ stop. refl;
   leaves = λ up. record {
     later = omega arith;
-    each = λ c left. (committed_map h.machine, (stored keeps h stands).running up c (only_now keeps (device hub) c left), refl);
+    each = λ c left. (committed_map h.machine, stored keeps h stands up c (only_now keeps (device hub) c left), refl);
     before = λ t c le left. inl left;
   };
   now = now_from h.machine.stopped refl;
@@ -259,29 +272,27 @@ nothing {g = g} hub h only_now stands stored keeps = record {
   where
     now_from : (b : Bool) → h.machine.stopped ≡ b → (c : List (List ℕ)) → g.may_leave (device hub) c → ((h.machine.stopped ≡ false) × Holds h [] zero c) ⊎ ((h.machine.stopped ≡ true) × g.may_leave (device hub) c)
     now_from true stop c left = inr (stop, left)
-    now_from false up c left = inl (up, (committed_map h.machine, (stored keeps h stands).running up c left, refl))
+    now_from false up c left = inl (up, (committed_map h.machine, stored keeps h stands up c left, refl))
 
 -- one event
 module _ {D : Type 0} {g : Ghosts D} (old new : Hub D g) (h : HubState) (e : HubEvent) (n : Choice)
     (counts_now : g.keeps_model → (d : D) (t : ℕ) (c : List (List ℕ)) → t ≤ g.moment d → g.may_leave d c → g.left_since d t c)
-    (stands : StandsFor old h) (stands_then : StandsFor new (hub_step h e n).0) (crash : SurvivesCrash old new e) (stored : IsStored new) (still : is_stopped old ≡ true → device new ≡ device old) (keeps : g.keeps_model) where
+    (stands : StandsFor old h) (stands_then : StandsFor new (hub_step h e n).0) (still : is_stopped old ≡ true → device new ≡ device old) (keeps : g.keeps_model)
+    (crash : g.keeps_model → (h : HubState) → StandsFor old h → h.machine.stopped ≡ false → LeavesOnly g.moment g.left_since (device old) (device new) (HoldsBeforeOrAfter h e)) (stored : Stored new) where
   abbrev one : List (HubEvent × Choice)
   one = (e, n) ∷ []
 
-  running : h.machine.stopped ≡ false → (c : List (List ℕ)) → IsLeftByEvent old h e c → HoldsBeforeOrAfter h e c
-  running up c x = elim x [ inl a ↦ a.1 | inr b ↦ absurd (both_ways h.machine.stopped up b.0) ]
-
-  during : h.machine.stopped ≡ false → (c : List (List ℕ)) → IsLeftByEvent old h e c → Holds h one zero c
-  during up c x = elim (running up c x) [
+  during : (c : List (List ℕ)) → HoldsBeforeOrAfter h e c → Holds h one zero c
+  during c x = elim x [
     | inl a ↦ (committed_map h.machine, a, inl refl)
     | inr y ↦ (_, y.2, inr (inl (y.0, y.1, refl)))
   ]
 
   now_after : (b : Bool) → (hub_step h e n).0.machine.stopped ≡ b → h.machine.stopped ≡ false → (c : List (List ℕ)) → g.may_leave (device new) c → Holds h one (suc zero) c
-  now_after false runs up c left = (committed_map (hub_step h e n).0.machine, (stored keeps (hub_step h e n).0 stands_then).running runs c left, inr refl)
+  now_after false runs up c left = (committed_map (hub_step h e n).0.machine, stored keeps (hub_step h e n).0 stands_then runs c left, inr refl)
   now_after true stop up c left =
-      let x = crash keeps h stands in
-      elim (running up c (x.each c (counts_now keeps (device new) (g.moment (device old)) c x.later left))) [
+      let x = crash keeps h stands up in
+      elim (x.each c (counts_now keeps (device new) (g.moment (device old)) c x.later left)) [
         | inl a ↦ (committed_map h.machine, a, inr (sym (hub-same h e n stop)))
         | inr y ↦ (_, y.2, inl (hub-failed h e n up stop, (y.0, y.1, refl)))
       ]
@@ -293,6 +304,6 @@ module _ {D : Type 0} {g : Ghosts D} (old new : Hub D g) (h : HubState) (e : Hub
   pub one_event : Survives old new h one
   one_event = record {
     still = λ stop. still (sym stands.engine.stopped ∙ stop);
-    leaves = λ up. weaker g.moment g.left_since (device old) (device new) (IsLeftByEvent old h e) (Holds h one zero) (during up) (crash keeps h stands);
+    leaves = λ up. weaker g.moment g.left_since (device old) (device new) (HoldsBeforeOrAfter h e) (Holds h one zero) during (crash keeps h stands up);
     now = now_one h.machine.stopped refl;
   }

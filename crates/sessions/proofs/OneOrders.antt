@@ -10,12 +10,13 @@ use Rattle.engine.specs.Recovery.{HoldsMap, committed_map}
 use Rattle.sessions.specs.declared.hub.Hub.{Hub}
 use Rattle.sessions.specs.SessionStreams.{HubState, HubEvent, Choice, hub_over, hub_step}
 use Rattle.sessions.specs.Life.{MayFind}
-use Rattle.sessions.specs.Lives.{Crash, EndsWith, FollowOn, Leaves as LeavesMap, Life}
-use Rattle.sessions.specs.Lives.Crash.{InOpening, InRun}
+use Rattle.sessions.specs.Lives.{EndOfLife, EndsWith, FollowOn, IsLeftAt, IsLeftLast, Life, MapAt}
+use Rattle.sessions.specs.Lives.EndOfLife.{InOpening, InRun}
 use Rattle.sessions.specs.OneOrder.{MayComeTo, LeavesStates, ComeTo, HaveOneHistory}
 use Rattle.sessions.proofs.StreamLaws.{machine_reached, moved, reached_moved, reached_next}
 use Rattle.sessions.proofs.LifeLaws.{CommitsBy, NoMore, OneMore, Fails, commits_in_event, commits_in_step}
 use Rattle.sessions.proofs.LivesLaws.{left}
+use Rattle.sessions.proofs.Runs.{CountsNow, OnlyNow}
 
 -- a state whose map a crash may leave
 comes_to : (h : HubState) (es : List (HubEvent × Choice)) (n : ℕ) (map : KeyMap) → MayFind h es n map → (st : State) × MayComeTo h es n st × (map ≡ committed_map st)
@@ -71,23 +72,24 @@ is_over h (e ∷ es) (suc n) st r x = elim x [
 
 -- ---- lives
 
--- what a life came to, where the crash left this map
-came : {D : Type 0} {g : Ghosts D} (dev : D) (result : Result (Hub D g) (Unopened D)) (disk : List (List ℕ)) (map next : KeyMap) (crash : Crash dev result disk) → LeavesMap crash map next → (own : List State) × LeavesStates crash map own next
-came dev result disk map next (InOpening l) is = ([], (refl, is))
-came {D} {g} dev result disk map next (InRun hub answered last ok ran more l) is =
-    let by = is.1 in
-    let c = comes_to (hub_over (opened map is.0.used (g.size dev))) (by.choices ++ by.more_choices) (length by.choices) next by.may in
-    (c.0 ∷ [], (is.0, c.0, refl, record { choices = by.choices; ran = by.ran; more_choices = by.more_choices; more = by.more; may = c.1 }, c.2))
+-- what a life came to whose end left this map; where it ended in the opening, the map is one of before it
+abbrev CameFrom : {D : Type 0} {g : Ghosts D} {dev : D} {result : Result (Hub D g) (Unopened D)} → (KeyMap → Type 0) → EndOfLife dev result → KeyMap → Type 0
+CameFrom Maps ending next = (map : KeyMap) × Maps map × (own : List State) × LeavesStates ending map own next
+
+came : {D : Type 0} {g : Ghosts D} (dev : D) (result : Result (Hub D g) (Unopened D)) (Maps : KeyMap → Type 0) (map next : KeyMap) → Maps map → (ending : EndOfLife dev result) → MapAt Maps map ending next → CameFrom Maps ending next
+came dev result Maps map next was InOpening is = (next, is, [], (refl, refl))
+came {D} {g} dev result Maps map next was (InRun hub answered last es fs ok ran more) is =
+    let c = comes_to (hub_over (opened map is.0.used (g.size dev))) (es ++ fs) (length es) next is.1 in
+    (map, was, c.0 ∷ [], (is.0, c.0, refl, c.1, c.2))
 
 -- before the states to which the later lives came
-before : {D : Type 0} {g : Ghosts D} (dev : D) (result : Result (Hub D g) (Unopened D)) (disk : List (List ℕ)) (map next found : KeyMap) (own rest : List State) (crash : Crash dev result disk) →
-    LeavesStates crash map own next → FollowEachOther next rest found → FollowEachOther map (own ++ rest) found
-before dev result disk map next found own rest (InOpening l) is follow =
+before : {D : Type 0} {g : Ghosts D} (dev : D) (result : Result (Hub D g) (Unopened D)) (map next found : KeyMap) (own rest : List State) (ending : EndOfLife dev result) →
+    LeavesStates ending map own next → FollowEachOther next rest found → FollowEachOther map (own ++ rest) found
+before dev result map next found own rest InOpening is follow =
     subst (λ (o : List State). FollowEachOther map (o ++ rest) found) (sym is.0) (subst (λ (m : KeyMap). FollowEachOther m rest found) is.1 follow)
-before {D} {g} dev result disk map next found own rest (InRun hub answered last ok ran more l) is follow =
+before {D} {g} dev result map next found own rest (InRun hub answered last es fs ok ran more) is follow =
     let h : HubState = hub_over (opened map is.0.used (g.size dev)) in
-    let by = is.3 in
-    let over = is_over h (by.choices ++ by.more_choices) (length by.choices) is.1 (machine_reached h is.0.stands.reached) by.may in
+    let over = is_over h (es ++ fs) (length es) is.1 (machine_reached h is.0.stands.reached) is.3 in
     subst (λ (o : List State). FollowEachOther map (o ++ rest) found) (sym is.2) (over.reached, over.base, subst (λ (m : KeyMap). FollowEachOther m rest found) is.4 follow)
 
 -- the states to which the lives came
@@ -97,23 +99,28 @@ record Story {D : Type 0} {g : Ghosts D} (map : KeyMap) (disk : List (List ℕ))
   came_to : ComeTo map disk lives states found
   follow : FollowEachOther map states found
 
-told : {D : Type 0} {g : Ghosts D} (lives : List (Life D g)) → (g.keeps_model → (d : D) (c : List (List ℕ)) → g.left_since d (g.moment d) c → g.may_leave d c) → g.keeps_model
-    → (disk : List (List ℕ)) (map : KeyMap) → HoldsMap disk map → FollowOn disk lives → Story map disk lives
-told [] only_now keeps disk map holds follow = record { states = []; found = map; came_to = (refl, refl, holds); follow = refl }
-told (life ∷ lives) only_now keeps disk map holds follow =
-    let opening : EndsWith life.dev life.result map = life.opens disk map follow.0 holds in
-    let x = left life.dev life.result life.disk map opening life.crash only_now keeps in
-    let own = came life.dev life.result life.disk map x.0 life.crash x.1 in
-    let rest = told lives only_now keeps life.disk x.0 x.2 follow.1 in
-    record {
-      states = own.0 ++ rest.states;
-      found = rest.found;
-      came_to = (own.0, rest.states, x.0, refl, own.1, rest.came_to);
-      follow = before life.dev life.result life.disk map x.0 rest.found own.0 rest.states life.crash own.1 rest.follow;
-    }
+module _ {D : Type 0} {g : Ghosts D} (any : Hub D g) (only_now : OnlyNow D g) (counts_now : CountsNow D g) (keeps : g.keeps_model) where
+  told : (lives : List (Life D g)) (Left : List (List ℕ) → Type 0) (Maps : KeyMap → Type 0) → ((c : List (List ℕ)) → Left c → (m : KeyMap) × Maps m × HoldsMap c m) → FollowOn Left lives
+      → (last : List (List ℕ)) → IsLeftLast Left lives last → (map : KeyMap) × Maps map × Story map last lives
+  told [] Left Maps holds follow last l = let m = holds last l in (m.0, m.1, record { states = []; found = m.0; came_to = (refl, refl, m.2); follow = refl })
+  told (life ∷ lives) Left Maps holds follow last l =
+      let found = holds follow.0.image follow.0.was_left in
+      let ends : EndsWith life.dev life.result found.0 = life.opens.ends follow.0.image found.0 follow.0.size_is follow.0.read found.2 in
+      let leaves = left any only_now counts_now keeps life.dev life.result Left Maps found.0 life.opens ends follow.0.left holds life.ending in
+      let rest = told lives (IsLeftAt life.ending) (MapAt Maps found.0 life.ending) leaves follow.1 last l in
+      let own = came life.dev life.result Maps found.0 rest.0 found.1 life.ending rest.1 in (
+        own.0,
+        own.1,
+        record {
+          states = own.2 ++ rest.2.states;
+          found = rest.2.found;
+          came_to = (own.2, rest.2.states, rest.0, refl, own.3, rest.2.came_to);
+          follow = before life.dev life.result own.0 rest.0 rest.2.found own.2 rest.2.states life.ending own.3 rest.2.follow;
+        },
+      )
 
-pub one_history : {D : Type 0} {g : Ghosts D} (lives : List (Life D g)) → RestartLaw → (g.keeps_model → (d : D) (c : List (List ℕ)) → g.left_since d (g.moment d) c → g.may_leave d c) → g.keeps_model
-    → (disk : List (List ℕ)) (map : KeyMap) → HoldsMap disk map → FollowOn disk lives → HaveOneHistory map disk lives
-one_history lives law only_now keeps disk map holds follow =
-    let story = told lives only_now keeps disk map holds follow in
-    record { states = story.states; found = story.found; came = story.came_to; order = law map story.states story.found story.follow }
+  pub one_history : RestartLaw → (disk last : List (List ℕ)) (map : KeyMap) (lives : List (Life D g)) → HoldsMap disk map → FollowOn (λ c. c ≡ disk) lives → IsLeftLast (λ c. c ≡ disk) lives last → HaveOneHistory map last lives
+  one_history law disk last map lives holds follow l =
+      let told_from = told lives (λ c. c ≡ disk) (λ m. m ≡ map) (λ c is. (map, refl, subst (λ (d : List (List ℕ)). HoldsMap d map) (sym is) holds)) follow last l in
+      let story : Story map last lives = subst (λ (m : KeyMap). Story m last lives) told_from.1 told_from.2 in
+      record { states = story.states; found = story.found; came = story.came_to; order = law map story.states story.found story.follow }

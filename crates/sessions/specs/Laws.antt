@@ -1,7 +1,9 @@
 -- What holds of every state that a hub stands for.
-use Rattle.std.specs.Prelude.{◌≡◌, ◌≤◌, ◌+◌, if◌then◌else◌, ℕ, true, List, [], ◌∷◌, ◌++◌, map, take, Some}
+use Rattle.std.specs.Prelude.{◌≡◌, ◌≤◌, ◌+◌, if◌then◌else◌, ℕ, true, false, List, [], ◌∷◌, ◌++◌, map, take, Some}
 use Rattle.std.specs.List.{AllByRecursion, flat_map}
 use Rattle.sector.specs.declared.device.Sectors.{Ghosts}
+use Rattle.sector.specs.SectorModel.{LeavesOnly}
+use Rattle.engine.specs.Recovery.{HoldsMap, committed_map}
 use Rattle.model.specs.Map.{Bytes}
 use Rattle.model.specs.Laws.{IsIsolated, IsSerializable}
 use Rattle.model.specs.Operations.{Operation, Response}
@@ -10,10 +12,9 @@ use Rattle.model.specs.ReplyText.{reply_text}
 use Rattle.sessions.specs.declared.events.Status.TheVariants.{Open}
 use Rattle.sessions.specs.declared.hub.Hub.{Hub}
 use Rattle.sessions.specs.Calls.{has_failed}
+use Rattle.sessions.specs.Crashes.{HoldsBeforeOrAfter}
 use Rattle.sessions.specs.SessionStreams.{HubState, SessionStream, HubEvent, Choice, IsPossible, ArePossible, run, replies_text, requests_text, asks, stream_of, hub_step}
-use Rattle.engine.specs.Meaning.{has_risen}
-use Rattle.sessions.specs.StandsFor.{StandsFor, failures}
-use Rattle.sessions.specs.Life.{Survives}
+use Rattle.sessions.specs.StandsFor.{StandsFor, device, failures, is_stopped}
 
 -- what came in is the spellings of the requests that were served and then the inbox, until it was emptied for good;
 -- the texts of the machine's replies are the bytes that were told to be sent and then those that are pending
@@ -50,46 +51,66 @@ abbrev pub failures_in : List (HubEvent × Choice) → ℕ
 failures_in [] = 0
 failures_in (e ∷ es) = if e.1.failed then failures_in es + 1 else failures_in es
 
--- A run of events, each with its choice, from the state h. The device fails in one of them at most, then the store is stopped, and
--- in none where the count of its failures did not rise. At each moment of the run, and so for each transaction up to its commit or
--- abort, the laws hold.
-pub record RunsBy {D : Type 0} {g : Ghosts D} (old new : Hub D g) (h : HubState) (choices : List (HubEvent × Choice)) : Type 0 where
-  pub possible : ArePossible h choices
-  pub one_failure : failures_in choices ≤ 1
-  pub stopped : 1 ≤ failures_in choices → (run h choices).machine.stopped ≡ true
+-- A hub between two events: the laws hold of each state that it stands for, and unless the store is stopped a crash leaves the map that is
+-- committed.
+pub record IsSound {D : Type 0} {g : Ghosts D} (hub : Hub D g) : Type 0 where
+  pub lawful : (h : HubState) → StandsFor hub h → IsLawful h
+  pub stored : g.keeps_model → (h : HubState) → StandsFor hub h → h.machine.stopped ≡ false → (c : List (List ℕ)) → g.may_leave (device hub) c → HoldsMap c (committed_map h.machine)
+
+-- One event, by a choice that is possible, leads on from each state that the old hub stood for. The device failed in it only where the
+-- count of its failures rose and the store, which ran, is stopped since. A crash at any moment of it leaves the map committed before it or,
+-- where it executes a COMMIT, that with the transaction's writes. A store that was stopped leaves the device alone.
+pub record Steps {D : Type 0} {g : Ghosts D} (old new : Hub D g) (e : HubEvent) (c : Choice) : Type 0 where
+  pub leads : (h : HubState) → StandsFor old h → IsPossible h e c × StandsFor new (hub_step h e c).0
   pub counted : failures old ≤ failures new
-  pub risen_then : 1 ≤ failures_in choices → has_risen (failures old) (failures new) ≡ true
-  pub none_then : h.machine.stopped ≡ true → failures_in choices ≡ 0
-  pub stands : StandsFor new (run h choices)
-  pub lawful : (n : ℕ) → IsLawful (run h (take n choices))
-  -- a crash at any moment of the run leaves a map that was committed at one, or one with a COMMIT that was under way
-  pub survives : g.keeps_model → Survives old new h choices
+  pub failed : c.failed ≡ true → (has_failed old.engine new.engine ≡ true) × (is_stopped old ≡ false) × (is_stopped new ≡ true)
+  pub crash : g.keeps_model → (h : HubState) → StandsFor old h → h.machine.stopped ≡ false → LeavesOnly g.moment g.left_since (device old) (device new) (HoldsBeforeOrAfter h e)
+  pub still : is_stopped old ≡ true → device new ≡ device old
+
+-- A run: by these events, each with its choice, from hub to hub, and each of the hubs is sound. So at each moment of the run, and for each
+-- transaction up to its commit or abort, the laws hold, and what a crash then leaves is known.
+abbrev pub Ran : {D : Type 0} {g : Ghosts D} → Hub D g → Hub D g → List (HubEvent × Choice) → Type 0
+Ran old new [] = IsSound old × (new ≡ old)
+Ran {D} {g} old new (e ∷ es) = IsSound old × (mid : Hub D g) × Steps old mid e.0 e.1 × Ran mid new es
 
 -- some run of these events
-pub record Runs {D : Type 0} {g : Ghosts D} (old new : Hub D g) (h : HubState) (events : List HubEvent) : Type 0 where
+pub record Runs {D : Type 0} {g : Ghosts D} (old new : Hub D g) (events : List HubEvent) : Type 0 where
   pub choices : List (HubEvent × Choice)
   pub are : map (λ e. e.0) choices ≡ events
-  pub by : RunsBy old new h choices
+  pub by : Ran old new choices
 
--- From each state that the old hub stood for, some run leads to the new one, and each of its failures is counted.
-pub record HasRun {D : Type 0} {g : Ghosts D} (old new : Hub D g) : Type 0 where
-  pub counted : failures old ≤ failures new
-  pub run : (h : HubState) → StandsFor old h → (choices : List (HubEvent × Choice)) × RunsBy old new h choices
+-- some run
+abbrev pub HasRun : {D : Type 0} {g : Ghosts D} → Hub D g → Hub D g → Type 0
+HasRun old new = (choices : List (HubEvent × Choice)) × Ran old new choices
 
 -- Alone, the event is a run: where it leads on by a choice, it does by one that tells of a failure only where the store stops.
 abbrev pub RunsAlone : {D : Type 0} {g : Ghosts D} → Hub D g → Hub D g → HubEvent → Type 0
 RunsAlone old new e =
-    (h : HubState) (c : Choice) → StandsFor old h → c.failed ≡ has_failed old.engine new.engine → IsPossible h e c → StandsFor new (hub_step h e c).0
-    → (d : Choice) × ((hub_step h e d).0 ≡ (hub_step h e c).0) × RunsBy old new h ((e, d) ∷ [])
+    (c : Choice) → c.failed ≡ has_failed old.engine new.engine → ((h : HubState) → StandsFor old h → IsPossible h e c × StandsFor new (hub_step h e c).0)
+    → (d : Choice) × ((h : HubState) → StandsFor old h → (hub_step h e d).0 ≡ (hub_step h e c).0) × Ran old new ((e, d) ∷ [])
 
 -- no event is a run
 abbrev pub NoneRuns : {D : Type 0} {g : Ghosts D} → Hub D g → Type 0
-NoneRuns hub = (h : HubState) → StandsFor hub h → RunsBy hub hub h []
+NoneRuns hub = Ran hub hub []
 
 -- runs that follow each other are one run
 abbrev pub RunsFollow : {D : Type 0} {g : Ghosts D} → Hub D g → Type 0
-RunsFollow {D} {g} hub =
-    (old mid new : Hub D g) (h : HubState) (es fs : List (HubEvent × Choice)) → StandsFor old h → RunsBy old mid h es → RunsBy mid new (run h es) fs → RunsBy old new h (es ++ fs)
+RunsFollow {D} {g} hub = (old mid new : Hub D g) (es fs : List (HubEvent × Choice)) → Ran old mid es → Ran mid new fs → Ran old new (es ++ fs)
+
+-- and a run is two at each of its events
+abbrev pub RunsPart : {D : Type 0} {g : Ghosts D} → Hub D g → Type 0
+RunsPart {D} {g} hub = (old new : Hub D g) (es fs : List (HubEvent × Choice)) → Ran old new (es ++ fs) → (mid : Hub D g) × Ran old mid es × Ran mid new fs
+
+-- what a run leads to from a state that its first hub stood for: the device fails in one event at most
+pub record LeadsTo {D : Type 0} {g : Ghosts D} (new : Hub D g) (h : HubState) (choices : List (HubEvent × Choice)) : Type 0 where
+  pub possible : ArePossible h choices
+  pub stands : StandsFor new (run h choices)
+  pub lawful : (n : ℕ) → IsLawful (run h (take n choices))
+  pub one_failure : failures_in choices ≤ 1
+  pub none_then : h.machine.stopped ≡ true → failures_in choices ≡ 0
+
+abbrev pub RunsLead : {D : Type 0} {g : Ghosts D} → Hub D g → Type 0
+RunsLead {D} {g} hub = (old new : Hub D g) (es : List (HubEvent × Choice)) → Ran old new es → (h : HubState) → StandsFor old h → LeadsTo new h es
 
 -- the bytes of a transaction's own replies
 abbrev pub own_bytes : Running → Bytes

@@ -4,7 +4,6 @@ pub mod StandsFor
 pub mod Life
 pub mod Laws
 pub mod Crashes
-pub mod Reopening
 pub mod Lives
 pub mod OneOrder
 pub mod Places

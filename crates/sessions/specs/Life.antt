@@ -1,15 +1,15 @@
 -- What may be found after a crash of a whole run of events.
 use Rattle.std.specs.Prelude.{◌≡◌, ◌⊎◌, ℕ, zero, suc, true, false, List, [], ◌∷◌, ◌++◌, length}
 use Rattle.sector.specs.declared.device.Sectors.{Ghosts}
-use Rattle.sector.specs.SectorModel.{LeavesOnly}
 use Rattle.model.specs.Map.{KeyMap}
 use Rattle.model.specs.Operations.Operation.{Commit}
 use Rattle.model.specs.Machine.{step}
 use Rattle.engine.specs.Recovery.{HoldsMap, committed_map}
 use Rattle.sessions.specs.declared.hub.Hub.{Hub}
 use Rattle.sessions.specs.Crashes.{Commits}
+use Rattle.sessions.specs.Laws.{Ran}
 use Rattle.sessions.specs.SessionStreams.{HubState, HubEvent, Choice, hub_step, run}
-use Rattle.sessions.specs.StandsFor.{device}
+use Rattle.sessions.specs.StandsFor.{StandsFor, device}
 
 -- the map that the COMMIT makes which the event executes
 abbrev pub IsUnderWay : HubState → HubEvent → KeyMap → Type 0
@@ -26,15 +26,6 @@ MayFind h (e ∷ es) (suc answered) map = ((e.1.failed ≡ true) × IsUnderWay h
 abbrev pub Holds : HubState → List (HubEvent × Choice) → ℕ → List (List ℕ) → Type 0
 Holds h es answered c = (map : KeyMap) × HoldsMap c map × MayFind h es answered map
 
--- What the events leave on the device. A store that was stopped leaves the device alone. Else a crash at any moment since the
--- first event leaves such an image, and one after the last leaves the map that is then committed, or that with the COMMIT that
--- the device failed in; of a store that was stopped, what it could have left before.
-pub record Survives {D : Type 0} {g : Ghosts D} (old new : Hub D g) (h : HubState) (es : List (HubEvent × Choice)) : Type 0 where
-  pub still : h.machine.stopped ≡ true → device new ≡ device old
-  pub leaves : h.machine.stopped ≡ false → LeavesOnly g.moment g.left_since (device old) (device new) (Holds h es zero)
-  pub now : (c : List (List ℕ)) → g.may_leave (device new) c
-      → ((h.machine.stopped ≡ false) × Holds h es (length es) c) ⊎ ((h.machine.stopped ≡ true) × g.may_leave (device old) c)
-
 -- the map with a COMMIT of the run that the device failed in
 abbrev pub IsInDoubt : HubState → List (HubEvent × Choice) → KeyMap → Type 0
 IsInDoubt h [] map = ⊥
@@ -50,14 +41,9 @@ FoundDuring =
     (h : HubState) (es : List (HubEvent × Choice)) (e : HubEvent × Choice) (map : KeyMap) → MayFind h (es ++ e ∷ []) (length es) map →
     (map ≡ committed_map (run h es).machine) ⊎ (IsUnderWay (run h es) e.0 map ⊎ ((map ≡ committed_map (run h (es ++ e ∷ [])).machine) ⊎ IsInDoubt h es map))
 
--- runs that follow each other are one run
-abbrev pub RunsGoOn : {D : Type 0} {g : Ghosts D} → Hub D g → Type 0
-RunsGoOn {D} {g} hub =
-    (old mid new : Hub D g) (h : HubState) (es fs : List (HubEvent × Choice)) → Survives old mid h es → Survives mid new (run h es) fs → Survives old new h (es ++ fs)
-
--- A crash at any moment after some events were answered, during the events that follow or after them, leaves no map that is older
--- than the one committed when they were answered.
+-- A crash at any moment after some events of a run were answered, during the events that follow or after them, leaves no map that is
+-- older than the one committed when they were answered.
 abbrev pub LosesNothing : {D : Type 0} {g : Ghosts D} → Hub D g → Type 0
 LosesNothing {D} {g} hub =
-    g.keeps_model → (old mid new : Hub D g) (h : HubState) (es fs : List (HubEvent × Choice)) → h.machine.stopped ≡ false → Survives old mid h es → Survives mid new (run h es) fs →
-    (c : List (List ℕ)) → g.left_since (device new) (g.moment (device mid)) c → Holds h (es ++ fs) (length es) c
+    g.keeps_model → (old mid new : Hub D g) (es fs : List (HubEvent × Choice)) → Ran old mid es → Ran mid new fs → (h : HubState) → StandsFor old h → h.machine.stopped ≡ false
+    → (c : List (List ℕ)) → g.left_since (device new) (g.moment (device mid)) c → Holds h (es ++ fs) (length es) c

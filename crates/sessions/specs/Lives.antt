@@ -1,4 +1,4 @@
--- The lives of a store, one after another: each is opened over what the crash of the one before left.
+-- The lives of a store, one after another: each is opened over what the end of the one before left.
 use Rattle.std.specs.Prelude.{◌≡◌, ℕ, List, [], ◌∷◌, ◌++◌, length, Result, Ok, MatchResult, ⊤}
 use Rattle.sector.specs.declared.device.Sectors.{Ghosts}
 use Rattle.sector.specs.SectorModel.{IsSettled, LeavesOnly}
@@ -8,11 +8,12 @@ use Rattle.commit_log.specs.declared.faults.Unopened.{Unopened}
 use Rattle.commit_log.specs.Format.{current}
 use Rattle.commit_log.specs.LogFaults.{IsDeviceOrMemory}
 use Rattle.commit_log.specs.LogImage.{IsLogImage}
+use Rattle.commit_log.specs.Reading.{ReadsAs}
 use Rattle.engine.specs.Recovery.{HoldsMap}
 use Rattle.sessions.specs.declared.hub.Hub.{Hub}
-use Rattle.sessions.specs.Laws.{HasRun, RunsBy}
-use Rattle.sessions.specs.Life.{MayFind}
-use Rattle.sessions.specs.SessionStreams.{HubState, HubEvent, Choice, hub_over, run}
+use Rattle.sessions.specs.Laws.{Ran}
+use Rattle.sessions.specs.Life.{Holds, MayFind}
+use Rattle.sessions.specs.SessionStreams.{HubEvent, Choice, hub_over}
 use Rattle.sessions.specs.StandsFor.{StandsFor, device, device_after}
 
 -- the hub begins with this map
@@ -20,65 +21,105 @@ pub record Begins {D : Type 0} {g : Ghosts D} (dev : D) (hub : Hub D g) (map : K
   pub used : ℕ
   pub stands : StandsFor hub (hub_over (opened map used (g.size dev)))
 
--- A crash at any moment of the opening left this map. Its hub begins with that or, where there is none, the device failed or memory was
--- refused.
-pub record EndsWith {D : Type 0} {g : Ghosts D} (dev : D) (result : Result (Hub D g) (Unopened D)) (map : KeyMap) : Type 0 where
-  pub during : LeavesOnly g.moment g.left_since dev (device_after result) (λ c. HoldsMap c map)
-  pub ends : MatchResult result (λ hub. Begins dev hub map) (λ u. IsDeviceOrMemory u.fault)
+-- an opening ends with this map or, where it gives no hub, the device failed or memory was refused
+abbrev pub EndsWith : {D : Type 0} {g : Ghosts D} → D → Result (Hub D g) (Unopened D) → KeyMap → Type 0
+EndsWith dev result map = MatchResult result (λ hub. Begins dev hub map) (λ u. IsDeviceOrMemory u.fault)
 
--- over a device that has the image of a map, the opening ends with that map
-abbrev pub Opens : {D : Type 0} {g : Ghosts D} → D → Result (Hub D g) (Unopened D) → Type 0
-Opens {D} {g} dev result = (disk : List (List ℕ)) (map : KeyMap) → IsSettled (g.size dev) (g.may_read dev) (g.may_leave dev) disk → HoldsMap disk map → EndsWith dev result map
+-- What an opening does, be it one that fails: a crash at any moment of it leaves what one before it could have left. Where reads give the
+-- image of a map, it ends with that map.
+pub record Opens {D : Type 0} {g : Ghosts D} (dev : D) (result : Result (Hub D g) (Unopened D)) : Type 0 where
+  pub during : LeavesOnly g.moment g.left_since dev (device_after result) (g.may_leave dev)
+  pub ends : (image : List (List ℕ)) (map : KeyMap) → length image ≡ g.size dev → ReadsAs (g.may_read dev) image → HoldsMap image map → EndsWith dev result map
 
--- A crash left this image: in the opening, be it one that then failed, or at a moment after `answered`, up to `last`, of a run of its hub.
-pub data Crash {D : Type 0} {g : Ghosts D} (dev : D) (result : Result (Hub D g) (Unopened D)) (disk : List (List ℕ)) : Type 0 where
-  InOpening : g.left_since (device_after result) (g.moment dev) disk → Crash dev result disk
-  InRun : (hub answered last : Hub D g) → result ≡ Ok hub → HasRun hub answered → HasRun answered last → g.left_since (device last) (g.moment (device answered)) disk → Crash dev result disk
+-- the hub is what an opening gave
+pub record IsOpened {D : Type 0} {g : Ghosts D} (hub : Hub D g) : Type 0 where
+  pub dev : D
+  pub map : KeyMap
+  pub begins : Begins dev hub map
+  pub opens : g.keeps_model → Opens dev (Ok hub)
 
--- one life of a store: an opening over a device, with its result, and the image that a crash left
+-- The hub has come so far from an opening: by these events, and every hub on the way is known.
+pub record Served {D : Type 0} {g : Ghosts D} (hub : Hub D g) : Type 0 where
+  pub first : Hub D g
+  pub start : IsOpened first
+  pub choices : List (HubEvent × Choice)
+  pub ran : Ran first hub choices
+
+abbrev pub IsServed : {D : Type 0} {g : Ghosts D} → Hub D g → Type 0
+IsServed hub = ∥ Served hub ∥₁
+
+-- how the life of a process ended: at a moment of the opening, or at one after `answered`, up to `last`, of a run of its hub
+pub data EndOfLife {D : Type 0} {g : Ghosts D} (dev : D) (result : Result (Hub D g) (Unopened D)) : Type 0 where
+  InOpening : EndOfLife dev result
+  InRun : (hub answered last : Hub D g) (es fs : List (HubEvent × Choice)) → result ≡ Ok hub → Ran hub answered es → Ran answered last fs → EndOfLife dev result
+
+-- one life of a store: an opening over a device, with its result, and how it ended
 pub record Life (D : Type 0) (g : Ghosts D) : Type 0 where
   pub dev : D
   pub result : Result (Hub D g) (Unopened D)
   pub opens : Opens dev result
-  pub disk : List (List ℕ)
-  pub crash : Crash dev result disk
+  pub ending : EndOfLife dev result
 
--- each life's device has the image that the crash of the one before left, the first one's has this
-abbrev pub FollowOn : {D : Type 0} {g : Ghosts D} → List (List ℕ) → List (Life D g) → Type 0
-FollowOn disk [] = ⊤
-FollowOn {D} {g} disk (life ∷ lives) = IsSettled (g.size life.dev) (g.may_read life.dev) (g.may_leave life.dev) disk × FollowOn life.disk lives
+-- the images that a crash may leave there
+abbrev pub IsLeftAt : {D : Type 0} {g : Ghosts D} {dev : D} {result : Result (Hub D g) (Unopened D)} → EndOfLife dev result → List (List ℕ) → Type 0
+IsLeftAt {D} {g} {dev} {result} InOpening c = g.left_since (device_after result) (g.moment dev) c
+IsLeftAt {D} {g} (InRun hub answered last es fs is ran more) c = g.left_since (device last) (g.moment (device answered)) c
 
--- From the state h the hub ran, lawfully, to `answered` and on to `last`. The map is one that a crash may leave once all up to `answered`
--- was answered: the one committed then or later, one with a COMMIT that was under way since, or one with a COMMIT that was answered a
--- store fault.
-pub record IsLeft {D : Type 0} {g : Ghosts D} (hub answered last : Hub D g) (h : HubState) (map : KeyMap) : Type 0 where
-  pub choices : List (HubEvent × Choice)
-  pub ran : RunsBy hub answered h choices
-  pub more_choices : List (HubEvent × Choice)
-  pub more : RunsBy answered last (run h choices) more_choices
-  pub may : MayFind h (choices ++ more_choices) (length choices) map
+-- the maps that it may leave there: those of before the opening; or, of a run that began with this map, those that it may leave once all up to `answered` was answered
+abbrev pub MapAt : {D : Type 0} {g : Ghosts D} {dev : D} {result : Result (Hub D g) (Unopened D)} → (KeyMap → Type 0) → KeyMap → EndOfLife dev result → KeyMap → Type 0
+MapAt Maps map InOpening next = Maps next
+MapAt {D} {g} {dev} Maps map (InRun hub answered last es fs is ran more) next =
+    (begins : Begins dev hub map) × MayFind (hub_over (opened map begins.used (g.size dev))) (es ++ fs) (length es) next
 
--- a crash in the opening left the map of before it; one in a run of the hub, which began with that map, left one that it may leave
-abbrev pub Leaves : {D : Type 0} {g : Ghosts D} {dev : D} {result : Result (Hub D g) (Unopened D)} {disk : List (List ℕ)} → Crash dev result disk → KeyMap → KeyMap → Type 0
-Leaves (InOpening left) map next = next ≡ map
-Leaves {D} {g} {dev} {result} (InRun hub answered last is ran more left) map next = (begins : Begins dev hub map) × IsLeft hub answered last (hub_over (opened map begins.used (g.size dev))) next
+-- A device over what was left: reads give one of the images that could be left, and a crash leaves none but such. So it is after the power
+-- was cut, where one image is left, and after the process alone was killed, where reads give what was written and a later cut may still
+-- leave less.
+pub record Reopens {D : Type 0} (g : Ghosts D) (Left : List (List ℕ) → Type 0) (dev : D) : Type 0 where
+  pub image : List (List ℕ)
+  pub was_left : Left image
+  pub size_is : length image ≡ g.size dev
+  pub read : ReadsAs (g.may_read dev) image
+  pub left : (c : List (List ℕ)) → g.may_leave dev c → Left c
 
--- a life over a device that had a map, and after which the device holds the next
-pub record Lived {D : Type 0} {g : Ghosts D} (life : Life D g) (map next : KeyMap) : Type 0 where
+-- an image that a power cut left is such
+abbrev pub CutsReopen : {D : Type 0} {g : Ghosts D} → Hub D g → Type 0
+CutsReopen {D} {g} hub =
+    (life : Life D g) (dev : D) (disk : List (List ℕ)) → IsLeftAt life.ending disk → IsSettled (g.size dev) (g.may_read dev) (g.may_leave dev) disk → Reopens g (IsLeftAt life.ending) dev
+
+-- each life is over what the one before left, the first one over this
+abbrev pub FollowOn : {D : Type 0} {g : Ghosts D} → (List (List ℕ) → Type 0) → List (Life D g) → Type 0
+FollowOn Left [] = ⊤
+FollowOn {g = g} Left (life ∷ lives) = Reopens g Left life.dev × FollowOn (IsLeftAt life.ending) lives
+
+-- the images that the end of the last of the lives may leave; before any life, these
+abbrev pub IsLeftLast : {D : Type 0} {g : Ghosts D} → (List (List ℕ) → Type 0) → List (Life D g) → List (List ℕ) → Type 0
+IsLeftLast Left [] c = Left c
+IsLeftLast {g = g} Left (life ∷ lives) c = IsLeftLast (IsLeftAt life.ending) lives c
+
+-- A life that began with a map of these. Its opening ends with that map, and each image that its end may leave holds one that it may leave.
+pub record Lived {D : Type 0} {g : Ghosts D} (Maps : KeyMap → Type 0) (life : Life D g) (map : KeyMap) : Type 0 where
+  pub was : Maps map
   pub opening : EndsWith life.dev life.result map
-  pub leaves : Leaves life.crash map next
-  pub holds : HoldsMap life.disk next
+  pub leaves : (c : List (List ℕ)) → IsLeftAt life.ending c → (next : KeyMap) × MapAt Maps map life.ending next × HoldsMap c next
 
--- Each life's opening ends with the map that the one before left, the first one's with this. So does that of a store that is opened after
--- them; it is never found damaged.
-abbrev pub LoseNothing : {D : Type 0} {g : Ghosts D} → KeyMap → List (List ℕ) → List (Life D g) → Type 0
-LoseNothing {D} {g} map disk [] = (dev : D) (result : Result (Hub D g) (Unopened D)) → IsSettled (g.size dev) (g.may_read dev) (g.may_leave dev) disk → Opens dev result → EndsWith dev result map
-LoseNothing map disk (life ∷ lives) = (next : KeyMap) × Lived life map next × LoseNothing next life.disk lives
+-- each life begins with a map that the one before may have left, the first one with one of these; so none is found damaged
+abbrev pub LoseNothing : {D : Type 0} {g : Ghosts D} → (KeyMap → Type 0) → List (Life D g) → Type 0
+LoseNothing Maps [] = ⊤
+LoseNothing Maps (life ∷ lives) = (map : KeyMap) × Lived Maps life map × LoseNothing (MapAt Maps map life.ending) lives
 
 -- of any number of lives, from the image of any map
 abbrev pub LivesLoseNothing : {D : Type 0} {g : Ghosts D} → Hub D g → Type 0
-LivesLoseNothing {D} {g} hub = (disk : List (List ℕ)) (map : KeyMap) (lives : List (Life D g)) → HoldsMap disk map → FollowOn disk lives → LoseNothing map disk lives
+LivesLoseNothing {D} {g} hub =
+    (disk : List (List ℕ)) (map : KeyMap) (lives : List (Life D g)) → HoldsMap disk map → FollowOn (λ c. c ≡ disk) lives → LoseNothing (λ m. m ≡ map) lives
 
 -- and so from an empty log
 abbrev pub LivesFromNothing : {D : Type 0} {g : Ghosts D} → Hub D g → Type 0
-LivesFromNothing {D} {g} hub = (disk : List (List ℕ)) (lives : List (Life D g)) → IsLogImage current [] disk → FollowOn disk lives → LoseNothing [] disk lives
+LivesFromNothing {D} {g} hub = (disk : List (List ℕ)) (lives : List (Life D g)) → IsLogImage current [] disk → FollowOn (λ c. c ≡ disk) lives → LoseNothing (λ m. m ≡ []) lives
+
+-- What a process has answered, it keeps: after each of its events a hub stands that it has come to, and a crash at any moment since leaves no
+-- map that is older than the one committed there.
+abbrev pub KeepsAnswered : {D : Type 0} {g : Ghosts D} → Hub D g → Type 0
+KeepsAnswered {D} {g} hub =
+    g.keeps_model → (served : Served hub) (es fs : List (HubEvent × Choice)) → served.choices ≡ es ++ fs → (answered : Hub D g) × Ran served.first answered es × Ran answered hub fs
+    × ((c : List (List ℕ)) → g.left_since (device hub) (g.moment (device answered)) c
+    → Holds (hub_over (opened served.start.map served.start.begins.used (g.size served.start.dev))) (es ++ fs) (length es) c)

@@ -9,10 +9,9 @@ use Rattle.commit_log.specs.declared.faults.Unopened.{Unopened}
 use Rattle.engine.specs.Recovery.{HoldsMap, committed_map}
 use Rattle.sessions.specs.declared.hub.Hub.{Hub}
 use Rattle.sessions.specs.Crashes.{Commits}
-use Rattle.sessions.specs.Laws.{RunsBy}
-use Rattle.sessions.specs.Lives.{Begins, Crash, FollowOn, Life}
-use Rattle.sessions.specs.Lives.Crash.{InOpening, InRun}
-use Rattle.sessions.specs.SessionStreams.{HubState, HubEvent, Choice, hub_over, hub_step, run}
+use Rattle.sessions.specs.Lives.{Begins, EndOfLife, FollowOn, IsLeftLast, Life}
+use Rattle.sessions.specs.Lives.EndOfLife.{InOpening, InRun}
+use Rattle.sessions.specs.SessionStreams.{HubState, HubEvent, Choice, hub_over, hub_step}
 
 -- the machine's state after the COMMIT that the event executes
 abbrev pub IsAfterCommit : HubState → HubEvent → State → Type 0
@@ -24,26 +23,18 @@ MayComeTo h [] answered st = st ≡ h.machine
 MayComeTo h (e ∷ es) zero st = (st ≡ h.machine) ⊎ (IsAfterCommit h e.0 st ⊎ MayComeTo (hub_step h e.0 e.1).0 es zero st)
 MayComeTo h (e ∷ es) (suc answered) st = ((e.1.failed ≡ true) × IsAfterCommit h e.0 st) ⊎ MayComeTo (hub_step h e.0 e.1).0 es answered st
 
--- the hub ran, lawfully, from the state h to `answered` and on to `last`, and this is such a state
-pub record ComesTo {D : Type 0} {g : Ghosts D} (hub answered last : Hub D g) (h : HubState) (st : State) : Type 0 where
-  pub choices : List (HubEvent × Choice)
-  pub ran : RunsBy hub answered h choices
-  pub more_choices : List (HubEvent × Choice)
-  pub more : RunsBy answered last (run h choices) more_choices
-  pub may : MayComeTo h (choices ++ more_choices) (length choices) st
+-- A life that ended in its opening committed nothing, and leaves the map of before it. One that ended in a run of its hub, which began with
+-- this map, leaves the map of such a state.
+abbrev pub LeavesStates : {D : Type 0} {g : Ghosts D} {dev : D} {result : Result (Hub D g) (Unopened D)} → EndOfLife dev result → KeyMap → List State → KeyMap → Type 0
+LeavesStates InOpening map states next = (states ≡ []) × (next ≡ map)
+LeavesStates {D} {g} {dev} (InRun hub answered last es fs is ran more) map states next =
+    (begins : Begins dev hub map) × (st : State) × (states ≡ st ∷ []) × MayComeTo (hub_over (opened map begins.used (g.size dev))) (es ++ fs) (length es) st × (next ≡ committed_map st)
 
--- A crash in the opening left the map of before it, and nothing was committed. One in a run of the hub, which began with that map, left
--- the map of such a state.
-abbrev pub LeavesStates : {D : Type 0} {g : Ghosts D} {dev : D} {result : Result (Hub D g) (Unopened D)} {disk : List (List ℕ)} → Crash dev result disk → KeyMap → List State → KeyMap → Type 0
-LeavesStates (InOpening left) map states next = (states ≡ []) × (next ≡ map)
-LeavesStates {D} {g} {dev} {result} (InRun hub answered last is ran more left) map states next =
-    (begins : Begins dev hub map) × (st : State) × (states ≡ st ∷ []) × ComesTo hub answered last (hub_over (opened map begins.used (g.size dev))) st × (next ≡ committed_map st)
-
--- from the first map on, the lives came to these states, one after another, and the last of them left the map found on the disk
+-- from the first map on, the lives came to these states, one after another, and the last of them left the map that this image holds
 abbrev pub ComeTo : {D : Type 0} {g : Ghosts D} → KeyMap → List (List ℕ) → List (Life D g) → List State → KeyMap → Type 0
 ComeTo map disk [] states found = (states ≡ []) × (found ≡ map) × HoldsMap disk found
 ComeTo map disk (life ∷ lives) states found =
-    (own rest : List State) × (next : KeyMap) × (states ≡ own ++ rest) × LeavesStates life.crash map own next × ComeTo next life.disk lives rest found
+    (own rest : List State) × (next : KeyMap) × (states ≡ own ++ rest) × LeavesStates life.ending map own next × ComeTo next disk lives rest found
 
 -- one order of all that was committed in the lives gives each transaction the replies that it had, and then the map found
 pub record HaveOneHistory {D : Type 0} {g : Ghosts D} (map : KeyMap) (disk : List (List ℕ)) (lives : List (Life D g)) : Type 0 where
@@ -52,6 +43,7 @@ pub record HaveOneHistory {D : Type 0} {g : Ghosts D} (map : KeyMap) (disk : Lis
   pub came : ComeTo map disk lives states found
   pub order : HaveOneOrder map states found
 
--- of any number of lives, from the image of any map
+-- of any number of lives, from the image of any map, and for each image that the end of the last may leave
 abbrev pub LivesHaveOneHistory : {D : Type 0} {g : Ghosts D} → Hub D g → Type 0
-LivesHaveOneHistory {D} {g} hub = (disk : List (List ℕ)) (map : KeyMap) (lives : List (Life D g)) → HoldsMap disk map → FollowOn disk lives → HaveOneHistory map disk lives
+LivesHaveOneHistory {D} {g} hub =
+    (disk last : List (List ℕ)) (map : KeyMap) (lives : List (Life D g)) → HoldsMap disk map → FollowOn (λ c. c ≡ disk) lives → IsLeftLast (λ c. c ≡ disk) lives last → HaveOneHistory map last lives

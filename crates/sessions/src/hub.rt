@@ -4,9 +4,9 @@ ghost use Rattle.engine.specs.Meaning.{device_of};
 ghost use Rattle.engine.specs.Meaning.{StandsFor as EngineStandsFor};
 ghost use Rattle.model.specs.Machine.{State};
 ghost use Rattle.sessions.specs.Crashes.{SurvivesEvent, SurvivesCrash, IsStored};
-ghost use Rattle.sessions.specs.Laws.{IsLawful, NoneRuns, Runs, RunsAlone, RunsFollow};
-ghost use Rattle.sessions.specs.Life.{RunsGoOn, LosesNothing};
-ghost use Rattle.sessions.specs.Lives.{LivesLoseNothing, LivesFromNothing};
+ghost use Rattle.sessions.specs.Laws.{IsLawful, NoneRuns, Runs, RunsAlone, RunsFollow, RunsLead, RunsPart};
+ghost use Rattle.sessions.specs.Life.{LosesNothing};
+ghost use Rattle.sessions.specs.Lives.{CutsReopen, KeepsAnswered, LivesLoseNothing, LivesFromNothing};
 ghost use Rattle.sessions.specs.OneOrder.{LivesHaveOneHistory};
 ghost use Rattle.sessions.specs.SessionStreams.{HubState, is_above, hub_over, stream_of, Joins, Receives, Serves, Sends, Leaves};
 ghost use Rattle.sessions.specs.StandsFor.{HubLeads, StandsFor, event_of, status_in, room_in, pending_in, device, failures, is_stopped};
@@ -252,7 +252,7 @@ impl<D: Sectors> Hub<D> {
     /// transactions, run one at a time in one order, give the same replies and the same final map. (Serializable snapshot isolation
     /// as in Cahill, Röhm and Fekete, SIGMOD 2008.)
     pub fn run(&mut self, events: &[Event<'_>])
-        ensures run { (h : HubState) → StandsFor self.old h → Runs self.old self.new h (map event_of events.now) }
+        ensures run { Runs self.old self.new (map event_of events.now) }
         ensures device { failures self.old ≤ failures self.new }
     {
         machine_is_serializable();
@@ -262,10 +262,13 @@ impl<D: Sectors> Hub<D> {
         }
     }
 
-    /// Does nothing, and takes no memory. Its contract says that no event is a run, and that runs that follow each other are one run.
+    /// Does nothing, and takes no memory. Its contract says that no event is a run, that runs that follow each other are one run and a run
+    /// is two at each of its events, and what it leads to from each state that its first hub stood for.
     pub fn runs_follow(&self)
         ensures none { NoneRuns self.now }
         ensures follow { RunsFollow self.now }
+        ensures part { RunsPart self.now }
+        ensures lead { RunsLead self.now }
     {
         machine_is_serializable();
         self.is_stored();
@@ -273,20 +276,21 @@ impl<D: Sectors> Hub<D> {
 
     /// Does nothing, and takes no memory. Its contract is the law of a store's whole life: a crash at any moment after some events were
     /// answered leaves the map committed when they were answered or at a later moment, one with a COMMIT that was under way since, or
-    /// one with the COMMIT that was answered a store fault.
+    /// one with the COMMIT that was answered a store fault. So does one at any moment of a process since any of its events.
     pub fn loses_nothing(&self)
-        ensures go_on { RunsGoOn self.now }
         ensures crash { LosesNothing self.now }
+        ensures answered { KeepsAnswered self.now }
     {}
 
-    /// Does nothing, and takes no memory. Its contract is the law of a store's lives, one after another: each is opened over what a crash
-    /// at any moment of the one before left, during its opening too, and begins with the map of the last answered COMMIT, or with that and
-    /// one COMMIT more, which was under way at the crash or was answered a store fault. A log that was made empty, or that a map was
-    /// copied into, is never found damaged. All that was committed in them has one order, in which each transaction is given the replies
-    /// that it had, and at whose end the map is the one found.
+    /// Does nothing, and takes no memory. Its contract is the law of a store's lives, one after another: each is opened over what the end
+    /// of the one before left, by a power cut or a kill of the process at any moment, during its opening too, and begins with the map of
+    /// the last answered COMMIT, or with that and one COMMIT more, which was under way at the end or was answered a store fault. A log that
+    /// was made empty, or that a map was copied into, is never found damaged. All that was committed in them has one order, in which each
+    /// transaction is given the replies that it had, and at whose end is the map that is found.
     pub fn lives_lose_nothing(&self)
         ensures lives { D.keeps_model → LivesLoseNothing self.now }
         ensures from_nothing { D.keeps_model → LivesFromNothing self.now }
+        ensures cut { CutsReopen self.now }
         ensures one_history { D.keeps_model → LivesHaveOneHistory self.now }
     {
         restarts_have_one_order();

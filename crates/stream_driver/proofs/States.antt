@@ -11,11 +11,11 @@ use Rattle.sessions.specs.declared.events.Outcome.{Outcome}
 use Rattle.engine.specs.Meaning.{has_risen}
 use Rattle.sector.specs.declared.device.Sectors.{Ghosts}
 use Rattle.sessions.specs.declared.hub.Hub.{Hub}
-use Rattle.sessions.specs.SessionStreams.{HubState, SessionState, HubEvent, Choice, hub_step, run, SessionStream, stream_of}
+use Rattle.sessions.specs.SessionStreams.{HubState, SessionState, HubEvent, Choice, hub_step, SessionStream, stream_of}
 use Rattle.sessions.specs.StandsFor.{StandsFor, HubLeads, status_in, room_in, pending_in, failures}
-use Rattle.sessions.specs.Laws.{HasRun, NoneRuns, RunsAlone, RunsBy}
+use Rattle.sessions.specs.Laws.{HasRun, NoneRuns, Ran, RunsAlone}
 use Rattle.sessions.proofs.Reached.{reached}
-use Rattle.stream_driver.specs.Sessions.{InSomeState, Point, StandsAt, Leads, RunsTo, IsPresentIn, status_at, pending_at, room_at}
+use Rattle.stream_driver.specs.Sessions.{InSomeState, Point, StandsAt, Leads, IsPresentIn, status_at, pending_at, room_at}
 use Rattle.stream_driver.proofs.Events.{Happens, adds_none, point_after}
 use Rattle.stream_driver.proofs.Carry.{adds_then}
 use Rattle.stream_driver.proofs.Lookups.{test, lookup-at_hand}
@@ -81,36 +81,26 @@ at_point hub h stands = record { state = stands; count = refl }
 
 -- runs that follow each other are one run
 abbrev pub Follow : (D : Type 0) → Ghosts D → Type 0
-Follow D g =
-    (old mid new : Hub D g) (h : HubState) (es fs : List (HubEvent × Choice)) → StandsFor old h → RunsBy old mid h es → RunsBy mid new (run h es) fs → RunsBy old new h (es ++ fs)
-
-pub runs_none : {D : Type 0} {g : Ghosts D} (hub : Hub D g) → NoneRuns hub → (h : Point) → StandsAt hub h → RunsTo hub hub h h
-runs_none hub none h at = record { choices = []; adds = adds_none h; ran = none h.hub at.state }
-
-pub runs_on : {D : Type 0} {g : Ghosts D} → Follow D g → (a b c : Hub D g) (h k l : Point) → StandsAt a h → RunsTo a b h k → RunsTo b c k l → RunsTo a c h l
-runs_on follow a b c h k l at p q = record {
-  choices = p.choices ++ q.choices;
-  adds = adds_then h k l p.choices q.choices p.adds q.adds;
-  ran = follow a b c h.hub p.choices q.choices at.state p.ran (subst (λ v. RunsBy b c v q.choices) p.adds.run_is q.ran);
-}
+Follow D g = (old mid new : Hub D g) (es fs : List (HubEvent × Choice)) → Ran old mid es → Ran mid new fs → Ran old new (es ++ fs)
 
 -- what leads from one hub to another is a run of the hub
 pub are_runs : {D : Type 0} {g : Ghosts D} (a b : Hub D g) (P : Point → Point → Type 0) → Leads a b P → HasRun a b
-are_runs a b P p = record { counted = p.counted; run = λ h stands. (let k = p.to (point_of a h) (at_point a h stands) in (k.2.0.choices, k.2.0.ran)) }
+are_runs a b P p = (p.choices, p.ran)
 
 -- nothing happens
 pub leads_none : {D : Type 0} {g : Ghosts D} (hub : Hub D g) → NoneRuns hub → (P : Point → Point → Type 0) → ((h : Point) → StandsAt hub h → P h h) → Leads hub hub P
-leads_none hub none P f = record { counted = omega arith; to = λ h at. (h, at, (runs_none hub none h at, f h at)) }
+leads_none hub none P f = record { choices = []; ran = none; to = λ h at. (h, at, (adds_none h, f h at)) }
 
 pub leads_map : {D : Type 0} {g : Ghosts D} (a b : Hub D g) (P Q : Point → Point → Type 0) → Leads a b P → ((h k : Point) → StandsFor b k.hub → P h k → Q h k) → Leads a b Q
-leads_map a b P Q p f = record { counted = p.counted; to = weaken StandsAt a b _ _ p.to (λ h k at last x. (x.0, f h k last.state x.1)) }
+leads_map a b P Q p f = record { choices = p.choices; ran = p.ran; to = weaken StandsAt a b _ _ p.to (λ h k at last x. (x.0, f h k last.state x.1)) }
 
 -- with what the hub between stands for
 pub leads_two_at : {D : Type 0} {g : Ghosts D} → Follow D g → (a b c : Hub D g) (P Q R : Point → Point → Type 0) → Leads a b P → Leads b c Q
     → ((h k l : Point) → StandsFor b k.hub → StandsFor c l.hub → P h k → Q k l → R h l) → Leads a c R
 leads_two_at follow a b c P Q R p q f = record {
-  counted = (let first = p.counted in let second = q.counted in omega arith);
-  to = compose StandsAt a b c _ _ _ p.to q.to (λ h k l at between last x y. (runs_on follow a b c h k l at x.0 y.0, f h k l between.state last.state x.1 y.1));
+  choices = p.choices ++ q.choices;
+  ran = follow a b c p.choices q.choices p.ran q.ran;
+  to = compose StandsAt a b c _ _ _ p.to q.to (λ h k l at between last x y. (adds_then h k l p.choices q.choices x.0 y.0, f h k l between.state last.state x.1 y.1));
 }
 
 pub leads_then : {D : Type 0} {g : Ghosts D} → Follow D g → (a b c : Hub D g) (P Q R : Point → Point → Type 0) → Leads a b P → Leads b c Q → ((h k l : Point) → StandsFor c l.hub → P h k → Q k l → R h l)
@@ -138,17 +128,19 @@ leads_four follow a b c d e P Q R S T p q r s f =
 -- one event of the hub
 pub leads_event : {D : Type 0} {g : Ghosts D} (b c : Hub D g) (P : Point → Point → Type 0) (e : HubEvent) (outcome : Outcome) (q : HubLeads b c e outcome) → RunsAlone b c e → failures b ≤ failures c
     → ((h : Point) → StandsAt b h → Happens h e q.0 (failures c) → outcome ≡ (hub_step h.hub e q.0).1 → StandsFor c (hub_step h.hub e q.0).0 → P h (point_after h e q.0 (failures c))) → Leads b c P
-leads_event b c P e outcome q alone counted f = record {
-  counted = counted;
-  to = λ h at. (
-      let there = reached b c e outcome q h.hub at.state in
-      let happens : Happens h e q.0 (failures c) = record { possible = there.possible; counted = (let same = at.count in omega arith); failed = q.2 ∙ ap (λ n. has_risen n (failures c)) (sym at.count) } in
-      let run = alone h.hub q.0 at.state q.2 there.possible there.stands in (
-        point_after h e q.0 (failures c),
-        record { state = there.stands; count = refl },
-        (record { choices = (e, run.0) ∷ []; adds = record { run_is = sym run.1; events_are = refl }; ran = run.2 }, f h at happens there.outcome_is there.stands),
-      ));
-}
+leads_event b c P e outcome q alone counted f =
+    let run = alone q.0 q.2 (λ h stands. (let there = reached b c e outcome q h stands in (there.possible, there.stands))) in
+    record {
+      choices = (e, run.0) ∷ [];
+      ran = run.2;
+      to = λ h at. (
+          let there = reached b c e outcome q h.hub at.state in
+          let happens : Happens h e q.0 (failures c) = record { possible = there.possible; counted = (let same = at.count in omega arith); failed = q.2 ∙ ap (λ n. has_risen n (failures c)) (sym at.count) } in (
+            point_after h e q.0 (failures c),
+            record { state = there.stands; count = refl },
+            (record { run_is = sym (run.1 h.hub at.state); events_are = refl }, f h at happens there.outcome_is there.stands),
+          ));
+    }
 
 pub leads_step : {D : Type 0} {g : Ghosts D} → Follow D g → (a b c : Hub D g) (P R : Point → Point → Type 0) (e : HubEvent) (outcome : Outcome) → Leads a b P → HubLeads b c e outcome → RunsAlone b c e → failures b ≤ failures c
     → ((h k : Point) (choice : Choice) → Happens k e choice (failures c) → outcome ≡ (hub_step k.hub e choice).1 → StandsFor c (hub_step k.hub e choice).0 → P h k → R h (point_after k e choice (failures c))) → Leads a c R

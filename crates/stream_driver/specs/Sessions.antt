@@ -13,7 +13,7 @@ use Rattle.engine.specs.Meaning.{has_risen}
 use Rattle.sessions.specs.declared.hub.Hub.{Hub}
 use Rattle.sessions.specs.SessionStreams.{HubState, SessionStream, HubEvent, Joins, Receives, Serves, Sends, Leaves, Choice, ArePossible, hub_step, run, stream_of}
 use Rattle.sessions.specs.StandsFor.{StandsFor, status_in, room_in, pending_in, failures}
-use Rattle.sessions.specs.Laws.{HasRun, RunsBy, failures_in}
+use Rattle.sessions.specs.Laws.{HasRun, Ran, failures_in}
 
 abbrev pub inbox_in : Option SessionStream → Bytes
 inbox_in None = []
@@ -66,16 +66,12 @@ pub record Adds (old : Point) (choices : List (HubEvent × Choice)) (new : Point
   pub run_is : new.hub ≡ run old.hub choices
   pub events_are : new.events ≡ old.events ++ map (λ e. e.0) choices
 
--- What happened between the two points is a run, at whose end the new hub stands: lawful at each moment, and what a crash leaves known.
-pub record RunsTo {D : Type 0} {g : Ghosts D} (old new : Hub D g) (h k : Point) : Type 0 where
-  pub choices : List (HubEvent × Choice)
-  pub adds : Adds h choices k
-  pub ran : RunsBy old new h.hub choices
-
--- from every point at which the old hub stands a run leads to one at which the new hub stands and that is so related to it
+-- By these events, each with its choice, a run leads from the old hub to the new one: lawful at each moment, and what a crash leaves known.
+-- From every point at which the old hub stands they lead to one at which the new hub stands and that is so related to it.
 pub record Leads {D : Type 0} {g : Ghosts D} (old new : Hub D g) (P : Point → Point → Type 0) : Type 0 where
-  pub counted : failures old ≤ failures new
-  pub to : LeadsBy StandsAt old new (λ h k. RunsTo old new h k × P h k)
+  pub choices : List (HubEvent × Choice)
+  pub ran : Ran old new choices
+  pub to : LeadsBy StandsAt old new (λ h k. Adds h choices k × P h k)
 
 -- it is a run of the hub, whatever else is said of the points
 abbrev pub LeadsAreRuns : {D : Type 0} {g : Ghosts D} → Hub D g → Type 0

@@ -1,12 +1,13 @@
-use Rattle.std.proofs.Common.{refl}
-use Rattle.model.specs.Machine.{opened}
-use Rattle.sessions.specs.SessionStreams.{hub_over}
+use Rattle.event_loop.proofs.Serving.{opened_nobody, opened_stands}
+use Rattle.sessions.specs.Lives.{IsOpened}
 use Rattle.program_tests.proofs.hubs.opened.Goals as goal
 
 pub returns : goal.returns
 returns g c =
-    let o = c.in_ok-engine.ensures.opens in
+    let o = c.in_ok-hub.ensures.begins in
+    let start : IsOpened c.in_ok-hub.hub = record { dev = c.args.device; map = o.0; begins = o.1; opens = c.in_ok-hub.ensures.opens } in
     record {
-      stands = ∣ (hub_over (opened o.0 o.1 _), c.new.ensures.stands _ o.2, tt) ∣₁;
-      nobody = ∣ (hub_over (opened o.0 o.1 _), c.new.ensures.stands _ o.2, (refl, refl)) ∣₁;
+      stands = opened_stands _ start;
+      nobody = opened_nobody _ start;
+      opened = start;
     }

@@ -1,7 +1,7 @@
 use Rattle.std.proofs.Common.{◌≡◌, sym, ap, ◌∙◌}
 use Rattle.stream_driver.specs.Entries.{state_after}
 use Rattle.stream_driver.proofs.States.{leads_map}
-use Rattle.stream_driver.proofs.Turns.{driven_once}
+use Rattle.stream_driver.proofs.Turns.{driven_once, left_alone}
 use Rattle.stream_driver.proofs.entries.drive_entry.Goals as goal
 use Rattle.stream_driver.proofs.entries.drive_entry.Goals.{in-Waiting, in-Again, in-Gone}
 
@@ -14,3 +14,6 @@ returns-after-drive-clause-driven g c =
     ] in
     leads_map c.args.hub.now c.drive.new.hub _ _ c.drive.ensures.driven
     (λ h k stands x. driven_once g.S.Stream.tells g.S.Stream.traffic h k c.args.entry.now c.drive.result c.drive.new.stream c.match-drive.entry c.in-Ready.is is x)
+
+pub returns-in_default-clause-driven : goal.returns-in_default-clause-driven
+returns-in_default-clause-driven g c = left_alone g.S.Stream.tells g.S.Stream.traffic c.args.hub.now c.args.entry.now c.runs_follow.ensures.none c.in_default.not-Ready

@@ -1,7 +1,9 @@
 use Rattle.mio.specs.Events.{items}
+use Rattle.sessions.proofs.Runs.{ran_then}
 use Rattle.event_loop.specs.contracts.socket.SocketStream.TheImpl.{ghosts}
 use Rattle.event_loop.proofs.Tables.{below_after, stands_after}
 use Rattle.event_loop.proofs.Entries.{driven_entries, ended_entries, ended_numbers, ended_sessions, polled_entries, polled_numbers, polled_sessions}
+use Rattle.event_loop.proofs.Serving.{served_after}
 use Rattle.event_loop.proofs.server.EventLoop.drive.Goals as goal
 
 pub drive_ready-requires : goal.drive_ready-requires
@@ -10,6 +12,7 @@ drive_ready-requires g c = polled_sessions c.args.self.now.table.slots c.make_po
 pub invariant_of-self : goal.invariant_of-self
 invariant_of-self g c = record {
   stands = stands_after c.args.self.now.hub c.drive_ready.new.hub _ c.args.self.now.stands c.drive_ready.ensures.driven;
+  served = served_after ran_then c.args.self.now.hub c.drive_ready.new.hub _ c.args.self.now.served c.drive_ready.ensures.driven;
   sessions = ended_sessions ghosts.tells ghosts.traffic c.drive_ready.new.table.slots c.end_drives.new.table.slots c.end_drives.ensures c.drive_ready.new.hub c.drive_ready.ensures.sessions;
   entries =
       ended_entries ghosts.tells ghosts.traffic c.drive_ready.new.table.slots c.end_drives.new.table.slots c.end_drives.ensures c.drive_ready.new.hub

@@ -1,8 +1,9 @@
-use Rattle.sessions.proofs.LifeLaws.{goes_on, loses_nothing}
+use Rattle.sessions.proofs.LivesLaws.{keeps_answered}
+use Rattle.sessions.proofs.Runs.{loses_nothing}
 use Rattle.sessions.proofs.hub.Hub.loses_nothing.Goals as goal
 
-pub returns-clause-go_on : goal.returns-clause-go_on
-returns-clause-go_on g c old mid new h es fs first second = goes_on old mid new h es fs first second
-
 pub returns-clause-crash : goal.returns-clause-crash
-returns-clause-crash g c keeps old mid new h es fs up first second = loses_nothing old mid new h es fs first second g.met.D.Sectors.only_now keeps up
+returns-clause-crash g c keeps = loses_nothing c.args.self.now g.met.D.Sectors.only_now g.met.D.Sectors.counts_now keeps
+
+pub returns-clause-answered : goal.returns-clause-answered
+returns-clause-answered g c keeps = keeps_answered c.args.self.now g.met.D.Sectors.only_now g.met.D.Sectors.counts_now keeps c.args.self.now

@@ -1,6 +1,5 @@
 use Rattle.std.proofs.Common.{◌≤◌, map, take}
-use Rattle.sessions.specs.SessionStreams.{HubState}
-use Rattle.sessions.specs.StandsFor.{StandsFor, event_of, failures}
+use Rattle.sessions.specs.StandsFor.{event_of, failures}
 use Rattle.sessions.specs.Laws.{Runs}
 use Rattle.sessions.proofs.hub.Hub.run.Given as goal
 
@@ -8,5 +7,5 @@ use Rattle.sessions.proofs.hub.Hub.run.Given as goal
 abbrev pub invariant-loop-event : goal.invariant-loop-event
 invariant-loop-event g l = record {
   device : failures l.initial.self ≤ failures l.self;
-  runs : (h : HubState) → StandsFor l.initial.self h → Runs l.initial.self l.self h (map event_of (take l.event-index l.events));
+  runs : Runs l.initial.self l.self (map event_of (take l.event-index l.events));
 }

@@ -1,10 +1,15 @@
-use Rattle.sessions.proofs.LifeLaws.{nothing, goes_on}
-use Rattle.sessions.proofs.RunLaws.{follow, no_events}
+use Rattle.std.proofs.Common.{refl}
+use Rattle.sessions.proofs.Runs.{leads_to, ran_parts, ran_then, sound}
 use Rattle.sessions.proofs.hub.Hub.runs_follow.Goals as goal
 
 pub returns-clause-none : goal.returns-clause-none
-returns-clause-none g c = λ h stands. no_events c.args.self.now h c.machine_is_serializable.ensures stands (nothing c.args.self.now h g.met.D.Sectors.only_now stands c.is_stored.ensures)
+returns-clause-none g c = (sound c.args.self.now c.machine_is_serializable.ensures c.is_stored.ensures, refl)
 
 pub returns-clause-follow : goal.returns-clause-follow
-returns-clause-follow g c old mid new h es fs stands first second =
-    follow old mid new h es fs c.machine_is_serializable.ensures stands.reached first second (λ keeps. goes_on old mid new h es fs (first.survives keeps) (second.survives keeps))
+returns-clause-follow g c = ran_then
+
+pub returns-clause-part : goal.returns-clause-part
+returns-clause-part g c = ran_parts
+
+pub returns-clause-lead : goal.returns-clause-lead
+returns-clause-lead g c = leads_to
