@@ -111,7 +111,8 @@ def first_manual(tally):
             found = manual_options(manual_section(MANUALS[0], head), macro)
             expect(found == due, f"it has {found}, the help {due}")
     with tally.run("the options of the program in ssikvd(1)"):
-        found = {f"-{dashes and '-'}{name}" for dashes, name in re.findall(r"Fl (Fl )?(\w+)(?= ,|\n|$)", manual_section(MANUALS[0], "DESCRIPTION"), re.M)}
+        named = re.findall(r"Fl (Fl )?(\w+)(?= ,|\n|$)", manual_section(MANUALS[0], "DESCRIPTION"), re.M)
+        found = {f"-{dashes and '-'}{name}" for dashes, name in named}
         expect(found == set(options_of(help_of())), f"it has {found}")
     with tally.run("the exit statuses of ssikvd(1)"):
         found = re.findall(r"^\.It (\d)\n(.*)\.$", manual_section(MANUALS[0], "EXIT STATUS"), re.M)
@@ -212,39 +213,41 @@ def by_fish(*words):
 
 
 class Zsh:
-    """A zsh at a terminal, which is typed into."""
+    """A zsh at a terminal, which is typed into. Its prompts are numbered, and a line is typed once the prompt before it stands."""
 
     SETUP = (
-        "PS1='> '; unsetopt zle_bracketed_paste; fpath=({0} $fpath); autoload -U compinit; compinit -u -D\n"
-        "zstyle ':completion:*' list-prompt ''; zstyle ':completion:*:default' list-colors ''; LISTMAX=0; bindkey '^I' list-choices\n")
+        "turn=0; precmd() {{ PS1=\"<$((++turn))>\" }}; unsetopt zle_bracketed_paste prompt_cr prompt_sp\n",
+        "fpath=({0} $fpath); autoload -U compinit; compinit -u -D\n",
+        "zstyle ':completion:*' list-prompt ''; LISTMAX=0; bindkey '^I' list-choices; bindkey '^U' kill-whole-line\n")
 
     def __init__(self):
+        self.turn = 0
         self.process, self.screen = pty.fork()
         if not self.process:
             os.execvpe("zsh", ["zsh", "-f", "-i"], {**os.environ, "TERM": "dumb", "COLUMNS": "150", "LINES": "60"})
-        self._type(self.SETUP.format(os.path.join(TOP, "completions")) + "echo rea''dy\n", "ready")
+        for line in self.SETUP:
+            self._type(line.format(os.path.join(TOP, "completions")))
 
-    def _type(self, keys, due):
-        """Types, and answers what is shown until this text was, or until nothing more comes."""
+    def _type(self, keys):
+        """Types, and answers what is shown before the next prompt."""
+        self.turn += 1
         os.write(self.screen, keys.encode())
         shown, end = "", time.monotonic() + PATIENCE
-        while due not in shown and time.monotonic() < end:
+        while not shown.endswith(f"<{self.turn}>") and time.monotonic() < end:
             if select.select([self.screen], [], [], 1.0)[0]:
-                shown += os.read(self.screen, 65_536).decode(errors="replace")
-            elif due == "--":
-                break
-        return re.sub(r"\x1b\[[0-9;?]*[A-Za-z]|\r", "", shown)
+                shown = re.sub(r"\x1b\[[0-9;?]*[A-Za-z]|\r", "", shown + os.read(self.screen, 65_536).decode(errors="replace"))
+        return shown
 
     def choices(self, *words):
         """The words that are offered at the end of this line."""
         line = " ".join(("ssikvd", *words))
-        shown = self._type(f"{line}\t\x15echo se''en\n", "seen")
+        shown = self._type(f"{line}\t\x15\n")
         return re.findall(r"(?<![\w-])--?\w+|^\w+(?= +--)", shown.partition(line)[2], re.M)
 
     def end(self):
-        os.write(self.screen, b"\x15exit\n")
-        os.close(self.screen)
+        os.write(self.screen, b"exit\n")
         os.waitpid(self.process, 0)
+        os.close(self.screen)
 
 
 def completions(tally):
@@ -355,10 +358,10 @@ def packed(tally, root):
 def versions(tally):
     with tally.run("the version"):
         version = run(["--version"])[1].decode().split()[1]
-        due = {"CHANGELOG.md": r"^## \[(\d.*?)\]", "debian/changelog": r"^ssikvd \(([\d.]+)"}
+        due = {"CHANGELOG.md": r"^## \[(\d.*?)\]", "debian/changelog": r"^ssikvd \(([\d.]+)", "docs/INSTALL.md": r"ssikvd.(\d+\.\d+\.\d+)"}
         for name, form in due.items():
-            found = re.search(form, text_of(name), re.M)
-            expect(found and found[1] == version, f"{name} has not version {version}")
+            found = re.findall(form, text_of(name), re.M)
+            expect(found and found[0] == version and (name != "docs/INSTALL.md" or set(found) == {version}), f"{name} has {found}, not {version}")
 
 
 # The Debian package
