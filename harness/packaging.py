@@ -153,11 +153,30 @@ def other_manuals(tally):
         expect(due and found == due, f"it has {found}, the document {due}")
 
 
+def tools():
+    """The commands of dist/."""
+    place = os.path.join(TOP, "dist")
+    return sorted(name for name in os.listdir(place) if "." not in name) if os.path.isdir(place) else []
+
+
+def manuals_of_tools(tally):
+    """The options of each command of dist/, as it tells them, stand in its man page."""
+    for name in tools():
+        with tally.run(f"the man page of {name}"):
+            said = subprocess.run(
+                [os.path.join(TOP, "dist", name), "--help"], stdin=subprocess.DEVNULL, capture_output=True, text=True, timeout=PATIENCE)
+            due = set(re.findall(r"--\w+", said.stdout + said.stderr)) - GENERAL
+            for form in (r"^\.(?:Op )?Fl Fl (\w+)", r"^\.It Fl Fl (\w+)"):
+                found = {"--" + option for option in re.findall(form, text_of(f"man/{name}.8"), re.M)}
+                expect(found == due, f"it has {found}, the command {due}")
+
+
 def man_lints(tally):
-    pages = [os.path.join(TOP, name) for name in MANUALS]
+    names = sorted("man/" + name for name in os.listdir(os.path.join(TOP, "man")))
+    pages = [os.path.join(TOP, name) for name in names]
     with tally.run("the man pages that ours name"):
-        named = set(re.findall(r"^\.Xr (ssikvd) (\d)", "".join(map(text_of, MANUALS)), re.M))
-        expect(named == {("ssikvd", name[-1]) for name in MANUALS}, f"they name {named}")
+        named = {f"man/{name}.{number}" for name, number in re.findall(r"^\.Xr (ssikvd\S*) (\d)", "".join(map(text_of, names)), re.M)}
+        expect(named <= set(names), f"there is no {named - set(names)}")
     if not left_out("mandoc -Tlint", "mandoc"):
         with tally.run("mandoc -Tlint"):
             lint = subprocess.run(["mandoc", "-Tlint", *pages], capture_output=True, text=True, timeout=PATIENCE)
@@ -310,6 +329,7 @@ def installed(tally, root):
     with tally.run("what lies in dist/"):
         found = {os.path.basename(name) for name in files_below(root)}
         due = set(os.listdir(os.path.join(TOP, "dist"))) if os.path.isdir(os.path.join(TOP, "dist")) else set()
+        due |= {name + ".8" for name in tools()}
         expect(due <= found, f"not installed: {due - found}")
 
 
@@ -447,7 +467,7 @@ def install_package(tally, place, deb, test):
 def main():
     need(PROGRAM)
     tally = Tally("packaging")
-    for part in (first_manual, other_manuals, man_lints, help_examples, completions, versions, quick_start):
+    for part in (first_manual, other_manuals, manuals_of_tools, man_lints, help_examples, completions, versions, quick_start):
         part(tally)
     with folder() as place:
         root = os.path.join(place, "root")
