@@ -24,7 +24,7 @@ CELL_MAX, WORDS_MAX = 120, 40
 PORT = "7777"
 NOT_RUN = (
     (r"^rt try ", "takes a minute; `long` runs it"),
-    (r"^\(?(cd \S+ && )?rt (run|ci)", "proves for minutes to an hour; the gate runs it"),
+    (r"^\(?(cd \S+ && )?rt (run|ci)|^make (build|check)", "proves for minutes to an hour; the gate runs it"),
     (r"^(SSIKVD=\S+ )?harness/run.sh", "would run this harness again"),
     (r"^bench/", "measures for minutes"),
     (r"^wrong_bodies/", "proves for hours"),
@@ -59,7 +59,7 @@ BEFORE = {"docs/CLIENTS.md": AS_README, "docs/OPERATIONS.md": AS_README}
 
 
 def documents():
-    found = ["README.md", "harness/README.md"]
+    found = sorted(name for name in os.listdir(TOP) if name.endswith(".md")) + ["harness/README.md"]
     found += sorted("docs/" + name for name in os.listdir(os.path.join(TOP, "docs")) if name.endswith(".md"))
     return found
 
