@@ -434,10 +434,12 @@ def package(tally):
         shutil.copy(BINARY, os.path.join(copy, "crates/ssikvd/out/ssikvd"))
         with tally.run("dpkg-buildpackage"):
             done(["dpkg-buildpackage", "-us", "-uc", "-b"], 300, cwd=copy, env=DEBIAN_PATH)
-        built = [os.path.join(place, name) for name in os.listdir(place) if name.endswith((".deb", ".changes"))]
+        built = sorted(name for name in os.listdir(place) if name.endswith((".deb", ".changes")))
+        with tally.run("one package"):
+            expect(len(built) == 2, f"{built} were built")
         if len(built) != 2:
             return
-        changes, deb = sorted(built, key=lambda name: name.endswith(".deb"))
+        changes, deb = (os.path.join(place, name) for name in built)
         if not left_out("lintian", "lintian"):
             with tally.run("lintian"):
                 said = done(["lintian", "--allow-root", "--fail-on", "error,warning", changes], 300, env=DEBIAN_PATH)
