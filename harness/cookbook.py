@@ -217,7 +217,8 @@ TIMES = (("equal ends", (9, 11), (10, 11)), ("equal starts", (9, 10), (9, 12)), 
 def reservation(tally):
     for name, one, other in TIMES:
         with trial(tally, f"two bookings at once, {name}") as port:
-            once(port, book("a", 1, 2)), once(port, book("a", 20, 21)), once(port, book("b", 9, 12))
+            for others in (("a", 1, 2), ("a", 20, 21), ("b", 9, 12)):
+                once(port, book(*others))
             found = at_once(port, book("a", *one), book("a", *other))
             expect(found == [True, None], f"two bookings at once, {name}: {found}")
             expect(once(port, book("a", *other)) is False, f"the second, {name}, was booked when it began again")

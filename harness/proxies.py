@@ -110,6 +110,12 @@ def client(port, timeout=PATIENCE):
     return simple_client.Client(port, timeout=timeout)
 
 
+def leave(store):
+    """Closes a client's connection."""
+    store.replies.close()
+    store.socket.close()
+
+
 def is_served(connect):
     """Is a client served, with a write, a range and a commit?"""
     def work(store):
@@ -328,9 +334,8 @@ def limits(tally):
                 raise Deviation("the 61st did not wait")
             next_one = client(port)
             next_one.socket.sendall(b"*1\r\n$5\r\nBEGIN\r\n")
-            late.socket.close(), late.replies.close()
-            clients[0].ask("ABORT")
-            clients[0].socket.close(), clients[0].replies.close()
+            leave(late)
+            leave(clients[0])
             expect(next_one.replies.readline() == b"+OK\r\n", "who waited was not served when one left")
             expect(client(server.port).ask("PING") == b"PONG", "a client beside the proxy is not served")
             expect(len(clients) == 60 and server.descriptors() < 60 + 20, f"the server has {server.descriptors()} descriptors")
