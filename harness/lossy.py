@@ -36,8 +36,7 @@ LOSSY = os.path.join(client.HERE, "out", "lossy")
 CLIENTS, SHARED_KEYS, SECTORS, ROOM_LEFT, LIVES = 8, 120, 2_400, 900, 25
 STORE_FAULT, STORE_STOPPED, NONE_OPEN, FULL_LOG = (refusal(text) for text in ("STORE fault", "STORE stopped", "ERR none", "FULL log"))
 NOT_A_LOG, FILE_FAULT = b"ssikvd: not a log\n", b"ssikvd: file fault\n"
-KILLED = -9
-SIGHT_MAX = 100
+KILLED, SIGHT_MAX = -9, 100
 
 
 # The file system
@@ -416,23 +415,29 @@ class Maker:
         self.machine, self.disk, self.words, self.made, self.log, self.before = machine, machine.disk, words, made, log, before
 
     def left(self):
-        """What is left of the file: nothing, a file that is refused, or a whole log."""
+        """What is left of the file by its bytes: nothing, no log, or a whole one. No call of it settles anything."""
         if not self.disk.is_there(self.made):
             return "absent"
-        status, _, text = run(["check", "--data", self.disk.path(self.made)])
-        if status:
-            expect(status == 3 and text in (NOT_A_LOG, FILE_FAULT), f"it is refused by {status} {text!r}")
+        content = self.disk.read(self.made)
+        if len(content) < 2 * SECTOR or len(content) % SECTOR or content[:SECTOR] != HEAD:
             return "refused"
-        expect(log_of(self.disk.read(self.made)) == self.log, "a log is left that isn't whole")
+        expect(log_of(content) == self.log, "a log is left that isn't whole")
         return "whole"
+
+    def look(self):
+        """Behind a crash `check` says the same as the bytes."""
+        found = self.left()
+        status, _, text = run(["check", "--data", self.disk.path(self.made)])
+        expect((status == 0) == (found == "whole"), f"a file that is {found} is checked with {status} {text!r}")
+        expect(status == 0 or status == 3 and text in (NOT_A_LOG, FILE_FAULT), f"it is refused by {status} {text!r}")
+        return found
 
     def once(self, plan):
         """The command under a plan, or none, and then a crash."""
         self.disk.tell("wipe")
         if self.before:
             self.disk.write("F", self.before)
-        crashes = self.disk.crashes()
-        self.disk.tell("plan", *plan)
+        crashes = self.disk.tell("plan", *plan)[0]
         status, _, text = run(self.words)
         is_down, is_met = self.disk.crashes() > crashes, self.disk.is_met()
         self.disk.calm()
@@ -442,7 +447,7 @@ class Maker:
         else:
             self.look_at_end(status, text, is_met)
             self.machine.crash_at_once()
-        found = self.left()
+        found = self.look()
         expect(found == "whole" or status, f"it ended with 0; behind a crash its file is {found}")
         expect(not self.before or self.disk.read("F") == self.before, "the old file was changed")
         self.machine.count(found)
