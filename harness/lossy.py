@@ -53,7 +53,7 @@ class Disk:
         os.mkdir(self.place)
         self.process = subprocess.Popen([LOSSY, self.place], stdin=subprocess.PIPE, stdout=subprocess.PIPE, stderr=subprocess.PIPE, text=True)
         if not self.process.stdout.readline():
-            raise NoFuse(self.process.communicate()[1].strip())
+            raise NoFuse("; ".join(self.process.communicate()[1].split("\n")).strip("; "))
 
     def tell(self, *words):
         """A command. Answers how often it crashed, how many sectors the last crash found unsettled, and whether the plan was met."""
@@ -692,15 +692,15 @@ FAULTED_CALLS = (("name", 1), ("write", 9), ("write", 60), ("sync", 3), ("folder
 
 # The runs of each mode, and how many `quick` and `long` make. Those of none are played where they are named, a hundred times.
 MODES = {
-    "serve": (crashes_of_serve, 80, 2_000),
-    "create": (lambda machine: making(machine, creating, crash_plan, CREATED_CALLS), 30, 400),
-    "create faults": (lambda machine: making(machine, creating, fault_plan, FAULTED_CALLS), 30, 400),
-    "compact": (lambda machine: making(machine, compacting, crash_plan, COPIED_CALLS), 20, 300),
-    "compact faults": (lambda machine: making(machine, compacting, fault_plan, FAULTED_CALLS), 20, 300),
-    "faults": (faults_of_serve, 40, 600),
-    "stopped": (lambda machine: stops(machine, ("opened in place", "dd", "compact")), 12, 300),
+    "serve": (crashes_of_serve, 50, 2_000),
+    "create": (lambda machine: making(machine, creating, crash_plan, CREATED_CALLS), 20, 400),
+    "create faults": (lambda machine: making(machine, creating, fault_plan, FAULTED_CALLS), 20, 400),
+    "compact": (lambda machine: making(machine, compacting, crash_plan, COPIED_CALLS), 15, 300),
+    "compact faults": (lambda machine: making(machine, compacting, fault_plan, FAULTED_CALLS), 15, 300),
+    "faults": (faults_of_serve, 25, 600),
+    "stopped": (lambda machine: stops(machine, ("opened in place", "dd", "compact")), 9, 300),
     "stopped without copies": (lambda machine: stops(machine, ("opened in place",), False), 0, 0),
-    "swap": (lambda machine: swaps(machine, "opening"), 10, 100),
+    "swap": (lambda machine: swaps(machine, "opening"), 8, 100),
     "swap synced": (lambda machine: swaps(machine, "synced"), 0, 0),
 }
 
