@@ -360,7 +360,7 @@ class LostCommits(RecentStore):
     def _commit(self, session, fails):
         before = dict(self.contents)
         reply = super()._commit(session, fails)
-        if reply[:1] == b":" and len(self.records) % 40 == 39:
+        if reply[:1] == b":" and len(self.records) % 10 == 9:
             self.contents = before
         return reply
 
