@@ -1,4 +1,4 @@
-"""What nine libraries for RESP do where the reply to a COMMIT is lost, and how a refusal arrives: the table of docs/CLIENTS.md.
+"""What ten libraries for RESP do where the reply to a COMMIT is lost, and how a refusal arrives: the table of docs/CLIENTS.md.
 
 A proxy cuts the first connection after a COMMIT was answered and before its reply is passed on. It counts the COMMITs that come, and the
 commits that were made. Each library is tried as it is by default and with its resending switched off, request by request and with a
@@ -25,6 +25,7 @@ LIBRARIES = {    # the package, what builds the program, what runs it
     "phpredis": ("php-redis", "php -r 'exit((int) !extension_loaded(\"redis\"));'", "php phpredis.php"),
     "predis": ("php-predis", "php -r 'require \"Predis/autoload.php\";'", "php predis.php"),
     "redigo": ("golang-github-gomodule-redigo-dev", f"{GO} go build -o redigo redigo.go", "./redigo"),
+    "go-redis": ("golang-gopkg-redis.v5-dev", f"{GO} go build -o go_redis go_redis.go", "./go_redis"),
     "Redis.pm": ("libredis-perl", "perl -MRedis -e 1", "perl redis_pm.pl"),
     "lua-redis": ("lua-redis", "lua5.1 -e 'require \"redis\"'", "lua5.1 lua_redis.lua"),
     "node-redis": ("node-redis", "NODE_PATH=/usr/share/nodejs node -e 'require(\"redis\")'", "NODE_PATH=/usr/share/nodejs node node_redis.js"),

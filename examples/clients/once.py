@@ -23,7 +23,7 @@ def once(transact, name, work, tries=1_000):
     for turn in range(tries):
         try:
             return transact(unless_done)
-        except (Lost, ConnectionError):
+        except (Lost, ConnectionError, TimeoutError):
             time.sleep(random.uniform(0, 0.001 * 2 ** min(turn, 6)))
     raise Lost(f"{tries} connections, one after another")
 

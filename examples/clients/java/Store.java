@@ -39,7 +39,8 @@ final class Store implements AutoCloseable {
             channel.writeAndFlush(new ArrayRedisMessage(bulks));
             try {
                 RedisMessage reply = replies.poll(30, TimeUnit.SECONDS);
-                if (reply != null && reply != GONE) return value(reply);
+                if (reply == GONE) replies.add(GONE);    // for whoever asks next
+                else if (reply != null) return value(reply);
             } catch (InterruptedException interrupted) {
                 Thread.currentThread().interrupt();
             }
