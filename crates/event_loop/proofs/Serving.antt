@@ -1,11 +1,11 @@
 -- A hub that was opened, and has run since.
-use Rattle.std.proofs.Common.{List, [], ◌∷◌, ◌++◌, refl}
+use Rattle.std.proofs.Common.{[], ◌++◌, refl}
 use Rattle.std.proofs.Math.Logic.{∥∥₁_map}
 use Rattle.sector.specs.declared.device.Sectors.{Ghosts}
 use Rattle.model.specs.Machine.{opened}
 use Rattle.sessions.specs.declared.hub.Hub.{Hub}
 use Rattle.sessions.specs.Laws.{NoneRuns}
-use Rattle.sessions.specs.Lives.{IsOpened, IsServed, Served}
+use Rattle.sessions.specs.Lives.{IsOpened, IsServed}
 use Rattle.sessions.specs.SessionStreams.{hub_over}
 use Rattle.stream_driver.specs.Sessions.{Leads, Point, Stands}
 use Rattle.stream_driver.proofs.States.{Follow}

@@ -3,6 +3,7 @@ pub mod Drops
 pub mod Lingerings
 pub mod Loops
 pub mod Numbers
+pub mod Polls
 pub mod Tables
 pub mod Turns
 pub mod Waits

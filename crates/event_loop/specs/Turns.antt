@@ -71,12 +71,13 @@ accepts_now Failed events = true
 -- these accepts, are one run of the hub: lawful at each moment, with the device's failures counted, and what a crash leaves known.
 pub record IsTurn {D : Type 0} {g : Ghosts D} (tells : Bool) (traffic : Socket → Traffic) (old new : EventLoop D g) : Type 0 where
   pub driven : EventLoop D g
-  pub drives : DrivesReady tells traffic (items new.events) old.hub old.table.slots driven.hub driven.table.slots
+  pub drives : DrivesReady tells traffic (items new.poller.events) old.hub old.table.slots driven.hub driven.table.slots
   pub next_is : driven.next ≡ old.next
   pub port_is : driven.port ≡ old.port
-  pub accepts : Accepted (accepts_now old.backlog (items new.events)) driven new
+  pub backlog_is : driven.backlog ≡ old.backlog
+  pub accepts : Accepted (accepts_now old.backlog (items new.poller.events)) driven new
   pub run : Leads old.hub new.hub (λ h l. (k : Point) × DrivenAll tells (traffic_through traffic) h drives.ready k drives.driven
-      × Adds k (accepted_joins (accepts_now old.backlog (items new.events)) driven new accepts) l)
+      × Adds k (accepted_joins (accepts_now old.backlog (items new.poller.events)) driven new accepts) l)
 
 -- what a turn does to its hub is a run of the hub
 abbrev pub TurnsAreRuns : {D : Type 0} {g : Ghosts D} → Bool → (Socket → Traffic) → EventLoop D g → Type 0

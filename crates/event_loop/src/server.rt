@@ -10,10 +10,11 @@ use crate::connections::{
 };
 use crate::lingering::{LINGERING_MAX, Lingering};
 use crate::listener::Port;
+use crate::polling::Poller;
 use crate::socket::Socket;
 use crate::waiting::{longest_wait, shorter};
 use mio::net::TcpListener;
-use mio::{Events, Interest, Poll, Token};
+use mio::{Interest, Poll, Token};
 use sector::Sectors;
 use sessions::{Hub, SESSIONS_MAX};
 use slab::Slab;
@@ -30,8 +31,7 @@ const LISTENER: Token = Token(usize::MAX);
 #[derive(Drop)]
 pub struct EventLoop<D: Sectors> {
     alloc: Global,
-    poll: Poll,
-    events: Events,
+    poller: Poller,
     port: Port,
     backlog: Backlog,
     lingering: Lingering,
@@ -53,6 +53,7 @@ impl<D: Sectors> EventLoop<D> {
     ghost use Rattle.sessions.specs.SessionStreams.{HubState};
     ghost use Rattle.sessions.specs.StandsFor.{StandsFor};
     ghost use Rattle.event_loop.specs.Loops.{HasItsSessions, hub_of};
+    ghost use Rattle.event_loop.specs.Polls.{after_wait, polls_of};
     ghost use Rattle.event_loop.specs.Turns.{Accepted, DrivesReady, IsTurn, IsUntouched, TurnsAreRuns, accepts_now, is_told_of};
 
     /// Listens at an address for the sessions of a hub that was opened. Port 0 stands for one that the system picks.
@@ -73,12 +74,11 @@ impl<D: Sectors> EventLoop<D> {
         let mut listener = TcpListener::bind(rt, address)?;
         poll.registry()
             .register(&mut listener, LISTENER, Interest::READABLE)?;
-        let events = Events::with_capacity(alloc, SESSIONS_MAX + LINGERING_MAX + 1)?;
+        let poller = Poller::new(alloc, poll, SESSIONS_MAX + LINGERING_MAX + 1)?;
         let lingering = Lingering::new(alloc)?;
         Ok(EventLoop {
             alloc,
-            poll,
-            events,
+            poller,
             port: Port::new(listener),
             backlog: Backlog::Empty,
             lingering,
@@ -117,7 +117,7 @@ impl<D: Sectors> EventLoop<D> {
     /// linger since, or where an accept fails, which may be for want of descriptors. While some linger, a turn may wait no longer than the
     /// oldest may.
     ///
-    /// It answers a fault exactly where the poll failed; nothing else was done then. It may grow the table, and what the sessions'
+    /// It polls once, and answers a fault exactly where that failed; nothing else was done then. It may grow the table, and what the sessions'
     /// requests grow.
     ///
     /// The hub's events are those of the drives, each of its own session over its own stream, and then the joins of the accepts, and no
@@ -132,6 +132,7 @@ impl<D: Sectors> EventLoop<D> {
     pub fn turn<C: Clock>(&mut self, clock: &C, timeout: Option<Duration>) -> io::Result<()>
         ensures turned { OnOk result (IsTurn ⟦<Socket as Stream>⟧.tells ⟦<Socket as Stream>⟧.traffic self.old self.new) }
         ensures fault { OnErr result (IsUntouched self.old self.new) }
+        ensures polled { polls_of self.new.poller ≡ after_wait result (polls_of self.old.poller) }
         ensures sessions { HasItsSessions self.old × HasItsSessions self.new }
         ensures served { IsServed (hub_of self.old) × IsServed (hub_of self.new) }
     {
@@ -142,7 +143,7 @@ impl<D: Sectors> EventLoop<D> {
             any_ready(&self.table),
             shorter(patience, timeout),
         );
-        self.poll.poll(&mut self.events, wait)?;
+        self.poller.wait(wait)?;
         let now = Instant::now(clock).ok();
         self.drive(now);
         let comes_more = self.is_told(LINGERER);
@@ -162,11 +163,11 @@ impl<D: Sectors> EventLoop<D> {
     // Accepts connections. After an accept that failed, as for want of descriptors, none lingers.
     fn accept(&mut self)
         ensures accepts { Accepted true self.old self.new }
-        ensures events { self.new.events ≡ self.old.events }
+        ensures poller { self.new.poller ≡ self.old.poller }
     {
         self.backlog = accept_some(
             self.alloc,
-            &self.poll,
+            self.poller.poll(),
             &mut self.port,
             &mut self.hub,
             &mut self.next,
@@ -179,20 +180,25 @@ impl<D: Sectors> EventLoop<D> {
 
     // Drives the sessions that are ready, those that the last poll told of among them.
     fn drive(&mut self, now: Option<Instant>)
-        ensures drives { DrivesReady ⟦<Socket as Stream>⟧.tells ⟦<Socket as Stream>⟧.traffic (items self.old.events) self.old.hub self.old.table.slots self.new.hub self.new.table.slots }
-        ensures events { self.new.events ≡ self.old.events }
+        ensures drives { DrivesReady ⟦<Socket as Stream>⟧.tells ⟦<Socket as Stream>⟧.traffic (items self.old.poller.events) self.old.hub self.old.table.slots self.new.hub self.new.table.slots }
+        ensures poller { self.new.poller ≡ self.old.poller }
         ensures next { self.new.next ≡ self.old.next }
         ensures port { self.new.port ≡ self.old.port }
         ensures backlog { self.new.backlog ≡ self.old.backlog }
     {
-        make_polled_ready(&self.events, &mut self.table);
+        make_polled_ready(self.poller.events(), &mut self.table);
         drive_ready(&mut self.hub, &mut self.table);
-        end_drives(&self.poll, now, &mut self.table, &mut self.lingering);
+        end_drives(
+            self.poller.poll(),
+            now,
+            &mut self.table,
+            &mut self.lingering,
+        );
     }
 
     // May the listener hold more, or did the last poll tell of it?
     fn accepts_now(&self) -> bool
-        ensures { result ≡ accepts_now self.now.backlog (items self.now.events) }
+        ensures { result ≡ accepts_now self.now.backlog (items self.now.poller.events) }
     {
         match self.backlog {
             Backlog::Empty => self.is_told(LISTENER),
@@ -202,8 +208,11 @@ impl<D: Sectors> EventLoop<D> {
 
     // Did the last poll tell of this token?
     fn is_told(&self, token: Token) -> bool
-        ensures { result ≡ is_told_of token (items self.now.events) }
+        ensures { result ≡ is_told_of token (items self.now.poller.events) }
     {
-        self.events.iter().any(|event| event.token() == token)
+        self.poller
+            .events()
+            .iter()
+            .any(|event| event.token() == token)
     }
 }

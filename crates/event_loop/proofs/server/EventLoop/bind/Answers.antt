@@ -6,7 +6,7 @@ pub invariant_of-result : goal.invariant_of-result
 invariant_of-result g c = record {
   stands = opened_stands c.args.hub c.requires;
   served = opened_served c.args.hub c.requires c.runs_follow.ensures.none;
-  sessions = empty_sessions c.args.hub c.new-4.result.slots c.new-4.ensures.empty;
-  entries = nobody_entries c.args.hub c.new-4.result.slots (opened_nobody c.args.hub c.requires);
-  numbers = empty_numbers 0 c.new-4.result.slots c.new-4.ensures.empty;
+  sessions = empty_sessions c.args.hub c.new-5.result.slots c.new-5.ensures.empty;
+  entries = nobody_entries c.args.hub c.new-5.result.slots (opened_nobody c.args.hub c.requires);
+  numbers = empty_numbers 0 c.new-5.result.slots c.new-5.ensures.empty;
 }

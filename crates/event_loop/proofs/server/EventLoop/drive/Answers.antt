@@ -1,13 +1,15 @@
+use Rattle.std.proofs.Common.{ap, ◌∙◌}
 use Rattle.mio.specs.Events.{items}
 use Rattle.sessions.proofs.Runs.{ran_then}
 use Rattle.event_loop.specs.contracts.socket.SocketStream.TheImpl.{ghosts}
+use Rattle.event_loop.specs.Tables.{after_poll, slot_at}
 use Rattle.event_loop.proofs.Tables.{below_after, stands_after}
 use Rattle.event_loop.proofs.Entries.{driven_entries, ended_entries, ended_numbers, ended_sessions, polled_entries, polled_numbers, polled_sessions}
 use Rattle.event_loop.proofs.Serving.{served_after}
 use Rattle.event_loop.proofs.server.EventLoop.drive.Goals as goal
 
 pub drive_ready-requires : goal.drive_ready-requires
-drive_ready-requires g c = polled_sessions c.args.self.now.table.slots c.make_polled_ready.new.table.slots (items c.args.self.now.events) c.make_polled_ready.ensures c.args.self.now.hub c.args.self.now.sessions
+drive_ready-requires g c = polled_sessions c.args.self.now.table.slots c.make_polled_ready.new.table.slots (items c.events.result.now) c.make_polled_ready.ensures c.args.self.now.hub c.args.self.now.sessions
 
 pub invariant_of-self : goal.invariant_of-self
 invariant_of-self g c = record {
@@ -17,17 +19,17 @@ invariant_of-self g c = record {
   entries =
       ended_entries ghosts.tells ghosts.traffic c.drive_ready.new.table.slots c.end_drives.new.table.slots c.end_drives.ensures c.drive_ready.new.hub
       (driven_entries c.args.self.now.hub c.drive_ready.new.hub _ _ c.make_polled_ready.new.table.slots c.drive_ready.new.table.slots c.args.self.now.stands c.drive_ready.ensures.driven
-      (polled_entries c.args.self.now.table.slots c.make_polled_ready.new.table.slots (items c.args.self.now.events) c.make_polled_ready.ensures c.args.self.now.hub c.args.self.now.entries));
+      (polled_entries c.args.self.now.table.slots c.make_polled_ready.new.table.slots (items c.events.result.now) c.make_polled_ready.ensures c.args.self.now.hub c.args.self.now.entries));
   numbers =
       ended_numbers ghosts.tells ghosts.traffic c.drive_ready.new.table.slots c.end_drives.new.table.slots c.end_drives.ensures c.args.self.now.next
       (below_after c.args.self.now.next c.make_polled_ready.new.table.slots c.drive_ready.new.table.slots
-      (polled_numbers c.args.self.now.table.slots c.make_polled_ready.new.table.slots (items c.args.self.now.events) c.make_polled_ready.ensures c.args.self.now.next c.args.self.now.numbers) c.drive_ready.ensures.numbers);
+      (polled_numbers c.args.self.now.table.slots c.make_polled_ready.new.table.slots (items c.events.result.now) c.make_polled_ready.ensures c.args.self.now.next c.args.self.now.numbers) c.drive_ready.ensures.numbers);
 }
 
 pub returns-clause-drives : goal.returns-clause-drives
 returns-clause-drives g c = record {
   ready = c.make_polled_ready.new.table.slots;
-  told = c.make_polled_ready.ensures;
+  told = λ key. c.make_polled_ready.ensures key ∙ ap (λ events. after_poll (items events) key (slot_at c.args.self.now.table.slots key)) c.events.ensures;
   driven = c.drive_ready.new.table.slots;
   drives = c.drive_ready.ensures.driven;
   ended = c.end_drives.ensures;

@@ -1,5 +1,6 @@
 use Rattle.std.proofs.Common.{◌≡◌, ◌∙◌, refl, sym, ap, true, false}
 use Rattle.mio.specs.Events.{items}
+use Rattle.event_loop.specs.declared.polling.Poller.{Poller}
 use Rattle.event_loop.specs.contracts.socket.SocketStream.TheImpl.{ghosts}
 use Rattle.event_loop.specs.Turns.{accepts_now}
 use Rattle.stream_driver.proofs.Events.{adds_none}
@@ -9,19 +10,19 @@ use Rattle.event_loop.proofs.server.EventLoop.turn.Goals as goal
 
 pub returns-then-accepts_now-clause-turned : goal.returns-then-accepts_now-clause-turned
 returns-then-accepts_now-clause-turned g c =
-    let due : accepts_now c.args.self.now.backlog (items c.accept.new.self.events) ≡ true =
-    ap (λ events. accepts_now c.args.self.now.backlog (items events)) c.accept.ensures.events ∙ ap (λ backlog. accepts_now backlog (items c.drive.new.self.events)) (sym c.drive.ensures.backlog) ∙ sym c.accepts_now.ensures
+    let due : accepts_now c.args.self.now.backlog (items c.accept.new.self.poller.events) ≡ true =
+    ap (λ (p : Poller). accepts_now c.args.self.now.backlog (items p.events)) c.accept.ensures.poller ∙ ap (λ backlog. accepts_now backlog (items c.drive.new.self.poller.events)) (sym c.drive.ensures.backlog) ∙ sym c.accepts_now.ensures
     ∙ c.if-accepts_now.true
     in
-    turned_by ghosts.tells ghosts.traffic c.args.self.now c.drive.new.self c.accept.new.self c.drive.ensures.next c.drive.ensures.port _ (ap items (c.accept.ensures.events ∙ c.drive.ensures.events)) true due
+    turned_by ghosts.tells ghosts.traffic c.args.self.now c.drive.new.self c.accept.new.self c.drive.ensures.next c.drive.ensures.port c.drive.ensures.backlog _ (ap (λ (p : Poller). items p.events) (c.accept.ensures.poller ∙ c.drive.ensures.poller)) true due
     c.drive.ensures.drives c.accept.ensures.accepts
     (leads_then c.runs_follow.ensures.follow c.args.self.now.hub c.drive.new.self.hub c.accept.new.self.hub _ _ _ c.drive.ensures.drives.drives c.accept.ensures.accepts.became.1 (λ h k l last p q. (k, p, q)))
 
 pub returns-else-accepts_now-clause-turned : goal.returns-else-accepts_now-clause-turned
 returns-else-accepts_now-clause-turned g c =
-    let none : accepts_now c.args.self.now.backlog (items c.drive.new.self.events) ≡ false =
-    ap (λ backlog. accepts_now backlog (items c.drive.new.self.events)) (sym c.drive.ensures.backlog) ∙ sym c.accepts_now.ensures ∙ c.if-accepts_now.false
+    let none : accepts_now c.args.self.now.backlog (items c.drive.new.self.poller.events) ≡ false =
+    ap (λ backlog. accepts_now backlog (items c.drive.new.self.poller.events)) (sym c.drive.ensures.backlog) ∙ sym c.accepts_now.ensures ∙ c.if-accepts_now.false
     in
-    turned_by ghosts.tells ghosts.traffic c.args.self.now c.drive.new.self _ c.drive.ensures.next c.drive.ensures.port _ (ap items c.drive.ensures.events) false none
+    turned_by ghosts.tells ghosts.traffic c.args.self.now c.drive.new.self _ c.drive.ensures.next c.drive.ensures.port c.drive.ensures.backlog _ (ap (λ (p : Poller). items p.events) c.drive.ensures.poller) false none
     c.drive.ensures.drives (record { hub = refl; table = refl; next = refl; port = refl; backlog = refl })
     (leads_map c.args.self.now.hub c.drive.new.self.hub _ _ c.drive.ensures.drives.drives (λ h k last p. (k, p, adds_none k)))

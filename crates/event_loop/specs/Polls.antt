@@ -1,0 +1,17 @@
+-- How the calls of the system's poll came out.
+use Rattle.std.specs.Prelude.{ℕ, Result, Ok, Err}
+use Rattle.stream_driver.specs.Traffic.{one_more}
+use Rattle.event_loop.specs.declared.polling.Poller.{Poller}
+
+-- how often it told, be it of no event, and how often it failed
+pub record Polls : Type 0 where
+  pub told : ℕ
+  pub failed : ℕ
+
+abbrev pub polls_of : Poller → Polls
+polls_of poller = record { told = poller.told; failed = poller.failed }
+
+-- the counts after one call that answered so
+abbrev pub after_wait : {A E : Type 0} → Result A E → Polls → Polls
+after_wait (Ok told) polls = record polls { told = one_more polls.told }
+after_wait (Err fault) polls = record polls { failed = one_more polls.failed }
