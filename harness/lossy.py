@@ -435,6 +435,7 @@ class Maker:
     def once(self, plan):
         """The command under a plan, or none, and then a crash."""
         self.disk.tell("wipe")
+        self.disk.tell("copies", 0)
         if self.before:
             self.disk.write("F", self.before)
         crashes = self.disk.tell("plan", *plan)[0]
