@@ -19,6 +19,7 @@ The rows, and the figures of each. Times are by the clock of the client; those w
     rewrite    a store of N keys: a written key in commits of 64, and alone in its commit
     read       a store of N keys: GET, and RANGE with limit 100
     deleted    RANGE with limit 1 over N deleted keys, and with 64 own writes before them and limit 65
+    beside     RANGE with limit 1 over N keys deleted beside an old transaction, and that one's own over N keys that came after its begin
     old_commit the COMMIT of a transaction with 64 writes and 256 range marks after N commits of 64 other keys
     old_end    the COMMIT of a transaction that wrote nothing, after which the older versions of N keys are dropped
     read_only  N commits that only read, each with 256 marks over 1,000 keys, beside an open transaction: how much the server grows
@@ -337,6 +338,42 @@ def row_deleted(options, keys):
         return {"range_1_us": us(bare), "range_after_64_own_writes_us": us(covered), **work.cut()}
 
 
+def row_beside(options, keys):
+    rounds = -(-keys // COMMIT_WRITES)
+    last = b"~last"
+    with Store(options, keys, 2 * rounds + 2) as server:
+        old, client = Client(server.address), Client(server.address)
+        client.commit([last])
+        old.ask(BEGIN)
+        old.ask(frame(b"GET", last))
+
+        def some(key_of, number):
+            return map_keys(key_of, number * COMMIT_WRITES, min(COMMIT_WRITES, keys - number * COMMIT_WRITES))
+
+        def delete(number):
+            deleted = some(scattered, number)
+            client.ask_lines(BEGIN + b"".join(frame(b"DEL", key) for key in deleted) + COMMIT, 2 + len(deleted))
+            return 0.0
+
+        def range_us(session, start, end, wanted):
+            times = []
+            for _ in range(5):
+                begun = time.perf_counter()
+                pairs = session.ask(frame(b"RANGE", start, end, b"1"))
+                times.append(time.perf_counter() - begun)
+                if wanted is not None and pairs[::2] != wanted:
+                    raise Failure(f"a range beside an old transaction gave {pairs!r}")
+            return us(statistics.median(times))
+
+        deleting = Work(server, options, rounds).do(delete)
+        client.ask(BEGIN)
+        young = range_us(client, b"!", b"", None if deleting.cut() else [last])
+        client.ask(COMMIT)
+        coming = Work(server, options, rounds).do(lambda number: client.commit(some(before_all, number)))
+        own = range_us(old, b"!", b"0", [])
+        return {"range_1_beside_us": young, "own_range_1_us": own, **(deleting.cut() or coming.cut())}
+
+
 def row_old_commit(options, commits):
     keys, reads = 100_000, 50_000
     # The old transaction reads and writes the keys below the middle, the others write those above it.
@@ -450,7 +487,7 @@ def row_start(options, keys):
 # Each row, and whether its sizes are numbers of keys or of commits.
 ROWS = {
     "fill": (row_fill, True), "insert": (row_insert, True), "rewrite": (row_rewrite, True), "read": (row_read, True),
-    "deleted": (row_deleted, True), "old_commit": (row_old_commit, False), "old_end": (row_old_end, True),
+    "deleted": (row_deleted, True), "beside": (row_beside, True), "old_commit": (row_old_commit, False), "old_end": (row_old_end, True),
     "read_only": (row_read_only, False), "records": (row_records, False), "start": (row_start, True),
 }
 
