@@ -306,6 +306,8 @@ def behind_commits(calls, data, answered):
     for call in own_calls(calls, data):
         if not replies:
             break
+        if call.kind == SYNC_NAMES:
+            continue    # told anew from the call that was written down
         place = places[id(call)]
         if call.kind == SEND:
             if sent == 0 and replies[0][1]:
