@@ -1,5 +1,5 @@
 -- A number that was answered before a BEGIN is at most its begin number.
-use Rattle.std.proofs.Common.{◌≡◌, ℕ, suc, ◌^◌, ◌-◌, ◌+◌, ◌<◌, ◌≤◌, Bool, true, false, cond, List, [], ◌∷◌, ◌++◌, Option, Some, None, refl, sym, ap, subst, ◌∙◌, length, if◌then◌else◌, arith}
+use Rattle.std.proofs.Common.{◌≡◌, ℕ, suc, ◌^◌, ◌-◌, ◌+◌, ◌≤◌, Bool, true, false, cond, List, [], ◌∷◌, ◌++◌, Option, Some, None, sym, ap, subst, ◌∙◌, length, arith}
 use Rattle.std.specs.Prelude.{nat_lt, nat_le, ◌==◌}
 use Rattle.std.specs.Ordering.{eq_by_cmp, nat_cmp}
 use Rattle.std.proofs.lemmas.List.{length-append}
@@ -9,9 +9,8 @@ use Rattle.model.specs.Map.{KeyWrite}
 use Rattle.model.specs.Operations.{Operation, Response}
 use Rattle.model.specs.Operations.Operation.{Begin, Get, Set, Del, Range, Commit, Abort, Ping, Faulty}
 use Rattle.model.specs.Operations.Response.{Number, Refused}
-use Rattle.model.specs.History.{Record}
 use Rattle.model.specs.Verdict.{verdict}
-use Rattle.model.specs.Machine.{State, Running, Input, last, running_of, with_running, leave, record_to_commit, join_history, store, store_unless, body_sectors, commit, step_outside, step_inside, step_of, step, next, state_after}
+use Rattle.model.specs.Machine.{State, Running, Input, last, running_of, leave, record_to_commit, join_history, store, store_unless, body_sectors, commit, step_outside, step_inside, step_of, step, next, state_after}
 use Rattle.model.specs.Machine.Input.{Asks, Leaves}
 use Rattle.model.specs.Laws.{AnswersComeBefore}
 use Rattle.model.proofs.Steps.{running_of-with_running}
