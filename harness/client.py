@@ -22,6 +22,7 @@ NOTHING = 2 ** 32
 
 OUT_OF_MEMORY = b"ssikvd: out of memory\n"
 DEVICE_FAULT = b"ssikvd: device fault\n"
+FILE_FAULT = b"ssikvd: file fault\n"
 STORE_STOPPED = b"ssikvd: store stopped\n"
 
 

@@ -35,7 +35,7 @@ from model import (
 LOSSY = os.path.join(client.HERE, "out", "lossy")
 CLIENTS, SHARED_KEYS, SECTORS, ROOM_LEFT, LIVES = 8, 120, 2_400, 900, 25
 STORE_FAULT, STORE_STOPPED, NONE_OPEN, FULL_LOG = (refusal(text) for text in ("STORE fault", "STORE stopped", "ERR none", "FULL log"))
-NOT_A_LOG, FILE_FAULT = b"ssikvd: not a log\n", b"ssikvd: file fault\n"
+NOT_A_LOG = b"ssikvd: not a log\n"
 KILLED, SIGHT_MAX = -9, 100
 
 
@@ -429,7 +429,7 @@ class Maker:
         found = self.left()
         status, _, text = run(["check", "--data", self.disk.path(self.made)])
         expect((status == 0) == (found == "whole"), f"a file that is {found} is checked with {status} {text!r}")
-        expect(status == 0 or status == 3 and text in (NOT_A_LOG, FILE_FAULT), f"it is refused by {status} {text!r}")
+        expect(status == 0 or status == 3 and text in (NOT_A_LOG, client.FILE_FAULT), f"it is refused by {status} {text!r}")
         return found
 
     def once(self, plan):
@@ -455,11 +455,11 @@ class Maker:
 
     def look_at_end(self, status, text, is_met):
         """It ended by itself: what did it tell, and what has it left?"""
-        expect((status, text) in ((0, b""), (3, FILE_FAULT), (3, client.DEVICE_FAULT)), f"{status} {text!r}")
+        expect((status, text) in ((0, b""), (3, client.FILE_FAULT), (3, client.DEVICE_FAULT)), f"{status} {text!r}")
         expect(status == 0 or is_met, f"it failed by itself: {status} {text!r}")
         found = self.left()
         expect(found == "whole" or status, f"it ended with 0, and its file is {found}")
-        expect(found == "absent" or text != FILE_FAULT, f"it told a file fault, and left a file that is {found}")
+        expect(found == "absent" or text != client.FILE_FAULT, f"it told a file fault, and left a file that is {found}")
 
 
 def crash_plan(chance, calls):
@@ -515,7 +515,7 @@ class Faulty(Store):
                 expect(not self.was_met or is_soft(plan), f"it listens behind {plan}")
                 clients.end_server()
                 return
-        due = FILE_FAULT if plan[0] == "folder" else client.DEVICE_FAULT
+        due = client.FILE_FAULT if plan[0] == "folder" else client.DEVICE_FAULT
         expect(self.ended == (3, due) and not is_soft(plan), f"behind {plan} it ended with {self.ended}")
         self.machine.count("openings refused")
         self.finish(plan)

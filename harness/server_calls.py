@@ -18,7 +18,7 @@ import select
 from dataclasses import dataclass
 
 from client import (
-    ACCEPT, ALL, DEVICE, DEVICE_FAULT, MEMORY, NOTHING, OUT_OF_MEMORY, RECEIVE, SEND, STORE_STOPPED, Connection, Refusals, Server, Tally,
+    ACCEPT, ALL, DEVICE, DEVICE_FAULT, FILE_FAULT, MEMORY, NOTHING, OUT_OF_MEMORY, RECEIVE, SEND, STORE_STOPPED, Connection, Refusals, Server, Tally,
     check, create, expect, folder, is_long, need, run_harness)
 from model import PONG, Store, apply, frame, log_image
 from rows import ROWS, request_of
@@ -140,9 +140,9 @@ class Clients:
                 connection.close()
 
 
-def expect_ended(server, calls, failure):
-    """It ended before it listened, as memory and the device allow."""
-    text = {MEMORY: OUT_OF_MEMORY, DEVICE: DEVICE_FAULT}.get(failure.kind)
+def expect_ended(server, calls, failure, n):
+    """It ended before it listened, as memory and the device allow. The first call of the device is the sync of the file's directory."""
+    text = {MEMORY: OUT_OF_MEMORY, DEVICE: FILE_FAULT if n == 1 else DEVICE_FAULT}.get(failure.kind)
     ended = (server.status(), server.line, server.error_text())
     expect(calls.failed and ended == (3, b"", text), f"before listening it ended with {ended}")
 
@@ -174,7 +174,7 @@ def one_run(row, n, failure, counts):
         calls.fail(n, ALL if failure.is_lasting else n, failure.error)
         with Server(data, refusals.environment()) as server:
             if not server.is_listening():
-                expect_ended(server, calls, failure)
+                expect_ended(server, calls, failure, n)
                 counts.before += 1
                 return True
             clients = Clients(server, failure, calls)
