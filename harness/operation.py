@@ -17,73 +17,15 @@ import shutil
 import signal
 import stat
 import subprocess
-import sys
 import threading
 import time
-from importlib.machinery import SourceFileLoader
-from importlib.util import module_from_spec, spec_from_loader
 
 from client import (
     DEVICE, PATIENCE, PROGRAM, SHIM, Connection, Deviation, Refusals, Server, Tally, check, create, expect, folder, free_port, is_long, need,
     run_harness)
-from model import OK, SECTOR, Damaged, NotALog, apply, frame, log_image, read_log
-
-TOP = os.path.normpath(os.path.join(os.path.dirname(os.path.abspath(__file__)), ".."))
-DIST = os.path.join(TOP, "dist")
-sys.path.append(os.path.join(TOP, "examples", "clients"))
-sys.dont_write_bytecode = True
-
-import simple_client    # noqa: E402
-
-ENVIRONMENT = {**os.environ, "PATH": DIST + ":" + os.environ["PATH"], "SSIKVD": os.path.abspath(PROGRAM), "PYTHONDONTWRITEBYTECODE": "1"}
-SECTORS = 4_096
-
-
-def loaded(name):
-    """A tool as a module."""
-    loader = SourceFileLoader(name.replace("-", "_"), os.path.join(DIST, name))
-    module = module_from_spec(spec_from_loader(loader.name, loader))
-    loader.exec_module(module)
-    return module
-
-
-def tool(*words, environment=ENVIRONMENT, seconds=PATIENCE):
-    """Runs a tool: its status, what it printed, and what it said on standard error."""
-    ran = subprocess.run(words, capture_output=True, text=True, env=environment, timeout=seconds, stdin=subprocess.DEVNULL)
-    return ran.returncode, ran.stdout, ran.stderr
-
-
-def missing(what, needed):
-    print(f"  {what}: not run, for want of {needed}", flush=True)
-
-
-def log_of(name):
-    """The write sets of a data file."""
-    with open(name, "rb") as file:
-        image = file.read()
-    return read_log(lambda at: image[SECTOR * at:SECTOR * (at + 1)], len(image) // SECTOR)[0]
-
-
-def map_of(log):
-    found = {}
-    for writes in log:
-        apply(found, writes)
-    return found
-
-
-def commit(port, number):
-    """A transaction that overwrites one key, and writes another."""
-    store = simple_client.Client(port)
-    store.transact(lambda store: (store.ask("SET", "last", number), store.ask("SET", b"%06d" % (number % 40), b"v" * (number * 97 % 1_500))))
-    store.socket.close()
-
-
-def fill(data, count, sectors=SECTORS):
-    """A data file with so many commits."""
-    create(data, sectors)
-    with Server(data) as server:
-        for number in range(count):
-            commit(server.port, number)
+from model import SECTOR, Damaged, NotALog, apply, frame, read_log
+from operation_tools import DIST, ENVIRONMENT, SECTORS, commit, fill, loaded, log_of, map_of, missing, promtool, simple_client, tool
+from operation_units import rules, scripts, texts, units
 
 
 # The probe
@@ -213,10 +155,6 @@ def fills(tally):
             expect(found == (2, "", f"{data}: damaged record 0\n"), f"it printed {found}")
             expect(tool("ssikvd-used", "--metrics", text, data)[0] == 2, "it ended with 0")
             expect(f'ssikvd_log_damaged{{data="{data}"}} 1\n' in open(text, encoding="utf-8").read(), "the metrics do not tell the damage")
-
-
-def promtool():
-    return os.environ.get("PROMTOOL") or shutil.which("promtool")
 
 
 def judge_metrics(text):
@@ -789,128 +727,6 @@ def process_1(tally):
             expect(ends_as_process_1(data, "tini", "--"), "SIGTERM to tini does not end the server")
         else:
             missing("a server below tini", "tini")
-
-
-# Units, rules, texts
-
-def operations():
-    with open(os.path.join(TOP, "docs", "OPERATIONS.md"), encoding="utf-8") as file:
-        return file.read()
-
-
-def units(tally):
-    """The units, with the programs of this copy, as `systemd-analyze` reads them."""
-    if not shutil.which("systemd-analyze"):
-        missing("the units", "systemd-analyze")
-        return
-    with folder() as place:
-        for name in sorted(os.listdir(DIST)):
-            if name.endswith((".service", ".timer")):
-                with open(os.path.join(DIST, name), encoding="utf-8") as file:
-                    text = re.sub(r"(?m)^(Exec\w+=-?)(ssikvd-)", rf"\1{DIST}/\2", file.read())
-                with open(os.path.join(place, name), "w", encoding="utf-8") as file:
-                    file.write(text)
-        for name in sorted(os.listdir(place)):
-            with tally.run(f"the unit {name}"):
-                judge_unit(os.path.join(place, name))
-        with tally.run("a unit with a wrong line is reported"):
-            wrong = os.path.join(place, "wrong@.service")
-            with open(os.path.join(place, "ssikvd@.service"), encoding="utf-8") as file:
-                text = file.read().replace("ProtectHome=yes", "ProtectHouse=yes")
-            with open(wrong, "w", encoding="utf-8") as file:
-                file.write(text)
-            try:
-                judge_unit(wrong)
-                expect(False, "it was not reported")
-            except Deviation as found:
-                expect("ProtectHouse" in str(found), str(found))
-        with tally.run("the score of the unit"):
-            judge_score(os.path.join(place, "ssikvd@.service"))
-
-
-def judge_unit(unit):
-    ran = subprocess.run(["systemd-analyze", "--man=no", "verify", unit], capture_output=True, text=True, timeout=PATIENCE)
-    name = os.path.basename(unit).split("@")[0]
-    said = [line for line in (ran.stdout + ran.stderr).splitlines() if name in line]
-    expect(not said, f"systemd-analyze says {said}")
-
-
-def judge_score(unit):
-    version = re.search(r"systemd (\d+)", tool("systemd-analyze", "--version")[1])[1]
-    said = re.search(r"exposure level of ([\d.]+) of 10 \(by systemd (\d+)\)", operations().replace("\n", " "))
-    expect(said, "docs/OPERATIONS.md names no score")
-    found = re.search(r"exposure level for \S+: ([\d.]+)", tool("systemd-analyze", "security", "--offline=true", unit)[1])
-    if said[2] != version:
-        missing("the unit's score", f"systemd {said[2]}, here is {version}")
-    else:
-        expect(found and found[1] == said[1], f"the score is {found and found[1]}, docs/OPERATIONS.md says {said[1]}")
-
-
-# For each alert: a series, its values each minute where it fires after an hour, and where it doesn't.
-FIRES = {
-    "SsikvdLogAlmostFull": ("ssikvd_log_sectors_used", "950x60", "890x60"),
-    "SsikvdLogFullSoon": ("ssikvd_log_seconds_to_full", "3500x60", "3700x60"),
-    "SsikvdLogDamaged": ("ssikvd_log_damaged", "1x60", "0x60"),
-    "SsikvdLogNotRead": ("ssikvd_log_read_time_seconds", "2900x60", "3100x60"),
-    "SsikvdDown": ('node_systemd_unit_state{name="ssikvd@shop.service", state="active"}', "0x60", "1x60"),
-    "SsikvdNoTransactions": ("ssikvd_probe_status", "2x60", "1x60"),
-}
-
-
-def judge_alert(name, series, values, is_on):
-    """Does the alert fire over this series, beside a log of 1,000 sectors?"""
-    inputs = [(series, values), *([("ssikvd_log_sectors", "1000x60")] if "sectors_used" in series else [])]
-    test = f"rule_files: [{DIST}/alerts.yml]\ntests:\n  - interval: 1m\n    input_series:\n"
-    test += "".join(f"      - {{series: '{one}', values: '{given}'}}\n" for one, given in inputs)
-    test += f"    promql_expr_test:\n      - expr: 'count(ALERTS{{alertname=\"{name}\", alertstate=\"firing\"}}) or vector(0)'\n"
-    test += f"        eval_time: 1h\n        exp_samples: [{{labels: '{{}}', value: {int(is_on)}}}]\n"
-    with folder() as place:
-        with open(os.path.join(place, "test.yml"), "w", encoding="utf-8") as file:
-            file.write(test)
-        found = tool(promtool(), "test", "rules", os.path.join(place, "test.yml"))
-    expect(found[0] == 0, f"promtool says {found[1]}{found[2]}")
-
-
-def rules(tally):
-    if not promtool():
-        missing("`promtool check rules`", "promtool (Debian's prometheus)")
-        return
-    with tally.run("the alert rules"):
-        found = tool(promtool(), "check", "rules", os.path.join(DIST, "alerts.yml"))
-        expect(found[0] == 0, f"promtool says {found}")
-    for name, series in FIRES.items():
-        for is_on in (True, False):
-            with tally.run(f"the alert {name} {'fires' if is_on else 'does not fire'}"):
-                judge_alert(name, series[0], series[1 if is_on else 2], is_on)
-    with tally.run("the metrics of the rules"):
-        with open(os.path.join(DIST, "alerts.yml"), encoding="utf-8") as file:
-            named = set(re.findall(r"ssikvd_[a-z]+_\w+", file.read()))
-        due = {f"ssikvd_log_{name}" for name in loaded("ssikvd-used").HELP} | {"ssikvd_probe_status"}
-        expect(named <= due, f"the rules name {sorted(named - due)}")
-
-
-def scripts(tally):
-    if not shutil.which("shellcheck"):
-        missing("shellcheck", "shellcheck")
-        return
-    for name in ("ssikvd-before", "ssikvd-compact"):
-        with tally.run(f"shellcheck of {name}"):
-            found = tool("shellcheck", os.path.join(DIST, name))
-            expect(found[0] == 0, found[1])
-
-
-def texts(tally):
-    """Each line that the program writes to standard error by itself stands in the runbook."""
-    sources = os.path.join(TOP, "crates", "commands", "src")
-    with tally.run("the runbook"):
-        found = set()
-        for name in os.listdir(sources):
-            with open(os.path.join(sources, name), encoding="utf-8") as file:
-                found |= set(re.findall(r'"((?:ssikvd: |line \{number\}: )[^"\\]*)', file.read()))
-        expect(len(found) > 10, f"only {len(found)} texts were found")
-        told = operations()
-        lost = [text for text in found if f"`{text.replace('{index}', 'N').replace('{number}', 'N')}`" not in told]
-        expect(not lost, f"docs/OPERATIONS.md does not say what {sorted(lost)} mean")
 
 
 def main():

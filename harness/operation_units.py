@@ -1,0 +1,122 @@
+"""The units of dist/ as `systemd-analyze` reads them, its alert rules as `promtool` does, its scripts, and the runbook of docs/OPERATIONS.md."""
+import os
+import re
+import shutil
+import subprocess
+
+from client import PATIENCE, Deviation, expect, folder
+from operation_tools import DIST, TOP, loaded, missing, operations, promtool, tool
+
+def units(tally):
+    """The units, with the programs of this copy, as `systemd-analyze` reads them."""
+    if not shutil.which("systemd-analyze"):
+        missing("the units", "systemd-analyze")
+        return
+    with folder() as place:
+        for name in sorted(os.listdir(DIST)):
+            if name.endswith((".service", ".timer")):
+                with open(os.path.join(DIST, name), encoding="utf-8") as file:
+                    text = re.sub(r"(?m)^(Exec\w+=-?)(ssikvd-)", rf"\1{DIST}/\2", file.read())
+                with open(os.path.join(place, name), "w", encoding="utf-8") as file:
+                    file.write(text)
+        for name in sorted(os.listdir(place)):
+            with tally.run(f"the unit {name}"):
+                judge_unit(os.path.join(place, name))
+        with tally.run("a unit with a wrong line is reported"):
+            wrong = os.path.join(place, "wrong@.service")
+            with open(os.path.join(place, "ssikvd@.service"), encoding="utf-8") as file:
+                text = file.read().replace("ProtectHome=yes", "ProtectHouse=yes")
+            with open(wrong, "w", encoding="utf-8") as file:
+                file.write(text)
+            try:
+                judge_unit(wrong)
+                expect(False, "it was not reported")
+            except Deviation as found:
+                expect("ProtectHouse" in str(found), str(found))
+        with tally.run("the score of the unit"):
+            judge_score(os.path.join(place, "ssikvd@.service"))
+
+
+def judge_unit(unit):
+    ran = subprocess.run(["systemd-analyze", "--man=no", "verify", unit], capture_output=True, text=True, timeout=PATIENCE)
+    name = os.path.basename(unit).split("@")[0]
+    said = [line for line in (ran.stdout + ran.stderr).splitlines() if name in line]
+    expect(not said, f"systemd-analyze says {said}")
+
+
+def judge_score(unit):
+    version = re.search(r"systemd (\d+)", tool("systemd-analyze", "--version")[1])[1]
+    said = re.search(r"exposure level of ([\d.]+) of 10 \(by systemd (\d+)\)", operations().replace("\n", " "))
+    expect(said, "docs/OPERATIONS.md names no score")
+    found = re.search(r"exposure level for \S+: ([\d.]+)", tool("systemd-analyze", "security", "--offline=true", unit)[1])
+    if said[2] != version:
+        missing("the unit's score", f"systemd {said[2]}, here is {version}")
+    else:
+        expect(found and found[1] == said[1], f"the score is {found and found[1]}, docs/OPERATIONS.md says {said[1]}")
+
+
+# For each alert: a series, its values each minute where it fires after an hour, and where it doesn't.
+FIRES = {
+    "SsikvdLogAlmostFull": ("ssikvd_log_sectors_used", "950x60", "890x60"),
+    "SsikvdLogFullSoon": ("ssikvd_log_seconds_to_full", "3500x60", "3700x60"),
+    "SsikvdLogDamaged": ("ssikvd_log_damaged", "1x60", "0x60"),
+    "SsikvdLogNotRead": ("ssikvd_log_read_time_seconds", "2900x60", "3100x60"),
+    "SsikvdDown": ('node_systemd_unit_state{name="ssikvd@shop.service", state="active"}', "0x60", "1x60"),
+    "SsikvdNoTransactions": ("ssikvd_probe_status", "2x60", "1x60"),
+}
+
+
+def judge_alert(name, series, values, is_on):
+    """Does the alert fire over this series, beside a log of 1,000 sectors?"""
+    inputs = [(series, values), *([("ssikvd_log_sectors", "1000x60")] if "sectors_used" in series else [])]
+    test = f"rule_files: [{DIST}/alerts.yml]\ntests:\n  - interval: 1m\n    input_series:\n"
+    test += "".join(f"      - {{series: '{one}', values: '{given}'}}\n" for one, given in inputs)
+    test += f"    promql_expr_test:\n      - expr: 'count(ALERTS{{alertname=\"{name}\", alertstate=\"firing\"}}) or vector(0)'\n"
+    test += f"        eval_time: 1h\n        exp_samples: [{{labels: '{{}}', value: {int(is_on)}}}]\n"
+    with folder() as place:
+        with open(os.path.join(place, "test.yml"), "w", encoding="utf-8") as file:
+            file.write(test)
+        found = tool(promtool(), "test", "rules", os.path.join(place, "test.yml"))
+    expect(found[0] == 0, f"promtool says {found[1]}{found[2]}")
+
+
+def rules(tally):
+    if not promtool():
+        missing("`promtool check rules`", "promtool (Debian's prometheus)")
+        return
+    with tally.run("the alert rules"):
+        found = tool(promtool(), "check", "rules", os.path.join(DIST, "alerts.yml"))
+        expect(found[0] == 0, f"promtool says {found}")
+    for name, series in FIRES.items():
+        for is_on in (True, False):
+            with tally.run(f"the alert {name} {'fires' if is_on else 'does not fire'}"):
+                judge_alert(name, series[0], series[1 if is_on else 2], is_on)
+    with tally.run("the metrics of the rules"):
+        with open(os.path.join(DIST, "alerts.yml"), encoding="utf-8") as file:
+            named = set(re.findall(r"ssikvd_[a-z]+_\w+", file.read()))
+        due = {f"ssikvd_log_{name}" for name in loaded("ssikvd-used").HELP} | {"ssikvd_probe_status"}
+        expect(named <= due, f"the rules name {sorted(named - due)}")
+
+
+def scripts(tally):
+    if not shutil.which("shellcheck"):
+        missing("shellcheck", "shellcheck")
+        return
+    for name in ("ssikvd-before", "ssikvd-compact"):
+        with tally.run(f"shellcheck of {name}"):
+            found = tool("shellcheck", os.path.join(DIST, name))
+            expect(found[0] == 0, found[1])
+
+
+def texts(tally):
+    """Each line that the program writes to standard error by itself stands in the runbook."""
+    sources = os.path.join(TOP, "crates", "commands", "src")
+    with tally.run("the runbook"):
+        found = set()
+        for name in os.listdir(sources):
+            with open(os.path.join(sources, name), encoding="utf-8") as file:
+                found |= set(re.findall(r'"((?:ssikvd: |line \{number\}: )[^"\\]*)', file.read()))
+        expect(len(found) > 10, f"only {len(found)} texts were found")
+        told = operations()
+        lost = [text for text in found if f"`{text.replace('{index}', 'N').replace('{number}', 'N')}`" not in told]
+        expect(not lost, f"docs/OPERATIONS.md does not say what {sorted(lost)} mean")
