@@ -115,7 +115,7 @@ module _ {T : Type 0} where
   pub empty_numbers : (next : ℕ) (slots : List (Option (Entry T))) → slots ≡ [] → AreBelow next slots
   empty_numbers next slots is = λ key entry e. absurd (no_entry slots is key entry e)
 
-  module _ (tells : Bool) (traffic : T → Traffic) (s : ℕ) where
+  module _ (tells : Type 0) (traffic : T → Traffic) (s : ℕ) where
     last_reached : (earlier : Point) (old : Entry T) (later : Point) (new : Entry T) (d : DrivenOnce tells traffic earlier old later new) → IsReachedHub earlier.hub → IsReachedHub d.drove.last.hub
     last_reached earlier old later new d reached =
         let runs = d.drove.carried.runs in subst (λ h. IsReachedHub h) (sym runs.adds.run_is) (reached-run earlier.hub runs.events runs.possible reached)
@@ -160,7 +160,7 @@ module _ {T : Type 0} where
         (λ none. slot_absent earlier slot mid first d reached (λ entry e. w zero entry e) (λ head. before (without-cons s slot slots head none)))
 
   module _ {D : Type 0} {g : Ghosts D} (hub later : Hub D g) where
-    pub driven_entries : (tells : Bool) (traffic : T → Traffic) (slots new : List (Option (Entry T))) → Stands hub → Leads hub later (λ h k. DrivenAll tells traffic h slots k new) → HaveEntries hub slots → HaveEntries later new
+    pub driven_entries : (tells : Type 0) (traffic : T → Traffic) (slots new : List (Option (Entry T))) → Stands hub → Leads hub later (λ h k. DrivenAll tells traffic h slots k new) → HaveEntries hub slots → HaveEntries later new
     driven_entries tells traffic slots new some leads has = λ k stands s without.
         absent_in_each later s
         (∥∥₁_map some (λ w. (
@@ -245,7 +245,7 @@ module _ {T : Type 0} where
   over_gone entry Ready is e = absurd (let bad : false ≡ true = e in cc)
   over_gone entry EntryGone is e = is
 
-  module _ (tells : Bool) (traffic : T → Traffic) (old new : List (Option (Entry (BufferedStream T)))) (ended : (key : ℕ) → EndsTurn tells traffic (slot_at old key) (slot_at new key)) where
+  module _ (tells : Type 0) (traffic : T → Traffic) (old new : List (Option (Entry (BufferedStream T)))) (ended : (key : ℕ) → EndsTurn tells traffic (slot_at old key) (slot_at new key)) where
     ended_back : (slot after : Option (Entry (BufferedStream T))) (entry : Entry (BufferedStream T)) → EndsTurn tells traffic slot after → after ≡ Some entry → Before slot entry
     ended_back None after entry none e = absurd (let bad : None ≡ Some entry = sym none ∙ e in cc)
     ended_back (Some was) after entry (mid, ends, is) e = over_back (is_over mid) was mid entry ends.session ends.state (sym is ∙ e)

@@ -27,7 +27,7 @@ use Rattle.event_loop.specs.Tables.{ComeEach, EndsTurn, after_poll, joins_of, sl
 -- The drives of a turn in which the poll told of these events. The entries that waited and that it told of became ready. Each that is
 -- ready was driven once, by rising key, and no other event came to the hub. What their streams hold was written, and those that are
 -- over were taken out.
-pub record DrivesReady {T D : Type 0} {g : Ghosts D} (tells : Bool) (traffic : T → Traffic) (events : List Event) (hub : Hub D g) (slots : List (Option (Entry (BufferedStream T)))) (later : Hub D g) (new : List (Option (Entry (BufferedStream T)))) : Type 0 where
+pub record DrivesReady {T D : Type 0} {g : Ghosts D} (tells : Type 0) (traffic : T → Traffic) (events : List Event) (hub : Hub D g) (slots : List (Option (Entry (BufferedStream T)))) (later : Hub D g) (new : List (Option (Entry (BufferedStream T)))) : Type 0 where
   pub ready : List (Option (Entry (BufferedStream T)))
   pub told : (key : ℕ) → slot_at ready key ≡ after_poll events key (slot_at slots key)
   pub driven : List (Option (Entry (BufferedStream T)))
@@ -69,7 +69,7 @@ accepts_now Failed events = true
 
 -- One turn: the drives, by the events that the poll told of, and then the accepts. The events of these drives, followed by the joins of
 -- these accepts, are one run of the hub: lawful at each moment, with the device's failures counted, and what a crash leaves known.
-pub record IsTurn {D : Type 0} {g : Ghosts D} (tells : Bool) (traffic : Socket → Traffic) (old new : EventLoop D g) : Type 0 where
+pub record IsTurn {D : Type 0} {g : Ghosts D} (tells : Type 0) (traffic : Socket → Traffic) (old new : EventLoop D g) : Type 0 where
   pub driven : EventLoop D g
   pub drives : DrivesReady tells traffic (items new.poller.events) old.hub old.table.slots driven.hub driven.table.slots
   pub next_is : driven.next ≡ old.next
@@ -80,5 +80,5 @@ pub record IsTurn {D : Type 0} {g : Ghosts D} (tells : Bool) (traffic : Socket �
       × Adds k (accepted_joins (accepts_now old.backlog (items new.poller.events)) driven new accepts) l)
 
 -- what a turn does to its hub is a run of the hub
-abbrev pub TurnsAreRuns : {D : Type 0} {g : Ghosts D} → Bool → (Socket → Traffic) → EventLoop D g → Type 0
+abbrev pub TurnsAreRuns : {D : Type 0} {g : Ghosts D} → Type 0 → (Socket → Traffic) → EventLoop D g → Type 0
 TurnsAreRuns {D} {g} tells traffic events = (old new : EventLoop D g) → IsTurn tells traffic old new → HasRun old.hub new.hub

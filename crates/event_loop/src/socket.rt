@@ -47,9 +47,9 @@ impl Socket {
 }
 
 impl Stream for Socket {
-    ghost use Rattle.std.specs.Prelude.{[], false};
+    ghost use Rattle.std.specs.Prelude.{[]};
 
-    ghost tells = { false };
+    ghost tells = { ⊥ };
 
     ghost traffic = { λ s. record {
       given = [];
