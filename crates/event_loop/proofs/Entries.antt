@@ -87,11 +87,11 @@ readied_gone Idle e = absurd (let bad : Ready ≡ EntryGone = e in cc)
 readied_gone Ready e = e
 readied_gone EntryGone e = refl
 
-gone_readied : (state : EntryState) → state ≡ EntryGone → readied state ≡ EntryGone
+pub gone_readied : (state : EntryState) → state ≡ EntryGone → readied state ≡ EntryGone
 gone_readied state e = ap readied e
 
 module _ {T : Type 0} where
-  some_inj : {a b : Entry T} → Some a ≡ Some b → a ≡ b
+  pub some_inj : {a b : Entry T} → Some a ≡ Some b → a ≡ b
   some_inj {a} e = ap (λ (o : Option (Entry T)). unwrap_or o a) e
 
   none_past : (slots : List (Option (Entry T))) (key : ℕ) → length slots ≤ key → get_or slots key None ≡ None
@@ -106,7 +106,7 @@ module _ {T : Type 0} where
   without-cons s slot slots head rest (suc key) entry e same = rest key entry e same
 
   -- a table with no entry
-  no_entry : (slots : List (Option (Entry T))) → slots ≡ [] → (key : ℕ) (entry : Entry T) → slot_at slots key ≡ Some entry → ⊥
+  pub no_entry : (slots : List (Option (Entry T))) → slots ≡ [] → (key : ℕ) (entry : Entry T) → slot_at slots key ≡ Some entry → ⊥
   no_entry slots is key entry e = let le : length slots ≤ key = rw is (omega arith) in let bad : None ≡ Some entry = sym (none_past slots key le) ∙ e in cc
 
   pub empty_sessions : {D : Type 0} {g : Ghosts D} (hub : Hub D g) (slots : List (Option (Entry T))) → slots ≡ [] → HaveSessions hub slots

@@ -22,6 +22,7 @@ use Rattle.event_loop.specs.declared.listener.Port.{Port}
 use Rattle.event_loop.specs.declared.connections.Backlog.{Backlog}
 use Rattle.event_loop.specs.declared.connections.Backlog.TheVariants.{Empty, Full, Failed}
 use Rattle.event_loop.specs.Accepts.{Accepts, TurnAccepts}
+use Rattle.event_loop.specs.Sockets.{IsNewSocket}
 use Rattle.event_loop.specs.Tables.{ComeEach, EndsTurn, after_poll, joins_of, slot_at}
 
 -- The drives of a turn in which the poll told of these events. The entries that waited and that it told of became ready. Each that is
@@ -49,7 +50,7 @@ pub record IsUntouched {D : Type 0} {g : Ghosts D} (old new : EventLoop D g) : T
 -- where a turn accepts, each connection that it took was let in or turned away, and no other event came to the hub
 abbrev pub Accepted : {D : Type 0} {g : Ghosts D} → Bool → EventLoop D g → EventLoop D g → Type 0
 Accepted true old new =
-    TurnAccepts (λ n. ComeEach old.hub old.next old.table.slots n new.hub new.next new.table.slots) (answers_of old.port) new.backlog (answers_of new.port)
+    TurnAccepts (λ n. ComeEach IsNewSocket old.hub old.next old.table.slots n new.hub new.next new.table.slots) (answers_of old.port) new.backlog (answers_of new.port)
 Accepted false old new = IsUntouched old new
 
 -- what happened to the hub as it accepted
