@@ -331,17 +331,21 @@ def layers(tally):
 
 
 def sealed(tally):
-    """The lemmas that would refute the premise on files are cited where a call is made of a file, and nowhere else."""
-    with tally.run("the lemmas of HappenedCalls"):
-        users = [line for line in text_of("crates.txt").splitlines() if re.search(r":.*\bfile_calls\b", line)]
-        expect(users == ["sector: thiserror file_calls"], f"file_calls stands in {users}")
-        found = set()
-        for path in subprocess.check_output(["git", "-C", TOP, "ls-files", "crates"], text=True).split():
-            if path.endswith((".antt", ".rt")) and re.search(r"\breal_(read|write|sync)\b", text_of(path)):
-                found.add(path)
-        own = "crates/file_calls/"
-        due = {f"{own}specs/HappenedCalls.antt", *(f"{own}proofs/counted/CountedFile/{name}/Answers.antt" for name in ("read", "write", "sync"))}
-        expect(found == due, f"they are named in {sorted(found)}")
+    """The lemmas that would refute the premises on files and sockets are cited where a call is made of one, and nowhere else."""
+    for crate, user, kind, lemmas, calls in (
+        ("file_calls", "sector", "CountedFile", "read|write|sync", ("read", "write", "sync")),
+        ("socket_calls", "event_loop", "CountedSocket", "receive|send", ("read", "write")),
+    ):
+        with tally.run(f"the lemmas of HappenedCalls in {crate}"):
+            users = [line.partition(":")[0] for line in text_of("crates.txt").splitlines() if re.search(rf":.*\b{crate}\b", line)]
+            expect(users == [user], f"{crate} stands in {users}")
+            found = set()
+            for path in subprocess.check_output(["git", "-C", TOP, "ls-files", "crates"], text=True).split():
+                if path.endswith((".antt", ".rt")) and re.search(rf"\breal_({lemmas})\b", text_of(path)):
+                    found.add(path)
+            own = f"crates/{crate}/"
+            due = {f"{own}specs/HappenedCalls.antt", *(f"{own}proofs/counted/{kind}/{name}/Answers.antt" for name in calls)}
+            expect(found == due, f"they are named in {sorted(found)}")
 
 
 def main():

@@ -22,7 +22,7 @@ module _ {T D : Type 0} {g : Ghosts D} (hub later : Hub D g) (next then : ℕ) (
   abbrev slab_of : List (Option (Entry T)) → Slab (Entry T)
   slab_of l = record { slots = l; vacant_key = 0; capacity = 0 }
 
-  module _ (l : LetsIn hub next slots later then new) where
+  module _ (IsNew : T → Type 0) (l : LetsIn IsNew hub next slots later then new) where
     in_leads : HubLeads hub later (Joins l.entry.session) Done
     in_leads = subst (λ s. HubLeads hub later (Joins s) Done) (sym l.session) l.joined
 
@@ -72,18 +72,18 @@ module _ {T D : Type 0} {g : Ghosts D} (hub later : Hub D g) (next then : ℕ) (
     away_stands : Stands hub → Stands later
     away_stands some = elim a.hub_is [ inl same ↦ subst (λ h. Stands h) (sym same) some | inr j ↦ joined_stands hub later next j.0 j.2 some ]
 
-  module _ (admits : Admits hub next slots later then new) where
+  module _ (IsNew : T → Type 0) (admits : Admits IsNew hub next slots later then new) where
     pub admits_stands : Stands hub → Stands later
     admits_stands some = elim admits [ inl a ↦ away_stands a some | inr l ↦ joined_stands hub later next Done l.joined some ]
 
     pub admits_sessions : Stands hub → AreBelow next slots → HaveSessions hub slots → HaveSessions later new
-    admits_sessions some numbers has = elim admits [ inl a ↦ away_sessions a numbers has | inr l ↦ in_sessions l some numbers has ]
+    admits_sessions some numbers has = elim admits [ inl a ↦ away_sessions a numbers has | inr l ↦ in_sessions IsNew l some numbers has ]
 
     pub admits_numbers : AreBelow next slots → AreBelow then new
-    admits_numbers numbers = elim admits [ inl a ↦ away_numbers a numbers | inr l ↦ in_numbers l numbers ]
+    admits_numbers numbers = elim admits [ inl a ↦ away_numbers a numbers | inr l ↦ in_numbers IsNew l numbers ]
 
     pub admits_entries : Stands hub → HaveEntries hub slots → HaveEntries later new
-    admits_entries some has = elim admits [ inl a ↦ away_entries a some has | inr l ↦ in_entries l some has ]
+    admits_entries some has = elim admits [ inl a ↦ away_entries a some has | inr l ↦ in_entries IsNew l some has ]
 
 -- an entry that was put at the key that was vacant, once there was room
 module _ {T : Type 0} (old mid new : Slab (Entry T)) (key at : ℕ) (entry : Entry T) (key_is : key ≡ old.vacant_key) (kept : mid ≡ record old { capacity = mid.capacity }) (at_is : at ≡ mid.vacant_key)

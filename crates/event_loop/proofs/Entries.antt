@@ -87,11 +87,11 @@ readied_gone Idle e = absurd (let bad : Ready ≡ EntryGone = e in cc)
 readied_gone Ready e = e
 readied_gone EntryGone e = refl
 
-gone_readied : (state : EntryState) → state ≡ EntryGone → readied state ≡ EntryGone
+pub gone_readied : (state : EntryState) → state ≡ EntryGone → readied state ≡ EntryGone
 gone_readied state e = ap readied e
 
 module _ {T : Type 0} where
-  some_inj : {a b : Entry T} → Some a ≡ Some b → a ≡ b
+  pub some_inj : {a b : Entry T} → Some a ≡ Some b → a ≡ b
   some_inj {a} e = ap (λ (o : Option (Entry T)). unwrap_or o a) e
 
   none_past : (slots : List (Option (Entry T))) (key : ℕ) → length slots ≤ key → get_or slots key None ≡ None
@@ -106,7 +106,7 @@ module _ {T : Type 0} where
   without-cons s slot slots head rest (suc key) entry e same = rest key entry e same
 
   -- a table with no entry
-  no_entry : (slots : List (Option (Entry T))) → slots ≡ [] → (key : ℕ) (entry : Entry T) → slot_at slots key ≡ Some entry → ⊥
+  pub no_entry : (slots : List (Option (Entry T))) → slots ≡ [] → (key : ℕ) (entry : Entry T) → slot_at slots key ≡ Some entry → ⊥
   no_entry slots is key entry e = let le : length slots ≤ key = rw is (omega arith) in let bad : None ≡ Some entry = sym (none_past slots key le) ∙ e in cc
 
   pub empty_sessions : {D : Type 0} {g : Ghosts D} (hub : Hub D g) (slots : List (Option (Entry T))) → slots ≡ [] → HaveSessions hub slots
@@ -115,7 +115,7 @@ module _ {T : Type 0} where
   pub empty_numbers : (next : ℕ) (slots : List (Option (Entry T))) → slots ≡ [] → AreBelow next slots
   empty_numbers next slots is = λ key entry e. absurd (no_entry slots is key entry e)
 
-  module _ (tells : Bool) (traffic : T → Traffic) (s : ℕ) where
+  module _ (tells : Type 0) (traffic : T → Traffic) (s : ℕ) where
     last_reached : (earlier : Point) (old : Entry T) (later : Point) (new : Entry T) (d : DrivenOnce tells traffic earlier old later new) → IsReachedHub earlier.hub → IsReachedHub d.drove.last.hub
     last_reached earlier old later new d reached =
         let runs = d.drove.carried.runs in subst (λ h. IsReachedHub h) (sym runs.adds.run_is) (reached-run earlier.hub runs.events runs.possible reached)
@@ -160,7 +160,7 @@ module _ {T : Type 0} where
         (λ none. slot_absent earlier slot mid first d reached (λ entry e. w zero entry e) (λ head. before (without-cons s slot slots head none)))
 
   module _ {D : Type 0} {g : Ghosts D} (hub later : Hub D g) where
-    pub driven_entries : (tells : Bool) (traffic : T → Traffic) (slots new : List (Option (Entry T))) → Stands hub → Leads hub later (λ h k. DrivenAll tells traffic h slots k new) → HaveEntries hub slots → HaveEntries later new
+    pub driven_entries : (tells : Type 0) (traffic : T → Traffic) (slots new : List (Option (Entry T))) → Stands hub → Leads hub later (λ h k. DrivenAll tells traffic h slots k new) → HaveEntries hub slots → HaveEntries later new
     driven_entries tells traffic slots new some leads has = λ k stands s without.
         absent_in_each later s
         (∥∥₁_map some (λ w. (
@@ -245,7 +245,7 @@ module _ {T : Type 0} where
   over_gone entry Ready is e = absurd (let bad : false ≡ true = e in cc)
   over_gone entry EntryGone is e = is
 
-  module _ (tells : Bool) (traffic : T → Traffic) (old new : List (Option (Entry (BufferedStream T)))) (ended : (key : ℕ) → EndsTurn tells traffic (slot_at old key) (slot_at new key)) where
+  module _ (tells : Type 0) (traffic : T → Traffic) (old new : List (Option (Entry (BufferedStream T)))) (ended : (key : ℕ) → EndsTurn tells traffic (slot_at old key) (slot_at new key)) where
     ended_back : (slot after : Option (Entry (BufferedStream T))) (entry : Entry (BufferedStream T)) → EndsTurn tells traffic slot after → after ≡ Some entry → Before slot entry
     ended_back None after entry none e = absurd (let bad : None ≡ Some entry = sym none ∙ e in cc)
     ended_back (Some was) after entry (mid, ends, is) e = over_back (is_over mid) was mid entry ends.session ends.state (sym is ∙ e)

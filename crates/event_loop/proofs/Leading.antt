@@ -23,32 +23,32 @@ leads_one old new e outcome q alone counted = leads_event old new _ e outcome q 
 
 -- ---- connections that come
 
-module _ {T D : Type 0} {g : Ghosts D} (hub : Hub D g) (next : ℕ) (slots : List (Option (Entry T))) where
-  pub none_come : NoneRuns hub → ComeEach hub next slots 0 hub next slots
+module _ {T D : Type 0} {g : Ghosts D} (IsNew : T → Type 0) (hub : Hub D g) (next : ℕ) (slots : List (Option (Entry T))) where
+  pub none_come : NoneRuns hub → ComeEach IsNew hub next slots 0 hub next slots
   none_come none = (Nobody, leads_none hub none _ (λ h stands. adds_none h))
 
-  pub one_comes : Follow D g → (count : ℕ) (mid later : Hub D g) (number then : ℕ) (between new : List (Option (Entry T))) → ComeEach hub next slots count mid number between → Comes mid number between later then new
-      → ComeEach hub next slots (count + 1) later then new
+  pub one_comes : Follow D g → (count : ℕ) (mid later : Hub D g) (number then : ℕ) (between new : List (Option (Entry T))) → ComeEach IsNew hub next slots count mid number between → Comes IsNew mid number between later then new
+      → ComeEach IsNew hub next slots (count + 1) later then new
   one_comes follow count mid later number then between new each comes = (
     OneMore count mid later number then between new each.0 comes.0,
-    leads_then follow hub mid later _ _ (λ h k. Adds h (joins_of each.0 ++ join_of mid number between later then new comes.0) k) each.1 comes.1
-        (λ h k l last p q. adds_then h k l (joins_of each.0) (join_of mid number between later then new comes.0) p q),
+    leads_then follow hub mid later _ _ (λ h k. Adds h (joins_of each.0 ++ join_of IsNew mid number between later then new comes.0) k) each.1 comes.1
+        (λ h k l last p q. adds_then h k l (joins_of each.0) (join_of IsNew mid number between later then new comes.0) p q),
   )
 
 -- ---- one that comes
 
-module _ {T D : Type 0} {g : Ghosts D} (hub : Hub D g) (next : ℕ) (slots new : List (Option (Entry T))) (same : new ≡ slots) where
+module _ {T D : Type 0} {g : Ghosts D} (IsNew : T → Type 0) (hub : Hub D g) (next : ℕ) (slots new : List (Option (Entry T))) (same : new ≡ slots) where
   -- it is turned away before its session is to join
-  pub away_still : NoneRuns hub → Comes hub next slots hub next new
+  pub away_still : NoneRuns hub → Comes IsNew hub next slots hub next new
   away_still none = (inl (record { slots_are = same; next_is = refl; hub_is = inl refl }), leads_none hub none _ (λ h stands. adds_none h))
 
   -- its session could not join
-  pub away_tried : (later : Hub D g) (outcome : Outcome) → outcome ≢ Done → HubLeads hub later (Joins next) outcome → RunsAlone hub later (Joins next) → failures hub ≤ failures later → Comes hub next slots later next new
+  pub away_tried : (later : Hub D g) (outcome : Outcome) → outcome ≢ Done → HubLeads hub later (Joins next) outcome → RunsAlone hub later (Joins next) → failures hub ≤ failures later → Comes IsNew hub next slots later next new
   away_tried later outcome differs q alone counted =
       (inl (record { slots_are = same; next_is = refl; hub_is = inr (outcome, differs, q) }), leads_one hub later (Joins next) outcome q alone counted)
 
-module _ {T D : Type 0} {g : Ghosts D} (hub : Hub D g) (next : ℕ) (slots : List (Option (Entry T))) (later : Hub D g) (alone : RunsAlone hub later (Joins next)) (counted : failures hub ≤ failures later) where
-  pub let_in : (then : ℕ) (new : List (Option (Entry T))) → LetsIn hub next slots later then new → Comes hub next slots later then new
+module _ {T D : Type 0} {g : Ghosts D} (IsNew : T → Type 0) (hub : Hub D g) (next : ℕ) (slots : List (Option (Entry T))) (later : Hub D g) (alone : RunsAlone hub later (Joins next)) (counted : failures hub ≤ failures later) where
+  pub let_in : (then : ℕ) (new : List (Option (Entry T))) → LetsIn IsNew hub next slots later then new → Comes IsNew hub next slots later then new
   let_in then new l = (inr l, leads_one hub later (Joins next) Done l.joined alone counted)
 
 module _ {T : Type 0} (old new : Slab (Entry T)) where

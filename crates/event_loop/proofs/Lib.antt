@@ -6,6 +6,9 @@ pub mod Tables
 pub mod Admits
 pub mod Polled
 pub mod Counts
+pub mod TableBytes
+pub mod WholeTurns
+mod Socketing
 mod OneTurn
 mod Turned
 pub mod Serving

@@ -11,7 +11,7 @@ use Rattle.event_loop.specs.declared.server.EventLoop.{EventLoop}
 use Rattle.event_loop.specs.declared.socket.Socket.{Socket}
 use Rattle.event_loop.specs.Turns.{Accepted, DrivesReady, IsTurn, accepted_joins, accepts_now}
 
-module _ {D : Type 0} {g : Ghosts D} (tells : Bool) (traffic : Socket → Traffic) (old driven new : EventLoop D g) (next_is : driven.next ≡ old.next) (port_is : driven.port ≡ old.port) (backlog_is : driven.backlog ≡ old.backlog) where
+module _ {D : Type 0} {g : Ghosts D} (tells : Type 0) (traffic : Socket → Traffic) (old driven new : EventLoop D g) (next_is : driven.next ≡ old.next) (port_is : driven.port ≡ old.port) (backlog_is : driven.backlog ≡ old.backlog) where
   abbrev Drives : List Event → Type 0
   Drives events = DrivesReady tells traffic events old.hub old.table.slots driven.hub driven.table.slots
 

@@ -72,11 +72,11 @@ module _ {T : Type 0} where
   -- ---- the end of a turn
 
   -- the keys below this one were looked at
-  pub record EndedSoFar (tells : Bool) (traffic : T → Traffic) (key : ℕ) (initial slots : List (Option (Entry (BufferedStream T)))) : Type 0 where
+  pub record EndedSoFar (tells : Type 0) (traffic : T → Traffic) (key : ℕ) (initial slots : List (Option (Entry (BufferedStream T)))) : Type 0 where
     pub looked_at : (k : ℕ) → k < key → EndsTurn tells traffic (slot_at initial k) (slot_at slots k)
     pub rest : (k : ℕ) → key ≤ k → slot_at slots k ≡ slot_at initial k
 
-  module _ (tells : Bool) (traffic : T → Traffic) (key : ℕ) (initial slots : List (Option (Entry (BufferedStream T)))) (before : EndedSoFar tells traffic key initial slots) where
+  module _ (tells : Type 0) (traffic : T → Traffic) (key : ℕ) (initial slots : List (Option (Entry (BufferedStream T)))) (before : EndedSoFar tells traffic key initial slots) where
     -- one more
     pub ended_one : (new : List (Option (Entry (BufferedStream T)))) → EndsTurn tells traffic (slot_at slots key) (slot_at new key) → ((other : ℕ) → other ≢ key → slot_at new other ≡ slot_at slots other)
         → EndedSoFar tells traffic (key + 1) initial new
@@ -90,7 +90,7 @@ module _ {T : Type 0} where
       rest = λ k le. others k (omega arith) ∙ before.rest k (omega arith);
     }
 
-  module _ (tells : Bool) (traffic : T → Traffic) (slots new : List (Option (Entry (BufferedStream T)))) (key : ℕ) where
+  module _ (tells : Type 0) (traffic : T → Traffic) (slots new : List (Option (Entry (BufferedStream T)))) (key : ℕ) where
     pub ended_none : slot_at slots key ≡ None → slot_at new key ≡ None → EndsTurn tells traffic (slot_at slots key) (slot_at new key)
     ended_none was is = subst (λ slot. EndsTurn tells traffic slot (slot_at new key)) (sym was) is
 

@@ -4,6 +4,8 @@ pub mod Lingerings
 pub mod Loops
 pub mod Numbers
 pub mod Polls
+pub mod Sockets
 pub mod Tables
+pub mod TableBytes
 pub mod Turns
 pub mod Waits

@@ -54,47 +54,49 @@ module _ {T : Type 0} where
       pub next_is : then ≡ next
       pub hub_is : (later ≡ hub) ⊎ ((outcome : Outcome) × (outcome ≢ Done) × HubLeads hub later (Joins next) outcome)
 
-    -- a connection that was let in: its session, the next number, has joined, and has an entry of its own that is ready
-    pub record LetsIn (hub : Hub D g) (next : ℕ) (slots : List (Option (Entry T))) (later : Hub D g) (then : ℕ) (new : List (Option (Entry T))) : Type 0 where
-      pub key : ℕ
-      pub entry : Entry T
-      pub key_is : key < 128
-      pub vacant : slot_at slots key ≡ None
-      pub changed : slot_at new key ≡ Some entry
-      pub others : (other : ℕ) → other ≢ key → slot_at new other ≡ slot_at slots other
-      pub session : entry.session ≡ next
-      pub state : entry.state ≡ Ready
-      pub next_is : then ≡ next + 1
-      pub joined : HubLeads hub later (Joins next) Done
+    module _ (IsNew : T → Type 0) where
+      -- a connection that was let in: its session, the next number, has joined, and has an entry of its own that is ready, whose stream is new
+      pub record LetsIn (hub : Hub D g) (next : ℕ) (slots : List (Option (Entry T))) (later : Hub D g) (then : ℕ) (new : List (Option (Entry T))) : Type 0 where
+        pub key : ℕ
+        pub entry : Entry T
+        pub key_is : key < 128
+        pub vacant : slot_at slots key ≡ None
+        pub changed : slot_at new key ≡ Some entry
+        pub others : (other : ℕ) → other ≢ key → slot_at new other ≡ slot_at slots other
+        pub session : entry.session ≡ next
+        pub state : entry.state ≡ Ready
+        pub fresh : IsNew entry.stream
+        pub next_is : then ≡ next + 1
+        pub joined : HubLeads hub later (Joins next) Done
 
-    abbrev pub Admits : Hub D g → ℕ → List (Option (Entry T)) → Hub D g → ℕ → List (Option (Entry T)) → Type 0
-    Admits hub next slots later then new = TurnsAway hub next slots later then new ⊎ LetsIn hub next slots later then new
+      abbrev pub Admits : Hub D g → ℕ → List (Option (Entry T)) → Hub D g → ℕ → List (Option (Entry T)) → Type 0
+      Admits hub next slots later then new = TurnsAway hub next slots later then new ⊎ LetsIn hub next slots later then new
 
-    -- what happened to the hub as a connection came: the join of its session, or nothing
-    abbrev pub join_of : (hub : Hub D g) (next : ℕ) (slots : List (Option (Entry T))) (later : Hub D g) (then : ℕ) (new : List (Option (Entry T))) → Admits hub next slots later then new → List (HubEvent × Choice)
-    join_of hub next slots later then new (inl away) = join_tried hub later next away.hub_is
-    join_of hub next slots later then new (inr within) = (Joins next, within.joined.0) ∷ []
+      -- what happened to the hub as a connection came: the join of its session, or nothing
+      abbrev pub join_of : (hub : Hub D g) (next : ℕ) (slots : List (Option (Entry T))) (later : Hub D g) (then : ℕ) (new : List (Option (Entry T))) → Admits hub next slots later then new → List (HubEvent × Choice)
+      join_of hub next slots later then new (inl away) = join_tried hub later next away.hub_is
+      join_of hub next slots later then new (inr within) = (Joins next, within.joined.0) ∷ []
 
-    -- a connection came, and nothing else happened to the hub
-    abbrev pub Comes : Hub D g → ℕ → List (Option (Entry T)) → Hub D g → ℕ → List (Option (Entry T)) → Type 0
-    Comes hub next slots later then new = (admits : Admits hub next slots later then new) × Leads hub later (λ h k. Adds h (join_of hub next slots later then new admits) k)
+      -- a connection came, and nothing else happened to the hub
+      abbrev pub Comes : Hub D g → ℕ → List (Option (Entry T)) → Hub D g → ℕ → List (Option (Entry T)) → Type 0
+      Comes hub next slots later then new = (admits : Admits hub next slots later then new) × Leads hub later (λ h k. Adds h (join_of hub next slots later then new admits) k)
 
 -- so many connections came one after another, and each was let in or turned away
-pub data AdmitsEach {T D : Type 0} {g : Ghosts D} (hub : Hub D g) (next : ℕ) (slots : List (Option (Entry T))) : ℕ → Hub D g → ℕ → List (Option (Entry T)) → Type 0 where
-  Nobody : AdmitsEach hub next slots 0 hub next slots
-  OneMore : (count : ℕ) (mid later : Hub D g) (number then : ℕ) (between new : List (Option (Entry T))) → AdmitsEach hub next slots count mid number between
-      → Admits mid number between later then new → AdmitsEach hub next slots (count + 1) later then new
+pub data AdmitsEach {T D : Type 0} {g : Ghosts D} (IsNew : T → Type 0) (hub : Hub D g) (next : ℕ) (slots : List (Option (Entry T))) : ℕ → Hub D g → ℕ → List (Option (Entry T)) → Type 0 where
+  Nobody : AdmitsEach IsNew hub next slots 0 hub next slots
+  OneMore : (count : ℕ) (mid later : Hub D g) (number then : ℕ) (between new : List (Option (Entry T))) → AdmitsEach IsNew hub next slots count mid number between
+      → Admits IsNew mid number between later then new → AdmitsEach IsNew hub next slots (count + 1) later then new
 
 module _ {T D : Type 0} {g : Ghosts D} where
   -- what happened to the hub as they came
-  abbrev pub joins_of : {hub : Hub D g} {next : ℕ} {slots : List (Option (Entry T))} {count : ℕ} {later : Hub D g} {then : ℕ} {new : List (Option (Entry T))}
-      → AdmitsEach hub next slots count later then new → List (HubEvent × Choice)
+  abbrev pub joins_of : {IsNew : T → Type 0} {hub : Hub D g} {next : ℕ} {slots : List (Option (Entry T))} {count : ℕ} {later : Hub D g} {then : ℕ} {new : List (Option (Entry T))}
+      → AdmitsEach IsNew hub next slots count later then new → List (HubEvent × Choice)
   joins_of Nobody = []
-  joins_of (OneMore count mid later number then between new each admits) = joins_of each ++ join_of mid number between later then new admits
+  joins_of {IsNew} (OneMore count mid later number then between new each admits) = joins_of each ++ join_of IsNew mid number between later then new admits
 
   -- so many connections came, and nothing else happened to the hub
-  abbrev pub ComeEach : Hub D g → ℕ → List (Option (Entry T)) → ℕ → Hub D g → ℕ → List (Option (Entry T)) → Type 0
-  ComeEach hub next slots count later then new = (each : AdmitsEach hub next slots count later then new) × Leads hub later (λ h k. Adds h (joins_of each) k)
+  abbrev pub ComeEach : (T → Type 0) → Hub D g → ℕ → List (Option (Entry T)) → ℕ → Hub D g → ℕ → List (Option (Entry T)) → Type 0
+  ComeEach IsNew hub next slots count later then new = (each : AdmitsEach IsNew hub next slots count later then new) × Leads hub later (λ h k. Adds h (joins_of each) k)
 
 module _ {T : Type 0} where
   -- an entry that the poll told of: one that waited is to be driven, and is it to be read until its stream blocks?
@@ -121,6 +123,6 @@ module _ {T : Type 0} where
   unless_over entry = cond (is_over entry) None (Some entry)
 
   -- the end of a turn at a slot: the drive of its entry has ended, and the entry is taken out if it is over
-  abbrev pub EndsTurn : Bool → (T → Traffic) → Option (Entry (BufferedStream T)) → Option (Entry (BufferedStream T)) → Type 0
+  abbrev pub EndsTurn : Type 0 → (T → Traffic) → Option (Entry (BufferedStream T)) → Option (Entry (BufferedStream T)) → Type 0
   EndsTurn tells traffic None new = new ≡ None
   EndsTurn tells traffic (Some old) new = (entry : Entry (BufferedStream T)) × EndsDrive tells traffic old entry × (new ≡ unless_over entry)

@@ -22,12 +22,13 @@ use Rattle.event_loop.specs.declared.listener.Port.{Port}
 use Rattle.event_loop.specs.declared.connections.Backlog.{Backlog}
 use Rattle.event_loop.specs.declared.connections.Backlog.TheVariants.{Empty, Full, Failed}
 use Rattle.event_loop.specs.Accepts.{Accepts, TurnAccepts}
+use Rattle.event_loop.specs.Sockets.{IsNewSocket}
 use Rattle.event_loop.specs.Tables.{ComeEach, EndsTurn, after_poll, joins_of, slot_at}
 
 -- The drives of a turn in which the poll told of these events. The entries that waited and that it told of became ready. Each that is
 -- ready was driven once, by rising key, and no other event came to the hub. What their streams hold was written, and those that are
 -- over were taken out.
-pub record DrivesReady {T D : Type 0} {g : Ghosts D} (tells : Bool) (traffic : T → Traffic) (events : List Event) (hub : Hub D g) (slots : List (Option (Entry (BufferedStream T)))) (later : Hub D g) (new : List (Option (Entry (BufferedStream T)))) : Type 0 where
+pub record DrivesReady {T D : Type 0} {g : Ghosts D} (tells : Type 0) (traffic : T → Traffic) (events : List Event) (hub : Hub D g) (slots : List (Option (Entry (BufferedStream T)))) (later : Hub D g) (new : List (Option (Entry (BufferedStream T)))) : Type 0 where
   pub ready : List (Option (Entry (BufferedStream T)))
   pub told : (key : ℕ) → slot_at ready key ≡ after_poll events key (slot_at slots key)
   pub driven : List (Option (Entry (BufferedStream T)))
@@ -49,7 +50,7 @@ pub record IsUntouched {D : Type 0} {g : Ghosts D} (old new : EventLoop D g) : T
 -- where a turn accepts, each connection that it took was let in or turned away, and no other event came to the hub
 abbrev pub Accepted : {D : Type 0} {g : Ghosts D} → Bool → EventLoop D g → EventLoop D g → Type 0
 Accepted true old new =
-    TurnAccepts (λ n. ComeEach old.hub old.next old.table.slots n new.hub new.next new.table.slots) (answers_of old.port) new.backlog (answers_of new.port)
+    TurnAccepts (λ n. ComeEach IsNewSocket old.hub old.next old.table.slots n new.hub new.next new.table.slots) (answers_of old.port) new.backlog (answers_of new.port)
 Accepted false old new = IsUntouched old new
 
 -- what happened to the hub as it accepted
@@ -69,7 +70,7 @@ accepts_now Failed events = true
 
 -- One turn: the drives, by the events that the poll told of, and then the accepts. The events of these drives, followed by the joins of
 -- these accepts, are one run of the hub: lawful at each moment, with the device's failures counted, and what a crash leaves known.
-pub record IsTurn {D : Type 0} {g : Ghosts D} (tells : Bool) (traffic : Socket → Traffic) (old new : EventLoop D g) : Type 0 where
+pub record IsTurn {D : Type 0} {g : Ghosts D} (tells : Type 0) (traffic : Socket → Traffic) (old new : EventLoop D g) : Type 0 where
   pub driven : EventLoop D g
   pub drives : DrivesReady tells traffic (items new.poller.events) old.hub old.table.slots driven.hub driven.table.slots
   pub next_is : driven.next ≡ old.next
@@ -80,5 +81,5 @@ pub record IsTurn {D : Type 0} {g : Ghosts D} (tells : Bool) (traffic : Socket �
       × Adds k (accepted_joins (accepts_now old.backlog (items new.poller.events)) driven new accepts) l)
 
 -- what a turn does to its hub is a run of the hub
-abbrev pub TurnsAreRuns : {D : Type 0} {g : Ghosts D} → Bool → (Socket → Traffic) → EventLoop D g → Type 0
+abbrev pub TurnsAreRuns : {D : Type 0} {g : Ghosts D} → Type 0 → (Socket → Traffic) → EventLoop D g → Type 0
 TurnsAreRuns {D} {g} tells traffic events = (old new : EventLoop D g) → IsTurn tells traffic old new → HasRun old.hub new.hub

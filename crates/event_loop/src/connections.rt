@@ -1,11 +1,12 @@
 //! The table of connections: who comes in, who is ready, who goes.
-ghost use Rattle.std.specs.Prelude.{◌≡◌, ◌≢◌, ◌||◌, ℕ};
+ghost use Rattle.std.specs.Prelude.{◌≡◌, ◌≢◌, ◌||◌, ℕ, IfSome};
 ghost use Rattle.mio.specs.Event.{is_priority, is_read_closed};
 ghost use Rattle.mio.specs.Events.{items};
 ghost use Rattle.stream_driver.specs.Sessions.{Stands};
 ghost use Rattle.stream_driver.specs.Entries.{HaveSessions};
 ghost use Rattle.event_loop.specs.Accepts.{TurnAccepts};
 ghost use Rattle.event_loop.specs.Numbers.{AreBelow};
+ghost use Rattle.event_loop.specs.Sockets.{IsNewSocket};
 ghost use Rattle.event_loop.specs.Tables.{ComeEach, Comes, EndsTurn, HaveEntries, after_poll, slot_at, told};
 
 use crate::lingering::Lingering;
@@ -128,7 +129,7 @@ pub fn accept_some<D: Sectors, L: Listener>(
     requires sessions { HaveSessions hub.old table.old.slots }
     requires numbers { AreBelow next.old table.old.slots }
     requires entries { HaveEntries hub.old table.old.slots }
-    ensures accepts { TurnAccepts (λ n. ComeEach hub.old next.old table.old.slots n hub.new next.new table.new.slots) (L.accepts listener.old) result (L.accepts listener.new) }
+    ensures accepts { TurnAccepts (λ n. ComeEach IsNewSocket hub.old next.old table.old.slots n hub.new next.new table.new.slots) (L.accepts listener.old) result (L.accepts listener.new) }
     ensures stands { Stands hub.new }
     ensures sessions { HaveSessions hub.new table.new.slots }
     ensures numbers { AreBelow next.new table.new.slots }
@@ -145,19 +146,23 @@ pub fn accept_some<D: Sectors, L: Listener>(
     Backlog::Full
 }
 
-// The stream of a connection, of which the poll tells under this key. None where memory, registration or a socket's option is refused.
+// The stream of a connection under this number, of which the poll tells under this key. No call was made of it. None where memory,
+// registration or a socket's option is refused.
 fn prepare(
     alloc: Global,
     poll: &Poll,
     mut stream: TcpStream,
+    number: u64,
     key: usize,
-) -> Option<BufferedStream<Socket>> {
+) -> Option<BufferedStream<Socket>>
+    ensures { IfSome result IsNewSocket }
+{
     let interest = Interest::READABLE | Interest::WRITABLE | Interest::PRIORITY;
     stream.set_nodelay(true).ok()?;
     poll.registry()
         .register(&mut stream, Token(key), interest)
         .ok()?;
-    BufferedStream::new(alloc, Socket::new(stream)).ok()
+    BufferedStream::new(alloc, Socket::new(stream, number)).ok()
 }
 
 // A connection becomes a session. One for which there is no place, or that memory, registration or a socket's option is refused for, is
@@ -170,7 +175,7 @@ fn admit<D: Sectors>(
     next: &mut u64,
     table: &mut Slab<Entry<BufferedStream<Socket>>>,
 )
-    ensures { Comes hub.old next.old table.old.slots hub.new next.new table.new.slots }
+    ensures { Comes IsNewSocket hub.old next.old table.old.slots hub.new next.new table.new.slots }
 {
     hub.runs_follow();
     let session = *next;
@@ -178,7 +183,7 @@ fn admit<D: Sectors>(
     if session == u64::MAX || key >= SESSIONS_MAX || table.reserve(1).is_err() {
         return;
     }
-    let Some(stream) = prepare(alloc, poll, stream, key) else {
+    let Some(stream) = prepare(alloc, poll, stream, session, key) else {
         return;
     };
     match hub.step(&Event::Joined(session)) {

@@ -1,8 +1,8 @@
 //! Sessions over TCP: a loop that polls, drives the connections that are ready, takes out those that are gone, and accepts others.
 //!
-//! Nothing in a contract says what the system's sockets do. What a turn makes of the hub and the table, given what the poll told, stands in
-//! `specs/Turns.antt`: which entries become ready, that each that is ready is driven, which go, and which come. A turn polls once, by
-//! `Poller::wait`; that this calls the system's poll is to be read there.
+//! What the system's sockets do is left open: which bytes they move is a premise (`specs/Sockets.antt`). What a turn makes of the hub and
+//! the table, given what the poll told, stands in `specs/Turns.antt`: which entries become ready, that each that is ready is driven, which
+//! go, and which come. A turn polls once, by `Poller::wait`; that this calls the system's poll is to be read there.
 #![tactic(auto)]
 
 mod connections;

@@ -3,7 +3,7 @@
 //! The system resets a connection that is closed while input is unread, and then replies that are under way are lost. So a connection
 //! that ended in good order is shut down for writing, and what still comes in is read and dropped until the peer ends, within bounds
 //! of number, bytes and time.
-ghost use Rattle.std.specs.Prelude.{◌≡◌, ◌≤◌, min, length, true, false, IsTrue};
+ghost use Rattle.std.specs.Prelude.{◌≡◌, ◌≤◌, min, length, true, false};
 ghost use Rattle.std.specs.VecDeque.{deque_len, deque_capacity};
 ghost use Rattle.event_loop.specs.declared.lingering.TheConstants.{LINGERING_MAX};
 ghost use Rattle.event_loop.specs.Drops.{GivesAtMost, WhyDropped, left_after, newest};
@@ -45,8 +45,8 @@ pub enum Dropped {
 
 /// Reads at most so many bytes and drops them. Takes no memory.
 pub fn drop_input<S: Stream>(stream: &mut S, most: usize) -> Dropped
-    ensures given { IsTrue S.tells → GivesAtMost result most (length (S.traffic stream.old).given) (length (S.traffic stream.new).given) }
-    ensures taken { IsTrue S.tells → (S.traffic stream.new).taken ≡ (S.traffic stream.old).taken }
+    ensures given { S.tells → GivesAtMost result most (length (S.traffic stream.old).given) (length (S.traffic stream.new).given) }
+    ensures taken { S.tells → (S.traffic stream.new).taken ≡ (S.traffic stream.old).taken }
     ensures why { WhyDropped result most (S.traffic stream.old) (S.traffic stream.new) }
 {
     let mut buffer = [0u8; READ_MAX];

@@ -3,6 +3,7 @@ ghost use Rattle.sessions.specs.Lives.{IsServed};
 ghost use Rattle.stream_driver.specs.Sessions.{Stands};
 ghost use Rattle.stream_driver.specs.Entries.{HaveSessions};
 ghost use Rattle.event_loop.specs.Numbers.{AreBelow};
+ghost use Rattle.event_loop.specs.TableBytes.{SocketsHaveBytes};
 ghost use Rattle.event_loop.specs.Tables.{HaveEntries};
 
 use crate::connections::{
@@ -44,6 +45,7 @@ pub struct EventLoop<D: Sectors> {
     ghost sessions: { HaveSessions hub table.slots },
     ghost entries: { HaveEntries hub table.slots },
     ghost numbers: { AreBelow next table.slots },
+    ghost bytes: { SocketsHaveBytes hub table.slots },
 }
 
 impl<D: Sectors> EventLoop<D> {
@@ -54,6 +56,8 @@ impl<D: Sectors> EventLoop<D> {
     ghost use Rattle.sessions.specs.StandsFor.{StandsFor};
     ghost use Rattle.event_loop.specs.Loops.{HasItsSessions, hub_of};
     ghost use Rattle.event_loop.specs.Polls.{after_wait, polls_of};
+    ghost use Rattle.event_loop.specs.Sockets.{SocketsTell};
+    ghost use Rattle.event_loop.specs.TableBytes.{ConnectionsSpeak, KeepBytes};
     ghost use Rattle.event_loop.specs.Turns.{Accepted, DrivesReady, IsTurn, IsUntouched, TurnsAreRuns, accepts_now, is_told_of};
 
     /// Listens at an address for the sessions of a hub that was opened. Port 0 stands for one that the system picks.
@@ -132,6 +136,7 @@ impl<D: Sectors> EventLoop<D> {
     pub fn turn<C: Clock>(&mut self, clock: &C, timeout: Option<Duration>) -> io::Result<()>
         ensures turned { OnOk result (IsTurn ⟦<Socket as Stream>⟧.tells ⟦<Socket as Stream>⟧.traffic self.old self.new) }
         ensures fault { OnErr result (IsUntouched self.old self.new) }
+        ensures bytes { OnOk result (KeepBytes self.old.hub self.old.table.slots self.new.hub self.new.table.slots) }
         ensures polled { polls_of self.new.poller ≡ after_wait result (polls_of self.old.poller) }
         ensures sessions { HasItsSessions self.old × HasItsSessions self.new }
         ensures served { IsServed (hub_of self.old) × IsServed (hub_of self.new) }
@@ -160,6 +165,16 @@ impl<D: Sectors> EventLoop<D> {
         ensures runs { TurnsAreRuns ⟦<Socket as Stream>⟧.tells ⟦<Socket as Stream>⟧.traffic self.now }
     {}
 
+    /// Does nothing, and takes no memory. Its contract says what the connections say, under the premise that sockets tell the bytes that
+    /// they move: the hub stands for a lawful state in which, for each connection whose session has not left, what came in over it since
+    /// it was let in is the spellings of its session's requests and the beginning of one, and what went over it, with what its stream
+    /// holds and what is pending, is the texts of the machine's replies to them.
+    pub fn connections_speak(&self)
+        ensures speak { SocketsTell → ConnectionsSpeak (hub_of self.now) self.now.table.slots }
+    {
+        self.hub.is_lawful();
+    }
+
     // Accepts connections. After an accept that failed, as for want of descriptors, none lingers.
     fn accept(&mut self)
         ensures accepts { Accepted true self.old self.new }
@@ -185,6 +200,7 @@ impl<D: Sectors> EventLoop<D> {
         ensures next { self.new.next ≡ self.old.next }
         ensures port { self.new.port ≡ self.old.port }
         ensures backlog { self.new.backlog ≡ self.old.backlog }
+        ensures keeps { KeepBytes self.old.hub self.old.table.slots self.new.hub self.new.table.slots }
     {
         make_polled_ready(self.poller.events(), &mut self.table);
         drive_ready(&mut self.hub, &mut self.table);

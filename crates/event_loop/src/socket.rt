@@ -1,16 +1,20 @@
 //! A connection of the system.
 
+ghost use Rattle.std.specs.Prelude.{◌≡◌, ◌≤◌, ℕ};
+ghost use Rattle.stream_driver.specs.Traffic.{ReadsWithin, WritesWithin, bytes_read, bytes_written};
+ghost use Rattle.socket_calls.specs.OpenFacts.{moved};
+
 use mio::net::TcpStream;
-use mio::{Interest, Poll, Token};
-use std::io::{self, ErrorKind, Read, Write};
-use std::net::Shutdown;
+use mio::{Poll, Token};
+use socket_calls::CountedSocket;
+use std::io::{self, ErrorKind};
 use stream_driver::{Call, ReadAnswer, Stream, WriteAnswer};
 
-/// A TCP connection as a stream. It leaves open which bytes it moves. An interrupted call, and a write that takes no byte, are
-/// `Failed`; a read that gives none is `Ended`.
+/// A TCP connection as a stream. That its calls move the bytes that its traffic tells is a premise of whoever relies on it: neither
+/// claimed here nor denied. An interrupted call, and a write that takes no byte, are `Failed`; a read that gives none is `Ended`.
 #[derive(Drop)]
 pub struct Socket {
-    stream: TcpStream,
+    socket: CountedSocket,
     read_blocked: u64,
     read_failed: u64,
     read_ended: u64,
@@ -20,10 +24,15 @@ pub struct Socket {
 }
 
 impl Socket {
-    /// The connection, of which nothing has been counted. Takes no memory.
-    pub fn new(stream: TcpStream) -> Socket {
+    ghost use Rattle.stream_driver.specs.Traffic.{EndsWith, IsUncalled};
+    ghost use Rattle.event_loop.specs.Sockets.{SocketsTell, traffic_of};
+
+    /// The connection under this number, of which nothing has been counted. Takes no memory.
+    pub fn new(stream: TcpStream, connection: u64) -> Socket
+        ensures { IsUncalled SocketsTell (traffic_of result) }
+    {
         Socket {
-            stream,
+            socket: CountedSocket::new(stream, connection),
             read_blocked: 0,
             read_failed: 0,
             read_ended: 0,
@@ -40,65 +49,79 @@ impl Socket {
 
     /// Shuts the connection down for writing once what was written has gone, and has the poll tell under this token of what still comes.
     pub(crate) fn half_close(&mut self, poll: &Poll, token: Token) -> io::Result<()> {
-        self.stream.shutdown(Shutdown::Write)?;
-        poll.registry()
-            .reregister(&mut self.stream, token, Interest::READABLE)
+        self.socket.half_close(poll, token)
+    }
+
+    // One more read, with this answer.
+    fn note_read(&mut self, answer: ReadAnswer)
+        ensures noted { EndsWith (Call.Read answer) (traffic_of self.old) (traffic_of self.new) }
+        ensures socket { self.new.socket ≡ self.old.socket }
+    {
+        match answer {
+            ReadAnswer::Moved(_) => {}
+            ReadAnswer::Blocked => self.read_blocked = self.read_blocked.saturating_add(1),
+            ReadAnswer::Failed => self.read_failed = self.read_failed.saturating_add(1),
+            ReadAnswer::Ended => self.read_ended = self.read_ended.saturating_add(1),
+        }
+        self.last = Some(Call::Read(answer));
+    }
+
+    // One more write, with this answer.
+    fn note_write(&mut self, answer: WriteAnswer)
+        ensures noted { EndsWith (Call.Write answer) (traffic_of self.old) (traffic_of self.new) }
+        ensures socket { self.new.socket ≡ self.old.socket }
+    {
+        match answer {
+            WriteAnswer::Moved(_) => {}
+            WriteAnswer::Blocked => self.write_blocked = self.write_blocked.saturating_add(1),
+            WriteAnswer::Failed => self.write_failed = self.write_failed.saturating_add(1),
+        }
+        self.last = Some(Call::Write(answer));
+    }
+}
+
+// What a read answers where the system answers so.
+fn read_answer(outcome: io::Result<usize>) -> ReadAnswer
+    ensures bytes { bytes_read result ≡ moved outcome }
+    ensures within { (len : ℕ) → moved outcome ≤ len → ReadsWithin result len }
+{
+    match outcome {
+        Ok(0) => ReadAnswer::Ended,
+        Ok(n) => ReadAnswer::Moved(n),
+        Err(error) if error.kind() == ErrorKind::WouldBlock => ReadAnswer::Blocked,
+        Err(_) => ReadAnswer::Failed,
+    }
+}
+
+// What a write answers where the system answers so.
+fn write_answer(outcome: io::Result<usize>) -> WriteAnswer
+    ensures bytes { bytes_written result ≡ moved outcome }
+    ensures within { (len : ℕ) → moved outcome ≤ len → WritesWithin result len }
+{
+    match outcome {
+        Ok(0) => WriteAnswer::Failed,
+        Ok(n) => WriteAnswer::Moved(n),
+        Err(error) if error.kind() == ErrorKind::WouldBlock => WriteAnswer::Blocked,
+        Err(_) => WriteAnswer::Failed,
     }
 }
 
 impl Stream for Socket {
-    ghost use Rattle.std.specs.Prelude.{[], false};
+    ghost use Rattle.event_loop.specs.Sockets.{SocketsTell, traffic_of};
 
-    ghost tells = { false };
+    ghost tells = { SocketsTell };
 
-    ghost traffic = { λ s. record {
-      given = [];
-      taken = [];
-      read_blocked = s.read_blocked;
-      read_failed = s.read_failed;
-      read_ended = s.read_ended;
-      write_blocked = s.write_blocked;
-      write_failed = s.write_failed;
-      last = s.last;
-    } };
+    ghost traffic = { traffic_of };
 
     fn read(&mut self, into: &mut [u8]) -> ReadAnswer {
-        let answer = match self.stream.read(into) {
-            Ok(0) => {
-                self.read_ended = self.read_ended.saturating_add(1);
-                ReadAnswer::Ended
-            }
-            Ok(n) => ReadAnswer::Moved(n),
-            Err(error) if error.kind() == ErrorKind::WouldBlock => {
-                self.read_blocked = self.read_blocked.saturating_add(1);
-                ReadAnswer::Blocked
-            }
-            Err(_) => {
-                self.read_failed = self.read_failed.saturating_add(1);
-                ReadAnswer::Failed
-            }
-        };
-        self.last = Some(Call::Read(answer));
+        let answer = read_answer(self.socket.read(into));
+        self.note_read(answer);
         answer
     }
 
     fn write(&mut self, from: &[u8]) -> WriteAnswer {
-        let answer = match self.stream.write(from) {
-            Ok(0) => {
-                self.write_failed = self.write_failed.saturating_add(1);
-                WriteAnswer::Failed
-            }
-            Ok(n) => WriteAnswer::Moved(n),
-            Err(error) if error.kind() == ErrorKind::WouldBlock => {
-                self.write_blocked = self.write_blocked.saturating_add(1);
-                WriteAnswer::Blocked
-            }
-            Err(_) => {
-                self.write_failed = self.write_failed.saturating_add(1);
-                WriteAnswer::Failed
-            }
-        };
-        self.last = Some(Call::Write(answer));
+        let answer = write_answer(self.socket.write(from));
+        self.note_write(answer);
         answer
     }
 }

@@ -78,9 +78,9 @@ impl Script {
 }
 
 impl Stream for Script {
-    ghost use Rattle.std.specs.Prelude.{take, true};
+    ghost use Rattle.std.specs.Prelude.{take};
 
-    ghost tells = { true };
+    ghost tells = { Unit {0} };
 
     ghost traffic = { λ s. record {
       given = take s.at s.input.items;

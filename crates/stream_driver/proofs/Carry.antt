@@ -1,5 +1,5 @@
 -- Parts of a run follow one another.
-use Rattle.std.proofs.Common.{◌≡◌, ◌⊎◌, inl, inr, ℕ, ◌+◌, ◌≤◌, Bool, true, false, if◌then◌else◌, IsTrue, List, [], ◌∷◌, ◌++◌, map, Some, refl, sym, ap, subst, ◌∙◌, arith, append_assoc}
+use Rattle.std.proofs.Common.{◌≡◌, ◌⊎◌, inl, inr, ℕ, ◌+◌, ◌≤◌, true, false, if◌then◌else◌, List, [], ◌∷◌, ◌++◌, map, Some, refl, sym, ap, subst, ◌∙◌, arith, append_assoc}
 use Rattle.std.specs.List.{flat_map, AllByRecursion}
 use Rattle.std.proofs.lemmas.Bool.Decides.{nat_tests}
 use Rattle.std.proofs.lemmas.List.{append-nil, map-append}
@@ -100,7 +100,7 @@ pub in_turn_then : (h : HubState) (xs ys : List (HubEvent × Choice)) → ComeIn
 in_turn_then h [] ys a b = b
 in_turn_then h (x ∷ xs) ys a b = (a.0, in_turn_then (hub_step h x.0 x.1).0 xs ys a.1 b)
 
-module _ (s : ℕ) (tells : Bool) where
+module _ (s : ℕ) (tells : Type 0) where
   -- nothing has happened
   abbrev pub nothing : (h : Point) (t : Traffic) → IsPresentIn h.hub s → Carried s tells h t h t
   nothing h t present = record {
@@ -111,7 +111,7 @@ module _ (s : ℕ) (tells : Bool) where
   }
 
   -- the stream answered, and the hub stayed
-  abbrev pub answered : (h : Point) (before after : Traffic) → IsPresentIn h.hub s → (IsTrue tells → after.given ≡ before.given ++ []) → (IsTrue tells → after.taken ≡ before.taken ++ []) → Carried s tells h before h after
+  abbrev pub answered : (h : Point) (before after : Traffic) → IsPresentIn h.hub s → (tells → after.given ≡ before.given ++ []) → (tells → after.taken ≡ before.taken ++ []) → Carried s tells h before h after
   answered h before after present given taken = record { runs = no_events s h present; in_turn = tt; given = given; taken = taken }
 
   -- the stream stayed, and the hub ran

@@ -1,5 +1,5 @@
 -- The turns of the loops.
-use Rattle.std.proofs.Common.{◌≡◌, ◌≢◌, ◌⊎◌, inl, inr, ℕ, ◌+◌, ◌-◌, ◌<◌, ◌≤◌, Bool, List, [], ◌++◌, length, refl, sym, ap, subst, ◌∙◌, arith, length-append}
+use Rattle.std.proofs.Common.{◌≡◌, ◌≢◌, ◌⊎◌, inl, inr, ℕ, ◌+◌, ◌-◌, ◌<◌, ◌≤◌, List, [], ◌++◌, length, refl, sym, ap, subst, ◌∙◌, arith, length-append}
 use Rattle.std.proofs.lemmas.List.{nil_from_length}
 use Rattle.model.specs.Bounds.{inbox_max}
 use Rattle.std.specs.List.{flat_map}
@@ -44,7 +44,7 @@ no_more xs e = nil_from_length xs (sym e)
 some_more : (xs : List ℕ) (n : ℕ) → n ≡ length xs → 0 < n → xs ≢ []
 some_more xs n e some = λ none. let long : length xs ≡ 0 = ap length none in omega arith
 
-module _ (s : ℕ) (tells : Bool) where
+module _ (s : ℕ) (tells : Type 0) where
   pub written_none : (h : Point) (t : Traffic) (owed : ℕ) → IsPresentIn h.hub s → owed ≡ length (pending_at h.hub s) → WrittenSoFar s tells h t h t owed
   written_none h t owed present is = record { moves = record { carried = nothing s tells h t present; none_served = refl; status = refl }; moved = none_called t; owed_is = is }
 
@@ -382,7 +382,7 @@ module _ (s : ℕ) (tells : Bool) where
     }
 
 -- one more request, once what was pending has left
-module _ (s : ℕ) (tells : Bool) (old : Point) (before : Traffic) (mid : Point) (between : Traffic) (flushed : Point) (behind : Traffic) (new : Point) (after : Traffic) (count sent owed total : ℕ)
+module _ (s : ℕ) (tells : Type 0) (old : Point) (before : Traffic) (mid : Point) (between : Traffic) (flushed : Point) (behind : Traffic) (new : Point) (after : Traffic) (count sent owed total : ℕ)
     (p : DrivenOut s tells old before mid between count sent) (owed_is : owed ≡ length (pending_at mid.hub s)) (total_is : total ≤ sent + owed) (q : Flushes s tells mid between Empty flushed behind) where
   more_out : (r : Carried s tells flushed behind new after) → total ≤ length ((p.driven.carried.runs.history.sent ++ q.moves.carried.runs.history.sent) ++ r.runs.history.sent)
   more_out r =
@@ -400,10 +400,10 @@ module _ (s : ℕ) (tells : Bool) (old : Point) (before : Traffic) (mid : Point)
   out_broke r = record { driven = driven_broke s tells old before flushed behind new after count sofar r; out = more_out r.carried }
 
 -- a request was looked for, and there is only the beginning of one
-abbrev pub HasRead : ℕ → Bool → Traffic → Traffic → ℕ → Point → Point → Type 0
+abbrev pub HasRead : ℕ → Type 0 → Traffic → Traffic → ℕ → Point → Point → Type 0
 HasRead s tells before between room h k = ReadSoFar s tells h before k between room × AwaitsMore k.hub s × (0 < room)
 
-pub waits : {D : Type 0} {g : Ghosts D} → Follow D g → (a b c : Hub D g) (s : ℕ) (tells : Bool) (before between : Traffic) (room : ℕ) (outcome : Outcome) → Leads a b (λ h k. ReadSoFar s tells h before k between room)
+pub waits : {D : Type 0} {g : Ghosts D} → Follow D g → (a b c : Hub D g) (s : ℕ) (tells : Type 0) (before between : Traffic) (room : ℕ) (outcome : Outcome) → Leads a b (λ h k. ReadSoFar s tells h before k between room)
     → HubLeads b c (Serves s) outcome → RunsAlone b c (Serves s) → failures b ≤ failures c → outcome ≢ Done → outcome ≢ Memory → Leads a c (HasRead s tells before between room)
 waits follow a b c s tells before between room outcome p q alone counted not_done not_memory =
     leads_step follow a b c (λ h k. ReadSoFar s tells h before k between room) (HasRead s tells before between room) (Serves s) outcome p q alone counted

@@ -1,5 +1,5 @@
 -- One read and one write.
-use Rattle.std.proofs.Common.{◌≡◌, ◌≢◌, ℕ, ◌+◌, ◌-◌, ◌<◌, ◌≤◌, Bool, IsTrue, List, ◌++◌, length, take, drop, Some, refl, sym, ap, subst, ◌∙◌, arith, length-append}
+use Rattle.std.proofs.Common.{◌≡◌, ◌≢◌, ℕ, ◌+◌, ◌-◌, ◌<◌, ◌≤◌, List, ◌++◌, length, take, drop, Some, refl, sym, ap, subst, ◌∙◌, arith, length-append}
 use Rattle.std.proofs.lemmas.List.{append-nil, length-drop}
 use Rattle.model.specs.Bounds.{inbox_max}
 use Rattle.model.specs.Map.{Bytes}
@@ -22,10 +22,10 @@ use Rattle.stream_driver.proofs.Events.{found, point_after, one_event, received_
 use Rattle.stream_driver.proofs.Carry.{answered}
 use Rattle.stream_driver.proofs.States.{leads_event, leads_none}
 
-module _ {D : Type 0} {g : Ghosts D} (hub new : Hub D g) (s : ℕ) (tells : Bool) (b a : Traffic) where
+module _ {D : Type 0} {g : Ghosts D} (hub new : Hub D g) (s : ℕ) (tells : Type 0) (b a : Traffic) where
   pub wrote_moved : (n : ℕ) → 0 < n → (outcome : Rattle.sessions.specs.declared.events.Outcome.Outcome) → HubLeads hub new (Sends s n) outcome → RunsAlone hub new (Sends s n) → failures hub ≤ failures new
       → ((h : HubState) → StandsFor hub h → IsPresentIn h s × (n ≤ length (pending_at h s)))
-      → ((h : HubState) → StandsFor hub h → IsTrue tells → a.taken ≡ b.taken ++ take n (pending_at h s)) → (IsTrue tells → a.given ≡ b.given) → EndsWith (Write (Wrote n)) b a
+      → ((h : HubState) → StandsFor hub h → tells → a.taken ≡ b.taken ++ take n (pending_at h s)) → (tells → a.given ≡ b.given) → EndsWith (Write (Wrote n)) b a
       → Leads hub new (λ h k. WritesSome s tells h b (Wrote n) k a)
   wrote_moved n some outcome leads alone counted here taken given calls =
       leads_event hub new _ (Sends s n) outcome leads alone counted (λ h stands happens outcome_is after.
@@ -58,7 +58,7 @@ module _ {D : Type 0} {g : Ghosts D} (hub new : Hub D g) (s : ℕ) (tells : Bool
 
   pub read_moved : (n : ℕ) → 0 < n → (piece : Bytes) (outcome : Rattle.sessions.specs.declared.events.Outcome.Outcome) → HubLeads hub new (Receives s piece) outcome → RunsAlone hub new (Receives s piece) → failures hub ≤ failures new
       → ((h : HubState) → StandsFor hub h → (status_at h s ≡ Open) × (length piece ≤ room_at h s)) → length piece ≡ n
-      → (IsTrue tells → a.given ≡ b.given ++ piece) → (IsTrue tells → a.taken ≡ b.taken) → EndsWith (Read (Moved n)) b a
+      → (tells → a.given ≡ b.given ++ piece) → (tells → a.taken ≡ b.taken) → EndsWith (Read (Moved n)) b a
       → Leads hub new (λ h k. AwaitsMore h.hub s → ReadsSome s tells h b (Moved n) k a)
   read_moved n some piece outcome leads alone counted here long given taken calls =
       leads_event hub new _ (Receives s piece) outcome leads alone counted (λ h stands happens outcome_is after awaits.
@@ -91,9 +91,9 @@ module _ {D : Type 0} {g : Ghosts D} (hub new : Hub D g) (s : ℕ) (tells : Bool
       })
 
 -- the stream didn't move
-module _ {D : Type 0} {g : Ghosts D} (hub : Hub D g) (none : NoneRuns hub) (s : ℕ) (tells : Bool) (b a : Traffic) where
+module _ {D : Type 0} {g : Ghosts D} (hub : Hub D g) (none : NoneRuns hub) (s : ℕ) (tells : Type 0) (b a : Traffic) where
   pub wrote_none : (answer : WriteAnswer) → ((n : ℕ) → answer ≢ Wrote n) → ((h : HubState) → StandsFor hub h → IsPresentIn h s)
-      → (from : List ℕ) → (IsTrue tells → a.given ≡ b.given) → (IsTrue tells → a.taken ≡ b.taken ++ take (bytes_written answer) from) → EndsWith (Write answer) b a
+      → (from : List ℕ) → (tells → a.given ≡ b.given) → (tells → a.taken ≡ b.taken ++ take (bytes_written answer) from) → EndsWith (Write answer) b a
       → Leads hub hub (λ h k. WritesSome s tells h b answer k a)
   wrote_none (Wrote n) differs here from given taken calls = absurd (differs n refl)
   wrote_none WriteBlocked differs here from given taken calls = leads_none hub none _ (λ h stands. record {
@@ -107,8 +107,8 @@ module _ {D : Type 0} {g : Ghosts D} (hub : Hub D g) (none : NoneRuns hub) (s : 
     why = refl;
   })
 
-  module _ (here : (h : HubState) → StandsFor hub h → status_at h s ≡ Open) (into : List ℕ) (taken : IsTrue tells → a.taken ≡ b.taken) where
-    pub read_none : (answer : ReadAnswer) → ((n : ℕ) → answer ≢ Moved n) → (IsTrue tells → a.given ≡ b.given ++ take (bytes_read answer) into) → EndsWith (Read answer) b a
+  module _ (here : (h : HubState) → StandsFor hub h → status_at h s ≡ Open) (into : List ℕ) (taken : tells → a.taken ≡ b.taken) where
+    pub read_none : (answer : ReadAnswer) → ((n : ℕ) → answer ≢ Moved n) → (tells → a.given ≡ b.given ++ take (bytes_read answer) into) → EndsWith (Read answer) b a
         → Leads hub hub (λ h k. AwaitsMore h.hub s → ReadsSome s tells h b answer k a)
     read_none (Moved n) differs given calls = absurd (differs n refl)
     read_none Blocked differs given calls = leads_none hub none _ (λ h stands. λ awaits. record {

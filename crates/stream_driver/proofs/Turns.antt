@@ -1,5 +1,5 @@
 -- The turns of a walk over the table.
-use Rattle.std.proofs.Common.{◌≡◌, ◌≢◌, ◌⊎◌, inl, inr, ℕ, ◌+◌, ◌<◌, ◌≤◌, Bool, List, [], ◌∷◌, ◌++◌, length, set, take, drop, get_or, refl, sym, ap, subst, ◌∙◌, arith, Option, Some, None, unwrap_or, add-zero}
+use Rattle.std.proofs.Common.{◌≡◌, ◌≢◌, ◌⊎◌, inl, inr, ℕ, ◌+◌, ◌<◌, ◌≤◌, List, [], ◌∷◌, ◌++◌, length, set, take, drop, get_or, refl, sym, ap, subst, ◌∙◌, arith, Option, Some, None, unwrap_or, add-zero}
 use Rattle.std.proofs.lemmas.Bool.{cases_lt, cases_eq}
 use Rattle.std.proofs.lemmas.List.{take_all, take_more, take_more_set, get_or-drop, drop-drop, drop-set-lt, length-set, get_or-set_same, get_or-set_other}
 use Rattle.std.proofs.Math.ListN.{get_or-eq_default}
@@ -30,7 +30,7 @@ ends_present s last new Waiting d e p = subst (λ v. IsPresentIn v.hub s) (sym e
 ends_present s last new Again d e p = subst (λ v. IsPresentIn v.hub s) (sym e) p
 ends_present s last new Gone d e p = absurd (d refl)
 
-module _ {T : Type 0} (tells : Bool) (traffic : T → Traffic) where
+module _ {T : Type 0} (tells : Type 0) (traffic : T → Traffic) where
   -- the session that an entry holds is the one that it held, and it was not gone
   entry_session : (state : EntryState) (earlier : Point) (old : Entry T) (later : Point) (new : Entry T) → old.state ≡ state → DrivenIn tells traffic state earlier old later new → new.state ≢ EntryGone
       → (new.session ≡ old.session) × (old.state ≢ EntryGone)
@@ -63,7 +63,7 @@ module _ {T : Type 0} (tells : Bool) (traffic : T → Traffic) where
       by EntryGone d h = (refl, refl)
 
   -- each other session is as it was
-  entry_other : (state : EntryState) (earlier : Point) (old : Entry T) (later : Point) (new : Entry T) → old.state ≡ state → DrivenIn tells traffic state earlier old later new
+  pub entry_other : (state : EntryState) (earlier : Point) (old : Entry T) (later : Point) (new : Entry T) → old.state ≡ state → DrivenIn tells traffic state earlier old later new
       → (t : ℕ) → (old.state ≢ EntryGone → t ≢ old.session) → stream_of later.hub t ≡ stream_of earlier.hub t
   entry_other Ready earlier old later new is d t differs =
       let apart : t ≢ old.session = differs (λ gone. (let bad : Ready ≡ EntryGone = sym is ∙ gone in cc)) in

@@ -1,5 +1,5 @@
 -- A stream that holds what it has taken, before another one.
-use Rattle.std.specs.Prelude.{◌≡◌, ◌⊎◌, ◌-◌, ◌<◌, ◌≤◌, ◌++◌, ◌||◌, ℕ, Bool, IsTrue, true, false, List, [], ◌∷◌, Some, take, drop, length, vec_len}
+use Rattle.std.specs.Prelude.{◌≡◌, ◌⊎◌, ◌-◌, ◌<◌, ◌≤◌, ◌++◌, ◌||◌, ◌≢◌, ◌↔◌, ℕ, Bool, true, false, List, [], ◌∷◌, Some, take, drop, length, vec_len}
 use Rattle.stream_driver.specs.declared.answers.Call.TheVariants.{Read, Write}
 use Rattle.stream_driver.specs.declared.answers.ReadAnswer.{ReadAnswer}
 use Rattle.stream_driver.specs.declared.answers.ReadAnswer.TheVariants.{Moved, Blocked, Failed, Ended}
@@ -10,7 +10,7 @@ use Rattle.stream_driver.specs.declared.buffered.Counts.{Counts}
 use Rattle.stream_driver.specs.declared.buffered.Flushed.{Flushed}
 use Rattle.stream_driver.specs.declared.buffered.Flushed.TheVariants.{All, Blocked as FlushBlocked, Failed as FlushFailed}
 use Rattle.stream_driver.specs.declared.buffered.BufferedStream.{BufferedStream}
-use Rattle.stream_driver.specs.Traffic.{Traffic, ReadsWithin, WritesWithin, bytes_read, bytes_written}
+use Rattle.stream_driver.specs.Traffic.{Traffic, ReadsWithin, WritesWithin, bytes_read, bytes_written, untouched}
 
 -- the bytes that are held
 abbrev pub held_in : Held → List ℕ
@@ -46,6 +46,16 @@ module _ {T : Type 0} where
   abbrev pub is_settled : BufferedStream T → Bool
   is_settled b = b.has_failed || is_none (held_in b.held)
 
+  -- one that was just made: nothing is held, no write of what is held failed, and no call was made
+  pub record IsNew (inner : T) (b : BufferedStream T) : Type 0 where
+    pub inner_is : b.inner ≡ inner
+    pub nothing : held_in b.held ≡ []
+    pub failed : b.has_failed ≡ false
+    pub short : b.is_short ≡ false
+    pub drained : b.is_drained ≡ false
+    pub reads_on : b.reads_on ≡ false
+    pub counts : counted b.counts ≡ untouched
+
   -- the next drive may read
   abbrev pub fresh : BufferedStream T → BufferedStream T
   fresh b = record b { is_short = false; is_drained = false }
@@ -54,6 +64,68 @@ module _ {T : Type 0} where
   -- by what it holds. The answers are its own.
   abbrev pub traffic_through : (T → Traffic) → BufferedStream T → Traffic
   traffic_through traffic b = counted_with b.counts (traffic b.inner).given ((traffic b.inner).taken ++ held_in b.held)
+
+  -- A read that gave fewer bytes than it was asked for is short, unless such a read means nothing; where it gave none, it is as the last
+  -- one was. Nothing was taken since then.
+  abbrev pub ShortAfter : BufferedStream T → ℕ → ReadAnswer → BufferedStream T → Type 0
+  ShortAfter old len (Moved n) new = (new.is_short ≡ true) ↔ ((n < len) × (old.reads_on ≡ false))
+  ShortAfter old len Blocked new = new.is_short ≡ old.is_short
+  ShortAfter old len Failed new = new.is_short ≡ old.is_short
+  ShortAfter old len Ended new = new.is_short ≡ old.is_short
+
+  pub record ReadsShort (old : BufferedStream T) (len : ℕ) (answer : ReadAnswer) (new : BufferedStream T) : Type 0 where
+    pub short : ShortAfter old len answer new
+    pub drained : new.is_drained ≡ old.is_drained
+    pub reads_on : new.reads_on ≡ old.reads_on
+
+  -- once bytes were taken after a short read, this drive has read all that is there
+  abbrev pub is_drained_after : WriteAnswer → BufferedStream T → Bool
+  is_drained_after (Wrote n) b = b.is_drained || b.is_short
+  is_drained_after WriteBlocked b = b.is_drained
+  is_drained_after WriteFailed b = b.is_drained
+
+  pub record Drains (old : BufferedStream T) (answer : WriteAnswer) (new : BufferedStream T) : Type 0 where
+    pub drained : new.is_drained ≡ is_drained_after answer old
+    pub short : new.is_short ≡ old.is_short
+    pub reads_on : new.reads_on ≡ old.reads_on
+
+  -- Nothing of what is held has left, and whether it failed to leave is as it was; or some has, and it has not failed since.
+  abbrev pub StaysFailed : BufferedStream T → BufferedStream T → Type 0
+  StaysFailed old new =
+      ((held_in new.held ≡ held_in old.held) × (new.has_failed ≡ old.has_failed))
+      ⊎ ((length (held_in new.held) < length (held_in old.held)) × (new.has_failed ≡ false))
+
+  -- what is held failed to leave, and is held still
+  abbrev pub HasFailed : BufferedStream T → Type 0
+  HasFailed b = (held_in b.held ≢ []) × (b.has_failed ≡ true)
+
+  -- whether what is held failed to leave, once it was written
+  abbrev pub FlushFails : BufferedStream T → Flushed → BufferedStream T → Type 0
+  FlushFails old All new = StaysFailed old new
+  FlushFails old FlushBlocked new = StaysFailed old new
+  FlushFails old FlushFailed new = HasFailed new
+
+  -- once there was to be room for more: only where there was none has it changed
+  abbrev pub StaysWithRoom : BufferedStream T → BufferedStream T → Type 0
+  StaysWithRoom old new = (new.has_failed ≡ old.has_failed) ⊎ ((room_in old.held ≡ 0) × (new.has_failed ≡ false))
+
+  abbrev pub RoomFails : BufferedStream T → Flushed → BufferedStream T → Type 0
+  RoomFails old All new = StaysWithRoom old new
+  RoomFails old FlushBlocked new = StaysWithRoom old new
+  RoomFails old FlushFailed new = HasFailed new
+
+  -- once bytes were to be taken
+  abbrev pub WriteFails : BufferedStream T → WriteAnswer → BufferedStream T → Type 0
+  WriteFails old (Wrote n) new = StaysWithRoom old new
+  WriteFails old WriteBlocked new = StaysWithRoom old new
+  WriteFails old WriteFailed new = HasFailed new ⊎ ((held_in new.held ≡ []) × StaysWithRoom old new)
+
+  -- once bytes were to be given
+  abbrev pub ReadFails : BufferedStream T → ReadAnswer → BufferedStream T → Type 0
+  ReadFails old (Moved n) new = StaysFailed old new
+  ReadFails old Blocked new = StaysFailed old new
+  ReadFails old Failed new = HasFailed new ⊎ ((held_in new.held ≡ []) × StaysFailed old new)
+  ReadFails old Ended new = StaysFailed old new
 
   -- there is room for more, or the stream behind blocked or failed last
   abbrev pub WhyRoom : (T → Traffic) → Flushed → BufferedStream T → Type 0
@@ -78,21 +150,22 @@ module _ {T : Type 0} where
       ((held_in new.held ≡ []) × (((traffic new.inner).last ≡ Some (Read Blocked)) ⊎ (old.is_drained ≡ true)))
       ⊎ ((traffic new.inner).last ≡ Some (Write WriteBlocked))
 
-  module _ (tells : Bool) (traffic : T → Traffic) where
+  module _ (tells : Type 0) (traffic : T → Traffic) where
     -- no byte came or went, lost or twice
     pub record KeepsBytes (old new : BufferedStream T) : Type 0 where
-      pub given : IsTrue tells → (traffic new.inner).given ≡ (traffic old.inner).given
-      pub taken : IsTrue tells → (traffic new.inner).taken ++ held_in new.held ≡ (traffic old.inner).taken ++ held_in old.held
+      pub given : tells → (traffic new.inner).given ≡ (traffic old.inner).given
+      pub taken : tells → (traffic new.inner).taken ++ held_in new.held ≡ (traffic old.inner).taken ++ held_in old.held
       pub counts : new.counts ≡ old.counts
       pub short : new.is_short ≡ old.is_short
       pub drained : new.is_drained ≡ old.is_drained
       pub reads_on : new.reads_on ≡ old.reads_on
 
-    -- one write of what is held: so much has left, or the stream behind blocked or failed, and all is held still
+    -- One write of what is held: so much has left, or the stream behind blocked or failed, and all is held still. It has failed after
+    -- the stream behind failed, and no more after some has left.
     abbrev pub WhyWroteHeld : BufferedStream T → WriteAnswer → BufferedStream T → Type 0
-    WhyWroteHeld old (Wrote n) new = (0 < n) × (n ≤ length (held_in old.held)) × (held_in new.held ≡ drop n (held_in old.held))
-    WhyWroteHeld old WriteBlocked new = (held_in new.held ≡ held_in old.held) × ((traffic new.inner).last ≡ Some (Write WriteBlocked))
-    WhyWroteHeld old WriteFailed new = (held_in new.held ≡ held_in old.held) × ((traffic new.inner).last ≡ Some (Write WriteFailed))
+    WhyWroteHeld old (Wrote n) new = (0 < n) × (n ≤ length (held_in old.held)) × (held_in new.held ≡ drop n (held_in old.held)) × (new.has_failed ≡ false)
+    WhyWroteHeld old WriteBlocked new = (held_in new.held ≡ held_in old.held) × ((traffic new.inner).last ≡ Some (Write WriteBlocked)) × (new.has_failed ≡ old.has_failed)
+    WhyWroteHeld old WriteFailed new = (held_in new.held ≡ held_in old.held) × ((traffic new.inner).last ≡ Some (Write WriteFailed)) × (new.has_failed ≡ true)
 
     pub record WritesHeld (old : BufferedStream T) (answer : WriteAnswer) (new : BufferedStream T) : Type 0 where
       pub kept : KeepsBytes old new
@@ -107,28 +180,28 @@ module _ {T : Type 0} where
     pub record Flushes (old : BufferedStream T) (answer : Flushed) (new : BufferedStream T) : Type 0 where
       pub kept : KeepsBytes old new
       pub why : WhyFlushed answer new
+      pub failed : FlushFails old answer new
 
     -- what is held is written, unless the stream behind failed to take it
     abbrev pub Finishes : BufferedStream T → BufferedStream T → Type 0
-    Finishes old new = ((old.has_failed ≡ true) × (new ≡ old)) ⊎ ((answer : Flushed) × Flushes old answer new)
+    Finishes old new = ((old.has_failed ≡ true) × (new ≡ old)) ⊎ ((old.has_failed ≡ false) × (answer : Flushed) × Flushes old answer new)
 
     pub record TakesSome (old : BufferedStream T) (from : List ℕ) (answer : WriteAnswer) (new : BufferedStream T) : Type 0 where
       pub within : WritesWithin answer (length from)
-      pub given : IsTrue tells → (traffic new.inner).given ≡ (traffic old.inner).given
-      pub taken : IsTrue tells → (traffic new.inner).taken ++ held_in new.held ≡ ((traffic old.inner).taken ++ held_in old.held) ++ take (bytes_written answer) from
+      pub given : tells → (traffic new.inner).given ≡ (traffic old.inner).given
+      pub taken : tells → (traffic new.inner).taken ++ held_in new.held ≡ ((traffic old.inner).taken ++ held_in old.held) ++ take (bytes_written answer) from
       pub counts : new.counts ≡ old.counts
       pub why : WhyTook traffic answer new
-
-    -- a read is short where it gave fewer bytes than it was asked for, and that tells
-    abbrev pub FallsShort : BufferedStream T → ℕ → ReadAnswer → BufferedStream T → Type 0
-    FallsShort old len answer new =
-        (new.reads_on ≡ old.reads_on) × (new.is_drained ≡ old.is_drained)
-        × (new.is_short ≡ true → old.is_short ≡ false → (bytes_read answer < len) × (0 < bytes_read answer) × (old.reads_on ≡ false))
+      pub failed : WriteFails old answer new
+      pub short : new.is_short ≡ old.is_short
+      pub drained : new.is_drained ≡ old.is_drained
+      pub reads_on : new.reads_on ≡ old.reads_on
 
     pub record GivesSome (old : BufferedStream T) (before : List ℕ) (answer : ReadAnswer) (new : BufferedStream T) (after : List ℕ) : Type 0 where
       pub within : ReadsWithin answer (length before)
-      pub given : IsTrue tells → (traffic new.inner).given ≡ (traffic old.inner).given ++ take (bytes_read answer) after
-      pub taken : IsTrue tells → (traffic new.inner).taken ++ held_in new.held ≡ (traffic old.inner).taken ++ held_in old.held
+      pub given : tells → (traffic new.inner).given ≡ (traffic old.inner).given ++ take (bytes_read answer) after
+      pub taken : tells → (traffic new.inner).taken ++ held_in new.held ≡ (traffic old.inner).taken ++ held_in old.held
       pub counts : new.counts ≡ old.counts
       pub why : WhyGave traffic old answer new
-      pub short : FallsShort old (length before) answer new
+      pub failed : ReadFails old answer new
+      pub short : ReadsShort old (length before) answer new

@@ -1,5 +1,5 @@
 -- What the parts of a drive do.
-use Rattle.std.specs.Prelude.{◌≡◌, ◌≢◌, ℕ, ◌+◌, ◌<◌, ◌≤◌, Bool, [], length}
+use Rattle.std.specs.Prelude.{◌≡◌, ◌≢◌, ℕ, ◌+◌, ◌<◌, ◌≤◌, [], length}
 use Rattle.sessions.specs.declared.events.Status.TheVariants.{Open, Ending, Refused}
 use Rattle.sessions.specs.SessionStreams.{HubState}
 use Rattle.stream_driver.specs.declared.answers.Call.TheVariants.{Read, Write}
@@ -16,11 +16,11 @@ use Rattle.stream_driver.specs.Sessions.{Point, status_at, room_at, pending_at, 
 use Rattle.stream_driver.specs.Drives.{Carried}
 
 -- how many requests were served
-abbrev pub served_in : {s : ℕ} {tells : Bool} {old : Point} {before : Traffic} {new : Point} {after : Traffic} → Carried s tells old before new after → ℕ
+abbrev pub served_in : {s : ℕ} {tells : Type 0} {old : Point} {before : Traffic} {new : Point} {after : Traffic} → Carried s tells old before new after → ℕ
 served_in c = length c.runs.history.served
 
 -- nothing was served, and the session stands as it stood
-pub record Moves (s : ℕ) (tells : Bool) (old : Point) (before : Traffic) (new : Point) (after : Traffic) : Type 0 where
+pub record Moves (s : ℕ) (tells : Type 0) (old : Point) (before : Traffic) (new : Point) (after : Traffic) : Type 0 where
   pub carried : Carried s tells old before new after
   pub none_served : served_in carried ≡ 0
   pub status : status_at new.hub s ≡ status_at old.hub s
@@ -31,7 +31,7 @@ WhyWrote s old new (Wrote n) = (0 < n) × (length (pending_at new s) + n ≡ len
 WhyWrote s old new WriteBlocked = pending_at new s ≡ pending_at old s
 WhyWrote s old new WriteFailed = pending_at new s ≡ pending_at old s
 
-pub record WritesSome (s : ℕ) (tells : Bool) (old : Point) (before : Traffic) (answer : WriteAnswer) (new : Point) (after : Traffic) : Type 0 where
+pub record WritesSome (s : ℕ) (tells : Type 0) (old : Point) (before : Traffic) (answer : WriteAnswer) (new : Point) (after : Traffic) : Type 0 where
   pub moves : Moves s tells old before new after
   pub answered : EndsWith (Write answer) before after
   pub why : WhyWrote s old.hub new.hub answer
@@ -42,7 +42,7 @@ WhyFlushed s new before after Empty = AllMoved before after × (pending_at new s
 WhyFlushed s new before after FlushBlocked = EndsWith (Write WriteBlocked) before after × (pending_at new s ≢ [])
 WhyFlushed s new before after FlushFailed = EndsWith (Write WriteFailed) before after × (pending_at new s ≢ [])
 
-pub record Flushes (s : ℕ) (tells : Bool) (old : Point) (before : Traffic) (answer : Flush) (new : Point) (after : Traffic) : Type 0 where
+pub record Flushes (s : ℕ) (tells : Type 0) (old : Point) (before : Traffic) (answer : Flush) (new : Point) (after : Traffic) : Type 0 where
   pub moves : Moves s tells old before new after
   pub why : WhyFlushed s new.hub before after answer
 
@@ -53,7 +53,7 @@ WhyRead s old new Blocked = new ≡ old
 WhyRead s old new Failed = new ≡ old
 WhyRead s old new Ended = new ≡ old
 
-pub record ReadsSome (s : ℕ) (tells : Bool) (old : Point) (before : Traffic) (answer : ReadAnswer) (new : Point) (after : Traffic) : Type 0 where
+pub record ReadsSome (s : ℕ) (tells : Type 0) (old : Point) (before : Traffic) (answer : ReadAnswer) (new : Point) (after : Traffic) : Type 0 where
   pub moves : Moves s tells old before new after
   pub pending : pending_at new.hub s ≡ pending_at old.hub s
   pub answered : EndsWith (Read answer) before after
@@ -68,19 +68,19 @@ WhyExchanged s new before after served ExchangeBlocked = EndsWith (Read Blocked)
 WhyExchanged s new before after served ExchangeFailed = EndsWith (Read Failed) before after × AwaitsMore new s
 WhyExchanged s new before after served ExchangeEnded = EndsWith (Read Ended) before after × AwaitsMore new s
 
-pub record Exchanges (s : ℕ) (tells : Bool) (old : Point) (before : Traffic) (answer : Exchange) (new : Point) (after : Traffic) : Type 0 where
+pub record Exchanges (s : ℕ) (tells : Type 0) (old : Point) (before : Traffic) (answer : Exchange) (new : Point) (after : Traffic) : Type 0 where
   pub carried : Carried s tells old before new after
   pub few : served_in carried ≤ 1
   pub why : WhyExchanged s new.hub before after (served_in carried) answer
 
 -- between two writes: so much is pending
-pub record WrittenSoFar (s : ℕ) (tells : Bool) (old : Point) (before : Traffic) (new : Point) (after : Traffic) (owed : ℕ) : Type 0 where
+pub record WrittenSoFar (s : ℕ) (tells : Type 0) (old : Point) (before : Traffic) (new : Point) (after : Traffic) (owed : ℕ) : Type 0 where
   pub moves : Moves s tells old before new after
   pub moved : AllMoved before after
   pub owed_is : owed ≡ length (pending_at new.hub s)
 
 -- between two reads: so much room is left
-pub record ReadSoFar (s : ℕ) (tells : Bool) (old : Point) (before : Traffic) (new : Point) (after : Traffic) (room : ℕ) : Type 0 where
+pub record ReadSoFar (s : ℕ) (tells : Type 0) (old : Point) (before : Traffic) (new : Point) (after : Traffic) (room : ℕ) : Type 0 where
   pub moves : Moves s tells old before new after
   pub moved : AllMoved before after
   pub is_open : status_at new.hub s ≡ Open
@@ -88,13 +88,13 @@ pub record ReadSoFar (s : ℕ) (tells : Bool) (old : Point) (before : Traffic) (
   pub room_is : room ≡ room_at new.hub s
 
 -- between two requests
-pub record DrivenSoFar (s : ℕ) (tells : Bool) (old : Point) (before : Traffic) (new : Point) (after : Traffic) (served : ℕ) : Type 0 where
+pub record DrivenSoFar (s : ℕ) (tells : Type 0) (old : Point) (before : Traffic) (new : Point) (after : Traffic) (served : ℕ) : Type 0 where
   pub carried : Carried s tells old before new after
   pub moved : AllMoved before after
   pub few : served_in carried ≤ served
   pub served_is : status_at new.hub s ≡ Open → served_in carried ≡ served
 
 -- and at least so many bytes were sent
-pub record DrivenOut (s : ℕ) (tells : Bool) (old : Point) (before : Traffic) (new : Point) (after : Traffic) (served sent : ℕ) : Type 0 where
+pub record DrivenOut (s : ℕ) (tells : Type 0) (old : Point) (before : Traffic) (new : Point) (after : Traffic) (served sent : ℕ) : Type 0 where
   pub driven : DrivenSoFar s tells old before new after served
   pub out : sent ≤ length driven.carried.runs.history.sent

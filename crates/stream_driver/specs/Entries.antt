@@ -29,7 +29,7 @@ pub record HaveSessions {D : Type 0} {g : Ghosts D} {T : Type 0} (hub : Hub D g)
 abbrev pub KeepSessions : {T : Type 0} → List (Option (Entry T)) → List (Option (Entry T)) → Type 0
 KeepSessions {T} old new = (key : ℕ) (entry : Entry T) → slice_index_or new key None ≡ Some entry → (was : Entry T) × (slice_index_or old key None ≡ Some was) × (entry.session ≡ was.session)
 
-module _ {T : Type 0} (tells : Bool) (traffic : T → Traffic) where
+module _ {T : Type 0} (tells : Type 0) (traffic : T → Traffic) where
   -- one drive left the entry so
   pub record DrivenOnce (earlier : Point) (old : Entry T) (later : Point) (new : Entry T) : Type 0 where
     pub answer : Progress
@@ -76,7 +76,7 @@ module _ {T : Type 0} where
   abbrev pub is_over : Entry (BufferedStream T) → Bool
   is_over entry = is_gone entry.state && is_settled entry.stream
 
-  module _ (tells : Bool) (traffic : T → Traffic) where
+  module _ (tells : Type 0) (traffic : T → Traffic) where
     abbrev pub EndsIn : EntryState → BufferedStream T → BufferedStream T → Type 0
     EndsIn Idle old new = new ≡ fresh old
     EndsIn Ready old new = Finishes tells traffic (fresh old) new

@@ -1,5 +1,5 @@
 -- What a stream has moved and answered so far.
-use Rattle.std.specs.Prelude.{◌≡◌, ℕ, ◌+◌, ◌<◌, ◌≤◌, ◌^◌, ◌-◌, min, max, List, Option, Some}
+use Rattle.std.specs.Prelude.{◌≡◌, ℕ, ◌+◌, ◌<◌, ◌≤◌, ◌^◌, ◌-◌, min, max, List, [], Option, Some, None}
 use Rattle.stream_driver.specs.declared.answers.Call.{Call}
 use Rattle.stream_driver.specs.declared.answers.Call.TheVariants.{Read, Write}
 use Rattle.stream_driver.specs.declared.answers.ReadAnswer.{ReadAnswer}
@@ -17,6 +17,10 @@ pub record Traffic : Type 0 where
   pub write_blocked : ℕ
   pub write_failed : ℕ
   pub last : Option Call
+
+-- of a stream that was never called
+abbrev pub untouched : Traffic
+untouched = record { given = []; taken = []; read_blocked = 0; read_failed = 0; read_ended = 0; write_blocked = 0; write_failed = 0; last = None }
 
 -- a u64 count after one more: the highest stays
 abbrev pub one_more : ℕ → ℕ
@@ -56,6 +60,13 @@ abbrev pub SameCounts : Traffic → Traffic → Type 0
 SameCounts a b =
     (a.read_blocked ≡ b.read_blocked) × (a.read_failed ≡ b.read_failed) × (a.read_ended ≡ b.read_ended)
     × (a.write_blocked ≡ b.write_blocked) × (a.write_failed ≡ b.write_failed)
+
+-- nothing has moved, and no call was made
+pub record IsUncalled (tells : Type 0) (t : Traffic) : Type 0 where
+  pub given : tells → t.given ≡ []
+  pub taken : tells → t.taken ≡ []
+  pub counts : SameCounts t untouched
+  pub last : t.last ≡ None
 
 abbrev pub after_call : Call → Traffic → Traffic
 after_call (Read answer) = after_read answer

@@ -28,11 +28,14 @@ struct Counts {
 }
 
 impl Counts {
-    ghost use Rattle.stream_driver.specs.Traffic.{EndsWith};
+    ghost use Rattle.std.specs.Prelude.{◌≡◌};
+    ghost use Rattle.stream_driver.specs.Traffic.{EndsWith, untouched};
     ghost use Rattle.stream_driver.specs.Buffers.{counted};
 
     // Of no call.
-    fn new() -> Counts {
+    fn new() -> Counts
+        ensures { counted result ≡ untouched }
+    {
         Counts {
             read_blocked: 0,
             read_failed: 0,
@@ -95,11 +98,11 @@ pub struct BufferedStream<S: Stream> {
 
 impl<S: Stream> BufferedStream<S> {
     ghost use Rattle.std.specs.Prelude.{◌≡◌, ◌≢◌, ◌||◌, [], IfOk, true, false};
-    ghost use Rattle.stream_driver.specs.Buffers.{held_in, Flushes, KeepsBytes, WhyRoom, WritesHeld, TakesSome, Finishes, GivesSome, fresh, is_settled};
+    ghost use Rattle.stream_driver.specs.Buffers.{held_in, Flushes, IsNew, KeepsBytes, RoomFails, WhyRoom, WritesHeld, TakesSome, Finishes, GivesSome, fresh, is_settled};
 
     /// The stream before this one, holding nothing. Takes the memory for `HELD_MAX` bytes, and none later.
     pub fn new(alloc: Global, inner: S) -> Result<BufferedStream<S>, AllocError>
-        ensures { IfOk result (λ stream. (stream.inner ≡ inner) × (held_in stream.held ≡ [])) }
+        ensures { IfOk result (λ stream. IsNew inner stream) }
     {
         Ok(BufferedStream {
             inner,
@@ -185,6 +188,7 @@ impl<S: Stream> BufferedStream<S> {
     fn make_room(&mut self) -> Flushed
         ensures kept { KeepsBytes S.tells S.traffic self.old self.new }
         ensures why { WhyRoom S.traffic result self.new }
+        ensures failed { RoomFails self.old result self.new }
     {
         if self.held.room() > 0 {
             return Flushed::All;
@@ -230,9 +234,9 @@ impl<S: Stream> BufferedStream<S> {
 }
 
 impl<S: Stream> Stream for BufferedStream<S> {
-    ghost use Rattle.std.specs.Prelude.{◌≡◌, ◌<◌, ◌++◌, IsTrue, length, take};
+    ghost use Rattle.std.specs.Prelude.{◌≡◌, ◌<◌, ◌++◌, length, take};
     ghost use Rattle.stream_driver.specs.Traffic.{ReadsWithin, WritesWithin, bytes_read, bytes_written, EndsWith};
-    ghost use Rattle.stream_driver.specs.Buffers.{WhyGave, WhyTook, traffic_through};
+    ghost use Rattle.stream_driver.specs.Buffers.{Drains, ReadFails, ReadsShort, WhyGave, WhyTook, WriteFails, traffic_through};
 
     ghost tells = { S.tells };
 
@@ -241,10 +245,12 @@ impl<S: Stream> Stream for BufferedStream<S> {
     fn read(&mut self, into: &mut [u8]) -> ReadAnswer
         requires { 0 < length into.old }
         ensures within { ReadsWithin result (length into.old) }
-        ensures given { IsTrue S.tells → (traffic_through S.traffic self.new).given ≡ (traffic_through S.traffic self.old).given ++ take (bytes_read result) into.new }
-        ensures taken { IsTrue S.tells → (traffic_through S.traffic self.new).taken ≡ (traffic_through S.traffic self.old).taken }
+        ensures given { S.tells → (traffic_through S.traffic self.new).given ≡ (traffic_through S.traffic self.old).given ++ take (bytes_read result) into.new }
+        ensures taken { S.tells → (traffic_through S.traffic self.new).taken ≡ (traffic_through S.traffic self.old).taken }
         ensures answered { EndsWith (Call.Read result) (traffic_through S.traffic self.old) (traffic_through S.traffic self.new) }
         ensures why { WhyGave S.traffic self.old result self.new }
+        ensures short { ReadsShort self.old (length into.old) result self.new }
+        ensures failed { ReadFails self.old result self.new }
     {
         let answer = self.give_some(into);
         self.counts.note_read(answer);
@@ -254,13 +260,17 @@ impl<S: Stream> Stream for BufferedStream<S> {
     fn write(&mut self, from: &[u8]) -> WriteAnswer
         requires { 0 < length from.now }
         ensures within { WritesWithin result (length from.now) }
-        ensures given { IsTrue S.tells → (traffic_through S.traffic self.new).given ≡ (traffic_through S.traffic self.old).given }
-        ensures taken { IsTrue S.tells → (traffic_through S.traffic self.new).taken ≡ (traffic_through S.traffic self.old).taken ++ take (bytes_written result) from.now }
+        ensures given { S.tells → (traffic_through S.traffic self.new).given ≡ (traffic_through S.traffic self.old).given }
+        ensures taken { S.tells → (traffic_through S.traffic self.new).taken ≡ (traffic_through S.traffic self.old).taken ++ take (bytes_written result) from.now }
         ensures answered { EndsWith (Call.Write result) (traffic_through S.traffic self.old) (traffic_through S.traffic self.new) }
         ensures why { WhyTook S.traffic result self.new }
+        ensures drains { Drains self.old result self.new }
+        ensures failed { WriteFails self.old result self.new }
     {
         let answer = self.take_some(from);
-        self.is_drained = self.is_drained || self.is_short;
+        if let WriteAnswer::Moved(_) = answer {
+            self.is_drained = self.is_drained || self.is_short;
+        }
         self.counts.note_write(answer);
         answer
     }

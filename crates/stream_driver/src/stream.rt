@@ -6,13 +6,13 @@ use crate::answers::{Call, ReadAnswer, WriteAnswer};
 ///
 /// What it has moved and answered is told by five counts, of each answer but `Moved` of each call, by the last call with its answer, and
 /// by the bytes that went each way. A count is a u64: it rises with its answer, and once it stands at 2^64 - 1 it stays. The bytes are
-/// claimed of a type that tells them alone; a socket leaves them open.
+/// claimed under a premise of the type, `tells`: of a peer in memory it holds, and of a socket one may grant it.
 pub trait Stream: Drop {
-    ghost use Rattle.std.specs.Prelude.{◌≡◌, ◌<◌, ◌++◌, Bool, IsTrue, length, take};
+    ghost use Rattle.std.specs.Prelude.{◌≡◌, ◌<◌, ◌++◌, length, take};
     ghost use Rattle.stream_driver.specs.Traffic.{Traffic, ReadsWithin, WritesWithin, bytes_read, bytes_written, EndsWith};
 
-    /// The bytes of `traffic` are those that the calls moved.
-    ghost tells: { Bool };
+    /// The bytes of `traffic` are those that the calls moved: said of each call where this holds.
+    ghost tells: { Type 0 };
 
     /// The bytes that were moved, how often each call gave each answer but `Moved`, and the last call with its answer.
     ghost traffic: { Self → Traffic };
@@ -22,15 +22,15 @@ pub trait Stream: Drop {
     fn read(&mut self, into: &mut [u8]) -> ReadAnswer
         requires { 0 < length into.old }
         ensures within { ReadsWithin result (length into.old) }
-        ensures given { IsTrue tells → (traffic self.new).given ≡ (traffic self.old).given ++ take (bytes_read result) into.new }
-        ensures taken { IsTrue tells → (traffic self.new).taken ≡ (traffic self.old).taken }
+        ensures given { tells → (traffic self.new).given ≡ (traffic self.old).given ++ take (bytes_read result) into.new }
+        ensures taken { tells → (traffic self.new).taken ≡ (traffic self.old).taken }
         ensures answered { EndsWith (Call.Read result) (traffic self.old) (traffic self.new) };
 
     /// Writes at least one byte from the front of `from`, or answers why none went. Takes no memory that a caller sees.
     fn write(&mut self, from: &[u8]) -> WriteAnswer
         requires { 0 < length from.now }
         ensures within { WritesWithin result (length from.now) }
-        ensures given { IsTrue tells → (traffic self.new).given ≡ (traffic self.old).given }
-        ensures taken { IsTrue tells → (traffic self.new).taken ≡ (traffic self.old).taken ++ take (bytes_written result) from.now }
+        ensures given { tells → (traffic self.new).given ≡ (traffic self.old).given }
+        ensures taken { tells → (traffic self.new).taken ≡ (traffic self.old).taken ++ take (bytes_written result) from.now }
         ensures answered { EndsWith (Call.Write result) (traffic self.old) (traffic self.new) };
 }

@@ -1,4 +1,5 @@
 use Rattle.std.proofs.Common.{arith}
+use Rattle.event_loop.specs.Sockets.{IsNewSocket}
 use Rattle.event_loop.proofs.Admits.{admits_entries, admits_numbers, admits_sessions, admits_stands}
 use Rattle.event_loop.proofs.Counts.{taken_none, taken_one}
 use Rattle.event_loop.proofs.Leading.{none_come, one_comes}
@@ -11,19 +12,19 @@ loop-accepted-init g c = (
   c.requires.numbers,
   c.requires.entries,
   taken_none (g.L.Listener.accepts c.args.listener.now),
-  none_come c.args.hub.now c.args.next.now c.args.table.now.slots c.runs_follow.ensures.none,
+  none_come IsNewSocket c.args.hub.now c.args.next.now c.args.table.now.slots c.runs_follow.ensures.none,
 )
 
 pub loop-accepted-preserved : goal.loop-accepted-preserved
 loop-accepted-preserved g c =
     let before = c.loop-accepted.invariant in
     let admits = c.admit.ensures.0 in (
-      admits_stands c.loop-accepted.hub c.admit.new.hub c.loop-accepted.next c.admit.new.next c.loop-accepted.table.slots c.admit.new.table.slots admits before.0,
-      admits_sessions c.loop-accepted.hub c.admit.new.hub c.loop-accepted.next c.admit.new.next c.loop-accepted.table.slots c.admit.new.table.slots admits before.0 before.2 before.1,
-      admits_numbers c.loop-accepted.hub c.admit.new.hub c.loop-accepted.next c.admit.new.next c.loop-accepted.table.slots c.admit.new.table.slots admits before.2,
-      admits_entries c.loop-accepted.hub c.admit.new.hub c.loop-accepted.next c.admit.new.next c.loop-accepted.table.slots c.admit.new.table.slots admits before.0 before.3,
+      admits_stands c.loop-accepted.hub c.admit.new.hub c.loop-accepted.next c.admit.new.next c.loop-accepted.table.slots c.admit.new.table.slots IsNewSocket admits before.0,
+      admits_sessions c.loop-accepted.hub c.admit.new.hub c.loop-accepted.next c.admit.new.next c.loop-accepted.table.slots c.admit.new.table.slots IsNewSocket admits before.0 before.2 before.1,
+      admits_numbers c.loop-accepted.hub c.admit.new.hub c.loop-accepted.next c.admit.new.next c.loop-accepted.table.slots c.admit.new.table.slots IsNewSocket admits before.2,
+      admits_entries c.loop-accepted.hub c.admit.new.hub c.loop-accepted.next c.admit.new.next c.loop-accepted.table.slots c.admit.new.table.slots IsNewSocket admits before.0 before.3,
       taken_one c.loop-accepted._accepted (g.L.Listener.accepts c.args.listener.now) (g.L.Listener.accepts c.loop-accepted.listener) (g.L.Listener.accepts c.accept.new.self) before.4 c.in-Taken.ensures,
-      one_comes c.args.hub.now c.args.next.now c.args.table.now.slots c.runs_follow.ensures.follow c.loop-accepted._accepted c.loop-accepted.hub c.admit.new.hub c.loop-accepted.next c.admit.new.next c.loop-accepted.table.slots
+      one_comes IsNewSocket c.args.hub.now c.args.next.now c.args.table.now.slots c.runs_follow.ensures.follow c.loop-accepted._accepted c.loop-accepted.hub c.admit.new.hub c.loop-accepted.next c.admit.new.next c.loop-accepted.table.slots
           c.admit.new.table.slots before.5 c.admit.ensures,
     )
 

@@ -6,6 +6,7 @@ use Rattle.event_loop.specs.Tables.{after_poll, slot_at}
 use Rattle.event_loop.proofs.Tables.{below_after, stands_after}
 use Rattle.event_loop.proofs.Entries.{driven_entries, ended_entries, ended_numbers, ended_sessions, polled_entries, polled_numbers, polled_sessions}
 use Rattle.event_loop.proofs.Serving.{served_after}
+use Rattle.event_loop.proofs.WholeTurns.{drives_keep, still_has}
 use Rattle.event_loop.proofs.server.EventLoop.drive.Goals as goal
 
 pub drive_ready-requires : goal.drive_ready-requires
@@ -24,6 +25,10 @@ invariant_of-self g c = record {
       ended_numbers ghosts.tells ghosts.traffic c.drive_ready.new.table.slots c.end_drives.new.table.slots c.end_drives.ensures c.args.self.now.next
       (below_after c.args.self.now.next c.make_polled_ready.new.table.slots c.drive_ready.new.table.slots
       (polled_numbers c.args.self.now.table.slots c.make_polled_ready.new.table.slots (items c.events.result.now) c.make_polled_ready.ensures c.args.self.now.next c.args.self.now.numbers) c.drive_ready.ensures.numbers);
+  bytes = still_has c.args.self.now.hub c.drive_ready.new.hub c.args.self.now.table.slots c.end_drives.new.table.slots
+      (drives_keep c.args.self.now.hub c.drive_ready.new.hub c.args.self.now.table.slots c.make_polled_ready.new.table.slots c.drive_ready.new.table.slots c.end_drives.new.table.slots
+      (items c.events.result.now) c.make_polled_ready.ensures
+      (polled_sessions c.args.self.now.table.slots c.make_polled_ready.new.table.slots (items c.events.result.now) c.make_polled_ready.ensures c.args.self.now.hub c.args.self.now.sessions) c.end_drives.ensures c.drive_ready.ensures.driven) c.args.self.now.bytes;
 }
 
 pub returns-clause-drives : goal.returns-clause-drives
@@ -34,3 +39,9 @@ returns-clause-drives g c = record {
   drives = c.drive_ready.ensures.driven;
   ended = c.end_drives.ensures;
 }
+
+pub returns-clause-keeps : goal.returns-clause-keeps
+returns-clause-keeps g c =
+    drives_keep c.args.self.now.hub c.drive_ready.new.hub c.args.self.now.table.slots c.make_polled_ready.new.table.slots c.drive_ready.new.table.slots c.end_drives.new.table.slots
+    (items c.events.result.now) c.make_polled_ready.ensures
+    (polled_sessions c.args.self.now.table.slots c.make_polled_ready.new.table.slots (items c.events.result.now) c.make_polled_ready.ensures c.args.self.now.hub c.args.self.now.sessions) c.end_drives.ensures c.drive_ready.ensures.driven

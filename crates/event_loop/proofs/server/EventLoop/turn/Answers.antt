@@ -6,6 +6,7 @@ use Rattle.event_loop.specs.Turns.{accepts_now}
 use Rattle.stream_driver.proofs.Events.{adds_none}
 use Rattle.stream_driver.proofs.States.{leads_map, leads_then}
 use Rattle.event_loop.proofs.OneTurn.{turned_by}
+use Rattle.event_loop.proofs.WholeTurns.{turn_keeps}
 use Rattle.event_loop.proofs.server.EventLoop.turn.Goals as goal
 
 pub returns-then-accepts_now-clause-turned : goal.returns-then-accepts_now-clause-turned
@@ -26,3 +27,11 @@ returns-else-accepts_now-clause-turned g c =
     turned_by ghosts.tells ghosts.traffic c.args.self.now c.drive.new.self _ c.drive.ensures.next c.drive.ensures.port c.drive.ensures.backlog _ (ap (λ (p : Poller). items p.events) c.drive.ensures.poller) false none
     c.drive.ensures.drives (record { hub = refl; table = refl; next = refl; port = refl; backlog = refl })
     (leads_map c.args.self.now.hub c.drive.new.self.hub _ _ c.drive.ensures.drives.drives (λ h k last p. (k, p, adds_none k)))
+
+pub returns-then-accepts_now-clause-bytes : goal.returns-then-accepts_now-clause-bytes
+returns-then-accepts_now-clause-bytes g c =
+    turn_keeps c.runs_follow.ensures.follow c.args.self.now.hub c.drive.new.self.hub c.accept.new.self.hub c.drive.new.self.next c.accept.new.self.next c.accept.ensures.accepts.taken c.args.self.now.table.slots
+    c.drive.new.self.table.slots c.accept.new.self.table.slots c.accept.ensures.accepts.became c.drive.new.self.numbers c.drive.ensures.keeps
+
+pub returns-else-accepts_now-clause-bytes : goal.returns-else-accepts_now-clause-bytes
+returns-else-accepts_now-clause-bytes g c = c.drive.ensures.keeps

@@ -1,0 +1,9 @@
+use Rattle.event_loop.proofs.Socketing.{given_read, taken_read}
+use Rattle.event_loop.proofs.socket.SocketStream.read.Goals as goal
+
+pub returns-clause-given : goal.returns-clause-given
+returns-clause-given c =
+    given_read c.args.self.now.socket c.read.new.self c.note_read.new.self.socket c.read.new.into c.read.result c.read.ensures.next c.note_read.ensures.socket c.read.ensures.happened c.read_answer-answer.result c.read_answer-answer.ensures.bytes
+
+pub returns-clause-taken : goal.returns-clause-taken
+returns-clause-taken c = taken_read c.args.self.now.socket c.read.new.self c.note_read.new.self.socket c.read.new.into c.read.result c.read.ensures.next c.note_read.ensures.socket c.read.ensures.happened

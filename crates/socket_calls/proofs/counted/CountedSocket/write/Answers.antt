@@ -1,0 +1,5 @@
+use Rattle.socket_calls.specs.HappenedCalls.{real_send}
+use Rattle.socket_calls.proofs.counted.CountedSocket.write.Goals as goal
+
+pub returns-clause-happened : goal.returns-clause-happened
+returns-clause-happened c = real_send _ _

@@ -1,0 +1,20 @@
+-- The calls that a run of the program really made of a connection. They are left open, as the facts of a connection are. The lemmas are to
+-- be cited only of the call that a proof is about, by the answers in `proofs/` of this crate.
+use Rattle.std.specs.Prelude.{ℕ, List}
+use Rattle.socket_calls.specs.declared.counted.CountedSocket.{CountedSocket}
+
+-- its next call was a read that gave these bytes
+pub WasReceived : CountedSocket → List ℕ → Type 0
+WasReceived socket bytes = Unit {0}
+
+-- its next call was a write that took these bytes
+pub WasSent : CountedSocket → List ℕ → Type 0
+WasSent socket bytes = Unit {0}
+
+pub real_receive : (socket : CountedSocket) (bytes : List ℕ) → WasReceived socket bytes
+unfolding WasReceived
+real_receive socket bytes = tt
+
+pub real_send : (socket : CountedSocket) (bytes : List ℕ) → WasSent socket bytes
+unfolding WasSent
+real_send socket bytes = tt

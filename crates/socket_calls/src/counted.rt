@@ -1,0 +1,68 @@
+//! The calls of a connection, each counted.
+ghost use Rattle.std.specs.Prelude.{◌≡◌, take};
+ghost use Rattle.std.specs.Io.{ReadsAtMost, WritesAtMost};
+
+use mio::net::TcpStream;
+use mio::{Interest, Poll, Token};
+use std::io::{self, Read, Write};
+use std::net::Shutdown;
+
+/// A TCP connection, with the number of reads and writes that were made of it. `read` and `write` make one call and count it; the count
+/// stays at 2^64 - 1 once it is there.
+#[derive(Drop)]
+pub struct CountedSocket {
+    stream: TcpStream,
+    /// The number that its maker gave it. Nothing but clauses reads it: it tells the connections of a run apart.
+    connection: u64,
+    calls: u64,
+}
+
+impl CountedSocket {
+    ghost use Rattle.socket_calls.specs.HappenedCalls.{WasReceived, WasSent};
+    ghost use Rattle.socket_calls.specs.OpenFacts.{moved, next};
+
+    /// The connection under this number, of which no call was made. Takes no memory.
+    pub fn new(stream: TcpStream, connection: u64) -> CountedSocket
+        ensures { result.calls ≡ 0 }
+    {
+        CountedSocket {
+            stream,
+            connection,
+            calls: 0,
+        }
+    }
+
+    /// Reads some bytes, and says how many. Answers the system's error. Takes no memory.
+    pub fn read(&mut self, into: &mut [u8]) -> io::Result<usize>
+        ensures bound { ReadsAtMost result into.new }
+        ensures next { self.new ≡ next self.old }
+        ensures happened { WasReceived self.old (take (moved result) into.new) }
+    {
+        self.count_call();
+        self.stream.read(into)
+    }
+
+    /// Writes some bytes from the front, and says how many. Answers the system's error. Takes no memory.
+    pub fn write(&mut self, from: &[u8]) -> io::Result<usize>
+        ensures bound { WritesAtMost result from.now }
+        ensures next { self.new ≡ next self.old }
+        ensures happened { WasSent self.old (take (moved result) from.now) }
+    {
+        self.count_call();
+        self.stream.write(from)
+    }
+
+    /// Shuts the connection down for writing once what was written has gone, and has the poll tell under this token of what still comes.
+    pub fn half_close(&mut self, poll: &Poll, token: Token) -> io::Result<()> {
+        self.stream.shutdown(Shutdown::Write)?;
+        poll.registry()
+            .reregister(&mut self.stream, token, Interest::READABLE)
+    }
+
+    /// Counts a call.
+    fn count_call(&mut self)
+        ensures { self.new ≡ next self.old }
+    {
+        self.calls = self.calls.saturating_add(1);
+    }
+}
