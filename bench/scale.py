@@ -148,7 +148,7 @@ class Client:
 class Store(Ssikvd):
     """A server over a data file of so many scattered keys."""
 
-    def __init__(self, options, keys, commits):
+    def __init__(self, options, keys, commits, environment=None):
         self.folder = tempfile.mkdtemp(prefix="ssikvd-scale-", dir=options.folder)
         self.data = os.path.join(self.folder, "data")
         self.keys = keys
@@ -156,7 +156,7 @@ class Store(Ssikvd):
         try:
             write_records(self.data, records(keys), free_sectors=commits * sectors_of(COMMIT_WRITES) + 64)
             self.begun = time.perf_counter()
-            Listening.__init__(self, words)
+            Listening.__init__(self, words, env=environment)
             self.opened = time.perf_counter() - self.begun
         except BaseException:
             self.remove()

@@ -314,8 +314,17 @@ def pictures(tally):
     with tally.run("the figures"):
         runs = [os.path.join(TOP, "docs", "runs", name) for name in os.listdir(os.path.join(TOP, "docs", "runs"))]
         report = subprocess.run([sys.executable, "-B", os.path.join(TOP, "bench", "report.py"), *runs], capture_output=True, text=True)
-        missing = [line for line in report.stdout.splitlines() if line not in text_of("docs/PERFORMANCE.md").splitlines()]
-        expect(report.returncode == 0 and not missing, f"PERFORMANCE.md has not {missing[:1]} {report.stderr}")
+        expect_shown(report)
+    with tally.run("the pauses"):
+        place = os.path.join(TOP, "docs", "pauses")
+        words = [sys.executable, "-B", os.path.join(TOP, "bench", "pauses.py"), "--table", *(os.path.join(place, name) for name in os.listdir(place))]
+        expect_shown(subprocess.run(words, capture_output=True, text=True))
+
+
+def expect_shown(report):
+    """What a report printed stands in docs/PERFORMANCE.md, line by line."""
+    missing = [line for line in report.stdout.splitlines() if line not in text_of("docs/PERFORMANCE.md").splitlines()]
+    expect(report.returncode == 0 and not missing, f"PERFORMANCE.md has not {missing[:1]} {report.stderr}")
 
 
 def layers(tally):

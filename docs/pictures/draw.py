@@ -2,7 +2,7 @@
 """Draws the pictures of the documents: `draw.py` writes them beside itself, `draw.py --check` looks whether they are as they would be drawn.
 
 The crates come from crates.txt, the examples from the folder examples, by its picture.py, and the figures from the results of bench/run.py in
-docs/runs. Text stays text.
+docs/runs and of bench/pauses.py in docs/pauses. Text stays text.
 """
 import math
 import os
@@ -11,6 +11,7 @@ import sys
 HERE = os.path.dirname(os.path.abspath(__file__))
 sys.path += [os.path.join(HERE, "..", "..", name) for name in ("bench", "examples")]
 
+from pauses import by_scene, rows_of_documents, shown                    # noqa: E402
 from picture import AMBER, BLUE, INK, RED, SOFT, Picture, play_picture  # noqa: E402
 from report import runs_of_documents                                    # noqa: E402
 
@@ -202,10 +203,38 @@ def bars(chart, title):
     return picture
 
 
+def pauses():
+    """The longest processor time between two polls of each scene, on a logarithmic axis, a bar for each number of keys."""
+    found = by_scene(rows_of_documents())
+    sizes = sorted({size for of_scene in found.values() for size in of_scene})
+    times = [figures["cpu_longest_ms"] for of_scene in found.values() for figures in of_scene.values()]
+    low, high = math.floor(math.log10(min(times))), math.ceil(math.log10(max(times)))
+    left, width, bar, row = 570, 400, 14, 16 * len(sizes) + 14
+    scale, bottom = width / (high - low), 66 + row * len(found)
+    picture = Picture("The longest pauses", left + width + 80, bottom + 46)
+    picture.text(20, 26, "The longest processor time between two polls", weight="bold")
+    for number, size in enumerate(sizes):
+        picture.box(left + 150 * number, 16, 12, 12, (BLUE, AMBER, RED)[number % 3], "none")
+        picture.text(left + 18 + 150 * number, 26, f"{size:,} keys", fill=SOFT)
+    for exponent in range(low, high + 1):
+        x = left + scale * (exponent - low)
+        picture.line(x, 46, x, bottom, "#d5dde4", False, 1)
+        picture.text(x, bottom + 16, f"{10 ** exponent:,g} ms", "middle", SOFT)
+    for number, (what, of_scene) in enumerate(found.items()):
+        y = 56 + row * number
+        picture.text(20, y + bar * len(of_scene) / 2 + 5, what, size=12)
+        for place, (size, figures) in enumerate(sorted(of_scene.items())):
+            at, length = y + (bar + 2) * place, max(2, round(scale * (math.log10(figures["cpu_longest_ms"]) - low), 1))
+            picture.box(left, at, length, bar, (BLUE, AMBER, RED)[sizes.index(size) % 3], "none")
+            picture.text(left + length + 6, at + bar - 2, shown(figures["cpu_longest_ms"]), size=11)
+    picture.text(20, bottom + 36, "Less is better. As long as one of them lasts nobody else is served.", fill=SOFT, size=11)
+    return picture
+
+
 PICTURES = {
     "crates": crates, "commit": commit, "append": append, **{name: lambda name=name: example(name) for name in EXAMPLES},
     "requests": lambda: bars("requests", "Requests and reads beside other programs"),
-    "commits": lambda: bars("commits", "Commits that write, beside the device and PostgreSQL")}
+    "commits": lambda: bars("commits", "Commits that write, beside the device and PostgreSQL"), "pauses": pauses}
 
 
 def main():

@@ -1,0 +1,419 @@
+"""What else a server does while one client waits for it: scenes over a store of so many keys, each with the waits of a PING beside it, and the
+processor time between two polls, which harness/polls.c measures."""
+
+import array
+import contextlib
+import mmap
+import multiprocessing
+import os
+import select
+import socket
+import struct
+import tempfile
+import time
+
+from scale import BEGIN, COMMIT, COMMIT_WRITES, MARKS, Client, Store, before_all, frame, map_keys, scattered, sets
+from servers import Failure
+
+PING, PONG = frame(b"PING"), b"+PONG\r\n"
+EACH_SECONDS = 0.001
+SESSIONS, FLOODING = 128, 60
+# The largest RANGE: so many pairs of the largest values.
+PAIRS, LARGE_VALUE = 128, 16_384
+QUEUE, STEP = 1_000, 32
+SMALL_COMMITS = 50
+
+
+# The client that sends PING
+
+def ping(address, channel):
+    """Sends PING each millisecond until it is told to end. Gives of each when it was sent, its wait, and how late the client itself was."""
+    host, port = address.rsplit(":", 1)
+    connection = socket.create_connection((host, int(port)))
+    connection.setsockopt(socket.IPPROTO_TCP, socket.TCP_NODELAY, 1)
+    channel.send("ready")
+    sent, waits, late = (array.array("d") for _ in range(3))
+    due, came, is_told = time.monotonic(), 0, False
+    while not is_told or len(waits) < len(sent):
+        now = time.monotonic()
+        if now >= due and not is_told:
+            connection.sendall(PING)
+            sent.append(now)
+            late.append(now - due)
+            # What it was too late for is left out.
+            due = max(due + EACH_SECONDS, now)
+        ready, _, _ = select.select([connection, channel], [], [], 1.0 if is_told else max(0.0, due - now))
+        if connection in ready:
+            came += len(connection.recv(1 << 16))
+            now = time.monotonic()
+            while len(waits) < came // len(PONG):
+                waits.append(now - sent[len(waits)])
+        is_told = is_told or channel in ready
+    channel.send((sent, waits, late))
+
+
+class Pinger:
+    """The process of that client."""
+
+    def __init__(self, address):
+        self.channel, other = multiprocessing.Pipe()
+        self.process = multiprocessing.Process(target=ping, args=(address, other), daemon=True)
+        self.process.start()
+        self.channel.recv()
+
+    def end(self):
+        """When each PING was sent, its wait, and how late the client itself was, in seconds."""
+        self.channel.send("end")
+        if not self.channel.poll(60):
+            raise Failure("a PING was not answered")
+        found = self.channel.recv()
+        self.process.join()
+        return found
+
+    def kill(self):
+        if self.process.is_alive():
+            self.process.kill()
+        self.process.join()
+
+
+# The processor time between two polls
+
+class Turns:
+    """What the preloaded library shares: the turns of the program between two polls."""
+
+    SIZE = 32
+
+    def __init__(self, library):
+        self.library = os.path.abspath(library)
+        file, self.name = tempfile.mkstemp(prefix="ssikvd-polls-")
+        with open(file, "r+b") as opened:
+            opened.write(bytes(self.SIZE))
+            opened.flush()
+            self.shared = mmap.mmap(opened.fileno(), self.SIZE)
+
+    def environment(self):
+        return {**os.environ, "LD_PRELOAD": self.library, "POLLS_CONTROL": self.name}
+
+    def _get(self, number):
+        return struct.unpack_from("=Q", self.shared, 8 * number)[0]
+
+    def _put(self, number, value):
+        struct.pack_into("=Q", self.shared, 8 * number, value)
+
+    def count(self):
+        return self._get(0)
+
+    def longest_ms(self):
+        return round(self._get(1) / 1e6, 3)
+
+    def all_ms(self):
+        return round(self._get(2) / 1e6, 3)
+
+    def begin(self):
+        """What was measured is forgotten."""
+        for number in range(3):
+            self._put(number, 0)
+
+    def waste(self, milliseconds):
+        """The program wastes so much processor time in its next turn."""
+        self._put(3, int(milliseconds * 1e6))
+
+    def remove(self):
+        self.shared.close()
+        os.remove(self.name)
+
+
+class Scene:
+    """A server over a store of so many keys, whose turns are measured, with its clients, one of which sends PING."""
+
+    def __init__(self, options, keys, commits):
+        self.options, self.parts = options, []
+        self.turns = Turns(options.library)
+        try:
+            self.store = Store(options, keys, commits, self.turns.environment())
+        except BaseException:
+            self.turns.remove()
+            raise
+
+    def __enter__(self):
+        self.pinger, self.watcher = Pinger(self.store.address), self.client()
+        return self
+
+    def __exit__(self, kind, *_):
+        try:
+            if kind is None:
+                self.waits = self.pinger.end()
+        finally:
+            self.pinger.kill()
+            self.store.__exit__()
+            self.turns.remove()
+
+    def client(self):
+        return Client(self.store.address)
+
+    def settle(self):
+        """Waits until the turn that answered last has ended."""
+        before = self.turns.count()
+        while self.turns.count() < before + 2:
+            self.watcher.ask(PING)
+
+    @contextlib.contextmanager
+    def part(self, name):
+        """What is done within is measured, and some time behind it."""
+        self.settle()
+        self.turns.begin()
+        self.turns.waste(self.options.wasted_ms)
+        begun, load = time.monotonic(), round(os.getloadavg()[0], 1)
+        yield
+        seconds = time.monotonic() - begun
+        time.sleep(self.options.behind)
+        self.settle()
+        if not self.turns.count():
+            raise Failure("the library that measures the turns isn't called")
+        figures = {"cpu_longest_ms": self.turns.longest_ms(), "cpu_all_ms": self.turns.all_ms(), "turns": self.turns.count()}
+        self.parts.append((name, begun, time.monotonic(), {**figures, "seconds": round(seconds, 2), "load": load}))
+
+    def rows(self):
+        """The figures of each part, with the waits of the PINGs that were sent in it."""
+        sent, waits, late = self.waits
+        for name, begun, ended, figures in self.parts:
+            chosen = [number for number, at in enumerate(sent) if begun <= at < ended]
+            yield name, {**waits_ms(sorted(waits[it] for it in chosen)), "client_late_ms": rounded_ms(max(late[it] for it in chosen)), **figures}
+
+
+def rounded_ms(seconds):
+    return round(1e3 * seconds, 3)
+
+
+def waits_ms(waits):
+    places = {"median_ms": len(waits) // 2, "most_ms": min(len(waits) * 999 // 1000, len(waits) - 1), "longest_ms": -1}
+    return {"pings": len(waits), **{name: rounded_ms(waits[at]) for name, at in places.items()}}
+
+
+# Pieces of scenes
+
+def in_commits(count, start=0):
+    """Numbers from the start on, so many, as those of each commit."""
+    return [range(at, min(at + COMMIT_WRITES, start + count)) for at in range(start, start + count, COMMIT_WRITES)]
+
+
+def commit_all(client, requests):
+    """A transaction of these requests, each with a reply of one line, sent at once."""
+    client.ask_lines(BEGIN + b"".join(requests) + COMMIT, 2 + len(requests))
+
+
+def set_all(client, key_of, count, start=0):
+    for numbers in in_commits(count, start):
+        commit_all(client, [sets([key_of(number)]) for number in numbers])
+
+
+def delete_all(client, keys):
+    for numbers in in_commits(len(keys)):
+        commit_all(client, [frame(b"DEL", keys[number]) for number in numbers])
+
+
+def small_commits(client):
+    """What an end left to the ends that follow."""
+    for number in range(SMALL_COMMITS):
+        commit_all(client, [sets([before_all(number)])])
+
+
+def opened(client):
+    """A transaction is opened, and has read."""
+    client.ask(BEGIN)
+    client.ask(frame(b"GET", scattered(0)))
+
+
+def bounds(number):
+    """The least key of this part of 256 of the scattered ones, and the end of the part."""
+    return b"%02x" % number, b"%02x" % (number + 1) if number < MARKS - 1 else b"g"
+
+
+def marking(client, most_pairs):
+    """A transaction reads 256 ranges, which hold all scattered keys where these are few, and writes 64 keys that nobody else does."""
+    client.ask(BEGIN)
+    found = sum(len(client.ask(frame(b"RANGE", *bounds(number), b"%d" % most_pairs))) // 2 for number in range(MARKS))
+    own = [b"own%02d" % number for number in range(COMMIT_WRITES)]
+    client.ask_lines(sets(own), len(own))
+    return found
+
+
+# The scenes: each does its work and gives what was measured
+
+def quiet(options):
+    """Nothing but the client that sends PING."""
+    with Scene(options, options.keys, 8) as scene:
+        with scene.part("nothing else"):
+            time.sleep(options.seconds)
+    return scene
+
+
+def load(options):
+    with Scene(options, 0, options.keys // COMMIT_WRITES + 8) as scene:
+        with scene.part("a random load"):
+            set_all(scene.client(), scattered, options.keys)
+    return scene
+
+
+def written_again(options):
+    with Scene(options, options.keys, options.keys // COMMIT_WRITES + SMALL_COMMITS + 8) as scene:
+        old, client = scene.client(), scene.client()
+        opened(old)
+        with scene.part("everything written again beside an old transaction"):
+            set_all(client, scattered, options.keys)
+        with scene.part("the end of that transaction"):
+            old.ask(COMMIT)
+            small_commits(client)
+    return scene
+
+
+def old_commit(options):
+    with Scene(options, options.keys, options.keys // COMMIT_WRITES + SMALL_COMMITS + 8) as scene:
+        old, client = scene.client(), scene.client()
+        marking(old, PAIRS)
+        set_all(client, scattered, options.keys)
+        with scene.part("the COMMIT of one with 256 ranges and 64 writes, beside which everything was written again"):
+            old.ask(COMMIT)
+            small_commits(client)
+    return scene
+
+
+def younger(options):
+    with Scene(options, options.keys, 2 * (options.keys // COMMIT_WRITES) + SMALL_COMMITS + 8) as scene:
+        old, young, client = scene.client(), scene.client(), scene.client()
+        opened(old)
+        set_all(client, scattered, options.keys)
+        opened(young)
+        set_all(client, scattered, options.keys)
+        with scene.part("the end of the younger of two old ones"):
+            young.ask(COMMIT)
+            small_commits(client)
+    return scene
+
+
+def queue_key(number):
+    return b"q%015d" % number
+
+
+def queue(options):
+    with Scene(options, 0, (options.keys + QUEUE) // STEP + 64) as scene:
+        old, client = scene.client(), scene.client()
+        set_all(client, queue_key, QUEUE)
+        opened(old)
+        with scene.part("a queue beside an old reader"):
+            for first in range(0, options.keys - STEP, STEP):
+                taken = client_takes(client)
+                if taken != [queue_key(number) for number in range(first, first + STEP)]:
+                    raise Failure(f"the queue gave {taken[:1]}")
+                put = sets([queue_key(number) for number in range(first + QUEUE, first + QUEUE + STEP)])
+                client.ask_lines(b"".join(frame(b"DEL", key) for key in taken) + put + COMMIT, 2 * STEP + 1)
+    return scene
+
+
+def client_takes(client):
+    """A transaction is opened, and reads the first keys of the queue."""
+    client.ask(BEGIN)
+    return client.ask(frame(b"RANGE", b"q", b"r", b"%d" % STEP))[::2]
+
+
+def half_deleted(options):
+    lower = [key for key in map(scattered, range(options.keys)) if key < b"8"]
+    with Scene(options, options.keys, len(lower) // COMMIT_WRITES + 8) as scene:
+        client = scene.client()
+        with scene.part("half of the keys deleted, and ranges over them"):
+            delete_all(client, lower)
+            for _ in range(20):
+                client.ask(BEGIN)
+                for number in range(MARKS // 2):
+                    client.ask(frame(b"RANGE", bounds(number)[0], b"", b"%d" % (1 if number % 2 else PAIRS)))
+                client.ask(COMMIT)
+    return scene
+
+
+def straddling(options):
+    """One half of the keys are deleted before the begin, though they aren't there, and the other half written after it."""
+    half = options.keys // 2
+    with Scene(options, 0, options.keys // COMMIT_WRITES + SMALL_COMMITS + 8) as scene:
+        older, old, client = scene.client(), scene.client(), scene.client()
+        opened(older)
+        delete_all(client, map_keys(scattered, 0, half))
+        if marking(old, PAIRS):
+            raise Failure("a range isn't empty")
+        set_all(client, scattered, half, half)
+        with scene.part("256 ranges over a run that straddles the begin"):
+            old.ask(COMMIT)
+            small_commits(client)
+    return scene
+
+
+def large_key(number):
+    return b"large%03d" % number
+
+
+def fill_large(client):
+    for keys in (range(PAIRS // 2), range(PAIRS // 2, PAIRS)):
+        commit_all(client, [frame(b"SET", large_key(number), b"x" * LARGE_VALUE) for number in keys])
+
+
+def flood(address, seconds):
+    """Clients that each ask for the largest RANGE, and for one more with each reply."""
+    request = frame(b"RANGE", b"large", b"larges", b"%d" % PAIRS)
+    whole = len(b"*%d\r\n" % (2 * PAIRS)) + PAIRS * (len(frame(large_key(0), b"x" * LARGE_VALUE)) - len(b"*2\r\n"))
+    poll, clients, due, buffer = select.epoll(), {}, {}, bytearray(1 << 20)
+    for _ in range(FLOODING):
+        client = Client(address)
+        client.ask(BEGIN)
+        client.socket.setblocking(False)
+        clients[client.socket.fileno()], due[client.socket.fileno()] = client, whole
+        poll.register(client.socket, select.EPOLLIN)
+    for client in clients.values():
+        client.socket.send(2 * request)
+    end, replies = time.monotonic() + seconds, 0
+    while time.monotonic() < end:
+        for number, _ in poll.poll(0.1):
+            due[number] -= clients[number].socket.recv_into(buffer)
+            if due[number] <= 0:
+                due[number], replies = due[number] + whole, replies + 1
+                clients[number].socket.send(request)
+    for client in clients.values():
+        client.socket.close()
+    return replies
+
+
+def largest_ranges(options):
+    with Scene(options, options.keys, 2 * (4 + PAIRS * (LARGE_VALUE + 512) // 512)) as scene:
+        fill_large(scene.client())
+        with scene.part("60 clients with the largest RANGEs"):
+            replies = flood(scene.store.address, options.seconds)
+        if not replies:
+            raise Failure("no RANGE was answered")
+    return scene
+
+
+def coming_and_going(options):
+    with Scene(options, options.keys, 8) as scene:
+        # The one that sends PING and the one that waits for turns are there too.
+        others = SESSIONS - 2
+        with scene.part("128 connections coming and going"):
+            end = time.monotonic() + options.seconds
+            while time.monotonic() < end:
+                some = [scene.client() for _ in range(others)]
+                for client in some:
+                    client.socket.sendall(PING)
+                for client in some:
+                    client.reply()
+                    client.socket.close()
+                # The server has seen them leave, so that no newcomer is one too many.
+                scene.settle()
+    return scene
+
+
+SCENES = {
+    "quiet": quiet, "load": load, "written_again": written_again, "old_commit": old_commit, "younger": younger, "queue": queue,
+    "half_deleted": half_deleted, "straddling": straddling, "largest_ranges": largest_ranges, "coming_and_going": coming_and_going,
+}
+
+
+def measured(options, name):
+    """The rows of a scene: what was done, and its figures."""
+    return list(SCENES[name](options).rows())
