@@ -4,3 +4,4 @@ pub mod Counts
 pub mod Endings
 pub mod Notices
 pub mod Openings
+pub mod Serving

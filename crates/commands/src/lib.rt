@@ -8,6 +8,7 @@ mod faults;
 mod running;
 mod serving;
 mod streams;
+mod system;
 
 pub use compacting::{compact, copy_count, copy_device};
 pub use data::{check, check_device, create, format_device};
@@ -16,6 +17,7 @@ pub use faults::Fault;
 pub use running::{run, run_watched};
 pub use serving::{Turns, serve, serve_turns};
 pub use streams::{NullDevice, Opener, keep_standard};
+pub use system::{DataFiles, Lines, Ports, SystemFiles, SystemPorts};
 
 /// The status of a command that was done, or of help that was asked for.
 pub const DONE: u8 = 0;

@@ -5,6 +5,7 @@ use crate::data::{check, create};
 use crate::endings::{Ending, tell};
 use crate::faults::Fault;
 use crate::serving::serve;
+use crate::system::{SystemFiles, SystemPorts};
 use command_line::{Asked, parse};
 use scripts::play;
 use std::alloc::Global;
@@ -42,7 +43,11 @@ pub fn run_watched<R: Files<File = File> + Net + Wait + Clock, I: Read + Drop, O
 ) -> u8 {
     let done = match parse(alloc, words) {
         Ok(Asked::Create { data, sectors }) => create(rt, data, sectors),
-        Ok(Asked::Serve { data, listen }) => serve(rt, alloc, data, listen, out, err),
+        Ok(Asked::Serve { data, listen }) => {
+            let mut files = SystemFiles::new(rt);
+            let mut ports = SystemPorts::new(rt);
+            serve(rt, alloc, &mut files, &mut ports, data, listen, out, err)
+        }
         Ok(Asked::Check { data }) => check(rt, alloc, data, out),
         Ok(Asked::Compact { from, to, sectors }) => {
             compact(rt, alloc, from, to, sectors, out, err, is_terminal)

@@ -11,7 +11,7 @@ use sessions::INBOX_MAX;
 use std::alloc::Global;
 use std::fs::{self, File};
 use std::io::{self, ErrorKind, Read, Write};
-use std::net::{Net, TcpListener};
+use std::net::{Net, SocketAddr, TcpListener};
 use std::rt::Files;
 use std::sync::Wait;
 use std::test::Fail;
@@ -647,6 +647,10 @@ impl Turns for Turning {
 
     fn is_stopped(&self) -> bool {
         self.turns >= self.stops_at
+    }
+
+    fn address(&self) -> io::Result<SocketAddr> {
+        Err(ErrorKind::Other.into())
     }
 }
 

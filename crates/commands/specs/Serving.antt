@@ -1,0 +1,95 @@
+-- What serving does, call by call, over whatever opens files, listens, takes turns and takes lines. Each relation given is of one call:
+-- what was called before it, what it was given, how it came out, and what was called afterwards.
+use Rattle.std.specs.Prelude.{◌≡◌, ◌≢◌, ◌⊎◌, ℕ, List, Bool, true, false, Result, Ok, Err, MatchResult}
+use Rattle.std.specs.IoError.{error_kind}
+use Rattle.std.specs.Net.Grammar.{IsSocketText}
+use Rattle.std.specs.declared.io.Error.{Error}
+use Rattle.std.specs.declared.io.ErrorKind.TheVariants.{OutOfMemory}
+use Rattle.std.specs.declared.net.socket_addr.SocketAddr.{SocketAddr}
+use Rattle.model.specs.Map.{KeyMap}
+use Rattle.sector.specs.declared.device.Sectors.{Ghosts}
+use Rattle.commit_log.specs.declared.faults.Unopened.{Unopened}
+use Rattle.sessions.specs.Lives.{Begins, IsOpened, Opens}
+use Rattle.sessions.specs.declared.hub.Hub.{Hub}
+use Rattle.commands.specs.Faults.{of_log}
+use Rattle.commands.specs.Notices.{listening_line, stopped_line}
+use Rattle.commands.specs.declared.faults.Fault.{Fault}
+use Rattle.commands.specs.declared.faults.Fault.TheVariants.{File, Listen, Poll, Memory}
+
+-- an error of the system is told as this fault, or as a want of memory, which its kind tells
+abbrev pub IsToldAs : Error → Fault → Fault → Type 0
+IsToldAs error fault told = ((error_kind error ≡ OutOfMemory) × (told ≡ Memory)) ⊎ ((error_kind error ≢ OutOfMemory) × (told ≡ fault))
+
+-- each hub that was opened is taken
+abbrev pub TakesOpened : {D : Type 0} {g : Ghosts D} → (Hub D g → Type 0) → Type 0
+TakesOpened {D} {g} takes = (hub : Hub D g) → IsOpened hub → takes hub
+
+-- what opening a store over this device came to
+abbrev pub Starts : {D : Type 0} {g : Ghosts D} → D → Result (Hub D g) (Unopened D) → Type 0
+Starts {D = D} {g = g} device result =
+    MatchResult result (λ hub. ((map : KeyMap) × Begins device hub map) × (g.keeps_model → Opens device (Ok hub)))
+    (λ unopened. g.keeps_model → Opens {D = D} {g = g} device (Err unopened))
+
+-- Opening a file of this name and listening at the address that a text spells: the first that fails ends it, with its fault, and no later
+-- call is made. A text that spells none ends it before any call.
+pub data Opening {F P D V : Type 0} {g : Ghosts D} (opens : F → List ℕ → Result D Error → F → Type 0) (listens : P → SocketAddr → Hub D g → Result V Error → P → Type 0)
+    (name listen : List ℕ) (files : F) (ports : P) : Result V Fault → F → P → Type 0 where
+  NoAddress : ((address : SocketAddr) → IsSocketText listen address → ⊥) → Opening opens listens name listen files ports (Err Listen) files ports
+  NoFile : (address : SocketAddr) (error : Error) (fault : Fault) (opened : F) → IsSocketText listen address → opens files name (Err error) opened → IsToldAs error File fault
+      → Opening opens listens name listen files ports (Err fault) opened ports
+  NoStore : (address : SocketAddr) (device : D) (unopened : Unopened D) (opened : F) → IsSocketText listen address → opens files name (Ok device) opened
+      → Starts {D = D} {g = g} device (Err unopened) → Opening opens listens name listen files ports (Err (of_log unopened.fault)) opened ports
+  NoPort : (address : SocketAddr) (device : D) (hub : Hub D g) (error : Error) (fault : Fault) (opened : F) (listened : P) → IsSocketText listen address
+      → opens files name (Ok device) opened → Starts device (Ok hub) → listens ports address hub (Err error) listened → IsToldAs error Listen fault
+      → Opening opens listens name listen files ports (Err fault) opened listened
+  Opened : (address : SocketAddr) (device : D) (hub : Hub D g) (server : V) (opened : F) (listened : P) → IsSocketText listen address
+      → opens files name (Ok device) opened → Starts device (Ok hub) → listens ports address hub (Ok server) listened
+      → Opening opens listens name listen files ports (Ok server) opened listened
+
+-- What printing the line of an address came to: one line was taken, or, with an error, none was.
+abbrev pub PrintsAddress : {O : Type 0} → (O → List ℕ → Result (Unit {0}) Error → O → Type 0) → SocketAddr → O → Result (Unit {0}) Error → O → Type 0
+PrintsAddress writes address out (Ok done) printed = writes out (listening_line address) (Ok done) printed
+PrintsAddress writes address out (Err error) printed = (writes out (listening_line address) (Err error) printed) ⊎ (printed ≡ out)
+
+-- After a turn that left the store stopped or not: where it is and that was not told, it is told now, by one line; else nothing is done.
+abbrev pub TellsStop : {E : Type 0} → (E → List ℕ → Result (Unit {0}) Error → E → Type 0) → Bool → Bool → E → Bool → E → Type 0
+TellsStop writes false true err told' err' = (told' ≡ true) × (written : Result (Unit {0}) Error) × writes err stopped_line written err'
+TellsStop writes false false err told' err' = (told' ≡ false) × (err' ≡ err)
+TellsStop writes true stopped err told' err' = (told' ≡ true) × (err' ≡ err)
+
+-- turns that did not fail, one after the other, behind each of which it was told that the store has stopped, unless that was told
+pub data TakesTurns {V E : Type 0} (turns : V → Result (Unit {0}) Error → V → Type 0) (stops : V → Bool → Type 0) (writes : E → List ℕ → Result (Unit {0}) Error → E → Type 0)
+    (first : V) (err : E) : V → Bool → E → Type 0 where
+  None : TakesTurns turns stops writes first err first false err
+  More : (before after : V) (told stopped told' : Bool) (done : Unit {0}) (told_so_far told_now : E) → TakesTurns turns stops writes first err before told told_so_far
+      → turns before (Ok done) after → stops after stopped → TellsStop writes told stopped told_so_far told' told_now
+      → TakesTurns turns stops writes first err after told' told_now
+
+-- turns until one fails, with its fault; nothing is done behind it
+pub record EndsTurns {V E : Type 0} (turns : V → Result (Unit {0}) Error → V → Type 0) (stops : V → Bool → Type 0) (writes : E → List ℕ → Result (Unit {0}) Error → E → Type 0)
+    (first : V) (err : E) (fault : Fault) (last : V) (err' : E) : Type 0 where
+  pub before : V
+  pub told : Bool
+  pub error : Error
+  pub taken : TakesTurns turns stops writes first err before told err'
+  pub failed : turns before (Err error) last
+  pub fault_is : IsToldAs error Poll fault
+
+-- Serving: a file is opened and an address listened at, the address that the server has is printed, and turns are taken until one fails.
+-- The first of these that fails ends it, with its fault, and nothing is done behind it.
+pub data EndsServing {F P D V O E : Type 0} {g : Ghosts D} (opens : F → List ℕ → Result D Error → F → Type 0) (listens : P → SocketAddr → Hub D g → Result V Error → P → Type 0)
+    (is_at : V → Result SocketAddr Error → Type 0) (turns : V → Result (Unit {0}) Error → V → Type 0) (stops : V → Bool → Type 0)
+    (writes : O → List ℕ → Result (Unit {0}) Error → O → Type 0) (tells : E → List ℕ → Result (Unit {0}) Error → E → Type 0)
+    (name listen : List ℕ) (files : F) (ports : P) (out : O) (err : E) : Fault → F → P → O → E → Type 0 where
+  NotOpened : (fault : Fault) (opened : F) (listened : P) → Opening opens listens name listen files ports (Err fault) opened listened
+      → EndsServing opens listens is_at turns stops writes tells name listen files ports out err fault opened listened out err
+  Nowhere : (server : V) (error : Error) (opened : F) (listened : P) → Opening opens listens name listen files ports (Ok server) opened listened
+      → is_at server (Err error) → EndsServing opens listens is_at turns stops writes tells name listen files ports out err Listen opened listened out err
+  NotPrinted : (server : V) (address : SocketAddr) (error : Error) (fault : Fault) (opened : F) (listened : P) (printed : O)
+      → Opening opens listens name listen files ports (Ok server) opened listened → is_at server (Ok address)
+      → PrintsAddress writes address out (Err error) printed → IsToldAs error File fault
+      → EndsServing opens listens is_at turns stops writes tells name listen files ports out err fault opened listened printed err
+  Served : (server : V) (address : SocketAddr) (done : Unit {0}) (fault : Fault) (opened : F) (listened : P) (printed : O) (last : V) (told : E)
+      → Opening opens listens name listen files ports (Ok server) opened listened → is_at server (Ok address)
+      → PrintsAddress writes address out (Ok done) printed → EndsTurns turns stops tells server err fault last told
+      → EndsServing opens listens is_at turns stops writes tells name listen files ports out err fault opened listened printed told
