@@ -1,5 +1,5 @@
 //! The marks of one transaction.
-ghost use Rattle.std.specs.Prelude.{◌≡◌, ◌↔◌, [], IsTrue, IsOk, OnOk, OnErr, IfOk, Err};
+ghost use Rattle.std.specs.Prelude.{◌≡◌, ◌≤◌, ◌↔◌, [], length, IsTrue, IsOk, OnOk, OnErr, IfOk, Err};
 ghost use Rattle.std.specs.Ordering.{is_le};
 ghost use Rattle.model.specs.PrivateCopy.{is_covered};
 ghost use Rattle.model.specs.Map.{key_cmp};
@@ -45,7 +45,8 @@ impl Marks {
 
     /// Lends the marks, in the order in which they were made. Takes no memory.
     pub fn held(&self) -> &[Held]
-        ensures { marks_of result.now ≡ self.now }
+        ensures marks { marks_of result.now ≡ self.now }
+        ensures few { length result.now ≤ 256 }
     {
         &self.held
     }

@@ -7,6 +7,8 @@ pub mod Order
 pub mod Writers
 pub mod Adding
 pub mod Passing
+pub mod Looking
 pub mod Walks
+pub mod PlacedMarks
 pub mod Judging
 pub mod Joined

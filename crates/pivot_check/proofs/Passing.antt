@@ -83,7 +83,7 @@ kept_in_block found b flagged at start end ps low order high h =
     (all_taken _ (end - start) (drop (start - at) (take 64 (drop at ps))) (all_left _ (start - at) (take 64 (drop at ps)) h))
 
 -- the postings up to the next place, and those behind it
-split_at : (a n e : ℕ) (ps : List Posting) → a ≤ e → a ≤ n → between a (min e n) ps ++ between n e ps ≡ between a e ps
+pub split_at : (a n e : ℕ) (ps : List Posting) → a ≤ e → a ≤ n → between a (min e n) ps ++ between n e ps ≡ between a e ps
 split_at a n e ps order le = elim (cases_lt e n) [
   | inl past ↦
       let low : min e n ≡ e = omega arith in

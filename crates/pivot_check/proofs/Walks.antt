@@ -191,7 +191,7 @@ no_posting_left c ps i found whole le known = sym (lesser_none found) ∙ ap (λ
 
 -- ---- several marks
 
-least-or : (x y w : Posting → Bool) (ps : List Posting) → least (λ p. (x p || y p) && w p) ps ≡ lesser (least (λ p. x p && w p) ps) (least (λ p. y p && w p) ps)
+pub least-or : (x y w : Posting → Bool) (ps : List Posting) → least (λ p. (x p || y p) && w p) ps ≡ lesser (least (λ p. x p && w p) ps) (least (λ p. y p && w p) ps)
 least-or x y w [] = refl
 least-or x y w (p ∷ ps) = ap (lesser (cond ((x p || y p) && w p) (Some p.number) None)) (least-or x y w ps) ∙ by (x p) (y p) (w p) (least (λ p. x p && w p) ps) (least (λ p. y p && w p) ps)
   where
@@ -218,7 +218,7 @@ least-or x y w (p ∷ ps) = ap (lesser (cond ((x p || y p) && w p) (Some p.numbe
     by false true false o u = refl
     by false false c o u = refl
 
-none_asked : (w : Posting → Bool) (ps : List Posting) → least (λ p. false && w p) ps ≡ None
+pub none_asked : (w : Posting → Bool) (ps : List Posting) → least (λ p. false && w p) ps ≡ None
 none_asked w [] = refl
 none_asked w (p ∷ ps) = none_asked w ps
 

@@ -98,7 +98,7 @@ all_pass o (r ∷ rs) =
     by true = refl
     by false = refl
 
-least_alike : (c d : Posting → Bool) → ((p : Posting) → c p ≡ d p) → (ps : List Posting) → least c ps ≡ least d ps
+pub least_alike : (c d : Posting → Bool) → ((p : Posting) → c p ≡ d p) → (ps : List Posting) → least c ps ≡ least d ps
 least_alike c d same [] = refl
 least_alike c d same (p ∷ ps) = λ i. lesser (cond (same p i) (Some p.number) None) (least_alike c d same ps i)
 

@@ -1,8 +1,9 @@
 -- Bounds of the numbers of postings, by which postings are passed over.
-use Rattle.std.specs.Prelude.{◌≡◌, ◌<◌, ℕ, ◌*◌, Bool, true, not, ◌&&◌, ◌||◌, List, Option, Some, nat_le, length, take, drop, slice_index_or}
+use Rattle.std.specs.Prelude.{◌≡◌, ◌<◌, ◌≤◌, ℕ, ◌*◌, Bool, true, not, ◌&&◌, ◌||◌, List, Option, Some, nat_le, length, take, drop, slice_index_or}
 use Rattle.std.specs.List.{list_all, AllByRecursion}
 use Rattle.pivot_check.specs.declared.bound.Bound.{Bound}
-use Rattle.pivot_check.specs.Postings.{Posting, lesser, is_asked}
+use Rattle.pivot_check.specs.declared.run.Looked.{Looked}
+use Rattle.pivot_check.specs.Postings.{Posting, lesser, is_asked, between}
 
 -- whether the posting's number isn't below the bound nor above its last, nor below that of flagged ones where it has the flag
 abbrev pub is_from_bound : Bound → Posting → Bool
@@ -18,3 +19,9 @@ AreBounds bs ps = (i : ℕ) (b : Bound) → i < length bs → are_from_bound (sl
 -- no posting that is asked for has a number below the one that was found
 abbrev pub KeepsFound : Option ℕ → ℕ → Bool → List Posting → Type 0
 KeepsFound found b flagged ps = AllByRecursion (λ p. is_asked b flagged p ≡ true → lesser found (Some p.number) ≡ found) ps
+
+-- the postings that were looked at decide nothing more: none of them that is asked for has a number below the one that was found
+pub record IsLooked (l : Looked) (b : ℕ) (flagged : Bool) (ps : List Posting) : Type 0 where
+  pub order : l.seen.first ≤ l.seen.end
+  pub within : l.seen.end ≤ length ps
+  pub kept : KeepsFound l.found b flagged (between l.seen.first l.seen.end ps)

@@ -6,6 +6,7 @@ ghost use Rattle.pivot_check.specs.Kept.{HasForgotten, IsEmpty, IsInReach, HasRo
 ghost use Rattle.pivot_check.specs.Index.{answer_found};
 ghost use Rattle.pivot_check.specs.StandsFor.{StandsFor, IsRecordOf, IsVerdict, IsPlaced, IsClear};
 
+use crate::by_start::ByStart;
 use crate::merges::merge_runs;
 use crate::ready::Ready;
 use crate::run::Run;
@@ -101,8 +102,8 @@ impl Committed {
         ensures { result ≡ answer_found self.now.facts tx.now }
     {
         let begin = tx.begin();
-        let marks = tx.marks().held();
-        let Some(target) = least_covered(&self.runs, marks, begin, false) else {
+        let order = ByStart::of(tx.marks().held());
+        let Some(target) = least_covered(&self.runs, &order, begin, false) else {
             return Verdict::Clear;
         };
         if let Some(source) = last_source(&self.readers, tx.entries(), begin) {
@@ -110,7 +111,7 @@ impl Committed {
                 return Verdict::PivotSelf;
             }
         }
-        match least_covered(&self.runs, marks, begin, true) {
+        match least_covered(&self.runs, &order, begin, true) {
             Some(n) => Verdict::Pivot(n),
             None => Verdict::Clear,
         }
@@ -121,8 +122,9 @@ impl Committed {
     /// several reasons it names the least overwritten key, else the transaction itself, else the pivot of least commit number.
     ///
     /// It takes a binary search in each run for each written key, two for each mark, and a look at a bound for each 64 keys written under a
-    /// mark; the numbers of these keys are looked at where the bound lets one be less than what was found. Where the transaction has read
-    /// what a concurrent one wrote, it takes also a look-up of the last reader of each written key. Takes no memory.
+    /// mark; the numbers of these keys are looked at where the bound lets one be less than what was found. The marks are sorted by start, and
+    /// a key under several of them is looked at once. Where the transaction has read what a concurrent one wrote, it takes also a look-up of
+    /// the last reader of each written key. Takes no memory.
     pub fn verdict(&self, tx: &Transaction) -> Verdict
         ensures verdict { IsInReach self.now.facts tx.now → IsVerdict self.now.facts tx.now result }
         ensures place { IsPlaced result tx.now.writes }
@@ -156,7 +158,8 @@ impl Committed {
         ensures last { self.new.facts.last ≡ n }
         ensures oldest { self.new.facts.oldest ≡ self.old.facts.oldest }
     {
-        let target = least_covered(&self.runs, tx.marks().held(), tx.begin(), false);
+        let order = ByStart::of(tx.marks().held());
+        let target = least_covered(&self.runs, &order, tx.begin(), false);
         let has_earlier_target = target.is_some();
         let Some(ready) = self.ready.take() else {
             unreachable!()

@@ -7,6 +7,7 @@
 #![tactic(auto)]
 
 mod bound;
+mod by_start;
 mod committed;
 mod merges;
 mod merging;

@@ -1,11 +1,13 @@
 //! A run of written keys.
-ghost use Rattle.std.specs.Prelude.{◌≡◌, ◌≤◌, ◌<◌, ◌+◌, ◌*◌, ℕ, IsTrue, false, length, take, drop, Some};
+ghost use Rattle.std.specs.Prelude.{◌≡◌, ◌≤◌, ◌<◌, ◌+◌, ◌*◌, ℕ, IsTrue, false, length, take, drop, Some, [], ◌∷◌};
 ghost use Rattle.marks.specs.Lent.{lent_mark};
 ghost use Rattle.marks.specs.Marked.{marks_of};
 ghost use Rattle.pivot_check.specs.Postings.{keys_rise, are_upto, least, lesser, is_asked, asked_of, covered_of, between};
-ghost use Rattle.pivot_check.specs.Bounds.{are_from_bound, AreBounds, KeepsFound};
+ghost use Rattle.pivot_check.specs.Bounds.{are_from_bound, AreBounds, KeepsFound, IsLooked};
+ghost use Rattle.pivot_check.specs.Places.{covered_at};
 
 use crate::bound::{BLOCK, Bound};
+use crate::by_start::ByStart;
 use crate::written::{Span, Written, covered, least_number};
 use marks::{Held, MarkRef};
 
@@ -31,6 +33,13 @@ fn most_below(found: Option<u64>, last: u64) -> u64
         None => last,
         Some(number) => last.min(number.saturating_sub(1)),
     }
+}
+
+/// The number that was found, and the places that were looked at last.
+#[derive(Clone, Copy)]
+pub(crate) struct Looked {
+    pub(crate) found: Option<u64>,
+    pub(crate) seen: Span,
 }
 
 impl Run {
@@ -114,20 +123,83 @@ impl Run {
         self.least_between(covered(&self.written, mark), found, begin, flagged)
     }
 
-    // The same for several marks.
-    pub(crate) fn least_covered(
+    // Looks at the postings of a span, but for those that were looked at just before.
+    fn look_on(&self, span: Span, looked: Looked, begin: u64, flagged: bool) -> Looked
+        requires order { span.first ≤ span.end }
+        requires within { span.end ≤ length self.now.written.items }
+        requires looked { IsLooked looked begin flagged self.now.written.items }
+        ensures found { result.found ≡ lesser looked.found (least (is_asked begin flagged) (between span.first span.end self.now.written.items)) }
+        ensures looked { IsLooked result begin flagged self.now.written.items }
+    {
+        let seen = looked.seen;
+        if span.first < seen.first || seen.end < span.first {
+            let found = self.least_between(span, looked.found, begin, flagged);
+            return Looked { found, seen: span };
+        }
+        if span.end <= seen.end {
+            return looked;
+        }
+        let rest = Span {
+            first: seen.end,
+            end: span.end,
+        };
+        let found = self.least_between(rest, looked.found, begin, flagged);
+        let seen = Span {
+            first: seen.first,
+            end: span.end,
+        };
+        Looked { found, seen }
+    }
+
+    // Looks at the postings that the mark covers.
+    fn look(&self, mark: MarkRef<'_>, looked: Looked, begin: u64, flagged: bool) -> Looked
+        requires { IsLooked looked begin flagged self.now.written.items }
+        ensures found { result.found ≡ lesser looked.found (least (asked_of (lent_mark mark.entry) begin flagged) self.now.written.items) }
+        ensures looked { IsLooked result begin flagged self.now.written.items }
+    {
+        if !self.may_lower(looked.found, begin, flagged) {
+            return looked;
+        }
+        self.look_on(covered(&self.written, mark), looked, begin, flagged)
+    }
+
+    // Looks at the postings that the mark at a place covers, if there is one.
+    fn look_at(
         &self,
         marks: &[Held],
+        place: u8,
+        looked: Looked,
+        begin: u64,
+        flagged: bool,
+    ) -> Looked
+        requires { IsLooked looked begin flagged self.now.written.items }
+        ensures found { result.found ≡ lesser looked.found (least (covered_at (marks_of marks.now) (place ∷ []) begin flagged) self.now.written.items) }
+        ensures looked { IsLooked result begin flagged self.now.written.items }
+    {
+        match marks.get(place as usize) {
+            Some(mark) => self.look(mark.lend(), looked, begin, flagged),
+            None => looked,
+        }
+    }
+
+    // The same for several marks. Each posting is looked at once, whatever the number of marks that cover it.
+    pub(crate) fn least_covered(
+        &self,
+        order: &ByStart<'_>,
         found: Option<u64>,
         begin: u64,
         flagged: bool,
     ) -> Option<u64>
-        ensures { result ≡ lesser found (least (covered_of (marks_of marks.now) begin flagged) self.now.written.items) }
+        ensures { result ≡ lesser found (least (covered_of (marks_of order.now.marks.now) begin flagged) self.now.written.items) }
     {
-        let mut found = found;
-        for mark in marks {
-            found = self.least(mark.lend(), found, begin, flagged);
+        let mut looked = Looked {
+            found,
+            seen: Span { first: 0, end: 0 },
+        };
+        let places = order.places.as_slice();
+        for place in places {
+            looked = self.look_at(order.marks, *place, looked, begin, flagged);
         }
-        found
+        looked.found
     }
 }

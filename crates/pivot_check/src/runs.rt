@@ -10,9 +10,10 @@ ghost use Rattle.pivot_check.specs.Inside.{postings_in};
 ghost use Rattle.pivot_check.specs.Index.{is_written_since};
 
 use crate::bound::Bound;
+use crate::by_start::ByStart;
 use crate::run::Run;
 use crate::written::Written;
-use marks::{Held, MarkRef};
+use marks::MarkRef;
 use model::Write;
 
 /// The most runs that are dropped in one call, since each of their postings is looked at then.
@@ -31,12 +32,17 @@ pub(crate) fn least_of(runs: &[Run], mark: MarkRef<'_>, begin: u64, flagged: boo
 }
 
 // The same for several marks, in one run after another.
-pub(crate) fn least_covered(runs: &[Run], marks: &[Held], begin: u64, flagged: bool) -> Option<u64>
-    ensures { result ≡ least (covered_of (marks_of marks.now) begin flagged) (postings_in runs.now) }
+pub(crate) fn least_covered(
+    runs: &[Run],
+    order: &ByStart<'_>,
+    begin: u64,
+    flagged: bool,
+) -> Option<u64>
+    ensures { result ≡ least (covered_of (marks_of order.now.marks.now) begin flagged) (postings_in runs.now) }
 {
     let mut found = None;
     for run in runs {
-        found = run.least_covered(marks, found, begin, flagged);
+        found = run.least_covered(order, found, begin, flagged);
     }
     found
 }

@@ -6,4 +6,4 @@ use Rattle.pivot_check.proofs.runs.least_covered.Given as goal
 
 -- what was found and what is left of the runs decide
 abbrev pub invariant-loop-run : goal.invariant-loop-run
-invariant-loop-run l = lesser l.found (least (covered_of (marks_of l.marks) l.begin l.flagged) (postings_in (drop l.run-index l.runs))) ≡ least (covered_of (marks_of l.marks) l.begin l.flagged) (postings_in l.runs)
+invariant-loop-run l = lesser l.found (least (covered_of (marks_of l.order.marks.now) l.begin l.flagged) (postings_in (drop l.run-index l.runs))) ≡ least (covered_of (marks_of l.order.marks.now) l.begin l.flagged) (postings_in l.runs)

@@ -1,6 +1,7 @@
 use Rattle.std.proofs.Common.{◌≡◌, ◌<◌, ◌+◌, Bool, false, List, Some, Option, sym, ap, subst, ◌∙◌, arith}
 use Rattle.std.specs.Prelude.{is_some}
 use Rattle.model.specs.Map.{Bytes}
+use Rattle.marks.specs.Marked.{marks_of}
 use Rattle.snapshot.specs.View.{View}
 use Rattle.last_readers.specs.Readers.{last_reader, IsNoted, HasRoom as HasReadersRoom, ReadersRoom}
 use Rattle.pivot_check.specs.declared.ready.Ready.{Ready}
@@ -28,7 +29,7 @@ read c = subst (λ (v : CommittedValue). IsNoted c.args.tx.now.marks c.args.n v.
 flag : (c : goal.After-self-1) → c.is_some-has_earlier_target.result ≡ is_some (target c.args.self.now.facts c.args.tx.now)
 flag c =
     let postings : postings_in c.deref.result.now ≡ c.args.self.now.facts.postings = ap postings_in c.deref.ensures.value ∙ ap (λ (v : CommittedValue). v.facts.postings) c.self.view_is in
-    c.is_some-has_earlier_target.ensures ∙ ap is_some (c.least_covered-target.ensures ∙ (λ i. least (covered_of ((c.held.ensures ∙ c.marks.ensures.marks) i) (c.begin.ensures i) false) (postings i)))
+    c.is_some-has_earlier_target.ensures ∙ ap is_some (c.least_covered-target.ensures ∙ (λ i. least (covered_of ((ap marks_of c.of-order.ensures ∙ c.held.ensures.marks ∙ c.marks.ensures.marks) i) (c.begin.ensures i) false) (postings i)))
 
 added : (c : goal.After-self-1) (t : Posting → Bool) → least t (postings_in c.add_run.new.runs.items) ≡ lesser (least t c.args.self.now.facts.postings) (least t (postings_by c.args.n c.is_some-has_earlier_target.result c.in-Some.ready.keys.items))
 added c t =
