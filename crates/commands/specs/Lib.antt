@@ -5,3 +5,4 @@ pub mod Endings
 pub mod Notices
 pub mod Openings
 pub mod Serving
+pub mod SystemTurns

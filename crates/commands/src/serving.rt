@@ -44,6 +44,12 @@ pub trait Turns {
 }
 
 impl Turns for EventLoop<FileSectors> {
+    ghost use Rattle.commands.specs.SystemTurns.{HasStopped, TurnedSo};
+
+    ghost turns = { TurnedSo };
+
+    ghost stops = { HasStopped };
+
     fn next_turn<C: Clock>(&mut self, clock: &C) -> io::Result<()> {
         self.turn(clock, None)
     }
