@@ -10,7 +10,7 @@ import re
 from client import Tally, expect, run_harness
 
 TOP = os.path.normpath(os.path.join(os.path.dirname(os.path.abspath(__file__)), ".."))
-CLAUSE = r"`(?:\w+::)?(\w+)`, clause `(\w+)`, in `(crates/\S+\.rt)`"
+CLAUSE = r"`(?:\w+::)?(\w+)`, (?:clause `(\w+)`|its clause), in `(crates/\S+\.rt)`"    # a clause that is alone may have no name
 DEFINITION = r"^\| `(\w+)` \| (\d+) \| `(crates/\S+\.antt)` \|"
 WRONG_BODY = r"\]\(\.\./((?:crates|wrong_bodies)/\S+\.edit)\)"
 
@@ -25,8 +25,8 @@ def words(text):
 
 
 def length_of(definition, name):
-    """The lines of a definition: up to an empty line, or one that stands no further right and isn't a clause of it."""
-    lines = text_of(name).splitlines()
+    """The lines of a definition without comments: up to an empty line, or one that stands no further right and isn't a clause of it."""
+    lines = [line for line in text_of(name).splitlines() if not line.lstrip().startswith("--")]
     head = re.compile(rf"( *)(?:abbrev pub|unfoldable pub|pub record|pub data|pub) {definition}(?![\w-])")
     for first, line in enumerate(lines):
         found = head.match(line)
@@ -47,7 +47,7 @@ def clauses(tally, text):
         with tally.run(f"{function}, clause {clause}"):
             head = re.search(rf"\bfn {function}\b.*?\n *\{{", text_of(name), re.S)
             expect(head, f"{name} has no function {function}")
-            expect(re.search(rf"^ *ensures {clause} \{{", head[0], re.M), f"{name}: {function} ensures no {clause}")
+            expect(re.search(rf"^ *ensures {clause} *\{{", head[0], re.M), f"{name}: {function} ensures no {clause}")
     return len(found)
 
 

@@ -6,8 +6,9 @@ Port 7777 is another, free one. `...` stands for anything. What isn't run is lis
 minute.
 
 Then: no table cell over 120 characters and no sentence over 40 words, no link that leads nowhere, pictures as docs/pictures/draw.py draws
-them, with the figures of docs/PERFORMANCE.md, and the crates of docs/ARCHITECTURE.md as crates.txt has them. Of each block of ```ini and
-```python: a unit that `systemd-analyze verify` takes, Python that is Python.
+them, with the figures of docs/PERFORMANCE.md, and the crates of docs/ARCHITECTURE.md as crates.txt has them. The commands and refusals of
+docs/PROTOCOL.md, docs/CLIENTS.md and man/ssikvd.7 are those of the definitions. Of each block of ```ini and ```python: a unit that
+`systemd-analyze verify` takes, Python that is Python.
 """
 import os
 import re
@@ -18,6 +19,7 @@ import sys
 import time
 
 from client import PATIENCE, PROGRAM, Tally, expect, folder, free_port, is_long, need, run, run_harness
+from model import PARTS
 
 TOP = os.path.normpath(os.path.join(os.path.dirname(os.path.abspath(__file__)), ".."))
 CELL_MAX, WORDS_MAX = 120, 40
@@ -341,9 +343,11 @@ def layers(tally):
 
 def sealed(tally):
     """The lemmas that would refute the premises on files and sockets are cited where a call is made of one, and nowhere else."""
-    for crate, user, kind, lemmas, calls in (
-        ("file_calls", "sector", "CountedFile", "read|write|sync", ("read", "write", "sync")),
-        ("socket_calls", "event_loop", "CountedSocket", "receive|send", ("read", "write")),
+    for crate, user, lemmas, calls in (
+        ("file_calls", "sector", "read|write|sync|make|open|open_to_read|length|settle_name|drop_copies",
+            [f"counted/CountedFile/{name}" for name in ("read", "write", "write_zeros", "sync", "sync_all")]
+            + [f"opened/OpenedFile/{name}" for name in ("make", "open", "open_to_read", "length", "settle_name", "drop_copies")]),
+        ("socket_calls", "event_loop", "receive|send", [f"counted/CountedSocket/{name}" for name in ("read", "write")]),
     ):
         with tally.run(f"the lemmas of HappenedCalls in {crate}"):
             users = [line.partition(":")[0] for line in text_of("crates.txt").splitlines() if re.search(rf":.*\b{crate}\b", line)]
@@ -353,14 +357,38 @@ def sealed(tally):
                 if path.endswith((".antt", ".rt")) and re.search(rf"\breal_({lemmas})\b", text_of(path)):
                     found.add(path)
             own = f"crates/{crate}/"
-            due = {f"{own}specs/HappenedCalls.antt", *(f"{own}proofs/counted/{kind}/{name}/Answers.antt" for name in calls)}
+            due = {f"{own}specs/HappenedCalls.antt", *(f"{own}proofs/{name}/Answers.antt" for name in calls)}
             expect(found == due, f"they are named in {sorted(found)}")
+
+
+def names(tally):
+    """The documents' tables of commands and refusals have those of the definitions, each once, and so has the model in Python."""
+    table = text_of("crates/model/specs/CommandTable.antt")
+    commands = re.findall(r'is_named parts \(codes "(\w+)"\)', table)
+    texts = {text.strip() for text in re.findall(r'^refusal_text .*codes "([^"]+)"', text_of("crates/model/specs/ReplyText.antt"), re.M)}
+    protocol, manual = text_of("docs/PROTOCOL.md"), text_of("man/ssikvd.7")
+    asked = protocol.partition("## Commands")[2].partition("## Replies")[0]
+    refused = protocol.partition("## Refusals")[2].partition("## Conflicts")[0]
+    with tally.run("the commands"):
+        expect(len(commands) >= 8, f"the definitions have {commands}")
+        for where, found in (("PROTOCOL.md", re.findall(r"^\| `([A-Z]+)", asked, re.M)), ("ssikvd.7", re.findall(r"^\.It Ic ([A-Z]+)", manual, re.M)),
+                             ("model.py", [name.decode() for name in PARTS])):
+            expect(sorted(found) == sorted(commands), f"{where} has {found}, the definitions {commands}")
+    with tally.run("the refusals"):
+        expect(len(texts) >= 17, f"the definitions have {sorted(texts)}")
+        for where, found in (("PROTOCOL.md", re.findall(r"^\| `([A-Z]+ [a-z]+(?: self)?)(?: <\w+>)?` ", refused, re.M)),
+                             ("ssikvd.7", re.findall(r"^\.It ((?:ERR|FULL|CONFLICT|STORE) [a-z]+(?: self)?)", manual, re.M))):
+            expect(sorted(found) == sorted(texts), f"{where} and the definitions differ in {sorted(texts ^ set(found))}")
+        advice = text_of("docs/CLIENTS.md").partition("## What to do at each refusal")[2].partition("\n## ")[0]
+        told = set(re.findall(r"`([A-Z]+ (?:[a-z]+|\.\.))`", advice))
+        due = {"CONFLICT .." if text.startswith("CONFLICT") else text for text in texts}
+        expect(told == due, f"CLIENTS.md and the definitions differ in {sorted(told ^ due)}")
 
 
 def main():
     need(PROGRAM)
     tally = Tally("documents")
-    for part in (run_commands, worked, other_blocks, style, links, pictures, layers, sealed):
+    for part in (run_commands, worked, other_blocks, style, links, pictures, layers, sealed, names):
         part(tally)
     return 0 if tally.end() else 1
 

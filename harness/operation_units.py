@@ -115,8 +115,10 @@ def texts(tally):
         found = set()
         for name in os.listdir(sources):
             with open(os.path.join(sources, name), encoding="utf-8") as file:
-                found |= set(re.findall(r'"((?:ssikvd: |line \{number\}: )[^"\\]*)', file.read()))
+                text = file.read()
+            found |= {f"{before}N{behind}" for before, behind in re.findall(r'numbered_line\(b"([^"\\]*)", \w+, b"([^"\\]*)', text)}
+            found |= set(re.findall(r'(?<!numbered_line\()b"(ssikvd: [^"\\]*)', text))
         expect(len(found) > 10, f"only {len(found)} texts were found")
         told = operations()
-        lost = [text for text in found if f"`{text.replace('{index}', 'N').replace('{number}', 'N')}`" not in told]
+        lost = [text for text in found if f"`{text}`" not in told]
         expect(not lost, f"docs/OPERATIONS.md does not say what {sorted(lost)} mean")

@@ -122,7 +122,7 @@ def first_manual(tally):
         found = literal_lines(manual_section(MANUALS[0], "EXAMPLES"))
         expect(found == section(help_of(), "Examples"), f"it has {found}")
     with tally.run("the lines of standard error in ssikvd(1)"):
-        due = {text for text in re.findall(r'"(ssikvd: [^"{]*?) ?(?:\{.*?)?"', text_of("crates/commands/src/faults.rt"))} - NEVER_PRINTED
+        due = {text for text in re.findall(r'b"(ssikvd: [^"]*?) ?(?:\\n)?"', text_of("crates/commands/src/endings.rt"))} - NEVER_PRINTED
         found = {re.sub(r" (Ar|No) .*", "", line) for line in re.findall(r"^\.It (ssikvd: .*)", manual_section(MANUALS[0], "DIAGNOSTICS"), re.M)}
         expect(due and due <= found, f"it lacks {due - found}")
 

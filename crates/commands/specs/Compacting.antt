@@ -1,5 +1,24 @@
--- How large a copy of a log is made.
-use Rattle.std.specs.Prelude.{ℕ, ◌<◌, max, Option, Some, None}
+-- What copying a data file does, call by call, over whatever opens and makes files and takes lines, and how large a copy is made. `reads` is of
+-- opening a file to be read alone.
+use Rattle.std.specs.Prelude.{◌≡◌, ◌⊎◌, ◌≤◌, ◌<◌, ◌^◌, ℕ, List, max, Bool, true, false, Option, Some, None, Result, Ok, Err, MatchOption, MatchResult, OnOk, IfErr}
+use Rattle.std.specs.declared.io.Error.{Error}
+use Rattle.model.specs.Map.{KeyMap}
+use Rattle.sector.specs.declared.device.Sectors.{Ghosts}
+use Rattle.sector.specs.SectorModel.{LeavesOnly}
+use Rattle.commit_log.specs.Copying.{write_sets_of, copy_size, IsCopyFault}
+use Rattle.commit_log.specs.LogFaults.{IsDeviceOrMemory, IsReadMapFault}
+use Rattle.commit_log.specs.MapReading.{IsMapOf, IsMapRefusal}
+use Rattle.commit_log.specs.Opening.{CanSettle}
+use Rattle.commit_log.specs.Reading.{FaultIs}
+use Rattle.commit_log.specs.declared.faults.LogFault.{LogFault}
+use Rattle.commit_log.specs.declared.faults.LogFault.TheVariants.{Full}
+use Rattle.commands.specs.Counts.{log_line}
+use Rattle.commands.specs.Faults.{of_log}
+use Rattle.commands.specs.Making.{HoldsLog}
+use Rattle.commands.specs.Notices.{copying_line}
+use Rattle.commands.specs.Printing.{IsToldAs, EndsAs}
+use Rattle.commands.specs.declared.faults.Fault.{Fault}
+use Rattle.commands.specs.declared.faults.Fault.TheVariants.{File, LogFull}
 
 -- how many sectors a copy is given, over an old device of so many, where so many were asked for and the map needs so many
 abbrev pub copy_count : ℕ → Option ℕ → Option ℕ → ℕ
@@ -12,3 +31,62 @@ abbrev pub HasTooFew : Option ℕ → Option ℕ → Type 0
 HasTooFew asked None = Unit {0}
 HasTooFew None (Some needed) = ⊥
 HasTooFew (Some asked) (Some needed) = asked < needed
+
+-- the log of a map takes so many sectors, if a number tells them
+abbrev pub Needs : KeyMap → Option ℕ → Type 0
+Needs map needed = MatchOption needed (2 ^ 64 ≤ copy_size map) (λ n. n ≡ copy_size map)
+
+-- What reading the map of the log on a device came to, by an image that the device might have held. During it a crash leaves what one before it
+-- could have left.
+pub record ReadsMap {D : Type 0} (g : Ghosts D) (device : D) (result : Result (KeyMap × ℕ) LogFault) (after : D) : Type 0 where
+  pub fault : FaultIs (g.failures device) (g.failures after) result
+  pub alone : IfErr result IsReadMapFault
+  pub found : g.keeps_model → MatchResult result (λ r. (image : List (List ℕ)) × CanSettle (g.size device) (g.may_read device) (g.may_leave device) image × IsMapOf image r.0 r.1)
+      (λ f. IsDeviceOrMemory f ⊎ ((image : List (List ℕ)) × CanSettle (g.size device) (g.may_read device) (g.may_leave device) image × IsMapRefusal image f))
+  pub during : g.keeps_model → LeavesOnly g.moment g.left_since device after (g.may_leave device)
+
+-- what copying a map to a device with room for its log came to
+pub record CopiesMap {D : Type 0} (g : Ghosts D) (device : D) (map : KeyMap) (result : Result (Unit {0}) LogFault) (after : D) : Type 0 where
+  pub fault : FaultIs (g.failures device) (g.failures after) result
+  pub alone : IfErr result (λ f. IsCopyFault f × (f ≡ Full → ⊥))
+  pub copied : g.keeps_model → OnOk result (HoldsLog g after (write_sets_of map))
+
+-- copying a map to a device, and printing the line of the copy, which no fault of the log comes with
+pub data Copies {D O : Type 0} (g : Ghosts D) (writes : O → List ℕ → Result (Unit {0}) Error → O → Type 0) (device : D) (map : KeyMap) (out : O) : Result (Unit {0}) Fault → D → O → Type 0 where
+  NotCopied : (fault : LogFault) (after : D) → CopiesMap g device map (Err fault) after → Copies g writes device map out (Err (of_log fault)) after out
+  Copied : (done : Unit {0}) (outcome : Result (Unit {0}) Error) (result : Result (Unit {0}) Fault) (after : D) (printed : O) → CopiesMap g device map (Ok done) after
+      → writes out (log_line (write_sets_of map) (g.size device)) outcome printed → EndsAs outcome result → Copies g writes device map out result after printed
+
+-- where the error output is a terminal, one line may tell there that the copy is being written
+abbrev pub MayTell : {E : Type 0} → (E → List ℕ → Result (Unit {0}) Error → E → Type 0) → Bool → E → E → Type 0
+MayTell tells false err told = told ≡ err
+MayTell tells true err told = (told ≡ err) ⊎ ((outcome : Result (Unit {0}) Error) × tells err copying_line outcome told)
+
+-- The file of this name was opened to be read alone, and its device, of so many sectors, gave this map, whose log takes so many.
+pub record HasRead {F D : Type 0} (g : Ghosts D) (reads : F → List ℕ → Result D Error → F → Type 0) (name : List ℕ) (files opened : F) (count : ℕ) (map : KeyMap) (needed : Option ℕ) : Type 0 where
+  pub device : D
+  pub after : D
+  pub format : ℕ
+  pub opens : reads files name (Ok device) opened
+  pub map_is : ReadsMap g device (Ok (map, format)) after
+  pub count_is : count ≡ g.size device
+  pub needs : Needs map needed
+
+-- Copying a data file: the old one is opened to be read alone, its map is read, and then the new one is made, with so many sectors that the map has
+-- room, and written. The first of these that fails ends it, with its fault, and nothing is done behind it.
+pub data Compacting {F D O E : Type 0} (g : Ghosts D) (reads : F → List ℕ → Result D Error → F → Type 0) (makes : F → List ℕ → ℕ → Result D Error → F → Type 0)
+    (writes : O → List ℕ → Result (Unit {0}) Error → O → Type 0) (tells : E → List ℕ → Result (Unit {0}) Error → E → Type 0)
+    (from to : List ℕ) (asked : Option ℕ) (is_terminal : Bool) (files : F) (out : O) (err : E) : Result (Unit {0}) Fault → F → O → E → Type 0 where
+  NotOpened : (error : Error) (fault : Fault) (opened : F) → reads files from (Err error) opened → IsToldAs error File fault
+      → Compacting g reads makes writes tells from to asked is_terminal files out err (Err fault) opened out err
+  NotRead : (device after : D) (fault : LogFault) (opened : F) → reads files from (Ok device) opened → ReadsMap g device (Err fault) after
+      → Compacting g reads makes writes tells from to asked is_terminal files out err (Err (of_log fault)) opened out err
+  TooFew : (count : ℕ) (map : KeyMap) (needed : Option ℕ) (opened : F) → HasRead g reads from files opened count map needed → HasTooFew asked needed
+      → Compacting g reads makes writes tells from to asked is_terminal files out err (Err LogFull) opened out err
+  NotMade : (count : ℕ) (map : KeyMap) (needed : Option ℕ) (error : Error) (fault : Fault) (opened made : F) → HasRead g reads from files opened count map needed
+      → (HasTooFew asked needed → ⊥) → makes opened to (copy_count count asked needed) (Err error) made → IsToldAs error File fault
+      → Compacting g reads makes writes tells from to asked is_terminal files out err (Err fault) made out err
+  Made : (count : ℕ) (map : KeyMap) (needed : Option ℕ) (device copied : D) (result : Result (Unit {0}) Fault) (opened made : F) (printed : O) (told : E)
+      → HasRead g reads from files opened count map needed → (HasTooFew asked needed → ⊥) → makes opened to (copy_count count asked needed) (Ok device) made
+      → MayTell tells is_terminal err told → Copies g writes device map out result copied printed
+      → Compacting g reads makes writes tells from to asked is_terminal files out err result made printed told

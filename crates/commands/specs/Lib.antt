@@ -1,8 +1,12 @@
 pub mod Faults
+pub mod Checking
 pub mod Compacting
 pub mod Counts
 pub mod Endings
+pub mod Making
 pub mod Notices
 pub mod Openings
+pub mod Printing
+pub mod Running
 pub mod Serving
 pub mod SystemTurns

@@ -1,10 +1,8 @@
 -- What serving does, call by call, over whatever opens files, listens, takes turns and takes lines. Each relation given is of one call:
 -- what was called before it, what it was given, how it came out, and what was called afterwards.
-use Rattle.std.specs.Prelude.{◌≡◌, ◌≢◌, ◌⊎◌, ℕ, List, Bool, true, false, Result, Ok, Err, MatchResult}
-use Rattle.std.specs.IoError.{error_kind}
+use Rattle.std.specs.Prelude.{◌≡◌, ℕ, List, Bool, true, false, Result, Ok, Err, MatchResult}
 use Rattle.std.specs.Net.Grammar.{IsSocketText}
 use Rattle.std.specs.declared.io.Error.{Error}
-use Rattle.std.specs.declared.io.ErrorKind.TheVariants.{OutOfMemory}
 use Rattle.std.specs.declared.net.socket_addr.SocketAddr.{SocketAddr}
 use Rattle.model.specs.Map.{KeyMap}
 use Rattle.sector.specs.declared.device.Sectors.{Ghosts}
@@ -13,12 +11,9 @@ use Rattle.sessions.specs.Lives.{Begins, IsOpened, Opens}
 use Rattle.sessions.specs.declared.hub.Hub.{Hub}
 use Rattle.commands.specs.Faults.{of_log}
 use Rattle.commands.specs.Notices.{listening_line, stopped_line}
+use Rattle.commands.specs.Printing.{IsToldAs, Prints}
 use Rattle.commands.specs.declared.faults.Fault.{Fault}
-use Rattle.commands.specs.declared.faults.Fault.TheVariants.{File, Listen, Poll, Memory}
-
--- an error of the system is told as this fault, or as a want of memory, which its kind tells
-abbrev pub IsToldAs : Error → Fault → Fault → Type 0
-IsToldAs error fault told = ((error_kind error ≡ OutOfMemory) × (told ≡ Memory)) ⊎ ((error_kind error ≢ OutOfMemory) × (told ≡ fault))
+use Rattle.commands.specs.declared.faults.Fault.TheVariants.{File, Listen, Poll}
 
 -- each hub that was opened is taken
 abbrev pub TakesOpened : {D : Type 0} {g : Ghosts D} → (Hub D g → Type 0) → Type 0
@@ -45,11 +40,6 @@ pub data Opening {F P D V : Type 0} {g : Ghosts D} (opens : F → List ℕ → R
   Opened : (address : SocketAddr) (device : D) (hub : Hub D g) (server : V) (opened : F) (listened : P) → IsSocketText listen address
       → opens files name (Ok device) opened → Starts device (Ok hub) → listens ports address hub (Ok server) listened
       → Opening opens listens name listen files ports (Ok server) opened listened
-
--- What printing the line of an address came to: one line was taken, or, with an error, none was.
-abbrev pub PrintsAddress : {O : Type 0} → (O → List ℕ → Result (Unit {0}) Error → O → Type 0) → SocketAddr → O → Result (Unit {0}) Error → O → Type 0
-PrintsAddress writes address out (Ok done) printed = writes out (listening_line address) (Ok done) printed
-PrintsAddress writes address out (Err error) printed = (writes out (listening_line address) (Err error) printed) ⊎ (printed ≡ out)
 
 -- After a turn that left the store stopped or not: where it is and that was not told, it is told now, by one line; else nothing is done.
 abbrev pub TellsStop : {E : Type 0} → (E → List ℕ → Result (Unit {0}) Error → E → Type 0) → Bool → Bool → E → Bool → E → Type 0
@@ -87,9 +77,9 @@ pub data EndsServing {F P D V O E : Type 0} {g : Ghosts D} (opens : F → List �
       → is_at server (Err error) → EndsServing opens listens is_at turns stops writes tells name listen files ports out err Listen opened listened out err
   NotPrinted : (server : V) (address : SocketAddr) (error : Error) (fault : Fault) (opened : F) (listened : P) (printed : O)
       → Opening opens listens name listen files ports (Ok server) opened listened → is_at server (Ok address)
-      → PrintsAddress writes address out (Err error) printed → IsToldAs error File fault
+      → Prints writes (listening_line address) out (Err error) printed → IsToldAs error File fault
       → EndsServing opens listens is_at turns stops writes tells name listen files ports out err fault opened listened printed err
   Served : (server : V) (address : SocketAddr) (done : Unit {0}) (fault : Fault) (opened : F) (listened : P) (printed : O) (last : V) (told : E)
       → Opening opens listens name listen files ports (Ok server) opened listened → is_at server (Ok address)
-      → PrintsAddress writes address out (Ok done) printed → EndsTurns turns stops tells server err fault last told
+      → Prints writes (listening_line address) out (Ok done) printed → EndsTurns turns stops tells server err fault last told
       → EndsServing opens listens is_at turns stops writes tells name listen files ports out err fault opened listened printed told

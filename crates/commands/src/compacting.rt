@@ -1,53 +1,55 @@
 //! Copying the map of a data file into a new one.
-ghost use Rattle.std.specs.Prelude.{◌≡◌, ◌<◌, ◌⊎◌, ◌↔◌, ℕ, List, OnOk, IfOk, IfErr, IsErrOf};
-ghost use Rattle.std.specs.Io.KnownBytes.{Appends};
+ghost use Rattle.std.specs.Prelude.{◌≡◌, ◌<◌, ◌≤◌, ◌⊎◌, ◌↔◌, ℕ, List, Ok, OnOk, IfOk, IfErr, IsErrOf, MatchResult};
 ghost use Rattle.sector.specs.SectorModel.{IsSettled};
 ghost use Rattle.commit_log.specs.Format.{current};
 ghost use Rattle.commit_log.specs.LogImage.{IsLogImage};
-ghost use Rattle.commit_log.specs.Copying.{write_sets_of, copy_size};
-ghost use Rattle.commands.specs.Compacting.{copy_count, HasTooFew};
+ghost use Rattle.commit_log.specs.Copying.{write_sets_of, copy_size, IsCopyFault};
+ghost use Rattle.commit_log.specs.Reading.{FaultIs};
+ghost use Rattle.commands.specs.Compacting.{copy_count, Compacting, Copies, HasTooFew, MayTell};
 ghost use Rattle.commands.specs.Counts.{counts_of, log_line};
 ghost use Rattle.commands.specs.Faults.{IsFromOutput};
 ghost use Rattle.commands.specs.Notices.{copying_line};
 
 use crate::data::{Counts, print_counts};
 use crate::faults::Fault;
+use crate::system::{DataFiles, Lines};
 use commit_log::{LogFault, copy_into, copy_sectors, read_map};
 use model::Map;
-use sector::{FileSectors, Sectors};
+use sector::Sectors;
 use std::alloc::Global;
-use std::fs::File;
-use std::io::{self, Write};
-use std::mem;
-use std::rt::Files;
 use std::time::{Clock, Duration, Instant};
+use std::{io, mem};
 
 /// Copies the map of the log in the file `from`, of either format, into the file `to`, and prints the line of `to` as `check` does. It
 /// makes `to`, whose name must be free, with as many sectors as `copy_count` says, and never writes `from`. Where `err` is a terminal
-/// and reading took a second or more, it tells there that the copy is being written; that this can't be told is no fault.
+/// and reading took a second or more, it tells there that the copy is being written; that this can't be told is no fault. It calls nothing
+/// else: its contract names each call of the files and the outputs.
 ///
 /// The first fault met is told: one of opening or reading `from`; `LogFull` where the map needs more sectors than `to` may have, and then
 /// `to` isn't made; `File` or `Memory` where `to` can't be made, after which no file is there that it made; one of `copy_device`, after
 /// which `to` stays: it is no log, or the whole copy. It takes the memory of the map and of one record. That of the map is left to the end
 /// of the process: to give a million values back one by one takes a twentieth of the whole.
-pub fn compact<R: Files<File = File> + Clock, O: Write, E: Write>(
-    rt: &R,
+pub fn compact<C: Clock, F: DataFiles, O: Lines, E: Lines>(
+    clock: &C,
     alloc: Global,
+    files: &mut F,
     from: &str,
     to: &str,
     sectors: Option<u64>,
     out: &mut O,
     err: &mut E,
     is_terminal: bool,
-) -> Result<(), Fault> {
-    let begun = Instant::now(rt).ok();
-    let mut old = FileSectors::open_to_read(rt, from)?;
-    let (map, _) = read_map(alloc, &mut old)?;
-    let count = copy_count(old.count(), sectors, copy_sectors(&map))?;
-    let mut new = FileSectors::create(rt, to, count)?;
-    if is_terminal && is_long(rt, begun) {
-        let _ = tell_copying(err);
-    }
+) -> Result<(), Fault>
+    ensures { Compacting F.Device.Sectors F.reads F.makes O.writes E.writes from.now to.now sectors is_terminal files.old out.old err.old result files.new out.new err.new }
+{
+    let begun = Instant::now(clock).ok();
+    let mut old = files.open_to_read(from)?;
+    let found = read_map(alloc, &mut old)?;
+    let (map, _) = found;
+    let needed = copy_sectors(&map);
+    let count = copy_count(old.count(), sectors, needed)?;
+    let mut new = files.create(to, count)?;
+    may_tell(clock, begun, is_terminal, err);
     let copied = copy_device(alloc, &mut new, &map, out);
     mem::forget(map);
     copied
@@ -61,11 +63,13 @@ fn is_long<C: Clock>(clock: &C, begun: Option<Instant>) -> bool {
     }
 }
 
-// Tells that the map was read and the copy is being written, in one write.
-fn tell_copying<E: Write>(err: &mut E) -> io::Result<()>
-    ensures { OnOk result (Appends (E.contents err.old) (E.contents err.new) copying_line) }
+// Tells a terminal, where a second has passed, that the map was read and the copy is being written, in one write.
+fn may_tell<C: Clock, E: Lines>(clock: &C, begun: Option<Instant>, is_terminal: bool, err: &mut E)
+    ensures { MayTell E.writes is_terminal err.old err.new }
 {
-    err.write_all(b"ssikvd: the map is read, the copy is being written\n".as_slice())
+    if is_terminal && is_long(clock, begun) {
+        let _ = err.write_line(b"ssikvd: the map is read, the copy is being written\n".as_slice());
+    }
 }
 
 /// How many sectors a copy is given: as many as the old device has, as were asked for, and as the map needs. `LogFull` exactly where
@@ -93,16 +97,17 @@ pub fn copy_count(old: u64, asked: Option<u64>, needed: Option<u64>) -> Result<u
 /// A fault is the log's, beside which nothing is printed, among them `LogFull` exactly where the device has too few sectors for it; or
 /// `File` or `Memory` where the writer fails. It takes the memory of one record.
 #[tactic(auto, using(crate::proofs::Copied::full_alone, crate::proofs::Copied::output_is_not_full))]
-pub fn copy_device<D: Sectors, O: Write>(
+pub fn copy_device<D: Sectors, O: Lines>(
     alloc: Global,
     device: &mut D,
     map: &Map,
     out: &mut O,
 ) -> Result<(), Fault>
     ensures full { IsErrOf result Fault.LogFull ↔ (D.size device.old < copy_size map.now) }
-    ensures printed { OnOk result (Appends (O.contents out.old) (O.contents out.new) (log_line (write_sets_of map.now) (D.size device.old))) }
-    ensures beside { IfErr result (λ fault. IsFromOutput fault ⊎ (O.contents out.new ≡ O.contents out.old)) }
+    ensures printed { IfOk result (λ done. O.writes out.old (log_line (write_sets_of map.now) (D.size device.old)) (Ok done) out.new) }
+    ensures beside { IfErr result (λ fault. IsFromOutput fault ⊎ (out.new ≡ out.old)) }
     ensures copied { D.keeps_model → OnOk result ((image : List (List ℕ)) × IsSettled (D.size device.new) (D.may_read device.new) (D.may_leave device.new) image × IsLogImage current (write_sets_of map.now) image) }
+    ensures copies { copy_size map.now ≤ D.size device.old → Copies D.Sectors O.writes device.old map.now out.old result device.new out.new }
 {
     let counts = copy_counts(alloc, device, map)?;
     print_counts(counts, out)?;
@@ -111,6 +116,9 @@ pub fn copy_device<D: Sectors, O: Write>(
 
 // Writes the log of a map on a device, and counts what it then holds.
 fn copy_counts<D: Sectors>(alloc: Global, device: &mut D, map: &Map) -> Result<Counts, LogFault>
+    ensures fault { FaultIs (D.failures device.old) (D.failures device.new) result }
+    ensures errors { IfErr result IsCopyFault }
+    ensures size { D.size device.new ≡ D.size device.old }
     ensures full { IsErrOf result LogFault.Full ↔ (D.size device.old < copy_size map.now) }
     ensures counted { IfOk result (λ counts. counts ≡ counts_of (write_sets_of map.now) (D.size device.old)) }
     ensures copied { D.keeps_model → OnOk result ((image : List (List ℕ)) × IsSettled (D.size device.new) (D.may_read device.new) (D.may_leave device.new) image × IsLogImage current (write_sets_of map.now) image) }

@@ -1,6 +1,5 @@
 //! Making and checking a data file.
-ghost use Rattle.std.specs.Prelude.{◌≡◌, ◌≢◌, ◌<◌, ◌≤◌, ◌⊎◌, ◌↔◌, ℕ, List, [], length, MatchResult, OnOk, IfErr, IsErrOf, IsErrAnd};
-ghost use Rattle.std.specs.Io.KnownBytes.{Appends};
+ghost use Rattle.std.specs.Prelude.{◌≡◌, ◌≢◌, ◌<◌, ◌≤◌, ◌⊎◌, ◌↔◌, ℕ, List, [], length, MatchResult, Ok, OnOk, IfErr, IsErrOf, IsErrAnd};
 ghost use Rattle.model.specs.Map.{KeyWrite};
 ghost use Rattle.sector.specs.SectorModel.{IsSettled};
 ghost use Rattle.sector.specs.Failures.{Stayed};
@@ -10,30 +9,31 @@ ghost use Rattle.commit_log.specs.declared.formats.LogFormat.TheVariants.{One};
 ghost use Rattle.commit_log.specs.Format.{current};
 ghost use Rattle.commit_log.specs.LogImage.{IsLogImage, IsDamaged, HasHead, IsNoLog};
 ghost use Rattle.commit_log.specs.Reading.{ReadsAs};
+ghost use Rattle.commands.specs.Checking.{Checking, Checks};
 ghost use Rattle.commands.specs.Counts.{counts_of, line_of, log_line};
 ghost use Rattle.commands.specs.Faults.{IsFromDevice, IsFromOutput, IsFromOutside, DeviceIs};
+ghost use Rattle.commands.specs.Making.{Creating};
 
-use crate::LINE_MAX;
 use crate::faults::Fault;
-use arrayvec::ArrayVec;
+use crate::lines::{Line, push_number, push_text};
+use crate::system::{DataFiles, Lines};
 use commit_log::{Log, LogFault, format};
-use sector::{FileSectors, Sectors};
+use sector::Sectors;
 use std::alloc::Global;
-use std::fs::File;
-use std::io::{self, Write};
-use std::rt::Files;
-use std::time::Clock;
+use std::io;
 
-/// Makes a data file of so many sectors, 2 to 4,194,304, and formats it. The name must be free. Prints nothing.
+/// Makes a data file of so many sectors, 2 to 4,194,304, and formats it. The name must be free. Prints nothing, and calls nothing else: its
+/// contract names each call of the files.
 ///
 /// A fault is `File`, or `Memory` where that was what a call of the system lacked, after which no file is there that it made, or
 /// `Device`, after which the file stays. Takes no memory.
-pub fn create<R: Files<File = File> + Clock>(rt: &R, data: &str, sectors: u64) -> Result<(), Fault>
+pub fn create<F: DataFiles>(files: &mut F, data: &str, sectors: u64) -> Result<(), Fault>
     requires at_least { 2 ≤ sectors }
     requires at_most { sectors ≤ 4194304 }
-    ensures { IfErr result IsFromOutside }
+    ensures faults { IfErr result IsFromOutside }
+    ensures creates { Creating F.Device.Sectors F.makes data.now sectors files.old result files.new }
 {
-    let mut device = FileSectors::create(rt, data, sectors)?;
+    let mut device = files.create(data, sectors)?;
     format_device(&mut device)
 }
 
@@ -56,34 +56,40 @@ pub fn format_device<D: Sectors>(device: &mut D) -> Result<(), Fault>
 
 /// Opens a data file and prints how many records, keys and sectors it holds, and how many sectors it has.
 ///
+/// It calls nothing else: its contract names each call of the files and the output.
+///
 /// A fault is `File`, or one of `check_device`. It takes the memory of one record and of the map.
-pub fn check<R: Files<File = File> + Clock, O: Write>(
-    rt: &R,
+pub fn check<F: DataFiles, O: Lines>(
     alloc: Global,
+    files: &mut F,
     data: &str,
     out: &mut O,
-) -> Result<(), Fault> {
-    check_device(alloc, FileSectors::open(rt, data)?, out)
+) -> Result<(), Fault>
+    ensures { Checking F.Device.Sectors F.opens O.writes data.now files.old out.old result files.new out.new }
+{
+    let device = files.open(data)?;
+    check_device(alloc, device, out)
 }
 
 /// Opens the log of a device and prints, on one line, how many records, keys and sectors it holds, and how many sectors there are.
 ///
 /// A fault is the log's, beside which nothing is printed, or `File` or `Memory` where the writer fails. It takes the memory of one
 /// record and of the map.
-pub fn check_device<D: Sectors, O: Write>(
+pub fn check_device<D: Sectors, O: Lines>(
     alloc: Global,
     device: D,
     out: &mut O,
 ) -> Result<(), Fault>
     ensures found { D.keeps_model → (disk : List (List ℕ)) (lists : List (List KeyWrite)) → length disk ≡ D.size device → ReadsAs (D.may_read device) disk → IsLogImage current lists disk
-        → MatchResult result (λ _. Appends (O.contents out.old) (O.contents out.new) (log_line lists (D.size device))) IsFromOutside }
+        → MatchResult result (λ done. O.writes out.old (log_line lists (D.size device)) (Ok done) out.new) IsFromOutside }
     ensures damaged { D.keeps_model → (disk : List (List ℕ)) (lists : List (List KeyWrite)) → length disk ≡ D.size device → ReadsAs (D.may_read device) disk → IsDamaged current lists disk
-        → IsErrAnd result (λ fault. ((fault ≡ Fault.Damaged (length lists)) ⊎ IsFromDevice fault) × (O.contents out.new ≡ O.contents out.old)) }
+        → IsErrAnd result (λ fault. ((fault ≡ Fault.Damaged (length lists)) ⊎ IsFromDevice fault) × (out.new ≡ out.old)) }
     ensures no_log { D.keeps_model → (disk : List (List ℕ)) → length disk ≡ D.size device → ReadsAs (D.may_read device) disk → ((f : LogFormat) → IsNoLog f disk)
-        → IsErrAnd result (λ fault. ((fault ≡ Fault.NotALog) ⊎ IsFromDevice fault) × (O.contents out.new ≡ O.contents out.old)) }
+        → IsErrAnd result (λ fault. ((fault ≡ Fault.NotALog) ⊎ IsFromDevice fault) × (out.new ≡ out.old)) }
     ensures older { D.keeps_model → (disk : List (List ℕ)) → length disk ≡ D.size device → ReadsAs (D.may_read device) disk → HasHead One disk
-        → IsErrAnd result (λ fault. ((fault ≡ Fault.OldFormat) ⊎ IsFromDevice fault) × (O.contents out.new ≡ O.contents out.old)) }
-    ensures beside { IfErr result (λ fault. IsFromOutput fault ⊎ (O.contents out.new ≡ O.contents out.old)) }
+        → IsErrAnd result (λ fault. ((fault ≡ Fault.OldFormat) ⊎ IsFromDevice fault) × (out.new ≡ out.old)) }
+    ensures beside { IfErr result (λ fault. IsFromOutput fault ⊎ (out.new ≡ out.old)) }
+    ensures checks { Checks D.Sectors O.writes device out.old result out.new }
 {
     let counts = count_device(alloc, device)?;
     print_counts(counts, out)?;
@@ -122,19 +128,26 @@ fn count_device<D: Sectors>(alloc: Global, device: D) -> Result<Counts, LogFault
 }
 
 // Prints the line of these counts, in one write.
-pub(crate) fn print_counts<O: Write>(counts: Counts, out: &mut O) -> io::Result<()>
-    ensures { OnOk result (Appends (O.contents out.old) (O.contents out.new) (line_of counts)) }
+pub(crate) fn print_counts<O: Lines>(counts: Counts, out: &mut O) -> io::Result<()>
+    ensures { O.writes out.old (line_of counts) result out.new }
 {
-    let Counts {
-        records,
-        keys,
-        used,
-        count,
-    } = counts;
-    let mut line: ArrayVec<u8, LINE_MAX> = ArrayVec::new();
-    writeln!(
-        line,
-        "records {records} keys {keys} sectors {used} of {count}"
-    )?;
-    out.write_all(line.as_slice())
+    let line = counts_line(counts);
+    out.write_line(line.as_slice())
+}
+
+// The line of these counts.
+fn counts_line(counts: Counts) -> Line
+    ensures { result.items ≡ line_of counts }
+{
+    let mut line = Line::new();
+    push_text(&mut line, b"records ");
+    push_number(&mut line, counts.records);
+    push_text(&mut line, b" keys ");
+    push_number(&mut line, counts.keys as u64);
+    push_text(&mut line, b" sectors ");
+    push_number(&mut line, counts.used);
+    push_text(&mut line, b" of ");
+    push_number(&mut line, counts.count);
+    push_text(&mut line, b"\n");
+    line
 }

@@ -1,14 +1,14 @@
 //! How a command line ends, and what is told of it. Each line leaves in one write.
-ghost use Rattle.std.specs.Prelude.{◌≡◌, IsTrue, OnOk};
-ghost use Rattle.std.specs.Io.KnownBytes.{Appends};
+ghost use Rattle.std.specs.Prelude.{◌≡◌, ◌++◌, ◌≤◌, length};
 ghost use Rattle.commands.specs.Faults.{line_of, status_of};
-ghost use Rattle.commands.specs.Endings.{Tells};
+ghost use Rattle.commands.specs.Endings.{Tells, TellsFault};
 
 use crate::faults::Fault;
-use crate::{BAD_LINE, DONE, FAULT, LINE_MAX, REFUSED};
-use arrayvec::ArrayVec;
+use crate::lines::{Line, numbered_line, push_text};
+use crate::system::Lines;
+use crate::{BAD_LINE, DONE, FAULT, REFUSED};
 use command_line::Refusal;
-use std::io::{self, Write};
+use std::io;
 
 /// How a command line ends. A text ends with a line feed.
 #[derive(PartialEq, Eq, Debug, Drop)]
@@ -63,15 +63,15 @@ impl From<Result<(), Fault>> for Ending {
 
 /// Tells an ending: help on the output, and what went wrong on the error output. Where help can't be written, that is a fault of a file.
 /// Takes no memory.
-pub fn tell<O: Write, E: Write>(ending: &Ending, out: &mut O, err: &mut E) -> Told
-    ensures { Tells ending.now (O.contents out.old) (O.contents out.new) (E.contents err.old) (E.contents err.new) result }
+pub fn tell<O: Lines, E: Lines>(ending: &Ending, out: &mut O, err: &mut E) -> Told
+    ensures { Tells O.writes E.writes ending.now out.old err.old result out.new err.new }
 {
     match ending {
         Ending::Done => Told {
             status: DONE,
             is_written: true,
         },
-        Ending::Help(text) => match out.write_all(text.as_bytes()) {
+        Ending::Help(text) => match out.write_line(text.as_bytes()) {
             Ok(()) => Told {
                 status: DONE,
                 is_written: true,
@@ -80,16 +80,15 @@ pub fn tell<O: Write, E: Write>(ending: &Ending, out: &mut O, err: &mut E) -> To
         },
         Ending::Refused(text) => Told {
             status: REFUSED,
-            is_written: err.write_all(text.as_bytes()).is_ok(),
+            is_written: err.write_line(text.as_bytes()).is_ok(),
         },
         Ending::Failed(fault) => report(*fault, err),
     }
 }
 
 /// Writes the text of a fault on its own line, in one write, and answers the exit status. Takes no memory.
-pub fn report<E: Write>(fault: Fault, err: &mut E) -> Told
-    ensures status { result.status ≡ status_of fault }
-    ensures text { IsTrue result.is_written → Appends (E.contents err.old) (E.contents err.new) (line_of fault) }
+pub fn report<E: Lines>(fault: Fault, err: &mut E) -> Told
+    ensures { TellsFault E.writes fault err.old result err.new }
 {
     Told {
         status: status(fault),
@@ -107,10 +106,40 @@ fn status(fault: Fault) -> u8
     }
 }
 
-fn write_fault<E: Write>(fault: Fault, err: &mut E) -> io::Result<()>
-    ensures { OnOk result (Appends (E.contents err.old) (E.contents err.new) (line_of fault)) }
+// Writes the line of a fault.
+fn write_fault<E: Lines>(fault: Fault, err: &mut E) -> io::Result<()>
+    ensures { E.writes err.old (line_of fault) result err.new }
 {
-    let mut line: ArrayVec<u8, LINE_MAX> = ArrayVec::new();
-    writeln!(line, "{fault}")?;
-    err.write_all(line.as_slice())
+    let line = fault_line(fault);
+    err.write_line(line.as_slice())
+}
+
+// The line of a fault.
+fn fault_line(fault: Fault) -> Line
+    ensures { result.items ≡ line_of fault }
+{
+    match fault {
+        Fault::NotALog => text_line(b"ssikvd: not a log\n"),
+        Fault::OldFormat => text_line(b"ssikvd: old format\n"),
+        Fault::NotEmpty => text_line(b"ssikvd: not empty\n"),
+        Fault::Damaged(index) => numbered_line(b"ssikvd: damaged record ", index, b"\n"),
+        Fault::LogFull => text_line(b"ssikvd: log full\n"),
+        Fault::Device => text_line(b"ssikvd: device fault\n"),
+        Fault::File => text_line(b"ssikvd: file fault\n"),
+        Fault::Listen => text_line(b"ssikvd: listen fault\n"),
+        Fault::Poll => text_line(b"ssikvd: poll fault\n"),
+        Fault::Memory => text_line(b"ssikvd: out of memory\n"),
+        Fault::BadLine(number) => numbered_line(b"line ", number, b": bad line\n"),
+        Fault::Crowded(number) => numbered_line(b"line ", number, b": crowded\n"),
+    }
+}
+
+// A line of a text alone.
+fn text_line(text: &[u8]) -> Line
+    requires { length text.now ≤ 128 }
+    ensures { result.items ≡ text.now }
+{
+    let mut line = Line::new();
+    push_text(&mut line, text);
+    line
 }

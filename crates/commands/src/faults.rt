@@ -5,9 +5,7 @@ ghost use Rattle.std.specs.IoError.{error_kind};
 use commit_log::{LogFault, Unopened};
 use scripts::ScriptFault;
 use sector::Sectors;
-use std::fmt::{Display, Formatter};
-use std::io::ErrorKind;
-use std::{fmt, io};
+use std::io::{self, ErrorKind};
 
 /// Why a command ends early.
 #[derive(Clone, Copy, PartialEq, Eq, Debug)]
@@ -36,30 +34,6 @@ pub enum Fault {
     BadLine(u64),
     /// The line of this number names one session too many.
     Crowded(u64),
-}
-
-impl Display for Fault {
-    ghost use Rattle.std.specs.Prelude.{Some};
-    ghost use Rattle.commands.specs.Faults.{text_of};
-
-    ghost output = { λ fault. Some (text_of fault) };
-
-    fn fmt<W: fmt::Write>(&self, f: &mut Formatter<W>) -> fmt::Result {
-        match self {
-            Fault::NotALog => f.write_str("ssikvd: not a log"),
-            Fault::OldFormat => f.write_str("ssikvd: old format"),
-            Fault::NotEmpty => f.write_str("ssikvd: not empty"),
-            Fault::Damaged(index) => write!(f, "ssikvd: damaged record {index}"),
-            Fault::LogFull => f.write_str("ssikvd: log full"),
-            Fault::Device => f.write_str("ssikvd: device fault"),
-            Fault::File => f.write_str("ssikvd: file fault"),
-            Fault::Listen => f.write_str("ssikvd: listen fault"),
-            Fault::Poll => f.write_str("ssikvd: poll fault"),
-            Fault::Memory => f.write_str("ssikvd: out of memory"),
-            Fault::BadLine(number) => write!(f, "line {number}: bad line"),
-            Fault::Crowded(number) => write!(f, "line {number}: crowded"),
-        }
-    }
 }
 
 impl From<LogFault> for Fault {

@@ -1,10 +1,11 @@
-//! The commands, each over what it is given, a reader and two writers.
+//! The commands, each over traits for what it calls: words, files, ports, scripts and lines.
 #![tactic(auto)]
 
 mod compacting;
 mod data;
 mod endings;
 mod faults;
+mod lines;
 mod running;
 mod serving;
 mod streams;
@@ -14,10 +15,10 @@ pub use compacting::{compact, copy_count, copy_device};
 pub use data::{check, check_device, create, format_device};
 pub use endings::{Ending, Told, report, tell};
 pub use faults::Fault;
-pub use running::{run, run_watched};
+pub use running::{run, run_command, run_watched};
 pub use serving::{Turns, serve, serve_turns};
 pub use streams::{NullDevice, Opener, keep_standard};
-pub use system::{DataFiles, Lines, Ports, SystemFiles, SystemPorts};
+pub use system::{CommandLine, DataFiles, Lines, Ports, Scripts, SystemFiles, SystemPorts, Words};
 
 /// The status of a command that was done, or of help that was asked for.
 pub const DONE: u8 = 0;
@@ -30,6 +31,3 @@ pub const BAD_LINE: u8 = 2;
 
 /// The status of every other fault.
 pub const FAULT: u8 = 3;
-
-/// The most bytes of a line that is told: the longest has four numbers of twenty digits.
-pub(crate) const LINE_MAX: usize = 128;

@@ -1,16 +1,16 @@
 //! Serving a data file.
 ghost use Rattle.std.specs.Prelude.{IfErr, IsErr};
-ghost use Rattle.commands.specs.Serving.{EndsServing, EndsTurns, Opening, PrintsAddress, TakesOpened, TellsStop};
+ghost use Rattle.commands.specs.Notices.{listening_line};
+ghost use Rattle.commands.specs.Printing.{Prints};
+ghost use Rattle.commands.specs.Serving.{EndsServing, EndsTurns, Opening, TakesOpened, TellsStop};
 
-use crate::LINE_MAX;
 use crate::faults::{Fault, or_memory};
 use crate::system::{DataFiles, Lines, Ports};
-use arrayvec::ArrayVec;
 use event_loop::EventLoop;
 use sector::FileSectors;
 use sessions::Hub;
 use std::alloc::Global;
-use std::io::{self, Write};
+use std::io;
 use std::net::SocketAddr;
 use std::sync::Wait;
 use std::time::Clock;
@@ -87,7 +87,7 @@ pub fn serve<R: Wait + Clock, F: DataFiles, P: Ports<Hub<F::Device>>, O: Lines, 
     let Ok(address) = server.address() else {
         return Err(Fault::Listen);
     };
-    print_listening(address, out)?;
+    print_listening(alloc, address, out)?;
     serve_turns(rt, &mut server, err)
 }
 
@@ -124,13 +124,12 @@ fn tell_stopped<E: Lines>(told: &mut bool, is_stopped: bool, err: &mut E)
     let _ = err.write_line(b"ssikvd: store stopped\n".as_slice());
 }
 
-// Prints the line of the address that is listened at, in one write.
-fn print_listening<O: Lines>(address: SocketAddr, out: &mut O) -> io::Result<()>
-    ensures { PrintsAddress O.writes address out.old result out.new }
+// Prints the line of the address that is listened at, in one write. It takes the memory of the line.
+fn print_listening<O: Lines>(alloc: Global, address: SocketAddr, out: &mut O) -> io::Result<()>
+    ensures { Prints O.writes (listening_line address) out.old result out.new }
 {
-    let mut line: ArrayVec<u8, LINE_MAX> = ArrayVec::new();
-    writeln!(line, "listening {address}")?;
-    out.write_line(line.as_slice())
+    let line = format!(in alloc; "listening {address}\n")?;
+    out.write_line(line.as_bytes())
 }
 
 /// Opens a data file and listens at an address. Its faults are those of `serve` but `Poll`.

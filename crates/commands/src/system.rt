@@ -1,19 +1,38 @@
-//! What commands use of the system, as traits: files, ports and lines. A command's contract says which of their calls it makes.
+//! What commands use of the system, as traits: words, files, ports, scripts and lines. A command's contract says which of their calls it
+//! makes.
 
 use crate::serving::Turns;
+use command_line::{Asked, Refusal, parse};
 use event_loop::EventLoop;
+use scripts::{ScriptFault, play};
 use sector::{FileSectors, Sectors};
 use sessions::Hub;
 use std::alloc::Global;
 use std::fs::File;
-use std::io::{self, Write};
+use std::io::{self, Read, Write};
 use std::net::{Net, SocketAddr};
 use std::rt::Files;
 use std::time::Clock;
 
-/// What opens data files.
+/// What tells which command is asked for.
+pub trait Words {
+    ghost use Rattle.std.specs.Prelude.{⊤, Result, IfOk};
+    ghost use Rattle.command_line.specs.Ranges.{IsInRange};
+    ghost use Rattle.command_line.specs.declared.asked.Asked.{Asked};
+    ghost use Rattle.command_line.specs.declared.refusals.Refusal.{Refusal};
+
+    /// Relates it to what it tells.
+    ghost asks: { Self → Result Asked Refusal → Type 0 } = { λ _ _. ⊤ };
+
+    /// The command that is asked for, with numbers in its range, or why there is none.
+    fn asked(&self, alloc: Global) -> Result<Asked<'_>, Refusal>
+        ensures range { IfOk result IsInRange }
+        ensures asks { asks self.now result };
+}
+
+/// What opens and makes data files.
 pub trait DataFiles {
-    ghost use Rattle.std.specs.Prelude.{⊤, ℕ, List, Result};
+    ghost use Rattle.std.specs.Prelude.{⊤, ◌≡◌, ℕ, List, Result, IfOk};
     ghost use Rattle.std.specs.declared.io.Error.{Error};
 
     /// A data file, which is closed where it is dropped.
@@ -22,9 +41,24 @@ pub trait DataFiles {
     /// Relates it before it opened a file, the file's name, how that came out, and it afterwards.
     ghost opens: { Self → List ℕ → Result Self.Device Error → Self → Type 0 } = { λ _ _ _ _. ⊤ };
 
+    /// The same of a file that is to be read alone.
+    ghost reads: { Self → List ℕ → Result Self.Device Error → Self → Type 0 } = { λ _ _ _ _. ⊤ };
+
+    /// Relates it before it made a file, the file's name, its number of sectors, how that came out, and it afterwards.
+    ghost makes: { Self → List ℕ → ℕ → Result Self.Device Error → Self → Type 0 } = { λ _ _ _ _ _. ⊤ };
+
     /// Opens a data file.
     fn open(&mut self, data: &str) -> io::Result<Self::Device>
         ensures { opens self.old data.now result self.new };
+
+    /// Opens a data file to be read alone.
+    fn open_to_read(&mut self, data: &str) -> io::Result<Self::Device>
+        ensures { reads self.old data.now result self.new };
+
+    /// Makes a data file of so many sectors. Its name must be free.
+    fn create(&mut self, data: &str, sectors: u64) -> io::Result<Self::Device>
+        ensures makes { makes self.old data.now sectors result self.new }
+        ensures size { IfOk result (λ device. Self.Device.size device ≡ sectors) };
 }
 
 /// What listens at addresses, for the sessions of such a hub.
@@ -48,7 +82,23 @@ pub trait Ports<H> {
         ensures { listens self.old address hub result self.new };
 }
 
-/// What takes lines.
+/// What plays scripts, and prints to such an output.
+pub trait Scripts<O> {
+    ghost use Rattle.std.specs.Prelude.{⊤, ◌≤◌, ℕ, Result};
+    ghost use Rattle.scripts.specs.declared.faults.ScriptFault.{ScriptFault};
+
+    /// Relates it, a number of sectors, the output before it played, how that came out, and the output afterwards.
+    ghost plays: { Self → ℕ → O → Result (Unit {0}) ScriptFault → O → Type 0 } = { λ _ _ _ _ _. ⊤ };
+
+    /// Plays a script over a device in memory of so many sectors.
+    fn play(self, alloc: Global, sectors: u64, out: &mut O) -> Result<(), ScriptFault>
+    where
+        Self: Sized,
+        requires { sectors ≤ 65536 }
+        ensures { plays self sectors out.old result out.new };
+}
+
+/// What takes lines. A text of several lines goes as one.
 pub trait Lines {
     ghost use Rattle.std.specs.Prelude.{⊤, ℕ, List, Result};
     ghost use Rattle.std.specs.declared.io.Error.{Error};
@@ -74,6 +124,38 @@ impl<W: Write> Lines for W {
     }
 }
 
+/// Each reader: its bytes are the script.
+impl<I: Read + Drop, O: Write> Scripts<O> for I {
+    ghost use Rattle.std.specs.Prelude.{IfSome};
+    ghost use Rattle.scripts.specs.Lines.{lines_of};
+    ghost use Rattle.scripts.specs.Transcript.{Plays, opening};
+
+    ghost plays = { λ reader sectors out result printed. IfSome (I.remaining reader) (λ script. Plays (opening sectors) (lines_of script) result (O.contents out) (O.contents printed)) };
+
+    fn play(self, alloc: Global, sectors: u64, out: &mut O) -> Result<(), ScriptFault> {
+        play(alloc, sectors, self, out)
+    }
+}
+
+/// The words of a command line, the program's name first.
+#[derive(Drop)]
+pub struct CommandLine<'a> {
+    words: &'a [&'a str],
+}
+
+impl<'a> CommandLine<'a> {
+    /// Of these words. Takes no memory.
+    pub fn new(words: &'a [&'a str]) -> Self {
+        CommandLine { words }
+    }
+}
+
+impl Words for CommandLine<'_> {
+    fn asked(&self, alloc: Global) -> Result<Asked<'_>, Refusal> {
+        parse(alloc, self.words)
+    }
+}
+
 /// The files of the system.
 #[derive(Drop)]
 pub struct SystemFiles<'a, R> {
@@ -92,6 +174,14 @@ impl<R: Files<File = File> + Clock> DataFiles for SystemFiles<'_, R> {
 
     fn open(&mut self, data: &str) -> io::Result<FileSectors> {
         FileSectors::open(self.rt, data)
+    }
+
+    fn open_to_read(&mut self, data: &str) -> io::Result<FileSectors> {
+        FileSectors::open_to_read(self.rt, data)
+    }
+
+    fn create(&mut self, data: &str, sectors: u64) -> io::Result<FileSectors> {
+        FileSectors::create(self.rt, data, sectors)
     }
 }
 

@@ -83,6 +83,26 @@ with_first lists (old ∷ rest) first shut proper some stands behind closed = el
       cc (same, other))
 ]
 
+-- a log whose first sector was written
+pub first_of_log : (lists : List (List KeyWrite)) (image : List (List ℕ)) (first : List ℕ) → IsLogImage current lists image → IsCopyOrNoLog lists (set image 0 first)
+first_of_log lists [] first log = absurd log
+first_of_log lists (old ∷ rest) first log = elim (cases_Bool (bytes_eq first (head_sector current))) [
+  | inl same ↦ inl ((bytes_eq-Decides first (head_sector current)).0 same, log.1)
+  | inr other ↦
+      inr (λ at.
+      let is : first ≡ head_sector current = cc at in
+      let same : bytes_eq first (head_sector current) ≡ true = (bytes_eq-Decides first (head_sector current)).1 is in
+      cc (same, other))
+]
+
+pub set_first : (image : List (List ℕ)) (a b : List ℕ) → set (set image 0 a) 0 b ≡ set image 0 b
+set_first [] a b = refl
+set_first (old ∷ rest) a b = refl
+
+pub first_is : (image : List (List ℕ)) (a : List ℕ) → 1 ≤ length image → slice_get (set image 0 a) 0 ≡ Some a
+first_is [] a some = absurd (omega arith)
+first_is (old ∷ rest) a some = refl
+
 pub log_if_head : (lists : List (List KeyWrite)) (c : List (List ℕ)) → IsCopyOrNoLog lists c → slice_get c 0 ≡ Some (head_sector current) → IsLogImage current lists c
 log_if_head lists c (inl holds) head = holds
 log_if_head lists c (inr none) head = absurd (none head)

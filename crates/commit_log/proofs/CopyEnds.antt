@@ -1,18 +1,19 @@
 -- How a copy ends: its records are settled, and then its head is written.
-use Rattle.std.proofs.Common.{◌≡◌, inl, inr, ⊎_elim, ℕ, ◌<◌, ◌≤◌, ◌+◌, List, [], ◌∷◌, length, set, slice_get, Some, sym, ◌∙◌, ap, subst, arith}
+use Rattle.std.proofs.Common.{◌≡◌, inl, inr, ⊎_elim, ℕ, ◌<◌, ◌≤◌, ◌+◌, List, [], ◌∷◌, length, set, slice_get, Some, refl, sym, ◌∙◌, ap, subst, arith}
 use Rattle.sector.specs.declared.device.Sectors.{Ghosts}
-use Rattle.sector.specs.SectorModel.{IsSettled, FollowsWrite, Settles, Elapses, LeavesOnly}
+use Rattle.sector.specs.SectorModel.{IsSettled, FollowsWrite, FollowsWrites, Settles, Elapses, LeavesOnly}
 use Rattle.sector.proofs.Moments.{started, goes_on, joined}
 use Rattle.model.specs.Map.{KeyWrite}
 use Rattle.commit_log.specs.Format.{current, head_sector}
 use Rattle.commit_log.specs.RecordFormat.{closed_gate, first_digest}
 use Rattle.commit_log.specs.LogImage.{IsLogImage, span}
 use Rattle.commit_log.specs.LogState.{IsSameBefore}
-use Rattle.commit_log.specs.Copying.{log_sectors, ReadsFrom, LeavesZeros, IsCopyOrNoLog}
+use Rattle.commit_log.specs.Copying.{log_sectors, ReadsFrom, LeavesZeros, IsCopyOrNoLog, IsCopyStep}
 use Rattle.commit_log.proofs.Gates.{closed_gate_shut}
 use Rattle.commit_log.proofs.Records.{slice_get_there}
 use Rattle.commit_log.proofs.Putting.{AreWriteSets}
-use Rattle.commit_log.proofs.CopiedSectors.{StandsAt, length-log_sectors, with_first, log_if_head, zeros_are_no_log, same_first}
+use Rattle.commit_log.proofs.CopyProtocol.{Within}
+use Rattle.commit_log.proofs.CopiedSectors.{StandsAt, length-log_sectors, with_first, first_of_log, set_first, first_is, log_if_head, zeros_are_no_log, same_first}
 
 module _ {D : Type 0} (S : Ghosts D) (lists : List (List KeyWrite)) where
   -- a crash leaves this image alone, in which the records and a closed gate stand behind the first sector
@@ -58,34 +59,58 @@ module _ {D : Type 0} (S : Ghosts D) (lists : List (List KeyWrite)) where
       let head : slice_get image 0 ≡ Some (head_sector current) = found.1 ∙ ap (λ (s : List ℕ). Some s) (written found.0 (settles.was_read 0 found.0 found.1)) in
       (image, settles.settled, log_if_head lists image (is image settles.was_left) head)
 
-  module _ (start : D) (zeros : LeavesZeros (S.may_leave start)) where
-    same_zeros : (c : List (List ℕ)) → IsSameBefore 1 (S.may_leave start) c → IsCopyOrNoLog lists c
-    same_zeros c same = zeros_are_no_log lists c (same_first c same.0 same.2 ∙ zeros same.0 same.1)
+  -- but for its first sector it is the log
+  pub headed_step : (now next : D) (may_leave : List (List ℕ) → Type 0) → AreWriteSets lists → Ready now → FollowsWrite 0 (S.may_leave now) (S.may_leave next)
+      → (c : List (List ℕ)) → S.may_leave next c → IsCopyStep lists may_leave c
+  headed_step now next may_leave proper is follows c left =
+      let from = follows c left in
+      let made : List (List ℕ) = set is.image 0 (head_sector current) in
+      let either = with_first lists is.image (head_sector current) closed_gate proper is.some is.stands is.behind closed_gate_shut in
+      let log : IsLogImage current lists made = log_if_head lists made either (first_is is.image (head_sector current) is.some) in
+      let image : c ≡ set is.image 0 from.2.0 = from.2.1 ∙ ap (λ (l : List (List ℕ)). set l 0 from.2.0) (is.left from.0 from.1) in
+      inr (made, log, (from.2.0, image ∙ sym (set_first is.image (head_sector current) from.2.0)))
 
-    pub after_records : (now : D) → LeavesOnly S.moment S.left_since start now (IsSameBefore 1 (S.may_leave start)) → LeavesOnly S.moment S.left_since start now (IsCopyOrNoLog lists)
-    after_records now time = record {
-      later = time.later;
-      each = λ c left. same_zeros c (time.each c left);
-      before = λ t c le left. ⊎_elim (λ was. inl was) (λ same. inr (same_zeros c same)) (time.before t c le left);
+  module _ (start : D) where
+    same_before : (c : List (List ℕ)) → FollowsWrites 1 (1 + span lists) (S.may_leave start) c → IsSameBefore 1 (S.may_leave start) c
+    same_before c from = (from.0, from.1, from.2.before)
+
+    pub after_records : (now : D) → Within S 1 (1 + span lists) start now → LeavesOnly S.moment S.left_since start now (IsCopyStep lists (S.may_leave start))
+    after_records now alone = record {
+      later = alone.time.later;
+      each = λ c left. inl (same_before c (alone.time.each c left));
+      before = λ t c le left. ⊎_elim (λ was. inl was) (λ same. inr (inl (same_before c same))) (alone.time.before t c le left);
     }
 
-    pub after_sync : (now next : D) → LeavesOnly S.moment S.left_since start now (IsCopyOrNoLog lists) → ((c : List (List ℕ)) → S.may_leave now c → IsSameBefore 1 (S.may_leave start) c)
+    pub after_sync : (now next : D) → LeavesOnly S.moment S.left_since start now (IsCopyStep lists (S.may_leave start)) → Within S 1 (1 + span lists) start now
         → ((c : List (List ℕ)) → S.may_leave next c → S.may_leave now c) → Elapses (S.moment now) (S.moment next) (S.left_since now) (S.left_since next) (S.may_leave next)
-        → LeavesOnly S.moment S.left_since start next (IsCopyOrNoLog lists)
-    after_sync now next so_far same fewer time =
-        goes_on S.moment S.left_since start now next (IsCopyOrNoLog lists) (S.may_leave next) so_far time (λ c left. same_zeros c (same c (fewer c left)))
+        → LeavesOnly S.moment S.left_since start next (IsCopyStep lists (S.may_leave start))
+    after_sync now next so_far alone fewer time =
+        goes_on S.moment S.left_since start now next (IsCopyStep lists (S.may_leave start)) (S.may_leave next) so_far time (λ c left. inl (same_before c (alone.left c (fewer c left))))
 
-    pub not_begun : ((c : List (List ℕ)) → S.left_since start (S.moment start) c → S.may_leave start c) → LeavesOnly S.moment S.left_since start start (IsCopyOrNoLog lists)
-    not_begun only_now = started S.moment S.left_since start (IsCopyOrNoLog lists) (λ c left. zeros_are_no_log lists c (zeros c (only_now c left)))
+    pub not_begun : ((c : List (List ℕ)) → S.left_since start (S.moment start) c → S.may_leave start c) → LeavesOnly S.moment S.left_since start start (IsCopyStep lists (S.may_leave start))
+    not_begun only_now = started S.moment S.left_since start (IsCopyStep lists (S.may_leave start)) (λ c left. inl (c, only_now c left, refl))
 
-    pub still_zeros : (now : D) → LeavesOnly S.moment S.left_since start now (S.may_leave start) → LeavesOnly S.moment S.left_since start now (IsCopyOrNoLog lists)
-    still_zeros now time = record {
+    pub still_first : (now : D) → LeavesOnly S.moment S.left_since start now (S.may_leave start) → LeavesOnly S.moment S.left_since start now (IsCopyStep lists (S.may_leave start))
+    still_first now time = record {
       later = time.later;
-      each = λ c left. zeros_are_no_log lists c (zeros c (time.each c left));
-      before = λ t c le left. ⊎_elim (λ was. inl was) (λ here. inr (zeros_are_no_log lists c (zeros c here))) (time.before t c le left);
+      each = λ c left. inl (c, time.each c left, refl);
+      before = λ t c le left. ⊎_elim (λ was. inl was) (λ here. inr (inl (c, here, refl))) (time.before t c le left);
     }
 
-    pub after_reads : (now next : D) → LeavesOnly S.moment S.left_since start now (S.may_leave start) → LeavesOnly S.moment S.left_since now next (IsCopyOrNoLog lists)
-        → LeavesOnly S.moment S.left_since start next (IsCopyOrNoLog lists)
-    after_reads now next first second =
-        joined S.moment S.left_since start now next (S.may_leave start) (IsCopyOrNoLog lists) (IsCopyOrNoLog lists) first second (λ c here. zeros_are_no_log lists c (zeros c here)) (λ c here. here)
+    pub after_reads : (now next : D) → LeavesOnly S.moment S.left_since start now (S.may_leave start) → ((c : List (List ℕ)) → S.may_leave now c → S.may_leave start c)
+        → LeavesOnly S.moment S.left_since now next (IsCopyStep lists (S.may_leave now)) → LeavesOnly S.moment S.left_since start next (IsCopyStep lists (S.may_leave start))
+    after_reads now next first fewer second =
+        joined S.moment S.left_since start now next (S.may_leave start) (IsCopyStep lists (S.may_leave now)) (IsCopyStep lists (S.may_leave start)) first second (λ c here. inl (c, here, refl))
+        (λ c step. ⊎_elim (λ same. inl (same.0, fewer same.0 same.1, same.2)) (λ log. inr log) step)
+
+    -- where zeros were there, no log is there before the finished one
+    pub no_log : (now : D) → LeavesZeros (S.may_leave start) → LeavesOnly S.moment S.left_since start now (IsCopyStep lists (S.may_leave start)) → LeavesOnly S.moment S.left_since start now (IsCopyOrNoLog lists)
+    no_log now zeros run = record {
+      later = run.later;
+      each = λ c left. none c (run.each c left);
+      before = λ t c le left. ⊎_elim (λ was. inl was) (λ step. inr (none c step)) (run.before t c le left);
+    }
+      where
+        none : (c : List (List ℕ)) → IsCopyStep lists (S.may_leave start) c → IsCopyOrNoLog lists c
+        none c (inl same) = zeros_are_no_log lists c (same_first c same.0 same.2 ∙ zeros same.0 same.1)
+        none c (inr log) = subst (λ (l : List (List ℕ)). IsCopyOrNoLog lists l) (sym log.2.1) (first_of_log lists log.0 log.2.0 log.1)

@@ -1,48 +1,102 @@
--- What a crash leaves while a map is copied: the first sector is written last, over a settled log without its head.
-use Rattle.std.proofs.Common.{ℕ, ◌≤◌, List, take, refl, sym, ◌∙◌, ap}
-use Rattle.std.proofs.lemmas.List.{take-take}
+-- What a device reads and a crash leaves while some of its sectors alone are written.
+use Rattle.std.proofs.Common.{⊎_elim, inl, inr, ℕ, ◌≤◌, ◌<◌, ◌≢◌, ◌≡◌, ◌+◌, ◌-◌, List, take, drop, refl, sym, ◌∙◌, ap, arith}
+use Rattle.std.proofs.lemmas.List.{take-take, drop-drop}
 use Rattle.sector.specs.declared.device.Sectors.{Ghosts}
-use Rattle.sector.specs.SectorModel.{FollowsWrite, Elapses, LeavesOnly}
+use Rattle.sector.specs.SectorModel.{FollowsWrite, FollowsWrites, IsOutside, Settles, Elapses}
 use Rattle.sector.proofs.Moments.{started, goes_on, joined}
-use Rattle.commit_log.specs.LogState.{IsSameBefore}
-use Rattle.commit_log.proofs.Writes.{after_write}
+use Rattle.sector.proofs.Runs.{writes_on}
+use Rattle.commit_log.specs.Reading.{OnlyReads}
+use Rattle.commit_log.specs.Copying.{OnlyWrites}
 
-pub same_before_more : (at more : ℕ) (base mid new : List (List ℕ) → Type 0) → at ≤ more → ((c : List (List ℕ)) → mid c → IsSameBefore at base c)
-    → ((c : List (List ℕ)) → new c → IsSameBefore more mid c) → (c : List (List ℕ)) → new c → IsSameBefore at base c
-same_before_more at more base mid new le first second c left =
-    let from = second c left in
-    let was = first from.0 from.1 in
-    (was.0, was.1, sym (take-take at more c le) ∙ ap (λ (l : List (List ℕ)). take at l) from.2 ∙ take-take at more from.0 le ∙ was.2)
+as_before : (at n : ℕ) (base : List (List ℕ) → Type 0) (c : List (List ℕ)) → base c → FollowsWrites at n base c
+as_before at n base c left = (c, left, record { size = refl; before = refl; behind = refl })
 
-module _ {D : Type 0} (S : Ghosts D) (start : D) (at : ℕ) where
-  -- so far, where nothing before this sector was written
-  pub record Behind (now : D) : Type 0 where
-    pub left : (c : List (List ℕ)) → S.may_leave now c → IsSameBefore at (S.may_leave start) c
-    pub time : LeavesOnly S.moment S.left_since start now (IsSameBefore at (S.may_leave start))
+-- what is the same behind these sectors is so behind more
+drop_behind : (m n : ℕ) (c d : List (List ℕ)) → m ≤ n → drop m c ≡ drop m d → drop n c ≡ drop n d
+drop_behind m n c d le same =
+    let whole : m + (n - m) ≡ n = omega arith in
+    ap (λ (k : ℕ). drop k c) (sym whole) ∙ sym (drop-drop (n - m) m c) ∙ ap (λ (l : List (List ℕ)). drop (n - m) l) same ∙ drop-drop (n - m) m d ∙ ap (λ (k : ℕ). drop k d) whole
 
-  pub nothing_yet : ((c : List (List ℕ)) → S.left_since start (S.moment start) c → S.may_leave start c) → Behind start
-  nothing_yet only_now = record {
-    left = λ c left. (c, left, refl);
-    time = started S.moment S.left_since start (IsSameBefore at (S.may_leave start)) (λ c left. (c, only_now c left, refl));
+runs_on : (at n i m : ℕ) (base old : List (List ℕ) → Type 0) → at ≤ i → i + m ≤ at + n → ((c : List (List ℕ)) → old c → FollowsWrites at n base c)
+    → (c : List (List ℕ)) → FollowsWrites i m old c → FollowsWrites at n base c
+runs_on at n i m base old le end so_far c from =
+    let was = so_far from.0 from.1 in (
+      was.0,
+      was.1,
+      record {
+        size = from.2.size ∙ was.2.size;
+        before = sym (take-take at i c le) ∙ ap (λ (l : List (List ℕ)). take at l) from.2.before ∙ take-take at i from.0 le ∙ was.2.before;
+        behind = drop_behind (i + m) (at + n) c from.0 end from.2.behind ∙ was.2.behind;
+      },
+    )
+
+module _ {D : Type 0} (S : Ghosts D) where
+  -- none but these n sectors were written from old to new
+  abbrev pub Within : ℕ → ℕ → D → D → Type 0
+  Within at n old new = OnlyWrites at n S.may_read S.may_leave S.moment S.left_since old new
+
+  module _ (only_now : (d : D) (c : List (List ℕ)) → S.left_since d (S.moment d) c → S.may_leave d c) (at n : ℕ) (start : D) where
+    pub nothing_yet : Within at n start start
+    nothing_yet = record {
+      others = λ i s outside read. read;
+      left = as_before at n (S.may_leave start);
+      time = started S.moment S.left_since start (FollowsWrites at n (S.may_leave start)) (λ c left. as_before at n (S.may_leave start) c (only_now start c left));
+    }
+
+    -- one call of many writes
+    pub sectors_written : (new : D) → ((i : ℕ) (s : List ℕ) → IsOutside at n i → S.may_read new i s → S.may_read start i s) → ((c : List (List ℕ)) → S.may_leave new c → FollowsWrites at n (S.may_leave start) c)
+        → Elapses (S.moment start) (S.moment new) (S.left_since start) (S.left_since new) (FollowsWrites at n (S.may_leave start)) → Within at n start new
+    sectors_written new others follows time = record {
+      others = others;
+      left = follows;
+      time = goes_on S.moment S.left_since start start new (FollowsWrites at n (S.may_leave start)) (FollowsWrites at n (S.may_leave start)) nothing_yet.time time (λ c has. has);
+    }
+
+  module _ (at n : ℕ) (start now next : D) (so_far : Within at n start now) where
+    -- one sector more
+    pub one_write : (i : ℕ) → at ≤ i → i < at + n → ((j : ℕ) (s : List ℕ) → j ≢ i → S.may_read next j s → S.may_read now j s) → FollowsWrite i (S.may_leave now) (S.may_leave next)
+        → Elapses (S.moment now) (S.moment next) (S.left_since now) (S.left_since next) (S.may_leave next) → Within at n start next
+    one_write i le lt others follows time =
+        let kept = writes_on at n i (S.may_leave start) (S.may_leave now) (S.may_leave next) le lt so_far.left follows in
+        record {
+          others = λ j s outside read.
+              let other : j ≢ i = omega (arith, outside) in
+              so_far.others j s outside (others j s other read);
+          left = kept;
+          time = goes_on S.moment S.left_since start now next (FollowsWrites at n (S.may_leave start)) (S.may_leave next) so_far.time time kept;
+        }
+
+    -- many sectors more
+    pub many_writes : (i m : ℕ) → at ≤ i → i + m ≤ at + n → Within i m now next → Within at n start next
+    many_writes i m le end more =
+        let kept = runs_on at n i m (S.may_leave start) (S.may_leave now) le end so_far.left in
+        record {
+          others = λ j s outside read. so_far.others j s outside (more.others j s (⊎_elim (λ below. inl (omega arith)) (λ behind. inr (omega arith)) outside) read);
+          left = λ c left. kept c (more.left c left);
+          time = joined S.moment S.left_since start now next (FollowsWrites at n (S.may_leave start)) (FollowsWrites i m (S.may_leave now)) (FollowsWrites at n (S.may_leave start)) so_far.time more.time (λ c same. same) kept;
+        }
+
+    -- a call that writes nothing
+    pub no_write : ((j : ℕ) (s : List ℕ) → S.may_read next j s → S.may_read now j s) → ((c : List (List ℕ)) → S.may_leave next c → S.may_leave now c)
+        → Elapses (S.moment now) (S.moment next) (S.left_since now) (S.left_since next) (S.may_leave next) → Within at n start next
+    no_write reads fewer time = record {
+      others = λ j s outside read. so_far.others j s outside (reads j s read);
+      left = λ c left. so_far.left c (fewer c left);
+      time = goes_on S.moment S.left_since start now next (FollowsWrites at n (S.may_leave start)) (S.may_leave next) so_far.time time (λ c left. so_far.left c (fewer c left));
+    }
+
+    -- a sync that succeeded
+    pub settled_reads : (size : ℕ) → Settles size (S.may_read now) (S.may_read next) (S.may_leave now) (S.may_leave next) → (j : ℕ) (s : List ℕ) → S.may_read next j s → S.may_read now j s
+    settled_reads size settles j s read = settles.was_read j s (settles.settled.read j s read)
+
+  -- calls that only read
+  pub only_read : (at n : ℕ) (old new : D) → OnlyReads S.may_read S.may_leave S.moment S.left_since old new → Within at n old new
+  only_read at n old new only = record {
+    others = λ i s outside read. only.reads i s read;
+    left = λ c left. as_before at n (S.may_leave old) c (only.left c left);
+    time = record {
+      later = only.time.later;
+      each = λ c left. as_before at n (S.may_leave old) c (only.time.each c left);
+      before = λ t c le left. ⊎_elim (λ was. inl was) (λ here. inr (as_before at n (S.may_leave old) c here)) (only.time.before t c le left);
+    };
   }
-
-  -- one sector more
-  pub one_write : (now next : D) (i : ℕ) → at ≤ i → Behind now → FollowsWrite i (S.may_leave now) (S.may_leave next)
-      → Elapses (S.moment now) (S.moment next) (S.left_since now) (S.left_since next) (S.may_leave next) → Behind next
-  one_write now next i le so_far follows time =
-      let kept = after_write at i (S.may_leave start) (S.may_leave now) (S.may_leave next) le so_far.left follows in
-      record {
-        left = kept;
-        time = goes_on S.moment S.left_since start now next (IsSameBefore at (S.may_leave start)) (S.may_leave next) so_far.time time kept;
-      }
-
-  -- many sectors more
-  pub many_writes : (now next : D) (more : ℕ) → at ≤ more → Behind now → ((c : List (List ℕ)) → S.may_leave next c → IsSameBefore more (S.may_leave now) c)
-      → LeavesOnly S.moment S.left_since now next (IsSameBefore more (S.may_leave now)) → Behind next
-  many_writes now next more le so_far follows time =
-      let kept : (c : List (List ℕ)) → IsSameBefore more (S.may_leave now) c → IsSameBefore at (S.may_leave start) c = λ c same.
-      same_before_more at more (S.may_leave start) (S.may_leave now) (IsSameBefore more (S.may_leave now)) le so_far.left (λ d left. left) c same in
-      record {
-        left = λ c left. kept c (follows c left);
-        time = joined S.moment S.left_since start now next (IsSameBefore at (S.may_leave start)) (IsSameBefore more (S.may_leave now)) (IsSameBefore at (S.may_leave start)) so_far.time time (λ c same. same) kept;
-      }

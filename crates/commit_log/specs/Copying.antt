@@ -1,9 +1,11 @@
 -- A copy of a map: the log whose records put the map's pairs, by rising key, 64 to a record.
 use Rattle.std.specs.Prelude.{◌≡◌, ◌⊎◌, ◌<◌, ℕ, zero, suc, ◌+◌, ◌/◌, List, [], ◌∷◌, ◌++◌, length, take, drop, replicate, slice_get, get_or, Some}
+use Rattle.sector.specs.SectorModel.{FollowsWrites, IsOutside, IsSameElsewhere, LeavesOnly}
 use Rattle.model.specs.Map.{KeyMap, KeyWrite}
 use Rattle.commit_log.specs.Format.{current, head_sector}
 use Rattle.commit_log.specs.RecordFormat.{open_gate, record_body, record_digest}
 use Rattle.commit_log.specs.LogImage.{IsLogImage, span}
+use Rattle.commit_log.specs.LogState.{IsSameBefore}
 use Rattle.commit_log.specs.declared.faults.LogFault.{LogFault}
 use Rattle.commit_log.specs.declared.faults.LogFault.TheVariants.{NotALog, Damaged, Full, Device, Stopped, Memory, OldFormat, NotEmpty}
 
@@ -39,6 +41,12 @@ log_sectors (writes ∷ lists) index before =
 abbrev pub ReadsFrom : (ℕ → List ℕ → Type 0) → ℕ → List (List ℕ) → Type 0
 ReadsFrom may_read at sectors = (k : ℕ) (s : List ℕ) → k < length sectors → may_read (at + k) s → s ≡ get_or sectors k []
 
+-- Only these n sectors are written: reads of the others give no more than before, and a crash at any moment leaves those as before.
+pub record OnlyWrites {D : Type 0} (at n : ℕ) (may_read : D → ℕ → List ℕ → Type 0) (may_leave : D → List (List ℕ) → Type 0) (moment : D → ℕ) (left_since : D → ℕ → List (List ℕ) → Type 0) (old new : D) : Type 0 where
+  pub others : (i : ℕ) (s : List ℕ) → IsOutside at n i → may_read new i s → may_read old i s
+  pub left : (c : List (List ℕ)) → may_leave new c → FollowsWrites at n (may_leave old) c
+  pub time : LeavesOnly moment left_since old new (FollowsWrites at n (may_leave old))
+
 -- a sector of zeros
 unfoldable pub zero_sector : List ℕ
 zero_sector = replicate 512 0
@@ -50,6 +58,10 @@ LeavesZeros may_leave = (c : List (List ℕ)) → may_leave c → slice_get c 0 
 -- the image is the finished log of these write sets, or its first sector isn't the head of a log
 abbrev pub IsCopyOrNoLog : List (List KeyWrite) → List (List ℕ) → Type 0
 IsCopyOrNoLog lists c = IsLogImage current lists c ⊎ (slice_get c 0 ≡ Some (head_sector current) → ⊥)
+
+-- The first sector is as a crash might have left it before, or the image is the finished log of these write sets but for its first sector.
+abbrev pub IsCopyStep : List (List KeyWrite) → (List (List ℕ) → Type 0) → List (List ℕ) → Type 0
+IsCopyStep lists may_leave c = IsSameBefore 1 may_leave c ⊎ ((image : List (List ℕ)) × IsLogImage current lists image × IsSameElsewhere 0 image c)
 
 -- a fault of a copy
 abbrev pub IsCopyFault : LogFault → Type 0

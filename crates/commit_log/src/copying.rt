@@ -1,5 +1,5 @@
 //! Copying a map into a log of its own.
-ghost use Rattle.std.specs.Prelude.{◌≡◌, ◌≢◌, ◌⊎◌, ◌<◌, ◌≤◌, ◌+◌, ◌*◌, ◌/◌, ◌%◌, ◌^◌, ◌↔◌, ℕ, [], ◌∷◌, List, length, slice_get, Some, vec_capacity, OnOk, OnErr, IfOk, IfErr, IfSome, IfNone, IsErrOf};
+ghost use Rattle.std.specs.Prelude.{◌≡◌, ◌⊎◌, ◌<◌, ◌≤◌, ◌+◌, ◌*◌, ◌/◌, ◌%◌, ◌^◌, ◌↔◌, ℕ, [], ◌∷◌, List, length, slice_get, Some, vec_capacity, OnOk, OnErr, IfOk, IfErr, IfSome, IfNone, IsErrOf};
 ghost use Rattle.sector.specs.SectorModel.{IsSettled, LeavesOnly};
 ghost use Rattle.sector.specs.Failures.{Rose, Stayed};
 ghost use Rattle.model.specs.Bounds.{value_max, body_bound};
@@ -7,13 +7,11 @@ ghost use Rattle.model.specs.Map.{IsMap, IsInBounds};
 ghost use Rattle.commit_log.specs.Format.{current};
 ghost use Rattle.commit_log.specs.RecordFormat.{open_gate, closed_gate, first_digest, sectors_in};
 ghost use Rattle.commit_log.specs.LogImage.{IsLogImage, span};
-ghost use Rattle.commit_log.specs.LogState.{IsSameBefore};
 ghost use Rattle.commit_log.specs.Reading.{FaultIs, OnlyReads};
 ghost use Rattle.commit_log.specs.Opening.{CanSettle};
 ghost use Rattle.commit_log.specs.Recovery.{map_after};
-ghost use Rattle.commit_log.specs.Copying.{write_sets_of, set_count, copy_size, log_sectors, ReadsFrom, LeavesZeros, zero_sector, IsCopyOrNoLog, IsCopyFault};
+ghost use Rattle.commit_log.specs.Copying.{write_sets_of, set_count, copy_size, log_sectors, ReadsFrom, OnlyWrites, LeavesZeros, zero_sector, IsCopyOrNoLog, IsCopyStep, IsCopyFault};
 
-use crate::blocks::write_sectors;
 use crate::decode::is_same;
 use crate::encode::sectors_for;
 use crate::faults::LogFault;
@@ -58,12 +56,10 @@ fn write_open_record<D: Sectors>(device: &mut D, gate: u64, body: &[u8]) -> Resu
     ensures ok { OnOk result (Stayed (D.failures device.old) (D.failures device.new)) }
     ensures fault { OnErr result (Rose (D.failures device.old) (D.failures device.new)) }
     ensures written { D.keeps_model → OnOk result (ReadsFrom (D.may_read device.new) gate (open_gate ∷ sectors_in (length body.now / 512) body.now)) }
-    ensures before { D.keeps_model → OnOk result ((i : ℕ) (s : List ℕ) → i < gate → D.may_read device.new i s → D.may_read device.old i s) }
-    ensures crash { D.keeps_model → (c : List (List ℕ)) → D.may_leave device.new c → IsSameBefore gate (D.may_leave device.old) c }
-    ensures time { D.keeps_model → LeavesOnly D.moment D.left_since device.old device.new (IsSameBefore gate (D.may_leave device.old)) }
+    ensures alone { D.keeps_model → OnlyWrites gate (1 + length body.now / 512) D.may_read D.may_leave D.moment D.left_since device.old device.new }
 {
     device.write(gate, &open_gate())?;
-    write_sectors(device, gate + 1, body)
+    device.write_sectors(gate + 1, body)
 }
 
 /// Writes the records of a map with their gates open, and a closed gate behind them, and answers how many records there are.
@@ -83,8 +79,7 @@ fn write_records<D: Sectors>(
     ensures in_bounds { IsInBounds map.now }
     ensures records { D.keeps_model → OnOk result (ReadsFrom (D.may_read device.new) 1 (log_sectors (write_sets_of map.now) 0 first_digest)) }
     ensures behind { D.keeps_model → OnOk result (ReadsFrom (D.may_read device.new) (1 + span (write_sets_of map.now)) (closed_gate ∷ [])) }
-    ensures crash { D.keeps_model → (c : List (List ℕ)) → D.may_leave device.new c → IsSameBefore 1 (D.may_leave device.old) c }
-    ensures time { D.keeps_model → LeavesOnly D.moment D.left_since device.old device.new (IsSameBefore 1 (D.may_leave device.old)) }
+    ensures alone { D.keeps_model → OnlyWrites 1 (1 + span (write_sets_of map.now)) D.may_read D.may_leave D.moment D.left_since device.old device.new }
 {
     let mut ahead = map.pairs();
     let mut pairs = map.pairs();
@@ -115,7 +110,8 @@ fn write_log<D: Sectors>(device: &mut D, map: &Map, body: &mut Vec<u8>) -> Resul
     ensures fault { OnErr result (Rose (D.failures device.old) (D.failures device.new)) }
     ensures number { IfOk result (λ n. n ≡ length (write_sets_of map.now)) }
     ensures copied { D.keeps_model → OnOk result ((image : List (List ℕ)) × IsSettled (D.size device.new) (D.may_read device.new) (D.may_leave device.new) image × IsLogImage current (write_sets_of map.now) image) }
-    ensures any_moment { D.keeps_model → LeavesZeros (D.may_leave device.old) → LeavesOnly D.moment D.left_since device.old device.new (IsCopyOrNoLog (write_sets_of map.now)) }
+    ensures alone { D.keeps_model → OnlyWrites 0 (copy_size map.now) D.may_read D.may_leave D.moment D.left_since device.old device.new }
+    ensures steps { D.keeps_model → LeavesOnly D.moment D.left_since device.old device.new (IsCopyStep (write_sets_of map.now) (D.may_leave device.old)) }
 {
     let records = write_records(device, map, body)?;
     device.sync()?;
@@ -159,7 +155,7 @@ fn settle_zeros<D: Sectors>(device: &mut D) -> Result<(), LogFault>
 /// Faults come in this order: `Full` exactly where the device has fewer sectors than `copy_sectors` tells; `Memory` where the memory
 /// for one record is refused; `NotEmpty` where the first sector isn't all zeros; `Device` where a call of the device fails. After
 /// `Full` and `Memory` the device wasn't called, and after `NotEmpty` it holds what it held. After `Device` its first sector may hold
-/// anything if the head was being written, and else what it held. All memory is made before the first call of the device.
+/// anything if the head was being written, and else what it held. What stands behind the log's sectors is left as it is. All memory is made before the first call of the device.
 pub fn copy_into<D: Sectors>(alloc: Global, device: &mut D, map: &Map) -> Result<u64, LogFault>
     // When each fault comes, and what it leaves.
     ensures errors { IfErr result IsCopyFault }
@@ -181,6 +177,12 @@ pub fn copy_into<D: Sectors>(alloc: Global, device: &mut D, map: &Map) -> Result
 
     // At `Ok` reads give their log, and a crash leaves it.
     ensures copied { D.keeps_model → OnOk result ((image : List (List ℕ)) × IsSettled (D.size device.new) (D.may_read device.new) (D.may_leave device.new) image × IsLogImage current (write_sets_of map.now) image) }
+
+    // Behind the log's sectors reads give what they gave before, and a crash at any moment of the call leaves what one before it left.
+    ensures alone { D.keeps_model → OnlyWrites 0 (copy_size map.now) D.may_read D.may_leave D.moment D.left_since device.old device.new }
+
+    // A crash at any moment of the call leaves the first sector as it might have left it before, or the finished log but for that sector.
+    ensures steps { D.keeps_model → LeavesOnly D.moment D.left_since device.old device.new (IsCopyStep (write_sets_of map.now) (D.may_leave device.old)) }
 
     // Where the first sector was settled and held zeros, a crash at any moment of the call leaves the finished log, or no log.
     ensures any_moment { D.keeps_model → LeavesZeros (D.may_leave device.old) → LeavesOnly D.moment D.left_since device.old device.new (IsCopyOrNoLog (write_sets_of map.now)) }

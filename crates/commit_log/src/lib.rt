@@ -26,4 +26,4 @@ pub use formats::LogFormat;
 pub use formatting::format;
 pub use laws::image_has_one_list;
 pub use log::Log;
-pub use read::{Found, read_log, read_map};
+pub use read::read_map;

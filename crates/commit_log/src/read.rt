@@ -121,7 +121,7 @@ fn apply(
 
 /// What a log was found to hold: its closed gate, its records with the digest of the last, and the map that their writes make.
 #[derive(Drop)]
-pub struct Found {
+pub(crate) struct Found {
     pub(crate) gate: u64,
     pub(crate) records: u64,
     pub(crate) digest: Digest,
@@ -246,9 +246,9 @@ fn read_head<D: Sectors>(device: &mut D) -> Result<(Option<LogFormat>, u64), Log
 /// Settles a device, and reads the log that it holds, as `Log::open_or_return` says. `Device` is answered exactly where a call of the device
 /// failed; the device may be read again.
 ///
-/// It takes memory for the writes of the log, which are collected: about twice that of the map they make, and 8 MiB at least. The map is
+/// It takes memory for the writes of the log, which are collected: up to twice that of the map they make, and 8 MiB. The map is
 /// made of them, and one record is held at a time. The time is that of one digest of what is read and of a sort of the writes.
-pub fn read_log<D: Sectors>(alloc: Global, device: &mut D) -> Result<Found, LogFault>
+pub(crate) fn read_log<D: Sectors>(alloc: Global, device: &mut D) -> Result<Found, LogFault>
     ensures fault { FaultIs (D.failures device.old) (D.failures device.new) result }
     ensures no_fault { OnOk result (Stayed (D.failures device.old) (D.failures device.new)) }
     ensures size { D.size device.new ≡ D.size device.old }
@@ -276,11 +276,12 @@ pub fn read_log<D: Sectors>(alloc: Global, device: &mut D) -> Result<Found, LogF
 ///
 /// The first fault met is answered: `Device` where a call of the device fails, `NotALog` where it has fewer than two sectors or the
 /// first is the head of no format, `Damaged` where an open gate has not its record behind it, `Memory` where memory is refused. After
-/// each the device may be read again. It takes the memory that `read_log` takes.
+/// each the device may be read again. It takes the memory that `Log::open` takes.
 pub fn read_map<D: Sectors>(alloc: Global, device: &mut D) -> Result<(Map, u8), LogFault>
     ensures fault { FaultIs (D.failures device.old) (D.failures device.new) result }
     ensures no_fault { OnOk result (Stayed (D.failures device.old) (D.failures device.new)) }
     ensures size { D.size device.new ≡ D.size device.old }
+    ensures short { D.size device.old < 2 → IsErrAnd result (λ e. (e ≡ LogFault.NotALog) ⊎ (e ≡ LogFault.Device)) }
     ensures errors { IfErr result IsReadMapFault }
 
     // During the call a crash leaves what one before it could have left.

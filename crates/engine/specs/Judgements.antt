@@ -1,5 +1,5 @@
 -- What a COMMIT was judged to be.
-use Rattle.std.specs.Prelude.{◌≡◌, ℕ, ◌<◌, ◌-◌, ◌^◌, Bool, false, List, [], Option, Some, None, length, slice_index_or}
+use Rattle.std.specs.Prelude.{◌≡◌, ℕ, ◌<◌, ◌-◌, ◌^◌, Bool, false, List, [], Option, Some, None, is_some, length, slice_index_or}
 use Rattle.model.specs.declared.refusals.Refusal.{Refusal}
 use Rattle.model.specs.declared.refusals.Refusal.TheVariants as refusals
 use Rattle.model.specs.Map.{KeyMap, KeyWrite}
@@ -10,6 +10,7 @@ use Rattle.model.specs.Machine.{State, refuse, step, payload_size}
 use Rattle.snapshot.specs.View.{View}
 use Rattle.snapshot.specs.Made.{HasMade}
 use Rattle.pivot_check.specs.Kept.{IsInReach}
+use Rattle.pivot_check.specs.Index.{target}
 use Rattle.pivot_check.specs.StandsFor.{IsClear}
 use Rattle.sector.specs.declared.device.Sectors.{Ghosts}
 use Rattle.commit_log.specs.declared.log.Log.{Log}
@@ -47,7 +48,8 @@ IsPayload ws (Some len) = IsWritten ws × (len ≡ payload_size ws)
 abbrev pub IsJudged : {D : Type 0} {g : Ghosts D} → Engine D g → ℕ → View → Judgement → Type 0
 IsJudged e s t (Refused refusal) = IsRefused e s refusal
 IsJudged e s t (Overwritten i) = (i < length t.writes) × ((d : KeyWrite) → IsRefused e s (refusals.Overwritten (slice_index_or t.writes i d).0))
-IsJudged e s t (Clear payload) = IsToCommit e s t × IsPayload t.writes payload
+IsJudged e s t (Clear payload has_earlier_target) =
+    IsToCommit e s t × IsPayload t.writes payload × (has_earlier_target ≡ is_some (target e.history.committed.facts t))
 
 -- so it is in each engine with this log and these commits, for each session that runs the transaction
 abbrev pub IsJudgedOver : {D : Type 0} {g : Ghosts D} → Log D g → HistoryValue → View → Judgement → Type 0

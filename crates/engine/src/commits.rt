@@ -45,13 +45,13 @@ impl<D: Sectors> Engine<D> {
         let Some(transaction) = self.running.get(&s) else {
             return Err(EngineFault::Refused(Refusal::NotOpen));
         };
-        let payload = match judge(&self.log, &self.history, transaction) {
+        let (payload, has_earlier_target) = match judge(&self.log, &self.history, transaction) {
             Judgement::Refused(refusal) => return Err(self.refuse(s, refusal)),
             Judgement::Overwritten(i) => {
                 let key = self.end(s).into_key(i);
                 return Err(EngineFault::Refused(Refusal::Overwritten(key)));
             }
-            Judgement::Clear(payload) => payload,
+            Judgement::Clear(payload, has_earlier_target) => (payload, has_earlier_target),
         };
         match carry_out(
             &mut self.log,
@@ -65,7 +65,7 @@ impl<D: Sectors> Engine<D> {
             Err(StoreFault::Device) => return Err(self.refuse(s, Refusal::StoreFault)),
         }
         let ended = self.end(s);
-        Ok(self.history.join(ended))
+        Ok(self.history.join(ended, has_earlier_target))
     }
 
     // Ends the session's transaction.

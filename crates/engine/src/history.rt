@@ -1,9 +1,10 @@
 //! What has committed.
-ghost use Rattle.std.specs.Prelude.{◌≡◌, ℕ, ◌+◌, ◌-◌, ◌^◌, ◌<◌, ◌≤◌, ◌&&◌, Bool, true, List, [], ◌∷◌, ◌++◌, All, IfOk, OnOk, max};
+ghost use Rattle.std.specs.Prelude.{◌≡◌, ℕ, ◌+◌, ◌-◌, ◌^◌, ◌<◌, ◌≤◌, ◌&&◌, Bool, true, List, [], ◌∷◌, ◌++◌, All, IfOk, OnOk, is_some, max, nat_lt};
 ghost use Rattle.model.specs.Map.{Bytes, KeyMap};
 ghost use Rattle.model.specs.History.{Record};
-ghost use Rattle.versions.specs.Meaning.{is_among, IsTight, kept_of, needed_of};
+ghost use Rattle.versions.specs.Meaning.{due_of, is_among, IsReclaimed};
 ghost use Rattle.pivot_check.specs.Kept.{HasForgotten, IsEmpty, IsInReach};
+ghost use Rattle.pivot_check.specs.Index.{target};
 ghost use Rattle.pivot_check.specs.StandsFor.{IsRecordOf, IsClear};
 ghost use Rattle.engine.specs.HistoryValue.{HistoryStandsFor, IsSameHistory, IsReady};
 
@@ -65,9 +66,11 @@ impl History {
         self.committed.reserve(transaction)
     }
 
-    /// Takes the transaction in as the next commit, in the memory that was made for it, and answers its number.
-    pub(crate) fn join(&mut self, transaction: Transaction) -> u64
+    /// Takes the transaction in as the next commit, in the memory that was made for it, with what `Verdict::Clear` said of its dependencies,
+    /// and answers its number.
+    pub(crate) fn join(&mut self, transaction: Transaction, has_earlier_target: bool) -> u64
         requires ready { IsReady self.old transaction }
+        requires target { has_earlier_target ≡ is_some (target self.old.committed.facts transaction) }
         requires few { self.old.committed.facts.last < 2 ^ 63 - 1 }
         ensures number { result ≡ self.old.committed.facts.last + 1 }
         ensures last { self.new.committed.facts.last ≡ self.old.committed.facts.last + 1 }
@@ -77,7 +80,8 @@ impl History {
             → HistoryStandsFor self.new held base (history ++ r ∷ []) }
     {
         let number = self.committed.last() + 1;
-        self.committed.note(&transaction, number);
+        self.committed
+            .note(&transaction, number, has_earlier_target);
         let writes = transaction.into_writes();
         read_only_record_follows();
         if !writes.is_empty() {
@@ -86,18 +90,19 @@ impl History {
         number
     }
 
-    /// Drops the versions that are neither the newest of their keys nor seen from one of the numbers, and what was kept of commits with a
-    /// number of at most `oldest`.
-    pub(crate) fn reclaim(&mut self, begins: &[u64], oldest: u64)
+    /// Drops versions that are neither the newest of their keys nor seen from one of the numbers, as `Versions::reclaim` does, and what was
+    /// kept of commits with a number of at most `oldest`. Answers whether it has to be called again until all those versions are gone.
+    pub(crate) fn reclaim(&mut self, begins: &[u64], oldest: u64) -> bool
         requires { oldest ≤ self.old.committed.facts.last }
         ensures stands { (held : ℕ → Bool) (base : KeyMap) (history : List Record) → HistoryStandsFor self.old held base history → HistoryStandsFor self.new (λ n. held n && is_among begins.now n) base history }
         ensures last { self.new.committed.facts.last ≡ self.old.committed.facts.last }
         ensures oldest { self.new.committed.facts.oldest ≡ max self.old.committed.facts.oldest oldest }
-        ensures tight { IsTight begins.now self.new.versions }
-        ensures kept { (k : Bytes) → kept_of self.new.versions k ≡ needed_of begins.now self.old.versions k }
+        ensures reclaimed { IsReclaimed self.old.versions self.new.versions begins.now }
+        ensures still { result ≡ nat_lt 0 (due_of begins.now self.new.versions) }
         ensures forgotten { HasForgotten oldest self.new.committed.facts }
     {
-        self.versions.reclaim(begins);
+        let due = self.versions.reclaim(begins);
         self.committed.forget(oldest);
+        due
     }
 }

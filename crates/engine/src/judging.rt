@@ -18,8 +18,9 @@ pub(crate) enum Judgement {
     Refused(Refusal),
     /// It is refused for the key at this place of the transaction's writes.
     Overwritten(usize),
-    /// Nothing refuses it. Where it wrote something, the log has room for its record, whose payload has this many bytes.
-    Clear(Option<u32>),
+    /// Nothing refuses it. Where it wrote something, the log has room for its record, whose payload has this many bytes. Then what
+    /// `Verdict::Clear` said of its dependencies.
+    Clear(Option<u32>, bool),
 }
 
 // Judges the COMMIT of an open transaction: the first of its refusals that come before memory and the device, in the machine's order.
@@ -44,18 +45,18 @@ fn weigh<D: Sectors>(log: &Log<D>, history: &History, transaction: &Transaction)
     ensures { IsWeighedOver log.now history.now transaction.now result }
 {
     let writes = transaction.entries();
-    match history.committed().verdict(transaction) {
-        Verdict::Clear => {}
+    let has_earlier_target = match history.committed().verdict(transaction) {
+        Verdict::Clear(has_earlier_target) => has_earlier_target,
         Verdict::Overwritten(i) => return Judgement::Overwritten(i),
         Verdict::PivotSelf => return Judgement::Refused(Refusal::PivotSelf),
         Verdict::Pivot(n) => return Judgement::Refused(Refusal::Pivot(n)),
-    }
+    };
     if writes.is_empty() {
-        return Judgement::Clear(None);
+        return Judgement::Clear(None, has_earlier_target);
     }
     let len = payload_len(writes);
     if !log.room(len) {
         return Judgement::Refused(Refusal::FullLog);
     }
-    Judgement::Clear(Some(len))
+    Judgement::Clear(Some(len), has_earlier_target)
 }

@@ -1,7 +1,7 @@
 -- A connection that comes keeps what holds of the table and its sessions.
 use Rattle.std.proofs.Common.{◌≡◌, ◌≢◌, inl, inr, ℕ, ◌+◌, List, Option, Some, None, sym, ap, subst, ◌∙◌}
 use Rattle.std.proofs.Math.Logic.{∥∥₁_map}
-use Rattle.slab.specs.Slab.{Slab, Updates, get}
+use Rattle.slab.specs.Slab.{Slab}
 use Rattle.sector.specs.declared.device.Sectors.{Ghosts}
 use Rattle.sessions.specs.declared.events.Outcome.TheVariants.{Done}
 use Rattle.sessions.specs.declared.hub.Hub.{Hub}
@@ -84,15 +84,3 @@ module _ {T D : Type 0} {g : Ghosts D} (hub later : Hub D g) (next then : ℕ) (
 
     pub admits_entries : Stands hub → HaveEntries hub slots → HaveEntries later new
     admits_entries some has = elim admits [ inl a ↦ away_entries a some has | inr l ↦ in_entries IsNew l some has ]
-
--- an entry that was put at the key that was vacant, once there was room
-module _ {T : Type 0} (old mid new : Slab (Entry T)) (key at : ℕ) (entry : Entry T) (key_is : key ≡ old.vacant_key) (kept : mid ≡ record old { capacity = mid.capacity }) (at_is : at ≡ mid.vacant_key)
-    (up : Updates mid new at (Some entry)) where
-  same_key : at ≡ key
-  same_key = at_is ∙ ap (λ (s : Slab (Entry T)). s.vacant_key) kept ∙ sym key_is
-
-  pub seated : slot_at new.slots key ≡ Some entry
-  seated = ap (λ (k : ℕ). get new k) (sym same_key) ∙ up.changed
-
-  pub others_stay : (other : ℕ) → other ≢ key → slot_at new.slots other ≡ slot_at old.slots other
-  others_stay other differs = up.others other (λ e. differs (e ∙ same_key)) ∙ ap (λ (s : Slab (Entry T)). slot_at s.slots other) kept

@@ -8,7 +8,11 @@ pub mod Polled
 pub mod Counts
 pub mod TableBytes
 pub mod WholeTurns
+pub mod GivenBack
 mod Socketing
 mod OneTurn
 mod Turned
+mod Leaving
 pub mod Serving
+mod Waited
+mod Readies

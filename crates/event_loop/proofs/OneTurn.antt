@@ -1,5 +1,6 @@
 -- The parts of a turn make it.
-use Rattle.std.proofs.Common.{◌≡◌, Bool, List, subst}
+use Rattle.std.proofs.Common.{◌≡◌, Bool, true, false, List, Option, refl, subst}
+use Rattle.std.specs.declared.time.Instant.{Instant}
 use Rattle.mio.specs.declared.event.event.Event.{Event}
 use Rattle.mio.specs.Events.{items}
 use Rattle.sector.specs.declared.device.Sectors.{Ghosts}
@@ -7,21 +8,49 @@ use Rattle.stream_driver.specs.Buffers.{traffic_through}
 use Rattle.stream_driver.specs.Entries.{DrivenAll}
 use Rattle.stream_driver.specs.Sessions.{Adds, Leads, Point}
 use Rattle.stream_driver.specs.Traffic.{Traffic}
+use Rattle.event_loop.specs.declared.connections.Backlog.{Backlog}
+use Rattle.event_loop.specs.declared.connections.Backlog.TheVariants.{Empty, Full, Failed}
+use Rattle.event_loop.specs.declared.connections.TheConstants.{LINGERER}
+use Rattle.event_loop.specs.declared.polling.Poller.{Poller}
 use Rattle.event_loop.specs.declared.server.EventLoop.{EventLoop}
 use Rattle.event_loop.specs.declared.socket.Socket.{Socket}
-use Rattle.event_loop.specs.Turns.{Accepted, DrivesReady, IsTurn, accepted_joins, accepts_now}
+use Rattle.event_loop.specs.Leavings.{LingerOn}
+use Rattle.event_loop.specs.Lingerings.{Lingerers, lingerers_of, unless_failed}
+use Rattle.event_loop.specs.Turns.{Accepted, DrivesReady, IsGivenBack, IsTurn, accepted_joins, accepts_now, is_told_of}
 
-module _ {D : Type 0} {g : Ghosts D} (tells : Type 0) (traffic : Socket → Traffic) (old driven new : EventLoop D g) (next_is : driven.next ≡ old.next) (port_is : driven.port ≡ old.port) (backlog_is : driven.backlog ≡ old.backlog) where
-  abbrev Drives : List Event → Type 0
-  Drives events = DrivesReady tells traffic events old.hub old.table.slots driven.hub driven.table.slots
+-- where a turn doesn't accept, none of those that linger is closed
+pub none_closed : (backlog : Backlog) (events : List Event) (all : Lingerers) → accepts_now backlog events ≡ false → all ≡ unless_failed backlog all
+none_closed Empty events all e = refl
+none_closed Full events all e = absurd (let bad : true ≡ false = e in cc)
+none_closed Failed events all e = absurd (let bad : true ≡ false = e in cc)
 
-  abbrev IsRun : (events : List Event) → Drives events → (b : Bool) → Accepted b driven new → Type 0
-  IsRun events drives b accepts =
-      Leads old.hub new.hub (λ h l. (k : Point) × DrivenAll tells (traffic_through traffic) h drives.ready k drives.driven × Adds k (accepted_joins b driven new accepts) l)
+module _ {D : Type 0} {g : Ghosts D} (tells : Type 0) (traffic : Socket → Traffic) (old driven accepted new : EventLoop D g) (next_is : driven.next ≡ old.next) (port_is : driven.port ≡ old.port) (backlog_is : driven.backlog ≡ old.backlog)
+    (refused_is : driven.refused ≡ old.refused) (lingerers_are : lingerers_of accepted.lingering ≡ unless_failed accepted.backlog (lingerers_of driven.lingering)) (given : IsGivenBack accepted new) where
+  abbrev Drives : Poller → Type 0
+  Drives poller = DrivesReady tells traffic (items poller.events) old.hub old.table.slots driven.hub driven.table.slots
 
-  pub turned_by : (polled : List Event) → items new.poller.events ≡ polled → (b : Bool) → accepts_now old.backlog (items new.poller.events) ≡ b → (drives : Drives polled) (accepts : Accepted b driven new) → IsRun polled drives b accepts
-      → IsTurn tells traffic old new
-  turned_by polled same b due =
-      subst (λ (events : List Event). (drives : Drives events) (accepts : Accepted b driven new) → IsRun events drives b accepts → IsTurn tells traffic old new) same
-      (λ drives accepts run. subst (λ (b : Bool). (accepts : Accepted b driven new) → IsRun (items new.poller.events) drives b accepts → IsTurn tells traffic old new) due
-      (λ accepts run. record { driven = driven; drives = drives; next_is = next_is; port_is = port_is; backlog_is = backlog_is; accepts = accepts; run = run }) accepts run)
+  abbrev Linger : (poller : Poller) → Drives poller → Option Instant → Bool → Type 0
+  Linger poller drives now told = LingerOn now told drives.driven (lingerers_of old.lingering) driven.table.slots (lingerers_of driven.lingering)
+
+  abbrev IsRun : (poller : Poller) → Drives poller → (b : Bool) → Accepted b driven accepted → Type 0
+  IsRun poller drives b accepts =
+      Leads old.hub new.hub (λ h l. (k : Point) × DrivenAll tells (traffic_through traffic) h drives.ready k drives.driven × Adds k (accepted_joins b driven accepted accepts) l)
+
+  pub turned_by : (poller : Poller) → new.poller ≡ poller → (b : Bool) → accepts_now old.backlog (items new.poller.events) ≡ b → (now : Option Instant) → now ≡ poller.time
+      → (told : Bool) → told ≡ is_told_of LINGERER (items poller.events) → (drives : Drives poller) → Linger poller drives now told → (accepts : Accepted b driven accepted) → IsRun poller drives b accepts → IsTurn tells traffic old new
+  turned_by poller same b due now now_is told told_is drives linger accepts run =
+      subst (λ (poller : Poller). (drives : Drives poller) → Linger poller drives poller.time (is_told_of LINGERER (items poller.events)) → (accepts : Accepted b driven accepted) → IsRun poller drives b accepts → IsTurn tells traffic old new) same
+      (λ drives linger accepts run. subst (λ (b : Bool). (accepts : Accepted b driven accepted) → IsRun new.poller drives b accepts → IsTurn tells traffic old new) due (λ accepts run. record {
+        driven = driven;
+        drives = drives;
+        next_is = next_is;
+        port_is = port_is;
+        backlog_is = backlog_is;
+        refused_is = refused_is;
+        linger = linger;
+        accepted = accepted;
+        accepts = accepts;
+        lingerers_are = lingerers_are;
+        gives_back = given;
+        run = run;
+      }) accepts run) drives (subst (Linger poller drives poller.time) told_is (subst (λ (time : Option Instant). Linger poller drives time told) now_is linger)) accepts run

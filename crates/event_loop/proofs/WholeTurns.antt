@@ -105,7 +105,7 @@ module _ {D : Type 0} {g : Ghosts D} (hub later : Hub D g) where
     accepts_have some = ∥∥₁_map some (λ w. (let r = each_bytes SocketsTell (traffic_through traffic_of) IsNewSocket new_begins each w.0 w.1 numbers w.2 in (run w.0 (joins_of each), r.0, r.2)))
 
 -- the drives of a turn, and then its accepts
-module _ {D : Type 0} {g : Ghosts D} (follow : Follow D g) (hub mid later : Hub D g) (next then count : ℕ) (slots between new : List (Option (Entry (BufferedStream Socket)))) (come : ComeEach IsNewSocket mid next between count later then new)
+module _ {D : Type 0} {g : Ghosts D} (follow : Follow D g) (hub mid later : Hub D g) (next then count refused counted : ℕ) (slots between new : List (Option (Entry (BufferedStream Socket)))) (come : ComeEach IsNewSocket mid next between refused count later then new counted)
     (numbers : AreBelow next between) where
   pub turn_keeps : KeepBytes hub slots mid between → KeepBytes hub slots later new
   turn_keeps keeps =

@@ -1,8 +1,10 @@
 pub mod Accepts
 pub mod Drops
+pub mod Leavings
 pub mod Lingerings
 pub mod Loops
 pub mod Numbers
+pub mod Outcomes
 pub mod Polls
 pub mod Sockets
 pub mod Tables

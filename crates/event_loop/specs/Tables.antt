@@ -1,6 +1,8 @@
 -- The table of connections: what a turn makes of it, and its sessions.
-use Rattle.std.specs.Prelude.{◌≡◌, ◌≢◌, ◌⊎◌, ℕ, ◌+◌, ◌<◌, ◌==◌, ◌||◌, Bool, true, false, cond, List, [], ◌∷◌, ◌++◌, Option, Some, None, slice_index_or}
+use Rattle.std.specs.Prelude.{◌≡◌, ◌≢◌, ◌⊎◌, ℕ, ◌+◌, ◌-◌, ◌^◌, ◌<◌, ◌≤◌, ◌==◌, ◌||◌, Bool, true, false, cond, List, [], ◌∷◌, ◌++◌, Option, Some, None, count_by, is_some, slice_index_or}
 use Rattle.std.proofs.Common.{inl, inr}
+use Rattle.std.specs.List.{list_any}
+use Rattle.slab.specs.Slab.{Slab, entries}
 use Rattle.mio.specs.declared.event.event.Event.{Event}
 use Rattle.mio.specs.Event.{event_token, is_priority, is_read_closed}
 use Rattle.sector.specs.declared.device.Sectors.{Ghosts}
@@ -17,10 +19,21 @@ use Rattle.stream_driver.specs.declared.buffered.BufferedStream.{BufferedStream}
 use Rattle.stream_driver.specs.Entries.{EndsDrive, is_over}
 use Rattle.stream_driver.specs.Traffic.{Traffic}
 use Rattle.stream_driver.specs.Sessions.{Adds, InSomeState, Leads, status_at}
+use Rattle.event_loop.specs.Accepts.{more}
 
 -- no session is present, and none has joined
 abbrev pub HasNobody : {D : Type 0} {g : Ghosts D} → Hub D g → Type 0
 HasNobody hub = InSomeState hub (λ h. (h.present ≡ []) × (h.latest ≡ None))
+
+-- is it to be driven?
+abbrev pub is_ready : EntryState → Bool
+is_ready Idle = false
+is_ready Ready = true
+is_ready Gone = false
+
+-- is one of the entries to be driven?
+abbrev pub is_any_ready : {T : Type 0} → Slab (Entry T) → Bool
+is_any_ready table = list_any (λ e. is_ready e.1.state) (entries table)
 
 -- one that waited is to be driven
 abbrev pub readied : EntryState → EntryState
@@ -29,8 +42,12 @@ readied Ready = Ready
 readied Gone = Gone
 
 module _ {D : Type 0} {g : Ghosts D} where
+  -- a session was to join, and the hub refused it
+  abbrev pub IsTried : (hub later : Hub D g) → ℕ → Type 0
+  IsTried hub later next = (outcome : Outcome) × (outcome ≢ Done) × HubLeads hub later (Joins next) outcome
+
   -- what happened to the hub as a connection was turned away: its session was to join, or nothing
-  abbrev pub join_tried : (hub later : Hub D g) (next : ℕ) → (later ≡ hub) ⊎ ((outcome : Outcome) × (outcome ≢ Done) × HubLeads hub later (Joins next) outcome) → List (HubEvent × Choice)
+  abbrev pub join_tried : (hub later : Hub D g) (next : ℕ) → (later ≡ hub) ⊎ IsTried hub later next → List (HubEvent × Choice)
   join_tried hub later next (inl same) = []
   join_tried hub later next (inr tried) = (Joins next, tried.2.0) ∷ []
 
@@ -48,11 +65,14 @@ module _ {T : Type 0} where
     abbrev pub HaveEntries : Hub D g → List (Option (Entry T)) → Type 0
     HaveEntries hub slots = (h : HubState) → StandsFor hub h → (s : ℕ) → IsWithoutEntry s slots → status_at h s ≡ Absent
 
-    -- a connection that was turned away: the table is as it was, and no session has joined
+    -- A connection that was turned away: the table is as it was, and no session has joined. Memory, registration or an option of its socket
+    -- was refused; or there are 128 entries, or no number is left, or the hub refused its session.
     pub record TurnsAway (hub : Hub D g) (next : ℕ) (slots : List (Option (Entry T))) (later : Hub D g) (then : ℕ) (new : List (Option (Entry T))) : Type 0 where
       pub slots_are : new ≡ slots
       pub next_is : then ≡ next
-      pub hub_is : (later ≡ hub) ⊎ ((outcome : Outcome) × (outcome ≢ Done) × HubLeads hub later (Joins next) outcome)
+      pub hub_is : (later ≡ hub) ⊎ IsTried hub later next
+      pub is_refused : Bool
+      pub why : is_refused ≡ false → (128 ≤ count_by is_some slots) ⊎ ((next ≡ 2 ^ 64 - 1) ⊎ IsTried hub later next)
 
     module _ (IsNew : T → Type 0) where
       -- a connection that was let in: its session, the next number, has joined, and has an entry of its own that is ready, whose stream is new
@@ -77,9 +97,15 @@ module _ {T : Type 0} where
       join_of hub next slots later then new (inl away) = join_tried hub later next away.hub_is
       join_of hub next slots later then new (inr within) = (Joins next, within.joined.0) ∷ []
 
-      -- a connection came, and nothing else happened to the hub
-      abbrev pub Comes : Hub D g → ℕ → List (Option (Entry T)) → Hub D g → ℕ → List (Option (Entry T)) → Type 0
-      Comes hub next slots later then new = (admits : Admits hub next slots later then new) × Leads hub later (λ h k. Adds h (join_of hub next slots later then new admits) k)
+      -- how many connections were turned away as memory, registration or an option was refused
+      abbrev pub refusals_in : (hub : Hub D g) (next : ℕ) (slots : List (Option (Entry T))) (later : Hub D g) (then : ℕ) (new : List (Option (Entry T))) → Admits hub next slots later then new → ℕ
+      refusals_in hub next slots later then new (inl away) = cond away.is_refused 1 0
+      refusals_in hub next slots later then new (inr within) = 0
+
+      -- a connection came, and nothing else happened to the hub; a refusal was counted
+      abbrev pub Comes : Hub D g → ℕ → List (Option (Entry T)) → ℕ → Hub D g → ℕ → List (Option (Entry T)) → ℕ → Type 0
+      Comes hub next slots refused later then new counted =
+          (admits : Admits hub next slots later then new) × Leads hub later (λ h k. Adds h (join_of hub next slots later then new admits) k) × (counted ≡ more (refusals_in hub next slots later then new admits) refused)
 
 -- so many connections came one after another, and each was let in or turned away
 pub data AdmitsEach {T D : Type 0} {g : Ghosts D} (IsNew : T → Type 0) (hub : Hub D g) (next : ℕ) (slots : List (Option (Entry T))) : ℕ → Hub D g → ℕ → List (Option (Entry T)) → Type 0 where
@@ -94,9 +120,16 @@ module _ {T D : Type 0} {g : Ghosts D} where
   joins_of Nobody = []
   joins_of {IsNew} (OneMore count mid later number then between new each admits) = joins_of each ++ join_of IsNew mid number between later then new admits
 
-  -- so many connections came, and nothing else happened to the hub
-  abbrev pub ComeEach : (T → Type 0) → Hub D g → ℕ → List (Option (Entry T)) → ℕ → Hub D g → ℕ → List (Option (Entry T)) → Type 0
-  ComeEach IsNew hub next slots count later then new = (each : AdmitsEach IsNew hub next slots count later then new) × Leads hub later (λ h k. Adds h (joins_of each) k)
+  -- how many of them were refused
+  abbrev pub refusals_of : {IsNew : T → Type 0} {hub : Hub D g} {next : ℕ} {slots : List (Option (Entry T))} {count : ℕ} {later : Hub D g} {then : ℕ} {new : List (Option (Entry T))}
+      → AdmitsEach IsNew hub next slots count later then new → ℕ
+  refusals_of Nobody = 0
+  refusals_of {IsNew} (OneMore count mid later number then between new each admits) = refusals_of each + refusals_in IsNew mid number between later then new admits
+
+  -- so many connections came, and nothing else happened to the hub; the refusals were counted
+  abbrev pub ComeEach : (T → Type 0) → Hub D g → ℕ → List (Option (Entry T)) → ℕ → ℕ → Hub D g → ℕ → List (Option (Entry T)) → ℕ → Type 0
+  ComeEach IsNew hub next slots refused count later then new counted =
+      (each : AdmitsEach IsNew hub next slots count later then new) × Leads hub later (λ h k. Adds h (joins_of each) k) × (counted ≡ more (refusals_of each) refused)
 
 module _ {T : Type 0} where
   -- an entry that the poll told of: one that waited is to be driven, and is it to be read until its stream blocks?

@@ -1,13 +1,15 @@
 -- What one turn of the loop does to its hub and its table.
-use Rattle.std.specs.Prelude.{◌≡◌, ◌==◌, ℕ, Bool, true, false, List, [], Option}
+use Rattle.std.specs.Prelude.{◌≡◌, ◌==◌, ◌||◌, ℕ, ◌+◌, ◌≤◌, Bool, true, false, List, [], Option, Result}
+use Rattle.std.specs.declared.time.Duration.{Duration}
+use Rattle.std.specs.declared.time.Instant.{Instant}
 use Rattle.std.specs.List.{list_any}
 use Rattle.mio.specs.declared.token.Token.{Token}
 use Rattle.mio.specs.Event.{event_token}
 use Rattle.mio.specs.declared.event.event.Event.{Event}
-use Rattle.mio.specs.Events.{items}
+use Rattle.mio.specs.Events.{items, capacity as events_capacity}
 use Rattle.sector.specs.declared.device.Sectors.{Ghosts}
 use Rattle.sessions.specs.declared.hub.Hub.{Hub}
-use Rattle.sessions.specs.Laws.{HasRun}
+use Rattle.sessions.specs.Laws.{GivesBack, HasRun}
 use Rattle.sessions.specs.SessionStreams.{HubEvent, Choice}
 use Rattle.stream_driver.specs.declared.buffered.BufferedStream.{BufferedStream}
 use Rattle.stream_driver.specs.declared.entries.Entry.{Entry}
@@ -20,10 +22,16 @@ use Rattle.event_loop.specs.declared.server.TheConstants.{LISTENER}
 use Rattle.event_loop.specs.declared.socket.Socket.{Socket}
 use Rattle.event_loop.specs.declared.listener.Port.{Port}
 use Rattle.event_loop.specs.declared.connections.Backlog.{Backlog}
+use Rattle.event_loop.specs.declared.connections.TheConstants.{LINGERER}
 use Rattle.event_loop.specs.declared.connections.Backlog.TheVariants.{Empty, Full, Failed}
+use Rattle.event_loop.specs.declared.polling.Poller.{Poller}
 use Rattle.event_loop.specs.Accepts.{Accepts, TurnAccepts}
+use Rattle.event_loop.specs.Leavings.{LingerOn}
+use Rattle.event_loop.specs.Lingerings.{lingerers_of, oldest_waits, unless_failed}
+use Rattle.event_loop.specs.Polls.{Looked, NothingRead, ReadAgain, after_wait, polls_of}
+use Rattle.event_loop.specs.Waits.{nanos_of, own_limit, shorter}
 use Rattle.event_loop.specs.Sockets.{IsNewSocket}
-use Rattle.event_loop.specs.Tables.{ComeEach, EndsTurn, after_poll, joins_of, slot_at}
+use Rattle.event_loop.specs.Tables.{ComeEach, EndsTurn, after_poll, is_any_ready, joins_of, slot_at}
 
 -- The drives of a turn in which the poll told of these events. The entries that waited and that it told of became ready. Each that is
 -- ready was driven once, by rising key, and no other event came to the hub. What their streams hold was written, and those that are
@@ -39,18 +47,32 @@ pub record DrivesReady {T D : Type 0} {g : Ghosts D} (tells : Type 0) (traffic :
 abbrev pub answers_of : Port → Accepts
 answers_of port = record { taken = port.taken; blocked = port.blocked; failed = port.failed }
 
--- the hub, the table, the number of the next session and the listener are as they were
+-- the hub, the table, the number of the next session, the listener, those that linger and the refusals are as they were, and what is known
+-- to be due
 pub record IsUntouched {D : Type 0} {g : Ghosts D} (old new : EventLoop D g) : Type 0 where
   pub hub : new.hub ≡ old.hub
   pub table : new.table ≡ old.table
   pub next : new.next ≡ old.next
   pub port : new.port ≡ old.port
   pub backlog : new.backlog ≡ old.backlog
+  pub due : new.due ≡ old.due
+  pub lingering : new.lingering ≡ old.lingering
+  pub refused : new.refused ≡ old.refused
+
+-- what no open transaction needs has gone, a step of it, and whether more is due is known; but for that all is as it was
+pub record IsGivenBack {D : Type 0} {g : Ghosts D} (old new : EventLoop D g) : Type 0 where
+  pub hub : GivesBack old.hub new.hub new.due
+  pub table : new.table ≡ old.table
+  pub next : new.next ≡ old.next
+  pub port : new.port ≡ old.port
+  pub backlog : new.backlog ≡ old.backlog
+  pub lingering : new.lingering ≡ old.lingering
+  pub refused : new.refused ≡ old.refused
 
 -- where a turn accepts, each connection that it took was let in or turned away, and no other event came to the hub
 abbrev pub Accepted : {D : Type 0} {g : Ghosts D} → Bool → EventLoop D g → EventLoop D g → Type 0
 Accepted true old new =
-    TurnAccepts (λ n. ComeEach IsNewSocket old.hub old.next old.table.slots n new.hub new.next new.table.slots) (answers_of old.port) new.backlog (answers_of new.port)
+    TurnAccepts (λ n. ComeEach IsNewSocket old.hub old.next old.table.slots old.refused n new.hub new.next new.table.slots new.refused) (answers_of old.port) new.backlog (answers_of new.port)
 Accepted false old new = IsUntouched old new
 
 -- what happened to the hub as it accepted
@@ -68,18 +90,43 @@ accepts_now Empty events = is_told_of LISTENER events
 accepts_now Full events = true
 accepts_now Failed events = true
 
--- One turn: the drives, by the events that the poll told of, and then the accepts. The events of these drives, followed by the joins of
--- these accepts, are one run of the hub: lawful at each moment, with the device's failures counted, and what a crash leaves known.
+-- One turn: the drives, by the events that the poll told of, then the accepts, and then a step of what no open transaction needs is given
+-- back. The events of these drives, followed by the joins of these accepts, are one run of the hub: lawful at each moment, with the
+-- device's failures counted, and what a crash leaves known. After the drives it turned those that linger, by the time that the clock told
+-- after the poll; they were closed where an accept failed.
 pub record IsTurn {D : Type 0} {g : Ghosts D} (tells : Type 0) (traffic : Socket → Traffic) (old new : EventLoop D g) : Type 0 where
   pub driven : EventLoop D g
   pub drives : DrivesReady tells traffic (items new.poller.events) old.hub old.table.slots driven.hub driven.table.slots
   pub next_is : driven.next ≡ old.next
   pub port_is : driven.port ≡ old.port
   pub backlog_is : driven.backlog ≡ old.backlog
-  pub accepts : Accepted (accepts_now old.backlog (items new.poller.events)) driven new
+  pub refused_is : driven.refused ≡ old.refused
+  pub linger : LingerOn new.poller.time (is_told_of LINGERER (items new.poller.events)) drives.driven (lingerers_of old.lingering) driven.table.slots (lingerers_of driven.lingering)
+  pub accepted : EventLoop D g
+  pub accepts : Accepted (accepts_now old.backlog (items new.poller.events)) driven accepted
+  pub lingerers_are : lingerers_of accepted.lingering ≡ unless_failed accepted.backlog (lingerers_of driven.lingering)
+  pub gives_back : IsGivenBack accepted new
   pub run : Leads old.hub new.hub (λ h l. (k : Point) × DrivenAll tells (traffic_through traffic) h drives.ready k drives.driven
-      × Adds k (accepted_joins (accepts_now old.backlog (items new.poller.events)) driven new accepts) l)
+      × Adds k (accepted_joins (accepts_now old.backlog (items new.poller.events)) driven accepted accepts) l)
 
 -- what a turn does to its hub is a run of the hub
 abbrev pub TurnsAreRuns : {D : Type 0} {g : Ghosts D} → Type 0 → (Socket → Traffic) → EventLoop D g → Type 0
 TurnsAreRuns {D} {g} tells traffic events = (old new : EventLoop D g) → IsTurn tells traffic old new → HasRun old.hub new.hub
+
+-- How long a turn may wait, in nanoseconds, where the clock says this: the shortest of what the loop knows of work, as of sessions that are
+-- ready or of what is due, of what the oldest that lingers has left, and of the caller's timeout.
+abbrev pub turn_waits : {D : Type 0} {g : Ghosts D} → EventLoop D g → Option Instant → Option Duration → Option ℕ
+turn_waits events now timeout =
+    shorter (own_limit events.backlog (events.due || is_any_ready events.table)) (shorter (oldest_waits events.lingering.has_more now events.lingering.queue.items) (nanos_of timeout))
+
+-- A turn reads the clock, polls so long, and reads the clock again where that told. There is room for an event of each session, of each
+-- connection that lingers, and of the listener.
+pub record Waits {D A E : Type 0} {g : Ghosts D} (timeout : Option Duration) (old : EventLoop D g) (result : Result A E) (new : EventLoop D g) : Type 0 where
+  pub before : Poller
+  pub looked : Looked old.poller before
+  pub polled : Poller
+  pub told : polls_of polled ≡ after_wait result (polls_of before)
+  pub waited : nanos_of polled.waited ≡ turn_waits old before.time timeout
+  pub unread : NothingRead before polled
+  pub again : ReadAgain result polled new.poller
+  pub room : 128 + 64 + 1 ≤ events_capacity new.poller.events

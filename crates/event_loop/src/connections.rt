@@ -1,13 +1,16 @@
 //! The table of connections: who comes in, who is ready, who goes.
-ghost use Rattle.std.specs.Prelude.{◌≡◌, ◌≢◌, ◌||◌, ℕ, IfSome};
+ghost use Rattle.std.specs.Prelude.{◌≡◌, ◌<◌, ◌||◌, ℕ, IfSome, OnSome};
 ghost use Rattle.mio.specs.Event.{is_priority, is_read_closed};
 ghost use Rattle.mio.specs.Events.{items};
+ghost use Rattle.slab.specs.Slab.{HasRoomFor};
 ghost use Rattle.stream_driver.specs.Sessions.{Stands};
 ghost use Rattle.stream_driver.specs.Entries.{HaveSessions};
 ghost use Rattle.event_loop.specs.Accepts.{TurnAccepts};
+ghost use Rattle.event_loop.specs.Leavings.{EndAll, EndsAt};
+ghost use Rattle.event_loop.specs.Lingerings.{lingerers_of};
 ghost use Rattle.event_loop.specs.Numbers.{AreBelow};
-ghost use Rattle.event_loop.specs.Sockets.{IsNewSocket};
-ghost use Rattle.event_loop.specs.Tables.{ComeEach, Comes, EndsTurn, HaveEntries, after_poll, slot_at, told};
+ghost use Rattle.event_loop.specs.Sockets.{IsNewSocket, SocketsTell, traffic_of};
+ghost use Rattle.event_loop.specs.Tables.{ComeEach, Comes, EndsTurn, HaveEntries, after_poll, is_any_ready, is_ready as is_ready_in, slot_at, told};
 
 use crate::lingering::Lingering;
 use crate::listener::{AcceptAnswer, Listener};
@@ -35,11 +38,23 @@ pub enum Backlog {
     Failed,
 }
 
+// Is it to be driven?
+fn is_ready(entry: &Entry<BufferedStream<Socket>>) -> bool
+    ensures { result ≡ is_ready_in entry.now.state }
+{
+    entry.state == EntryState::Ready
+}
+
 /// Is an entry to be driven?
-pub(crate) fn any_ready(table: &Slab<Entry<BufferedStream<Socket>>>) -> bool {
-    table
-        .iter()
-        .any(|(_, entry)| entry.state == EntryState::Ready)
+pub(crate) fn any_ready(table: &Slab<Entry<BufferedStream<Socket>>>) -> bool
+    ensures { result ≡ is_any_ready table.now }
+{
+    for (_key, entry) in table.iter() {
+        if is_ready(entry) {
+            return true;
+        }
+    }
+    false
 }
 
 // Does an event tell of urgent bytes, at which a read ends early, or that what comes has an end, of which no other event may tell?
@@ -82,8 +97,7 @@ fn end_drive_at(
     table: &mut Slab<Entry<BufferedStream<Socket>>>,
     lingering: &mut Lingering,
 )
-    ensures ended { EndsTurn ⟦<Socket as Stream>⟧.tells ⟦<Socket as Stream>⟧.traffic (slot_at table.old.slots key) (slot_at table.new.slots key) }
-    ensures others { (other : ℕ) → other ≢ key → slot_at table.new.slots other ≡ slot_at table.old.slots other }
+    ensures { EndsAt now key table.old.slots (lingerers_of lingering.old) table.new.slots (lingerers_of lingering.new) }
 {
     let Some(entry) = table.get_mut(key) else {
         return;
@@ -104,7 +118,8 @@ pub(crate) fn end_drives(
     table: &mut Slab<Entry<BufferedStream<Socket>>>,
     lingering: &mut Lingering,
 )
-    ensures { (key : ℕ) → EndsTurn ⟦<Socket as Stream>⟧.tells ⟦<Socket as Stream>⟧.traffic (slot_at table.old.slots key) (slot_at table.new.slots key) }
+    ensures ended { (key : ℕ) → EndsTurn SocketsTell traffic_of (slot_at table.old.slots key) (slot_at table.new.slots key) }
+    ensures left { EndAll now table.old.slots (lingerers_of lingering.old) table.new.slots (lingerers_of lingering.new) }
 {
     for key in 0..table.capacity() {
         end_drive_at(poll, now, key, table, lingering);
@@ -115,21 +130,22 @@ pub(crate) fn end_drives(
 /// `Full` where it took that many, `Empty` where none waits, `Failed` where a call failed.
 ///
 /// Each connection that it takes is let in with a session that joins, or turned away, and nothing else happens to the hub and the table.
-/// One for which there is no place, or that memory or registration is refused for, is closed. It may grow the table, and takes the memory
-/// of the sessions and of their streams.
+/// One for which there is no place, or that memory or registration is refused for, is closed, and the refusals are counted. It may grow the
+/// table, and takes the memory of the sessions and of their streams.
 pub fn accept_some<D: Sectors, L: Listener>(
     alloc: Global,
     poll: &Poll,
     listener: &mut L,
     hub: &mut Hub<D>,
     next: &mut u64,
+    refused: &mut u64,
     table: &mut Slab<Entry<BufferedStream<Socket>>>,
 ) -> Backlog
     requires stands { Stands hub.old }
     requires sessions { HaveSessions hub.old table.old.slots }
     requires numbers { AreBelow next.old table.old.slots }
     requires entries { HaveEntries hub.old table.old.slots }
-    ensures accepts { TurnAccepts (λ n. ComeEach IsNewSocket hub.old next.old table.old.slots n hub.new next.new table.new.slots) (L.accepts listener.old) result (L.accepts listener.new) }
+    ensures accepts { TurnAccepts (λ n. ComeEach IsNewSocket hub.old next.old table.old.slots refused.old n hub.new next.new table.new.slots refused.new) (L.accepts listener.old) result (L.accepts listener.new) }
     ensures stands { Stands hub.new }
     ensures sessions { HaveSessions hub.new table.new.slots }
     ensures numbers { AreBelow next.new table.new.slots }
@@ -138,7 +154,7 @@ pub fn accept_some<D: Sectors, L: Listener>(
     hub.runs_follow();
     for _accepted in 0..SESSIONS_MAX {
         match listener.accept() {
-            AcceptAnswer::Taken(stream) => admit(alloc, poll, stream, hub, next, table),
+            AcceptAnswer::Taken(stream) => admit(alloc, poll, stream, hub, next, refused, table),
             AcceptAnswer::Blocked => return Backlog::Empty,
             AcceptAnswer::Failed => return Backlog::Failed,
         }
@@ -165,6 +181,26 @@ fn prepare(
     BufferedStream::new(alloc, Socket::new(stream, number)).ok()
 }
 
+// A place in the table for the stream of a connection under this number. None where memory, registration or a socket's option is refused.
+fn make_place(
+    alloc: Global,
+    poll: &Poll,
+    stream: TcpStream,
+    number: u64,
+    table: &mut Slab<Entry<BufferedStream<Socket>>>,
+) -> Option<BufferedStream<Socket>>
+    ensures fresh { IfSome result IsNewSocket }
+    ensures place { OnSome result (HasRoomFor table.new 1 × (table.new.vacant_key < 128)) }
+    ensures slots { table.new.slots ≡ table.old.slots }
+{
+    let key = table.vacant_key();
+    if key >= SESSIONS_MAX {
+        return None;
+    }
+    table.reserve(1).ok()?;
+    prepare(alloc, poll, stream, number, key)
+}
+
 // A connection becomes a session. One for which there is no place, or that memory, registration or a socket's option is refused for, is
 // closed.
 fn admit<D: Sectors>(
@@ -173,17 +209,18 @@ fn admit<D: Sectors>(
     stream: TcpStream,
     hub: &mut Hub<D>,
     next: &mut u64,
+    refused: &mut u64,
     table: &mut Slab<Entry<BufferedStream<Socket>>>,
 )
-    ensures { Comes IsNewSocket hub.old next.old table.old.slots hub.new next.new table.new.slots }
+    ensures { Comes IsNewSocket hub.old next.old table.old.slots refused.old hub.new next.new table.new.slots refused.new }
 {
     hub.runs_follow();
     let session = *next;
-    let key = table.vacant_key();
-    if session == u64::MAX || key >= SESSIONS_MAX || table.reserve(1).is_err() {
+    if session == u64::MAX || table.len() >= SESSIONS_MAX {
         return;
     }
-    let Some(stream) = prepare(alloc, poll, stream, session, key) else {
+    let Some(stream) = make_place(alloc, poll, stream, session, table) else {
+        *refused = refused.saturating_add(1);
         return;
     };
     match hub.step(&Event::Joined(session)) {

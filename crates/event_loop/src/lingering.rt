@@ -3,12 +3,10 @@
 //! The system resets a connection that is closed while input is unread, and then replies that are under way are lost. So a connection
 //! that ended in good order is shut down for writing, and what still comes in is read and dropped until the peer ends, within bounds
 //! of number, bytes and time.
-ghost use Rattle.std.specs.Prelude.{◌≡◌, ◌≤◌, min, length, true, false};
+ghost use Rattle.std.specs.Prelude.{◌≡◌, ◌≤◌, length};
 ghost use Rattle.std.specs.VecDeque.{deque_len, deque_capacity};
 ghost use Rattle.event_loop.specs.declared.lingering.TheConstants.{LINGERING_MAX};
-ghost use Rattle.event_loop.specs.Drops.{GivesAtMost, WhyDropped, left_after, newest};
-ghost use Rattle.event_loop.specs.Waits.{nanos_of};
-ghost use Rattle.event_loop.specs.Lingerings.{AllTurned, FirstTurned, MayBegin, MayLinger, oldest_waits};
+ghost use Rattle.event_loop.specs.Drops.{GivesAtMost, WhyDropped};
 
 use crate::socket::Socket;
 use mio::{Poll, Token};
@@ -43,6 +41,17 @@ pub enum Dropped {
     Over,
 }
 
+impl Dropped {
+    ghost use Rattle.event_loop.specs.Lingerings.{is_all};
+
+    // Was as much dropped as was asked for?
+    fn is_all(self) -> bool
+        ensures { result ≡ is_all self }
+    {
+        matches!(self, Dropped::All)
+    }
+}
+
 /// Reads at most so many bytes and drops them. Takes no memory.
 pub fn drop_input<S: Stream>(stream: &mut S, most: usize) -> Dropped
     ensures given { S.tells → GivesAtMost result most (length (S.traffic stream.old).given) (length (S.traffic stream.new).given) }
@@ -71,10 +80,23 @@ struct Lingerer {
 }
 
 impl Lingerer {
+    ghost use Rattle.std.specs.Prelude.{true, false};
+    ghost use Rattle.event_loop.specs.Lingerings.{DropsIf, DropsInput, MayLinger};
+
+    // Drops what came in, where it is to be read.
+    fn turn(&mut self, reads: bool) -> Dropped
+        ensures { DropsIf reads self.old result self.new }
+    {
+        if reads {
+            self.drop_some()
+        } else {
+            Dropped::Blocked(0)
+        }
+    }
+
     // Drops what came in, as far as one turn goes.
-    fn turn(&mut self) -> Dropped
-        ensures left { self.new.left ≡ left_after result (min self.old.left LINGERING_BYTES_A_TURN) self.old.left }
-        ensures until { self.new.until ≡ self.old.until }
+    fn drop_some(&mut self) -> Dropped
+        ensures { DropsInput self.old result self.new }
     {
         let most = self.left.min(LINGERING_BYTES_A_TURN);
         let dropped = drop_input(&mut self.socket, most);
@@ -104,16 +126,23 @@ pub(crate) struct Lingering {
     queue: VecDeque<Lingerer>,
     /// There may be input that no poll will tell of.
     has_more: bool,
+    /// How often the system refused to let one linger. It stays at 2^64 - 1.
+    refused: u64,
     ghost few: { deque_len queue ≤ LINGERING_MAX },
     ghost room: { LINGERING_MAX ≤ deque_capacity queue },
 }
 
 impl Lingering {
+    ghost use Rattle.event_loop.specs.Drops.{newest};
+    ghost use Rattle.event_loop.specs.Lingerings.{AreTurned, FirstTurned, Leaves, closed, lingerers_of, oldest_waits};
+    ghost use Rattle.event_loop.specs.Waits.{nanos_of};
+
     /// None lingers. Takes the memory for all.
     pub(crate) fn new(alloc: Global) -> Result<Lingering, AllocError> {
         Ok(Lingering {
             queue: VecDeque::with_capacity(alloc, LINGERING_MAX)?,
             has_more: false,
+            refused: 0,
         })
     }
 
@@ -137,13 +166,17 @@ impl Lingering {
         now: Option<Instant>,
         token: Token,
     )
-        ensures { MayBegin now self.old.queue.items self.new.queue.items }
+        ensures { Leaves now socket (lingerers_of self.old) (lingerers_of self.new) }
     {
         let lasting = Duration::from_secs(LINGERING_SECONDS);
         let Some(until) = now.and_then(|now| now.checked_add(lasting)) else {
             return;
         };
-        if !socket.is_in_order() || socket.half_close(poll, token).is_err() {
+        if !socket.is_in_order() {
+            return;
+        }
+        if socket.half_close(poll, token).is_err() {
+            self.refused = self.refused.saturating_add(1);
             return;
         }
         self.has_more = true;
@@ -155,14 +188,16 @@ impl Lingering {
     }
 
     /// Closes all that linger.
-    pub(crate) fn close(&mut self) {
+    pub(crate) fn close(&mut self)
+        ensures { lingerers_of self.new ≡ closed (lingerers_of self.old) }
+    {
         self.queue.clear();
         self.has_more = false;
     }
 
     // One more lingers. Where there are as many as may be, the oldest is closed.
     fn push(&mut self, lingerer: Lingerer)
-        ensures { self.new.queue.items ≡ newest LINGERING_MAX self.old.queue.items lingerer }
+        ensures { lingerers_of self.new ≡ record (lingerers_of self.old) { all = newest LINGERING_MAX self.old.queue.items lingerer } }
     {
         if self.queue.len() >= LINGERING_MAX {
             let _ = self.queue.pop_front();
@@ -172,7 +207,7 @@ impl Lingering {
 
     /// Drops what came in where the poll told of it or there may be more, and closes those that are over.
     pub(crate) fn turn(&mut self, is_told: bool, now: Option<Instant>)
-        ensures { AllTurned now self.old.queue.items self.new.queue.items }
+        ensures { AreTurned now is_told (lingerers_of self.old) (lingerers_of self.new) }
     {
         let reads = is_told || self.has_more;
         self.has_more = false;
@@ -183,18 +218,14 @@ impl Lingering {
 
     // The first is closed where it is over, and else becomes the last.
     fn turn_first(&mut self, reads: bool, now: Option<Instant>)
-        ensures { FirstTurned now self.old.queue.items self.new.queue.items }
+        ensures { FirstTurned now reads self.old.queue.items (lingerers_of self.old) (lingerers_of self.new) }
     {
         let Some(mut lingerer) = self.queue.pop_front() else {
             return;
         };
-        let dropped = if reads {
-            lingerer.turn()
-        } else {
-            Dropped::Blocked(0)
-        };
+        let dropped = lingerer.turn(reads);
         if !lingerer.is_over(now) {
-            self.has_more = self.has_more || dropped == Dropped::All;
+            self.has_more = self.has_more || dropped.is_all();
             self.queue.push_back_reserved(lingerer);
         }
     }

@@ -1,7 +1,9 @@
 //! What connections come from.
+ghost use Rattle.event_loop.specs.Outcomes.{AcceptsAs};
 
+use crate::socket::would_wait;
 use mio::net::{TcpListener, TcpStream};
-use std::io::{self, ErrorKind};
+use std::io;
 use std::net::SocketAddr;
 
 /// What an accept answers.
@@ -40,6 +42,17 @@ pub struct Port {
     failed: u64,
 }
 
+// What an accept answers where the system answers so.
+fn accept_answer(outcome: io::Result<(TcpStream, SocketAddr)>) -> AcceptAnswer
+    ensures { AcceptsAs outcome result }
+{
+    match outcome {
+        Ok((stream, _address)) => AcceptAnswer::Taken(stream),
+        Err(error) if would_wait(&error) => AcceptAnswer::Blocked,
+        Err(_) => AcceptAnswer::Failed,
+    }
+}
+
 impl Port {
     /// The listener, of which nothing has been counted. Takes no memory.
     pub fn new(listener: TcpListener) -> Port {
@@ -61,19 +74,12 @@ impl Listener for Port {
     ghost accepts = { λ p. record { taken = p.taken; blocked = p.blocked; failed = p.failed } };
 
     fn accept(&mut self) -> AcceptAnswer {
-        match self.listener.accept() {
-            Ok((stream, _address)) => {
-                self.taken = self.taken.saturating_add(1);
-                AcceptAnswer::Taken(stream)
-            }
-            Err(error) if error.kind() == ErrorKind::WouldBlock => {
-                self.blocked = self.blocked.saturating_add(1);
-                AcceptAnswer::Blocked
-            }
-            Err(_) => {
-                self.failed = self.failed.saturating_add(1);
-                AcceptAnswer::Failed
-            }
+        let answer = accept_answer(self.listener.accept());
+        match &answer {
+            AcceptAnswer::Taken(_) => self.taken = self.taken.saturating_add(1),
+            AcceptAnswer::Blocked => self.blocked = self.blocked.saturating_add(1),
+            AcceptAnswer::Failed => self.failed = self.failed.saturating_add(1),
         }
+        answer
     }
 }

@@ -1,32 +1,45 @@
 //! The system's poll.
 ghost use Rattle.std.specs.Prelude.{◌≡◌};
-ghost use Rattle.event_loop.specs.Polls.{after_wait, polls_of};
+ghost use Rattle.std.specs.Prelude.{IfOk};
+ghost use Rattle.mio.specs.Events.{capacity as events_capacity};
+ghost use Rattle.event_loop.specs.Polls.{Looked, NothingRead, after_wait, polls_of};
 
 use mio::{Events, Poll};
 use std::alloc::{AllocError, Global};
 use std::io;
-use std::time::Duration;
+use std::time::{Clock, Duration, Instant};
 
-/// The system's poll, with what it told last.
+/// The system's poll, with what it told last, and the clock by which it is used.
 ///
-/// How often it told, and how often it failed, is counted. A count is a u64: it rises with its answer, and once it stands at 2^64 - 1 it
-/// stays. It leaves open of what it tells.
+/// How often it told, how often it failed and how often the clock was read is counted. A count is a u64: it rises with its answer, and
+/// once it stands at 2^64 - 1 it stays. It leaves open of what it tells, and what the clock says.
 #[derive(Drop)]
 pub(crate) struct Poller {
     poll: Poll,
     events: Events,
     told: u64,
     failed: u64,
+    /// The wait that it was given last.
+    waited: Option<Duration>,
+    /// How often the clock was read.
+    readings: u64,
+    /// What the clock said last, none where it couldn't be read.
+    time: Option<Instant>,
 }
 
 impl Poller {
     /// A poll of which nothing has been counted. It takes the memory for so many events.
-    pub(crate) fn new(alloc: Global, poll: Poll, capacity: usize) -> Result<Poller, AllocError> {
+    pub(crate) fn new(alloc: Global, poll: Poll, capacity: usize) -> Result<Poller, AllocError>
+        ensures room { IfOk result (λ poller. events_capacity poller.events ≡ capacity) }
+    {
         Ok(Poller {
             poll,
             events: Events::with_capacity(alloc, capacity)?,
             told: 0,
             failed: 0,
+            waited: None,
+            readings: 0,
+            time: None,
         })
     }
 
@@ -42,11 +55,30 @@ impl Poller {
         &self.events
     }
 
+    /// What the clock said last, none where it couldn't be read. Takes no memory.
+    pub(crate) fn time(&self) -> Option<Instant>
+        ensures { result ≡ self.now.time }
+    {
+        self.time
+    }
+
+    /// Reads the clock once. Takes no memory.
+    pub(crate) fn look<C: Clock>(&mut self, clock: &C)
+        ensures { Looked self.old self.new }
+    {
+        self.readings = self.readings.saturating_add(1);
+        self.time = Instant::now(clock).ok();
+    }
+
     /// Polls once: waits until it tells of an event or the time is up, without end where none is given. A fault is the system's. Takes no
     /// memory.
     pub(crate) fn wait(&mut self, timeout: Option<Duration>) -> io::Result<()>
-        ensures { polls_of self.new ≡ after_wait result (polls_of self.old) }
+        ensures polls { polls_of self.new ≡ after_wait result (polls_of self.old) }
+        ensures waited { self.new.waited ≡ timeout }
+        ensures clock { NothingRead self.old self.new }
+        ensures room { events_capacity self.new.events ≡ events_capacity self.old.events }
     {
+        self.waited = timeout;
         match self.poll.poll(&mut self.events, timeout) {
             Ok(()) => {
                 self.told = self.told.saturating_add(1);

@@ -1,4 +1,6 @@
 //! The loop.
+ghost use Rattle.std.specs.Prelude.{◌+◌, ◌≤◌};
+ghost use Rattle.mio.specs.Events.{capacity as events_capacity};
 ghost use Rattle.sessions.specs.Lives.{IsServed};
 ghost use Rattle.stream_driver.specs.Sessions.{Stands};
 ghost use Rattle.stream_driver.specs.Entries.{HaveSessions};
@@ -37,9 +39,14 @@ pub struct EventLoop<D: Sectors> {
     backlog: Backlog,
     lingering: Lingering,
     hub: Hub<D>,
+    /// Are old versions of the store still due, as the last turn's end told?
+    due: bool,
     /// The number of the next session.
     next: u64,
+    /// How many connections were turned away as memory, registration or an option of the socket was refused. It stays at 2^64 - 1.
+    refused: u64,
     table: Slab<Entry<BufferedStream<Socket>>>,
+    ghost room: { 128 + 64 + 1 ≤ events_capacity poller.events },
     ghost stands: { Stands hub },
     ghost served: { IsServed hub },
     ghost sessions: { HaveSessions hub table.slots },
@@ -54,11 +61,14 @@ impl<D: Sectors> EventLoop<D> {
     ghost use Rattle.sessions.specs.Lives.{IsOpened};
     ghost use Rattle.sessions.specs.SessionStreams.{HubState};
     ghost use Rattle.sessions.specs.StandsFor.{StandsFor};
+    ghost use Rattle.event_loop.specs.Leavings.{EndAll};
+    ghost use Rattle.event_loop.specs.Lingerings.{lingerers_of, unless_failed};
     ghost use Rattle.event_loop.specs.Loops.{HasItsSessions, hub_of};
     ghost use Rattle.event_loop.specs.Polls.{after_wait, polls_of};
     ghost use Rattle.event_loop.specs.Sockets.{SocketsTell};
     ghost use Rattle.event_loop.specs.TableBytes.{ConnectionsSpeak, KeepBytes};
-    ghost use Rattle.event_loop.specs.Turns.{Accepted, DrivesReady, IsTurn, IsUntouched, TurnsAreRuns, accepts_now, is_told_of};
+    ghost use Rattle.event_loop.specs.Turns.{Accepted, DrivesReady, IsGivenBack, IsTurn, IsUntouched, TurnsAreRuns, Waits, accepts_now, is_told_of, turn_waits};
+    ghost use Rattle.event_loop.specs.Waits.{nanos_of};
 
     /// Listens at an address for the sessions of a hub that was opened. Port 0 stands for one that the system picks.
     ///
@@ -87,7 +97,9 @@ impl<D: Sectors> EventLoop<D> {
             backlog: Backlog::Empty,
             lingering,
             hub,
+            due: false,
             next: 0,
+            refused: 0,
             table: Slab::new(alloc),
         })
     }
@@ -95,6 +107,13 @@ impl<D: Sectors> EventLoop<D> {
     /// The address that it listens at. A fault is the system's. Takes no memory.
     pub fn address(&self) -> io::Result<SocketAddr> {
         self.port.address()
+    }
+
+    /// How many connections it has closed as memory, registration or an option of the socket was refused. Takes no memory.
+    pub fn refused(&self) -> u64
+        ensures { result ≡ self.now.refused }
+    {
+        self.refused
     }
 
     /// Has the store stopped? Takes no memory.
@@ -110,8 +129,11 @@ impl<D: Sectors> EventLoop<D> {
     /// It drives before it accepts: so an event of this poll can't be taken for one of a connection that came since under the same key,
     /// and the places of those that left are free for those that come.
     ///
-    /// It waits for no more than `timeout`, without end where none is given, and not at all where a session is still ready or 128
-    /// connections were accepted last time. After an accept that fails, the next turn waits for no more than `RETRY_AFTER_MILLIS` and
+    /// At its end it gives back what no open transaction needs, a step of it (`Hub::reclaim`). So turns go on with that, also where no
+    /// session sends anything, until nothing is due.
+    ///
+    /// It waits for no more than `timeout`, without end where none is given, and not at all where a session is still ready, 128
+    /// connections were accepted last time, or the turn before it has left old versions that are due. After an accept that fails, the next turn waits for no more than `RETRY_AFTER_MILLIS` and
     /// accepts again. A connection beyond 128 sessions, or for which memory, registration or an option of the socket is refused, is
     /// closed without a byte.
     ///
@@ -138,24 +160,21 @@ impl<D: Sectors> EventLoop<D> {
         ensures fault { OnErr result (IsUntouched self.old self.new) }
         ensures bytes { OnOk result (KeepBytes self.old.hub self.old.table.slots self.new.hub self.new.table.slots) }
         ensures polled { polls_of self.new.poller ≡ after_wait result (polls_of self.old.poller) }
+        ensures waits { Waits timeout self.old result self.new }
         ensures sessions { HasItsSessions self.old × HasItsSessions self.new }
         ensures served { IsServed (hub_of self.old) × IsServed (hub_of self.new) }
     {
         self.hub.runs_follow();
-        let patience = self.lingering.patience(Instant::now(clock).ok());
-        let wait = longest_wait(
-            self.backlog,
-            any_ready(&self.table),
-            shorter(patience, timeout),
-        );
+        self.poller.look(clock);
+        let wait = self.next_wait(timeout);
         self.poller.wait(wait)?;
-        let now = Instant::now(clock).ok();
+        self.poller.look(clock);
+        let now = self.poller.time();
         self.drive(now);
         let comes_more = self.is_told(LINGERER);
         self.lingering.turn(comes_more, now);
-        if self.accepts_now() {
-            self.accept();
-        }
+        self.accept_told();
+        self.give_back();
         Ok(())
     }
 
@@ -175,9 +194,41 @@ impl<D: Sectors> EventLoop<D> {
         self.hub.is_lawful();
     }
 
+    // How long the next poll waits.
+    fn next_wait(&self, timeout: Option<Duration>) -> Option<Duration>
+        ensures { nanos_of result ≡ turn_waits self.now self.now.poller.time timeout }
+    {
+        let patience = self.lingering.patience(self.poller.time());
+        longest_wait(
+            self.backlog,
+            self.due || any_ready(&self.table),
+            shorter(patience, timeout),
+        )
+    }
+
+    // Gives back what no open transaction needs, a step of it.
+    fn give_back(&mut self)
+        ensures gives_back { IsGivenBack self.old self.new }
+        ensures poller { self.new.poller ≡ self.old.poller }
+    {
+        self.due = self.hub.reclaim();
+    }
+
+    // Accepts connections, where the listener may hold more or the last poll told of it.
+    fn accept_told(&mut self)
+        ensures accepts { Accepted (accepts_now self.old.backlog (items self.old.poller.events)) self.old self.new }
+        ensures lingerers { lingerers_of self.new.lingering ≡ unless_failed self.new.backlog (lingerers_of self.old.lingering) }
+        ensures poller { self.new.poller ≡ self.old.poller }
+    {
+        if self.accepts_now() {
+            self.accept();
+        }
+    }
+
     // Accepts connections. After an accept that failed, as for want of descriptors, none lingers.
     fn accept(&mut self)
         ensures accepts { Accepted true self.old self.new }
+        ensures lingerers { lingerers_of self.new.lingering ≡ unless_failed self.new.backlog (lingerers_of self.old.lingering) }
         ensures poller { self.new.poller ≡ self.old.poller }
     {
         self.backlog = accept_some(
@@ -186,6 +237,7 @@ impl<D: Sectors> EventLoop<D> {
             &mut self.port,
             &mut self.hub,
             &mut self.next,
+            &mut self.refused,
             &mut self.table,
         );
         if self.backlog == Backlog::Failed {
@@ -195,11 +247,12 @@ impl<D: Sectors> EventLoop<D> {
 
     // Drives the sessions that are ready, those that the last poll told of among them.
     fn drive(&mut self, now: Option<Instant>)
-        ensures drives { DrivesReady ⟦<Socket as Stream>⟧.tells ⟦<Socket as Stream>⟧.traffic (items self.old.poller.events) self.old.hub self.old.table.slots self.new.hub self.new.table.slots }
+        ensures drives { (drives : DrivesReady ⟦<Socket as Stream>⟧.tells ⟦<Socket as Stream>⟧.traffic (items self.old.poller.events) self.old.hub self.old.table.slots self.new.hub self.new.table.slots) × EndAll now drives.driven (lingerers_of self.old.lingering) self.new.table.slots (lingerers_of self.new.lingering) }
         ensures poller { self.new.poller ≡ self.old.poller }
         ensures next { self.new.next ≡ self.old.next }
         ensures port { self.new.port ≡ self.old.port }
         ensures backlog { self.new.backlog ≡ self.old.backlog }
+        ensures refused { self.new.refused ≡ self.old.refused }
         ensures keeps { KeepBytes self.old.hub self.old.table.slots self.new.hub self.new.table.slots }
     {
         make_polled_ready(self.poller.events(), &mut self.table);

@@ -1,8 +1,11 @@
 //! A connection of the system.
 
-ghost use Rattle.std.specs.Prelude.{◌≡◌, ◌≤◌, ℕ};
+ghost use Rattle.std.specs.Prelude.{◌≡◌, ◌≤◌, ◌↔◌, ℕ, true};
+ghost use Rattle.std.specs.IoError.{error_kind};
+ghost use Rattle.std.specs.declared.io.ErrorKind.TheVariants.{WouldBlock};
 ghost use Rattle.stream_driver.specs.Traffic.{ReadsWithin, WritesWithin, bytes_read, bytes_written};
 ghost use Rattle.socket_calls.specs.OpenFacts.{moved};
+ghost use Rattle.event_loop.specs.Outcomes.{ReadsAs, WritesAs};
 
 use mio::net::TcpStream;
 use mio::{Poll, Token};
@@ -25,6 +28,7 @@ pub struct Socket {
 
 impl Socket {
     ghost use Rattle.stream_driver.specs.Traffic.{EndsWith, IsUncalled};
+    ghost use Rattle.event_loop.specs.Lingerings.{IsInOrder};
     ghost use Rattle.event_loop.specs.Sockets.{SocketsTell, traffic_of};
 
     /// The connection under this number, of which nothing has been counted. Takes no memory.
@@ -43,12 +47,16 @@ impl Socket {
     }
 
     /// Has no call failed, and no read ended?
-    pub(crate) fn is_in_order(&self) -> bool {
+    pub(crate) fn is_in_order(&self) -> bool
+        ensures { (result ≡ true) ↔ IsInOrder (traffic_of self.now) }
+    {
         self.read_failed == 0 && self.read_ended == 0 && self.write_failed == 0
     }
 
     /// Shuts the connection down for writing once what was written has gone, and has the poll tell under this token of what still comes.
-    pub(crate) fn half_close(&mut self, poll: &Poll, token: Token) -> io::Result<()> {
+    pub(crate) fn half_close(&mut self, poll: &Poll, token: Token) -> io::Result<()>
+        ensures { self.new ≡ self.old }
+    {
         self.socket.half_close(poll, token)
     }
 
@@ -80,28 +88,37 @@ impl Socket {
     }
 }
 
+/// Would a call that gave this error have waited?
+pub(crate) fn would_wait(error: &io::Error) -> bool
+    ensures { (result ≡ true) ↔ (error_kind error.now ≡ WouldBlock) }
+{
+    matches!(error.kind(), ErrorKind::WouldBlock)
+}
+
 // What a read answers where the system answers so.
 fn read_answer(outcome: io::Result<usize>) -> ReadAnswer
+    ensures told { ReadsAs outcome result }
     ensures bytes { bytes_read result ≡ moved outcome }
     ensures within { (len : ℕ) → moved outcome ≤ len → ReadsWithin result len }
 {
     match outcome {
         Ok(0) => ReadAnswer::Ended,
         Ok(n) => ReadAnswer::Moved(n),
-        Err(error) if error.kind() == ErrorKind::WouldBlock => ReadAnswer::Blocked,
+        Err(error) if would_wait(&error) => ReadAnswer::Blocked,
         Err(_) => ReadAnswer::Failed,
     }
 }
 
 // What a write answers where the system answers so.
 fn write_answer(outcome: io::Result<usize>) -> WriteAnswer
+    ensures told { WritesAs outcome result }
     ensures bytes { bytes_written result ≡ moved outcome }
     ensures within { (len : ℕ) → moved outcome ≤ len → WritesWithin result len }
 {
     match outcome {
         Ok(0) => WriteAnswer::Failed,
         Ok(n) => WriteAnswer::Moved(n),
-        Err(error) if error.kind() == ErrorKind::WouldBlock => WriteAnswer::Blocked,
+        Err(error) if would_wait(&error) => WriteAnswer::Blocked,
         Err(_) => WriteAnswer::Failed,
     }
 }

@@ -8,17 +8,17 @@ use std::time::Duration;
 /// After an accept that failed the loop tries again within so many milliseconds.
 pub const RETRY_AFTER_MILLIS: u64 = 100;
 
-/// The longest that the next poll may wait, without end where it is `None`: not at all where an entry is ready or the backlog is
+/// The longest that the next poll may wait, without end where it is `None`: not at all where there is work or the backlog is
 /// `Full`, no longer than `RETRY_AFTER_MILLIS` where it is `Failed`, and never longer than the caller's timeout.
 pub(crate) fn longest_wait(
     backlog: Backlog,
-    is_ready: bool,
+    has_work: bool,
     timeout: Option<Duration>,
 ) -> Option<Duration>
-    ensures { nanos_of result ≡ shorter_of (own_limit backlog is_ready) (nanos_of timeout) }
+    ensures { nanos_of result ≡ shorter_of (own_limit backlog has_work) (nanos_of timeout) }
 {
     let most = match backlog {
-        _ if is_ready => Duration::ZERO,
+        _ if has_work => Duration::ZERO,
         Backlog::Full => Duration::ZERO,
         Backlog::Failed => Duration::from_millis(RETRY_AFTER_MILLIS),
         Backlog::Empty => return timeout,

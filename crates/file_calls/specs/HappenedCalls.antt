@@ -2,6 +2,31 @@
 -- the facts of a file are. The lemmas are to be cited only of the call that a proof is about, by the answers in `proofs/` of this crate.
 use Rattle.std.specs.Prelude.{ℕ, Bool, List}
 use Rattle.file_calls.specs.declared.counted.CountedFile.{CountedFile}
+use Rattle.file_calls.specs.declared.opened.OpenedFile.{OpenedFile}
+
+-- it was made as a new file of this name, to be read and written
+pub WasMade : OpenedFile → List ℕ → Type 0
+WasMade file path = Unit {0}
+
+-- the file of this name was opened, to be read and written
+pub WasOpened : OpenedFile → List ℕ → Type 0
+WasOpened file path = Unit {0}
+
+-- the file of this name was opened to be read alone
+pub WasOpenedToRead : OpenedFile → List ℕ → Type 0
+WasOpenedToRead file path = Unit {0}
+
+-- it was asked for its length, and had so many bytes
+pub HadLength : OpenedFile → ℕ → Type 0
+HadLength file bytes = Unit {0}
+
+-- once it was open the directory of this path was synced, and that succeeded
+pub HadNameSettled : OpenedFile → List ℕ → Type 0
+HadNameSettled file path = Unit {0}
+
+-- the system was asked to drop its copies of the pages, and agreed
+pub HadCopiesDropped : OpenedFile → Type 0
+HadCopiesDropped file = Unit {0}
 
 -- its next call read these bytes from this offset on
 pub WasRead : CountedFile → ℕ → List ℕ → Bool → Type 0
@@ -14,6 +39,30 @@ WasWritten file offset bytes ok = Unit {0}
 -- its next call was a sync
 pub WasSynced : CountedFile → Bool → Type 0
 WasSynced file ok = Unit {0}
+
+pub real_make : (file : OpenedFile) (path : List ℕ) → WasMade file path
+unfolding WasMade
+real_make file path = tt
+
+pub real_open : (file : OpenedFile) (path : List ℕ) → WasOpened file path
+unfolding WasOpened
+real_open file path = tt
+
+pub real_open_to_read : (file : OpenedFile) (path : List ℕ) → WasOpenedToRead file path
+unfolding WasOpenedToRead
+real_open_to_read file path = tt
+
+pub real_length : (file : OpenedFile) (bytes : ℕ) → HadLength file bytes
+unfolding HadLength
+real_length file bytes = tt
+
+pub real_settle_name : (file : OpenedFile) (path : List ℕ) → HadNameSettled file path
+unfolding HadNameSettled
+real_settle_name file path = tt
+
+pub real_drop_copies : (file : OpenedFile) → HadCopiesDropped file
+unfolding HadCopiesDropped
+real_drop_copies file = tt
 
 pub real_read : (file : CountedFile) (offset : ℕ) (bytes : List ℕ) (ok : Bool) → WasRead file offset bytes ok
 unfolding WasRead

@@ -1,19 +1,15 @@
 //! The calls of an open file, each counted.
-ghost use Rattle.std.specs.Prelude.{◌≡◌, is_ok};
+ghost use Rattle.std.specs.Prelude.{◌≡◌, replicate, is_ok};
 
-use std::fs::File;
-use std::io;
-use std::os::fd::AsRawFd;
+use crate::opened::OpenedFile;
+use std::io::{self, Read};
 use std::os::unix::fs::FileExt;
-use std::time::{Clock, SystemTime};
 
-/// An open file of so many sectors, with the number of calls that were made of it. `read`, `write` and `sync` make one call and count
-/// it; the count stays at 2^64 - 1 once it is there.
+/// An open file of so many sectors, with the number of calls that were made of it. `read`, `write`, `write_zeros`, `sync` and `sync_all`
+/// make one call and count it; the count stays at 2^64 - 1 once it is there.
 #[derive(Drop)]
 pub struct CountedFile {
-    file: File,
-    /// When it was opened, as far as the clock tells. Nothing but clauses reads it: it tells the lives of a store apart.
-    opened: Option<SystemTime>,
+    file: OpenedFile,
     sectors: u64,
     calls: u64,
 }
@@ -22,16 +18,24 @@ impl CountedFile {
     ghost use Rattle.file_calls.specs.HappenedCalls.{WasRead, WasWritten, WasSynced};
     ghost use Rattle.file_calls.specs.OpenFacts.{next};
 
-    /// A file that was opened just now, of so many sectors, of which no call was made. Takes no memory.
-    pub fn new<C: Clock>(clock: &C, file: File, sectors: u64) -> CountedFile
-        ensures { result.sectors ≡ sectors }
+    /// An opened file, of so many sectors, of which no call was made. Takes no memory.
+    pub fn new(file: OpenedFile, sectors: u64) -> CountedFile
+        ensures file { result.file ≡ file }
+        ensures sectors { result.sectors ≡ sectors }
+        ensures calls { result.calls ≡ 0 }
     {
         CountedFile {
             file,
-            opened: SystemTime::now(clock).ok(),
             sectors,
             calls: 0,
         }
+    }
+
+    /// Lends the opened file. Makes no call.
+    pub fn opened(&self) -> &OpenedFile
+        ensures { result.now ≡ self.now.file }
+    {
+        &self.file
     }
 
     /// How many sectors it has. Makes no call.
@@ -47,7 +51,7 @@ impl CountedFile {
         ensures happened { WasRead self.old offset into.new (is_ok result) }
     {
         self.count_call();
-        self.file.read_exact_at(into, offset)
+        self.file.file.read_exact_at(into, offset)
     }
 
     /// Writes bytes from this offset on. Answers the system's error. Takes no memory.
@@ -56,7 +60,7 @@ impl CountedFile {
         ensures happened { WasWritten self.old offset from.now (is_ok result) }
     {
         self.count_call();
-        self.file.write_all_at(from, offset)
+        self.file.file.write_all_at(from, offset)
     }
 
     /// Settles what was written. Answers the system's error. Takes no memory.
@@ -65,18 +69,27 @@ impl CountedFile {
         ensures happened { WasSynced self.old (is_ok result) }
     {
         self.count_call();
-        self.file.sync_data()
+        self.file.file.sync_data()
     }
 
-    /// Asks the system to drop its copies of the file's pages, so that what is read next comes from the device; pages that wait to be
-    /// written stay. Under the sector model this changes nothing, so it is no counted call. Answers the system's error. Takes no memory.
-    pub fn drop_copies(&self) -> io::Result<()> {
-        let advised = libc::posix_fadvise(self.file.as_raw_fd(), 0, 0, libc::POSIX_FADV_DONTNEED);
-        if advised == 0 {
-            Ok(())
-        } else {
-            Err(io::Error::from_raw_os_error(advised))
-        }
+    /// Writes so many zeros from the beginning of a new file on, so that the file system gives it its blocks now. Answers the system's
+    /// error. Takes no memory.
+    pub fn write_zeros(&mut self, len: u64) -> io::Result<()>
+        ensures next { self.new ≡ next self.old }
+        ensures happened { WasWritten self.old 0 (replicate len 0) (is_ok result) }
+    {
+        self.count_call();
+        let _written = io::copy(&mut io::repeat(0).take(len), &mut &self.file.file)?;
+        Ok(())
+    }
+
+    /// Settles what was written, and the file's size and times with it. Answers the system's error. Takes no memory.
+    pub fn sync_all(&mut self) -> io::Result<()>
+        ensures next { self.new ≡ next self.old }
+        ensures happened { WasSynced self.old (is_ok result) }
+    {
+        self.count_call();
+        self.file.file.sync_all()
     }
 
     /// Counts a call.

@@ -5,5 +5,7 @@
 #![tactic(auto)]
 
 mod counted;
+mod opened;
 
 pub use counted::CountedFile;
+pub use opened::OpenedFile;

@@ -1,5 +1,6 @@
 pub mod KeyOrder
 pub mod StepLaws
+pub mod Cuts
 pub mod MergeLaws
 pub mod RunLaws
 pub mod MarkSteps

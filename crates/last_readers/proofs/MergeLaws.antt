@@ -1,19 +1,20 @@
 -- Two step functions made into one, from their ends.
-use Rattle.std.proofs.Common.{◌≡◌, ◌-◌, ◌<◌, ℕ, Bool, true, false, cond, ◌&&◌, List, [], ◌∷◌, ◌++◌, Some, length, refl, sym, ap, subst, ◌∙◌, arith, inl, inr}
-use Rattle.std.specs.Prelude.{nat_lt, slice_get}
+use Rattle.std.proofs.Common.{◌≡◌, ◌-◌, ◌<◌, ℕ, true, ◌&&◌, List, [], ◌∷◌, ◌++◌, Some, length, refl, sym, ap, subst, ◌∙◌, arith, inl, inr}
+use Rattle.std.specs.Prelude.{max, slice_get}
 use Rattle.std.specs.declared.cmp.Ordering.{Ordering}
 use Rattle.std.specs.declared.cmp.Ordering.TheVariants.{Less, Equal, Greater}
 use Rattle.std.specs.Ordering.{is_le}
 use Rattle.std.proofs.lemmas.Bool.{and_parts}
-use Rattle.std.proofs.lemmas.List.{append_assoc, append-nil}
+use Rattle.std.proofs.lemmas.List.{append_assoc}
 use Rattle.std.proofs.lemmas.Option.{slice_get_within}
 use Rattle.std.proofs.Math.Nat.{max_comm}
 use Rattle.model.specs.Map.{Bytes, key_cmp}
-use Rattle.last_readers.specs.Steps.{StepValue, by_order, number_from, number_at, end_of, are_over, steps_rise, are_under}
+use Rattle.last_readers.specs.Steps.{StepValue, by_order, number_from, number_at, merged_at, end_of, are_over, steps_rise, are_under}
 use Rattle.last_readers.specs.Readers.{cut}
-use Rattle.last_readers.specs.Merging.{later, EndsOver, EndsEqual, IsParted, IsJoined, IsAdded, IsMerging}
+use Rattle.last_readers.specs.Merging.{later, EndsOver, EndsEqual, IsParted, IsJoined, IsAdded}
+use Rattle.last_readers.proofs.Cuts.{cut_twice}
 use Rattle.last_readers.proofs.KeyOrder.{itself, same_keys, turned_less, turned_greater}
-use Rattle.last_readers.proofs.StepLaws.{rises_left, rises_right, around, put_between, over_less, under_more, low, high, end_push, number_push, one_end, under_last}
+use Rattle.last_readers.proofs.StepLaws.{around, put_between, over_less, under_more, low, high, end_push, number_push, one_end, under_last}
 
 -- ---- the steps below a key
 
@@ -129,48 +130,39 @@ module _ (o : ℕ) (xs xs' ys ys' ts : List StepValue) (m : StepValue) (j : IsJo
       by Equal e = rest_same k (ap (λ (q : Bytes). is_le (key_cmp m.key q)) (same_keys k m.key e) ∙ ap is_le (itself m.key)) ∙ sym at ∙ sym (at_same k e)
       by Greater e = rest_same k (ap is_le (turned_greater k m.key e)) ∙ sym above ∙ sym (above_same k e)
 
-pub step_merging : (o : ℕ) (a b xs xs' ys ys' ts ts' : List StepValue) (m : StepValue) → IsMerging o a b xs ys ts → IsJoined o xs xs' ys ys' m → IsAdded m (later o (end_of xs') (end_of ys')) ts ts' → IsMerging o a b xs' ys' ts'
-step_merging o a b xs xs' ys ys' ts ts' m g j added =
-    let rises = j.rising ts g.first g.second in
+-- where numbers up to o count as none
+base_cut : (o b : ℕ) (ts : List StepValue) (k : Bytes) → cut o (number_from (cut o b) ts k) ≡ cut o (number_from b ts k)
+base_cut o b [] k = cut_twice o o b (omega arith)
+base_cut o b (s ∷ ts) k = by (key_cmp k s.key)
+  where
+    by : (p : Ordering) → cut o (by_order p (cut o b) s.at (number_from s.above ts k)) ≡ cut o (by_order p b s.at (number_from s.above ts k))
+    by Less = cut_twice o o b (omega arith)
+    by Equal = refl
+    by Greater = refl
+
+-- one step of both was moved
+pub record IsMoved (o : ℕ) (xs xs' ys ys' ts ts' : List StepValue) : Type 0 where
+  pub same : (k : Bytes) → cut o (merged_at xs' ys' ts' k) ≡ cut o (merged_at xs ys ts k)
+  pub first : steps_rise (xs' ++ ts') ≡ true
+  pub second : steps_rise (ys' ++ ts') ≡ true
+
+pub moved : (o : ℕ) (xs xs' ys ys' ts ts' : List StepValue) (m : StepValue) → steps_rise (xs ++ ts) ≡ true → steps_rise (ys ++ ts) ≡ true → IsJoined o xs xs' ys ys' m → IsAdded m (later o (end_of xs') (end_of ys')) ts ts' → IsMoved o xs xs' ys ys' ts ts'
+moved o xs xs' ys ys' ts ts' m first second j added =
+    let rises = j.rising ts first second in
     let over = (and_parts _ _ rises).0 in
+    let both = λ (xs ys : List StepValue) (k : Bytes). max (number_at xs k) (number_at ys k) in
     elim added [
-      | inl is ↦ subst (λ l. IsMerging o a b xs' ys' l) (sym is) (record {
-        same = λ k. kept_same o xs xs' ys ys' ts m j over k ∙ g.same k;
-        first = put_between xs' ts m j.first.under rises (j.first.rising ts g.first);
-        second = put_between ys' ts m j.second.under rises (j.second.rising ts g.second);
+      | inl is ↦ subst (λ l. IsMoved o xs xs' ys ys' ts l) (sym is) (record {
+        same = λ k. sym (base_cut o (both xs' ys' k) (m ∷ ts) k) ∙ ap (cut o) (kept_same o xs xs' ys ys' ts m j over k) ∙ base_cut o (both xs ys k) ts k;
+        first = put_between xs' ts m j.first.under rises (j.first.rising ts first);
+        second = put_between ys' ts m j.second.under rises (j.second.rising ts second);
       })
-      | inr h ↦ subst (λ l. IsMerging o a b xs' ys' l) (sym h.2) (record {
-        same = λ k. left_same o xs xs' ys ys' ts m j over h.0 h.1 k ∙ g.same k;
-        first = j.first.rising ts g.first;
-        second = j.second.rising ts g.second;
+      | inr h ↦ subst (λ l. IsMoved o xs xs' ys ys' ts l) (sym h.2) (record {
+        same = λ k. sym (base_cut o (both xs' ys' k) ts k) ∙ ap (cut o) (left_same o xs xs' ys ys' ts m j over h.0 h.1 k) ∙ base_cut o (both xs ys k) ts k;
+        first = j.first.rising ts first;
+        second = j.second.rising ts second;
       })
     ]
-
-pub begun : (o : ℕ) (a b ts : List StepValue) → steps_rise a ≡ true → steps_rise b ≡ true → ts ≡ [] → IsMerging o a b a b ts
-begun o a b ts h g none = subst (λ l. IsMerging o a b a b l) (sym none) (record {
-  same = λ k. refl;
-  first = ap steps_rise (append-nil a) ∙ h;
-  second = ap steps_rise (append-nil b) ∙ g;
-})
-
-pub first_rises : (o : ℕ) (a b xs ys ts : List StepValue) → IsMerging o a b xs ys ts → steps_rise xs ≡ true
-first_rises o a b xs ys ts g = rises_left xs ts g.first
-
-pub second_rises : (o : ℕ) (a b xs ys ts : List StepValue) → IsMerging o a b xs ys ts → steps_rise ys ≡ true
-second_rises o a b xs ys ts g = rises_left ys ts g.second
-
-pub end_rises : (o : ℕ) (a b xs ys ts : List StepValue) → IsMerging o a b xs ys ts → steps_rise ts ≡ true
-end_rises o a b xs ys ts g = rises_right xs ts g.first
-
-later_zero : (o : ℕ) → later o 0 0 ≡ 0
-later_zero o = by (nat_lt o 0)
-  where
-    by : (b : Bool) → ◌≡◌ {A = ℕ} (cond b 0 0) 0
-    by true = refl
-    by false = refl
-
-pub end_same : (o : ℕ) (a b xs ys ts : List StepValue) → IsMerging o a b xs ys ts → xs ≡ [] → ys ≡ [] → (k : Bytes) → number_at ts k ≡ later o (number_at a k) (number_at b k)
-end_same o a b xs ys ts g no_xs no_ys k = ap (λ n. number_from n ts k) (sym (later_zero o)) ∙ (λ i. number_from (later o (number_at (sym no_xs i) k) (number_at (sym no_ys i) k)) ts k) ∙ g.same k
 
 -- ---- which list ends above the other
 

@@ -1,57 +1,19 @@
 -- The greatest numbers of several runs.
-use Rattle.std.proofs.Common.{◌≡◌, ◌≤◌, ◌<◌, ℕ, zero, suc, Bool, true, false, cond, List, [], ◌∷◌, ◌++◌, Option, Some, None, length, get_or, drop, refl, sym, ap, ◌∙◌, arith, inl, inr}
-use Rattle.std.specs.Prelude.{nat_lt, max, ◌==◌}
-use Rattle.std.specs.Vec.{vec_len}
-use Rattle.std.specs.List.{filter}
-use Rattle.std.proofs.lemmas.Bool.{lt-ltb, le-ltb, ltb-false, eqb-true, cases_lt}
+use Rattle.std.proofs.Common.{◌≡◌, ◌-◌, ◌+◌, ◌≤◌, ◌<◌, ℕ, zero, suc, Bool, true, false, cond, List, [], ◌∷◌, ◌++◌, Option, Some, None, length, get_or, drop, refl, sym, ap, ◌∙◌, arith, inl, inr}
+use Rattle.std.specs.Prelude.{nat_lt, max}
+use Rattle.std.specs.VecDeque.{deque_len}
+use Rattle.std.specs.List.{remove}
+use Rattle.std.proofs.Math.ListN.{set}
+use Rattle.std.proofs.lemmas.Bool.{lt-ltb, le-ltb, cases_lt}
 use Rattle.std.proofs.Math.Seq.{drop-cons}
+use Rattle.std.proofs.lemmas.List.{set-get_or}
 use Rattle.model.specs.Map.{Bytes}
 use Rattle.last_readers.specs.declared.run.Run.{Run}
-use Rattle.last_readers.specs.Steps.{StepValue, number_at, in_place_of}
+use Rattle.last_readers.specs.Steps.{StepValue, number_at, number_in, merged_at, in_place_of}
 use Rattle.last_readers.specs.Readers.{cut, greatest_at}
-use Rattle.last_readers.specs.Merging.{later}
-use Rattle.last_readers.specs.Inside.{steps_in}
-use Rattle.last_readers.proofs.StepLaws.{in_place_low}
-
--- ---- numbers above another
-
-cut_above : (o n : ℕ) → o < n → cut o n ≡ n
-cut_above o n h = ap (λ b. cond b n 0) (lt-ltb o n h)
-
-cut_below : (o n : ℕ) → n ≤ o → cut o n ≡ 0
-cut_below o n h = ap (λ b. cond b n 0) (le-ltb o n h)
-
-pub cut_low : (o n : ℕ) → cut o n ≤ n
-cut_low o n = by (nat_lt o n)
-  where
-    by : (b : Bool) → cond b n 0 ≤ n
-    by true = omega arith
-    by false = omega arith
-
-cut_max : (o a b : ℕ) → cut o (max a b) ≡ max (cut o a) (cut o b)
-cut_max o a b = elim (cases_lt o a) [
-  | inl h ↦ elim (cases_lt o b) [
-    | inl g ↦ cut_above o (max a b) (omega arith) ∙ sym (λ i. max (cut_above o a h i) (cut_above o b g i))
-    | inr g ↦ let e : max a b ≡ a = omega arith in let z : max a 0 ≡ a = omega arith in ap (cut o) e ∙ cut_above o a h ∙ sym z ∙ sym (λ i. max (cut_above o a h i) (cut_below o b g i))
-  ]
-  | inr h ↦ elim (cases_lt o b) [
-    | inl g ↦ let e : max a b ≡ b = omega arith in let z : max 0 b ≡ b = omega arith in ap (cut o) e ∙ cut_above o b g ∙ sym z ∙ sym (λ i. max (cut_below o a h i) (cut_above o b g i))
-    | inr g ↦ cut_below o (max a b) (omega arith) ∙ sym (λ i. max (cut_below o a h i) (cut_below o b g i))
-  ]
-]
-
--- above the later of two
-pub cut_twice : (o m n : ℕ) → o ≤ m → cut m (cut o n) ≡ cut m n
-cut_twice o m n le = elim (cases_lt o n) [
-  | inl h ↦ ap (cut m) (cut_above o n h)
-  | inr h ↦ ap (cut m) (cut_below o n h) ∙ cut_below m 0 (omega arith) ∙ sym (cut_below m n (omega arith))
-]
-
-pub cut_cut : (o m n : ℕ) → o ≤ m → cut o (cut m n) ≡ cut m n
-cut_cut o m n le = elim (cases_lt m n) [
-  | inl h ↦ ap (cut o) (cut_above m n h) ∙ cut_above o n (omega arith) ∙ sym (cut_above m n h)
-  | inr h ↦ ap (cut o) (cut_below m n h) ∙ cut_below o 0 (omega arith) ∙ sym (cut_below m n h)
-]
+use Rattle.last_readers.specs.Inside.{run_of, runs_in}
+use Rattle.last_readers.proofs.StepLaws.{in_place_low, at_rest, none_made}
+use Rattle.last_readers.proofs.Cuts.{cut_above, cut_below, cut_low, cut_max}
 
 -- ---- runs
 
@@ -61,77 +23,79 @@ max_assoc a b c = omega arith
 max_zero : (a : ℕ) → max a 0 ≡ max 0 a
 max_zero a = omega arith
 
-pub greatest_push : (rs : List Run) (r : Run) (k : Bytes) → greatest_at (steps_in (rs ++ r ∷ [])) k ≡ max (greatest_at (steps_in rs) k) (number_at r.steps.items k)
-greatest_push [] r k = max_zero (number_at r.steps.items k)
-greatest_push (q ∷ rs) r k = ap (max (number_at q.steps.items k)) (greatest_push rs r k) ∙ max_assoc (number_at q.steps.items k) (greatest_at (steps_in rs) k) (number_at r.steps.items k)
-
-pub greatest_added : (rs rs' : List Run) (r : Run) (k : Bytes) → rs' ≡ rs ++ r ∷ [] → greatest_at (steps_in rs') k ≡ max (greatest_at (steps_in rs) k) (number_at r.steps.items k)
-greatest_added rs rs' r k is = ap (λ l. greatest_at (steps_in l) k) is ∙ greatest_push rs r k
-
--- a run without steps
-pub empty_run : (r : Run) (g : ℕ) (k : Bytes) → true ≡ (vec_len r.steps == 0) → g ≡ max g (number_at r.steps.items k)
-empty_run r g k e =
-    let none = eqb-true (vec_len r.steps) 0 (sym e) in
-    let len = r.steps.ok.0 in
-    by r.steps.items (omega (arith, none, len))
+pub greatest_added : (rs rs' : List Run) (r : Run) (k : Bytes) → rs' ≡ rs ++ r ∷ [] → greatest_at (runs_in rs') k ≡ max (greatest_at (runs_in rs) k) (number_in (run_of r) k)
+greatest_added rs rs' r k is = ap (λ l. greatest_at (runs_in l) k) is ∙ pushed rs
   where
-    by : (ss : List StepValue) → length ss ≡ 0 → g ≡ max g (number_at ss k)
-    by [] h = omega arith
-    by (s ∷ ss) h = absurd (omega arith)
+    pushed : (rs : List Run) → greatest_at (runs_in (rs ++ r ∷ [])) k ≡ max (greatest_at (runs_in rs) k) (number_in (run_of r) k)
+    pushed [] = max_zero (number_in (run_of r) k)
+    pushed (q ∷ rs) = ap (max (number_in (run_of q) k)) (pushed rs) ∙ max_assoc (number_in (run_of q) k) (greatest_at (runs_in rs) k) (number_in (run_of r) k)
 
--- the last two runs were taken off
-pub two_popped : (rs left before : List Run) (first second : Run) (k : Bytes) → rs ≡ left ++ second ∷ [] → left ≡ before ++ first ∷ [] →
-    max (max (greatest_at (steps_in before) k) (number_at first.steps.items k)) (number_at second.steps.items k) ≡ greatest_at (steps_in rs) k
-two_popped rs left before first second k is was = sym (greatest_added left rs second k is ∙ ap (λ n. max n (number_at second.steps.items k)) (greatest_added before left first k was))
+-- a run and the others
+put_in : (rs : List Run) (i : ℕ) (r : Run) (k : Bytes) → i < length rs → greatest_at (runs_in (set rs i r)) k ≡ max (number_in (run_of r) k) (greatest_at (runs_in (remove rs i)) k)
+put_in [] i r k lt = absurd (omega arith)
+put_in (q ∷ rs) zero r k lt = refl
+put_in (q ∷ rs) (suc i) r k lt =
+    let n = number_in (run_of q) k in
+    let m = number_in (run_of r) k in
+    let rest = greatest_at (runs_in (remove rs i)) k in
+    let turn : max n (max m rest) ≡ max m (max n rest) = omega arith in
+    ap (max n) (put_in rs i r k (omega arith)) ∙ turn
 
--- two runs as one
-pub later_of_both : (o g a b : ℕ) → cut o (max g (later o a b)) ≡ cut o (max (max g a) b)
-later_of_both o g a b =
-    cut_max o g (later o a b) ∙ ap (max (cut o g)) (cut_twice o o (max a b) (omega arith)) ∙ sym (cut_max o g (max a b)) ∙ ap (cut o) (max_assoc g a b)
+pub taken_out : (rs : List Run) (i : ℕ) (r : Run) (k : Bytes) → i < length rs → r ≡ get_or rs i r → greatest_at (runs_in rs) k ≡ max (number_in (run_of r) k) (greatest_at (runs_in (remove rs i)) k)
+taken_out rs i r k lt is = ap (λ (l : List Run). greatest_at (runs_in l) k) (sym (ap (set rs i) is ∙ set-get_or rs i r)) ∙ put_in rs i r k lt
 
--- runs up to the number are left out
-pub later_runs : (o : ℕ) (rs : List Run) (k : Bytes) → cut o (greatest_at (steps_in (filter (λ r. nat_lt o r.last) rs)) k) ≡ cut o (greatest_at (steps_in rs) k)
-later_runs o [] k = refl
-later_runs o (r ∷ rs) k = by (nat_lt o r.last) refl (later_runs o rs k)
-  where
-    by : (b : Bool) → nat_lt o r.last ≡ b → cut o (greatest_at (steps_in (filter (λ r. nat_lt o r.last) rs)) k) ≡ cut o (greatest_at (steps_in rs) k) →
-        cut o (greatest_at (steps_in (cond b (r ∷ filter (λ r. nat_lt o r.last) rs) (filter (λ r. nat_lt o r.last) rs))) k) ≡ cut o (max (number_at r.steps.items k) (greatest_at (steps_in rs) k))
-    by true e rest = cut_max o (number_at r.steps.items k) _ ∙ ap (max (cut o (number_at r.steps.items k))) rest ∙ sym (cut_max o (number_at r.steps.items k) (greatest_at (steps_in rs) k))
-    by false e rest =
-        let old = r.upto k in
-        let late = ltb-false o r.last e in
-        rest ∙ zero_max (cut o (greatest_at (steps_in rs) k))
-        ∙ ap (λ n. max n (cut o (greatest_at (steps_in rs) k))) (sym (cut_below o (number_at r.steps.items k) (omega arith)))
-        ∙ sym (cut_max o (number_at r.steps.items k) (greatest_at (steps_in rs) k))
-      where
-        zero_max : (n : ℕ) → n ≡ max 0 n
-        zero_max n = omega arith
+-- another in the place of a run, with the same numbers where those up to o count as none
+pub changed : (o : ℕ) (rs : List Run) (i : ℕ) (was is : Run) (k : Bytes) → i < length rs → was ≡ get_or rs i was → cut o (number_in (run_of is) k) ≡ cut o (number_in (run_of was) k) → cut o (greatest_at (runs_in (set rs i is)) k) ≡ cut o (greatest_at (runs_in rs) k)
+changed o rs i was is k lt at same =
+    let rest = greatest_at (runs_in (remove rs i)) k in
+    ap (cut o) (put_in rs i is k lt) ∙ cut_max o (number_in (run_of is) k) rest ∙ ap (λ n. max n (cut o rest)) same
+    ∙ sym (ap (cut o) (taken_out rs i was k lt at) ∙ cut_max o (number_in (run_of was) k) rest)
+
+-- one run in the place of two
+pub opened : (rs left : List Run) (i : ℕ) (first second is : Run) (k : Bytes) → i < length rs → i - 1 < length left → left ≡ remove rs i → second ≡ get_or rs i second → first ≡ get_or left (i - 1) first
+    → number_in (run_of is) k ≡ max (number_in (run_of first) k) (number_in (run_of second) k) → greatest_at (runs_in (set left (i - 1) is)) k ≡ greatest_at (runs_in rs) k
+opened rs left i first second is k lt within without second_is first_is same =
+    let rest = greatest_at (runs_in (remove left (i - 1))) k in
+    let n = number_in (run_of first) k in
+    let m = number_in (run_of second) k in
+    let turn : max (max n m) rest ≡ max m (max n rest) = omega arith in
+    put_in left (i - 1) is k within ∙ ap (λ x. max x rest) same ∙ turn
+    ∙ ap (max m) (sym (taken_out left (i - 1) first k within first_is) ∙ ap (λ (l : List Run). greatest_at (runs_in l) k) without)
+    ∙ sym (taken_out rs i second k lt second_is)
+
+-- two runs at rest, of which nothing was made yet
+pub joined_runs : (first second : Run) (xs made : List StepValue) (k : Bytes) → deque_len first.first + deque_len first.second ≡ 0 → deque_len second.first + deque_len second.second ≡ 0 → xs ≡ first.made.items → 0 ≡ length made
+    → merged_at xs second.made.items made k ≡ max (number_in (run_of first) k) (number_in (run_of second) k)
+joined_runs first second xs made k rest rests is none =
+    none_made xs second.made.items made (number_in (run_of first) k) (number_in (run_of second) k) k none
+    (at_rest first.first.items first.second.items first.made.items (deque_len first.first) (deque_len first.second) k first.first.ok.0 first.second.ok.0 rest ∙ ap (λ (l : List StepValue). number_at l k) (sym is))
+    (at_rest second.first.items second.second.items second.made.items (deque_len second.first) (deque_len second.second) k second.first.ok.0 second.second.ok.0 rests)
 
 -- ---- a look-up in one run after another
 
 -- what was found and what is left of the runs decide
 abbrev pub Decides : ℕ → List Run → Bytes → ℕ → ℕ → Type 0
-Decides b rs k i g = cut b (max g (greatest_at (steps_in (drop i rs)) k)) ≡ cut b (greatest_at (steps_in rs) k)
+Decides b rs k i g = cut b (max g (greatest_at (runs_in (drop i rs)) k)) ≡ cut b (greatest_at (runs_in rs) k)
 
 pub begun : (b : ℕ) (rs : List Run) (k : Bytes) → Decides b rs k 0 0
-begun b rs k = let z : max 0 (greatest_at (steps_in rs) k) ≡ greatest_at (steps_in rs) k = omega arith in ap (cut b) z
+begun b rs k = let z : max 0 (greatest_at (runs_in rs) k) ≡ greatest_at (runs_in rs) k = omega arith in ap (cut b) z
 
-pub next_run : (b : ℕ) (rs : List Run) (k : Bytes) (i : ℕ) (r : Run) (g g' : ℕ) → i < length rs → r ≡ get_or rs i r → cut b g' ≡ cut b (max g (number_at r.steps.items k)) → Decides b rs k i g → Decides b rs k (suc i) g'
+pub next_run : (b : ℕ) (rs : List Run) (k : Bytes) (i : ℕ) (r : Run) (g g' : ℕ) → i < length rs → r ≡ get_or rs i r → cut b g' ≡ cut b (max g (number_in (run_of r) k)) → Decides b rs k i g → Decides b rs k (suc i) g'
 next_run b rs k i r g g' lt is same h =
-    let rest = greatest_at (steps_in (drop (suc i) rs)) k in
-    let n = number_at r.steps.items k in
+    let rest = greatest_at (runs_in (drop (suc i) rs)) k in
+    let n = number_in (run_of r) k in
     cut_max b g' rest ∙ ap (λ m. max m (cut b rest)) same ∙ sym (cut_max b (max g n) rest) ∙ ap (cut b) (sym (max_assoc g n rest))
-    ∙ ap (λ (l : List Run). cut b (max g (greatest_at (steps_in l) k))) (sym (drop-cons rs i r lt ∙ ap (λ q. q ∷ drop (suc i) rs) (sym is))) ∙ h
+    ∙ ap (λ (l : List Run). cut b (max g (greatest_at (runs_in l) k))) (sym (drop-cons rs i r lt ∙ ap (λ q. q ∷ drop (suc i) rs) (sym is))) ∙ h
 
 -- a run that has no number above b
-pub passed_over : (b g : ℕ) (r : Run) (k : Bytes) → r.last ≤ b → cut b g ≡ cut b (max g (number_at r.steps.items k))
+pub passed_over : (b g : ℕ) (r : Run) (k : Bytes) → r.last ≤ b → cut b g ≡ cut b (max g (number_in (run_of r) k))
 passed_over b g r k le =
     let old = r.upto k in
     let z : max (cut b g) 0 ≡ cut b g = omega arith in
-    sym (cut_max b g (number_at r.steps.items k) ∙ ap (max (cut b g)) (cut_below b (number_at r.steps.items k) (omega arith)) ∙ z)
+    sym (cut_max b g (number_in (run_of r) k) ∙ ap (max (cut b g)) (cut_below b (number_in (run_of r) k) (omega arith)) ∙ z)
 
-pub no_run_left : (b : ℕ) (rs : List Run) (k : Bytes) (i g : ℕ) → length rs ≤ i → Decides b rs k i g → cut b g ≡ cut b (greatest_at (steps_in rs) k)
-no_run_left b rs k i g le h = let z : max g 0 ≡ g = omega arith in ap (cut b) (sym z) ∙ ap (λ (l : List Run). cut b (max g (greatest_at (steps_in l) k))) (sym (drop_past rs i le)) ∙ h
+pub no_run_left : (b : ℕ) (rs : List Run) (k : Bytes) (i g : ℕ) → length rs ≤ i → Decides b rs k i g → cut b g ≡ cut b (greatest_at (runs_in rs) k)
+no_run_left b rs k i g le h = let z : max g 0 ≡ g = omega arith in ap (cut b) (sym z) ∙ ap (λ (l : List Run). cut b (max g (greatest_at (runs_in l) k))) (sym (drop_past rs i le)) ∙ h
   where
     drop_past : (rs : List Run) (i : ℕ) → length rs ≤ i → drop i rs ≡ []
     drop_past [] zero le = refl

@@ -1,6 +1,6 @@
 -- Steps by rising key, and the numbers at keys below, between and above them.
-use Rattle.std.proofs.Common.{◌≡◌, ◌≤◌, ◌<◌, ◌-◌, ℕ, zero, suc, Bool, true, false, cond, ◌&&◌, List, [], ◌∷◌, ◌++◌, Option, Some, length, get_or, take, drop, map, refl, sym, ap, ◌∙◌, arith}
-use Rattle.std.specs.Prelude.{slice_get, ◌==◌}
+use Rattle.std.proofs.Common.{◌≡◌, ◌≤◌, ◌<◌, ◌-◌, ℕ, zero, suc, Bool, true, false, cond, ◌&&◌, List, [], ◌∷◌, ◌++◌, Option, Some, length, get_or, take, drop, map, ◌+◌, refl, sym, ap, ◌∙◌, arith}
+use Rattle.std.specs.Prelude.{max, slice_get, ◌==◌}
 use Rattle.std.specs.List.{list_all}
 use Rattle.std.specs.List.Sorted.{IsPartitionedBy, IsPartitionPoint}
 use Rattle.std.specs.declared.cmp.Ordering.{Ordering}
@@ -8,9 +8,10 @@ use Rattle.std.specs.declared.cmp.Ordering.TheVariants.{Less, Equal, Greater}
 use Rattle.std.specs.Ordering.{is_eq, is_le, is_lt, ordering_reverse}
 use Rattle.std.specs.Cmp.Lexicographic.{nat_list_cmp_total}
 use Rattle.std.proofs.lemmas.Bool.{both_ways, and_parts, and_from}
-use Rattle.std.proofs.lemmas.List.{take-append-drop}
+use Rattle.std.proofs.lemmas.Option.{slice_get_read}
+use Rattle.std.proofs.lemmas.List.{take-append-drop, take_more, append-nil}
 use Rattle.model.specs.Map.{Bytes, key_cmp}
-use Rattle.last_readers.specs.Steps.{StepValue, by_order, number_from, number_at, end_from, end_of, are_over, steps_rise, are_upto, are_under, in_place_of, renumbered}
+use Rattle.last_readers.specs.Steps.{StepValue, by_order, number_from, number_at, merged_at, end_from, end_of, are_over, steps_rise, are_under, in_place_of, renumbered}
 use Rattle.last_readers.proofs.KeyOrder.{less, turned, turned_less, less_trans, lt_trans, lt_le_trans, le_of_lt, lt_of_not_le}
 
 -- ---- lists that rise
@@ -107,6 +108,10 @@ number_push b (x ∷ xs) w k h = ap (by_order (key_cmp k x.key) b x.at) (number_
 last_later : (x : StepValue) (l : List StepValue) → 0 < length l → slice_get (x ∷ l) (length (x ∷ l) - 1) ≡ slice_get l (length l - 1)
 last_later x l some = let e : suc (length l) - 1 ≡ suc (length l - 1) = omega arith in ap (λ n. slice_get (x ∷ l) n) e
 
+-- the last of a queue of n steps
+pub back_is : (xs : List StepValue) (n : ℕ) (w : StepValue) → n ≡ length xs → 0 < n → w ≡ get_or xs (n - 1) w → Some w ≡ slice_get xs (length xs - 1)
+back_is xs n w len some is = sym (ap (λ m. slice_get xs (m - 1)) (sym len) ∙ slice_get_read xs n (n - 1) w len (omega arith) is)
+
 -- the last of a list, behind the others
 pub last_of : (xs : List StepValue) (w : StepValue) → Some w ≡ slice_get xs (length xs - 1) → (init : List StepValue) × (xs ≡ init ++ w ∷ [])
 last_of [] w e = absurd cc
@@ -133,23 +138,6 @@ under_last xs w k e rise lt =
     ap (are_under k) split.1 ∙ all-append (λ s. is_lt (key_cmp s.key k)) split.0 (w ∷ [])
     ∙ and_from _ _ (under_more w.key k split.0 (ap is_le lt) sides.under) (and_from _ _ (ap is_lt lt) refl)
 
-last_upto : (xs : List StepValue) (w : StepValue) (k : Bytes) → Some w ≡ slice_get xs (length xs - 1) → are_upto k xs ≡ true → is_le (key_cmp w.key k) ≡ true
-last_upto xs w k e upto =
-    let split = last_of xs w e in
-    (and_parts _ _ (and_parts _ _ (sym (all-append (λ s. is_le (key_cmp s.key k)) split.0 (w ∷ [])) ∙ ap (are_upto k) (sym split.1) ∙ upto)).1).0
-
--- it decides the number at a key that no step is above
-pub last_decides : (xs : List StepValue) (w : StepValue) (k : Bytes) → Some w ≡ slice_get xs (length xs - 1) → steps_rise xs ≡ true → are_upto k xs ≡ true → cond (is_eq (key_cmp w.key k)) w.at w.above ≡ number_at xs k
-last_decides xs w k e rise upto =
-    let split = last_of xs w e in
-    let sides = around split.0 w [] (ap steps_rise (sym split.1) ∙ rise) in
-    sym (ap (λ l. number_at l k) split.1 ∙ number_push 0 split.0 w k sides.under ∙ ap (λ o. by_order o (number_at split.0 k) w.at w.above) (turned k w.key) ∙ by (number_at split.0 k) (key_cmp w.key k) (last_upto xs w k e upto))
-  where
-    by : (n : ℕ) (o : Ordering) → is_le o ≡ true → by_order (ordering_reverse o) n w.at w.above ≡ cond (is_eq o) w.at w.above
-    by n Less g = refl
-    by n Equal g = refl
-    by n Greater g = absurd (both_ways false refl g)
-
 -- ---- the binary search
 
 le_le : (a b c : Bytes) → is_lt (key_cmp a b) ≡ true → is_le (key_cmp b c) ≡ true → is_le (key_cmp a c) ≡ true
@@ -173,23 +161,32 @@ IsEnd k ss i = IsPartitionPoint (λ s. is_le (key_cmp s.key k) ≡ true) (λ s. 
 later_end : (k : Bytes) (s : StepValue) (ss : List StepValue) (i : ℕ) → IsEnd k (s ∷ ss) (suc i) → IsEnd k ss i
 later_end k s ss i h = ((λ j d at_least lt. h.0 (suc j) d (omega arith) (omega arith)), (λ j d at_least lt. h.1 (suc j) d (omega arith) (omega arith)))
 
-pub front_upto : (k : Bytes) (ss : List StepValue) (i : ℕ) → i ≤ length ss → IsEnd k ss i → are_upto k (take i ss) ≡ true
-front_upto k ss zero le h = refl
-front_upto k [] (suc i) le h = refl
-front_upto k (s ∷ ss) (suc i) le h = and_from _ _ (h.0 0 s (omega arith) (omega arith)) (front_upto k ss i (omega arith) (later_end k s ss i h))
-
 rest_over : (k : Bytes) (ss : List StepValue) (i : ℕ) → i ≤ length ss → IsEnd k ss i → are_over k (drop i ss) ≡ true
 rest_over k [] zero le h = refl
 rest_over k [] (suc i) le h = refl
 rest_over k (s ∷ ss) zero le h = and_from _ _ (lt_of_not_le s.key k (h.1 0 s (omega arith) (omega arith))) (rest_over k ss zero (omega arith) ((λ j d at_least lt. absurd (omega arith)), (λ j d at_least lt. h.1 (suc j) d (omega arith) (omega arith))))
 rest_over k (s ∷ ss) (suc i) le h = rest_over k ss i (omega arith) (later_end k s ss i h)
 
-pub front_rises : (ss : List StepValue) (i : ℕ) → steps_rise ss ≡ true → steps_rise (take i ss) ≡ true
+front_rises : (ss : List StepValue) (i : ℕ) → steps_rise ss ≡ true → steps_rise (take i ss) ≡ true
 front_rises ss i h = rises_left (take i ss) (drop i ss) (ap steps_rise (take-append-drop i ss) ∙ h)
 
--- the steps up to the key decide
-pub found : (k : Bytes) (ss : List StepValue) (i : ℕ) → i ≤ length ss → IsEnd k ss i → number_at (take i ss) k ≡ number_at ss k
-found k ss i le h = sym (ap (λ l. number_at l k) (sym (take-append-drop i ss)) ∙ front_decides 0 (take i ss) (drop i ss) k (rest_over k ss i le h))
+-- no step is at the key or below it
+pub found_none : (b : ℕ) (k : Bytes) (ss : List StepValue) → IsEnd k ss 0 → number_from b ss k ≡ b
+found_none b k ss h = low b ss k (rest_over k ss 0 (omega arith) h)
+
+-- the last step that isn't above the key decides
+pub found : (b : ℕ) (k : Bytes) (ss : List StepValue) (i : ℕ) (w : StepValue) → i < length ss → w ≡ get_or ss i w → steps_rise ss ≡ true → IsEnd k ss (i + 1) → cond (is_eq (key_cmp w.key k)) w.at w.above ≡ number_from b ss k
+found b k ss i w lt is rise h =
+    let front = take_more ss i w lt ∙ ap (λ (s : StepValue). take i ss ++ s ∷ []) (sym is) in
+    let sides = around (take i ss) w [] (ap steps_rise (sym front) ∙ front_rises ss (i + 1) rise) in
+    sym (ap (λ l. number_from b l k) (sym (take-append-drop (i + 1) ss)) ∙ front_decides b (take (i + 1) ss) (drop (i + 1) ss) k (rest_over k ss (i + 1) (omega arith) h)
+    ∙ ap (λ l. number_from b l k) front ∙ number_push b (take i ss) w k sides.under ∙ ap (λ o. by_order o (number_from b (take i ss) k) w.at w.above) (turned k w.key)
+    ∙ by (number_from b (take i ss) k) (key_cmp w.key k) (ap (λ (s : StepValue). is_le (key_cmp s.key k)) is ∙ h.0 i w (omega arith) (omega arith)))
+  where
+    by : (n : ℕ) (o : Ordering) → is_le o ≡ true → by_order (ordering_reverse o) n w.at w.above ≡ cond (is_eq o) w.at w.above
+    by n Less g = refl
+    by n Equal g = refl
+    by n Greater g = absurd (both_ways false refl g)
 
 -- ---- another number
 
@@ -210,7 +207,7 @@ renumbered_from n b (s ∷ ss) k = ap (by_order (key_cmp k s.key) (in_place_of n
     by Equal = refl
     by Greater = refl
 
-pub renumbered_at : (n : ℕ) (ss : List StepValue) (k : Bytes) → number_at (map (renumbered n) ss) k ≡ in_place_of n (number_at ss k)
+renumbered_at : (n : ℕ) (ss : List StepValue) (k : Bytes) → number_at (map (renumbered n) ss) k ≡ in_place_of n (number_at ss k)
 renumbered_at n ss k = renumbered_from n 0 ss k
 
 pub in_place_low : (n was : ℕ) → in_place_of n was ≤ n
@@ -219,3 +216,27 @@ in_place_low n was = by (was == 0)
     by : (b : Bool) → cond b 0 n ≤ n
     by true = omega arith
     by false = omega arith
+
+-- ---- two lists and what was made of their ends
+
+pub at_rest : (xs ys ts : List StepValue) (n m : ℕ) (k : Bytes) → n ≡ length xs → m ≡ length ys → n + m ≡ 0 → merged_at xs ys ts k ≡ number_at ts k
+at_rest [] [] ts n m k h g none = refl
+at_rest [] (y ∷ ys) ts n m k h g none = absurd (omega arith)
+at_rest (x ∷ xs) ys ts n m k h g none = absurd (omega arith)
+
+-- nothing was made yet
+pub none_made : (xs ys ts : List StepValue) (n m : ℕ) (k : Bytes) → 0 ≡ length ts → n ≡ number_at xs k → m ≡ number_at ys k → merged_at xs ys ts k ≡ max n m
+none_made xs ys [] n m k none h g = sym (λ i. max (h i) (g i))
+none_made xs ys (t ∷ ts) n m k none h g = absurd (omega arith)
+
+pub rises_with : (xs ts : List StepValue) → 0 ≡ length ts → steps_rise xs ≡ true → steps_rise (xs ++ ts) ≡ true
+rises_with xs [] none h = ap steps_rise (append-nil xs) ∙ h
+rises_with xs (t ∷ ts) none h = absurd (omega arith)
+
+-- at rest, with other numbers
+pub renumbered_run : (n : ℕ) (xs ys ts ss : List StepValue) (k : Bytes) → xs ≡ [] → ys ≡ [] → ts ≡ map (renumbered n) ss → merged_at xs ys ts k ≡ in_place_of n (number_at ss k)
+renumbered_run n xs ys ts ss k no_xs no_ys is = (λ i. merged_at (no_xs i) (no_ys i) (is i) k) ∙ renumbered_at n ss k
+
+pub no_items : (xs : List StepValue) (n : ℕ) → n ≡ length xs → n ≡ 0 → xs ≡ []
+no_items [] n len none = refl
+no_items (x ∷ xs) n len none = absurd (omega arith)

@@ -1,11 +1,14 @@
 -- What a `LastReaders` holds as contracts see it.
 use Rattle.std.specs.Prelude.{List, Option, map, option_map}
+use Rattle.last_readers.specs.declared.run.Ready.{Ready}
 use Rattle.last_readers.specs.declared.run.Run.{Run}
-use Rattle.last_readers.specs.Steps.{StepValue}
+use Rattle.last_readers.specs.Steps.{StepValue, RunValue}
 
--- the steps of each run
-abbrev pub steps_in : List Run → List (List StepValue)
-steps_in rs = map (λ r. r.steps.items) rs
+abbrev pub run_of : Run → RunValue
+run_of r = record { first = r.first.items; second = r.second.items; made = r.made.items }
 
-abbrev pub ready_of : Option Run → Option (List StepValue)
+abbrev pub runs_in : List Run → List RunValue
+runs_in rs = map run_of rs
+
+abbrev pub ready_of : Option Ready → Option (List StepValue)
 ready_of ready = option_map (λ r. r.steps.items) ready

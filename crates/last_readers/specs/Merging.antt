@@ -2,7 +2,7 @@
 use Rattle.std.specs.Prelude.{◌≡◌, ◌<◌, ℕ, max, true, List, length, [], ◌∷◌, ◌++◌, ◌⊎◌}
 use Rattle.std.specs.declared.cmp.Ordering.TheVariants.{Less}
 use Rattle.model.specs.Map.{Bytes, key_cmp}
-use Rattle.last_readers.specs.Steps.{StepValue, number_at, number_from, end_of, steps_rise, are_under}
+use Rattle.last_readers.specs.Steps.{StepValue, number_at, end_of, steps_rise, are_under}
 use Rattle.last_readers.specs.Readers.{cut}
 
 -- the number that is kept of two: the greater, where it is above o
@@ -38,9 +38,3 @@ pub record IsJoined (o : ℕ) (xs xs' ys ys' : List StepValue) (m : StepValue) :
 -- m was put in front, or says no more than that all numbers from it on are those below it
 abbrev pub IsAdded : StepValue → ℕ → List StepValue → List StepValue → Type 0
 IsAdded m below ts ts' = (ts' ≡ m ∷ ts) ⊎ ((m.at ≡ below) × (m.above ≡ below) × (ts' ≡ ts))
-
--- what is left of a and b, and what was taken from their ends, are a and b, and rise
-pub record IsMerging (o : ℕ) (a b xs ys taken : List StepValue) : Type 0 where
-  pub same : (k : Bytes) → number_from (later o (number_at xs k) (number_at ys k)) taken k ≡ later o (number_at a k) (number_at b k)
-  pub first : steps_rise (xs ++ taken) ≡ true
-  pub second : steps_rise (ys ++ taken) ≡ true

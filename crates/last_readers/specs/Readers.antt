@@ -2,11 +2,11 @@
 use Rattle.std.specs.Prelude.{◌≡◌, ℕ, ◌<◌, ◌≤◌, max, nat_lt, List, [], ◌∷◌, Option, Some, None, IsSome, if◌then◌else◌}
 use Rattle.model.specs.Map.{Bytes}
 use Rattle.model.specs.PrivateCopy.{Mark, is_covered}
-use Rattle.last_readers.specs.Steps.{StepValue, number_at}
+use Rattle.last_readers.specs.Steps.{StepValue, RunValue, number_at, number_in}
 
--- what is kept: numbers by key in several runs, those up to `oldest` counting as none
+-- what is kept: numbers by key in several runs, some of which may be being made of two, those up to `oldest` counting as none
 pub record Readers : Type 0 where
-  pub runs : List (List StepValue)
+  pub runs : List RunValue
   pub oldest : ℕ
 
 -- the memory that was made ready: free places for runs, and the steps of the marks of one transaction
@@ -23,9 +23,9 @@ abbrev pub cut : ℕ → ℕ → ℕ
 cut o n = if nat_lt o n then n else 0
 
 -- the greatest number that a run has at the key
-abbrev pub greatest_at : List (List StepValue) → Bytes → ℕ
+abbrev pub greatest_at : List RunValue → Bytes → ℕ
 greatest_at [] k = 0
-greatest_at (r ∷ rs) k = max (number_at r k) (greatest_at rs k)
+greatest_at (r ∷ rs) k = max (number_in r k) (greatest_at rs k)
 
 -- the number of the last commit after number `oldest` that read the key, 0 where none did
 abbrev pub last_reader : Readers → Bytes → ℕ

@@ -1,5 +1,5 @@
 -- Numbers by key as a step function: its steps by strictly rising key.
-use Rattle.std.specs.Prelude.{ℕ, Bool, true, ◌&&◌, ◌==◌, if◌then◌else◌, List, [], ◌∷◌}
+use Rattle.std.specs.Prelude.{ℕ, max, Bool, true, ◌&&◌, ◌==◌, if◌then◌else◌, List, [], ◌∷◌}
 use Rattle.std.specs.List.{list_all}
 use Rattle.std.specs.Ordering.{is_lt, is_le}
 use Rattle.std.specs.declared.cmp.Ordering.{Ordering}
@@ -27,6 +27,20 @@ number_from below (s ∷ ss) k = by_order (key_cmp k s.key) below s.at (number_f
 abbrev pub number_at : List StepValue → Bytes → ℕ
 number_at ss k = number_from 0 ss k
 
+-- the number at a key where two lists of steps are being merged from their ends: xs and ys are what is left of them, ts is what was made
+-- of their ends. Below ts it is the greater number of xs and ys
+abbrev pub merged_at : List StepValue → List StepValue → List StepValue → Bytes → ℕ
+merged_at xs ys ts k = number_from (max (number_at xs k) (number_at ys k)) ts k
+
+-- numbers by key that are made of two lists of steps
+pub record RunValue : Type 0 where
+  pub first : List StepValue
+  pub second : List StepValue
+  pub made : List StepValue
+
+abbrev pub number_in : RunValue → Bytes → ℕ
+number_in r k = merged_at r.first r.second r.made k
+
 -- the number at the keys above all steps
 abbrev pub end_from : ℕ → List StepValue → ℕ
 end_from below [] = below
@@ -43,10 +57,6 @@ are_over k ss = list_all (λ s. is_lt (key_cmp k s.key)) ss
 abbrev pub steps_rise : List StepValue → Bool
 steps_rise [] = true
 steps_rise (s ∷ ss) = are_over s.key ss && steps_rise ss
-
--- whether no step's key is above this one
-abbrev pub are_upto : Bytes → List StepValue → Bool
-are_upto k ss = list_all (λ s. is_le (key_cmp s.key k)) ss
 
 -- whether each step's key is below this one
 abbrev pub are_under : Bytes → List StepValue → Bool

@@ -12,6 +12,7 @@ use marks::{Held, MarkRef};
 use model::{Key, KeyRef, Memory};
 use std::alloc::Global;
 use std::cmp::Ordering;
+use std::collections::VecDeque;
 
 // A step at this key.
 fn step_at(alloc: Global, key: KeyRef<'_>, at: u64, above: u64) -> Result<Step, Memory>
@@ -21,38 +22,43 @@ fn step_at(alloc: Global, key: KeyRef<'_>, at: u64, above: u64) -> Result<Step, 
 }
 
 // One step, at this key.
-fn from_on(alloc: Global, lo: KeyRef<'_>, at: u64, above: u64) -> Result<Vec<Step>, Memory>
+fn from_on(alloc: Global, lo: KeyRef<'_>, at: u64, above: u64) -> Result<VecDeque<Step>, Memory>
     ensures { IfOk result (λ v. v.items ≡ record { key = lo.entry.bytes.now; at = at; above = above } ∷ []) }
 {
-    let mut steps = Vec::with_capacity(alloc, 1)?;
-    steps.push(step_at(alloc, lo, at, above)?)?;
+    let mut steps = VecDeque::with_capacity(alloc, 1)?;
+    steps.push_back(step_at(alloc, lo, at, above)?)?;
     Ok(steps)
 }
 
 // 1 from a key on, and from another on 0, but `at` at this itself.
-fn from_to(alloc: Global, lo: KeyRef<'_>, end: KeyRef<'_>, at: u64) -> Result<Vec<Step>, Memory>
+fn from_to(
+    alloc: Global,
+    lo: KeyRef<'_>,
+    end: KeyRef<'_>,
+    at: u64,
+) -> Result<VecDeque<Step>, Memory>
     ensures { IfOk result (λ v. v.items ≡ record { key = lo.entry.bytes.now; at = 1; above = 1 } ∷ record { key = end.entry.bytes.now; at = at; above = 0 } ∷ []) }
 {
-    let mut steps = Vec::with_capacity(alloc, 2)?;
-    steps.push(step_at(alloc, lo, 1, 1)?)?;
-    steps.push(step_at(alloc, end, at, 0)?)?;
+    let mut steps = VecDeque::with_capacity(alloc, 2)?;
+    steps.push_back(step_at(alloc, lo, 1, 1)?)?;
+    steps.push_back(step_at(alloc, end, at, 0)?)?;
     Ok(steps)
 }
 
 // 1 at the keys from `lo` to below `end`, and `at` at `end`, where that isn't below `lo`.
-fn span(alloc: Global, lo: KeyRef<'_>, end: KeyRef<'_>, at: u64) -> Result<Vec<Step>, Memory>
+fn span(alloc: Global, lo: KeyRef<'_>, end: KeyRef<'_>, at: u64) -> Result<VecDeque<Step>, Memory>
     ensures rising { IfOk result (λ v. IsTrue (steps_rise v.items)) }
     ensures span { IfOk result (λ v. (k : Bytes) → number_at v.items k ≡ span_at lo.entry.bytes.now end.entry.bytes.now at k) }
 {
     match lo.order(end) {
         Ordering::Less => from_to(alloc, lo, end, at),
         Ordering::Equal => from_on(alloc, lo, at, 0),
-        Ordering::Greater => Ok(Vec::new(alloc)),
+        Ordering::Greater => Ok(VecDeque::new(alloc)),
     }
 }
 
 // 1 at the keys that the mark covers, 0 at the others.
-fn steps_of_mark(alloc: Global, mark: MarkRef<'_>) -> Result<Vec<Step>, Memory>
+fn steps_of_mark(alloc: Global, mark: MarkRef<'_>) -> Result<VecDeque<Step>, Memory>
     ensures rising { IfOk result (λ v. IsTrue (steps_rise v.items)) }
     ensures covers { IfOk result (λ v. (k : Bytes) → number_at v.items k ≡ (if covers (lent_mark mark.entry) k then 1 else 0)) }
 {
@@ -67,19 +73,19 @@ fn steps_of_mark(alloc: Global, mark: MarkRef<'_>) -> Result<Vec<Step>, Memory>
 }
 
 // The same for the first mark, if there is one, and no other.
-fn steps_of_first(alloc: Global, marks: &[Held]) -> Result<Vec<Step>, Memory>
+fn steps_of_first(alloc: Global, marks: &[Held]) -> Result<VecDeque<Step>, Memory>
     requires { length marks.now ≤ 1 }
     ensures rising { IfOk result (λ v. IsTrue (steps_rise v.items)) }
     ensures covers { IfOk result (λ v. (k : Bytes) → number_at v.items k ≡ (if is_covered (marks_of marks.now) k then 1 else 0)) }
 {
     match marks.first() {
-        None => Ok(Vec::new(alloc)),
+        None => Ok(VecDeque::new(alloc)),
         Some(mark) => steps_of_mark(alloc, mark.lend()),
     }
 }
 
 // 1 at the keys that some mark covers, 0 at the others: each half of the marks by itself, and then both as one.
-pub(crate) fn steps_of(alloc: Global, marks: &[Held]) -> Result<Vec<Step>, Memory>
+pub(crate) fn steps_of(alloc: Global, marks: &[Held]) -> Result<VecDeque<Step>, Memory>
     ensures rising { IfOk result (λ v. IsTrue (steps_rise v.items)) }
     ensures covers { IfOk result (λ v. (k : Bytes) → number_at v.items k ≡ (if is_covered (marks_of marks.now) k then 1 else 0)) }
 {
@@ -89,6 +95,6 @@ pub(crate) fn steps_of(alloc: Global, marks: &[Held]) -> Result<Vec<Step>, Memor
     let middle = marks.len() / 2;
     let first = steps_of(alloc, &marks[..middle])?;
     let second = steps_of(alloc, &marks[middle..])?;
-    let places = Vec::with_capacity(alloc, first.len().saturating_add(second.len()))?;
-    Ok(merge(first, second, places, 0))
+    let places = VecDeque::with_capacity(alloc, first.len().saturating_add(second.len()))?;
+    Ok(merge(first, second, places))
 }

@@ -10,6 +10,7 @@ mod last_readers;
 mod merges;
 mod merging;
 mod run;
+mod stale;
 mod step;
 
 pub use last_readers::LastReaders;

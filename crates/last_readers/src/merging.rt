@@ -1,13 +1,15 @@
 //! Two lists of steps made into one.
-ghost use Rattle.std.specs.Prelude.{◌≡◌, ◌≤◌, ◌<◌, ◌+◌, IsTrue, Bool, true, false, List, ℕ, length, max, reverse};
-ghost use Rattle.std.specs.Vec.{vec_len, vec_capacity};
+ghost use Rattle.std.specs.Prelude.{◌≡◌, ◌≤◌, ◌<◌, ◌+◌, ◌++◌, IsTrue, Bool, true, false};
+ghost use Rattle.std.specs.VecDeque.{deque_len, deque_capacity};
 ghost use Rattle.std.specs.declared.cmp.Ordering.TheVariants.{Less, Equal, Greater};
 ghost use Rattle.model.specs.Map.{Bytes};
-ghost use Rattle.last_readers.specs.Steps.{StepValue, number_at, end_of, steps_rise};
-ghost use Rattle.last_readers.specs.Merging.{EndsOver, EndsEqual, IsJoined, IsAdded, IsMerging, later};
+ghost use Rattle.last_readers.specs.Steps.{number_at, end_of, steps_rise, merged_at};
+ghost use Rattle.last_readers.specs.Readers.{cut};
+ghost use Rattle.last_readers.specs.Merging.{EndsOver, EndsEqual, IsJoined, IsAdded, later};
 
 use crate::step::{Step, end_of};
 use std::cmp::Ordering;
+use std::collections::VecDeque;
 
 // The number that is kept of two: the greater, where it is above `oldest`.
 fn later(oldest: u64, first: u64, second: u64) -> u64
@@ -18,32 +20,32 @@ fn later(oldest: u64, first: u64, second: u64) -> u64
 }
 
 // Which of two lists has the greater key at its end. They aren't both empty.
-fn order_of_ends(first: &[Step], second: &[Step]) -> Ordering
-    requires some { 0 < length first.now + length second.now }
-    requires first { IsTrue (steps_rise first.now) }
-    requires second { IsTrue (steps_rise second.now) }
-    ensures greater { result ≡ Greater → EndsOver first.now second.now }
-    ensures less { result ≡ Less → EndsOver second.now first.now }
-    ensures equal { result ≡ Equal → EndsEqual first.now second.now }
+fn order_of_ends(first: &VecDeque<Step>, second: &VecDeque<Step>) -> Ordering
+    requires some { 0 < deque_len first.now + deque_len second.now }
+    requires first { IsTrue (steps_rise first.now.items) }
+    requires second { IsTrue (steps_rise second.now.items) }
+    ensures greater { result ≡ Greater → EndsOver first.now.items second.now.items }
+    ensures less { result ≡ Less → EndsOver second.now.items first.now.items }
+    ensures equal { result ≡ Equal → EndsEqual first.now.items second.now.items }
 {
-    let Some(x) = first.last() else {
+    let Some(x) = first.back() else {
         return Ordering::Less;
     };
-    let Some(y) = second.last() else {
+    let Some(y) = second.back() else {
         return Ordering::Greater;
     };
     x.key().order(y.key())
 }
 
 // Takes the last step off the first list, which has a greater key than the second at its end: the step in both as one.
-fn take_one(first: &mut Vec<Step>, second: &[Step], oldest: u64) -> Step
+fn take_one(first: &mut VecDeque<Step>, second: &VecDeque<Step>, oldest: u64) -> Step
     requires first { IsTrue (steps_rise first.old.items) }
-    requires ends { EndsOver first.old.items second.now }
-    ensures joined { IsJoined oldest first.old.items first.new.items second.now second.now result }
-    ensures len { length first.new.items + 1 ≡ length first.old.items }
+    requires ends { EndsOver first.old.items second.now.items }
+    ensures joined { IsJoined oldest first.old.items first.new.items second.now.items second.now.items result }
+    ensures len { deque_len first.new + 1 ≡ deque_len first.old }
 {
     let beyond = end_of(second);
-    let Some(step) = first.pop() else {
+    let Some(step) = first.pop_back() else {
         unreachable!()
     };
     let at = later(oldest, step.at(), beyond);
@@ -52,16 +54,18 @@ fn take_one(first: &mut Vec<Step>, second: &[Step], oldest: u64) -> Step
 }
 
 // Takes the last step off both lists, which have one key at their ends: both as one.
-fn take_both(first: &mut Vec<Step>, second: &mut Vec<Step>, oldest: u64) -> Step
+fn take_both(first: &mut VecDeque<Step>, second: &mut VecDeque<Step>, oldest: u64) -> Step
     requires first { IsTrue (steps_rise first.old.items) }
     requires second { IsTrue (steps_rise second.old.items) }
     requires ends { EndsEqual first.old.items second.old.items }
     ensures joined { IsJoined oldest first.old.items first.new.items second.old.items second.new.items result }
-    ensures first_len { length first.new.items + 1 ≡ length first.old.items }
-    ensures second_len { length second.new.items + 1 ≡ length second.old.items }
+    ensures first_len { deque_len first.new + 1 ≡ deque_len first.old }
+    ensures second_len { deque_len second.new + 1 ≡ deque_len second.old }
 {
-    let Some(x) = first.pop() else { unreachable!() };
-    let Some(y) = second.pop() else {
+    let Some(x) = first.pop_back() else {
+        unreachable!()
+    };
+    let Some(y) = second.pop_back() else {
         unreachable!()
     };
     let at = later(oldest, x.at(), y.at());
@@ -70,12 +74,13 @@ fn take_both(first: &mut Vec<Step>, second: &mut Vec<Step>, oldest: u64) -> Step
 }
 
 // Takes the greatest key off two lists: its step in both as one.
-fn take_greatest(first: &mut Vec<Step>, second: &mut Vec<Step>, oldest: u64) -> Step
-    requires some { 0 < length first.old.items + length second.old.items }
+fn take_greatest(first: &mut VecDeque<Step>, second: &mut VecDeque<Step>, oldest: u64) -> Step
+    requires some { 0 < deque_len first.old + deque_len second.old }
     requires first { IsTrue (steps_rise first.old.items) }
     requires second { IsTrue (steps_rise second.old.items) }
     ensures joined { IsJoined oldest first.old.items first.new.items second.old.items second.new.items result }
-    ensures left { length first.new.items + length second.new.items < length first.old.items + length second.old.items }
+    ensures fewer { deque_len first.new + deque_len second.new < deque_len first.old + deque_len second.old }
+    ensures two { deque_len first.old + deque_len second.old ≤ deque_len first.new + deque_len second.new + 2 }
 {
     match order_of_ends(first, second) {
         Ordering::Greater => take_one(first, second, oldest),
@@ -84,33 +89,38 @@ fn take_greatest(first: &mut Vec<Step>, second: &mut Vec<Step>, oldest: u64) -> 
     }
 }
 
-// Adds the step to the end of those that are above it, in the room that is there, unless it says no more than that the numbers from its key
+// Puts the step in front of those that are above it, in the room that is there, unless it says no more than that the numbers from its key
 // on are those below it.
-fn add_step(to: &mut Vec<Step>, step: Step, below: u64)
-    requires { length to.old.items < vec_capacity to.old }
-    ensures added { IsAdded step below (reverse to.old.items) (reverse to.new.items) }
-    ensures len { length to.new.items ≤ length to.old.items + 1 }
-    ensures capacity { vec_capacity to.old ≤ vec_capacity to.new }
+fn add_step(to: &mut VecDeque<Step>, step: Step, below: u64)
+    requires { deque_len to.old < deque_capacity to.old }
+    ensures added { IsAdded step below to.old.items to.new.items }
+    ensures len { deque_len to.new ≤ deque_len to.old + 1 }
+    ensures capacity { deque_capacity to.new ≡ deque_capacity to.old }
 {
-    if step.is_level(below) {
-        return;
-    }
-    match to.push(step) {
-        Ok(()) => {}
-        Err(_) => unreachable!(),
+    if !step.is_level(below) {
+        to.push_front_reserved(step);
     }
 }
 
-// Moves the greatest key of two lists to the end of a third, in the room that it has.
-fn move_greatest(first: &mut Vec<Step>, second: &mut Vec<Step>, to: &mut Vec<Step>, oldest: u64)
-    requires first { IsTrue (steps_rise first.old.items) }
-    requires second { IsTrue (steps_rise second.old.items) }
-    requires some { 0 < length first.old.items + length second.old.items }
-    requires room { length to.old.items < vec_capacity to.old }
-    ensures merging { (a b : List StepValue) → IsMerging oldest a b first.old.items second.old.items (reverse to.old.items) → IsMerging oldest a b first.new.items second.new.items (reverse to.new.items) }
-    ensures left { length first.new.items + length second.new.items < length first.old.items + length second.old.items }
-    ensures to_len { length to.new.items ≤ length to.old.items + 1 }
-    ensures capacity { vec_capacity to.old ≤ vec_capacity to.new }
+// Moves the greatest key of two lists to the front of a third, in the room that it has. At each key the numbers are as they were, where
+// those up to `oldest` count as none.
+pub(crate) fn move_greatest(
+    first: &mut VecDeque<Step>,
+    second: &mut VecDeque<Step>,
+    to: &mut VecDeque<Step>,
+    oldest: u64,
+)
+    requires first { IsTrue (steps_rise (first.old.items ++ to.old.items)) }
+    requires second { IsTrue (steps_rise (second.old.items ++ to.old.items)) }
+    requires some { 0 < deque_len first.old + deque_len second.old }
+    requires room { deque_len to.old < deque_capacity to.old }
+    ensures same { (k : Bytes) → cut oldest (merged_at first.new.items second.new.items to.new.items k) ≡ cut oldest (merged_at first.old.items second.old.items to.old.items k) }
+    ensures first { IsTrue (steps_rise (first.new.items ++ to.new.items)) }
+    ensures second { IsTrue (steps_rise (second.new.items ++ to.new.items)) }
+    ensures fewer { deque_len first.new + deque_len second.new < deque_len first.old + deque_len second.old }
+    ensures two { deque_len first.old + deque_len second.old ≤ deque_len first.new + deque_len second.new + 2 }
+    ensures to_len { deque_len to.new ≤ deque_len to.old + 1 }
+    ensures capacity { deque_capacity to.new ≡ deque_capacity to.old }
 {
     let step = take_greatest(first, second, oldest);
     let below = later(oldest, end_of(first), end_of(second));
@@ -118,30 +128,28 @@ fn move_greatest(first: &mut Vec<Step>, second: &mut Vec<Step>, to: &mut Vec<Ste
 }
 
 // Is there no step in either list?
-fn are_empty(first: &[Step], second: &[Step]) -> bool
-    ensures none { result ≡ true → length first.now + length second.now ≡ 0 }
-    ensures some { result ≡ false → 0 < length first.now + length second.now }
+pub(crate) fn are_empty(first: &VecDeque<Step>, second: &VecDeque<Step>) -> bool
+    ensures none { result ≡ true → deque_len first.now + deque_len second.now ≡ 0 }
+    ensures some { result ≡ false → 0 < deque_len first.now + deque_len second.now }
 {
     first.is_empty() && second.is_empty()
 }
 
-// The steps of both lists as one, in the places that were made for them: at each key the greater number, where it is above `oldest`.
+// The steps of both lists as one, in the places that were made for them: at each key the greater number.
 pub(crate) fn merge(
-    mut first: Vec<Step>,
-    mut second: Vec<Step>,
-    mut places: Vec<Step>,
-    oldest: u64,
-) -> Vec<Step>
+    mut first: VecDeque<Step>,
+    mut second: VecDeque<Step>,
+    mut places: VecDeque<Step>,
+) -> VecDeque<Step>
     requires first { IsTrue (steps_rise first.items) }
     requires second { IsTrue (steps_rise second.items) }
-    requires none { length places.items ≡ 0 }
-    requires room { length first.items + length second.items ≤ vec_capacity places }
+    requires none { deque_len places ≡ 0 }
+    requires room { deque_len first + deque_len second ≤ deque_capacity places }
     ensures rising { IsTrue (steps_rise result.items) }
-    ensures later { (k : Bytes) → number_at result.items k ≡ later oldest (number_at first.items k) (number_at second.items k) }
+    ensures later { (k : Bytes) → number_at result.items k ≡ later 0 (number_at first.items k) (number_at second.items k) }
 {
     'steps: while !are_empty(&first, &second) {
-        move_greatest(&mut first, &mut second, &mut places, oldest);
+        move_greatest(&mut first, &mut second, &mut places, 0);
     }
-    places.reverse();
     places
 }

@@ -1,10 +1,11 @@
 //! Numbers by key, as steps.
-ghost use Rattle.std.specs.Prelude.{◌≡◌, ◌≤◌, IsTrue, true, length, if◌then◌else◌};
+ghost use Rattle.std.specs.Prelude.{◌≡◌, ◌≤◌, IsTrue, true, if◌then◌else◌};
 ghost use Rattle.std.specs.Ordering.{is_eq};
 ghost use Rattle.model.specs.Map.{key_cmp};
-ghost use Rattle.last_readers.specs.Steps.{StepValue, number_at, end_of, steps_rise, are_upto, in_place_of, renumbered};
+ghost use Rattle.last_readers.specs.Steps.{StepValue, number_from, end_of, steps_rise, in_place_of, renumbered};
 
 use model::{Key, KeyRef};
+use std::collections::VecDeque;
 use std::marker::Model;
 
 /// The number at a key, and the one at the keys above it up to the next step.
@@ -91,32 +92,23 @@ fn in_place_of(was: u64, number: u64) -> u64
 }
 
 // The number at the keys above all steps.
-pub(crate) fn end_of(steps: &[Step]) -> u64
-    ensures { result ≡ end_of steps.now }
+pub(crate) fn end_of(steps: &VecDeque<Step>) -> u64
+    ensures { result ≡ end_of steps.now.items }
 {
-    match steps.last() {
+    match steps.back() {
         None => 0,
         Some(step) => step.above(),
     }
 }
 
-// The number at a key that no step is above.
-pub(crate) fn last_number(steps: &[Step], key: KeyRef<'_>) -> u64
-    requires rising { IsTrue (steps_rise steps.now) }
-    requires upto { IsTrue (are_upto key.bytes.now steps.now) }
-    ensures { result ≡ number_at steps.now key.entry.bytes.now }
-{
-    match steps.last() {
-        None => 0,
-        Some(step) => step.number(key),
-    }
-}
-
-// The number at the key. A binary search.
-pub(crate) fn number_at(steps: &[Step], key: KeyRef<'_>) -> u64
-    requires { IsTrue (steps_rise steps.now) }
-    ensures { result ≡ number_at steps.now key.entry.bytes.now }
+// The number at the key, where `below` is the one below all steps. A binary search.
+pub(crate) fn number_from(steps: &VecDeque<Step>, below: u64, key: KeyRef<'_>) -> u64
+    requires { IsTrue (steps_rise steps.now.items) }
+    ensures { result ≡ number_from below steps.now.items key.entry.bytes.now }
 {
     let end = steps.partition_point(|step| step.key().order(key).is_le());
-    last_number(&steps[..end], key)
+    if end == 0 {
+        return below;
+    }
+    steps[end - 1].number(key)
 }

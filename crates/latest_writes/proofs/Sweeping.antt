@@ -8,7 +8,8 @@ use Rattle.std.specs.Cmp.Lexicographic.{nat_list_cmp_total}
 use Rattle.std.proofs.lemmas.Map.Lookups.{exact_bytes}
 use Rattle.std.proofs.lemmas.Cmp.{tied_itself, upto}
 use Rattle.latest_writes.specs.Rising.{is_before}
-use Rattle.latest_writes.proofs.Stable.{after_writes-push, value_after_write, IsMap-after_write, same_map}
+use Rattle.latest_writes.proofs.Stable.{after_writes-push}
+use Rattle.model.proofs.Lookups.{value_after_write, IsMap-after_write, same_map}
 use Rattle.model.specs.Map.{Bytes, KeyMap, KeyWrite, IsMap, value_at, key_cmp, is_same_key, after_write, after_writes}
 
 -- q is at most k
@@ -57,7 +58,7 @@ equal_from Less e = cc
 equal_from Equal e = refl
 equal_from Greater e = cc
 
-same_key : (j k : Bytes) → is_same_key j k ≡ true → j ≡ k
+pub same_key : (j k : Bytes) → is_same_key j k ≡ true → j ≡ k
 same_key j k e = exact_bytes j k (equal_from (key_cmp j k) e)
 
 not_both : (b : Bool) → b ≡ true → b ≡ false → ⊥

@@ -1,3 +1,4 @@
--- The definitions of heads, and of the order in which writes are sorted.
+-- The definitions of heads, of the order in which writes are sorted, and of how many are held.
 pub mod Heads
+pub mod Held
 pub mod Rising

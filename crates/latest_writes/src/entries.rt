@@ -1,7 +1,8 @@
 //! A write, and numbers by which its key is compared.
-ghost use Rattle.std.specs.Prelude.{◌≡◌, ◌⊎◌, true, false, None, IfSome, OnOk};
+ghost use Rattle.std.specs.Prelude.{◌≡◌, ◌≢◌, ◌⊎◌, true, false, None, IfSome, OnOk};
 ghost use Rattle.model.specs.Key.{IsValue};
 ghost use Rattle.model.specs.Map.{key_cmp, is_same_key, after_write};
+ghost use Rattle.latest_writes.specs.Held.{weight};
 
 use crate::heads::head_of;
 use model::{Map, Memory, Write};
@@ -55,8 +56,10 @@ impl Entry {
         self.write.compare(other.write.lend_key().bytes())
     }
 
-    // About what it takes in memory.
-    pub(crate) fn weight(&self) -> usize {
+    // About the bytes that it takes in memory.
+    pub(crate) fn weight(&self) -> usize
+        ensures { result ≡ weight self.now }
+    {
         let value_len = match self.write.value() {
             Some(value) => value.len(),
             None => 0,
@@ -68,6 +71,7 @@ impl Entry {
     pub(crate) fn is_superseded(&self, next: &Entry) -> bool
         ensures superseded { result ≡ true → (is_same_key self.now.0 next.now.0 ≡ true) ⊎ (self.now.1 ≡ None) }
         ensures latest { result ≡ false → is_same_key self.now.0 next.now.0 ≡ false }
+        ensures value { result ≡ false → self.now.1 ≢ None }
     {
         match self.order(next) {
             Ordering::Equal => true,

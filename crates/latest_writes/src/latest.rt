@@ -1,5 +1,5 @@
 //! The writes that were collected.
-ghost use Rattle.std.specs.Prelude.{◌≡◌, [], reverse, IfOk, IfSome};
+ghost use Rattle.std.specs.Prelude.{◌≡◌, ◌≤◌, [], reverse, length, vec_capacity, IfOk, IfSome};
 ghost use Rattle.model.specs.Key.{IsValue};
 ghost use Rattle.model.specs.Map.{after_write, after_writes};
 
@@ -14,11 +14,12 @@ const LEAST_LIMIT: usize = 1 << 23;
 
 /// The writes of a log, which make a map. A clause sees the map.
 ///
-/// It takes about twice the memory of the map, and `LEAST_LIMIT` bytes at least.
+/// What is held weighs at most twice what was kept when writes were last left out, with one of each key then, or `LEAST_LIMIT`, where
+/// that is more (`IsHeld`).
 #[derive(Drop)]
 pub struct LatestWrites {
     entries: Vec<Entry>,
-    /// About what the entries take in memory.
+    /// About the bytes that the entries take in memory.
     weight: usize,
     /// The weight from which on those are left out that others have replaced.
     limit: usize,
@@ -27,10 +28,13 @@ pub struct LatestWrites {
 impl Model for LatestWrites {
     ghost use Rattle.std.specs.Prelude.{[]};
     ghost use Rattle.model.specs.Map.{KeyMap, after_writes};
+    ghost use Rattle.latest_writes.specs.Held.{IsHeld};
 
     ghost Value = { KeyMap };
 
     ghost view = { λ l. after_writes [] l.entries.items };
+
+    ghost invariant = { λ l. IsHeld l.entries.items l.weight l.limit };
 }
 
 impl LatestWrites {
@@ -94,7 +98,9 @@ fn sweep(alloc: Global, mut entries: Vec<Entry>) -> Result<LatestWrites, Memory>
 
 // Gives the room of entries back, where no more than half of it is used.
 fn give_back(entries: &mut Vec<Entry>)
-    ensures { entries.new.items ≡ entries.old.items }
+    ensures items { entries.new.items ≡ entries.old.items }
+    ensures less { vec_capacity entries.new ≤ vec_capacity entries.old }
+    ensures none { length entries.old.items ≡ 0 → vec_capacity entries.new ≡ 0 }
 {
     if entries.len() <= entries.capacity() / 2 {
         entries.shrink_to_fit();

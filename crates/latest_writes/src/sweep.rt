@@ -1,7 +1,8 @@
 //! Leaving out the writes that others have replaced.
-ghost use Rattle.std.specs.Prelude.{◌≡◌, [], OnOk, IfOk};
+ghost use Rattle.std.specs.Prelude.{◌≡◌, ◌-◌, ◌^◌, min, [], OnOk, IfOk};
 ghost use Rattle.std.specs.List.Sorted.{IsSortedBy};
 ghost use Rattle.model.specs.Map.{after_writes};
+ghost use Rattle.latest_writes.specs.Held.{weight_of, HasOneOfEach};
 ghost use Rattle.latest_writes.specs.Rising.{is_before};
 
 use crate::entries::Entry;
@@ -20,7 +21,8 @@ pub(crate) fn sort(entries: &mut Vec<Entry>) -> Result<(), Memory>
 // Of each key keeps the last write, and of deletions at most the last of all.
 pub(crate) fn keep_latest(alloc: Global, entries: Vec<Entry>) -> Result<Vec<Entry>, Memory>
     requires { IsSortedBy is_before entries.items }
-    ensures { IfOk result (λ kept. after_writes [] kept.items ≡ after_writes [] entries.items) }
+    ensures map { IfOk result (λ kept. after_writes [] kept.items ≡ after_writes [] entries.items) }
+    ensures one_of_each { IfOk result (λ kept. HasOneOfEach kept.items) }
 {
     let mut kept = Vec::new(alloc);
     let mut rest = entries.into_iter();
@@ -37,8 +39,10 @@ pub(crate) fn keep_latest(alloc: Global, entries: Vec<Entry>) -> Result<Vec<Entr
     Ok(kept)
 }
 
-// About what the entries take in memory.
-pub(crate) fn weight_of(entries: &[Entry]) -> usize {
+// About the bytes that the entries take in memory, and `usize::MAX` where these are more.
+pub(crate) fn weight_of(entries: &[Entry]) -> usize
+    ensures { result ≡ min (weight_of entries.now) (2 ^ 64 - 1) }
+{
     let mut weight: usize = 0;
     for entry in entries {
         weight = weight.saturating_add(entry.weight());

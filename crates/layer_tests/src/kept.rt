@@ -97,18 +97,58 @@ fn after_five_commits(alloc: Global) -> Result<Versions, Memory> {
     Ok(versions)
 }
 
-/// Where no number before the last is held, four older versions go in one walk, and the deleted key before the other isn't shown.
+/// Where no number before the last is held, four older versions go in one call, since a call looks at sixteen lists, and the deleted key
+/// before the other isn't shown.
 #[test]
-fn one_walk(rt: HostRuntime) -> Result<(), Fail> {
+fn few_lists_go_at_once(rt: HostRuntime) -> Result<(), Fail> {
     let (a, b) = (key(b"a"), key(b"b"));
     let mut versions = after_five_commits(rt.alloc())?;
     assert!(rt; versions.kept(a) == 5);
-    versions.reclaim(&[6]);
+    assert!(rt; !versions.reclaim(&[6]));
     assert!(rt; versions.kept(a) == 1 && versions.kept(b) == 1);
     assert!(rt; versions.newest(a) == Some(5));
     let from_a = RangeRef { lo: a, hi: None };
     assert!(rt; is_pair(versions.range(6, from_a).next(), b"b", b"6"));
     let from_a_to_b = RangeRef { lo: a, hi: Some(b) };
     assert!(rt; versions.range(6, from_a_to_b).next().is_none());
+    Ok(())
+}
+
+// The versions of a map with forty keys, after forty commits that write one of them each: forty lists of an older version.
+fn after_forty_commits(alloc: Global) -> Result<Versions, Memory> {
+    let mut map = Map::new(alloc);
+    for n in 0..40u8 {
+        put(alloc, &mut map, &[n], b"old")?;
+    }
+    let mut versions = Versions::from_map(alloc, map)?;
+    for commits in 0..40 {
+        let value = Vec::from_slice(alloc, b"new")?;
+        let bytes = [commits as u8];
+        commit(alloc, &mut versions, commits + 1, key(&bytes), Some(value))?;
+    }
+    Ok(versions)
+}
+
+// How many of the forty keys have an older version.
+fn older_versions(versions: &Versions) -> u64 {
+    let mut count = 0u64;
+    for n in 0..40u8 {
+        let bytes = [n];
+        if versions.kept(key(&bytes)) > 1 {
+            count += 1;
+        }
+    }
+    count
+}
+
+/// Forty lists go in three calls, sixteen at most in each, and each call but the last asks for another.
+#[test]
+fn lists_go_in_instalments(rt: HostRuntime) -> Result<(), Fail> {
+    let mut versions = after_forty_commits(rt.alloc())?;
+    assert!(rt; older_versions(&versions) == 40);
+    assert!(rt; versions.reclaim(&[40]) && older_versions(&versions) == 24);
+    assert!(rt; versions.reclaim(&[40]) && older_versions(&versions) == 8);
+    assert!(rt; !versions.reclaim(&[40]) && older_versions(&versions) == 0);
+    assert!(rt; versions.at(40, key(&[7])) == Some(b"new".as_slice()));
     Ok(())
 }

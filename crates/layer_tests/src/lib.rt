@@ -1,4 +1,5 @@
-//! Tests of the crates below the engine against values from outside: keys, requests, replies, devices, versions, last readers and transactions.
+//! Tests of the crates below the engine against values from outside: keys, requests, replies, devices, logs, versions, last readers, transactions
+//! and the check of a commit.
 #![tactic(auto)]
 
 #[cfg(test)]
@@ -10,6 +11,8 @@ mod kept;
 #[cfg(test)]
 mod keys;
 #[cfg(test)]
+mod log;
+#[cfg(test)]
 mod readers;
 #[cfg(test)]
 mod replies;
@@ -17,3 +20,5 @@ mod replies;
 mod requests;
 #[cfg(test)]
 mod transactions;
+#[cfg(test)]
+mod verdicts;

@@ -11,20 +11,8 @@ use Rattle.std.proofs.lemmas.Bool.{cases_Bool, and_parts, and_from, eqb-true}
 use Rattle.std.proofs.lemmas.List.{take-append-le}
 use Rattle.model.specs.Map.{Bytes, KeyMap, IsMap, key_cmp, value_at, is_in_range, is_below, pairs_in_range}
 use Rattle.model.specs.PrivateCopy.{covers, last_key, mark_up_to, mark_of_reply}
+use Rattle.model.proofs.InOrder.{parts, less}
 use Rattle.model.proofs.Lookups.{same_map, same_pairs, value_in_range}
-
-parts : (a b : Bool) → T (a && b) → T a × T b
-parts true b h = (tt, h)
-parts false b h = absurd h
-
-both : (a b : Bool) → T a → T b → T (a && b)
-both true b h g = g
-both false b h g = h
-
-less_from : (o : Ordering) → T (is_lt o) → o ≡ Less
-less_from Less h = refl
-less_from Equal h = absurd h
-less_from Greater h = absurd h
 
 -- x < y and y ≤ z give x ≤ z, and x < z
 less_then : (x y z : Bytes) → key_cmp x y ≡ Less → is_le (key_cmp y z) ≡ true → key_cmp x z ≡ Less
@@ -47,7 +35,7 @@ none_up_to : (k x : Bytes) (es : KeyMap) → is_le (key_cmp x k) ≡ false → T
 none_up_to k x [] h g = (refl, refl)
 none_up_to k x (e ∷ es) h g =
     let p = parts (is_lt (key_cmp x e.0)) (below_all (slice_cmp nat_cmp) x es) g in
-    let over = above_all k x e.0 h (less_from (key_cmp x e.0) p.0) in
+    let over = above_all k x e.0 h (less (key_cmp x e.0) p.0) in
     let rest = none_up_to k x es h p.1 in (
       ap (λ b. cond b (e ∷ where_key (slice_cmp nat_cmp) (λ q. is_le (key_cmp q k)) es) (where_key (slice_cmp nat_cmp) (λ q. is_le (key_cmp q k)) es)) over ∙ rest.0,
       ap (λ b. cond (not b) (e ∷ where_key (slice_cmp nat_cmp) (λ q. not (is_le (key_cmp q k))) es) (where_key (slice_cmp nat_cmp) (λ q. not (is_le (key_cmp q k))) es)) over ∙ ap (λ l. e ∷ l) rest.1,
@@ -64,11 +52,6 @@ split_at_key k (e ∷ es) h =
       | false ↦ λ f. let none = none_up_to k e.0 es f p.0 in sym (λ i. none.0 i ++ (e ∷ none.1 i))
     ] refl
 
-below_taken : (n : ℕ) (x : Bytes) (es : KeyMap) → T (below_all (slice_cmp nat_cmp) x es) → T (below_all (slice_cmp nat_cmp) x (take n es))
-below_taken zero x es h = tt
-below_taken (suc n) x [] h = tt
-below_taken (suc n) x (e ∷ es) h = let p = parts (is_lt (key_cmp x e.0)) (below_all (slice_cmp nat_cmp) x es) h in both _ _ p.0 (below_taken n x es p.1)
-
 -- the first key is at most the last
 last_above : (n : ℕ) (e : Bytes × Bytes) (es : KeyMap) (l : Bytes) → IsMap (e ∷ es) → last_key (e ∷ take n es) ≡ Some l → is_le (key_cmp e.0 l) ≡ true
 last_above zero e es l h t = let same : e.0 ≡ l = cc in ap (λ x. is_le (key_cmp e.0 x)) (sym same) ∙ ap is_le (tied_itself nat_list_cmp_total e.0)
@@ -76,7 +59,7 @@ last_above (suc n) e [] l h t = let same : e.0 ≡ l = cc in ap (λ x. is_le (ke
 last_above (suc n) e (f ∷ es) l h t =
     let p = parts (below_all (slice_cmp nat_cmp) e.0 (f ∷ es)) (is_sorted (slice_cmp nat_cmp) (f ∷ es)) h in
     let q = parts (is_lt (key_cmp e.0 f.0)) (below_all (slice_cmp nat_cmp) e.0 es) p.0 in
-    ap is_le (less_then e.0 f.0 l (less_from (key_cmp e.0 f.0) q.0) (last_above n f es l p.1 t))
+    ap is_le (less_then e.0 f.0 l (less (key_cmp e.0 f.0) q.0) (last_above n f es l p.1 t))
 
 -- so there are n pairs up to the last of the first n
 n_up_to : (n : ℕ) (es : KeyMap) (l : Bytes) → IsMap es → length (take n es) ≡ n → last_key (take n es) ≡ Some l → n ≤ length (where_key (slice_cmp nat_cmp) (λ q. is_le (key_cmp q l)) es)

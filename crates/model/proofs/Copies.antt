@@ -287,10 +287,6 @@ module _ (m n : KeyMap) where
             λ i. head i ∷ tail i;
       }
 
-values_alike : (c d : KeyMap) (ks : List Bytes) → AllByRecursion (λ k. value_at c k ≡ value_at d k) ks → values_at c ks ≡ values_at d ks
-values_alike c d [] h = refl
-values_alike c d (k ∷ ks) h = let rest = values_alike c d ks h.1 in λ i. (k, h.0 i) ∷ rest i
-
 -- what the replay of the transaction on n gives, where its record says what it did on m and the maps agree on what it read
 pub record Replayed (m n : KeyMap) (qs : List Operation) : Type 0 where
   pub replies : responses (copy_of m) qs ≡ responses (copy_of n) qs

@@ -11,15 +11,8 @@ use Rattle.std.proofs.lemmas.Map.Lookups.{exact_bytes}
 use Rattle.std.proofs.lemmas.Cmp.{tied_itself}
 use Rattle.model.specs.Map.{Bytes, key_cmp}
 use Rattle.model.specs.Entries.{IsAt, IsGap, IsSplit}
-
-pub parts : (a b : Bool) → T (a && b) → T a × T b
-parts true b h = (tt, h)
-parts false b h = absurd h
-
-less : (o : Ordering) → T (is_lt o) → o ≡ Less
-less Less h = refl
-less Equal h = absurd h
-less Greater h = absurd h
+pub use Rattle.model.proofs.InOrder.{parts}
+use Rattle.model.proofs.InOrder.{below_at, rise}
 
 pub turned : (j k : Bytes) → key_cmp k j ≡ ordering_reverse (key_cmp j k)
 turned j k = nat_list_cmp_total.antisymm k j
@@ -30,12 +23,6 @@ module _ {X : Type 0} where
 
   abbrev pub IsBelowAll : Bytes → List (Bytes × X) → Type 0
   IsBelowAll k es = T (below_all (slice_cmp nat_cmp) k es)
-
-  -- the keys from the first on
-  pub below_at : (k : Bytes) (es : List (Bytes × X)) (i : ℕ) (d : Bytes × X) → IsBelowAll k es → i < length es → key_cmp k (get_or es i d).0 ≡ Less
-  below_at k [] i d h lt = absurd (omega arith)
-  below_at k (e ∷ es) zero d h lt = less _ (parts _ _ h).0
-  below_at k (e ∷ es) (suc i) d h lt = below_at k es i d (parts _ _ h).1 (omega arith)
 
   -- ---- the key is there
 
@@ -48,7 +35,7 @@ module _ {X : Type 0} where
       sym (ap (λ o. by_order o ((k, c) ∷ e ∷ es) ((e.0, c) ∷ es) (e ∷ put (slice_cmp nat_cmp) k c es)) (ap (λ q. key_cmp q e.0) (sym is) ∙ tied_itself nat_list_cmp_total e.0) ∙ ap (λ q. (q, c) ∷ es) is)
   put_at (e ∷ es) k c (suc i) d h lt is =
       let p = parts _ _ h in
-      let above : key_cmp k e.0 ≡ Greater = turned e.0 k ∙ ap ordering_reverse (ap (key_cmp e.0) (sym is) ∙ below_at e.0 es i d p.0 (omega arith)) in
+      let above : key_cmp k e.0 ≡ Greater = turned e.0 k ∙ ap ordering_reverse (ap (key_cmp e.0) (sym is) ∙ below_at key_cmp e.0 es i d p.0 (omega arith)) in
       ap (λ l. e ∷ l) (put_at es k c i d p.1 (omega arith) is) ∙ sym (ap (λ o. by_order o ((k, c) ∷ e ∷ es) ((e.0, c) ∷ es) (e ∷ put (slice_cmp nat_cmp) k c es)) above)
 
   found_at : (es : List (Bytes × X)) (k : Bytes) (i : ℕ) (d : Bytes × X) → IsSorted es → i < length es → key_at es i d ≡ k → find (slice_cmp nat_cmp) k es ≡ Some (get_or es i d).1
@@ -56,7 +43,7 @@ module _ {X : Type 0} where
   found_at (e ∷ es) k zero d h lt is = ap (λ o. cond (is_eq o) (Some e.1) (find (slice_cmp nat_cmp) k es)) (ap (λ q. key_cmp q e.0) (sym is) ∙ tied_itself nat_list_cmp_total e.0)
   found_at (e ∷ es) k (suc i) d h lt is =
       let p = parts _ _ h in
-      let above : key_cmp k e.0 ≡ Greater = turned e.0 k ∙ ap ordering_reverse (ap (key_cmp e.0) (sym is) ∙ below_at e.0 es i d p.0 (omega arith)) in
+      let above : key_cmp k e.0 ≡ Greater = turned e.0 k ∙ ap ordering_reverse (ap (key_cmp e.0) (sym is) ∙ below_at key_cmp e.0 es i d p.0 (omega arith)) in
       ap (λ o. cond (is_eq o) (Some e.1) (find (slice_cmp nat_cmp) k es)) above ∙ found_at es k i d p.1 (omega arith) is
 
   -- ---- the key isn't there
@@ -89,25 +76,6 @@ module _ {X : Type 0} where
 
   -- ---- what the binary search asks and answers
 
-  -- the comparisons with k rise along the list
-  rise : (es : List (Bytes × X)) (k : Bytes) → IsSorted es → IsNonDecreasingBy (λ e. ordering_index (key_cmp e.0 k)) es
-  rise es k h i j d le lt = up es h i j d le lt
-    where
-      -- from x < y: as x stands to k, or lower, so y
-      later : (x y : Bytes) → key_cmp x y ≡ Less → ordering_index (key_cmp x k) ≤ ordering_index (key_cmp y k)
-      later x y p = elim (key_cmp y k) as (λ o. key_cmp y k ≡ o → ordering_index (key_cmp x k) ≤ ordering_index o) [
-        | Less ↦ λ e. subst (λ o. ordering_index o ≤ 0) (sym (nat_list_cmp_total.trans x y k p e)) (omega arith)
-        | Equal ↦ λ e. subst (λ (q : Bytes). ordering_index (key_cmp x q) ≤ 1) (exact_bytes y k e) (subst (λ o. ordering_index o ≤ 1) (sym p) (omega arith))
-        | Greater ↦ λ e. elim (key_cmp x k) as (λ o. ordering_index o ≤ 2) [ Less ↦ omega arith | Equal ↦ omega arith | Greater ↦ omega arith ]
-      ] refl
-
-      up : (fs : List (Bytes × X)) → IsSorted fs → (i j : ℕ) (d : Bytes × X) → i ≤ j → j < length fs → ordering_index (key_cmp (get_or fs i d).0 k) ≤ ordering_index (key_cmp (get_or fs j d).0 k)
-      up [] g i j d le lt = absurd (omega arith)
-      up (f ∷ fs) g zero zero d le lt = omega arith
-      up (f ∷ fs) g zero (suc j) d le lt = later f.0 (get_or fs j d).0 (below_at f.0 fs j d (parts _ _ g).0 (omega arith))
-      up (f ∷ fs) g (suc i) zero d le lt = absurd (omega arith)
-      up (f ∷ fs) g (suc i) (suc j) d le lt = up fs (parts _ _ g).1 i j d (omega arith) (omega arith)
-
   -- a binary search by key ends at the key's chain or at the gap for it
   pub searched : (es : List (Bytes × X)) (k : Bytes) → IsSorted es → (r : Result ℕ ℕ) → IsSearchInRange r (length es) → IsBinarySearchResult (λ e. key_cmp e.0 k) es r
       → record { found : IfOk r (IsAt es k); absent : IfErr r (IsGap es k) }
@@ -118,7 +86,7 @@ module _ {X : Type 0} where
         absent = tt;
       }
   searched es k h (Err i) within parted =
-      let p = parted (rise es k h) in
+      let p = parted (rise nat_list_cmp_total es k h) in
       let before : LessBefore es k i = λ j d lt. p.0 j d (omega arith) lt in
       let from : GreaterFrom es k i = λ j d le lt. p.1 j d le lt in
       record {
@@ -130,7 +98,7 @@ module _ {X : Type 0} where
   pub gap_behind : (es : List (Bytes × X)) (k : Bytes) (n : ℕ) (last : Bytes × X) → IsSorted es → ((d : Bytes × X) → last ≡ get_or es (length es - 1) d) → is_lt (key_cmp last.0 k) ≡ true → n ≡ length es → IsGap es k n
   gap_behind es k n last h at lt end =
       let before : LessBefore es k n = λ j d below. first (key_cmp (key_at es j d) k) (key_cmp last.0 k) lt
-      (subst (λ (e : Bytes × X). ordering_index (key_cmp (key_at es j d) k) ≤ ordering_index (key_cmp e.0 k)) (sym (at d)) (rise es k h j (length es - 1) d (omega arith) (omega arith))) in
+      (subst (λ (e : Bytes × X). ordering_index (key_cmp (key_at es j d) k) ≤ ordering_index (key_cmp e.0 k)) (sym (at d)) (rise nat_list_cmp_total es k h j (length es - 1) d (omega arith) (omega arith))) in
       let from : GreaterFrom es k n = λ j d le below. absurd (omega arith) in
       record { in_range = omega arith; absent = none_gap es k n (omega arith) before from; inserted = λ c. put_gap es k c n (omega arith) before from }
     where
@@ -168,19 +136,19 @@ module _ {X : Type 0} where
   split_at es k h (Ok i) within equal =
       let key : (d : Bytes × X) → key_at es i d ≡ k = λ d. exact_bytes (key_at es i d) k (equal d) in
       let s = split_by es k i (omega arith) (λ j d lt. subst (λ (q : Bytes). key_cmp (key_at es j d) q ≡ Less) (key d) (ascends es h j i d lt within))
-      (λ j d le lt. not_less (key_at es j d) (subst (λ n. n ≤ ordering_index (key_cmp (key_at es j d) k)) (ap ordering_index (equal d)) (rise es k h i j d le lt))) in
+      (λ j d le lt. not_less (key_at es j d) (subst (λ n. n ≤ ordering_index (key_cmp (key_at es j d) k)) (ap ordering_index (equal d)) (rise nat_list_cmp_total es k h i j d le lt))) in
       record { found = record { in_range = omega arith; before = s.before; from = s.from }; absent = tt }
     where
       ascends : (fs : List (Bytes × X)) → IsSorted fs → (j i : ℕ) (d : Bytes × X) → j < i → i < length fs → key_cmp (get_or fs j d).0 (get_or fs i d).0 ≡ Less
       ascends [] g j i d lt within' = absurd (omega arith)
       ascends (f ∷ fs) g zero zero d lt within' = absurd (omega arith)
-      ascends (f ∷ fs) g zero (suc i') d lt within' = below_at f.0 fs i' d (parts _ _ g).0 (omega arith)
+      ascends (f ∷ fs) g zero (suc i') d lt within' = below_at key_cmp f.0 fs i' d (parts _ _ g).0 (omega arith)
       ascends (f ∷ fs) g (suc j) zero d lt within' = absurd (omega arith)
       ascends (f ∷ fs) g (suc j) (suc i') d lt within' = ascends fs (parts _ _ g).1 j i' d (omega arith) (omega arith)
 
       not_less : (q : Bytes) → 1 ≤ ordering_index (key_cmp q k) → is_lt (key_cmp q k) ≡ false
       not_less q h' = elim (key_cmp q k) as (λ o. 1 ≤ ordering_index o → is_lt o ≡ false) [ Less ↦ λ g. absurd (omega arith) | Equal ↦ λ g. refl | Greater ↦ λ g. refl ] h'
   split_at es k h (Err i) within parted =
-      let p = parted (rise es k h) in
+      let p = parted (rise nat_list_cmp_total es k h) in
       let s = split_by es k i within (λ j d lt. p.0 j d (omega arith) lt) (λ j d le lt. ap is_lt (p.1 j d le lt)) in
       record { found = tt; absent = record { in_range = within; before = s.before; from = s.from } }

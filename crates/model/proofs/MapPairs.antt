@@ -9,13 +9,9 @@ use Rattle.std.specs.FinMap.Entries.{put, where_key, below_all, by_order}
 use Rattle.model.specs.Key.{IsKey, IsValue}
 use Rattle.model.specs.Map.{Bytes, KeyMap, IsMap, IsInBounds, value_at, key_cmp, is_same_key, after_write}
 use Rattle.model.specs.Entries.{IsAt}
-use Rattle.model.proofs.Entries.{parts, turned, below_at}
+use Rattle.model.proofs.Entries.{turned}
+use Rattle.model.proofs.InOrder.{parts, less, below_at}
 use Rattle.model.proofs.Lookups.{same_key_itself, IsMap-after_write}
-
-not_equal : (o : Ordering) → T (is_lt o) → is_eq o ≡ false
-not_equal Less h = refl
-not_equal Equal h = absurd h
-not_equal Greater h = absurd h
 
 -- the pairs of other keys
 abbrev others : Bytes → KeyMap → KeyMap
@@ -26,7 +22,7 @@ kept_above : (q k : Bytes) (es : KeyMap) → q ≡ k → T (below_all (slice_cmp
 kept_above q k [] e h = refl
 kept_above q k (f ∷ es) e h =
     let p = parts (is_lt (slice_cmp nat_cmp k f.0)) (below_all (slice_cmp nat_cmp) k es) h in
-    ap (λ b. cond (not b) (f ∷ others q es) (others q es)) (ap (λ x. is_same_key x f.0) e ∙ not_equal (slice_cmp nat_cmp k f.0) p.0)
+    ap (λ b. cond (not b) (f ∷ others q es) (others q es)) (ap (λ x. is_same_key x f.0) e ∙ ap is_eq (less _ p.0))
     ∙ ap (λ l. f ∷ l) (kept_above q k es e p.1)
 
 -- the key's pair is taken out
@@ -37,7 +33,7 @@ removed (e ∷ es) k zero d h lt is =
     sym (ap (λ b. cond (not b) (e ∷ others k es) (others k es)) (ap (λ q. is_same_key k q) is ∙ same_key_itself k) ∙ kept_above k e.0 es (sym is) p.0)
 removed (e ∷ es) k (suc i) d h lt is =
     let p = parts (below_all (slice_cmp nat_cmp) e.0 es) _ h in
-    let above : key_cmp k e.0 ≡ Greater = turned e.0 k ∙ ap ordering_reverse (ap (key_cmp e.0) (sym is) ∙ below_at e.0 es i d p.0 (omega arith)) in
+    let above : key_cmp k e.0 ≡ Greater = turned e.0 k ∙ ap ordering_reverse (ap (key_cmp e.0) (sym is) ∙ below_at key_cmp e.0 es i d p.0 (omega arith)) in
     ap (λ l. e ∷ l) (removed es k i d p.1 (omega arith) is) ∙ sym (ap (λ o. cond (not (is_eq o)) (e ∷ others k es) (others k es)) above)
 
 pub removed_at : (old m new : KeyMap) (k q : Bytes) (i : ℕ) → IsMap old → old ≡ m → k ≡ q → IsAt m k i → new ≡ remove old i → new ≡ after_write m q None

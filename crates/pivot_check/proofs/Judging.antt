@@ -14,7 +14,7 @@ use Rattle.snapshot.specs.View.{View}
 use Rattle.pivot_check.specs.Kept.{KeptRecord, KeptFacts, Facts, keys_of, since, is_written, leads_to, follows, becomes_pivot, first_number, last_number, are_in_order, own_record, IsInReach, IsKeptReach}
 use Rattle.pivot_check.specs.Postings.{Posting, postings_by, least, lesser, covered_of, are_upto}
 use Rattle.pivot_check.specs.StandsFor.{KeptStandsFor, StandsFor, IsRecordOf, IsClear, Says, AreWriters, verdict_found, kept_of, kept_above}
-use Rattle.pivot_check.specs.Index.{is_written_since, target, source, other_pivot, answer_found}
+use Rattle.pivot_check.specs.Index.{FindsTarget, is_written_since, target, source, other_pivot, answer_found}
 use Rattle.pivot_check.specs.declared.verdict.Verdict.{Verdict}
 use Rattle.pivot_check.specs.declared.verdict.Verdict.TheVariants.{Clear, Overwritten}
 use Rattle.pivot_check.proofs.Lists.{found_at, found_nowhere}
@@ -99,7 +99,7 @@ module _ (f : Facts) (history : List Record) (s : StandsFor f history) where
     says_found none v v_is = subst (λ (v : Verdict). Says v t.writes (verdict history r)) (sym v_is)
         (found (are_in_order (target f t) (source f t)) (other_pivot f t) (judged ∙ ap (λ o. conflict_of o pivots_say) (found_nowhere overwrites t.writes (sym none))))
       where
-        found : (self : Bool) (other : Option ℕ) → verdict history r ≡ cond self (Some refusal.PivotSelf) (option_map refusal.Pivot other) → Says (verdict_found self other) t.writes (verdict history r)
+        found : (self : Bool) (other : Option ℕ) → verdict history r ≡ cond self (Some refusal.PivotSelf) (option_map refusal.Pivot other) → Says (verdict_found self other (is_some (target f t))) t.writes (verdict history r)
         found true other e = e
         found false None e = e
         found false (Some n) e = e
@@ -171,8 +171,16 @@ none_flagged ms b (p ∷ ps) e = by (is_covered ms p.key) (nat_lt b p.number) p.
     by true false z g rest = rest g
     by false y z g rest = rest g
 
-pub clear_is : (f : Facts) (t : View) → None ≡ target f t → Clear ≡ answer_found f t
-clear_is f t e = sym (λ i. verdict_found (are_in_order (sym e i) (source f t)) (none_flagged t.marks t.begin f.postings (sym e) i))
+pub clear_is : (f : Facts) (t : View) → None ≡ target f t → Clear false ≡ answer_found f t
+clear_is f t e = sym (λ i. verdict_found (are_in_order (sym e i) (source f t)) (none_flagged t.marks t.begin f.postings (sym e) i) (is_some (sym e i)))
+
+pub finds_target : (f : Facts) (t : View) (v : Verdict) → v ≡ answer_found f t → FindsTarget f t v
+finds_target f t v is = subst (FindsTarget f t) (sym is) (found (are_in_order (target f t) (source f t)) (other_pivot f t))
+  where
+    found : (self : Bool) (other : Option ℕ) → FindsTarget f t (verdict_found self other (is_some (target f t)))
+    found true other = tt
+    found false None = refl
+    found false (Some n) = tt
 
 -- the transaction commits as number n
 pub notes : (f : Facts) (history : List Record) → StandsFor f history → (t : View) → IsInReach f t → (n : ℕ) → n ≡ f.last + 1 → (r : Record) → IsRecordOf t n r → IsClear f t

@@ -79,7 +79,7 @@ pub record IsRecordOf (t : View) (n : ℕ) (r : Record) : Type 0 where
 
 -- what the answer says of the writes is the conflict
 abbrev pub Says : Verdict → List KeyWrite → Option Refusal → Type 0
-Says Clear ws conflict = conflict ≡ None
+Says (Clear has_earlier_target) ws conflict = conflict ≡ None
 Says (Overwritten i) ws conflict = (w : KeyWrite) × (slice_get ws i ≡ Some w) × (conflict ≡ Some (refusal.Overwritten w.0))
 Says PivotSelf ws conflict = conflict ≡ Some refusal.PivotSelf
 Says (Pivot n) ws conflict = conflict ≡ Some (refusal.Pivot n)
@@ -87,15 +87,16 @@ Says (Pivot n) ws conflict = conflict ≡ Some (refusal.Pivot n)
 -- an overwritten key has a place among the writes
 abbrev pub IsPlaced : Verdict → List KeyWrite → Type 0
 IsPlaced (Overwritten i) ws = i < length ws
-IsPlaced Clear ws = ⊤
+IsPlaced (Clear has_earlier_target) ws = ⊤
 IsPlaced PivotSelf ws = ⊤
 IsPlaced (Pivot n) ws = ⊤
 
--- what is answered where the transaction overwrites no concurrent commit: is it a dangerous pivot itself, and which other one is the first
-abbrev pub verdict_found : Bool → Option ℕ → Verdict
-verdict_found true other = PivotSelf
-verdict_found false None = Clear
-verdict_found false (Some n) = Pivot n
+-- what is answered where the transaction overwrites no concurrent commit: is it a dangerous pivot itself, which other one is the first, and
+-- does it follow one that committed before it
+abbrev pub verdict_found : Bool → Option ℕ → Bool → Verdict
+verdict_found true other follows = PivotSelf
+verdict_found false None follows = Clear follows
+verdict_found false (Some n) follows = Pivot n
 
 -- the answer is the verdict over each history that is stood for
 abbrev pub IsVerdict : Facts → View → Verdict → Type 0

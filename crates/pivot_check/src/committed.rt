@@ -1,9 +1,9 @@
 //! The committed transactions.
-ghost use Rattle.std.specs.Prelude.{◌≡◌, ◌+◌, ◌≤◌, List, [], ◌∷◌, ◌++◌, max, OnOk, ◌-◌};
+ghost use Rattle.std.specs.Prelude.{◌≡◌, ◌+◌, ◌≤◌, List, [], ◌∷◌, ◌++◌, is_some, max, OnOk, ◌-◌};
 ghost use Rattle.model.specs.History.{Record};
 ghost use Rattle.last_readers.specs.Readers.{IsForgotten};
 ghost use Rattle.pivot_check.specs.Kept.{HasForgotten, IsEmpty, IsInReach, HasRoom};
-ghost use Rattle.pivot_check.specs.Index.{answer_found};
+ghost use Rattle.pivot_check.specs.Index.{FindsTarget, answer_found, target};
 ghost use Rattle.pivot_check.specs.StandsFor.{StandsFor, IsRecordOf, IsVerdict, IsPlaced, IsClear};
 
 use crate::by_start::ByStart;
@@ -104,7 +104,7 @@ impl Committed {
         let begin = tx.begin();
         let order = ByStart::of(tx.marks().held());
         let Some(target) = least_covered(&self.runs, &order, begin, false) else {
-            return Verdict::Clear;
+            return Verdict::Clear(false);
         };
         if let Some(source) = last_source(&self.readers, tx.entries(), begin) {
             if target <= source {
@@ -113,7 +113,7 @@ impl Committed {
         }
         match least_covered(&self.runs, &order, begin, true) {
             Some(n) => Verdict::Pivot(n),
-            None => Verdict::Clear,
+            None => Verdict::Clear(true),
         }
     }
 
@@ -127,6 +127,7 @@ impl Committed {
     /// the last reader of each written key. Takes no memory.
     pub fn verdict(&self, tx: &Transaction) -> Verdict
         ensures verdict { IsInReach self.now.facts tx.now → IsVerdict self.now.facts tx.now result }
+        ensures target { FindsTarget self.now.facts tx.now result }
         ensures place { IsPlaced result tx.now.writes }
     {
         match first_overwritten(&self.runs, tx.entries(), tx.begin()) {
@@ -151,16 +152,14 @@ impl Committed {
     }
 
     // Adds what is kept of the transaction, in the room that was made for it.
-    fn add_record(&mut self, tx: &Transaction, n: u64)
+    fn add_record(&mut self, tx: &Transaction, n: u64, has_earlier_target: bool)
         requires next { n ≡ self.old.facts.last + 1 }
+        requires target { has_earlier_target ≡ is_some (target self.old.facts tx.now) }
         requires room { HasRoom self.old.room tx.now }
         ensures stands_for { IsInReach self.old.facts tx.now → IsClear self.old.facts tx.now → (h : List Record) → StandsFor self.old.facts h → (r : Record) → IsRecordOf tx.now n r → StandsFor self.new.facts (h ++ r ∷ []) }
         ensures last { self.new.facts.last ≡ n }
         ensures oldest { self.new.facts.oldest ≡ self.old.facts.oldest }
     {
-        let order = ByStart::of(tx.marks().held());
-        let target = least_covered(&self.runs, &order, tx.begin(), false);
-        let has_earlier_target = target.is_some();
         let Some(ready) = self.ready.take() else {
             unreachable!()
         };
@@ -181,18 +180,19 @@ impl Committed {
         merge_runs(&mut self.runs);
     }
 
-    /// Keeps what the check needs of the transaction, which commits as number `n`, the next one. From each history that is stood for it
-    /// leads to that history with the new record. It takes two binary searches in each run for each mark. It can't fail: `reserve` made
-    /// room. Then it merges the last runs, also those of the last readers, where they are of a like size and there is memory for that; where
-    /// it is refused they stay.
-    pub fn note(&mut self, tx: &Transaction, n: u64)
+    /// Keeps what the check needs of the transaction, which commits as number `n`, the next one; what `Verdict::Clear` said of its
+    /// dependencies comes along, so that they aren't looked for again. From each history that is stood for it leads to that history with the
+    /// new record. It can't fail: `reserve` made room. Then it merges the last runs, also those of the last readers, where they are of a
+    /// like size and there is memory for that; where it is refused they stay.
+    pub fn note(&mut self, tx: &Transaction, n: u64, has_earlier_target: bool)
         requires next { n ≡ self.old.facts.last + 1 }
+        requires target { has_earlier_target ≡ is_some (target self.old.facts tx.now) }
         requires room { HasRoom self.old.room tx.now }
         ensures stands_for { IsInReach self.old.facts tx.now → IsClear self.old.facts tx.now → (h : List Record) → StandsFor self.old.facts h → (r : Record) → IsRecordOf tx.now n r → StandsFor self.new.facts (h ++ r ∷ []) }
         ensures last { self.new.facts.last ≡ n }
         ensures oldest { self.new.facts.oldest ≡ self.old.facts.oldest }
     {
-        self.add_record(tx, n);
+        self.add_record(tx, n, has_earlier_target);
         self.merge();
     }
 

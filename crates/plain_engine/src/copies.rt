@@ -1,5 +1,4 @@
 //! A transaction's private copy.
-ghost use Rattle.model.specs.Bounds.{payload_bound, value_max};
 
 use crate::commits::Commit;
 use crate::faults::EngineFault;
@@ -10,13 +9,12 @@ use crate::pairs::{
 };
 use model::{Key, KeyRef, Memory, RangeRef, Refusal};
 use std::alloc::Global;
-use std::marker::Model;
 
 const MARKS_MAX: usize = 256;
 
 const WRITES_MAX: usize = 64;
 
-/// A map, with the keys that were written in it and the marks of what was read. A clause sees the model's copy.
+/// A map, with the keys that were written in it and the marks of what was read.
 #[derive(Drop)]
 pub struct PrivateCopy {
     contents: Vec<(Key, Value)>,
@@ -25,32 +23,9 @@ pub struct PrivateCopy {
     marks: Vec<Mark>,
 }
 
-impl Model for PrivateCopy {
-    ghost use Rattle.std.specs.Prelude.{◌≤◌, length};
-    ghost use Rattle.model.specs.PrivateCopy.{PrivateCopy as ModelCopy};
-
-    ghost Value = { ModelCopy };
-
-    ghost view = { λ c. record { contents = c.contents.items; written = c.written.items; marks = c.marks.items } };
-
-    ghost invariant = { λ c. length c.written.items ≤ 64 };
-}
-
 impl PrivateCopy {
-    ghost use Rattle.std.specs.Prelude.{◌≡◌, ℕ, ◌+◌, ◌*◌, ◌≤◌, [], length, IfOk, All, option_map};
-    ghost use Rattle.model.specs.Map.{value_at};
-    ghost use Rattle.model.specs.PrivateCopy.{copy_of, values_at, is_written, after_read};
-    ghost use Rattle.model.specs.Machine.{payload_size};
-    ghost use Rattle.model.specs.Operations.{Response};
-    ghost use Rattle.model.specs.Operations.Operation.{Get, Set, Del, Range};
-    ghost use Rattle.model.specs.Operations.Response.{Done, Value as Answered, Pairs};
-    ghost use Rattle.plain_engine.specs.Limits.{IsLimited};
-    ghost use Rattle.plain_engine.specs.Results.{Gives, Answers, response_of};
-
     /// The copy of a map.
-    pub fn new(alloc: Global, contents: &[(Key, Value)]) -> Result<PrivateCopy, Memory>
-        ensures { IfOk result (λ c. c ≡ copy_of contents.now) }
-    {
+    pub fn new(alloc: Global, contents: &[(Key, Value)]) -> Result<PrivateCopy, Memory> {
         let contents = copied_map(alloc, contents)?;
         Ok(PrivateCopy {
             contents,
@@ -60,25 +35,19 @@ impl PrivateCopy {
     }
 
     /// A copy of the key's value.
-    fn peek(&self, alloc: Global, key: KeyRef<'_>) -> Result<Option<Vec<u8>>, Memory>
-        ensures { IfOk result (λ v. option_map (λ b. b.items) v ≡ value_at self.now.contents key.entry.bytes.now) }
-    {
+    fn peek(&self, alloc: Global, key: KeyRef<'_>) -> Result<Option<Vec<u8>>, Memory> {
         match value_of(&self.contents, key) {
             Some(value) => Ok(Some(value.lend().to_vec(alloc)?)),
             None => Ok(None),
         }
     }
 
-    fn is_written(&self, key: KeyRef<'_>) -> bool
-        ensures { result ≡ is_written self.now key.entry.bytes.now }
-    {
+    fn is_written(&self, key: KeyRef<'_>) -> bool {
         is_among(&self.written, key)
     }
 
     /// Makes a mark, unless it is there already.
-    fn mark(&mut self, mark: Mark) -> Result<(), EngineFault>
-        ensures { (response : Response) → Gives self.old self.new (after_read self.old mark response) (response_of (λ _. response) result) }
-    {
+    fn mark(&mut self, mark: Mark) -> Result<(), EngineFault> {
         if is_marked(&self.marks, &mark) {
             return Ok(());
         }
@@ -89,9 +58,7 @@ impl PrivateCopy {
         Ok(())
     }
 
-    pub fn get(&mut self, alloc: Global, key: KeyRef<'_>) -> Result<Option<Vec<u8>>, EngineFault>
-        ensures { Answers self.old self.new (Get key.entry.bytes.now) (response_of (λ v. Answered (option_map (λ b. b.items) v)) result) }
-    {
+    pub fn get(&mut self, alloc: Global, key: KeyRef<'_>) -> Result<Option<Vec<u8>>, EngineFault> {
         let value = self.peek(alloc, key)?;
         if self.is_written(key) {
             return Ok(value);
@@ -108,9 +75,7 @@ impl PrivateCopy {
         alloc: Global,
         range: RangeRef<'_>,
         limit: u8,
-    ) -> Result<Vec<(Key, Value)>, EngineFault>
-        ensures { Answers self.old self.new (Range range.entry.lo.bytes.now (option_map (λ k. k.bytes.now) range.entry.hi) limit) (response_of (λ rows. Pairs rows.items) result) }
-    {
+    ) -> Result<Vec<(Key, Value)>, EngineFault> {
         if is_empty_range(range) {
             return Ok(Vec::new(alloc));
         }
@@ -124,10 +89,7 @@ impl PrivateCopy {
         }
     }
 
-    pub fn set(&mut self, alloc: Global, key: KeyRef<'_>, value: &[u8]) -> Result<(), EngineFault>
-        requires { length value.now ≤ value_max }
-        ensures { Answers self.old self.new (Set key.entry.bytes.now value.now) (response_of (λ _. Done) result) }
-    {
+    pub fn set(&mut self, alloc: Global, key: KeyRef<'_>, value: &[u8]) -> Result<(), EngineFault> {
         if self.is_written(key) {
             self.contents = with_value(alloc, &self.contents, key, value)?;
             return Ok(());
@@ -141,9 +103,7 @@ impl PrivateCopy {
         Ok(())
     }
 
-    pub fn del(&mut self, alloc: Global, key: KeyRef<'_>) -> Result<(), EngineFault>
-        ensures { Answers self.old self.new (Del key.entry.bytes.now) (response_of (λ _. Done) result) }
-    {
+    pub fn del(&mut self, alloc: Global, key: KeyRef<'_>) -> Result<(), EngineFault> {
         if self.is_written(key) {
             self.contents = without_key(alloc, &self.contents, key)?;
             return Ok(());
@@ -158,11 +118,7 @@ impl PrivateCopy {
     }
 
     /// What is kept of the transaction once it has committed.
-    pub fn to_commit(&self, alloc: Global, begin: u64, commit: u64) -> Result<Commit, Memory>
-        ensures is { IfOk result (λ r. r ≡ record { begin = begin; commit = commit; requests = []; replies = []; reads = self.now.marks; writes = values_at self.now.contents self.now.written }) }
-        ensures sized { IfOk result (λ r. payload_size r.writes ≤ payload_bound value_max) }
-        ensures limited { IfOk result (λ r. All IsLimited r.writes) }
-    {
+    pub fn to_commit(&self, alloc: Global, begin: u64, commit: u64) -> Result<Commit, Memory> {
         let writes = values_of(alloc, &self.contents, &self.written)?;
         let marks = copied_marks(alloc, &self.marks)?;
         Ok(Commit::new(begin, commit, marks, writes))

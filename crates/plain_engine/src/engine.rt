@@ -1,9 +1,6 @@
 //! The engine.
-ghost use Rattle.model.specs.Bounds.{value_max};
-ghost use Rattle.std.specs.Prelude.{◌≡◌, ◌<◌, length};
-ghost use Rattle.plain_engine.specs.Conflicts.{refusal_of, IsPlaced};
 
-use crate::commits::{Commit, Conflict, body_sectors, conflict_of, with_writes};
+use crate::commits::{Commit, body_sectors, conflict_of, with_writes};
 use crate::copies::PrivateCopy;
 use crate::faults::EngineFault;
 use crate::pairs::Value;
@@ -44,21 +41,8 @@ pub struct Engine {
 }
 
 impl Engine {
-    ghost use Rattle.std.specs.Prelude.{◌≡◌, ◌≤◌, ◌↔◌, false, Some, length, option_map, IfErr, IsTrue};
-    ghost use Rattle.model.specs.declared.refusals.Refusal.{Refusal as Reason};
-    ghost use Rattle.model.specs.Map.{IsMap};
-    ghost use Rattle.model.specs.Operations.Operation.{Begin, Get, Set, Del, Range, Abort, Ping, Faulty, Commit as Committing};
-    ghost use Rattle.model.specs.Operations.Response.{Done, Number, Pairs, Pong, Refused, Value as Answered};
-    ghost use Rattle.model.specs.History.{map_at};
-    ghost use Rattle.model.specs.Machine.{State, last, leave, opened};
-    ghost use Rattle.plain_engine.specs.Meaning.{StandsFor, Leads, IsWithout};
-    ghost use Rattle.plain_engine.specs.Results.{response_of};
-
     /// The engine over a map, with so many sectors of the device in use. Takes no memory.
-    pub fn new(alloc: Global, current: Vec<(Key, Value)>, used: u64, count: u64) -> Engine
-        requires { IsMap current.items }
-        ensures { StandsFor result (opened current.items used count) }
-    {
+    pub fn new(alloc: Global, current: Vec<(Key, Value)>, used: u64, count: u64) -> Engine {
         Engine {
             current,
             commits: Vec::new(alloc),
@@ -69,17 +53,8 @@ impl Engine {
         }
     }
 
-    /// The map that is committed, by rising key. Takes no memory.
-    pub fn committed_map(&self) -> &[(Key, Value)]
-        ensures { (m : State) → StandsFor self.now m → result.now ≡ map_at m.base m.history (last m) }
-    {
-        self.current.as_slice()
-    }
-
     /// Begins a transaction of the session, with a copy of the map.
-    pub fn begin(&mut self, alloc: Global, s: u64) -> Result<(), EngineFault>
-        ensures { Leads self.old self.new s Begin false (response_of (λ _. Done) result) }
-    {
+    pub fn begin(&mut self, alloc: Global, s: u64) -> Result<(), EngineFault> {
         let open = self.running.len();
         if self.running.contains_key(&s) {
             return Err(EngineFault::Refused(Refusal::AlreadyOpen));
@@ -105,9 +80,7 @@ impl Engine {
         alloc: Global,
         s: u64,
         key: KeyRef<'_>,
-    ) -> Result<Option<Vec<u8>>, EngineFault>
-        ensures { Leads self.old self.new s (Get key.entry.bytes.now) false (response_of (λ v. Answered (option_map (λ b. b.items) v)) result) }
-    {
+    ) -> Result<Option<Vec<u8>>, EngineFault> {
         match self.running.get_mut(&s) {
             Some(transaction) => transaction.copy.get(alloc, key),
             None => Err(EngineFault::Refused(Refusal::NotOpen)),
@@ -121,9 +94,7 @@ impl Engine {
         s: u64,
         range: RangeRef<'_>,
         limit: u8,
-    ) -> Result<Vec<(Key, Value)>, EngineFault>
-        ensures { Leads self.old self.new s (Range range.entry.lo.bytes.now (option_map (λ k. k.bytes.now) range.entry.hi) limit) false (response_of (λ rows. Pairs rows.items) result) }
-    {
+    ) -> Result<Vec<(Key, Value)>, EngineFault> {
         match self.running.get_mut(&s) {
             Some(transaction) => transaction.copy.range(alloc, range, limit),
             None => Err(EngineFault::Refused(Refusal::NotOpen)),
@@ -137,10 +108,7 @@ impl Engine {
         s: u64,
         key: KeyRef<'_>,
         value: &[u8],
-    ) -> Result<(), EngineFault>
-        requires { length value.now ≤ value_max }
-        ensures { Leads self.old self.new s (Set key.entry.bytes.now value.now) false (response_of (λ _. Done) result) }
-    {
+    ) -> Result<(), EngineFault> {
         match self.running.get_mut(&s) {
             Some(transaction) => transaction.copy.set(alloc, key, value),
             None => Err(EngineFault::Refused(Refusal::NotOpen)),
@@ -148,9 +116,7 @@ impl Engine {
     }
 
     /// Takes the key's value away in the session's transaction.
-    pub fn del(&mut self, alloc: Global, s: u64, key: KeyRef<'_>) -> Result<(), EngineFault>
-        ensures { Leads self.old self.new s (Del key.entry.bytes.now) false (response_of (λ _. Done) result) }
-    {
+    pub fn del(&mut self, alloc: Global, s: u64, key: KeyRef<'_>) -> Result<(), EngineFault> {
         match self.running.get_mut(&s) {
             Some(transaction) => transaction.copy.del(alloc, key),
             None => Err(EngineFault::Refused(Refusal::NotOpen)),
@@ -159,10 +125,12 @@ impl Engine {
 
     /// Commits the session's transaction, and answers its commit number. `device_fails` says whether the device fails, if it
     /// is called.
-    pub fn commit(&mut self, alloc: Global, s: u64, device_fails: bool) -> Result<u64, EngineFault>
-        ensures { Leads self.old self.new s Committing device_fails (response_of (λ n. Number n) result) }
-    {
-        let _open = self.running.len();
+    pub fn commit(
+        &mut self,
+        alloc: Global,
+        s: u64,
+        device_fails: bool,
+    ) -> Result<u64, EngineFault> {
         let Some(transaction) = self.running.get(&s) else {
             return Err(EngineFault::Refused(Refusal::NotOpen));
         };
@@ -177,8 +145,8 @@ impl Engine {
         let commit = transaction
             .copy
             .to_commit(alloc, transaction.begin, number)?;
-        if let Some(conflict) = conflict_of(&self.commits, &commit) {
-            return self.refuse(s, refusal(commit, conflict));
+        if let Some(conflict) = conflict_of(alloc, &self.commits, &commit)? {
+            return self.refuse(s, conflict);
         }
         if commit.writes().is_empty() {
             self.commits.push(commit)?;
@@ -202,22 +170,13 @@ impl Engine {
     }
 
     /// Ends the session's transaction with this refusal.
-    fn refuse(&mut self, s: u64, refusal: Refusal) -> Result<u64, EngineFault>
-        ensures refused { result ≡ Err (EngineFault.Refused refusal) }
-        ensures left { IsWithout self.old self.new s }
-    {
-        let _open = self.running.len();
+    fn refuse(&mut self, s: u64, refusal: Refusal) -> Result<u64, EngineFault> {
         self.running.remove(&s);
         Err(EngineFault::Refused(refusal))
     }
 
     /// Ends the session's transaction, if it has one, and keeps none of its writes. Takes no memory.
-    pub fn abort(&mut self, s: u64) -> Result<(), EngineFault>
-        ensures no_memory { IfErr result (λ e. e ≡ EngineFault.Refused Refusal.NotOpen) }
-        ensures leaves { (m : State) → StandsFor self.old m → StandsFor self.new (leave m s) }
-        ensures step { Leads self.old self.new s Abort false (response_of (λ _. Done) result) }
-    {
-        let _open = self.running.len();
+    pub fn abort(&mut self, s: u64) -> Result<(), EngineFault> {
         match self.running.remove(&s) {
             Some(_transaction) => Ok(()),
             None => Err(EngineFault::Refused(Refusal::NotOpen)),
@@ -225,22 +184,5 @@ impl Engine {
     }
 
     /// A PING, and a request with a fault in its form, change nothing. Takes no memory.
-    pub fn passes(&self, s: u64)
-        ensures ping { Leads self.now self.now s Ping false (Some Pong) }
-        ensures faulty { (reason : Reason) → Leads self.now self.now s (Faulty reason) false (Some (Refused reason)) }
-    {
-        let _open = self.running.len();
-    }
-}
-
-/// The refusal that a conflict means, which takes its key out of the record.
-fn refusal(commit: Commit, conflict: Conflict) -> Refusal
-    requires { IsPlaced (length commit.writes) conflict }
-    ensures { result ≡ refusal_of commit.writes conflict }
-{
-    match conflict {
-        Conflict::Overwritten(i) => Refusal::Overwritten(commit.into_key(i)),
-        Conflict::PivotSelf => Refusal::PivotSelf,
-        Conflict::Pivot(n) => Refusal::Pivot(n),
-    }
+    pub fn passes(&self, s: u64) {}
 }

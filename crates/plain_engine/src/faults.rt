@@ -10,33 +10,18 @@ pub enum EngineFault {
 }
 
 impl From<model::Memory> for EngineFault {
-    ghost use Rattle.std.specs.Prelude.{◌≡◌};
-    ghost use Rattle.plain_engine.specs.declared.faults.EngineFault.TheVariants.{Memory};
-
-    ghost from_gives = { λ _ e. e ≡ Memory };
-
     fn from(_memory: model::Memory) -> EngineFault {
         EngineFault::Memory
     }
 }
 
 impl From<AllocError> for EngineFault {
-    ghost use Rattle.std.specs.Prelude.{◌≡◌};
-    ghost use Rattle.plain_engine.specs.declared.faults.EngineFault.TheVariants.{Memory};
-
-    ghost from_gives = { λ _ e. e ≡ Memory };
-
     fn from(_error: AllocError) -> EngineFault {
         EngineFault::Memory
     }
 }
 
 impl<T: Drop> From<AllocFailed<T>> for EngineFault {
-    ghost use Rattle.std.specs.Prelude.{◌≡◌};
-    ghost use Rattle.plain_engine.specs.declared.faults.EngineFault.TheVariants.{Memory};
-
-    ghost from_gives = { λ _ e. e ≡ Memory };
-
     fn from(_error: AllocFailed<T>) -> EngineFault {
         EngineFault::Memory
     }

@@ -1,12 +1,7 @@
 //! What a transaction has read.
-ghost use Rattle.std.specs.Prelude.{◌≡◌, IfOk};
-ghost use Rattle.std.specs.List.{list_any};
-ghost use Rattle.model.specs.PrivateCopy.{is_covered, is_same_mark};
-ghost use Rattle.model.specs.PrivateCopy.Mark.{OfRange};
 
 use model::{Key, KeyRef, Memory, Range, RangeRef};
 use std::alloc::Global;
-use std::marker::Model;
 
 #[derive(Drop)]
 enum Reading {
@@ -15,40 +10,21 @@ enum Reading {
     ClosedRange(Key, Key),
 }
 
-/// A key or a range of keys that was read. A clause sees the model's mark.
+/// A key or a range of keys that was read.
 #[derive(Drop)]
 pub struct Mark {
     reading: Reading,
 }
 
-impl Model for Mark {
-    ghost use Rattle.model.specs.PrivateCopy.{Mark};
-    ghost use Rattle.plain_engine.specs.Readings.{mark_of};
-
-    ghost Value = { Mark };
-
-    ghost view = { λ m. mark_of m.reading };
-}
-
 impl Mark {
-    ghost use Rattle.std.specs.Prelude.{◌≡◌, IfOk};
-    ghost use Rattle.model.specs.KeyBytes.{key_bytes, end_bytes};
-    ghost use Rattle.model.specs.PrivateCopy.{covers, is_same_mark, mark_up_to};
-    ghost use Rattle.model.specs.PrivateCopy.Mark.{OfKey, OfClosedRange};
-    ghost use Rattle.plain_engine.specs.Readings.{range_mark};
-
-    pub fn of_key(alloc: Global, key: KeyRef<'_>) -> Result<Mark, Memory>
-        ensures { IfOk result (λ m. m ≡ OfKey key.entry.bytes.now) }
-    {
+    pub fn of_key(alloc: Global, key: KeyRef<'_>) -> Result<Mark, Memory> {
         let key = Key::from_ref(alloc, key)?;
         Ok(Mark {
             reading: Reading::Key(key),
         })
     }
 
-    pub fn of_range(alloc: Global, range: RangeRef<'_>) -> Result<Mark, Memory>
-        ensures { IfOk result (λ m. m ≡ range_mark range.entry) }
-    {
+    pub fn of_range(alloc: Global, range: RangeRef<'_>) -> Result<Mark, Memory> {
         let lo = Key::from_ref(alloc, range.lo)?;
         let hi = match range.hi {
             None => None,
@@ -60,9 +36,7 @@ impl Mark {
     }
 
     /// The mark of all keys from the first to the last, both included.
-    pub fn of_ends(alloc: Global, lo: KeyRef<'_>, last: KeyRef<'_>) -> Result<Mark, Memory>
-        ensures { IfOk result (λ m. m ≡ OfClosedRange lo.entry.bytes.now last.entry.bytes.now) }
-    {
+    pub fn of_ends(alloc: Global, lo: KeyRef<'_>, last: KeyRef<'_>) -> Result<Mark, Memory> {
         let lo = Key::from_ref(alloc, lo)?;
         let last = Key::from_ref(alloc, last)?;
         Ok(Mark {
@@ -75,18 +49,14 @@ impl Mark {
         alloc: Global,
         range: RangeRef<'_>,
         end: Option<KeyRef<'_>>,
-    ) -> Result<Mark, Memory>
-        ensures { IfOk result (λ m. m ≡ mark_up_to (key_bytes range.entry.lo) (end_bytes range.entry.hi) (end_bytes end.entry)) }
-    {
+    ) -> Result<Mark, Memory> {
         match end {
             Some(last) => Mark::of_ends(alloc, range.lo, last),
             None => Mark::of_range(alloc, range),
         }
     }
 
-    pub fn copy(&self, alloc: Global) -> Result<Mark, Memory>
-        ensures { IfOk result (λ m. m ≡ self.now) }
-    {
+    pub fn copy(&self, alloc: Global) -> Result<Mark, Memory> {
         match &self.reading {
             Reading::Key(key) => Mark::of_key(alloc, key.lend()),
             Reading::Range(range) => {
@@ -106,9 +76,7 @@ impl Mark {
         }
     }
 
-    pub fn covers(&self, key: KeyRef<'_>) -> bool
-        ensures { result ≡ covers self.now key.entry.bytes.now }
-    {
+    pub fn covers(&self, key: KeyRef<'_>) -> bool {
         match &self.reading {
             Reading::Key(read) => read.lend().order(key).is_eq(),
             Reading::Range(range) => {
@@ -126,9 +94,7 @@ impl Mark {
         }
     }
 
-    pub fn is_same(&self, other: &Mark) -> bool
-        ensures { result ≡ is_same_mark self.now other.now }
-    {
+    pub fn is_same(&self, other: &Mark) -> bool {
         match (&self.reading, &other.reading) {
             (Reading::Key(key), Reading::Key(other)) => key.lend().order(other.lend()).is_eq(),
             (Reading::Range(range), Reading::Range(other)) => is_same_range(range, other),
@@ -141,9 +107,7 @@ impl Mark {
     }
 }
 
-fn is_same_range(range: &Range, other: &Range) -> bool
-    ensures { result ≡ is_same_mark (OfRange range.now.lo range.now.hi) (OfRange other.now.lo other.now.hi) }
-{
+fn is_same_range(range: &Range, other: &Range) -> bool {
     let is_same_end = match (&range.hi, &other.hi) {
         (None, None) => true,
         (Some(hi), Some(end)) => hi.lend().order(end.lend()).is_eq(),
@@ -153,9 +117,7 @@ fn is_same_range(range: &Range, other: &Range) -> bool
 }
 
 /// Is the mark one of these?
-pub fn is_among(marks: &[Mark], mark: &Mark) -> bool
-    ensures { result ≡ list_any (is_same_mark mark.now) marks.now }
-{
+pub fn is_among(marks: &[Mark], mark: &Mark) -> bool {
     for m in marks {
         if mark.is_same(m) {
             return true;
@@ -165,9 +127,7 @@ pub fn is_among(marks: &[Mark], mark: &Mark) -> bool
 }
 
 /// Does one of the marks cover the key?
-pub fn is_covering(marks: &[Mark], key: KeyRef<'_>) -> bool
-    ensures { result ≡ is_covered marks.now key.entry.bytes.now }
-{
+pub fn is_covering(marks: &[Mark], key: KeyRef<'_>) -> bool {
     for m in marks {
         if m.covers(key) {
             return true;
@@ -177,9 +137,7 @@ pub fn is_covering(marks: &[Mark], key: KeyRef<'_>) -> bool
 }
 
 /// A copy of the marks.
-pub fn copied_marks(alloc: Global, marks: &[Mark]) -> Result<Vec<Mark>, Memory>
-    ensures { IfOk result (λ v. v.items ≡ marks.now) }
-{
+pub fn copied_marks(alloc: Global, marks: &[Mark]) -> Result<Vec<Mark>, Memory> {
     let mut out = Vec::new(alloc);
     for m in marks {
         out.push(m.copy(alloc)?)?;

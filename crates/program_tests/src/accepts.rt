@@ -69,14 +69,40 @@ fn two_turns(rt: HostRuntime) -> Result<(), Fail> {
     let mut waiting = Waiting::new(streams, false);
     let mut table = Slab::<Entry<BufferedStream<Socket>>>::new(alloc);
     let mut next = 0u64;
-    let first = accept_some(alloc, &poll, &mut waiting, &mut hub, &mut next, &mut table);
+    let mut refused = 0u64;
+    let first = accept_some(
+        alloc,
+        &poll,
+        &mut waiting,
+        &mut hub,
+        &mut next,
+        &mut refused,
+        &mut table,
+    );
     assert_eq!(rt; (first, waiting.counts()), (Backlog::Full, (128, 0, 0)));
     assert_eq!(rt; (next, table.len()), (128, 128));
-    let second = accept_some(alloc, &poll, &mut waiting, &mut hub, &mut next, &mut table);
+    let second = accept_some(
+        alloc,
+        &poll,
+        &mut waiting,
+        &mut hub,
+        &mut next,
+        &mut refused,
+        &mut table,
+    );
     assert_eq!(rt; (second, waiting.counts()), (Backlog::Empty, (130, 1, 0)));
     assert_eq!(rt; (next, table.len()), (128, 128));
     waiting.fails = true;
-    let third = accept_some(alloc, &poll, &mut waiting, &mut hub, &mut next, &mut table);
+    let third = accept_some(
+        alloc,
+        &poll,
+        &mut waiting,
+        &mut hub,
+        &mut next,
+        &mut refused,
+        &mut table,
+    );
     assert_eq!(rt; (third, waiting.counts()), (Backlog::Failed, (130, 1, 1)));
+    assert_eq!(rt; refused, 0);
     Ok(())
 }

@@ -1,5 +1,5 @@
 //! What a `create` that fails leaves.
-use commands::{Fault, create};
+use commands::{Fault, SystemFiles, create};
 use std::alloc::Allocator;
 use std::fs::{self, File, Metadata, OpenOptions};
 use std::io::{self, ErrorKind};
@@ -78,9 +78,10 @@ impl Clock for NoDirectories<'_> {
 fn a_failed_create_leaves_no_file(rt: HostRuntime) -> Result<(), Fail> {
     let name = "failed.data";
     let _ = fs::remove_file(&rt, name);
-    let failed = create(&NoDirectories { rt: &rt }, name, 4);
+    let broken = NoDirectories { rt: &rt };
+    let failed = create(&mut SystemFiles::new(&broken), name, 4);
     assert!(rt; failed == Err(Fault::File));
-    assert!(rt; create(&rt, name, 4).is_ok());
+    assert!(rt; create(&mut SystemFiles::new(&rt), name, 4).is_ok());
     assert!(rt; fs::remove_file(&rt, name).is_ok());
     Ok(())
 }

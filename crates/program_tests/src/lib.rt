@@ -14,6 +14,8 @@ mod events;
 #[cfg(test)]
 mod hubs;
 #[cfg(test)]
+mod idle;
+#[cfg(test)]
 mod loops;
 #[cfg(test)]
 mod programs;

@@ -1,17 +1,19 @@
 //! The loop, with clients over sockets of the same process.
 use crate::hubs::{new_hub, opened};
-use commands::{DONE, create, run};
+use commands::{DONE, FAULT, SystemFiles, create, run};
 use event_loop::EventLoop;
 use sector::{FileSectors, Sectors};
 use std::alloc::Global;
-use std::fs;
+use std::fs::{self, File};
 use std::io::{self, Read, Write};
-use std::net::{Ipv4Addr, SocketAddr, TcpStream};
+use std::net::{Ipv4Addr, Net, SocketAddr, TcpStream};
+use std::rt::Files;
+use std::sync::Wait;
 use std::test::Fail;
 use std::time::{Clock, Duration};
 
 /// Sends a request, and runs turns until a reply of this length is there or the turns are over. Is it this reply?
-fn asks<D: Sectors, C: Clock>(
+pub(crate) fn asks<D: Sectors, C: Clock>(
     clock: &C,
     events: &mut EventLoop<D>,
     client: &mut TcpStream,
@@ -35,7 +37,7 @@ fn asks<D: Sectors, C: Clock>(
     Ok(&got[..len.min(64)] == reply)
 }
 
-fn anywhere() -> SocketAddr {
+pub(crate) fn anywhere() -> SocketAddr {
     SocketAddr::from((Ipv4Addr::LOCALHOST, 0))
 }
 
@@ -70,12 +72,39 @@ fn write_skew(rt: HostRuntime) -> Result<(), Fail> {
     Ok(())
 }
 
-/// One commit through the loop into a file of four sectors, which is then counted.
+/// Is a log of four sectors copied, with its counts, and refused as full before the new file is made where this may have three alone?
+fn copies<R: Files<File = File> + Net + Wait + Clock>(rt: &R, alloc: Global, from: &str) -> bool {
+    let to = "copied.data";
+    let _ = fs::remove_file(rt, to);
+    let mut out = Vec::new(alloc);
+    let mut err = Vec::new(alloc);
+    let few = [
+        "ssikvd",
+        "compact",
+        "--from",
+        from,
+        "--to",
+        to,
+        "--sectors",
+        "3",
+    ];
+    let input = b"".as_slice();
+    let refused = run(rt, alloc, &few, input, &mut out, &mut err) == FAULT
+        && err.as_slice() == b"ssikvd: log full\n".as_slice()
+        && fs::remove_file(rt, to).is_err();
+    let done = run(rt, alloc, &few[..6], input, &mut out, &mut err) == DONE
+        && out.as_slice() == b"records 1 keys 1 sectors 4 of 4\n".as_slice();
+    // Its name is taken now.
+    let again = run(rt, alloc, &few[..6], input, &mut out, &mut err) == FAULT;
+    refused && done && again && fs::remove_file(rt, to).is_ok()
+}
+
+/// One commit through the loop into a file of four sectors, which is then counted and copied.
 #[test]
 fn data_file(rt: HostRuntime) -> Result<(), Fail> {
     let name = "loop.data";
     let _ = fs::remove_file(&rt, name);
-    create(&rt, name, 4).map_err(|_| "create")?;
+    create(&mut SystemFiles::new(&rt), name, 4).map_err(|_| "create")?;
     let device = FileSectors::open(&rt, name)?;
     let hub = opened(rt.alloc(), device)?;
     let mut events = EventLoop::bind(&rt, rt.alloc(), anywhere(), hub)?;
@@ -100,5 +129,6 @@ fn data_file(rt: HostRuntime) -> Result<(), Fail> {
     assert!(rt;
         status == DONE && out.as_slice() == b"records 1 keys 1 sectors 4 of 4\n".as_slice()
     );
+    assert!(rt; copies(&rt, rt.alloc(), name));
     Ok(())
 }

@@ -3,4 +3,5 @@ pub mod SectorModel
 pub mod Failures
 pub mod Settled
 pub mod FileModel
+pub mod FileOpening
 pub mod Slots

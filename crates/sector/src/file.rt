@@ -1,13 +1,15 @@
 //! A device over a file. What a file gives back and keeps is left open.
-ghost use Rattle.std.specs.Prelude.{◌≡◌, ◌≢◌, ◌<◌, ◌≤◌, ◌*◌, ◌%◌, ◌^◌, ◌↔◌, MatchOption, IfSome, IfOk, IsOk, IsErrAnd, OnOk, OnErr};
+ghost use Rattle.std.specs.Prelude.{true, false, ℕ, List, ◌≡◌, ◌≢◌, ◌<◌, ◌≤◌, ◌*◌, ◌%◌, ◌^◌, ◌↔◌, MatchOption, IfSome, IfOk, IsOk, IsErrAnd, OnOk, OnErr, replicate};
 ghost use Rattle.std.specs.IoError.{error_kind};
+ghost use Rattle.file_calls.specs.HappenedCalls.{WasWritten, WasSynced, HadNameSettled, HadCopiesDropped};
+ghost use Rattle.file_calls.specs.OpenFacts.{next};
 ghost use Rattle.sector.specs.Failures.{Rose, Stayed, greatest};
+ghost use Rattle.sector.specs.FileOpening.{WasMadeOfZeros, WasOpenedWhole, WasOpenedWholeToRead, IsWhole};
 
 use crate::{DeviceFault, SECTOR_SIZE, Sector, Sectors};
-use file_calls::CountedFile;
-use std::fs::{self, File, OpenFile, OpenOptions};
-use std::io::{self, ErrorKind, Read};
-use std::path::Path;
+use file_calls::{CountedFile, OpenedFile};
+use std::fs::{self, File};
+use std::io::{self, ErrorKind};
 use std::rt::Files;
 use std::time::Clock;
 
@@ -22,6 +24,10 @@ pub struct FileSectors {
 }
 
 impl FileSectors {
+    ghost use Rattle.file_calls.specs.OpenFacts as facts;
+    ghost use Rattle.sector.specs.FileModel.{FileKeepsModel};
+    ghost use Rattle.sector.specs.SectorModel.{IsSettled};
+
     /// Makes a new file of `count` sectors of zeros, all of them written, and syncs it and its directory. A crash then finds the file,
     /// and no later write of a sector has to find room on the disk for it.
     ///
@@ -31,14 +37,17 @@ impl FileSectors {
         ensures too_many { 2 ^ 55 ≤ count → IsErrAnd result (λ e. error_kind e ≡ ErrorKind.InvalidInput) }
         ensures count { IfOk result (λ f. f.file.sectors ≡ count) }
         ensures failures { IfOk result (λ f. f.failures ≡ 0) }
+        ensures made { IfOk result (λ f. WasMadeOfZeros path.now count f.file) }
+        // Under the premise on files it holds zeros, and a crash leaves them.
+        ensures zeros { FileKeepsModel → IfOk result (λ f. IsSettled count (facts.may_read f.file) (facts.may_leave f.file) (replicate count (replicate 512 0))) }
     {
         if count >= 1 << 55 {
             return Err(io::Error::from(ErrorKind::InvalidInput));
         }
-        let mut file = options().create_new(true).open(rt, path)?;
-        match write_zeros(rt, path, &mut file, count * SECTOR_SIZE as u64) {
+        let mut file = CountedFile::new(OpenedFile::make(rt, path)?, count);
+        match settle_zeros(rt, path, &mut file, count * SECTOR_SIZE as u64) {
             Ok(()) => Ok(FileSectors {
-                file: CountedFile::new(rt, file, count),
+                file,
                 failures: 0,
                 drops_copies: false,
             }),
@@ -58,19 +67,23 @@ impl FileSectors {
     /// Answers an error where there is no file of this name, where its length is no multiple of 512 (`InvalidData`), and where a call
     /// of the system fails. Takes no memory.
     pub fn open<R: Files<File = File> + Clock>(rt: &R, path: &str) -> io::Result<Self>
-        ensures { IfOk result (λ f. f.failures ≡ 0) }
+        ensures failures { IfOk result (λ f. f.failures ≡ 0) }
+        ensures opened { IfOk result (λ f. WasOpenedWhole path.now f.file) }
+        ensures drops { IfOk result (λ f. f.drops_copies ≡ true) }
     {
-        let file = options().open(rt, path)?;
-        sync_directory(rt, path)?;
-        with_whole_sectors(rt, file, true)
+        let file = OpenedFile::open(rt, path)?;
+        file.settle_name(rt, path)?;
+        with_whole_sectors(file, true)
     }
 
     /// Opens a file of whole sectors to be read alone, with the errors of `open`: the system refuses each write to it. Its directory is
     /// not synced, and the system's copies stay, which may be all that is left where a device fails. Takes no memory.
     pub fn open_to_read<R: Files<File = File> + Clock>(rt: &R, path: &str) -> io::Result<Self>
-        ensures { IfOk result (λ f. f.failures ≡ 0) }
+        ensures failures { IfOk result (λ f. f.failures ≡ 0) }
+        ensures opened { IfOk result (λ f. WasOpenedWholeToRead path.now f.file) }
+        ensures keeps { IfOk result (λ f. f.drops_copies ≡ false) }
     {
-        with_whole_sectors(rt, File::open(rt, Path::new(path))?, false)
+        with_whole_sectors(OpenedFile::open_to_read(rt, path)?, false)
     }
 
     /// Counts a call of the file, and tells how it ended. Where the count stands at its end, each call fails.
@@ -91,22 +104,27 @@ impl FileSectors {
     fn drop_copies(&mut self) -> io::Result<()>
         ensures file { self.new.file ≡ self.old.file }
         ensures failures { self.new.failures ≡ self.old.failures }
+        ensures dropped { self.old.drops_copies ≡ true → OnOk result (HadCopiesDropped self.old.file.file) }
+        ensures once { self.new.drops_copies ≡ false }
     {
         if !self.drops_copies {
             return Ok(());
         }
         self.drops_copies = false;
-        self.file.drop_copies()
+        self.file.opened().drop_copies()
     }
 }
 
 /// A device over an open file, with an error where its length is no multiple of 512.
-fn with_whole_sectors<C: Clock>(rt: &C, file: File, drops_copies: bool) -> io::Result<FileSectors>
-    ensures { IfOk result (λ f. f.failures ≡ 0) }
+fn with_whole_sectors(file: OpenedFile, drops_copies: bool) -> io::Result<FileSectors>
+    ensures failures { IfOk result (λ f. f.failures ≡ 0) }
+    ensures file { IfOk result (λ f. f.file.file ≡ file) }
+    ensures whole { IfOk result (λ f. IsWhole f.file) }
+    ensures drops { IfOk result (λ f. f.drops_copies ≡ drops_copies) }
 {
-    match whole_sectors(file.metadata()?.len()) {
+    match whole_sectors(file.length()?) {
         Some(count) => Ok(FileSectors {
-            file: CountedFile::new(rt, file, count),
+            file: CountedFile::new(file, count),
             failures: 0,
             drops_copies,
         }),
@@ -116,7 +134,7 @@ fn with_whole_sectors<C: Clock>(rt: &C, file: File, drops_copies: bool) -> io::R
 
 /// How many sectors have so many bytes, where these are whole sectors.
 fn whole_sectors(len: u64) -> Option<u64>
-    ensures count { MatchOption result (len % 512 ≢ 0) (λ count. len ≡ 512 * count) }
+    ensures count { MatchOption result (len % 512 ≢ 0) (λ count. len ≡ count * 512) }
     ensures fits { IfSome result (λ count. count < 2 ^ 55) }
 {
     let rest = len % SECTOR_SIZE as u64;
@@ -127,37 +145,27 @@ fn whole_sectors(len: u64) -> Option<u64>
     }
 }
 
-/// How a file of sectors is opened.
-fn options() -> OpenOptions {
-    let mut options = OpenOptions::new();
-    options.read(true).write(true);
-    options
-}
-
 /// Fills a new file with zeros, so that the file system gives it its blocks now, and settles it and its name.
-fn write_zeros<R: Files<File = File>>(
+fn settle_zeros<R: Files<File = File>>(
     rt: &R,
     path: &str,
-    file: &mut File,
+    file: &mut CountedFile,
     len: u64,
-) -> io::Result<()> {
-    let _written = io::copy(&mut io::repeat(0).take(len), file)?;
+) -> io::Result<()>
+    ensures zeros { OnOk result (WasWritten file.old 0 (replicate len 0) true) }
+    ensures settled { OnOk result (WasSynced (next file.old) true) }
+    ensures name { OnOk result (HadNameSettled file.old.file path.now) }
+    ensures calls { OnOk result (file.new ≡ next (next file.old)) }
+{
+    file.write_zeros(len)?;
     file.sync_all()?;
-    sync_directory(rt, path)
-}
-
-/// Settles the names in the directory of this path.
-fn sync_directory<R: Files<File = File>>(rt: &R, path: &str) -> io::Result<()> {
-    let directory = match Path::new(path).parent() {
-        Some(parent) if !parent.as_str().is_empty() => parent,
-        _ => Path::new("."),
-    };
-    File::open(rt, directory)?.sync_all()
+    file.opened().settle_name(rt, path)
 }
 
 impl Sectors for FileSectors {
     ghost use Rattle.file_calls.specs.OpenFacts as facts;
     ghost use Rattle.sector.specs.FileModel.{FileKeepsModel};
+    ghost use Rattle.sector.specs.SectorModel.{Elapses, Settles};
 
     ghost size = { λ f. f.file.sectors };
 
@@ -205,8 +213,24 @@ impl Sectors for FileSectors {
         self.told(outcome)
     }
 
-    /// Of a file that was opened, the first that succeeds drops the system's copies of its pages; where these can't be dropped, it fails.
-    fn sync(&mut self) -> Result<(), DeviceFault> {
+    /// It makes one call of the file: one that failed isn't tried again. Of a file that was opened, the first that succeeds then drops the
+    /// system's copies of its pages; where these can't be dropped, it fails.
+    fn sync(&mut self) -> Result<(), DeviceFault>
+        ensures size { self.new.file.sectors ≡ self.old.file.sectors }
+        ensures ok { OnOk result (Stayed self.old.failures self.new.failures) }
+        ensures fault { OnErr result (Rose self.old.failures self.new.failures) }
+        ensures settles { FileKeepsModel → OnOk result (Settles self.new.file.sectors (facts.may_read self.old.file) (facts.may_read self.new.file) (facts.may_leave self.old.file) (facts.may_leave self.new.file)) }
+        ensures reads { FileKeepsModel → OnErr result ((i : ℕ) (s : List ℕ) → facts.may_read self.new.file i s → facts.may_read self.old.file i s) }
+        ensures crash { FileKeepsModel → (c : List (List ℕ)) → facts.may_leave self.new.file c → facts.may_leave self.old.file c }
+        ensures time { FileKeepsModel → Elapses (facts.moment self.old.file) (facts.moment self.new.file) (facts.left_since self.old.file) (facts.left_since self.new.file) (facts.may_leave self.new.file) }
+
+        // One call of the file was made, and it was a sync that succeeded where this one did.
+        ensures one_call { self.new.file ≡ next self.old.file }
+        ensures told { OnOk result (WasSynced self.old.file true) }
+
+        // Where the system's copies were still to be dropped, they were.
+        ensures dropped { self.old.drops_copies ≡ true → OnOk result (HadCopiesDropped self.old.file.file) }
+    {
         let outcome = match self.file.sync() {
             Ok(()) => self.drop_copies(),
             Err(error) => Err(error),

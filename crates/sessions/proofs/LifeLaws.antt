@@ -258,16 +258,16 @@ abbrev pub Stored : {D : Type 0} {g : Ghosts D} → Hub D g → Type 0
 Stored {D} {g} hub = g.keeps_model → (h : HubState) → StandsFor hub h → h.machine.stopped ≡ false → (c : List (List ℕ)) → g.may_leave (device hub) c → HoldsMap c (committed_map h.machine)
 
 -- no event
-pub nothing : {D : Type 0} {g : Ghosts D} (hub : Hub D g) (h : HubState) → (g.keeps_model → (d : D) (c : List (List ℕ)) → g.left_since d (g.moment d) c → g.may_leave d c)
-    → StandsFor hub h → Stored hub → g.keeps_model → Survives hub hub h []
-nothing {g = g} hub h only_now stands stored keeps = record {
-  still = λ stop. refl;
-  leaves = λ up. record {
+pub nothing : {D : Type 0} {g : Ghosts D} (hub new : Hub D g) (h : HubState) → device new ≡ device hub → (g.keeps_model → (d : D) (c : List (List ℕ)) → g.left_since d (g.moment d) c → g.may_leave d c)
+    → StandsFor hub h → Stored hub → g.keeps_model → Survives hub new h []
+nothing {D} {g} hub new h same only_now stands stored keeps = record {
+  still = λ stop. same;
+  leaves = λ up. subst (λ (d : D). LeavesOnly g.moment g.left_since (device hub) d (Holds h [] zero)) (sym same) (record {
     later = omega arith;
     each = λ c left. (committed_map h.machine, stored keeps h stands up c (only_now keeps (device hub) c left), refl);
     before = λ t c le left. inl left;
-  };
-  now = now_from h.machine.stopped refl;
+  });
+  now = λ c left. now_from h.machine.stopped refl c (subst (λ (d : D). g.may_leave d c) same left);
 }
   where
     now_from : (b : Bool) → h.machine.stopped ≡ b → (c : List (List ℕ)) → g.may_leave (device hub) c → ((h.machine.stopped ≡ false) × Holds h [] zero c) ⊎ ((h.machine.stopped ≡ true) × g.may_leave (device hub) c)

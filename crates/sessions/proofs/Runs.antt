@@ -3,6 +3,7 @@ use Rattle.std.proofs.Common.{◌≡◌, ◌≤◌, ◌+◌, ℕ, zero, suc, Boo
 use Rattle.std.proofs.lemmas.Bool.{both_ways}
 use Rattle.sector.specs.declared.device.Sectors.{Ghosts}
 use Rattle.sessions.specs.declared.hub.Hub.{Hub}
+use Rattle.engine.specs.Meaning.{has_risen}
 use Rattle.sessions.specs.Calls.{has_failed}
 use Rattle.sector.specs.SectorModel.{LeavesOnly}
 use Rattle.model.specs.Laws.{MachineLaw}
@@ -22,20 +23,47 @@ sound hub law stored = record { lawful = λ h s. lawful_at law h s.reached; stor
 -- ---- parts of a run
 
 module _ {D : Type 0} {g : Ghosts D} where
+  -- nothing happens
+  pub no_event : (hub : Hub D g) → IsSound hub → Ran hub hub []
+  no_event hub sound = (sound, sound, record { stands = λ h s. s; device_is = refl; stopped_is = refl })
+
   pub first_sound : (old new : Hub D g) (es : List (HubEvent × Choice)) → Ran old new es → IsSound old
   first_sound old new [] r = r.0
   first_sound old new (e ∷ es) r = r.0
 
+  -- a hub that rests, and then runs
+  rest_then : (old mid new : Hub D g) (fs : List (HubEvent × Choice)) → Ran old mid [] → Ran mid new fs → Ran old new fs
+  rest_then old mid new [] p q = (
+    p.0,
+    q.1,
+    record { stands = λ h s. q.2.stands h (p.2.stands h s); device_is = q.2.device_is ∙ p.2.device_is; stopped_is = q.2.stopped_is ∙ p.2.stopped_is },
+  )
+  rest_then old mid new (e ∷ fs) p q =
+      let steps = q.2 in
+      let same : failures mid ≡ failures old = ap (λ (d : D). g.failures d) p.2.device_is in
+      let counted : failures mid ≤ failures q.1 = steps.counted in (
+        p.0,
+        q.1,
+        record {
+          leads = λ h s. steps.leads h (p.2.stands h s);
+          counted = omega arith;
+          failed = λ is. (let x = steps.failed is in (sym (ap (λ n. has_risen n (failures q.1)) same) ∙ x.0, sym p.2.stopped_is ∙ x.1, x.2));
+          crash = λ keeps h s up. subst (λ (d : D). LeavesOnly g.moment g.left_since d (device q.1) (HoldsBeforeOrAfter h e.0)) p.2.device_is (steps.crash keeps h (p.2.stands h s) up);
+          still = λ is. steps.still (p.2.stopped_is ∙ is) ∙ p.2.device_is;
+        },
+        q.3,
+      )
+
   pub ran_then : (old mid new : Hub D g) (es fs : List (HubEvent × Choice)) → Ran old mid es → Ran mid new fs → Ran old new (es ++ fs)
-  ran_then old mid new [] fs p q = subst (λ (x : Hub D g). Ran x new fs) p.1 q
+  ran_then old mid new [] fs p q = rest_then old mid new fs p q
   ran_then old mid new (e ∷ es) fs p q = (p.0, p.1, p.2, ran_then p.1 mid new es fs p.3 q)
 
   pub ran_parts : (old new : Hub D g) (es fs : List (HubEvent × Choice)) → Ran old new (es ++ fs) → (mid : Hub D g) × Ran old mid es × Ran mid new fs
-  ran_parts old new [] fs r = (old, (first_sound old new fs r, refl), r)
+  ran_parts old new [] fs r = (old, no_event old (first_sound old new fs r), r)
   ran_parts old new (e ∷ es) fs r = let x = ran_parts r.1 new es fs r.3 in (x.0, (r.0, r.1, r.2, x.1), x.2)
 
   pub ran_counted : (old new : Hub D g) (es : List (HubEvent × Choice)) → Ran old new es → failures old ≤ failures new
-  ran_counted old new [] r = let same : failures new ≡ failures old = ap (λ (x : Hub D g). failures x) r.1 in omega arith
+  ran_counted old new [] r = let same : failures new ≡ failures old = ap (λ (d : D). g.failures d) r.2.device_is in omega arith
   ran_counted old new (e ∷ es) r =
       let first : failures old ≤ failures r.1 = r.2.counted in
       let rest : failures r.1 ≤ failures new = ran_counted r.1 new es r.3 in
@@ -44,7 +72,7 @@ module _ {D : Type 0} {g : Ghosts D} where
   -- ---- what it leads to
 
   pub ran_stands : (old new : Hub D g) (es : List (HubEvent × Choice)) → Ran old new es → (h : HubState) → StandsFor old h → StandsFor new (run h es)
-  ran_stands old new [] r h s = subst (λ (x : Hub D g). StandsFor x h) (sym r.1) s
+  ran_stands old new [] r h s = r.2.stands h s
   ran_stands old new (e ∷ es) r h s = ran_stands r.1 new es r.3 (hub_step h e.0 e.1).0 (r.2.leads h s).1
 
   ran_possible : (old new : Hub D g) (es : List (HubEvent × Choice)) → Ran old new es → (h : HubState) → StandsFor old h → ArePossible h es
@@ -98,7 +126,7 @@ CountsNow D g = g.keeps_model → (d : D) (t : ℕ) (c : List (List ℕ)) → t 
 
 module _ {D : Type 0} {g : Ghosts D} (any : Hub D g) (only_now : OnlyNow D g) (counts_now : CountsNow D g) (keeps : g.keeps_model) where
   pub ran_survives : (old new : Hub D g) (es : List (HubEvent × Choice)) → Ran old new es → (h : HubState) → StandsFor old h → Survives old new h es
-  ran_survives old new [] r h s = subst (λ (x : Hub D g). Survives old x h []) (sym r.1) (nothing old h only_now s r.0.stored keeps)
+  ran_survives old new [] r h s = nothing old new h r.2.device_is only_now s r.0.stored keeps
   ran_survives old new (e ∷ es) r h s =
       let there : StandsFor r.1 (hub_step h e.0 e.1).0 = (r.2.leads h s).1 in
       goes_on old r.1 new h ((e.0, e.1) ∷ []) es
@@ -133,7 +161,7 @@ module _ {D : Type 0} {g : Ghosts D} (old new : Hub D g) (e : HubEvent) (sound_o
         crash = runs;
         still = still;
       } in
-      (d, same, (sound_old, new, steps, (sound_new, refl)))
+      (d, same, (sound_old, new, steps, no_event new sound_new))
 
   -- the device failed, and the store did not stop by it: so the flag makes no difference
   quiet : c.failed ≡ true → (is_stopped old ≡ false → is_stopped new ≡ true → ⊥) → Alone

@@ -1,13 +1,16 @@
 -- What holds of every state that a hub stands for.
-use Rattle.std.specs.Prelude.{◌≡◌, ◌≤◌, ◌+◌, if◌then◌else◌, ℕ, true, false, List, [], ◌∷◌, ◌++◌, map, take, Some}
+use Rattle.std.specs.Prelude.{◌≡◌, ◌≤◌, ◌+◌, if◌then◌else◌, ℕ, nat_lt, Bool, true, false, List, [], ◌∷◌, ◌++◌, map, take, Some}
 use Rattle.std.specs.List.{AllByRecursion, flat_map}
 use Rattle.sector.specs.declared.device.Sectors.{Ghosts}
 use Rattle.sector.specs.SectorModel.{LeavesOnly}
+use Rattle.engine.specs.Meaning.{facts_of, versions_of}
 use Rattle.engine.specs.Recovery.{HoldsMap, committed_map}
+use Rattle.pivot_check.specs.Kept.{HasForgotten}
+use Rattle.versions.specs.Meaning.{IsReclaimed, due_of}
 use Rattle.model.specs.Map.{Bytes}
 use Rattle.model.specs.Laws.{IsIsolated, IsSerializable}
 use Rattle.model.specs.Operations.{Operation, Response}
-use Rattle.model.specs.Machine.{IsReached, Running, running_of, snapshot}
+use Rattle.model.specs.Machine.{IsReached, Running, last, running_of, snapshot}
 use Rattle.model.specs.ReplyText.{reply_text}
 use Rattle.sessions.specs.declared.events.Status.TheVariants.{Open}
 use Rattle.sessions.specs.declared.hub.Hub.{Hub}
@@ -51,6 +54,10 @@ abbrev pub failures_in : List (HubEvent × Choice) → ℕ
 failures_in [] = 0
 failures_in (e ∷ es) = if e.1.failed then failures_in es + 1 else failures_in es
 
+-- the begins of the open transactions
+abbrev pub begins : HubState → List ℕ
+begins h = map (λ e. e.1.begin) h.machine.running
+
 -- A hub between two events: the laws hold of each state that it stands for, and unless the store is stopped a crash leaves the map that is
 -- committed.
 pub record IsSound {D : Type 0} {g : Ghosts D} (hub : Hub D g) : Type 0 where
@@ -67,10 +74,16 @@ pub record Steps {D : Type 0} {g : Ghosts D} (old new : Hub D g) (e : HubEvent) 
   pub crash : g.keeps_model → (h : HubState) → StandsFor old h → h.machine.stopped ≡ false → LeavesOnly g.moment g.left_since (device old) (device new) (HoldsBeforeOrAfter h e)
   pub still : is_stopped old ≡ true → device new ≡ device old
 
--- A run: by these events, each with its choice, from hub to hub, and each of the hubs is sound. So at each moment of the run, and for each
--- transaction up to its commit or abort, the laws hold, and what a crash then leaves is known.
+-- What a hub may do where no event comes: it stands for the states that it stood for, over the same device. So it may keep less.
+pub record Rests {D : Type 0} {g : Ghosts D} (old new : Hub D g) : Type 0 where
+  pub stands : (h : HubState) → StandsFor old h → StandsFor new h
+  pub device_is : device new ≡ device old
+  pub stopped_is : is_stopped new ≡ is_stopped old
+
+-- A run: by these events, each with its choice, from hub to hub, and each of the hubs is sound; where no event comes, the hub rests. So at
+-- each moment of the run, and for each transaction up to its commit or abort, the laws hold, and what a crash then leaves is known.
 abbrev pub Ran : {D : Type 0} {g : Ghosts D} → Hub D g → Hub D g → List (HubEvent × Choice) → Type 0
-Ran old new [] = IsSound old × (new ≡ old)
+Ran old new [] = IsSound old × IsSound new × Rests old new
 Ran {D} {g} old new (e ∷ es) = IsSound old × (mid : Hub D g) × Steps old mid e.0 e.1 × Ran mid new es
 
 -- some run of these events
@@ -92,6 +105,14 @@ RunsAlone old new e =
 -- no event is a run
 abbrev pub NoneRuns : {D : Type 0} {g : Ghosts D} → Hub D g → Type 0
 NoneRuns hub = Ran hub hub []
+
+-- What no open transaction needs has gone, or a step of it, by no event. What was kept to check later commits against those that committed
+-- before each open one began has gone whole. Old versions go in steps, and `more` says whether some are still due.
+pub record GivesBack {D : Type 0} {g : Ghosts D} (old new : Hub D g) (more : Bool) : Type 0 where
+  pub ran : Ran old new []
+  pub versions : (h : HubState) → StandsFor old h → IsReclaimed (versions_of old.engine) (versions_of new.engine) (begins h)
+  pub more_is : (h : HubState) → StandsFor old h → more ≡ nat_lt 0 (due_of (begins h) (versions_of new.engine))
+  pub forgotten : (h : HubState) → StandsFor old h → (n : ℕ) → n ≤ last h.machine → AllByRecursion (λ e. n ≤ e.1.begin) h.machine.running → HasForgotten n (facts_of new.engine)
 
 -- runs that follow each other are one run
 abbrev pub RunsFollow : {D : Type 0} {g : Ghosts D} → Hub D g → Type 0

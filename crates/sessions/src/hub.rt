@@ -4,7 +4,7 @@ ghost use Rattle.engine.specs.Meaning.{device_of};
 ghost use Rattle.engine.specs.Meaning.{StandsFor as EngineStandsFor};
 ghost use Rattle.model.specs.Machine.{State};
 ghost use Rattle.sessions.specs.Crashes.{SurvivesEvent, SurvivesCrash, IsStored};
-ghost use Rattle.sessions.specs.Laws.{IsLawful, NoneRuns, Runs, RunsAlone, RunsFollow, RunsLead, RunsPart};
+ghost use Rattle.sessions.specs.Laws.{GivesBack, IsLawful, NoneRuns, Runs, RunsAlone, RunsFollow, RunsLead, RunsPart};
 ghost use Rattle.sessions.specs.Life.{LosesNothing};
 ghost use Rattle.sessions.specs.Lives.{CutsReopen, KeepsAnswered, LivesLoseNothing, LivesFromNothing};
 ghost use Rattle.sessions.specs.OneOrder.{LivesHaveOneHistory};
@@ -260,6 +260,19 @@ impl<D: Sectors> Hub<D> {
         for event in events {
             let _outcome = self.step(event);
         }
+    }
+
+    /// Drops what no open transaction needs, a step of it, and answers whether more is due. It may come between any two events, and is none:
+    /// what the hub stands for stays, and so does the device. Ends of transactions take such a step themselves; called again until it answers
+    /// no, it ends what an old reader has left. It looks at 16 of the lists of old versions that are due, so it is short. Takes no memory.
+    pub fn reclaim(&mut self) -> bool
+        ensures { GivesBack self.old self.new result }
+    {
+        machine_is_serializable();
+        self.is_stored();
+        let more = self.engine.reclaim();
+        self.is_stored();
+        more
     }
 
     /// Does nothing, and takes no memory. Its contract says that no event is a run, that runs that follow each other are one run and a run

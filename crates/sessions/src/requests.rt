@@ -200,7 +200,9 @@ pub(crate) fn abort_transaction<D: Sectors>(engine: &mut Engine<D>, s: u64)
     ensures device { device_of engine.new ≡ device_of engine.old }
 {
     match engine.abort(s) {
-        Ok(()) => engine.reclaim(),
+        Ok(()) => {
+            engine.reclaim();
+        }
         Err(_not_open) => {}
     }
 }

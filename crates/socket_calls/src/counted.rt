@@ -53,7 +53,9 @@ impl CountedSocket {
     }
 
     /// Shuts the connection down for writing once what was written has gone, and has the poll tell under this token of what still comes.
-    pub fn half_close(&mut self, poll: &Poll, token: Token) -> io::Result<()> {
+    pub fn half_close(&mut self, poll: &Poll, token: Token) -> io::Result<()>
+        ensures { self.new ≡ self.old }
+    {
         self.stream.shutdown(Shutdown::Write)?;
         poll.registry()
             .reregister(&mut self.stream, token, Interest::READABLE)

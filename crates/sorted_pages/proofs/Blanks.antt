@@ -3,9 +3,9 @@ use Rattle.std.proofs.Common.{◌≡◌, ℕ, zero, suc, ◌+◌, ◌<◌, ◌�
 use Rattle.std.specs.List.{AllByRecursion, insert}
 use Rattle.std.proofs.lemmas.List.{length-append, length-take}
 use Rattle.model.specs.Map.{Bytes}
-use Rattle.model.proofs.Entries.{IsSorted, IsBelowAll, parts}
+use Rattle.model.proofs.Entries.{IsSorted, IsBelowAll}
+use Rattle.model.proofs.InOrder.{both, parts}
 use Rattle.sorted_pages.specs.Blanks.{IsBlankTo, shown}
-use Rattle.sorted_pages.proofs.Keys.{both}
 
 module _ {X : Type 0} (hides : ℕ → X → Bool) where
   -- m sees nothing of the first n

@@ -8,17 +8,9 @@ use Rattle.std.specs.FinMap.Entries.{find, put, by_order}
 use Rattle.std.proofs.lemmas.Bool.{both_ways}
 use Rattle.std.proofs.lemmas.Map.Lookups.{exact_bytes}
 use Rattle.model.specs.Map.{Bytes, key_cmp}
-use Rattle.model.proofs.Entries.{IsSorted, IsBelowAll, turned, parts}
+use Rattle.model.proofs.Entries.{IsSorted, IsBelowAll, turned}
+use Rattle.model.proofs.InOrder.{parts, less, both, is_less, below_right, below_later, find_none}
 use Rattle.sorted_pages.specs.Pages.{AreBelow, starts_by}
-
-pub less : (o : Ordering) → T (is_lt o) → o ≡ Less
-less Less h = refl
-less Equal h = absurd h
-less Greater h = absurd h
-
-pub both : (a b : Bool) → T a → T b → T (a && b)
-both true b p q = q
-both false b p q = p
 
 pub below_trans : (y x k : Bytes) → key_cmp y x ≡ Less → is_le (key_cmp x k) ≡ true → key_cmp y k ≡ Less
 below_trans y x k lt le = elim (key_cmp x k) as (λ o. key_cmp x k ≡ o → is_le o ≡ true → key_cmp y k ≡ Less) [
@@ -37,32 +29,10 @@ above_it x k f = turned x k ∙ ap ordering_reverse (greater (key_cmp x k) f)
     greater Greater g = refl
 
 module _ {X : Type 0} where
-  pub below_left : (k : Bytes) (xs ys : List (Bytes × X)) → IsBelowAll k (xs ++ ys) → IsBelowAll k xs
-  below_left k [] ys h = tt
-  below_left k (x ∷ xs) ys h = let p = parts _ _ h in both _ _ p.0 (below_left k xs ys p.1)
-
-  pub below_right : (k : Bytes) (xs ys : List (Bytes × X)) → IsBelowAll k (xs ++ ys) → IsBelowAll k ys
-  below_right k [] ys h = h
-  below_right k (x ∷ xs) ys h = below_right k xs ys (parts _ _ h).1
-
-  pub sorted_left : (xs ys : List (Bytes × X)) → IsSorted (xs ++ ys) → IsSorted xs
-  sorted_left [] ys h = tt
-  sorted_left (x ∷ xs) ys h = let p = parts _ _ h in both _ _ (below_left x.0 xs ys p.0) (sorted_left xs ys p.1)
-
-  pub sorted_right : (xs ys : List (Bytes × X)) → IsSorted (xs ++ ys) → IsSorted ys
-  sorted_right [] ys h = h
-  sorted_right (x ∷ xs) ys h = sorted_right xs ys (parts _ _ h).1
-
-  pub below_later : (x y : Bytes) (es : List (Bytes × X)) → key_cmp x y ≡ Less → IsBelowAll y es → IsBelowAll x es
-  below_later x y [] p h = tt
-  below_later x y (e ∷ es) p h =
-      let q = parts _ _ h in
-      both _ _ (subst (λ o. T (is_lt o)) (sym (nat_list_cmp_total.trans x y e.0 p (less _ q.0))) tt) (below_later x y es p q.1)
-
   -- the keys before an entry are below its key
   pub apart : (xs : List (Bytes × X)) (e : Bytes × X) (ys : List (Bytes × X)) → IsSorted (xs ++ e ∷ ys) → AreBelow e.0 xs
   apart [] e ys h = tt
-  apart (x ∷ xs) e ys h = let p = parts _ _ h in (less _ (parts _ _ (below_right x.0 xs (e ∷ ys) p.0)).0, apart xs e ys p.1)
+  apart (x ∷ xs) e ys h = let p = parts _ _ h in (less _ (parts _ _ (below_right key_cmp x.0 xs (e ∷ ys) p.0)).0, apart xs e ys p.1)
 
   weaker : (x k : Bytes) (es : List (Bytes × X)) → is_le (key_cmp x k) ≡ true → AreBelow x es → AreBelow k es
   weaker x k [] le h = tt
@@ -78,7 +48,7 @@ module _ {X : Type 0} where
   above_of k [] rest h f n = absurd (omega arith)
   above_of k (e ∷ es) rest h f n =
       let up = above_it e.0 k n in
-      both _ _ (subst (λ o. T (is_lt o)) (sym up) tt) (below_later k e.0 (es ++ rest) up (parts _ _ h).0)
+      both _ _ (is_less _ up) (below_later nat_list_cmp_total k e.0 (es ++ rest) up (parts _ _ h).0)
 
   -- what is below all of a page that starts by k is below k
   pub first_of : (x k : Bytes) (es : List (Bytes × X)) → IsBelowAll x es → 0 < length es → starts_by k es ≡ true → key_cmp x k ≡ Less
@@ -88,7 +58,7 @@ module _ {X : Type 0} where
   -- where the upper part starts by q, the lower does
   pub starts_lower : (q : Bytes) (lo up : List (Bytes × X)) → IsSorted (lo ++ up) → 0 < length up → starts_by q up ≡ true → starts_by q lo ≡ true
   starts_lower q [] up h f t = refl
-  starts_lower q (e ∷ lo) up h f t = ap is_le (first_of e.0 q up (below_right e.0 lo up (parts _ _ h).0) f t)
+  starts_lower q (e ∷ lo) up h f t = ap is_le (first_of e.0 q up (below_right key_cmp e.0 lo up (parts _ _ h).0) f t)
 
   pub starts-append : (q : Bytes) (lo up : List (Bytes × X)) → 0 < length lo → starts_by q (lo ++ up) ≡ starts_by q lo
   starts-append q [] up f = absurd (omega arith)
@@ -109,12 +79,8 @@ module _ {X : Type 0} where
 
   -- ---- in the middle
 
-  find_none : (k : Bytes) (es : List (Bytes × X)) → IsBelowAll k es → find (slice_cmp nat_cmp) k es ≡ None
-  find_none k [] h = refl
-  find_none k (e ∷ es) h = let p = parts _ _ h in ap (λ o. cond (is_eq o) (Some e.1) (find (slice_cmp nat_cmp) k es)) (less _ p.0) ∙ find_none k es p.1
-
   find_left : (k : Bytes) (m b : List (Bytes × X)) → IsBelowAll k b → find (slice_cmp nat_cmp) k (m ++ b) ≡ find (slice_cmp nat_cmp) k m
-  find_left k [] b h = find_none k b h
+  find_left k [] b h = find_none key_cmp k b h
   find_left k (e ∷ m) b h = ap (λ r. cond (is_eq (key_cmp k e.0)) (Some e.1) r) (find_left k m b h)
 
   pub find_middle : (k : Bytes) (a m b : List (Bytes × X)) → AreBelow k a → IsBelowAll k b → find (slice_cmp nat_cmp) k (a ++ (m ++ b)) ≡ find (slice_cmp nat_cmp) k m

@@ -9,9 +9,10 @@ use Rattle.std.specs.FinMap.Entries.{find, put, is_sorted-put}
 use Rattle.std.proofs.lemmas.Bool.{both_ways}
 use Rattle.std.proofs.lemmas.List.{append_assoc, append-nil, set_at, get_or_at, length-take, length-drop, take-append-drop}
 use Rattle.model.specs.Map.{Bytes, key_cmp}
-use Rattle.model.proofs.Entries.{IsSorted, IsBelowAll, parts}
+use Rattle.model.proofs.Entries.{IsSorted, IsBelowAll}
+use Rattle.model.proofs.InOrder.{below_left, below_right, sorted_left, sorted_right, parts}
 use Rattle.sorted_pages.specs.Pages.{Page, entries, starts_by, last_room, room_at, IsFilled, AreRestFilled, IsInOrder, AreBelow, IsPlace, IsRoomier}
-use Rattle.sorted_pages.proofs.Keys.{below_left, below_right, sorted_left, sorted_right, below_of, above_of, first_of, starts_lower, starts-append, starts-put, filled-put, find_middle, put_middle}
+use Rattle.sorted_pages.proofs.Keys.{below_of, above_of, first_of, starts_lower, starts-append, starts-put, filled-put, find_middle, put_middle}
 
 -- ---- lists
 
@@ -74,7 +75,7 @@ module _ {X : Type 0} where
   sorted_parts before page after h = subst (λ (l : List (Bytes × X)). IsSorted l) (entries-append before (page ∷ after)) h
 
   pub sorted_page : (before : List (Page X)) (page : Page X) (after : List (Page X)) → IsSorted (entries (before ++ page ∷ after)) → IsSorted page.0
-  sorted_page before page after h = sorted_left page.0 (entries after) (sorted_right (entries before) (page.0 ++ entries after) (sorted_parts before page after h))
+  sorted_page before page after h = sorted_left key_cmp page.0 (entries after) (sorted_right key_cmp (entries before) (page.0 ++ entries after) (sorted_parts before page after h))
 
   rest_of_all : (ps : List (Page X)) → AllByRecursion IsFilled ps → AreRestFilled ps
   rest_of_all [] h = tt
@@ -92,12 +93,12 @@ module _ {X : Type 0} where
 
   heads : (x k : Bytes) (ps : List (Page X)) (j : ℕ) (d : Page X) → IsBelowAll x (entries ps) → AllByRecursion IsFilled ps → j < length ps → starts_by k (get_or ps j d).0 ≡ true → is_le (key_cmp x k) ≡ true
   heads x k [] j d h f lt t = absurd (omega arith)
-  heads x k (p ∷ ps) zero d h f lt t = ap is_le (first_of x k p.0 (below_left x p.0 (entries ps) h) f.0 t)
-  heads x k (p ∷ ps) (suc j) d h f lt t = heads x k ps j d (below_right x p.0 (entries ps) h) f.1 (omega arith) t
+  heads x k (p ∷ ps) zero d h f lt t = ap is_le (first_of x k p.0 (below_left key_cmp x p.0 (entries ps) h) f.0 t)
+  heads x k (p ∷ ps) (suc j) d h f lt t = heads x k ps j d (below_right key_cmp x p.0 (entries ps) h) f.1 (omega arith) t
 
   starts_too : (k : Bytes) (es : List (Bytes × X)) (ps : List (Page X)) (j : ℕ) (d : Page X) → IsSorted (es ++ entries ps) → AllByRecursion IsFilled ps → j < length ps → starts_by k (get_or ps j d).0 ≡ true → starts_by k es ≡ true
   starts_too k [] ps j d h f lt t = refl
-  starts_too k (e ∷ es) ps j d h f lt t = heads e.0 k ps j d (below_right e.0 es (entries ps) (parts _ _ h).0) f lt t
+  starts_too k (e ∷ es) ps j d h f lt t = heads e.0 k ps j d (below_right key_cmp e.0 es (entries ps) (parts _ _ h).0) f lt t
 
   -- the pages that start by k come first
   pub parted : (k : Bytes) (ps : List (Page X)) → IsSorted (entries ps) → AreRestFilled ps → IsPartitionedBy (λ (p : Page X). starts_by k p.0) ps
@@ -105,7 +106,7 @@ module _ {X : Type 0} where
   parted k (p ∷ ps) h f zero zero d le lt t = t
   parted k (p ∷ ps) h f zero (suc j) d le lt t = starts_too k p.0 ps j d h f (omega arith) t
   parted k (p ∷ ps) h f (suc i) zero d le lt t = absurd (omega arith)
-  parted k (p ∷ ps) h f (suc i) (suc j) d le lt t = parted k ps (sorted_right p.0 (entries ps) h) (rest_of_all ps f) i j d (omega arith) (omega arith) t
+  parted k (p ∷ ps) h f (suc i) (suc j) d le lt t = parted k ps (sorted_right key_cmp p.0 (entries ps) h) (rest_of_all ps f) i j d (omega arith) (omega arith) t
 
   all_above : (k : Bytes) (ps : List (Page X)) → IsSorted (entries ps) → AllByRecursion IsFilled ps → AllByRecursion (λ (p : Page X). starts_by k p.0 ≡ false) ps → IsBelowAll k (entries ps)
   all_above k [] h f n = tt
@@ -118,7 +119,7 @@ module _ {X : Type 0} where
 
   later_above : (k : Bytes) (before : List (Page X)) (page : Page X) (after : List (Page X)) → IsInOrder (before ++ page ∷ after) → AllByRecursion (λ (p : Page X). starts_by k p.0 ≡ false) after → IsBelowAll k (entries after)
   later_above k before page after h n =
-      all_above k after (sorted_right page.0 (entries after) (sorted_right (entries before) (page.0 ++ entries after) (sorted_parts before page after h.sorted))) (after_filled before page after h.filled) n
+      all_above k after (sorted_right key_cmp page.0 (entries after) (sorted_right key_cmp (entries before) (page.0 ++ entries after) (sorted_parts before page after h.sorted))) (after_filled before page after h.filled) n
 
   -- the last page that starts by k, and the first where none does
   pub placed : (k : Bytes) (ps : List (Page X)) (c i : ℕ) → IsInOrder ps → 0 < length ps → c ≤ length ps → i ≡ c - 1 → IsPartitionPoint (λ (p : Page X). starts_by k p.0 ≡ true) (λ (p : Page X). starts_by k p.0 ≡ false) ps c → IsPlace ps k i
@@ -132,13 +133,6 @@ module _ {X : Type 0} where
       record { before = r.before; page = r.page; after = r.after; is = r.is; index = (let s = r.index in omega arith); below = all_below k r.before r.page r.after g r.passes; starts = λ lt. r.passes; later = r.later; above = later_above k r.before r.page r.after g r.later }
 
   -- ---- at a place
-
-  pub in_range : (ps : List (Page X)) (k : Bytes) (i : ℕ) → IsPlace ps k i → i < length ps
-  in_range ps k i w = let e = w.index in let n : length ps ≡ length (w.before ++ w.page ∷ w.after) = ap length w.is in let m = longer w.before w.page w.after in omega arith
-    where
-      longer : (us : List (Page X)) (p : Page X) (bs : List (Page X)) → length us < length (us ++ p ∷ bs)
-      longer [] p bs = omega arith
-      longer (a ∷ us) p bs = omega (arith, longer us p bs)
 
   -- the page that is read there
   pub page_is : (ps : List (Page X)) (k : Bytes) (i : ℕ) (p : Page X) → (w : IsPlace ps k i) → p ≡ get_or ps i p → p ≡ w.page
@@ -234,12 +228,6 @@ module _ {X : Type 0} where
   pub record Grown (old new : List (Page X)) : Type 0 where
     pub order : IsInOrder new
     pub roomier : IsRoomier old new
-
-  pub grown_itself : (ps : List (Page X)) → IsInOrder ps → Grown ps ps
-  grown_itself ps h = record { order = h; roomier = record { entries = refl; rooms = λ q. omega arith } }
-
-  pub grown_twice : (ps qs rs : List (Page X)) → IsRoomier ps qs → IsRoomier qs rs → IsRoomier ps rs
-  grown_twice ps qs rs h g = record { entries = g.entries ∙ h.entries; rooms = λ q. omega (arith, h.rooms q, g.rooms q) }
 
   same_order : (old new : List (Page X)) → entries new ≡ entries old → AreRestFilled new → IsInOrder old → IsInOrder new
   same_order old new e f h = record { sorted = subst (λ (l : List (Bytes × X)). IsSorted l) (sym e) h.sorted; filled = f }

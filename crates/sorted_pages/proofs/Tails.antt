@@ -6,17 +6,18 @@ use Rattle.std.specs.declared.cmp.Ordering.TheVariants.{Less, Equal, Greater}
 use Rattle.std.specs.Ordering.{is_lt, is_le, nat_cmp, ordering_reverse}
 use Rattle.std.specs.Cmp.Lexicographic.{slice_cmp, nat_list_cmp_total}
 use Rattle.std.specs.FinMap.Entries.{where_key}
-use Rattle.std.proofs.lemmas.Bool.{both_ways, and_parts}
+use Rattle.std.proofs.lemmas.Bool.{both_ways, and_parts, and_right}
 use Rattle.std.proofs.lemmas.Cmp.{tied_itself}
 use Rattle.std.proofs.lemmas.List.{take-append-drop, append_assoc}
 use Rattle.model.specs.Map.{Bytes, key_cmp, is_below, is_in_range}
 use Rattle.model.specs.Entries.{IsSplit}
-use Rattle.model.proofs.Entries.{IsSorted, IsBelowAll, turned, parts}
+use Rattle.model.proofs.Entries.{IsSorted, IsBelowAll, turned}
+use Rattle.model.proofs.InOrder.{less, sorted_right, parts}
 use Rattle.sorted_pages.specs.Pages.{Page, entries, IsPlace, IsInOrder, AreBelow}
 use Rattle.sorted_pages.specs.Ranges.{up_to, AreFrom, IsTail, first_key}
 use Rattle.sorted_pages.specs.Blanks.{shown}
 use Rattle.sorted_pages.proofs.Blanks.{all-shown, shown-append, sorted-shown}
-use Rattle.sorted_pages.proofs.Keys.{less, sorted_right, below_trans, above_it}
+use Rattle.sorted_pages.proofs.Keys.{below_trans, above_it}
 use Rattle.sorted_pages.proofs.Placings.{entries_at, page_is}
 
 turned_le : (o : Ordering) → not (is_lt o) ≡ true → is_le (ordering_reverse o) ≡ true
@@ -32,10 +33,6 @@ not_below q p (Some hi) h e = elim (key_cmp p hi) as (λ o. key_cmp p hi ≡ o �
   | Equal ↦ λ g. refl
   | Greater ↦ λ g. refl
 ] refl
-
-false_and : (b c : Bool) → c ≡ false → (b && c) ≡ false
-false_and true c e = e
-false_and false c e = refl
 
 below_lo : (q lo : Bytes) → key_cmp q lo ≡ Less → is_le (key_cmp lo q) ≡ false
 below_lo q lo h = ap is_le (turned q lo ∙ ap ordering_reverse h)
@@ -76,7 +73,7 @@ module _ {X : Type 0} where
   none_above lo q hi [] h e = refl
   none_above lo q hi (d ∷ es) h e =
       let p = parts _ _ h in
-      ap (λ b. cond b (d ∷ In lo hi es) (In lo hi es)) (false_and (is_le (key_cmp lo d.0)) (is_below d.0 hi) (not_below q d.0 hi (less _ p.0) e)) ∙ none_above lo q hi es p.1 e
+      ap (λ b. cond b (d ∷ In lo hi es) (In lo hi es)) (and_right (is_le (key_cmp lo d.0)) (is_below d.0 hi) (not_below q d.0 hi (less _ p.0) e)) ∙ none_above lo q hi es p.1 e
 
   -- from lo on, what is in range is what stands below hi
   pub in_tail : (lo : Bytes) (hi : Option Bytes) (es : List (Bytes × X)) → IsSorted es → AreFrom lo es → up_to hi es ≡ In lo hi es
@@ -114,7 +111,7 @@ module _ {X : Type 0} where
       ∙ ap (λ (l : List (Bytes × X)). entries w.before ++ (l ++ entries w.after)) t.is
       ∙ ap (λ (l : List (Bytes × X)). entries w.before ++ l) (append_assoc t.before front (entries w.after))
       ∙ sym (append_assoc (entries w.before) t.before (front ++ entries w.after)) in
-      let sorted : IsSorted rest = sorted_right pre rest (subst (λ (l : List (Bytes × X)). IsSorted l) e h.sorted) in
+      let sorted : IsSorted rest = sorted_right key_cmp pre rest (subst (λ (l : List (Bytes × X)). IsSorted l) e h.sorted) in
       ap (λ (l : List (Page X)). up_to hi (shown hides (front ++ entries l))) same
       ∙ in_tail lo hi (shown hides rest) (sorted-shown hides rest sorted) (all-shown hides (λ (d : Bytes × X). is_le (key_cmp lo d.0) ≡ true) rest (from_both lo front (entries w.after) t.from (from_above lo (entries w.after) w.above)))
       ∙ sym (ap (In lo hi) (ap (shown hides) e ∙ shown-append hides pre rest)
@@ -142,7 +139,7 @@ le_not_lt hi q h = ap is_lt (turned hi q) ∙ by (key_cmp hi q) h
 
 module _ {X : Type 0} where
   not_in : (lo : Bytes) (hi : Option Bytes) (e : Bytes × X) (es : List (Bytes × X)) → IsBelowAll e.0 es → is_below e.0 hi ≡ false → In lo hi (e ∷ es) ≡ []
-  not_in lo hi e es h f = ap (λ b. cond b (e ∷ In lo hi es) (In lo hi es)) (false_and (is_le (key_cmp lo e.0)) (is_below e.0 hi) f) ∙ none_above lo e.0 hi es h f
+  not_in lo hi e es h f = ap (λ b. cond b (e ∷ In lo hi es) (In lo hi es)) (and_right (is_le (key_cmp lo e.0)) (is_below e.0 hi) f) ∙ none_above lo e.0 hi es h f
 
   below_first : (q hi : Bytes) (fs : List (Bytes × X)) → AllByRecursion (λ (f : Bytes × X). is_in_range hi None f.0 ≡ true) fs → key_cmp q hi ≡ Less → is_below q (first_key fs) ≡ true
   below_first q hi [] h lt = refl
@@ -164,12 +161,6 @@ module _ {X : Type 0} where
       ] refl
 
 -- ---- a step
-
-pub one_left : {X : Type 0} (hi : Option Bytes) (e : Bytes × X) (es : List (Bytes × X)) → is_below e.0 hi ≡ true → up_to hi (e ∷ es) ≡ e ∷ up_to hi es
-one_left hi e es t = ap (λ b. cond b (e ∷ up_to hi es) []) t
-
-pub none_left : {X : Type 0} (hi : Option Bytes) (e : Bytes × X) (es : List (Bytes × X)) → is_below e.0 hi ≡ false → up_to hi (e ∷ es) ≡ []
-none_left hi e es f = ap (λ b. cond b (e ∷ up_to hi es) []) f
 
 -- a page is taken, without some of its entries that are hidden
 pub next_page : {X : Type 0} (hides : X → Bool) (hi : Option Bytes) (front from : List (Bytes × X)) (page : Page X) (ps rest : List (Page X)) → front ≡ [] → ps ≡ page ∷ rest → shown hides from ≡ shown hides page.0

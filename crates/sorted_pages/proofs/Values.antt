@@ -8,10 +8,10 @@ use Rattle.std.specs.FinMap.Entries.{find, put, by_order}
 use Rattle.std.proofs.lemmas.Bool.{both_ways}
 use Rattle.std.proofs.lemmas.Map.Lookups.{exact_bytes}
 use Rattle.model.specs.Map.{Bytes, key_cmp}
-use Rattle.model.proofs.Entries.{IsSorted, IsBelowAll, turned, parts}
+use Rattle.model.proofs.Entries.{IsSorted, IsBelowAll, turned}
+use Rattle.model.proofs.InOrder.{less, below_right, sorted_left, sorted_right, parts}
 use Rattle.sorted_pages.specs.Pages.{Page, entries, starts_by, last_room, room_at, AreBelow, IsPlace}
 use Rattle.sorted_pages.specs.Lent.{with_value, with_value_in}
-use Rattle.sorted_pages.proofs.Keys.{less, below_right, sorted_left, sorted_right}
 use Rattle.sorted_pages.proofs.Placings.{page_is, set_is}
 
 module _ {X : Type 0} where
@@ -56,7 +56,7 @@ module _ {X : Type 0} where
 
   below_found : (k : Bytes) (xs ys : List (Bytes × X)) → IsSorted (xs ++ ys) → IsSome (find (slice_cmp nat_cmp) k ys) → AreBelow k xs
   below_found k [] ys h s = tt
-  below_found k (x ∷ xs) ys h s = let p = parts _ _ h in (found_above x.0 k ys (below_right x.0 xs ys p.0) s, below_found k xs ys p.1 s)
+  below_found k (x ∷ xs) ys h s = let p = parts _ _ h in (found_above x.0 k ys (below_right key_cmp x.0 xs ys p.0) s, below_found k xs ys p.1 s)
 
   put_left : (k : Bytes) (v : X) (xs ys : List (Bytes × X)) → IsSome (find (slice_cmp nat_cmp) k xs) → put (slice_cmp nat_cmp) k v (xs ++ ys) ≡ put (slice_cmp nat_cmp) k v xs ++ ys
   put_left k v [] ys s = absurd (both_ways false refl s)
@@ -89,7 +89,7 @@ module _ {X : Type 0} where
         | true ↦ λ t. sym (put_left k v p.0 (entries ps) t)
         | false ↦ λ t.
             let later : IsSome (find (slice_cmp nat_cmp) k (entries ps)) = sym (ap is_some (find_right k p.0 (entries ps) t)) ∙ s in
-            ap (λ l. p.0 ++ l) (entries-with_value ps k v (sorted_right p.0 (entries ps) h) later) ∙ sym (put_right k v p.0 (entries ps) (below_found k p.0 (entries ps) h later))
+            ap (λ l. p.0 ++ l) (entries-with_value ps k v (sorted_right key_cmp p.0 (entries ps) h) later) ∙ sym (put_right k v p.0 (entries ps) (below_found k p.0 (entries ps) h later))
       ] refl
 
   starts_found : (q k : Bytes) (v : X) (es : List (Bytes × X)) → IsSorted es → IsSome (find (slice_cmp nat_cmp) k es) → starts_by q (put (slice_cmp nat_cmp) k v es) ≡ starts_by q es
@@ -105,8 +105,8 @@ module _ {X : Type 0} where
   last_room-with_value r q [] k v h = refl
   last_room-with_value r q (p ∷ ps) k v h =
       elim (is_some (find (slice_cmp nat_cmp) k p.0)) as (λ b. is_some (find (slice_cmp nat_cmp) k p.0) ≡ b → last_room r q (cond b (with_value_in p k v ∷ ps) (p ∷ with_value ps k v)) ≡ last_room (if starts_by q p.0 then p.1 else r) q ps) [
-        | true ↦ λ t. ap (λ b. last_room (if b then p.1 else r) q ps) (starts_found q k v p.0 (sorted_left p.0 (entries ps) h) t)
-        | false ↦ λ t. last_room-with_value (if starts_by q p.0 then p.1 else r) q ps k v (sorted_right p.0 (entries ps) h)
+        | true ↦ λ t. ap (λ b. last_room (if b then p.1 else r) q ps) (starts_found q k v p.0 (sorted_left key_cmp p.0 (entries ps) h) t)
+        | false ↦ λ t. last_room-with_value (if starts_by q p.0 then p.1 else r) q ps k v (sorted_right key_cmp p.0 (entries ps) h)
       ] refl
 
   -- no room changes
@@ -115,5 +115,5 @@ module _ {X : Type 0} where
   room-with_value q (p ∷ ps) k v h =
       elim (is_some (find (slice_cmp nat_cmp) k p.0)) as (λ b. room_at q (cond b (with_value_in p k v ∷ ps) (p ∷ with_value ps k v)) ≡ last_room p.1 q ps) [
         | true ↦ refl
-        | false ↦ last_room-with_value p.1 q ps k v (sorted_right p.0 (entries ps) h)
+        | false ↦ last_room-with_value p.1 q ps k v (sorted_right key_cmp p.0 (entries ps) h)
       ]

@@ -1,5 +1,5 @@
--- What trimming does to entries.
-use Rattle.std.specs.Prelude.{Bool, false, List, Option, Some, None, option_map, map}
+-- What trimming a value does to entries.
+use Rattle.std.specs.Prelude.{Bool, false, List, Option, Some, None, option_map}
 use Rattle.std.specs.Ordering.{nat_cmp}
 use Rattle.std.specs.Cmp.Lexicographic.{slice_cmp}
 use Rattle.std.specs.FinMap.Entries.{find, put}
@@ -12,10 +12,6 @@ put_some k (Some v) es = put (slice_cmp nat_cmp) k v es
 -- the entries with f of the key's value in its place, if it has one
 abbrev pub changed_at : {X : Type 0} → (X → X) → Bytes → List (Bytes × X) → List (Bytes × X)
 changed_at f k es = put_some k (option_map f (find (slice_cmp nat_cmp) k es)) es
-
--- the entries with f of each value in its place
-abbrev pub all_changed : {X : Type 0} → (X → X) → List (Bytes × X) → List (Bytes × X)
-all_changed f es = map (λ e. (e.0, f e.1)) es
 
 -- there is a value, and it passes
 abbrev pub passes : {X : Type 0} → (X → Bool) → Option X → Bool

@@ -8,7 +8,7 @@ ghost use Rattle.model.specs.Map.{key_cmp};
 ghost use Rattle.model.specs.Entries.{IsAt, IsGap, IsSplit};
 ghost use Rattle.sorted_pages.specs.Pages.{starts_by};
 ghost use Rattle.sorted_pages.specs.Blanks.{IsBlankTo, shown};
-ghost use Rattle.sorted_pages.specs.Trims.{all_changed, changed_at, passes};
+ghost use Rattle.sorted_pages.specs.Trims.{changed_at, passes};
 
 use crate::aging::Aging;
 use crate::summary::Summary;
@@ -272,16 +272,6 @@ impl<V: Aging> Page<V> {
             Err(_) => false,
         }
     }
-
-    // Trims all values.
-    pub(crate) fn trim(&mut self, numbers: &[u64])
-        ensures entries { self.new.0 ≡ all_changed (V.trimmed numbers.now) self.old.0 }
-        ensures room { self.new.1 ≡ self.old.1 }
-    {
-        trim_entries(&mut self.entries, numbers);
-        self.blank = blank_from(&self.entries, 0);
-        self.summary = Summary::of(&self.entries);
-    }
 }
 
 // How many of the first entries no number sees anything of, where `from` of them are known.
@@ -294,13 +284,4 @@ fn blank_from<V: Aging>(entries: &[(Key, V)], from: usize) -> usize
         count += 1;
     }
     count
-}
-
-// Trims all values.
-fn trim_entries<V: Aging>(entries: &mut [(Key, V)], numbers: &[u64])
-    ensures { entries.new ≡ all_changed (V.trimmed numbers.now) entries.old }
-{
-    for i in 0..entries.len() {
-        entries[i].1.trim(numbers);
-    }
 }

@@ -172,7 +172,7 @@ impl<V: Aging + Drop> SortedPages<V> {
 }
 
 impl<V: Aging> SortedPages<V> {
-    ghost use Rattle.sorted_pages.specs.Trims.{all_changed, changed_at, passes};
+    ghost use Rattle.sorted_pages.specs.Trims.{changed_at, passes};
 
     /// How many pages there are. Takes no memory.
     pub fn pages(&self) -> usize
@@ -188,13 +188,5 @@ impl<V: Aging> SortedPages<V> {
         ensures left { result ≡ passes (V.has number) (find (slice_cmp nat_cmp) key.entry.bytes.now (entries self.new)) }
     {
         trimming::trim_at(&mut self.pages, key.bytes(), numbers, number)
-    }
-
-    /// Drops what none of the numbers needs from each value, in one walk by rising key. Takes no memory.
-    pub fn trim(&mut self, numbers: &[u64])
-        ensures entries { entries self.new ≡ all_changed (V.trimmed numbers.now) (entries self.old) }
-        ensures sorted { T (is_sorted (slice_cmp nat_cmp) (entries self.new)) }
-    {
-        trimming::trim(&mut self.pages, numbers);
     }
 }

@@ -1,10 +1,10 @@
-//! Values are trimmed.
+//! A value is trimmed.
 ghost use Rattle.std.specs.Prelude.{◌≡◌};
 ghost use Rattle.std.specs.Ordering.{nat_cmp};
 ghost use Rattle.std.specs.Cmp.Lexicographic.{slice_cmp};
 ghost use Rattle.std.specs.FinMap.Entries.{find};
 ghost use Rattle.sorted_pages.specs.Pages.{IsInOrder, entries};
-ghost use Rattle.sorted_pages.specs.Trims.{all_changed, changed_at, passes};
+ghost use Rattle.sorted_pages.specs.Trims.{changed_at, passes};
 
 use crate::aging::Aging;
 use crate::page::Page;
@@ -27,15 +27,4 @@ pub(crate) fn trim_at<V: Aging>(
     }
     let i = place(pages, key);
     pages[i].trim_at(key, numbers, number)
-}
-
-// Trims all values, page by page.
-pub(crate) fn trim<V: Aging>(pages: &mut [Page<V>], numbers: &[u64])
-    requires order { IsInOrder pages.old }
-    ensures order { IsInOrder pages.new }
-    ensures entries { entries pages.new ≡ all_changed (V.trimmed numbers.now) (entries pages.old) }
-{
-    for i in 0..pages.len() {
-        pages[i].trim(numbers);
-    }
 }

@@ -11,7 +11,8 @@ use Rattle.model.specs.Map.{Bytes, KeyMap, KeyWrite, IsMap, value_at}
 use Rattle.versions.specs.Chains.{ChainValue, Chains, ChainsValue, find_chain, seen_in, visible, IsKept, IsRisingChain, IsRoomier, HasPlace, HasRoom, added, stamped, fresh_chain, IsReady, base_chains}
 use Rattle.versions.specs.StandsFor.{StandsFor}
 use Rattle.sorted_pages.specs.Pages.{Page, room_at}
-use Rattle.versions.specs.Listings.{Listed, GroupValue, AreSeenFrom, is_in, is_listed, IsListed, unwitnessed, followed}
+use Rattle.versions.specs.Listings.{AreSeenFrom, is_in, is_listed, IsListed, unwitnessed, followed}
+use Rattle.versions.specs.Groups.{GroupValue, Listed}
 use Rattle.versions.specs.Meaning.{kept_in, writes_of, AreInstalled}
 use Rattle.std.proofs.lemmas.Bool.{or_right}
 use Rattle.std.proofs.lemmas.Bool.Decides.{nat_tests}

@@ -1,18 +1,18 @@
 -- The loops over what is listed.
-use Rattle.std.proofs.Common.{◌≡◌, ℕ, zero, suc, ◌+◌, ◌-◌, ◌<◌, ◌≤◌, true, false, ◌&&◌, ◌||◌, List, [], ◌∷◌, ◌++◌, length, take, drop, get_or, set, Option, Some, None, refl, sym, ap, subst, ◌∙◌, arith, inl, inr}
+use Rattle.std.proofs.Common.{◌≡◌, ℕ, zero, suc, ◌+◌, ◌-◌, ◌<◌, ◌≤◌, true, false, ◌&&◌, ◌||◌, List, [], ◌∷◌, length, take, drop, get_or, set, Option, Some, None, refl, sym, ap, subst, ◌∙◌, arith, inl, inr}
 use Rattle.std.specs.Prelude.{option_map, nat_lt, nat_le, ◌==◌, not, ◌⊎◌, if◌then◌else◌, swap_remove, IfSome}
 use Rattle.std.proofs.lemmas.Grind.{common_steps}
-use Rattle.std.specs.List.{AllByRecursion, remove}
+use Rattle.std.specs.List.{AllByRecursion, list_any, remove}
 use Rattle.std.proofs.lemmas.List.{get_or_default}
-use Rattle.std.proofs.lemmas.List.Folds.{list_any-append}
 use Rattle.std.proofs.lemmas.List.Sorted.{list_any-IsPermutation, IsPermutation-swap_remove}
 use Rattle.std.proofs.lemmas.Bool.{both_ways, or_cases, or_left, or_right}
 use Rattle.std.proofs.lemmas.Bool.Decides.{nat_tests}
 use Rattle.model.specs.Map.{Bytes, is_same_key}
 use Rattle.model.proofs.Lookups.{same_key, same_key_itself}
 use Rattle.versions.specs.Chains.{Stamped, ChainValue, Chains, find_chain, first_number, is_between, reclaimed, IsKept, IsReclaimedAt}
-use Rattle.versions.specs.Listings.{Listed, GroupValue, is_seen_from, is_seen_by, AreSeenFrom, is_of, is_in, is_listed, AreListed, IsListedChain, IsListed, AreFound, has_version, AreNeeded, IsNeededChain, IsSettled, IsPartReclaimed, AreKept, CanJoin}
-use Rattle.versions.specs.Meaning.{is_among}
+use Rattle.versions.specs.Listings.{is_seen_from, is_seen_by, AreSeenFrom, is_of, is_in, is_listed, AreListed, IsListedChain, IsListed, AreFound, has_version, AreNeeded, IsNeededChain, IsSettled, IsPartReclaimed, AreKept, CanJoin}
+use Rattle.versions.specs.Groups.{GroupValue, Listed}
+use Rattle.versions.specs.Meaning.{is_among, due_for, due_in, lists_a_reclaim}
 use Rattle.versions.proofs.Stores.{rising_found}
 use Rattle.versions.proofs.Calls.{take_all}
 use Rattle.versions.proofs.ChainLaws.{any-weaker, between-wider}
@@ -158,20 +158,6 @@ module _ (bs : List ℕ) (old now new : Chains) (os vs : List Listed) (m left la
 
 -- ---- the loop over groups
 
--- what is in the groups before i was looked after
-pub record Settling (bs : List ℕ) (old now : Chains) (gs : List GroupValue) (i : ℕ) : Type 0 where
-  pub part : IsPartReclaimed bs old now
-  pub kept : (last : ℕ) → IsKept old last → IsKept now last
-  pub listed : IsListed now gs
-  pub settled : AllByRecursion (λ g. AllByRecursion (IsSettled bs now) g.versions) (take i gs)
-
-pub settling-begun : (bs : List ℕ) (es : Chains) (gs : List GroupValue) → IsListed es gs → Settling bs es es gs 0
-settling-begun bs es gs h = record { part = part-refl bs es; kept = λ last k. k; listed = h; settled = none gs }
-  where
-    none : (xs : List GroupValue) → AllByRecursion (λ g. AllByRecursion (IsSettled bs es) g.versions) (take 0 xs)
-    none [] = tt
-    none (x ∷ xs) = tt
-
 take-more : {X : Type 0} (P : X → Type 0) (xs : List X) (i : ℕ) (x : X) → i < length xs → x ≡ get_or xs i x → P x → AllByRecursion P (take i xs) → AllByRecursion P (take (suc i) xs)
 take-more P [] i x lt at p h = absurd (omega arith)
 take-more P (y ∷ xs) zero x lt at p h = (subst P at p, nothing xs)
@@ -180,16 +166,6 @@ take-more P (y ∷ xs) zero x lt at p h = (subst P at p, nothing xs)
     nothing [] = tt
     nothing (z ∷ ys) = tt
 take-more P (y ∷ xs) (suc i) x lt at p h = (h.0, take-more P xs i x (omega arith) at p h.1)
-
--- the witness is one of the numbers
-pub settling-held : (bs : List ℕ) (old now : Chains) (gs : List GroupValue) (i : ℕ) (g : GroupValue) → i < length gs → g ≡ get_or gs i g → is_among bs g.witness ≡ true → AreSeenFrom g.witness g.versions
-    → Settling bs old now gs i → Settling bs old now gs (i + 1)
-settling-held bs old now gs i g lt at held seen s = record {
-  part = s.part;
-  kept = s.kept;
-  listed = s.listed;
-  settled = subst (λ n. AllByRecursion (λ (g : GroupValue). AllByRecursion (IsSettled bs now) g.versions) (take n gs)) {x = suc i} {y = i + 1} (omega arith) (take-more (λ (g : GroupValue). AllByRecursion (IsSettled bs now) g.versions) gs i g lt at (all-between bs now g.witness g.versions held seen) s.settled);
-}
 
 take-set : {X : Type 0} (xs : List X) (i : ℕ) (y : X) → take i (set xs i y) ≡ take i xs
 take-set [] zero y = refl
@@ -207,9 +183,13 @@ get-set [] i y d lt = absurd (omega arith)
 get-set (x ∷ xs) zero y d lt = refl
 get-set (x ∷ xs) (suc i) y d lt = get-set xs i y d (omega arith)
 
-all-parts-settled : (bs : List ℕ) (now new : Chains) → IsPartReclaimed bs now new → (gs : List GroupValue) → AllByRecursion (λ g. AllByRecursion (IsSettled bs now) g.versions) gs → AllByRecursion (λ g. AllByRecursion (IsSettled bs new) g.versions) gs
+-- where none of its lists is due, the group was looked after
+abbrev pub IsLookedAfter : List ℕ → Chains → GroupValue → Type 0
+IsLookedAfter bs es g = due_for bs g ≡ 0 → AllByRecursion (IsSettled bs es) g.versions
+
+all-parts-settled : (bs : List ℕ) (now new : Chains) → IsPartReclaimed bs now new → (gs : List GroupValue) → AllByRecursion (IsLookedAfter bs now) gs → AllByRecursion (IsLookedAfter bs new) gs
 all-parts-settled bs now new p [] h = tt
-all-parts-settled bs now new p (g ∷ gs) h = (all-settled-part bs now new p g.versions h.0, all-parts-settled bs now new p gs h.1)
+all-parts-settled bs now new p (g ∷ gs) h = (λ e. all-settled-part bs now new p g.versions (h.0 e), all-parts-settled bs now new p gs h.1)
 
 -- what is listed with another group in a group's place
 listed-set : (gs : List GroupValue) (i : ℕ) (g h : GroupValue) (k : Bytes) (n high : ℕ) → i < length gs → g ≡ get_or gs i g → (is_in g.versions k n high ≡ true → is_in h.versions k n high ≡ true) → is_listed gs k n high ≡ true → is_listed (set gs i h) k n high ≡ true
@@ -223,16 +203,76 @@ listed-set (x ∷ gs) (suc i) g h k n high lt at more t = elim (or_cases (is_in 
   | inr e ↦ or_right (is_in x.versions k n high) (is_listed (set gs i h) k n high) (listed-set gs i g h k n high (omega arith) at more e)
 ]
 
--- the group was looked after
-pub settling-settled : (bs : List ℕ) (old now new : Chains) (gs : List GroupValue) (i last : ℕ) (g h : GroupValue) → i < length gs → g ≡ get_or gs i g → IsKept old last → IsPartReclaimed bs now new → ((last : ℕ) → IsKept now last → IsKept new last)
-    → AllByRecursion (IsSettled bs new) h.versions → AreKept g.versions h.versions new → Settling bs old now gs i → Settling bs old new (set gs i h) (i + 1)
-settling-settled bs old now new gs i last g h lt at ordered p keeps settled left s = record {
-  part = part-trans bs old now new last ordered s.part p;
-  kept = λ n k. keeps n (s.kept n k);
-  listed = listed-part bs now new gs (set gs i h) last (s.kept last ordered) p (λ k n high there t. listed-set gs i g h k n high lt at (λ e. still k n high there e) t) s.listed;
-  settled = subst (λ n. AllByRecursion (λ (g : GroupValue). AllByRecursion (IsSettled bs new) g.versions) (take n (set gs i h))) {x = suc i} {y = i + 1} (omega arith) (take-more (λ (g : GroupValue). AllByRecursion (IsSettled bs new) g.versions) (set gs i h) i h (omega (arith, length-set gs i h)) (sym (get-set gs i h h lt)) settled
-      (subst (λ l. AllByRecursion (λ (g : GroupValue). AllByRecursion (IsSettled bs new) g.versions) l) (sym (take-set gs i h)) (all-parts-settled bs now new p (take i gs) s.settled)));
+-- what is due with another group in a group's place
+due-set : (bs : List ℕ) (gs : List GroupValue) (i : ℕ) (g h : GroupValue) → i < length gs → g ≡ get_or gs i g → due_in bs (set gs i h) + due_for bs g ≡ due_in bs gs + due_for bs h
+due-set bs [] i g h lt at = absurd (omega arith)
+due-set bs (x ∷ gs) zero g h lt at = let same : due_for bs g ≡ due_for bs x = ap (due_for bs) at in omega (arith, same)
+due-set bs (x ∷ gs) (suc i) g h lt at = let rest = due-set bs gs i g h (omega arith) at in omega (arith, rest)
+
+due-take : (bs : List ℕ) (gs : List GroupValue) (i : ℕ) (g : GroupValue) → i < length gs → g ≡ get_or gs i g → due_in bs (take (suc i) gs) ≡ due_in bs (take i gs) + due_for bs g
+due-take bs [] i g lt at = absurd (omega arith)
+due-take bs (x ∷ gs) zero g lt at = let same : due_for bs g ≡ due_for bs x = ap (due_for bs) at in none gs same
+  where
+    none : (ys : List GroupValue) → due_for bs g ≡ due_for bs x → due_for bs x + due_in bs (take 0 ys) ≡ 0 + due_for bs g
+    none [] same = omega (arith, same)
+    none (y ∷ ys) same = omega (arith, same)
+due-take bs (x ∷ gs) (suc i) g lt at = let rest = due-take bs gs i g (omega arith) at in omega (arith, rest)
+
+-- the groups before i were looked at, and `most` of the lists that are due may be looked at still
+pub record Settling (bs : List ℕ) (old now : Chains) (olds gs : List GroupValue) (i most : ℕ) : Type 0 where
+  pub part : IsPartReclaimed bs old now
+  pub kept : (last : ℕ) → IsKept old last → IsKept now last
+  pub listed : IsListed now gs
+  pub settled : AllByRecursion (IsLookedAfter bs now) (take i gs)
+  pub looked_at : due_in bs gs + lists_a_reclaim ≡ due_in bs olds + most
+  pub none_before : 0 < most → due_in bs (take i gs) ≡ 0
+  pub few : most ≤ lists_a_reclaim
+
+nothing-before : {X : Type 0} (P : X → Type 0) (xs : List X) → AllByRecursion P (take 0 xs)
+nothing-before P [] = tt
+nothing-before P (x ∷ xs) = tt
+
+pub settling-begun : (bs : List ℕ) (es : Chains) (gs : List GroupValue) (most : ℕ) → most ≡ lists_a_reclaim → IsListed es gs → Settling bs es es gs gs 0 most
+settling-begun bs es gs most all h = record {
+  part = part-refl bs es;
+  kept = λ last k. k;
+  listed = h;
+  settled = nothing-before (IsLookedAfter bs es) gs;
+  looked_at = omega (arith, all);
+  none_before = λ some. none gs;
+  few = omega (arith, all);
 }
+  where
+    none : (xs : List GroupValue) → due_in bs (take 0 xs) ≡ 0
+    none [] = refl
+    none (x ∷ xs) = refl
+
+-- the next group was looked at
+pub settling-settled : (bs : List ℕ) (old now new : Chains) (olds gs : List GroupValue) (i last most more : ℕ) (g h : GroupValue) → i < length gs → g ≡ get_or gs i g → IsKept old last → IsPartReclaimed bs now new → ((last : ℕ) → IsKept now last → IsKept new last)
+    → more ≡ most - due_for bs g → due_for bs h ≡ due_for bs g - most → IsLookedAfter bs new h → AreKept g.versions h.versions new → Settling bs old now olds gs i most → Settling bs old new olds (set gs i h) (i + 1) more
+settling-settled bs old now new olds gs i last most more g h lt at ordered p keeps spare due settled left s =
+    let long : i < length (set gs i h) = omega (arith, lt, length-set gs i h) in
+    let there : h ≡ get_or (set gs i h) i h = sym (get-set gs i h h lt) in
+    let sum = due-set bs gs i g h lt at in
+    let next : suc i ≡ i + 1 = omega arith in
+    let looked = s.looked_at in
+    let few = s.few in
+    record {
+      part = part-trans bs old now new last ordered s.part p;
+      kept = λ n k. keeps n (s.kept n k);
+      listed = listed-part bs now new gs (set gs i h) last (s.kept last ordered) p (λ k n high there t. listed-set gs i g h k n high lt at (λ e. still k n high there e) t) s.listed;
+      settled = subst (λ n. AllByRecursion (IsLookedAfter bs new) (take n (set gs i h))) next (take-more (IsLookedAfter bs new) (set gs i h) i h long there settled
+          (subst (λ l. AllByRecursion (IsLookedAfter bs new) l) (sym (take-set gs i h)) (all-parts-settled bs now new p (take i gs) s.settled)));
+      looked_at = omega (arith, sum, looked, spare, due);
+      none_before = λ some. (
+          let before : due_in bs (take i gs) ≡ 0 = s.none_before (omega (arith, some, spare)) in
+          let now : due_in bs (take i (set gs i h)) ≡ due_in bs (take i gs) = ap (due_in bs) (take-set gs i h) in
+          let more = due-take bs (set gs i h) i h long there in
+          let at_next : due_in bs (take (suc i) (set gs i h)) ≡ due_in bs (take (i + 1) (set gs i h)) = ap (λ n. due_in bs (take n (set gs i h))) next in
+          omega (arith, some, spare, due, before, now, more, at_next)
+          );
+      few = omega (arith, few, spare);
+    }
   where
     still : (k : Bytes) (n high : ℕ) → has_version n (find_chain k new) ≡ true → is_in g.versions k n high ≡ true → is_in h.versions k n high ≡ true
     still k n high there e = elim (or_cases (is_in h.versions k n high) (not (has_version n (find_chain k new))) (left k n high e)) [
@@ -271,11 +311,33 @@ chain-needed : (bs : List ℕ) (es : Chains) (k : Bytes) (gs : List GroupValue) 
 chain-needed bs es k gs None e h l = tt
 chain-needed bs es k gs (Some c) e h l = elim (each-needed bs es k c.newest.number gs c.older h l) [ inl x ↦ x | inr x ↦ subst (IsNeededChain bs) e x ]
 
-pub settling-ended : (bs : List ℕ) (old now : Chains) (gs : List GroupValue) (i : ℕ) → length gs ≤ i → Settling bs old now gs i → (k : Bytes) → find_chain k now ≡ option_map (reclaimed bs) (find_chain k old)
-settling-ended bs old now gs i all s k = elim (s.part k) [
-  | inl same ↦ sym (ap (option_map (reclaimed bs)) (sym same) ∙ reclaimed-needed bs (find_chain k now) (chain-needed bs now k gs (find_chain k now) refl (subst (λ l. AllByRecursion (λ (g : GroupValue). AllByRecursion (IsSettled bs now) g.versions) l) (take_all gs i all) s.settled) (s.listed k)))
+all-settled : (bs : List ℕ) (es : Chains) (gs : List GroupValue) → due_in bs gs ≡ 0 → AllByRecursion (IsLookedAfter bs es) gs → AllByRecursion (λ g. AllByRecursion (IsSettled bs es) g.versions) gs
+all-settled bs es [] none h = tt
+all-settled bs es (g ∷ gs) none h = (h.0 (omega (arith, none)), all-settled bs es gs (omega (arith, none)) h.1)
+
+-- so many lists are due no more
+pub settling-due : (bs : List ℕ) (old now : Chains) (olds gs : List GroupValue) (i most : ℕ) → length gs ≤ i → Settling bs old now olds gs i most → due_in bs gs ≡ due_in bs olds - lists_a_reclaim
+settling-due bs old now olds gs i zero all s = let looked = s.looked_at in omega (arith, looked)
+settling-due bs old now olds gs i (suc most) all s =
+    let looked = s.looked_at in
+    let few = s.few in
+    let none : due_in bs gs ≡ 0 = sym (ap (due_in bs) (take_all gs i all)) ∙ s.none_before (omega arith) in
+    omega (arith, looked, few, none)
+
+-- where none is due, all chains were reclaimed
+pub settling-ended : (bs : List ℕ) (old now : Chains) (olds gs : List GroupValue) (i most : ℕ) → length gs ≤ i → Settling bs old now olds gs i most → due_in bs gs ≡ 0 → (k : Bytes) → find_chain k now ≡ option_map (reclaimed bs) (find_chain k old)
+settling-ended bs old now olds gs i most all s none k = elim (s.part k) [
+  | inl same ↦ sym (ap (option_map (reclaimed bs)) (sym same) ∙ reclaimed-needed bs (find_chain k now) (chain-needed bs now k gs (find_chain k now) refl (all-settled bs now gs none (subst (λ l. AllByRecursion (IsLookedAfter bs now) l) (take_all gs i all) s.settled)) (s.listed k)))
   | inr done ↦ done
 ]
+
+-- some list is due
+pub any-due : (bs : List ℕ) (gs : List GroupValue) → list_any (λ g. nat_lt 0 (due_for bs g)) gs ≡ nat_lt 0 (due_in bs gs)
+any-due bs [] = refl
+any-due bs (g ∷ gs) = ap (λ b. nat_lt 0 (due_for bs g) || b) (any-due bs gs) ∙ either (due_for bs g) (due_in bs gs)
+  where
+    either : (m n : ℕ) → (nat_lt 0 m || nat_lt 0 n) ≡ nat_lt 0 (m + n)
+    either m n = grind (arith, nat_tests)
 
 -- ---- groups that are joined
 
@@ -293,12 +355,16 @@ found-remove (x ∷ gs) (suc i) g lt at none k n high t = elim (or_cases (is_in 
 pub found-trans : (fs gs hs : List GroupValue) → AreFound fs gs → AreFound gs hs → AreFound fs hs
 found-trans fs gs hs a b k n high t = b k n high (a k n high t)
 
+-- the versions of one group are those of two
+abbrev pub Joins : GroupValue → GroupValue → GroupValue → Type 0
+Joins a g j = (k : Bytes) (n high : ℕ) → is_in j.versions k n high ≡ (is_in a.versions k n high || is_in g.versions k n high)
+
 -- a group's versions move to the one before it
-pub found-joined : (gs hs : List GroupValue) (i : ℕ) (a g j : GroupValue) → suc i < length gs → a ≡ get_or gs i a → g ≡ get_or gs (suc i) g → hs ≡ set (remove gs (suc i)) i j → j.versions ≡ a.versions ++ g.versions → AreFound gs hs
+pub found-joined : (gs hs : List GroupValue) (i : ℕ) (a g j : GroupValue) → suc i < length gs → a ≡ get_or gs i a → g ≡ get_or gs (suc i) g → hs ≡ set (remove gs (suc i)) i j → Joins a g j → AreFound gs hs
 found-joined gs hs i a g j lt first second is both k n high t = ap (λ l. is_listed l k n high) is ∙ at gs i lt first second t
   where
     inside : is_in j.versions k n high ≡ (is_in a.versions k n high || is_in g.versions k n high)
-    inside = ap (λ l. is_in l k n high) both ∙ list_any-append (is_of k n high) a.versions g.versions
+    inside = both k n high
 
     at : (xs : List GroupValue) (m : ℕ) → suc m < length xs → a ≡ get_or xs m a → g ≡ get_or xs (suc m) g → is_listed xs k n high ≡ true → is_listed (set (remove xs (suc m)) m j) k n high ≡ true
     at [] m lt first second t = absurd (omega arith)
@@ -333,9 +399,26 @@ join-fits gs hs i m x y a g e lt first second gone less at fits =
     let two : g ≡ y = gone ∙ get_or_default gs i g y lt ∙ sym second in
     subst (λ (p : GroupValue). CanJoin p g) (sym one) (subst (λ (p : GroupValue). CanJoin x p) (sym two) fits)
 
-pub join-found : (gs hs : List GroupValue) (i m : ℕ) (a g j : GroupValue) → i ≡ suc m → i < length gs → g ≡ get_or gs i g → hs ≡ remove gs i → a ≡ get_or hs m a → j.versions ≡ a.versions ++ g.versions → AreFound gs (set hs m j)
+pub join-found : (gs hs : List GroupValue) (i m : ℕ) (a g j : GroupValue) → i ≡ suc m → i < length gs → g ≡ get_or gs i g → hs ≡ remove gs i → a ≡ get_or hs m a → Joins a g j → AreFound gs (set hs m j)
 join-found gs hs i m a g j e lt second less first both =
     let is : hs ≡ remove gs (suc m) = less ∙ ap (remove gs) e in
     let long : suc m < length gs = omega (arith, e) in
     subst (λ l. AreFound gs (set l m j)) (sym is)
     (found-joined gs (set (remove gs (suc m)) m j) m a g j long (first ∙ ap (λ l. get_or l m a) is ∙ get-before gs m a long) (subst (λ (p : ℕ). g ≡ get_or gs p g) e second) refl both)
+
+-- ---- what is due stays when groups are joined
+
+due-remove : (bs : List ℕ) (gs : List GroupValue) (i : ℕ) (g : GroupValue) → i < length gs → g ≡ get_or gs i g → due_in bs (remove gs i) + due_for bs g ≡ due_in bs gs
+due-remove bs [] i g lt at = absurd (omega arith)
+due-remove bs (x ∷ gs) zero g lt at = let same : due_for bs g ≡ due_for bs x = ap (due_for bs) at in omega (arith, same)
+due-remove bs (x ∷ gs) (suc i) g lt at = let rest = due-remove bs gs i g (omega arith) at in omega (arith, rest)
+
+pub due-empty : (bs : List ℕ) (gs hs : List GroupValue) (i : ℕ) (g : GroupValue) → i < length gs → g ≡ get_or gs i g → hs ≡ remove gs i → due_for bs g ≡ 0 → due_in bs hs ≡ due_in bs gs
+due-empty bs gs hs i g lt at is none = let one = ap (due_in bs) is in let two = due-remove bs gs i g lt at in omega (arith, one, two, none)
+
+pub due-joined : (bs : List ℕ) (gs hs : List GroupValue) (i m : ℕ) (a g j : GroupValue) → i ≡ suc m → i < length gs → g ≡ get_or gs i g → hs ≡ remove gs i → a ≡ get_or hs m a → m < length hs → due_for bs j ≡ due_for bs a + due_for bs g → due_in bs (set hs m j) ≡ due_in bs gs
+due-joined bs gs hs i m a g j e lt second less first short both =
+    let one = due-set bs hs m a j short first in
+    let two = ap (due_in bs) less in
+    let three = due-remove bs gs i g lt second in
+    omega (arith, one, two, three, both)

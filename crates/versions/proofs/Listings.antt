@@ -11,7 +11,8 @@ use Rattle.std.proofs.lemmas.Bool.Decides.{nat_tests}
 use Rattle.model.specs.Map.{Bytes, KeyMap, is_same_key}
 use Rattle.model.proofs.Lookups.{same_key, same_key_itself}
 use Rattle.versions.specs.Chains.{Stamped, ChainValue, Chains, find_chain, added, fresh_chain, stamped, first_number, is_between, seen_by, reclaimed, base_chains, IsKept, IsRisingTo, IsRisingChain, IsReclaimedAt, IsRoomier}
-use Rattle.versions.specs.Listings.{Listed, GroupValue, is_of, is_in, is_listed, AreListed, IsListedChain, IsListed, AreFound, unwitnessed, followed, has_version, AreNeeded, IsNeededChain, IsSettled, IsPartReclaimed, AreKept}
+use Rattle.versions.specs.Listings.{is_of, is_in, is_listed, AreListed, IsListedChain, IsListed, AreFound, unwitnessed, followed, has_version, AreNeeded, IsNeededChain, IsSettled, IsPartReclaimed, AreKept}
+use Rattle.versions.specs.Groups.{GroupValue, Listed}
 use Rattle.versions.proofs.ChainLaws.{any-weaker, between-wider, first_rises}
 use Rattle.versions.proofs.Stores.{RoomierFound, find-roomier, twice, rising_found, rising_older}
 use Rattle.versions.proofs.Visibles.{find_chain-put}

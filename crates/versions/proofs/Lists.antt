@@ -10,7 +10,8 @@ use Rattle.std.proofs.lemmas.Bool.{both_ways, or_left}
 use Rattle.std.proofs.lemmas.Bool.Decides.{nat_tests}
 use Rattle.model.specs.Map.{Bytes}
 use Rattle.versions.specs.Chains.{Chains, find_chain, IsKept}
-use Rattle.versions.specs.Listings.{Listed, is_seen_from, AreSeenFrom, is_of, is_in, has_version, IsSettled, IsPartReclaimed, AreKept, versions_in}
+use Rattle.versions.specs.Listings.{is_seen_from, AreSeenFrom, is_of, is_in, has_version, IsSettled, IsPartReclaimed, AreKept, versions_in}
+use Rattle.versions.specs.Groups.{Listed}
 use Rattle.versions.proofs.Listings.{part-refl, part-trans, all-settled-part, left-part}
 
 -- ---- lists, one after the other
@@ -40,7 +41,7 @@ in-empty (x ∷ xs) t =
     no_items [] e = refl
     no_items (v ∷ vs) e = absurd (omega arith)
 
-all-append : {X : Type 0} (P : X → Type 0) (xs ys : List X) → AllByRecursion P xs → AllByRecursion P ys → AllByRecursion P (xs ++ ys)
+pub all-append : {X : Type 0} (P : X → Type 0) (xs ys : List X) → AllByRecursion P xs → AllByRecursion P ys → AllByRecursion P (xs ++ ys)
 all-append P [] ys h g = g
 all-append P (x ∷ xs) ys h g = (h.0, all-append P xs ys h.1 g)
 

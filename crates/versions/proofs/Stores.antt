@@ -1,6 +1,6 @@
 -- All chains: what is made, what more room leaves, what an install adds and what a reclaim leaves.
 use Rattle.std.proofs.Common.{◌≡◌, ℕ, zero, suc, ◌+◌, ◌-◌, ◌<◌, ◌≤◌, Bool, true, false, T, cond, ◌&&◌, ◌||◌, List, [], ◌∷◌, ◌++◌, length, take, get_or, set, Option, Some, None, IsSome, Result, Ok, Err, refl, sym, ap, subst, ◌∙◌, arith, inl, inr, length-append}
-use Rattle.std.specs.Prelude.{option_map, nat_le, is_some, if◌then◌else◌, IfSome, OnOk, option_copied, swap_remove}
+use Rattle.std.specs.Prelude.{option_map, nat_le, is_some, if◌then◌else◌, ◌⊎◌, IfSome, OnOk, option_copied, swap_remove}
 use Rattle.std.specs.Borrow.{Bor}
 use Rattle.std.specs.List.{AllByRecursion}
 use Rattle.std.specs.declared.cmp.Ordering.{Ordering}
@@ -15,7 +15,8 @@ use Rattle.sorted_pages.specs.Trims.{put_some, changed_at}
 use Rattle.model.specs.Map.{Bytes, KeyMap, KeyWrite, IsMap, key_cmp, is_same_key, value_at, after_write, after_writes}
 use Rattle.model.proofs.Lookups.{same_key, same_key_itself, same_key_comm, same_map}
 use Rattle.versions.specs.Chains.{Stamped, ChainValue, Chains, ChainsValue, find_chain, seen, seen_in, version_at, value_of, visible, with_value, added, stamped, fresh_chain, IsReady, HasPlace, HasRoom, IsPrepared, reclaimed, IsReclaimedAt, base_chains, IsKept, IsRisingChain, IsRisingTo, IsRoomier, IsRoomierChain}
-use Rattle.versions.specs.Meaning.{kept_in, is_written_by, is_among, IsSameMeaning, IsReclaimed, IsTightChain, writes_of}
+use Rattle.versions.specs.Meaning.{kept_in, is_written_by, is_among, due_of, lists_a_reclaim, IsSameMeaning, IsReclaimed, IsTightChain, writes_of}
+use Rattle.versions.specs.Listings.{IsPartReclaimed}
 use Rattle.versions.proofs.ChainLaws.{seen-added, rising-added, version_at-reclaimed, version_at-newest, tight-reclaimed, rising-seen_by, reclaimed_twice}
 use Rattle.model.proofs.Entries.{IsSorted, IsBelowAll, turned, parts}
 use Rattle.versions.proofs.Visibles.{IsMap-visible, value-visible, visible-put, visible-put_same, find_chain-put, sorted-put}
@@ -381,15 +382,23 @@ tight_found bs last None c h e = absurd (not_some e)
     not_some e = cc
 tight_found bs last (Some d) c h e = let same : reclaimed bs d ≡ c = cc in subst (IsTightChain bs) same (tight-reclaimed bs d h.0)
 
-pub reclaimed-whole : (old new : ChainsValue) (bs : List ℕ) → IsKept old.chains old.last → IsKept new.chains new.last → new.last ≡ old.last
-    → ((k : Bytes) → find_chain k new.chains ≡ option_map (reclaimed bs) (find_chain k old.chains)) → IsReclaimed old new bs
-reclaimed-whole old new bs h g e is = record {
+part-same : {A : Type 0} (f : Option ChainValue → A) (bs : List ℕ) (o p : Option ChainValue) → f (option_map (reclaimed bs) o) ≡ f o → (p ≡ o) ⊎ (p ≡ option_map (reclaimed bs) o) → f p ≡ f o
+part-same f bs o p same (inl e) = ap f e
+part-same f bs o p same (inr e) = ap f e ∙ same
+
+pub reclaimed-whole : (old new : ChainsValue) (bs : List ℕ) → IsKept old.chains old.last → IsKept new.chains new.last → new.last ≡ old.last → due_of bs new ≡ due_of bs old - lists_a_reclaim → IsPartReclaimed bs old.chains new.chains
+    → (due_of bs new ≡ 0 → (k : Bytes) → find_chain k new.chains ≡ option_map (reclaimed bs) (find_chain k old.chains)) → IsReclaimed old new bs
+reclaimed-whole old new bs h g e due part is = record {
   maps = λ n t. same_map (visible n new.chains) (visible n old.chains) (IsMap-visible n new.chains g.sorted) (IsMap-visible n old.chains h.sorted)
-      (λ q. value-visible n q new.chains g.sorted ∙ ap (seen_in n) (is q) ∙ sees_found bs old.last n (find_chain q old.chains) (rising_found q old.chains old.last h) t ∙ sym (value-visible n q old.chains h.sorted));
-  newest = λ k. ap (option_map (λ (c : ChainValue). c.newest.number)) (is k) ∙ number_reclaimed bs (find_chain k old.chains);
-  kept = λ k. ap kept_in (is k);
+      (λ q. value-visible n q new.chains g.sorted ∙ part-same (seen_in n) bs (find_chain q old.chains) (find_chain q new.chains) (sees_found bs old.last n (find_chain q old.chains) (rising_found q old.chains old.last h) t) (part q)
+      ∙ sym (value-visible n q old.chains h.sorted));
+  newest = λ k. part-same (option_map (λ (c : ChainValue). c.newest.number)) bs (find_chain k old.chains) (find_chain k new.chains) (number_reclaimed bs (find_chain k old.chains)) (part k);
   last = e;
-  tight = λ k c f. tight_found bs old.last (find_chain k old.chains) c (rising_found k old.chains old.last h) (sym (is k) ∙ f);
+  due = due;
+  needed = λ k. part-same (λ o. kept_in (option_map (reclaimed bs) o)) bs (find_chain k old.chains) (find_chain k new.chains) (ap kept_in (twice bs (find_chain k old.chains) (rising_older old.last (find_chain k old.chains) (rising_found k old.chains old.last h)))) (part k);
+  kept = λ k. elim (part k) [ inl x ↦ inl (ap kept_in x) | inr x ↦ inr (ap kept_in x) ];
+  none_left = λ none k. ap kept_in (is none k);
+  tight = λ none k c f. tight_found bs old.last (find_chain k old.chains) c (rising_found k old.chains old.last h) (sym (is none k) ∙ f);
 }
 
 -- one chain reclaimed in its place

@@ -6,6 +6,7 @@ use Rattle.std.specs.Cmp.Lexicographic.{slice_cmp}
 use Rattle.std.specs.FinMap.Entries.{find, is_sorted}
 use Rattle.model.specs.Map.{Bytes, KeyMap, KeyWrite, is_same_key}
 use Rattle.sorted_pages.specs.Pages.{Page, room_at}
+use Rattle.versions.specs.Groups.{GroupValue}
 
 -- the commit number of a version and its value, `None` for a deletion
 pub record Stamped : Type 0 where
@@ -22,13 +23,15 @@ pub record ChainValue : Type 0 where
 abbrev pub Chains : Type 0
 Chains = List (Bytes × ChainValue)
 
--- the chains by rising key, the pages that they stand in, and the greatest number that was installed, or 0
+-- the chains by rising key, the pages that they stand in, the groups of their older versions, and the greatest number that was installed,
+-- or 0
 pub record ChainsValue : Type 0 where
   pub chains : Chains
   pub pages : List (Page ChainValue)
   -- how many more older versions, and groups of them, are listed without memory
   pub listed_spare : ℕ
   pub groups_spare : ℕ
+  pub groups : List GroupValue
   pub last : ℕ
 
 -- the last version with a number of at most n, and d where there is none

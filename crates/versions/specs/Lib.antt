@@ -1,3 +1,4 @@
+pub mod Groups
 pub mod Chains
 pub mod Listings
 pub mod Meaning

@@ -4,13 +4,9 @@ use Rattle.std.specs.List.{AllByRecursion, list_any, flat_map}
 use Rattle.std.specs.Vec.{vec_len, vec_capacity}
 use Rattle.std.specs.declared.vec.Vec.{Vec}
 use Rattle.model.specs.Map.{Bytes, is_same_key}
+use Rattle.versions.specs.Groups.{GroupValue, Listed}
+use Rattle.versions.specs.Meaning.{is_among}
 use Rattle.versions.specs.Chains.{Stamped, ChainValue, Chains, find_chain, first_number, is_between, reclaimed}
-
--- an older version: its key, its number, and the number of the version behind it, or a smaller one
-pub record Listed : Type 0 where
-  pub key : Bytes
-  pub number : ℕ
-  pub next : ℕ
 
 -- the versions of lists, one list after the other
 abbrev pub versions_in : {Z : Type 0} → List (Vec Listed Z) → List Listed
@@ -20,12 +16,6 @@ versions_in = flat_map (λ v. v.items)
 abbrev pub spare_in : {Z : Type 0} → List (Vec Listed Z) → ℕ
 spare_in [] = 0
 spare_in (v ∷ vs) = vec_capacity v - vec_len v
-
--- older versions that one number sees, and in how many lists they are
-pub record GroupValue : Type 0 where
-  pub witness : ℕ
-  pub versions : List Listed
-  pub lists : ℕ
 
 -- the number sees the version
 abbrev pub is_seen_from : ℕ → Listed → Bool
@@ -70,11 +60,21 @@ AreFound gs hs = (k : Bytes) (n high : ℕ) → IsTrue (is_listed gs k n high) �
 abbrev pub CanJoin : GroupValue → GroupValue → Type 0
 CanJoin g h = (g.witness ≡ h.witness) × (g.lists + h.lists < 2 ^ 63)
 
+-- ---- what is to be looked at
+
+-- the witness is one of the numbers, or no list counts as seen from it
+abbrev pub IsTakenIn : List ℕ → GroupValue → Type 0
+IsTakenIn bs g = IsTrue (is_among bs g.witness) ⊎ (g.seen ≡ 0)
+
+-- each of the versions is among the others
+abbrev pub AreIn : List Listed → List Listed → Type 0
+AreIn us vs = (k : Bytes) (n high : ℕ) → IsTrue (is_in us k n high) → IsTrue (is_in vs k n high)
+
 -- ---- a version more
 
 -- a group of these versions, whatever its witness
 abbrev pub unwitnessed : List Listed → GroupValue
-unwitnessed vs = record { witness = 0; versions = vs; lists = 0 }
+unwitnessed vs = record { witness = 0; versions = vs; seen = 0; due = 0; lists = 0 }
 
 -- what is listed of a key when a version of number n follows its newest
 abbrev pub followed : Option ChainValue → Bytes → ℕ → List Listed

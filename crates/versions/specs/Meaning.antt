@@ -1,7 +1,8 @@
 -- What versions mean: a map for each number, the number of each key's newest version, and how many versions are kept.
-use Rattle.std.specs.Prelude.{◌≡◌, ℕ, ◌+◌, Bool, ◌||◌, ◌==◌, nat_le, IsTrue, List, [], ◌∷◌, length, Option, Some, None, option_map, if◌then◌else◌}
+use Rattle.std.specs.Prelude.{◌≡◌, ℕ, ◌+◌, ◌-◌, ◌⊎◌, Bool, ◌||◌, ◌==◌, nat_le, IsTrue, List, [], ◌∷◌, length, Option, Some, None, option_map, if◌then◌else◌}
 use Rattle.std.specs.List.{AllByRecursion, list_any}
 use Rattle.model.specs.Map.{Bytes, KeyMap, KeyWrite, is_same_key, after_writes}
+use Rattle.versions.specs.Groups.{GroupValue}
 use Rattle.versions.specs.Chains.{Stamped, ChainValue, Chains, ChainsValue, version_at, visible, find_chain, reclaimed}
 
 -- the map that number n sees
@@ -22,6 +23,18 @@ kept_of v k = kept_in (find_chain k v.chains)
 
 abbrev pub is_among : List ℕ → ℕ → Bool
 is_among bs n = list_any (λ b. b == n) bs
+
+-- how many of the group's lists are to be looked at where these numbers are held
+abbrev pub due_for : List ℕ → GroupValue → ℕ
+due_for bs g = if is_among bs g.witness then g.due else g.seen + g.due
+
+abbrev pub due_in : List ℕ → List GroupValue → ℕ
+due_in bs [] = 0
+due_in bs (g ∷ gs) = due_for bs g + due_in bs gs
+
+-- how many lists of older versions are to be looked at where these numbers are held
+abbrev pub due_of : List ℕ → ChainsValue → ℕ
+due_of bs v = due_in bs v.groups
 
 -- nothing that can be asked for has changed
 pub record IsSameMeaning (old new : ChainsValue) : Type 0 where
@@ -66,10 +79,18 @@ IsTight bs v = (k : Bytes) (c : ChainValue) → find_chain k v.chains ≡ Some c
 abbrev pub needed_of : List ℕ → ChainsValue → Bytes → ℕ
 needed_of bs v k = kept_in (option_map (reclaimed bs) (find_chain k v.chains))
 
--- what the numbers see, and what the greatest installed and those above it see, hasn't changed, and no other version is kept
+-- how many lists of older versions a reclaim looks at; a list has what one commit replaced
+abbrev pub lists_a_reclaim : ℕ
+lists_a_reclaim = 16
+
+-- What the numbers see, and what the greatest installed and those above it see, hasn't changed. So many lists are due no more. Each key has
+-- all its versions still or none but those that are needed, and has none but those where no list is due.
 pub record IsReclaimed (old new : ChainsValue) (bs : List ℕ) : Type 0 where
   pub maps : (n : ℕ) → IsTrue (is_among bs n || nat_le old.last n) → map_seen new n ≡ map_seen old n
   pub newest : (k : Bytes) → newest_of new k ≡ newest_of old k
-  pub kept : (k : Bytes) → kept_of new k ≡ needed_of bs old k
   pub last : new.last ≡ old.last
-  pub tight : IsTight bs new
+  pub due : due_of bs new ≡ due_of bs old - lists_a_reclaim
+  pub needed : (k : Bytes) → needed_of bs new k ≡ needed_of bs old k
+  pub kept : (k : Bytes) → (kept_of new k ≡ kept_of old k) ⊎ (kept_of new k ≡ needed_of bs old k)
+  pub none_left : due_of bs new ≡ 0 → (k : Bytes) → kept_of new k ≡ needed_of bs old k
+  pub tight : due_of bs new ≡ 0 → IsTight bs new

@@ -8,7 +8,8 @@ ghost use Rattle.std.specs.Vec.{vec_len, vec_capacity};
 ghost use Rattle.model.specs.Map.{Bytes};
 ghost use Rattle.sorted_pages.specs.Pages.{entries, room_at};
 ghost use Rattle.versions.specs.Chains.{ChainValue, HasPlace, HasRoom, IsKept, IsReady, IsRoomier, added, find_chain, stamped};
-ghost use Rattle.versions.specs.Listings.{AreSeenFrom, GroupValue, IsListed, followed, unwitnessed};
+ghost use Rattle.versions.specs.Listings.{AreSeenFrom, IsListed, followed, unwitnessed};
+ghost use Rattle.versions.specs.Groups.{GroupValue};
 ghost use Rattle.versions.specs.Meaning.{AreInstalled};
 
 use crate::chain::{Chain, Version};

@@ -1,8 +1,9 @@
 //! Which versions are to be looked at when a number is held no more.
-ghost use Rattle.std.specs.Prelude.{◌≡◌, ◌==◌, ◌≤◌, true, [], IfSome, IsOk, IsTrue, OnOk};
+ghost use Rattle.std.specs.Prelude.{◌≡◌, ◌==◌, ◌≤◌, ◌<◌, ◌^◌, ℕ, List, nat_lt, length, true, [], IfSome, IsOk, IsTrue, OnOk};
 ghost use Rattle.std.specs.List.{list_all};
 ghost use Rattle.std.specs.Vec.{vec_len};
 ghost use Rattle.versions.specs.Listings.{AreSeenFrom, is_seen_by, is_seen_from, spare_in, versions_in};
+ghost use Rattle.versions.specs.Meaning.{due_for};
 ghost use Rattle.versions.specs.Meaning.{is_among};
 
 use model::{Key, Memory};
@@ -18,7 +19,7 @@ pub(crate) struct OldVersion {
 }
 
 impl Model for OldVersion {
-    ghost use Rattle.versions.specs.Listings.{Listed};
+    ghost use Rattle.versions.specs.Groups.{Listed};
 
     ghost Value = { Listed };
 
@@ -44,52 +45,77 @@ impl OldVersion {
     }
 }
 
-/// Older versions that one number sees, their witness, in lists: one of each commit whose versions came behind them. While the witness
-/// is held, none of them has to be looked at.
+/// Older versions in lists: one of each commit whose versions came behind them. One number, the witness, sees each version of `lists`,
+/// so that while it is held they need not be looked at.
 #[derive(Drop)]
 pub(crate) struct Group {
     pub(crate) witness: u64,
     pub(crate) lists: LinkedList<Vec<OldVersion>>,
+    // what is to be looked at, since its witness was held no more
+    pub(crate) due: LinkedList<Vec<OldVersion>>,
+    // what was looked at and is needed, though the witness doesn't see all of it. It is looked at each time. Where each number is at
+    // least the last commit's when it comes to be held, there is none
+    pub(crate) mixed: LinkedList<Vec<OldVersion>>,
 }
 
 impl Model for Group {
-    ghost use Rattle.std.specs.Prelude.{length};
-    ghost use Rattle.versions.specs.Listings.{AreSeenFrom, GroupValue, versions_in};
+    ghost use Rattle.std.specs.Prelude.{◌+◌, ◌<◌, ◌^◌, ◌++◌, length};
+    ghost use Rattle.versions.specs.Listings.{AreSeenFrom, versions_in};
+    ghost use Rattle.versions.specs.Groups.{GroupValue};
 
     ghost Value = { GroupValue };
 
-    ghost view = { λ g. record { witness = g.witness; versions = versions_in g.lists; lists = length g.lists } };
+    ghost view = { λ g. record { witness = g.witness; versions = versions_in g.lists ++ (versions_in g.due ++ versions_in g.mixed); seen = length g.lists; due = length g.due; lists = length g.lists + length g.due + length g.mixed } };
 
-    ghost invariant = { λ g. AreSeenFrom g.witness (versions_in g.lists) };
+    ghost invariant = { λ g. AreSeenFrom g.witness (versions_in g.lists) × (length g.lists + length g.due + length g.mixed < 2 ^ 63) };
 }
 
 impl Group {
     // Versions that this number sees. Takes no memory.
     pub(crate) fn new(witness: u64, lists: LinkedList<Vec<OldVersion>>) -> Group
         requires { AreSeenFrom witness (versions_in lists) }
-        ensures { result.versions ≡ versions_in lists }
+        ensures versions { result.versions ≡ versions_in lists }
+        ensures due { (bs : List ℕ) → due_for bs result ≤ length lists }
     {
-        Group { witness, lists }
+        let alloc = *lists.allocator();
+        let _fits = lists.len();
+        Group {
+            witness,
+            lists,
+            due: LinkedList::new(alloc),
+            mixed: LinkedList::new(alloc),
+        }
     }
 
-    pub(crate) fn witness(&self) -> u64
-        ensures value { result ≡ self.now.witness }
-        ensures seen { AreSeenFrom result self.now.versions }
+    // How many lists are due.
+    pub(crate) fn due(&self) -> usize
+        ensures { result ≡ self.now.due }
     {
-        self.witness
+        self.due.len()
     }
 
-    // How many versions there are.
-    pub(crate) fn count(&self) -> usize {
-        self.lists
-            .iter()
-            .fold(0, |sum: usize, list| sum.saturating_add(list.len()))
+    // How many lists there are.
+    pub(crate) fn count(&self) -> usize
+        ensures value { result ≡ self.now.lists }
+        ensures fits { result < 2 ^ 63 }
+    {
+        self.lists.len() + self.due.len() + self.mixed.len()
     }
 
+    // Is there no list?
     pub(crate) fn is_empty(&self) -> bool
-        ensures { result ≡ true → self.now.versions ≡ [] }
+        ensures none { result ≡ true → self.now.versions ≡ [] }
+        ensures due { result ≡ true → (bs : List ℕ) → due_for bs self.now ≡ 0 }
     {
-        are_empty(&self.lists)
+        let _ = &self.witness;
+        self.count() == 0
+    }
+
+    // Is a list to be looked at where these numbers are held?
+    pub(crate) fn is_due(&self, begins: &[u64]) -> bool
+        ensures { result ≡ nat_lt 0 (due_for begins.now self.now) }
+    {
+        !self.due.is_empty() || !is_among(begins, self.witness) && !self.lists.is_empty()
     }
 }
 

@@ -1,6 +1,6 @@
 //! Old versions go.
-ghost use Rattle.std.specs.Prelude.{◌≡◌, ◌↔◌, ℕ, T, false, IfSome, IsTrue, nat_le, ◌<◌, ◌+◌, ◌^◌, ◌++◌, length, take, drop, option_map};
-ghost use Rattle.std.specs.List.{AllByRecursion, list_all};
+ghost use Rattle.std.specs.Prelude.{◌≡◌, ◌↔◌, ◌||◌, ℕ, List, T, false, IfSome, IsTrue, nat_lt, ◌<◌, ◌≤◌, ◌+◌, ◌-◌, ◌^◌, ◌++◌, length, take, drop, option_map};
+ghost use Rattle.std.specs.List.{AllByRecursion, list_any};
 ghost use Rattle.std.specs.Ordering.{nat_cmp};
 ghost use Rattle.std.specs.Cmp.Lexicographic.{slice_cmp};
 ghost use Rattle.std.specs.FinMap.Entries.{is_sorted};
@@ -8,8 +8,9 @@ ghost use Rattle.std.specs.Vec.{vec_len};
 ghost use Rattle.model.specs.Map.{Bytes};
 ghost use Rattle.sorted_pages.specs.Pages.{entries};
 ghost use Rattle.versions.specs.Chains.{IsKept, IsReclaimedAt, find_chain, reclaimed};
-ghost use Rattle.versions.specs.Listings.{AreFound, AreKept, AreSeenFrom, CanJoin, IsListed, IsPartReclaimed, IsSettled, has_version, versions_in};
-ghost use Rattle.versions.specs.Meaning.{is_among};
+ghost use Rattle.versions.specs.Listings.{AreFound, AreIn, AreKept, AreSeenFrom, CanJoin, IsListed, IsPartReclaimed, IsSettled, IsTakenIn, has_version, is_in, versions_in};
+ghost use Rattle.versions.specs.Meaning.{due_for, due_in};
+ghost use Rattle.versions.specs.Meaning.{is_among, lists_a_reclaim};
 
 use crate::chain::Chain;
 use crate::listing::{Group, OldVersion, are_empty, are_seen_from, greatest_below, is_among};
@@ -17,8 +18,8 @@ use sorted_pages::SortedPages;
 use std::collections::LinkedList;
 use std::mem;
 
-// How many versions have to be listed for each page so that all keys are walked over in place of a look at each version.
-const WALK_FROM: usize = 4;
+// How many of the due lists one reclaim looks at.
+const LISTS_A_RECLAIM: usize = 16;
 
 // One more than the most lists that a group can have.
 const LISTS_END: usize = 0x8000_0000_0000_0000;
@@ -58,13 +59,13 @@ fn drop_unseen(
     }
 }
 
-// Takes the first list out of the lists, as lists of one. Takes no memory.
-fn take_first(lists: &mut LinkedList<Vec<OldVersion>>) -> LinkedList<Vec<OldVersion>>
-    requires { 0 < length lists.old }
-    ensures first { result ≡ take 1 lists.old }
-    ensures rest { lists.new ≡ drop 1 lists.old }
+// Takes the first `count` lists out of the lists. Takes no memory.
+fn take_front(lists: &mut LinkedList<Vec<OldVersion>>, count: usize) -> LinkedList<Vec<OldVersion>>
+    requires { count ≤ length lists.old }
+    ensures front { result ≡ take count lists.old }
+    ensures rest { lists.new ≡ drop count lists.old }
 {
-    match lists.split_off(1) {
+    match lists.split_off(count) {
         Ok(rest) => mem::replace(lists, rest),
         Err(_) => unreachable!(),
     }
@@ -114,6 +115,7 @@ fn settle_lists(
 )
     requires kept { (last : ℕ) × IsKept (entries chains.old) last }
     requires next { IfSome next (λ n. IsTrue (is_among begins.now n)) }
+    ensures fewer { length lists.new ≤ length lists.old }
     ensures part { IsPartReclaimed begins.now (entries chains.old) (entries chains.new) }
     ensures kept { (last : ℕ) → IsKept (entries chains.old) last → IsKept (entries chains.new) last }
     ensures settled { AllByRecursion (IsSettled begins.now (entries chains.new)) (versions_in lists.new) }
@@ -123,7 +125,7 @@ fn settle_lists(
     let alloc = *lists.allocator();
     let mut rest = mem::replace(lists, LinkedList::new(alloc));
     for _ in 0..rest.len() {
-        let mut first = take_first(&mut rest);
+        let mut first = take_front(&mut rest, 1);
         settle_first(chains, &mut first, begins, next);
         if !are_empty(&first) {
             append(lists, first);
@@ -132,78 +134,125 @@ fn settle_lists(
 }
 
 impl Group {
-    // Looks after the group, whose witness is held no more: the greatest number below takes its place where it sees all that is left.
-    fn settle(&mut self, chains: &mut SortedPages<Chain>, begins: &[u64])
+    // Takes in which numbers are held. Where the witness is none of them, the greatest below takes its place, or 0 where there is none, and
+    // all lists are due.
+    fn take_in(&mut self, begins: &[u64])
+        ensures found { AreIn self.old.versions self.new.versions }
+        ensures due { self.new.due ≡ due_for begins.now self.old }
+        ensures taken_in { IsTakenIn begins.now self.new }
+    {
+        if is_among(begins, self.witness) {
+            return;
+        }
+        let alloc = *self.lists.allocator();
+        let lists = mem::replace(&mut self.lists, LinkedList::new(alloc));
+        append(&mut self.due, lists);
+        self.witness = greatest_below(begins, self.witness).unwrap_or(0);
+    }
+
+    // Puts lists that were looked at under the witness, where it is held and sees all of them, and else to the mixed. Takes no memory.
+    fn keep(&mut self, lists: LinkedList<Vec<OldVersion>>, begins: &[u64])
+        requires fits { self.old.lists + length lists < 2 ^ 63 }
+        requires taken_in { IsTakenIn begins.now self.old }
+        ensures found { AreIn self.old.versions self.new.versions }
+        ensures kept { AreIn (versions_in lists) self.new.versions }
+        ensures due { self.new.due ≡ self.old.due }
+        ensures taken_in { IsTakenIn begins.now self.new }
+    {
+        if is_among(begins, self.witness) && are_seen_from(&lists, self.witness) {
+            append(&mut self.lists, lists);
+        } else {
+            append(&mut self.mixed, lists);
+        }
+    }
+
+    // Looks after the first `count` of the lists that are due.
+    fn look_at_due(&mut self, chains: &mut SortedPages<Chain>, begins: &[u64], count: usize)
+        requires count { count ≤ self.old.due }
+        requires taken_in { IsTakenIn begins.now self.old }
         requires kept { (last : ℕ) × IsKept (entries chains.old) last }
         ensures part { IsPartReclaimed begins.now (entries chains.old) (entries chains.new) }
         ensures kept { (last : ℕ) → IsKept (entries chains.old) last → IsKept (entries chains.new) last }
-        ensures settled { AllByRecursion (IsSettled begins.now (entries chains.new)) self.new.versions }
         ensures left { AreKept self.old.versions self.new.versions (entries chains.new) }
+        ensures due { self.new.due + count ≡ self.old.due }
+        ensures taken_in { IsTakenIn begins.now self.new }
     {
-        let next = greatest_below(begins, self.witness);
-        settle_lists(chains, &mut self.lists, begins, next);
-        if let Some(next) = next {
-            if are_seen_from(&self.lists, next) {
-                self.witness = next;
-            }
-        }
+        let witness = Some(self.witness).filter(|witness| is_among(begins, *witness));
+        let mut lists = take_front(&mut self.due, count);
+        settle_lists(chains, &mut lists, begins, witness);
+        self.keep(lists, begins);
+    }
+
+    // Looks after the mixed lists. Where no list is due, all was looked after then.
+    fn look_at_mixed(&mut self, chains: &mut SortedPages<Chain>, begins: &[u64])
+        requires taken_in { IsTakenIn begins.now self.old }
+        requires kept { (last : ℕ) × IsKept (entries chains.old) last }
+        ensures part { IsPartReclaimed begins.now (entries chains.old) (entries chains.new) }
+        ensures kept { (last : ℕ) → IsKept (entries chains.old) last → IsKept (entries chains.new) last }
+        ensures left { AreKept self.old.versions self.new.versions (entries chains.new) }
+        ensures due { due_for begins.now self.new ≡ self.old.due }
+        ensures settled { due_for begins.now self.new ≡ 0 → AllByRecursion (IsSettled begins.now (entries chains.new)) self.new.versions }
+    {
+        settle_lists(chains, &mut self.mixed, begins, None);
+    }
+
+    // Takes in which numbers are held, looks at up to `most` of the lists that are due, and answers how many fewer than those it looked at.
+    fn reclaim(&mut self, chains: &mut SortedPages<Chain>, begins: &[u64], most: usize) -> usize
+        requires kept { (last : ℕ) × IsKept (entries chains.old) last }
+        ensures spare { result ≡ most - due_for begins.now self.old }
+        ensures due { due_for begins.now self.new ≡ due_for begins.now self.old - most }
+        ensures part { IsPartReclaimed begins.now (entries chains.old) (entries chains.new) }
+        ensures kept { (last : ℕ) → IsKept (entries chains.old) last → IsKept (entries chains.new) last }
+        ensures left { AreKept self.old.versions self.new.versions (entries chains.new) }
+        ensures settled { due_for begins.now self.new ≡ 0 → AllByRecursion (IsSettled begins.now (entries chains.new)) self.new.versions }
+    {
+        self.take_in(begins);
+        let count = self.due().min(most);
+        self.look_at_due(chains, begins, count);
+        self.look_at_mixed(chains, begins);
+        most - count
     }
 
     // Can the other group be joined to this one? It has the same witness, and their lists can be counted.
     fn can_absorb(&self, other: &Group) -> bool
         ensures { IsTrue result ↔ CanJoin self.now other.now }
     {
-        self.witness == other.witness && self.lists.len() + other.lists.len() < LISTS_END
+        self.witness == other.witness && self.count() + other.count() < LISTS_END
     }
 
     // Takes in the versions of a group with the same witness. Takes no memory.
     fn absorb(&mut self, other: Group)
         requires { CanJoin self.old other }
-        ensures versions { self.new.versions ≡ self.old.versions ++ other.versions }
-        ensures witness { self.new.witness ≡ self.old.witness }
+        ensures found { (k : Bytes) (n high : ℕ) → is_in self.new.versions k n high ≡ (is_in self.old.versions k n high || is_in other.versions k n high) }
+        ensures due { (bs : List ℕ) → due_for bs self.new ≡ due_for bs self.old + due_for bs other }
     {
         append(&mut self.lists, other.lists);
+        append(&mut self.due, other.due);
+        append(&mut self.mixed, other.mixed);
     }
 }
 
-// Drops the older versions that none of the numbers sees. Only the groups are looked at whose witness is none of them.
-fn reclaim_listed(chains: &mut SortedPages<Chain>, groups: &mut [Group], begins: &[u64])
+// Takes in which numbers are held, and looks at the first of the lists that are due: what none of the numbers sees goes.
+fn reclaim_groups(chains: &mut SortedPages<Chain>, groups: &mut [Group], begins: &[u64])
     requires kept { (last : ℕ) × IsKept (entries chains.old) last }
     requires listed { IsListed (entries chains.old) groups.old }
-    ensures reclaimed { (k : Bytes) → find_chain k (entries chains.new) ≡ option_map (reclaimed begins.now) (find_chain k (entries chains.old)) }
+    ensures due { due_in begins.now groups.new ≡ due_in begins.now groups.old - lists_a_reclaim }
+    ensures part { IsPartReclaimed begins.now (entries chains.old) (entries chains.new) }
+    ensures all { due_in begins.now groups.new ≡ 0 → (k : Bytes) → find_chain k (entries chains.new) ≡ option_map (reclaimed begins.now) (find_chain k (entries chains.old)) }
     ensures kept { (last : ℕ) → IsKept (entries chains.old) last → IsKept (entries chains.new) last }
     ensures listed { IsListed (entries chains.new) groups.new }
 {
+    let mut most = LISTS_A_RECLAIM;
     for i in 0..groups.len() {
-        if !is_among(begins, groups[i].witness()) {
-            groups[i].settle(chains, begins);
-        }
+        most = groups[i].reclaim(chains, begins, most);
     }
-}
-
-// Drops all older versions, where each of the numbers is at least the greatest that was installed, in one walk by rising key. Nothing
-// is listed then.
-fn reclaim_all(chains: &mut SortedPages<Chain>, groups: &mut Vec<Group>, begins: &[u64])
-    requires late { (last : ℕ) × IsKept (entries chains.old) last × IsTrue (list_all (nat_le last) begins.now) }
-    ensures reclaimed { (k : Bytes) → find_chain k (entries chains.new) ≡ option_map (reclaimed begins.now) (find_chain k (entries chains.old)) }
-    ensures kept { (last : ℕ) → IsKept (entries chains.old) last → IsKept (entries chains.new) last }
-    ensures listed { IsListed (entries chains.new) groups.new.items }
-{
-    chains.trim(begins);
-    groups.clear();
-}
-
-// Is each of the numbers at least this one?
-fn are_from(numbers: &[u64], least: u64) -> bool
-    ensures { result ≡ list_all (nat_le least) numbers.now }
-{
-    numbers.iter().all(|number| least <= *number)
 }
 
 // Joins a group to the one before it, where both have one witness. Did it? Takes no memory.
 fn join(groups: &mut Vec<Group>, i: usize) -> bool
     requires { (0 < i) × (i < vec_len groups.old) }
     ensures found { AreFound groups.old.items groups.new.items }
+    ensures due { (bs : List ℕ) → due_in bs groups.new.items ≡ due_in bs groups.old.items }
     ensures joined { IsTrue result → vec_len groups.new + 1 ≡ vec_len groups.old }
     ensures same { result ≡ false → vec_len groups.new ≡ vec_len groups.old }
 {
@@ -217,7 +266,8 @@ fn join(groups: &mut Vec<Group>, i: usize) -> bool
 
 // Takes the empty groups out, and joins neighbours with one witness.
 fn join_groups(groups: &mut Vec<Group>)
-    ensures { AreFound groups.old.items groups.new.items }
+    ensures found { AreFound groups.old.items groups.new.items }
+    ensures due { (bs : List ℕ) → due_in bs groups.new.items ≡ due_in bs groups.old.items }
 {
     let mut i = 0;
     while i < groups.len() {
@@ -229,30 +279,30 @@ fn join_groups(groups: &mut Vec<Group>)
     }
 }
 
-// Drops the older versions that none of the numbers sees, where `last` is the greatest number that was installed. Takes no memory.
+// Is a list of some group to be looked at where these numbers are held?
+fn are_due(groups: &[Group], begins: &[u64]) -> bool
+    ensures { result ≡ list_any (λ g. nat_lt 0 (due_for begins.now g)) groups.now }
+{
+    groups.iter().any(|group| group.is_due(begins))
+}
+
+// Looks at the first of the lists that are due where these numbers are held, and drops the versions that none of them sees. Are lists
+// still due? Takes no memory.
 pub(crate) fn reclaim_versions(
     chains: &mut SortedPages<Chain>,
     groups: &mut Vec<Group>,
-    last: u64,
     begins: &[u64],
-)
-    requires kept { IsKept (entries chains.old) last }
+) -> bool
+    requires kept { (last : ℕ) × IsKept (entries chains.old) last }
     requires listed { IsListed (entries chains.old) groups.old.items }
-    ensures reclaimed { (k : Bytes) → find_chain k (entries chains.new) ≡ option_map (reclaimed begins.now) (find_chain k (entries chains.old)) }
-    ensures kept { IsKept (entries chains.new) last }
+    ensures still { result ≡ nat_lt 0 (due_in begins.now groups.new.items) }
+    ensures due { due_in begins.now groups.new.items ≡ due_in begins.now groups.old.items - lists_a_reclaim }
+    ensures part { IsPartReclaimed begins.now (entries chains.old) (entries chains.new) }
+    ensures all { due_in begins.now groups.new.items ≡ 0 → (k : Bytes) → find_chain k (entries chains.new) ≡ option_map (reclaimed begins.now) (find_chain k (entries chains.old)) }
+    ensures kept { (last : ℕ) → IsKept (entries chains.old) last → IsKept (entries chains.new) last }
     ensures listed { IsListed (entries chains.new) groups.new.items }
 {
-    if are_from(begins, last) && listed(groups) / WALK_FROM >= chains.pages() {
-        reclaim_all(chains, groups, begins);
-    } else {
-        reclaim_listed(chains, groups, begins);
-        join_groups(groups);
-    }
-}
-
-// How many versions the groups list. No clause rests on it: it only decides which of two ways is the faster.
-fn listed(groups: &[Group]) -> usize {
-    groups
-        .iter()
-        .fold(0, |sum: usize, group| sum.saturating_add(group.count()))
+    reclaim_groups(chains, groups, begins);
+    join_groups(groups);
+    are_due(groups, begins)
 }

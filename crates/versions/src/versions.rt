@@ -1,12 +1,12 @@
 //! The versions of all keys.
-ghost use Rattle.std.specs.Prelude.{◌≡◌, ◌≢◌, ℕ, T, true, ◌+◌, ◌≤◌, ◌<◌, ◌&&◌, Bool, List, [], ◌∷◌, ◌++◌, length, IsOk, IfOk, OnOk, option_map, option_copied};
+ghost use Rattle.std.specs.Prelude.{◌≡◌, ◌≢◌, ℕ, T, true, nat_lt, ◌+◌, ◌≤◌, ◌<◌, ◌&&◌, Bool, List, [], ◌∷◌, ◌++◌, length, IsOk, IfOk, OnOk, option_map, option_copied};
 ghost use Rattle.std.specs.Ordering.{nat_cmp};
 ghost use Rattle.std.specs.Cmp.Lexicographic.{slice_cmp};
 ghost use Rattle.std.specs.FinMap.Entries.{put, is_sorted, where_key};
 ghost use Rattle.model.specs.Map.{Bytes, KeyMap, IsMap, value_at, pairs_in_range, is_below};
 ghost use Rattle.model.specs.History.{Record};
 ghost use Rattle.versions.specs.Chains.{IsPrepared, IsReady, HasPlace, HasRoom, IsRoomier, find_chain, added, stamped};
-ghost use Rattle.versions.specs.Meaning.{map_seen, newest_of, kept_of, is_among, IsSameMeaning, IsInstalled, IsReclaimed};
+ghost use Rattle.versions.specs.Meaning.{map_seen, newest_of, kept_of, due_of, is_among, IsSameMeaning, IsInstalled, IsReclaimed};
 ghost use Rattle.sorted_pages.specs.Pages.{room_at};
 ghost use Rattle.versions.specs.Lent.{range_pairs};
 ghost use Rattle.versions.specs.StandsFor.{StandsFor};
@@ -47,7 +47,7 @@ impl Model for Versions {
 
     ghost Value = { ChainsValue };
 
-    ghost view = { λ v. record { chains = entries v.chains; pages = v.chains; listed_spare = spare_in v.listed; groups_spare = vec_capacity v.groups - vec_len v.groups; last = v.last } };
+    ghost view = { λ v. record { chains = entries v.chains; pages = v.chains; listed_spare = spare_in v.listed; groups_spare = vec_capacity v.groups - vec_len v.groups; groups = v.groups.items; last = v.last } };
 
     ghost invariant = { λ v. IsKept (entries v.chains) v.last × IsListed (entries v.chains) v.groups.items × (versions_in v.listed ≡ []) };
 }
@@ -166,17 +166,18 @@ impl Versions {
         }
     }
 
-    /// Drops the versions that are neither the newest of their keys nor seen from one of the numbers; there may be no number. A
-    /// deletion that is the newest version of its key stays.
+    /// Drops versions that are neither the newest of their keys nor seen from one of the numbers; there may be no number. A deletion
+    /// that is the newest version of its key stays. Answers whether it has to be called again until all those versions are gone.
     ///
-    /// Each older version is listed under a number that sees it, and is looked at once that number is none of these, so the cost is
-    /// that of the versions that came in or lost their number since the last time, not of all that are kept. Where all numbers are at
-    /// least the last commit's and many versions are listed, all keys are walked over once instead, in their order. Takes no memory:
-    /// where the versions of two commits come under one number, their lists are linked.
-    pub fn reclaim(&mut self, begins: &[u64])
+    /// What each commit replaced is a list, of as many versions as it wrote, under a number that sees them. Once that number is none of
+    /// these, the list is due, and a call looks at 16 of the lists that are due. So what a call costs is bounded, beside the numbers
+    /// themselves, and called again with the same numbers it ends. Takes no memory: where the lists of two commits come under one number,
+    /// they are linked.
+    pub fn reclaim(&mut self, begins: &[u64]) -> bool
         ensures reclaimed { IsReclaimed self.old self.new begins.now }
+        ensures still { result ≡ nat_lt 0 (due_of begins.now self.new) }
         ensures stands { (held : ℕ → Bool) (base : KeyMap) (history : List Record) → StandsFor self.old held base history → StandsFor self.new (λ n. held n && is_among begins.now n) base history }
     {
-        reclaim_versions(&mut self.chains, &mut self.groups, self.last, begins);
+        reclaim_versions(&mut self.chains, &mut self.groups, begins)
     }
 }

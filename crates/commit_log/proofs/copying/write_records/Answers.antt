@@ -5,8 +5,7 @@ use Rattle.commit_log.specs.RecordFormat.{closed_gate, sectors_of}
 use Rattle.commit_log.specs.Copying.{puts}
 use Rattle.commit_log.proofs.Putting.{bounds_behind}
 use Rattle.commit_log.proofs.NextSets.{next_set_of}
-use Rattle.commit_log.proofs.CopyProtocol.{many_writes}
-use Rattle.commit_log.proofs.CopyRuns.{Copied, none_copied, copied_more, gate_le, records_lt, next_gate_le, records_are_all, all_read, shut_read}
+use Rattle.commit_log.proofs.CopyRuns.{Copied, none_copied, copied_more, gate_le, records_lt, next_gate_le, records_are_all, all_read, shut_read, record_within, last_gate}
 use Rattle.commit_log.proofs.copying.write_records.Goals as goal
 
 pub loop-left-init : goal.loop-left-init
@@ -17,7 +16,7 @@ loop-left-init g c = record {
   memory = c.requires.memory;
   size = refl;
   failures = refl;
-  copied = none_copied g.D.Sectors c.args.device.now c.args.map.now c.pairs-pairs.result c.pairs-pairs.ensures (λ keeps. g.met.D.Sectors.only_now keeps c.args.device.now);
+  copied = none_copied g.D.Sectors c.args.device.now c.args.map.now c.pairs-pairs.result c.pairs-pairs.ensures (λ keeps. g.met.D.Sectors.only_now keeps);
 }
 
 pub write_open_record-requires-clause-room : goal.write_open_record-requires-clause-room
@@ -31,14 +30,6 @@ write_open_record-requires-clause-fits g c =
     let next = next_set_of c.loop-left.pairs c.min-count.result c.next_payload_len-len.result (c.min-count.ensures ∙ ap (λ (n : ℕ). min n 64) c.loop-left.invariant.left) (omega (arith, c.loop-left.invariant.left, c.loop-left-test.true)) (c.next_payload_len-len.ensures.len ∙ ap (λ (l : KeyMap). payload_size (puts (take c.min-count.result l))) c.loop-left.invariant.ahead) in
     let size : length c.deref.result.now ≡ 512 * sectors_of (puts (take c.min-count.result c.loop-left.pairs)) = ap length c.deref.ensures.value ∙ c.encode_pairs-digest.ensures.sectors in
     omega (arith, size, next.sectors, next_gate_le g.D.Sectors c.args.device.now c.args.map.now c.loop-left.device c.loop-left.pairs c.loop-left.gate c.loop-left.records c.loop-left.digest c.loop-left.invariant.copied c.min-count.result c.next_payload_len-len.result next, c.requires.room, c.requires.fits)
-
-pub returns-in_err-write_open_record-clause-crash : goal.returns-in_err-write_open_record-clause-crash
-returns-in_err-write_open_record-clause-crash g c keeps =
-    (many_writes g.D.Sectors c.args.device.now 1 c.loop-left.device c.write_open_record.new.device c.loop-left.gate (omega (arith, c.loop-left.invariant.copied.gate_is)) (c.loop-left.invariant.copied.behind keeps) (c.write_open_record.ensures.crash keeps) (c.write_open_record.ensures.time keeps)).left
-
-pub returns-in_err-write_open_record-clause-time : goal.returns-in_err-write_open_record-clause-time
-returns-in_err-write_open_record-clause-time g c keeps =
-    (many_writes g.D.Sectors c.args.device.now 1 c.loop-left.device c.write_open_record.new.device c.loop-left.gate (omega (arith, c.loop-left.invariant.copied.gate_is)) (c.loop-left.invariant.copied.behind keeps) (c.write_open_record.ensures.crash keeps) (c.write_open_record.ensures.time keeps)).time
 
 pub overflow_add-gate-in-loop-left : goal.overflow_add-gate-in-loop-left
 overflow_add-gate-in-loop-left g c =
@@ -66,8 +57,7 @@ loop-left-preserved g c =
           (copied_more g.D.Sectors c.args.device.now c.args.map.now c.loop-left.device c.write_open_record.new.device c.loop-left.pairs c.encode_pairs-digest.new.pairs c.loop-left.gate c.loop-left.records c.min-count.result c.next_payload_len-len.result c.loop-left.digest c.deref.result.now c.encode_pairs-digest.result
           c.loop-left.invariant.copied next rest (c.deref.ensures.value ∙ c.encode_pairs-digest.ensures.body) size c.encode_pairs-digest.ensures.digest
           (λ keeps. c.in_ok-write_open_record.ensures.written keeps)
-          (λ keeps. c.in_ok-write_open_record.ensures.before keeps)
-          (λ keeps. many_writes g.D.Sectors c.args.device.now 1 c.loop-left.device c.write_open_record.new.device c.loop-left.gate (omega (arith, c.loop-left.invariant.copied.gate_is)) (c.loop-left.invariant.copied.behind keeps) (c.write_open_record.ensures.crash keeps) (c.write_open_record.ensures.time keeps)));
+          (λ keeps. c.write_open_record.ensures.alone keeps));
     }
 
 pub write-requires : goal.write-requires
@@ -87,3 +77,17 @@ pub returns-clause-behind : goal.returns-clause-behind
 returns-clause-behind g c keeps =
     let none : length c.loop-left.pairs ≡ 0 = omega (arith, c.loop-left.invariant.left, c.loop-left-test.false) in
     shut_read g.D.Sectors c.args.device.now c.args.map.now c.loop-left.device c.loop-left.pairs c.loop-left.gate c.loop-left.records c.loop-left.digest c.loop-left.invariant.copied none c.write.new.self closed_gate (λ s read. c.in_ok-write.ensures.written keeps s read ∙ c.closed_gate.ensures)
+
+pub returns-in_err-write_open_record-clause-alone : goal.returns-in_err-write_open_record-clause-alone
+returns-in_err-write_open_record-clause-alone g c keeps =
+    let next = next_set_of c.loop-left.pairs c.min-count.result c.next_payload_len-len.result (c.min-count.ensures ∙ ap (λ (n : ℕ). min n 64) c.loop-left.invariant.left) (omega (arith, c.loop-left.invariant.left, c.loop-left-test.true)) (c.next_payload_len-len.ensures.len ∙ ap (λ (l : KeyMap). payload_size (puts (take c.min-count.result l))) c.loop-left.invariant.ahead) in
+    let size : length c.deref.result.now ≡ 512 * sectors_of (puts (take c.min-count.result c.loop-left.pairs)) = ap length c.deref.ensures.value ∙ c.encode_pairs-digest.ensures.sectors in
+    record_within g.D.Sectors c.args.device.now c.args.map.now c.loop-left.device c.loop-left.pairs c.loop-left.gate c.loop-left.records c.loop-left.digest c.loop-left.invariant.copied c.write_open_record.new.device c.min-count.result c.next_payload_len-len.result (length c.deref.result.now) next size (c.loop-left.invariant.copied.within keeps) (c.write_open_record.ensures.alone keeps)
+
+pub returns-in_err-write-clause-alone : goal.returns-in_err-write-clause-alone
+returns-in_err-write-clause-alone g c keeps =
+    last_gate g.D.Sectors c.args.device.now c.args.map.now c.loop-left.device c.loop-left.pairs c.loop-left.gate c.loop-left.records c.loop-left.digest c.loop-left.invariant.copied c.write.new.self keeps (c.write.ensures.others keeps) (c.write.ensures.crash keeps) (c.write.ensures.time keeps)
+
+pub returns-clause-alone : goal.returns-clause-alone
+returns-clause-alone g c keeps =
+    last_gate g.D.Sectors c.args.device.now c.args.map.now c.loop-left.device c.loop-left.pairs c.loop-left.gate c.loop-left.records c.loop-left.digest c.loop-left.invariant.copied c.write.new.self keeps (c.write.ensures.others keeps) (c.write.ensures.crash keeps) (c.write.ensures.time keeps)

@@ -1,7 +1,10 @@
-use Rattle.std.proofs.Common.{◌≡◌, ◌≤◌, ◌<◌, ◌+◌, [], length, Some, ap, sym, subst, refl, ◌∙◌}
+use Rattle.std.proofs.Common.{◌≡◌, ◌≤◌, ◌<◌, ◌+◌, Bool, [], length, Some, ap, sym, subst, refl, ◌∙◌}
+use Rattle.std.specs.Prelude.{is_some}
 use Rattle.model.specs.declared.refusals.Refusal.TheVariants.{PivotSelf, Pivot}
 use Rattle.model.specs.Machine.{payload_size, body_sectors}
 use Rattle.pivot_check.specs.Kept.{CommittedValue, IsInReach}
+use Rattle.snapshot.specs.View.{View}
+use Rattle.pivot_check.specs.Index.{target}
 use Rattle.pivot_check.specs.StandsFor.{IsVerdict, IsClear}
 use Rattle.pivot_check.specs.declared.Verdict.TheVariants as verdicts
 use Rattle.commit_log.specs.declared.log.Log.{Log}
@@ -11,6 +14,10 @@ use Rattle.engine.specs.HistoryValue.{HistoryValue}
 use Rattle.engine.proofs.Joining.{empty_is, not_empty_is}
 use Rattle.engine.proofs.Committing.{no_room, its_writes, HasVerdict, conflict_refuses, overwritten_refuses, full_refuses}
 use Rattle.engine.proofs.judging.weigh.Goals as goal
+
+-- what the verdict said of the transaction's target, over the same commits
+its_target : {a b : CommittedValue} (t : View) (flag : Bool) → a ≡ b → flag ≡ is_some (target a.facts t) → flag ≡ is_some (target b.facts t)
+its_target t flag same found = subst (λ (x : CommittedValue). flag ≡ is_some (target x.facts t)) same found
 
 pub returns-in-Overwritten : goal.returns-in-Overwritten
 returns-in-Overwritten g c e s log history j =
@@ -47,6 +54,7 @@ returns-then-is_empty g c e s log history j =
         room = λ some. absurd (some none);
       },
       none,
+      its_target t c.in-Clear.has_earlier_target same c.in-Clear.ensures.target,
     )
 
 pub returns-then-not-room : goal.returns-then-not-room
@@ -73,4 +81,5 @@ returns g c e s log history j =
             (subst (λ n. used_sectors c.args.log.now + sectors_for n < sector_count c.args.log.now) len (c.room.ensures.0 c.if-not-room.false));
       },
       (λ none. not_empty_is c.entries-writes.result.now c.is_empty.result c.is_empty.ensures c.if-is_empty.false (c.entries-writes.ensures.writes ∙ none), len),
+      its_target t c.in-Clear.has_earlier_target same c.in-Clear.ensures.target,
     )

@@ -12,7 +12,7 @@ loop-accepted-init g c = (
   c.requires.numbers,
   c.requires.entries,
   taken_none (g.L.Listener.accepts c.args.listener.now),
-  none_come IsNewSocket c.args.hub.now c.args.next.now c.args.table.now.slots c.runs_follow.ensures.none,
+  none_come IsNewSocket c.args.hub.now c.args.next.now c.args.table.now.slots c.args.refused.now c.runs_follow.ensures.none,
 )
 
 pub loop-accepted-preserved : goal.loop-accepted-preserved
@@ -24,8 +24,8 @@ loop-accepted-preserved g c =
       admits_numbers c.loop-accepted.hub c.admit.new.hub c.loop-accepted.next c.admit.new.next c.loop-accepted.table.slots c.admit.new.table.slots IsNewSocket admits before.2,
       admits_entries c.loop-accepted.hub c.admit.new.hub c.loop-accepted.next c.admit.new.next c.loop-accepted.table.slots c.admit.new.table.slots IsNewSocket admits before.0 before.3,
       taken_one c.loop-accepted._accepted (g.L.Listener.accepts c.args.listener.now) (g.L.Listener.accepts c.loop-accepted.listener) (g.L.Listener.accepts c.accept.new.self) before.4 c.in-Taken.ensures,
-      one_comes IsNewSocket c.args.hub.now c.args.next.now c.args.table.now.slots c.runs_follow.ensures.follow c.loop-accepted._accepted c.loop-accepted.hub c.admit.new.hub c.loop-accepted.next c.admit.new.next c.loop-accepted.table.slots
-          c.admit.new.table.slots before.5 c.admit.ensures,
+      one_comes IsNewSocket c.args.hub.now c.args.next.now c.args.table.now.slots c.args.refused.now c.runs_follow.ensures.follow c.loop-accepted._accepted c.loop-accepted.hub c.admit.new.hub c.loop-accepted.next c.admit.new.next c.loop-accepted.table.slots
+          c.admit.new.table.slots c.loop-accepted.refused c.admit.new.refused before.5 c.admit.ensures,
     )
 
 pub returns-clause-accepts : goal.returns-clause-accepts

@@ -11,4 +11,4 @@ abbrev pub invariant-loop-accepted : goal.invariant-loop-accepted
 invariant-loop-accepted g l =
     Stands l.hub × HaveSessions l.hub l.table.slots × AreBelow l.next l.table.slots × HaveEntries l.hub l.table.slots
     × (g.L.Listener.accepts l.listener ≡ after_taken l._accepted (g.L.Listener.accepts l.initial.listener))
-    × ComeEach IsNewSocket l.initial.hub l.initial.next l.initial.table.slots l._accepted l.hub l.next l.table.slots
+    × ComeEach IsNewSocket l.initial.hub l.initial.next l.initial.table.slots l.initial.refused l._accepted l.hub l.next l.table.slots l.refused

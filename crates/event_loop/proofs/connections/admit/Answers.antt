@@ -1,44 +1,41 @@
-use Rattle.std.proofs.Common.{refl, arith, ◌∙◌}
+use Rattle.std.proofs.Common.{◌≡◌, inl, inr, refl, sym, ap, subst, arith, ◌∙◌}
 use Rattle.stream_driver.specs.declared.entries.EntryState.TheVariants.{Ready}
+use Rattle.stream_driver.specs.Traffic.{one_more}
 use Rattle.event_loop.specs.Sockets.{IsNewSocket}
-use Rattle.event_loop.proofs.Admits.{seated, others_stay}
-use Rattle.event_loop.proofs.Leading.{away_still, away_tried, kept_slots, let_in, same_slots}
+use Rattle.event_loop.specs.Tables.{Comes, slot_at}
+use Rattle.event_loop.proofs.Leading.{away_refused, away_still, away_tried, let_in}
 use Rattle.event_loop.proofs.connections.admit.Goals as goal
-use Rattle.event_loop.proofs.connections.admit.Goals.{then-session-via-then-session, then-session-via-else-session+then-key-ge-SESSIONS_MAX, then-session-via-else-session+else-key-ge-SESSIONS_MAX+then-is_err}
+use Rattle.event_loop.proofs.connections.admit.Goals.{then-session-via-then-session, then-session-via-else-session+then-len-ge-SESSIONS_MAX}
 
 pub returns-then-session : goal.returns-then-session
 returns-then-session g c =
-    away_still IsNewSocket c.args.hub.now c.args.next.now c.args.table.now.slots c.then-session.table.slots (elim c.then-session.branch [
-      | then-session-via-then-session w ↦ same_slots c.args.table.now c.then-session.table w.table-is
-      | then-session-via-else-session+then-key-ge-SESSIONS_MAX w ↦ same_slots c.args.table.now c.then-session.table w.table-is
-      | then-session-via-else-session+else-key-ge-SESSIONS_MAX+then-is_err w ↦
-          same_slots w.reserve.new.self c.then-session.table w.table-is ∙ kept_slots c.args.table.now w.reserve.new.self w.reserve.ensures.rest_kept
-    ]) c.runs_follow.ensures.none
+    away_still IsNewSocket c.args.hub.now c.args.next.now c.args.table.now.slots c.args.table.now.slots refl c.args.refused.now c.runs_follow.ensures.none (elim c.then-session.branch [
+      | then-session-via-then-session w ↦ inr w.if-session.true
+      | then-session-via-else-session+then-len-ge-SESSIONS_MAX w ↦ inl (omega (arith, w.len.ensures, w.if-len-ge-SESSIONS_MAX.true))
+    ])
 
 pub returns-in_default : goal.returns-in_default
 returns-in_default g c =
-    away_still IsNewSocket c.args.hub.now c.args.next.now c.args.table.now.slots c.reserve.new.self.slots (kept_slots c.args.table.now c.reserve.new.self c.reserve.ensures.rest_kept) c.runs_follow.ensures.none
+    let counted : c.saturating_add.result ≡ one_more c.args.refused.now = omega (arith, c.saturating_add.ensures) in
+    subst (Comes IsNewSocket c.args.hub.now c.args.next.now c.args.table.now.slots c.args.refused.now c.args.hub.now c.args.next.now c.make_place.new.table.slots) (sym counted)
+    (away_refused IsNewSocket c.args.hub.now c.args.next.now c.args.table.now.slots c.make_place.new.table.slots c.make_place.ensures.slots c.args.refused.now c.runs_follow.ensures.none)
 
 pub returns-in_default-step : goal.returns-in_default-step
 returns-in_default-step g c =
-    away_tried IsNewSocket c.args.hub.now c.args.next.now c.args.table.now.slots c.reserve.new.self.slots (kept_slots c.args.table.now c.reserve.new.self c.reserve.ensures.rest_kept)
+    away_tried IsNewSocket c.args.hub.now c.args.next.now c.args.table.now.slots c.make_place.new.table.slots c.make_place.ensures.slots c.args.refused.now
     c.step.new.self c.step.result c.in_default-step.not-Done c.step.ensures.step c.step.ensures.ran c.step.ensures.device
 
 pub returns : goal.returns
-returns g c = let_in IsNewSocket c.args.hub.now c.args.next.now c.args.table.now.slots c.step.new.self c.in-Done.ensures.ran c.in-Done.ensures.device _ _ (record {
-  key = c.vacant_key-key.result;
+returns g c = let_in IsNewSocket c.args.hub.now c.args.next.now c.args.table.now.slots c.args.refused.now c.step.new.self c.in-Done.ensures.ran c.in-Done.ensures.device _ _ (record {
+  key = c.insert_reserved.result;
   entry = record { session = c.args.next.now; stream = c.in-Some.stream; state = Ready };
-  key_is = omega (arith, c.if-key-ge-SESSIONS_MAX.false);
-  vacant = c.vacant_key-key.ensures.vacant;
-  changed =
-      seated c.args.table.now c.reserve.new.self c.insert_reserved.new.self c.vacant_key-key.result c.insert_reserved.result (record { session = c.args.next.now; stream = c.in-Some.stream; state = Ready })
-      c.vacant_key-key.ensures.value c.reserve.ensures.rest_kept c.insert_reserved.ensures.key c.insert_reserved.ensures.updates;
-  others =
-      others_stay c.args.table.now c.reserve.new.self c.insert_reserved.new.self c.vacant_key-key.result c.insert_reserved.result (record { session = c.args.next.now; stream = c.in-Some.stream; state = Ready })
-      c.vacant_key-key.ensures.value c.reserve.ensures.rest_kept c.insert_reserved.ensures.key c.insert_reserved.ensures.updates;
+  key_is = omega (arith, c.insert_reserved.ensures.key, c.in-Some.ensures.place.1);
+  vacant = ap (λ slots. slot_at slots c.insert_reserved.result) (sym c.make_place.ensures.slots) ∙ c.insert_reserved.ensures.was_vacant;
+  changed = c.insert_reserved.ensures.updates.changed;
+  others = λ other differs. c.insert_reserved.ensures.updates.others other differs ∙ ap (λ slots. slot_at slots other) c.make_place.ensures.slots;
   session = refl;
   state = refl;
-  fresh = c.in-Some.ensures;
+  fresh = c.in-Some.ensures.fresh;
   next_is = refl;
   joined = c.in-Done.ensures.step;
 })

@@ -1,6 +1,10 @@
-use Rattle.event_loop.specs.contracts.socket.SocketStream.TheImpl.{ghosts}
+use Rattle.event_loop.specs.Leavings.{EndEach}
+use Rattle.event_loop.specs.Lingerings.{lingerers_of}
+use Rattle.event_loop.specs.Sockets.{SocketsTell, traffic_of}
 use Rattle.event_loop.proofs.Polled.{EndedSoFar}
 use Rattle.event_loop.proofs.connections.end_drives.Given as goal
 
 abbrev pub invariant-loop-key : goal.invariant-loop-key
-invariant-loop-key l = EndedSoFar ghosts.tells ghosts.traffic l.key l.initial.table.slots l.table.slots
+invariant-loop-key l =
+    EndedSoFar SocketsTell traffic_of l.key l.initial.table.slots l.table.slots
+    × EndEach l.now l.initial.table.slots (lingerers_of l.initial.lingering) l.key l.table.slots (lingerers_of l.lingering)

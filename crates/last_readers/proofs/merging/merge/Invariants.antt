@@ -1,14 +1,18 @@
-use Rattle.std.proofs.Common.{◌+◌, ◌≤◌, length}
-use Rattle.std.specs.Prelude.{reverse}
-use Rattle.std.specs.Vec.{vec_capacity}
-use Rattle.last_readers.specs.Merging.{IsMerging}
+use Rattle.std.proofs.Common.{◌≡◌, ◌+◌, ◌≤◌, ◌++◌, true}
+use Rattle.std.specs.VecDeque.{deque_len, deque_capacity}
+use Rattle.model.specs.Map.{Bytes}
+use Rattle.last_readers.specs.Readers.{cut}
+use Rattle.last_readers.specs.Steps.{number_at, merged_at, steps_rise}
+use Rattle.last_readers.specs.Merging.{later}
 use Rattle.last_readers.proofs.merging.merge.Given as goal
 
 abbrev pub invariant-steps : goal.invariant-steps
 invariant-steps l = record {
-  merging : IsMerging l.oldest l.fn.first.items l.fn.second.items l.first.items l.second.items (reverse l.places.items);
-  room : length l.places.items + (length l.first.items + length l.second.items) ≤ vec_capacity l.places;
+  same : (k : Bytes) → cut 0 (merged_at l.first.items l.second.items l.places.items k) ≡ later 0 (number_at l.fn.first.items k) (number_at l.fn.second.items k);
+  first : steps_rise (l.first.items ++ l.places.items) ≡ true;
+  second : steps_rise (l.second.items ++ l.places.items) ≡ true;
+  room : deque_len l.places + (deque_len l.first + deque_len l.second) ≤ deque_capacity l.places;
 }
 
 abbrev pub decreases-steps : goal.decreases-steps
-decreases-steps l = length l.first.items + length l.second.items
+decreases-steps l = deque_len l.first + deque_len l.second

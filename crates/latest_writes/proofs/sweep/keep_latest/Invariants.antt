@@ -1,7 +1,11 @@
-use Rattle.std.proofs.Common.{[]}
+use Rattle.std.proofs.Common.{[], ◌∷◌, ◌++◌}
 use Rattle.model.specs.Map.{after_writes}
+use Rattle.latest_writes.specs.Held.{HasOneOfEach}
 use Rattle.latest_writes.proofs.Sweeping.{IsSwept}
 use Rattle.latest_writes.proofs.sweep.keep_latest.Given as goal
 
 abbrev pub invariant-loop-entry : goal.invariant-loop-entry
-invariant-loop-entry l = IsSwept l.fn.entries.items (after_writes [] l.kept.items) l.latest l.entry-iterator.rest.items
+invariant-loop-entry l = record {
+  swept : IsSwept l.fn.entries.items (after_writes [] l.kept.items) l.latest l.entry-iterator.rest.items;
+  one_of_each : HasOneOfEach (l.kept.items ++ l.latest ∷ []);
+}

@@ -25,23 +25,10 @@ insert-requires-clause-room g c =
     let P : ℕ → Type 0 = λ n. 0 < n in
     subst P (room_of ps c.args.key i (get_or ps i c.index-pages-i.result) at (ap (λ d. get_or ps i d) c.index-pages-i.is)) c.requires.room
 
-pub returns-clause-order : goal.returns-clause-order
-returns-clause-order g c =
+pub returns : goal.returns
+returns g c =
     let ps = c.args.pages.now in
     let i = c.place-i.result in
     let at = subst (λ (k : Bytes). IsPlace ps k i) (c.bytes.ensures.bytes ∙ c.lend.ensures) c.place-i.ensures in
-    (inserted ps c.args.key c.args.value i (get_or ps i c.index-pages-i.result) c.insert.new.self at (ap (λ d. get_or ps i d) c.index-pages-i.is) c.requires.order c.insert.ensures.entries c.insert.ensures.room).order
-
-pub returns-clause-entries : goal.returns-clause-entries
-returns-clause-entries g c =
-    let ps = c.args.pages.now in
-    let i = c.place-i.result in
-    let at = subst (λ (k : Bytes). IsPlace ps k i) (c.bytes.ensures.bytes ∙ c.lend.ensures) c.place-i.ensures in
-    (inserted ps c.args.key c.args.value i (get_or ps i c.index-pages-i.result) c.insert.new.self at (ap (λ d. get_or ps i d) c.index-pages-i.is) c.requires.order c.insert.ensures.entries c.insert.ensures.room).entries
-
-pub returns-clause-rooms : goal.returns-clause-rooms
-returns-clause-rooms g c =
-    let ps = c.args.pages.now in
-    let i = c.place-i.result in
-    let at = subst (λ (k : Bytes). IsPlace ps k i) (c.bytes.ensures.bytes ∙ c.lend.ensures) c.place-i.ensures in
-    (inserted ps c.args.key c.args.value i (get_or ps i c.index-pages-i.result) c.insert.new.self at (ap (λ d. get_or ps i d) c.index-pages-i.is) c.requires.order c.insert.ensures.entries c.insert.ensures.room).rooms
+    let all = inserted ps c.args.key c.args.value i (get_or ps i c.index-pages-i.result) c.insert.new.self at (ap (λ d. get_or ps i d) c.index-pages-i.is) c.requires.order c.insert.ensures.entries c.insert.ensures.room in
+    record { order = all.order; entries = all.entries; rooms = all.rooms }

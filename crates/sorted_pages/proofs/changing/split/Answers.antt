@@ -1,27 +1,23 @@
-use Rattle.std.proofs.Common.{◌≤◌, ◌+◌, ◌/◌, List, set, refl, ap, sym, subst, arith}
+use Rattle.std.proofs.Common.{◌≤◌, ◌+◌, ◌/◌, List, set, refl, ap, sym, subst, arith, rules}
 use Rattle.sorted_pages.specs.Pages.{Page, IsPlace, IsInOrder, IsRoomier}
 use Rattle.sorted_pages.proofs.Placings.{grown, split, halves}
 use Rattle.sorted_pages.proofs.changing.split.Goals as goal
 
-pub returns-in_err-upper-clause-order : goal.returns-in_err-upper-clause-order
-returns-in_err-upper-clause-order g c =
+pub returns-in_err-upper : goal.returns-in_err-upper
+returns-in_err-upper g c =
     let ps = c.reserve.new.self.items in
     let i = c.place-i.result in
     let at = subst (λ (l : List (Page g.row.V.Denot)). IsPlace l c.args.key.now i) c.deref.ensures.value c.place-i.ensures in
     let order = subst (λ (l : List (Page g.row.V.Denot)). IsInOrder l) (sym c.reserve.ensures.items) c.requires.order in
-    (grown ps c.args.key.now i c.index_mut-page.result.now c.split_off.new.self at c.index_mut-page.ensures.value order c.in_err-upper.ensures.failed c.split_off.ensures.room).order
+    let all = grown ps c.args.key.now i c.index_mut-page.result.now c.split_off.new.self at c.index_mut-page.ensures.value order c.in_err-upper.ensures.failed c.split_off.ensures.room in
+    record {
+      order = all.order;
+      roomier = subst (λ (l : List (Page g.row.V.Denot)). IsRoomier l (set ps i c.split_off.new.self)) c.reserve.ensures.items all.roomier;
+      some = search rules;
+    }
 
-pub returns-in_err-upper-clause-roomier : goal.returns-in_err-upper-clause-roomier
-returns-in_err-upper-clause-roomier g c =
-    let ps = c.reserve.new.self.items in
-    let i = c.place-i.result in
-    let at = subst (λ (l : List (Page g.row.V.Denot)). IsPlace l c.args.key.now i) c.deref.ensures.value c.place-i.ensures in
-    let order = subst (λ (l : List (Page g.row.V.Denot)). IsInOrder l) (sym c.reserve.ensures.items) c.requires.order in
-    subst (λ (l : List (Page g.row.V.Denot)). IsRoomier l (set ps i c.split_off.new.self)) c.reserve.ensures.items
-    (grown ps c.args.key.now i c.index_mut-page.result.now c.split_off.new.self at c.index_mut-page.ensures.value order c.in_err-upper.ensures.failed c.split_off.ensures.room).roomier
-
-pub returns-clause-order : goal.returns-clause-order
-returns-clause-order g c =
+pub returns : goal.returns
+returns g c =
     let ps = c.reserve.new.self.items in
     let i = c.place-i.result in
     let p = c.index_mut-page.result.now in
@@ -31,20 +27,9 @@ returns-clause-order g c =
     let order = subst (λ (l : List (Page g.row.V.Denot)). IsInOrder l) (sym c.reserve.ensures.items) c.requires.order in
     let two = halves p.0 lo.0 up.0 (c.len-half.result / 2) c.in_ok-upper.ensures.lower c.in_ok-upper.ensures.upper (ap (λ n. n / 2) c.len-half.ensures) c.if-half-eq0.false in
     let more : p.1 ≤ up.1 = (let a = c.in_ok-upper.ensures.upper_room in let b = c.max-needed.ensures in let d = c.room.ensures in omega arith) in
-    subst (λ (l : List (Page g.row.V.Denot)). IsInOrder l) (sym c.in-Ok.ensures.items)
-    (split ps c.args.key.now i (i + 1) p lo up at c.index_mut-page.ensures.value order refl two.same two.lower two.upper c.split_off.ensures.room more).order
-
-pub returns-clause-roomier : goal.returns-clause-roomier
-returns-clause-roomier g c =
-    let ps = c.reserve.new.self.items in
-    let i = c.place-i.result in
-    let p = c.index_mut-page.result.now in
-    let lo = c.split_off.new.self in
-    let up = c.in_ok-upper.upper in
-    let at = subst (λ (l : List (Page g.row.V.Denot)). IsPlace l c.args.key.now i) c.deref.ensures.value c.place-i.ensures in
-    let order = subst (λ (l : List (Page g.row.V.Denot)). IsInOrder l) (sym c.reserve.ensures.items) c.requires.order in
-    let two = halves p.0 lo.0 up.0 (c.len-half.result / 2) c.in_ok-upper.ensures.lower c.in_ok-upper.ensures.upper (ap (λ n. n / 2) c.len-half.ensures) c.if-half-eq0.false in
-    let more : p.1 ≤ up.1 = (let a = c.in_ok-upper.ensures.upper_room in let b = c.max-needed.ensures in let d = c.room.ensures in omega arith) in
-    subst (λ (l : List (Page g.row.V.Denot)). IsRoomier l c.insert.new.self.items) c.reserve.ensures.items
-    (subst (λ (l : List (Page g.row.V.Denot)). IsRoomier ps l) (sym c.in-Ok.ensures.items)
-    (split ps c.args.key.now i (i + 1) p lo up at c.index_mut-page.ensures.value order refl two.same two.lower two.upper c.split_off.ensures.room more).roomier)
+    let all = split ps c.args.key.now i (i + 1) p lo up at c.index_mut-page.ensures.value order refl two.same two.lower two.upper c.split_off.ensures.room more in
+    record {
+      order = subst (λ (l : List (Page g.row.V.Denot)). IsInOrder l) (sym c.in-Ok.ensures.items) all.order;
+      roomier = subst (λ (l : List (Page g.row.V.Denot)). IsRoomier l c.insert.new.self.items) c.reserve.ensures.items (subst (λ (l : List (Page g.row.V.Denot)). IsRoomier ps l) (sym c.in-Ok.ensures.items) all.roomier);
+      some = search rules;
+    }

@@ -3,7 +3,8 @@ use Rattle.model.specs.Map.{Bytes}
 use Rattle.sorted_pages.specs.Pages.{entries}
 use Rattle.sorted_pages.specs.Trims.{passes}
 use Rattle.versions.specs.Chains.{ChainValue, IsReclaimedAt, find_chain}
-use Rattle.versions.specs.Listings.{Listed, has_version}
+use Rattle.versions.specs.Listings.{has_version}
+use Rattle.versions.specs.Groups.{Listed}
 use Rattle.versions.proofs.Stores.{reclaimed-at}
 use Rattle.versions.proofs.reclaiming.reclaim_version.Goals as goal
 

@@ -1,19 +1,20 @@
-use Rattle.std.proofs.Common.{List, ◌++◌, drop, take, length, sym, subst, arith}
+use Rattle.std.proofs.Common.{List, ◌++◌, drop, take, length, sym, ap, subst, ◌∙◌, arith}
 use Rattle.sorted_pages.specs.Pages.{entries}
-use Rattle.versions.specs.Listings.{GroupValue, IsListed}
+use Rattle.versions.specs.Groups.{GroupValue}
+use Rattle.std.specs.Prelude.{nat_lt}
+use Rattle.versions.specs.Meaning.{due_in}
+use Rattle.versions.specs.Listings.{IsListed}
 use Rattle.versions.proofs.Calls.{all_items}
+use Rattle.versions.proofs.Groups.{any-due}
 use Rattle.versions.proofs.Listings.{groups-found}
 use Rattle.versions.proofs.reclaiming.reclaim_versions.Goals as goal
 
-pub returns-then-listed-pages-clause-kept : goal.returns-then-listed-pages-clause-kept
-returns-then-listed-pages-clause-kept c = c.reclaim_all.ensures.kept c.args.last c.requires.kept
+pub returns-clause-still : goal.returns-clause-still
+returns-clause-still c = c.are_due.ensures ∙ any-due c.args.begins.now c.deref.result.now ∙ ap (λ (gs : List GroupValue). nat_lt 0 (due_in c.args.begins.now gs)) c.deref.ensures.value
 
-pub returns-else-are_from-clause-kept : goal.returns-else-are_from-clause-kept
-returns-else-are_from-clause-kept c = c.reclaim_listed.ensures.kept c.args.last c.requires.kept
-
-pub returns-else-are_from-clause-listed : goal.returns-else-are_from-clause-listed
-returns-else-are_from-clause-listed c =
-    let new = entries c.reclaim_listed.new.chains in
-    let groups = c.reclaim_listed.new.groups in
-    let are = all_items c.args.groups.now.len groups (drop (length groups) c.args.groups.now.items) (omega (arith, c.deref_mut.ensures.len, c.reclaim_listed.auto.groups)) in
-    groups-found new (take c.args.groups.now.len (groups ++ drop (length groups) c.args.groups.now.items)) c.join_groups.new.groups.items c.join_groups.ensures (subst (λ (l : List GroupValue). IsListed new l) (sym are) c.reclaim_listed.ensures.listed)
+pub returns-clause-listed : goal.returns-clause-listed
+returns-clause-listed c =
+    let new = entries c.reclaim_groups.new.chains in
+    let groups = c.reclaim_groups.new.groups in
+    let are = all_items c.args.groups.now.len groups (drop (length groups) c.args.groups.now.items) (omega (arith, c.deref_mut.ensures.len, c.reclaim_groups.auto.groups)) in
+    groups-found new (take c.args.groups.now.len (groups ++ drop (length groups) c.args.groups.now.items)) c.join_groups.new.groups.items c.join_groups.ensures.found (subst (λ (l : List GroupValue). IsListed new l) (sym are) c.reclaim_groups.ensures.listed)

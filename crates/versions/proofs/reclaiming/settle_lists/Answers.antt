@@ -13,7 +13,7 @@ pub loop-preserved : goal.loop-preserved
 loop-preserved c =
     let left = c.settle_first.new.lists in
     let some : 0 < length c.loop.rest = omega arith in
-    let shorter = one-less c.loop.rest c.take_first-first.new.lists c.take_first-first.ensures.rest some in
+    let shorter = one-less c.loop.rest c.take_front-first.new.lists c.take_front-first.ensures.rest some in
     let is : versions_in c.if-not-are_empty.lists ≡ versions_in c.loop.lists ++ versions_in left = elim c.if-not-are_empty.branch [
       | then-not-are_empty w ↦ ap versions_in (w.lists-is ∙ w.append.ensures) ∙ in-append c.loop.lists left
       | else-not-are_empty w ↦ ap versions_in w.lists-is ∙ sym (append-nil (versions_in c.loop.lists)) ∙ ap (λ l. versions_in c.loop.lists ++ l) (sym (in-empty left (sym w.if-not-are_empty.ensures)))
@@ -25,8 +25,8 @@ loop-preserved c =
     record {
       left = omega (arith, shorter);
       counted = omega (arith, shorter, counted);
-      settled = settled-list c.args.begins.now (entries c.args.chains.now) (entries c.loop.chains) (entries c.settle_first.new.chains) (versions_in c.args.lists.now) c.loop.lists c.if-not-are_empty.lists c.loop.rest c.take_first-first.result left c.take_first-first.new.lists
-          c.requires.kept.0 c.requires.kept.1 c.take_first-first.ensures.first c.take_first-first.ensures.rest is c.settle_first.ensures.part c.settle_first.ensures.kept c.settle_first.ensures.settled c.settle_first.ensures.left c.settle_first.ensures.seen c.loop.invariant.settled;
+      settled = settled-list c.args.begins.now (entries c.args.chains.now) (entries c.loop.chains) (entries c.settle_first.new.chains) (versions_in c.args.lists.now) c.loop.lists c.if-not-are_empty.lists c.loop.rest c.take_front-first.result left c.take_front-first.new.lists
+          c.requires.kept.0 c.requires.kept.1 c.take_front-first.ensures.front c.take_front-first.ensures.rest is c.settle_first.ensures.part c.settle_first.ensures.kept c.settle_first.ensures.settled c.settle_first.ensures.left c.settle_first.ensures.seen c.loop.invariant.settled;
     }
 
 pub returns-clause-left : goal.returns-clause-left

@@ -1,6 +1,7 @@
 use Rattle.std.proofs.Common.{◌≡◌, ◌∙◌, ap, subst}
 use Rattle.std.specs.BTreeMap.{values}
-use Rattle.versions.specs.Meaning.{IsTight, kept_of, needed_of}
+use Rattle.std.specs.Prelude.{nat_lt}
+use Rattle.versions.specs.Meaning.{IsReclaimed, due_of}
 use Rattle.pivot_check.specs.Kept.{CommittedValue}
 use Rattle.engine.specs.Least.{IsLeast}
 use Rattle.engine.proofs.Reclaims.{reclaimed_stands, numbers_are, none_below}
@@ -15,14 +16,14 @@ returns-clause-keeps g c =
 pub returns-clause-versions : goal.returns-clause-versions
 returns-clause-versions g c m h =
     let least = subst (λ n. IsLeast (λ t. t.begin) n (values c.args.self.now.running) c.oldest_begin-oldest.result) (c.last.ensures ∙ ap (λ (v : CommittedValue). v.facts.last) c.committed.ensures) c.oldest_begin-oldest.ensures in
-    subst (λ ns. IsTight ns c.reclaim.new.self.versions)
-    (numbers_are c.args.self.now c.reclaim.new.self c.oldest_begin-oldest.result _ least c.begins-count.ensures.numbers m h) c.reclaim.ensures.tight
+    subst (λ ns. IsReclaimed c.args.self.now.history.versions c.reclaim.new.self.versions ns)
+    (numbers_are c.args.self.now c.reclaim.new.self c.oldest_begin-oldest.result _ least c.begins-count.ensures.numbers m h) c.reclaim.ensures.reclaimed
 
-pub returns-clause-kept : goal.returns-clause-kept
-returns-clause-kept g c m h k =
+pub returns-clause-still : goal.returns-clause-still
+returns-clause-still g c m h =
     let least = subst (λ n. IsLeast (λ t. t.begin) n (values c.args.self.now.running) c.oldest_begin-oldest.result) (c.last.ensures ∙ ap (λ (v : CommittedValue). v.facts.last) c.committed.ensures) c.oldest_begin-oldest.ensures in
-    subst (λ ns. kept_of c.reclaim.new.self.versions k ≡ needed_of ns c.args.self.now.history.versions k)
-    (numbers_are c.args.self.now c.reclaim.new.self c.oldest_begin-oldest.result _ least c.begins-count.ensures.numbers m h) (c.reclaim.ensures.kept k)
+    subst (λ ns. c.reclaim.result ≡ nat_lt 0 (due_of ns c.reclaim.new.self.versions))
+    (numbers_are c.args.self.now c.reclaim.new.self c.oldest_begin-oldest.result _ least c.begins-count.ensures.numbers m h) c.reclaim.ensures.still
 
 pub returns-clause-forgotten : goal.returns-clause-forgotten
 returns-clause-forgotten g c m h n low each =

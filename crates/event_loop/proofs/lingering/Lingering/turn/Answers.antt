@@ -1,12 +1,22 @@
-use Rattle.std.proofs.Common.{rules}
+use Rattle.std.proofs.Common.{◌≡◌, ◌||◌, ◌∙◌, rules, refl, sym, ap, subst}
+use Rattle.event_loop.specs.Lingerings.{AllTurned, lingerers_of}
 use Rattle.event_loop.proofs.Turned.{all_turned, none_turned, one_turned}
 use Rattle.event_loop.proofs.lingering.Lingering.turn.Goals as goal
+use Rattle.event_loop.proofs.lingering.Lingering.turn.Goals.{then-is_told, else-is_told}
 
 pub loop-init : goal.loop-init
-loop-init c = none_turned c.args.now c.args.self.now.queue.items
+loop-init c = none_turned c.args.now c.if-is_told.reads _ refl
 
 pub loop-preserved : goal.loop-preserved
-loop-preserved c = one_turned c.args.now _ _ _ c.loop.counter (search rules) c.loop.invariant c.turn_first.ensures
+loop-preserved c = one_turned c.args.now c.if-is_told.reads _ _ _ _ c.loop.counter (search rules) c.loop.invariant c.turn_first.ensures
 
 pub returns : goal.returns
-returns c = all_turned c.args.now _ _ c.loop.counter (search rules) c.loop.invariant
+returns c =
+    let reads : c.if-is_told.reads ≡ (c.args.is_told || c.args.self.now.has_more) = elim c.if-is_told.branch [
+      | then-is_told w ↦ w.reads-is ∙ w.if-is_told.true ∙ sym (ap (λ b. b || c.args.self.now.has_more) w.if-is_told.true)
+      | else-is_told w ↦ w.reads-is ∙ sym (ap (λ b. b || c.args.self.now.has_more) w.if-is_told.false)
+    ] in
+    let all = lingerers_of c.loop.self in record {
+      turned = subst (λ b. AllTurned c.args.now b c.args.self.now.queue.items all.all all.has_more) reads (all_turned c.args.now c.if-is_told.reads _ _ all c.loop.counter (search rules) c.loop.invariant);
+      refused = c.loop.invariant.refused_is;
+    }

@@ -1,37 +1,41 @@
-use Rattle.std.proofs.Common.{◌≡◌, ◌∙◌, refl, sym, ap, true, false}
+use Rattle.std.proofs.Common.{◌≡◌, ◌∙◌, refl, sym, ap}
+use Rattle.std.proofs.lemmas.Result.{err_from_is_err_and}
 use Rattle.mio.specs.Events.{items}
 use Rattle.event_loop.specs.declared.polling.Poller.{Poller}
 use Rattle.event_loop.specs.contracts.socket.SocketStream.TheImpl.{ghosts}
-use Rattle.event_loop.specs.Turns.{accepts_now}
-use Rattle.stream_driver.proofs.Events.{adds_none}
-use Rattle.stream_driver.proofs.States.{leads_map, leads_then}
+use Rattle.event_loop.specs.declared.connections.TheConstants.{LINGERER}
+use Rattle.event_loop.specs.Lingerings.{lingerers_of}
+use Rattle.event_loop.specs.Turns.{accepts_now, is_told_of}
+use Rattle.event_loop.specs.Waits.{nanos_of}
+use Rattle.event_loop.proofs.GivenBack.{accepts_keep, rest_keeps, rest_leads, then_accepts}
 use Rattle.event_loop.proofs.OneTurn.{turned_by}
-use Rattle.event_loop.proofs.WholeTurns.{turn_keeps}
+use Rattle.event_loop.proofs.Waited.{wait_failed, wait_told}
 use Rattle.event_loop.proofs.server.EventLoop.turn.Goals as goal
 
-pub returns-then-accepts_now-clause-turned : goal.returns-then-accepts_now-clause-turned
-returns-then-accepts_now-clause-turned g c =
-    let due : accepts_now c.args.self.now.backlog (items c.accept.new.self.poller.events) ≡ true =
-    ap (λ (p : Poller). accepts_now c.args.self.now.backlog (items p.events)) c.accept.ensures.poller ∙ ap (λ backlog. accepts_now backlog (items c.drive.new.self.poller.events)) (sym c.drive.ensures.backlog) ∙ sym c.accepts_now.ensures
-    ∙ c.if-accepts_now.true
+pub returns-clause-turned : goal.returns-clause-turned
+returns-clause-turned g c =
+    let due : accepts_now c.args.self.now.backlog (items c.give_back.new.self.poller.events) ≡ accepts_now c.drive.new.self.backlog (items c.drive.new.self.poller.events) =
+    ap (λ (p : Poller). accepts_now c.args.self.now.backlog (items p.events)) (c.give_back.ensures.poller ∙ c.accept_told.ensures.poller) ∙ ap (λ backlog. accepts_now backlog (items c.drive.new.self.poller.events)) (sym c.drive.ensures.backlog)
     in
-    turned_by ghosts.tells ghosts.traffic c.args.self.now c.drive.new.self c.accept.new.self c.drive.ensures.next c.drive.ensures.port c.drive.ensures.backlog _ (ap (λ (p : Poller). items p.events) (c.accept.ensures.poller ∙ c.drive.ensures.poller)) true due
-    c.drive.ensures.drives c.accept.ensures.accepts
-    (leads_then c.runs_follow.ensures.follow c.args.self.now.hub c.drive.new.self.hub c.accept.new.self.hub _ _ _ c.drive.ensures.drives.drives c.accept.ensures.accepts.became.1 (λ h k l last p q. (k, p, q)))
+    turned_by ghosts.tells ghosts.traffic c.args.self.now _ c.accept_told.new.self c.give_back.new.self c.drive.ensures.next c.drive.ensures.port c.drive.ensures.backlog
+    c.drive.ensures.refused c.accept_told.ensures.lingerers c.give_back.ensures.gives_back c.look-2.new.self (c.give_back.ensures.poller ∙ c.accept_told.ensures.poller ∙ c.drive.ensures.poller) _ due c.time-now.result c.time-now.ensures
+    c.is_told-comes_more.result (c.is_told-comes_more.ensures ∙ ap (λ (p : Poller). is_told_of LINGERER (items p.events)) c.drive.ensures.poller) c.drive.ensures.drives.0
+    (record { begun = lingerers_of c.drive.new.self.lingering; left = c.drive.ensures.drives.1; turned = c.turn.ensures }) c.accept_told.ensures.accepts
+    (rest_leads c.runs_follow.ensures.follow c.args.self.now.hub c.accept_told.new.self c.give_back.new.self c.give_back.ensures.gives_back _
+    (then_accepts c.runs_follow.ensures.follow c.args.self.now.hub _ c.accept_told.new.self _ c.drive.ensures.drives.0.drives _ c.accept_told.ensures.accepts))
 
-pub returns-else-accepts_now-clause-turned : goal.returns-else-accepts_now-clause-turned
-returns-else-accepts_now-clause-turned g c =
-    let none : accepts_now c.args.self.now.backlog (items c.drive.new.self.poller.events) ≡ false =
-    ap (λ backlog. accepts_now backlog (items c.drive.new.self.poller.events)) (sym c.drive.ensures.backlog) ∙ sym c.accepts_now.ensures ∙ c.if-accepts_now.false
-    in
-    turned_by ghosts.tells ghosts.traffic c.args.self.now c.drive.new.self _ c.drive.ensures.next c.drive.ensures.port c.drive.ensures.backlog _ (ap (λ (p : Poller). items p.events) c.drive.ensures.poller) false none
-    c.drive.ensures.drives (record { hub = refl; table = refl; next = refl; port = refl; backlog = refl })
-    (leads_map c.args.self.now.hub c.drive.new.self.hub _ _ c.drive.ensures.drives.drives (λ h k last p. (k, p, adds_none k)))
+pub returns-clause-bytes : goal.returns-clause-bytes
+returns-clause-bytes g c =
+    rest_keeps c.runs_follow.ensures.follow c.args.self.now.hub c.accept_told.new.self c.give_back.new.self c.give_back.ensures.gives_back c.args.self.now.table.slots
+    (accepts_keep c.runs_follow.ensures.follow c.args.self.now.hub _ c.accept_told.new.self c.args.self.now.table.slots c.drive.ensures.keeps _ c.accept_told.ensures.accepts)
 
-pub returns-then-accepts_now-clause-bytes : goal.returns-then-accepts_now-clause-bytes
-returns-then-accepts_now-clause-bytes g c =
-    turn_keeps c.runs_follow.ensures.follow c.args.self.now.hub c.drive.new.self.hub c.accept.new.self.hub c.drive.new.self.next c.accept.new.self.next c.accept.ensures.accepts.taken c.args.self.now.table.slots
-    c.drive.new.self.table.slots c.accept.new.self.table.slots c.accept.ensures.accepts.became c.drive.new.self.numbers c.drive.ensures.keeps
+pub returns-in_err-wait-clause-waits : goal.returns-in_err-wait-clause-waits
+returns-in_err-wait-clause-waits g c =
+    let p = err_from_is_err_and c.from_residual.result c.from_residual.ensures.1 in
+    wait_failed c.args.timeout c.args.self.now _ c.look.new.self c.look.ensures c.wait.new.self c.wait.ensures.clock (ap nanos_of c.wait.ensures.waited ∙ c.next_wait-wait.ensures)
+    c.from_residual.result p.0 p.1 c.in_err-wait.ensures.polls refl
 
-pub returns-else-accepts_now-clause-bytes : goal.returns-else-accepts_now-clause-bytes
-returns-else-accepts_now-clause-bytes g c = c.drive.ensures.keeps
+pub returns-clause-waits : goal.returns-clause-waits
+returns-clause-waits g c =
+    wait_told c.args.timeout c.args.self.now c.give_back.new.self c.look.new.self c.look.ensures c.wait.new.self c.wait.ensures.clock (ap nanos_of c.wait.ensures.waited ∙ c.next_wait-wait.ensures)
+    tt c.in_ok-wait.ensures.polls c.look-2.new.self c.look-2.ensures (c.give_back.ensures.poller ∙ c.accept_told.ensures.poller ∙ c.drive.ensures.poller)

@@ -1,16 +1,24 @@
-use Rattle.std.proofs.Common.{◌≤◌, ℕ, ap, subst, sym, ◌∙◌}
+use Rattle.std.proofs.Common.{◌≡◌, ◌≤◌, ℕ, ap, subst, sym, ◌∙◌, ◌++◌, true, arith}
 use Rattle.last_readers.specs.Steps.{steps_rise, number_at}
-use Rattle.last_readers.proofs.StepLaws.{renumbered_rises, renumbered_at, in_place_low}
+use Rattle.last_readers.proofs.StepLaws.{renumbered_rises, renumbered_run, in_place_low}
 use Rattle.last_readers.proofs.run.Run.numbered.Goals as goal
 
 pub invariant_of-result : goal.invariant_of-result
 invariant_of-result c =
-    let was = c.args.self.steps.items in
     let n = c.args.number in
+    let was = c.args.ready.steps.items in
+    let first = c.new.result.items in
+    let second = c.new-2.result.items in
+    let made = c.renumber.new.steps.items in
+    let first_len = c.new.ensures.len in
+    let second_len = c.new-2.ensures.len in
+    let rises : steps_rise made ≡ true = ap steps_rise c.renumber.ensures ∙ renumbered_rises n was ∙ c.args.ready.rising in
     record {
-      rising = ap steps_rise c.renumber.ensures ∙ renumbered_rises n was ∙ c.args.self.rising;
-      upto = λ k. subst (λ (m : ℕ). m ≤ n) (sym (ap (λ l. number_at l k) c.renumber.ensures ∙ renumbered_at n was k)) (in_place_low n (number_at was k));
+      first_rises = ap (λ l. steps_rise (l ++ made)) c.new.ensures.items ∙ rises;
+      second_rises = ap (λ l. steps_rise (l ++ made)) c.new-2.ensures.items ∙ rises;
+      room = omega (arith, first_len, second_len);
+      upto = λ k. subst (λ (m : ℕ). m ≤ n) (sym (renumbered_run n first second made was k c.new.ensures.items c.new-2.ensures.items c.renumber.ensures)) (in_place_low n (number_at was k));
     }
 
 pub returns : goal.returns
-returns c = λ k. ap (λ l. number_at l k) c.renumber.ensures ∙ renumbered_at c.args.number c.args.self.steps.items k
+returns c = λ k. renumbered_run c.args.number c.new.result.items c.new-2.result.items c.renumber.new.steps.items c.args.ready.steps.items k c.new.ensures.items c.new-2.ensures.items c.renumber.ensures

@@ -1,14 +1,11 @@
 use Rattle.std.proofs.Common.{◌≡◌, ◌<◌, ◌+◌, Bool, false, List, Some, Option, sym, ap, subst, ◌∙◌, arith}
-use Rattle.std.specs.Prelude.{is_some}
 use Rattle.model.specs.Map.{Bytes}
-use Rattle.marks.specs.Marked.{marks_of}
 use Rattle.snapshot.specs.View.{View}
 use Rattle.last_readers.specs.Readers.{last_reader, IsNoted, HasRoom as HasReadersRoom, ReadersRoom}
 use Rattle.pivot_check.specs.declared.ready.Ready.{Ready}
 use Rattle.pivot_check.specs.Kept.{CommittedValue, keys_of}
-use Rattle.pivot_check.specs.Postings.{Posting, postings_by, least, lesser, covered_of}
+use Rattle.pivot_check.specs.Postings.{Posting, postings_by, least, lesser}
 use Rattle.pivot_check.specs.Inside.{postings_in, ready_of}
-use Rattle.pivot_check.specs.Index.{target}
 use Rattle.pivot_check.proofs.Judging.{notes, nothing, upto_own}
 use Rattle.pivot_check.proofs.LastSources.{noted_upto, noted_above}
 use Rattle.pivot_check.proofs.committed.Committed.add_record.Goals as goal
@@ -26,24 +23,19 @@ noted c = c.note.ensures.noted c.args.tx.now.marks (subst (λ (r : ReadersRoom).
 read : (c : goal.After-self-1) → IsNoted c.args.tx.now.marks c.args.n c.args.self.now.facts.readers c.note.new.self.readers
 read c = subst (λ (v : CommittedValue). IsNoted c.args.tx.now.marks c.args.n v.facts.readers c.note.new.self.readers) c.self.view_is (noted c)
 
-flag : (c : goal.After-self-1) → c.is_some-has_earlier_target.result ≡ is_some (target c.args.self.now.facts c.args.tx.now)
-flag c =
-    let postings : postings_in c.deref.result.now ≡ c.args.self.now.facts.postings = ap postings_in c.deref.ensures.value ∙ ap (λ (v : CommittedValue). v.facts.postings) c.self.view_is in
-    c.is_some-has_earlier_target.ensures ∙ ap is_some (c.least_covered-target.ensures ∙ (λ i. least (covered_of ((ap marks_of c.of-order.ensures ∙ c.held.ensures.marks ∙ c.marks.ensures.marks) i) (c.begin.ensures i) false) (postings i)))
-
-added : (c : goal.After-self-1) (t : Posting → Bool) → least t (postings_in c.add_run.new.runs.items) ≡ lesser (least t c.args.self.now.facts.postings) (least t (postings_by c.args.n c.is_some-has_earlier_target.result c.in-Some.ready.keys.items))
+added : (c : goal.After-self-1) (t : Posting → Bool) → least t (postings_in c.add_run.new.runs.items) ≡ lesser (least t c.args.self.now.facts.postings) (least t (postings_by c.args.n c.args.has_earlier_target c.in-Some.ready.keys.items))
 added c t =
     c.add_run.ensures t
-    ∙ ap (lesser (least t (postings_in c.self.inside.runs.items))) (c.add_all.ensures.added t ∙ ap (λ ps. lesser (least t ps) (least t (postings_by c.args.n c.is_some-has_earlier_target.result c.in-Some.ready.keys.items))) (nothing c.in-Some.ready.places.items c.in-Some.ready.none))
-    ∙ ap (λ (v : CommittedValue). lesser (least t v.facts.postings) (least t (postings_by c.args.n c.is_some-has_earlier_target.result c.in-Some.ready.keys.items))) c.self.view_is
+    ∙ ap (lesser (least t (postings_in c.self.inside.runs.items))) (c.add_all.ensures.added t ∙ ap (λ ps. lesser (least t ps) (least t (postings_by c.args.n c.args.has_earlier_target c.in-Some.ready.keys.items))) (nothing c.in-Some.ready.places.items c.in-Some.ready.none))
+    ∙ ap (λ (v : CommittedValue). lesser (least t v.facts.postings) (least t (postings_by c.args.n c.args.has_earlier_target c.in-Some.ready.keys.items))) c.self.view_is
 
 pub add_run-requires-clause-upto : goal.add_run-requires-clause-upto
-add_run-requires-clause-upto c = upto_own c.args.n c.is_some-has_earlier_target.result c.in-Some.ready.keys.items c.in-Some.ready.places.items c.add_all.new.postings.items c.in-Some.ready.none c.add_all.ensures.added
+add_run-requires-clause-upto c = upto_own c.args.n c.args.has_earlier_target c.in-Some.ready.keys.items c.in-Some.ready.places.items c.add_all.new.postings.items c.in-Some.ready.none c.add_all.ensures.added
 
 pub returns-clause-stands_for : goal.returns-clause-stands_for
 returns-clause-stands_for c = λ reach clear h s r own.
     notes c.args.self.now.facts h s c.args.tx.now reach c.args.n c.requires.next r own clear
-    c.is_some-has_earlier_target.result (flag c) c.in-Some.ready.keys.items (keys c)
+    c.args.has_earlier_target c.requires.target c.in-Some.ready.keys.items (keys c)
     c.note.new.self.readers (read c) (postings_in c.add_run.new.runs.items) (added c)
     c.self.inside.oldest (ap (λ (v : CommittedValue). v.facts.oldest) c.self.view_is)
 

@@ -5,7 +5,7 @@ use Rattle.pivot_check.specs.Kept.{CommittedValue}
 use Rattle.pivot_check.specs.Postings.{Posting}
 use Rattle.pivot_check.specs.Inside.{postings_in}
 use Rattle.pivot_check.specs.Index.{is_written_since}
-use Rattle.pivot_check.proofs.Judging.{says_overwritten, says_found}
+use Rattle.pivot_check.proofs.Judging.{finds_target, says_overwritten, says_found}
 use Rattle.pivot_check.proofs.committed.Committed.verdict.Goals as goal
 
 -- what was asked of the runs, asked of what is kept
@@ -22,3 +22,6 @@ returns-in-None-clause-verdict c = λ reach h s r own. says_found c.args.self.no
     (places (postings_in c.deref.result.now) c.args.self.now.facts.postings c.begin.result c.args.tx.now.begin c.entries.result.now c.args.tx.now.writes None
     (ap postings_in c.deref.ensures.value ∙ ap (λ (v : CommittedValue). v.facts.postings) c.self.view_is) c.begin.ensures c.entries.ensures.writes c.in-None.ensures)
     _ c.answer.ensures
+
+pub returns-in-None-clause-target : goal.returns-in-None-clause-target
+returns-in-None-clause-target c = finds_target c.args.self.now.facts c.args.tx.now _ c.answer.ensures

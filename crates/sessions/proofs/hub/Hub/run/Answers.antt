@@ -6,13 +6,13 @@ use Rattle.sessions.specs.SessionStreams.{Choice, HubEvent}
 use Rattle.sessions.specs.StandsFor.{event_of}
 use Rattle.sessions.proofs.Reached.{reached}
 use Rattle.sessions.proofs.RunLaws.{map_take_push}
-use Rattle.sessions.proofs.Runs.{ran_then, sound}
+use Rattle.sessions.proofs.Runs.{no_event, ran_then, sound}
 use Rattle.sessions.proofs.hub.Hub.run.Goals as goal
 
 pub loop-event-init : goal.loop-event-init
 loop-event-init g c = record {
   device = omega arith;
-  runs = record { choices = []; are = refl; by = (sound c.args.self.now c.machine_is_serializable.ensures c.is_stored.ensures, refl) };
+  runs = record { choices = []; are = refl; by = no_event c.args.self.now (sound c.args.self.now c.machine_is_serializable.ensures c.is_stored.ensures) };
 }
 
 pub loop-event-preserved : goal.loop-event-preserved

@@ -2,7 +2,8 @@ use Rattle.std.proofs.Common.{◌≡◌, ℕ, List, [], ◌∷◌, ◌++◌, ◌
 use Rattle.model.specs.Map.{KeyWrite}
 use Rattle.sorted_pages.specs.Pages.{entries}
 use Rattle.versions.specs.Chains.{ChainsValue}
-use Rattle.versions.specs.Listings.{AreSeenFrom, GroupValue, IsListed, unwitnessed, versions_in}
+use Rattle.versions.specs.Listings.{AreSeenFrom, IsListed, unwitnessed, versions_in}
+use Rattle.versions.specs.Groups.{GroupValue}
 use Rattle.versions.specs.Meaning.{AreInstalled, IsInstalled}
 use Rattle.versions.proofs.Lists.{in-first, in-filled}
 use Rattle.versions.proofs.Listings.{groups-found, found-last}
@@ -26,7 +27,7 @@ invariant_of-self c =
     let filled = in-filled c.replace-listed.result c.add_all.new.listed (ap versions_in c.replace-listed.ensures.value ∙ c.self.invariant.2) (c.in-Some.ensures.variant.0 refl) in (
       c.add_all.ensures.kept,
       subst (λ (l : List GroupValue). IsListed (entries c.add_all.new.chains) l) (sym c.in-Ok.ensures.items)
-          (groups-found (entries c.add_all.new.chains) (unwitnessed ls ∷ gs) (gs ++ c.new-2.result ∷ []) (found-last gs ls c.new-2.result (c.new-2.ensures ∙ filled)) (c.add_all.ensures.listed gs c.self.invariant.1)),
+          (groups-found (entries c.add_all.new.chains) (unwitnessed ls ∷ gs) (gs ++ c.new-2.result ∷ []) (found-last gs ls c.new-2.result (c.new-2.ensures.versions ∙ filled)) (c.add_all.ensures.listed gs c.self.invariant.1)),
       ap versions_in (c.replace-listed.ensures.after ∙ c.new.ensures),
     )
 

@@ -1,0 +1,45 @@
+-- What checking a data file does, call by call, over whatever opens files and takes lines.
+use Rattle.std.specs.Prelude.{◌≡◌, ◌⊎◌, ℕ, List, length, Result, Ok, Err, MatchResult, IsErrAnd, IfErr}
+use Rattle.std.specs.declared.io.Error.{Error}
+use Rattle.model.specs.Map.{KeyWrite}
+use Rattle.sector.specs.declared.device.Sectors.{Ghosts}
+use Rattle.commit_log.specs.Format.{current}
+use Rattle.commit_log.specs.LogFaults.{IsDeviceOrMemory, IsOpenFault}
+use Rattle.commit_log.specs.LogImage.{IsLogImage, IsDamaged, HasHead, IsNoLog}
+use Rattle.commit_log.specs.Reading.{ReadsAs}
+use Rattle.commit_log.specs.declared.faults.LogFault.{LogFault}
+use Rattle.commit_log.specs.declared.faults.LogFault.TheVariants.{NotALog, Damaged, OldFormat}
+use Rattle.commit_log.specs.declared.formats.LogFormat.{LogFormat}
+use Rattle.commit_log.specs.declared.formats.LogFormat.TheVariants.{One}
+use Rattle.commands.specs.Counts.{counts_of, line_of}
+use Rattle.commands.specs.Faults.{of_log}
+use Rattle.commands.specs.Printing.{IsToldAs, EndsAs}
+use Rattle.commands.specs.declared.data.Counts.{Counts}
+use Rattle.commands.specs.declared.faults.Fault.{Fault}
+use Rattle.commands.specs.declared.faults.Fault.TheVariants.{File}
+
+-- what counting the log of a device came to, by what the device holds
+pub record Counting {D : Type 0} (g : Ghosts D) (device : D) (result : Result Counts LogFault) : Type 0 where
+  pub found : g.keeps_model → (disk : List (List ℕ)) (lists : List (List KeyWrite)) → length disk ≡ g.size device → ReadsAs (g.may_read device) disk → IsLogImage current lists disk
+      → MatchResult result (λ counts. counts ≡ counts_of lists (g.size device)) IsDeviceOrMemory
+  pub damaged : g.keeps_model → (disk : List (List ℕ)) (lists : List (List KeyWrite)) → length disk ≡ g.size device → ReadsAs (g.may_read device) disk → IsDamaged current lists disk
+      → IsErrAnd result (λ fault. (fault ≡ Damaged (length lists)) ⊎ IsDeviceOrMemory fault)
+  pub no_log : g.keeps_model → (disk : List (List ℕ)) → length disk ≡ g.size device → ReadsAs (g.may_read device) disk → ((f : LogFormat) → IsNoLog f disk)
+      → IsErrAnd result (λ fault. (fault ≡ NotALog) ⊎ IsDeviceOrMemory fault)
+  pub older : g.keeps_model → (disk : List (List ℕ)) → length disk ≡ g.size device → ReadsAs (g.may_read device) disk → HasHead One disk
+      → IsErrAnd result (λ fault. (fault ≡ OldFormat) ⊎ IsDeviceOrMemory fault)
+  pub faults : IfErr result IsOpenFault
+
+-- Counting the log of a device and printing the line of its counts, which no fault of the log comes with.
+pub data Checks {D O : Type 0} (g : Ghosts D) (writes : O → List ℕ → Result (Unit {0}) Error → O → Type 0) (device : D) (out : O) : Result (Unit {0}) Fault → O → Type 0 where
+  NotCounted : (fault : LogFault) → Counting g device (Err fault) → Checks g writes device out (Err (of_log fault)) out
+  Counted : (counts : Counts) (outcome : Result (Unit {0}) Error) (result : Result (Unit {0}) Fault) (printed : O) → Counting g device (Ok counts)
+      → writes out (line_of counts) outcome printed → EndsAs outcome result → Checks g writes device out result printed
+
+-- Checking a data file: it is opened, counted, and its line printed. Nothing else is called.
+pub data Checking {F D O : Type 0} (g : Ghosts D) (opens : F → List ℕ → Result D Error → F → Type 0) (writes : O → List ℕ → Result (Unit {0}) Error → O → Type 0)
+    (name : List ℕ) (files : F) (out : O) : Result (Unit {0}) Fault → F → O → Type 0 where
+  NotOpened : (error : Error) (fault : Fault) (opened : F) → opens files name (Err error) opened → IsToldAs error File fault
+      → Checking g opens writes name files out (Err fault) opened out
+  Opened : (device : D) (result : Result (Unit {0}) Fault) (opened : F) (printed : O) → opens files name (Ok device) opened
+      → Checks g writes device out result printed → Checking g opens writes name files out result opened printed

@@ -1,0 +1,8 @@
+use Rattle.file_calls.specs.HappenedCalls.{real_write}
+use Rattle.file_calls.proofs.counted.CountedFile.write_zeros.Goals as goal
+
+pub returns-clause-happened : goal.returns-clause-happened
+returns-clause-happened c = real_write _ _ _ _
+
+pub returns-in_err-_written-clause-happened : goal.returns-in_err-_written-clause-happened
+returns-in_err-_written-clause-happened c = real_write _ _ _ _

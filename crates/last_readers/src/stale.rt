@@ -1,0 +1,69 @@
+//! A run that is given back in steps.
+ghost use Rattle.std.specs.Prelude.{◌≡◌, ◌≤◌, ◌+◌};
+ghost use Rattle.std.specs.VecDeque.{deque_len};
+
+use crate::run::Run;
+use crate::step::Step;
+use std::alloc::Global;
+use std::collections::VecDeque;
+
+/// The steps of a run that nothing is asked of any more. Each of them has memory of its own where its key is long, so that a run isn't
+/// dropped at once.
+#[derive(Drop)]
+pub(crate) struct Stale {
+    pub(crate) first: VecDeque<Step>,
+    pub(crate) second: VecDeque<Step>,
+    pub(crate) made: VecDeque<Step>,
+}
+
+// Drops so many steps at most: how many more may be dropped.
+fn shorten(steps: &mut VecDeque<Step>, most: usize) -> usize
+    ensures most { result ≤ most }
+    ensures len { deque_len steps.old + result ≡ deque_len steps.new + most }
+{
+    let count = steps.len().min(most);
+    steps.truncate(steps.len() - count);
+    most - count
+}
+
+impl Stale {
+    // Nothing. Takes no memory.
+    pub(crate) fn new(alloc: Global) -> Stale {
+        Stale {
+            first: VecDeque::new(alloc),
+            second: VecDeque::new(alloc),
+            made: VecDeque::new(alloc),
+        }
+    }
+
+    pub(crate) fn of(run: Run) -> Stale
+        ensures first { result.first ≡ run.first }
+        ensures second { result.second ≡ run.second }
+        ensures made { result.made ≡ run.made }
+    {
+        let Run {
+            first,
+            second,
+            made,
+            ..
+        } = run;
+        Stale {
+            first,
+            second,
+            made,
+        }
+    }
+
+    pub(crate) fn is_empty(&self) -> bool {
+        self.first.is_empty() && self.second.is_empty() && self.made.is_empty()
+    }
+
+    // Drops so many steps at most.
+    pub(crate) fn give_back(&mut self, most: usize)
+        ensures { deque_len self.old.first + deque_len self.old.second + deque_len self.old.made ≤ deque_len self.new.first + deque_len self.new.second + deque_len self.new.made + most }
+    {
+        let more = shorten(&mut self.first, most);
+        let still_more = shorten(&mut self.second, more);
+        shorten(&mut self.made, still_more);
+    }
+}

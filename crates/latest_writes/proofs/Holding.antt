@@ -1,0 +1,63 @@
+-- How much is held of writes.
+use Rattle.std.proofs.Common.{◌≡◌, ◌≢◌, ◌<◌, ◌⊎◌, ℕ, ◌+◌, ◌-◌, ◌^◌, min, true, false, List, [], ◌∷◌, ◌++◌, None, refl, ap, subst, ◌∙◌, inl, inr, arith, append_assoc}
+use Rattle.std.specs.declared.cmp.Ordering.{Ordering}
+use Rattle.std.specs.declared.cmp.Ordering.TheVariants.{Less, Equal, Greater}
+use Rattle.std.specs.Ordering.{is_eq, is_lt, is_gt}
+use Rattle.std.specs.Cmp.Lexicographic.{nat_list_cmp_total}
+use Rattle.std.proofs.lemmas.List.Sums.{sum_by_push}
+use Rattle.model.specs.Map.{Bytes, KeyWrite, key_cmp, is_same_key}
+use Rattle.latest_writes.specs.Held.{weight, weight_of, HasOneOfEach, IsHeld}
+use Rattle.latest_writes.proofs.Sweeping.{IsUpTo, same_key}
+
+abbrev pub IsUnder : Bytes → Bytes → Type 0
+IsUnder j k = is_lt (key_cmp j k) ≡ true
+
+less_from : (o : Ordering) → is_lt o ≡ true → o ≡ Less
+less_from Less e = refl
+less_from Equal e = cc
+less_from Greater e = cc
+
+under_or_same : (o : Ordering) → is_gt o ≡ false → (o ≡ Less) ⊎ (is_eq o ≡ true)
+under_or_same Less e = inl refl
+under_or_same Equal e = inr refl
+under_or_same Greater e = cc
+
+under_upto : (i j k : Bytes) → IsUnder i j → IsUpTo j k → IsUnder i k
+under_upto i j k lt le = elim (under_or_same (key_cmp j k) le) [
+  | inl less ↦ ap is_lt (nat_list_cmp_total.trans i j k (less_from (key_cmp i j) lt) less)
+  | inr same ↦ subst (λ (q : Bytes). IsUnder i q) (same_key j k same) lt
+]
+
+pub under : (w v : KeyWrite) → IsUpTo w.0 v.0 → is_same_key w.0 v.0 ≡ false → IsUnder w.0 v.0
+under w v le apart = elim (under_or_same (key_cmp w.0 v.0) le) [
+  | inl less ↦ ap is_lt less
+  | inr same ↦ cc
+]
+
+-- the last is left out for one that doesn't stand before it
+pub one_for_last : (ws : List KeyWrite) (p e : KeyWrite) → HasOneOfEach (ws ++ p ∷ []) → IsUpTo p.0 e.0 → HasOneOfEach (ws ++ e ∷ [])
+one_for_last [] p e h le = tt
+one_for_last (w ∷ []) p e h le = (under_upto w.0 p.0 e.0 h.0 le, h.1, tt)
+one_for_last (w ∷ v ∷ ws) p e h le = (h.0, h.1, one_for_last (v ∷ ws) p e h.2 le)
+
+-- the last is kept, and another comes behind it
+pub one_more : (ws : List KeyWrite) (p e : KeyWrite) → HasOneOfEach (ws ++ p ∷ []) → IsUnder p.0 e.0 → p.1 ≢ None → HasOneOfEach ((ws ++ p ∷ []) ++ e ∷ [])
+one_more [] p e h lt some = (lt, some, tt)
+one_more (w ∷ []) p e h lt some = (h.0, h.1, (lt, some, tt))
+one_more (w ∷ v ∷ ws) p e h lt some = (h.0, h.1, one_more (v ∷ ws) p e h.2 lt some)
+
+-- one write more, below the limit
+pub held_more : (old new : List KeyWrite) (w : KeyWrite) (total limit more : ℕ) → IsHeld old total limit → new ≡ old ++ w ∷ [] → more ≡ min (total + weight w) (2 ^ 64 - 1) → more < limit → IsHeld new more limit
+held_more old new w total limit more held is more_is below =
+    let sum : weight_of new ≡ weight_of old + weight w = ap weight_of is ∙ sum_by_push weight old w in
+    let was = held.total_is in
+    let le = held.limit_is in
+    record {
+      kept = held.kept;
+      later = held.later ++ w ∷ [];
+      joined = is ∙ ap (λ (l : List KeyWrite). l ++ w ∷ []) held.joined ∙ append_assoc held.kept held.later (w ∷ []);
+      one_of_each = held.one_of_each;
+      few = omega arith;
+      total_is = omega arith;
+      limit_is = held.limit_is;
+    }

@@ -1,0 +1,260 @@
+use crate::verdicts::plain::History;
+use model::{Key, KeyRef, Map, Memory, RangeRef};
+use pivot_check::{Committed, Verdict};
+use snapshot::Transaction;
+use std::alloc::Global;
+use std::test::Fail;
+use versions::Versions;
+
+// The check and the plain one over the same commits.
+#[derive(Drop)]
+struct Both {
+    committed: Committed,
+    history: History,
+}
+
+impl Both {
+    fn new(alloc: Global) -> Both {
+        Both {
+            committed: Committed::new(alloc),
+            history: History::new(alloc),
+        }
+    }
+
+    // Commits where both give the same answer, and answers `None` where they differ.
+    fn commit(&mut self, tx: &Transaction) -> Result<Option<Verdict>, Memory> {
+        let checked = commit(&mut self.committed, tx)?;
+        let plain = self.history.commit(tx)?;
+        if checked == plain {
+            Ok(Some(checked))
+        } else {
+            Ok(None)
+        }
+    }
+}
+
+// Commits as the next number, where the transaction is in reach.
+fn commit(committed: &mut Committed, tx: &Transaction) -> Result<Verdict, Memory> {
+    let last = committed.last();
+    if tx.begin() > last || tx.begin() < committed.oldest() || last == u64::MAX {
+        return Err(Memory);
+    }
+    let verdict = committed.verdict(tx);
+    if let Verdict::Clear(has_earlier_target) = verdict {
+        committed.reserve(tx)?;
+        committed.note(tx, last + 1, has_earlier_target);
+    }
+    Ok(verdict)
+}
+
+fn read(tx: &mut Transaction, versions: &Versions, key: &[u8]) -> Result<(), Memory> {
+    let Some(key) = KeyRef::new(key) else {
+        return Err(Memory);
+    };
+    match tx.get(versions, key) {
+        Ok(_) => Ok(()),
+        Err(_) => Err(Memory),
+    }
+}
+
+fn read_range(
+    tx: &mut Transaction,
+    versions: &Versions,
+    lo: &[u8],
+    hi: &[u8],
+) -> Result<(), Memory> {
+    let (Some(lo), Some(hi)) = (KeyRef::new(lo), KeyRef::new(hi)) else {
+        return Err(Memory);
+    };
+    match tx.range(versions, RangeRef { lo, hi: Some(hi) }, 10) {
+        Ok(_) => Ok(()),
+        Err(_) => Err(Memory),
+    }
+}
+
+fn write(tx: &mut Transaction, key: &[u8]) -> Result<(), Memory> {
+    let Some(key) = KeyRef::new(key) else {
+        return Err(Memory);
+    };
+    match tx.put(key, b"1") {
+        Ok(()) => Ok(()),
+        Err(_) => Err(Memory),
+    }
+}
+
+// A transaction that has read some keys and then written others, each of one letter.
+fn transaction(
+    alloc: Global,
+    begin: u64,
+    reads: &[u8],
+    writes: &[u8],
+) -> Result<Transaction, Memory> {
+    let versions = Versions::from_map(alloc, Map::new(alloc))?;
+    let mut tx = Transaction::new(alloc, begin);
+    for letter in reads {
+        read(&mut tx, &versions, &[*letter])?;
+    }
+    for letter in writes {
+        write(&mut tx, &[*letter])?;
+    }
+    Ok(tx)
+}
+
+fn run(
+    alloc: Global,
+    both: &mut Both,
+    begin: u64,
+    reads: &[u8],
+    writes: &[u8],
+) -> Result<Option<Verdict>, Memory> {
+    let tx = transaction(alloc, begin, reads, writes)?;
+    both.commit(&tx)
+}
+
+fn forget(both: &mut Both, oldest: u64) {
+    if oldest <= both.committed.last() {
+        both.committed.forget(oldest);
+    }
+}
+
+const CLEAR: Result<Option<Verdict>, Memory> = Ok(Some(Verdict::Clear(false)));
+
+// It may commit, and has read what a concurrent one wrote that committed before it.
+const CLEAR_WITH_TARGET: Result<Option<Verdict>, Memory> = Ok(Some(Verdict::Clear(true)));
+
+const PIVOT_SELF: Result<Option<Verdict>, Memory> = Ok(Some(Verdict::PivotSelf));
+
+fn overwritten(place: usize) -> Result<Option<Verdict>, Memory> {
+    Ok(Some(Verdict::Overwritten(place)))
+}
+
+fn pivot(number: u64) -> Result<Option<Verdict>, Memory> {
+    Ok(Some(Verdict::Pivot(number)))
+}
+
+#[test]
+fn first_committer_wins(rt: HostRuntime) -> Result<(), Fail> {
+    let alloc = rt.alloc();
+    let mut both = Both::new(alloc);
+    assert_eq!(rt; run(alloc, &mut both, 0, b"", b"jk"), CLEAR);
+    assert_eq!(rt; run(alloc, &mut both, 0, b"", b"k"), overwritten(0));
+    assert_eq!(rt; run(alloc, &mut both, 0, b"", b"ajk"), overwritten(1));
+    assert_eq!(rt; run(alloc, &mut both, 1, b"", b"ajk"), CLEAR);
+    assert_eq!(rt; both.committed.last(), 2);
+    Ok(())
+}
+
+#[test]
+fn write_skew(rt: HostRuntime) -> Result<(), Fail> {
+    let alloc = rt.alloc();
+    let mut both = Both::new(alloc);
+    assert_eq!(rt; run(alloc, &mut both, 0, b"xy", b"x"), CLEAR);
+    assert_eq!(rt; run(alloc, &mut both, 0, b"xy", b"y"), PIVOT_SELF);
+    Ok(())
+}
+
+fn phantom(alloc: Global, written: &[u8]) -> Result<Transaction, Memory> {
+    let versions = Versions::from_map(alloc, Map::new(alloc))?;
+    let mut tx = Transaction::new(alloc, 0);
+    read_range(&mut tx, &versions, b"a", b"c")?;
+    write(&mut tx, written)?;
+    Ok(tx)
+}
+
+#[test]
+fn phantom_skew(rt: HostRuntime) -> Result<(), Fail> {
+    let alloc = rt.alloc();
+    let mut both = Both::new(alloc);
+    let (Ok(first), Ok(second)) = (phantom(alloc, b"a"), phantom(alloc, b"b")) else {
+        return Err(Fail::from("out of memory"));
+    };
+    assert_eq!(rt; both.commit(&first), CLEAR);
+    assert_eq!(rt; both.commit(&second), PIVOT_SELF);
+    Ok(())
+}
+
+#[test]
+fn read_only_anomaly(rt: HostRuntime) -> Result<(), Fail> {
+    let alloc = rt.alloc();
+    let mut both = Both::new(alloc);
+    assert_eq!(rt; run(alloc, &mut both, 0, b"y", b"y"), CLEAR);
+    assert_eq!(rt; run(alloc, &mut both, 1, b"xy", b""), CLEAR);
+    assert_eq!(rt; run(alloc, &mut both, 0, b"xy", b"x"), PIVOT_SELF);
+    Ok(())
+}
+
+#[test]
+fn reader_finds_a_committed_pivot(rt: HostRuntime) -> Result<(), Fail> {
+    let alloc = rt.alloc();
+    let mut both = Both::new(alloc);
+    assert_eq!(rt; run(alloc, &mut both, 0, b"", b"m"), CLEAR);
+    assert_eq!(rt; run(alloc, &mut both, 0, b"m", b"k"), CLEAR_WITH_TARGET);
+    assert_eq!(rt; run(alloc, &mut both, 0, b"k", b""), pivot(2));
+    Ok(())
+}
+
+#[test]
+fn writer_finds_a_committed_pivot(rt: HostRuntime) -> Result<(), Fail> {
+    let alloc = rt.alloc();
+    let mut both = Both::new(alloc);
+    assert_eq!(rt; run(alloc, &mut both, 0, b"k", b""), CLEAR);
+    assert_eq!(rt; run(alloc, &mut both, 0, b"m", b"k"), CLEAR);
+    assert_eq!(rt; run(alloc, &mut both, 0, b"", b"m"), CLEAR);
+    Ok(())
+}
+
+#[test]
+fn earlier_reader_is_harmless(rt: HostRuntime) -> Result<(), Fail> {
+    let alloc = rt.alloc();
+    let mut both = Both::new(alloc);
+    assert_eq!(rt; run(alloc, &mut both, 0, b"k", b""), CLEAR);
+    assert_eq!(rt; run(alloc, &mut both, 0, b"", b"m"), CLEAR);
+    assert_eq!(rt; run(alloc, &mut both, 0, b"m", b"k"), CLEAR_WITH_TARGET);
+    Ok(())
+}
+
+#[test]
+fn pivot_with_a_later_writer_is_harmless(rt: HostRuntime) -> Result<(), Fail> {
+    let alloc = rt.alloc();
+    let mut both = Both::new(alloc);
+    assert_eq!(rt; run(alloc, &mut both, 0, b"m", b"k"), CLEAR);
+    assert_eq!(rt; run(alloc, &mut both, 0, b"k", b""), CLEAR_WITH_TARGET);
+    assert_eq!(rt; run(alloc, &mut both, 0, b"", b"m"), CLEAR);
+    Ok(())
+}
+
+#[test]
+fn pivot_after_its_target_was_forgotten(rt: HostRuntime) -> Result<(), Fail> {
+    let alloc = rt.alloc();
+    let mut both = Both::new(alloc);
+    assert_eq!(rt; run(alloc, &mut both, 0, b"", b"m"), CLEAR);
+    assert_eq!(rt; run(alloc, &mut both, 0, b"m", b"k"), CLEAR_WITH_TARGET);
+    forget(&mut both, 1);
+    assert_eq!(rt; both.committed.kept(), 1);
+    assert_eq!(rt; run(alloc, &mut both, 1, b"k", b""), pivot(2));
+    Ok(())
+}
+
+#[test]
+fn one_after_the_other(rt: HostRuntime) -> Result<(), Fail> {
+    let alloc = rt.alloc();
+    let mut both = Both::new(alloc);
+    assert_eq!(rt; run(alloc, &mut both, 0, b"xy", b"x"), CLEAR);
+    assert_eq!(rt; run(alloc, &mut both, 1, b"xy", b"y"), CLEAR);
+    Ok(())
+}
+
+#[test]
+fn pivot_after_its_neighbour_was_forgotten(rt: HostRuntime) -> Result<(), Fail> {
+    let alloc = rt.alloc();
+    let mut both = Both::new(alloc);
+    assert_eq!(rt; run(alloc, &mut both, 0, b"k", b""), CLEAR);
+    assert_eq!(rt; run(alloc, &mut both, 0, b"m", b"k"), CLEAR);
+    forget(&mut both, 1);
+    assert_eq!(rt; both.committed.oldest(), 1);
+    assert_eq!(rt; both.committed.kept(), 1);
+    assert_eq!(rt; run(alloc, &mut both, 1, b"", b"m"), CLEAR);
+    forget(&mut both, 2);
+    assert_eq!(rt; both.committed.kept(), 1);
+    Ok(())
+}

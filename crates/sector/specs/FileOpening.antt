@@ -1,0 +1,33 @@
+-- What was called of a file before a device stands over it.
+use Rattle.std.specs.Prelude.{◌≡◌, ℕ, ◌*◌, true, List, replicate}
+use Rattle.file_calls.specs.OpenFacts.{next}
+use Rattle.file_calls.specs.HappenedCalls.{WasMade, WasOpened, WasOpenedToRead, WasWritten, WasSynced, HadLength, HadNameSettled}
+use Rattle.file_calls.specs.declared.counted.CountedFile.{CountedFile}
+
+-- A new file was made under this name, so many sectors of zeros were written to it, by one call, and synced by the next; its directory
+-- was synced, and nothing else was called of it.
+pub record WasMadeOfZeros (path : List ℕ) (count : ℕ) (now : CountedFile) : Type 0 where
+  pub first : CountedFile
+  pub size : first.sectors ≡ count
+  pub none_before : first.calls ≡ 0
+  pub made : WasMade first.file path
+  pub zeros : WasWritten first 0 (replicate (count * 512) 0) true
+  pub settled : WasSynced (next first) true
+  pub name : HadNameSettled first.file path
+  pub now_is : now ≡ next (next first)
+
+-- its length is that of its sectors, and it wasn't read, written or synced yet
+pub record IsWhole (now : CountedFile) : Type 0 where
+  pub none_before : now.calls ≡ 0
+  pub length : HadLength now.file (now.sectors * 512)
+
+-- the file of this name was opened to be read and written, and its directory was synced
+pub record WasOpenedWhole (path : List ℕ) (now : CountedFile) : Type 0 where
+  pub whole : IsWhole now
+  pub opened : WasOpened now.file path
+  pub name : HadNameSettled now.file path
+
+-- the file of this name was opened to be read alone
+pub record WasOpenedWholeToRead (path : List ℕ) (now : CountedFile) : Type 0 where
+  pub whole : IsWhole now
+  pub opened : WasOpenedToRead now.file path

@@ -1,0 +1,17 @@
+use Rattle.sorted_pages.specs.Pages.{entries}
+use Rattle.versions.proofs.Listings.{part-trans}
+use Rattle.versions.proofs.Parts.{kept-twice}
+use Rattle.versions.proofs.listing.Group.reclaim.Goals as goal
+
+pub look_at_mixed-requires-clause-kept : goal.look_at_mixed-requires-clause-kept
+look_at_mixed-requires-clause-kept c = (c.requires.kept.0, c.look_at_due.ensures.kept c.requires.kept.0 c.requires.kept.1)
+
+pub returns-clause-part : goal.returns-clause-part
+returns-clause-part c = part-trans c.args.begins.now (entries c.args.chains.now) (entries c.look_at_due.new.chains) (entries c.look_at_mixed.new.chains) c.requires.kept.0 c.requires.kept.1 c.look_at_due.ensures.part c.look_at_mixed.ensures.part
+
+pub returns-clause-kept : goal.returns-clause-kept
+returns-clause-kept c = λ last h. c.look_at_mixed.ensures.kept last (c.look_at_due.ensures.kept last h)
+
+pub returns-clause-left : goal.returns-clause-left
+returns-clause-left c = kept-twice c.args.begins.now (entries c.look_at_due.new.chains) (entries c.look_at_mixed.new.chains) c.args.self.now.versions c.take_in.new.self.versions c.look_at_due.new.self.versions c.look_at_mixed.new.self.versions
+    c.take_in.ensures.found c.look_at_mixed.ensures.part c.look_at_due.ensures.left c.look_at_mixed.ensures.left
