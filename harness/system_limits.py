@@ -5,7 +5,7 @@ the server doesn't end and doesn't spin.
 
 While a transaction is open, what the transactions that commit beside it have read is kept, and nothing bounds how many they are: this is
 outside the memory bound of the other harness. The address space is bounded here, so that memory is refused: the connection that met it
-is closed, sessions that need none are served, and once the old transaction ends there is memory again.
+is closed, sessions that need none are served, and soon after the old transaction has ended there is memory again.
 """
 import os
 import resource
@@ -109,6 +109,17 @@ def commits(client, number):
     return True
 
 
+def memory_is_back(server):
+    """After how many seconds a transaction commits that marks all it may; the connection of one that is refused memory is closed."""
+    began = time.monotonic()
+    while time.monotonic() < began + SOON:
+        with Connection(server.port) as client:
+            if commits(client, 0):
+                return time.monotonic() - began
+        time.sleep(0.01)
+    expect(False, f"there is no memory {SOON} seconds after the old transaction has ended")
+
+
 def old_transaction(server):
     old, other, reader = (Connection(server.port) for _ in range(3))
     expect(old.ask(BEGIN) == OK and old.ask(frame("GET", "a")) == b"$-1\r\n", "no transaction")
@@ -121,12 +132,13 @@ def old_transaction(server):
     expect(server.is_alive(), f"the server ended: {server.error_text()!r}")
     expect(old.ask(frame("GET", "a")) == b"$-1\r\n" and reader.ask(PING) == PONG, "a session that needs no memory is not served")
     expect(old.ask(ABORT) == OK, "the old transaction doesn't end")
+    seconds = memory_is_back(server)
     with Connection(server.port) as fresh:
         for again in range(20):
-            expect(commits(fresh, again), "there is no memory after the old transaction has ended")
+            expect(commits(fresh, again), "memory is refused again after the old transaction has ended")
     for client in (old, other, reader):
         client.close()
-    return f"{number} commits beside it, {each:,} bytes each, until memory was refused"
+    return f"{number} commits beside it, {each:,} bytes each, until memory was refused; after its end a commit again within {seconds:.3f} seconds"
 
 
 def scene(tally, place, name, play, limit):

@@ -1,7 +1,9 @@
 -- The laws of histories and of the machine's runs.
-use Rattle.std.specs.Prelude.{◌≡◌, ◌<◌, ◌≤◌, ℕ, Bool, List, ◌∷◌, ◌++◌, Some, None, IsTrue, All, Contains}
+use Rattle.std.specs.Prelude.{◌≡◌, ◌<◌, ◌≤◌, ℕ, Bool, List, ◌∷◌, ◌++◌, Some, None, IsTrue, IfErr, All, Contains}
 use Rattle.model.specs.declared.refusals.Refusal.{Refusal}
-use Rattle.model.specs.Map.{KeyMap}
+use Rattle.model.specs.declared.refusals.Refusal.TheVariants.{UnknownCommand, BadArguments, BadKey, BadLimit}
+use Rattle.model.specs.Map.{Bytes, KeyMap}
+use Rattle.model.specs.CommandTable.{command_in}
 use Rattle.model.specs.Operations.Operation.{Begin, Commit}
 use Rattle.model.specs.Operations.Response.{Number, Refused}
 use Rattle.model.specs.PrivateCopy.{copy_of, responses}
@@ -61,6 +63,18 @@ IsIsolated st = All (λ e. e.1.replies ≡ responses (copy_of (snapshot st e.1))
 -- whatever the sessions ask, and whenever the device fails
 abbrev pub MachineLaw : Type 0
 MachineLaw = (st : State) → IsReached st → IsIsolated st × IsSerializable st
+
+-- a fault of a request's form, which is refused before anything else is looked at
+abbrev pub IsOfForm : Refusal → Type 0
+IsOfForm UnknownCommand = Unit {0}
+IsOfForm BadArguments = Unit {0}
+IsOfForm BadKey = Unit {0}
+IsOfForm BadLimit = Unit {0}
+IsOfForm other = ⊥
+
+-- whatever its parts are, a request is faulty for one of these four alone
+abbrev pub FaultsAreOfForm : Type 0
+FaultsAreOfForm = (parts : List Bytes) → IfErr (command_in parts) IsOfForm
 
 -- what has committed has no dangerous pivot and no concurrent writers of one key: so the laws of histories hold of it
 abbrev pub VerdictHolds : Type 0

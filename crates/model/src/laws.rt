@@ -1,6 +1,6 @@
 //! The laws of histories and of the machine. Each is the contract of a function that does nothing.
 ghost use Rattle.model.specs.Cycle.{CycleLaw, DangerousCycleLaw, DangerousPivotLaw};
-ghost use Rattle.model.specs.Laws.{AnswersComeBefore, ConflictsAreRecent, LastMayCommit, VerdictHolds};
+ghost use Rattle.model.specs.Laws.{AnswersComeBefore, ConflictsAreRecent, FaultsAreOfForm, LastMayCommit, VerdictHolds};
 ghost use Rattle.model.specs.Laws.{MachineLaw, OrdersKeepTime, PlacesKeepTime, PlacesRise, ReplayLaw};
 ghost use Rattle.model.specs.Restarts.{ReplaysFollow, RestartLaw};
 
@@ -25,6 +25,11 @@ pub fn history_has_serial_order()
     ensures real_time { PlacesKeepTime }
     ensures replay { ReplayLaw }
     ensures ahead { OrdersKeepTime }
+{}
+
+/// A request is refused for its form for four faults alone: an unknown command, another number of parts, a key or a limit out of bounds.
+pub fn faults_are_of_form()
+    ensures { FaultsAreOfForm }
 {}
 
 /// Whatever the sessions ask of the store, each open transaction was answered by its own copy alone, and the committed ones have a

@@ -1,0 +1,5 @@
+use Rattle.model.proofs.Faults.{faults_are_of_form}
+use Rattle.model.proofs.laws.faults_are_of_form.Goals as goal
+
+pub returns : goal.returns
+returns c = faults_are_of_form
