@@ -1,12 +1,13 @@
 //! The calls of an open file, each counted.
-ghost use Rattle.std.specs.Prelude.{◌≡◌, replicate, is_ok};
+ghost use Rattle.std.specs.Prelude.{◌≡◌, ◌↔◌, ◌-◌, ◌^◌, IsErr, replicate, is_ok};
 
 use crate::opened::OpenedFile;
-use std::io::{self, Read};
+use std::io::{self, ErrorKind, Read};
 use std::os::unix::fs::FileExt;
 
 /// An open file of so many sectors, with the number of calls that were made of it. `read`, `write`, `write_zeros`, `sync` and `sync_all`
-/// make one call and count it; the count stays at 2^64 - 1 once it is there.
+/// make one call and count it. Once the count is 2^64 - 1 it stays, and they fail (`Other`) without a call, so that no two calls are made at
+/// one count.
 #[derive(Drop)]
 pub struct CountedFile {
     file: OpenedFile,
@@ -48,27 +49,30 @@ impl CountedFile {
     /// Reads bytes from this offset on. Answers the system's error, and `UnexpectedEof` where the file ends before. Takes no memory.
     pub fn read(&mut self, offset: u64, into: &mut [u8]) -> io::Result<()>
         ensures next { self.new ≡ next self.old }
+        ensures over { self.old.calls ≡ 2 ^ 64 - 1 → IsErr result }
         ensures happened { WasRead self.old offset into.new (is_ok result) }
     {
-        self.count_call();
+        self.count_call()?;
         self.file.file.read_exact_at(into, offset)
     }
 
     /// Writes bytes from this offset on. Answers the system's error. Takes no memory.
     pub fn write(&mut self, offset: u64, from: &[u8]) -> io::Result<()>
         ensures next { self.new ≡ next self.old }
+        ensures over { self.old.calls ≡ 2 ^ 64 - 1 → IsErr result }
         ensures happened { WasWritten self.old offset from.now (is_ok result) }
     {
-        self.count_call();
+        self.count_call()?;
         self.file.file.write_all_at(from, offset)
     }
 
     /// Settles what was written. Answers the system's error. Takes no memory.
     pub fn sync(&mut self) -> io::Result<()>
         ensures next { self.new ≡ next self.old }
+        ensures over { self.old.calls ≡ 2 ^ 64 - 1 → IsErr result }
         ensures happened { WasSynced self.old (is_ok result) }
     {
-        self.count_call();
+        self.count_call()?;
         self.file.file.sync_data()
     }
 
@@ -76,9 +80,10 @@ impl CountedFile {
     /// error. Takes no memory.
     pub fn write_zeros(&mut self, len: u64) -> io::Result<()>
         ensures next { self.new ≡ next self.old }
+        ensures over { self.old.calls ≡ 2 ^ 64 - 1 → IsErr result }
         ensures happened { WasWritten self.old 0 (replicate len 0) (is_ok result) }
     {
-        self.count_call();
+        self.count_call()?;
         let _written = io::copy(&mut io::repeat(0).take(len), &mut &self.file.file)?;
         Ok(())
     }
@@ -86,16 +91,22 @@ impl CountedFile {
     /// Settles what was written, and the file's size and times with it. Answers the system's error. Takes no memory.
     pub fn sync_all(&mut self) -> io::Result<()>
         ensures next { self.new ≡ next self.old }
+        ensures over { self.old.calls ≡ 2 ^ 64 - 1 → IsErr result }
         ensures happened { WasSynced self.old (is_ok result) }
     {
-        self.count_call();
+        self.count_call()?;
         self.file.file.sync_all()
     }
 
-    /// Counts a call.
-    fn count_call(&mut self)
-        ensures { self.new ≡ next self.old }
+    /// Counts a call; `Other` where no more can be counted.
+    fn count_call(&mut self) -> io::Result<()>
+        ensures next { self.new ≡ next self.old }
+        ensures over { IsErr result ↔ (self.old.calls ≡ 2 ^ 64 - 1) }
     {
-        self.calls = self.calls.saturating_add(1);
+        if self.calls == u64::MAX {
+            return Err(io::Error::from(ErrorKind::Other));
+        }
+        self.calls += 1;
+        Ok(())
     }
 }

@@ -3,3 +3,7 @@ use Rattle.file_calls.proofs.counted.CountedFile.sync_all.Goals as goal
 
 pub returns-clause-happened : goal.returns-clause-happened
 returns-clause-happened c = real_sync _ _
+
+-- no call was made
+pub returns-in_err-count_call-clause-happened : goal.returns-in_err-count_call-clause-happened
+returns-in_err-count_call-clause-happened c = real_sync _ _

@@ -6,3 +6,7 @@ returns-clause-happened c = real_write _ _ _ _
 
 pub returns-in_err-_written-clause-happened : goal.returns-in_err-_written-clause-happened
 returns-in_err-_written-clause-happened c = real_write _ _ _ _
+
+-- no call was made
+pub returns-in_err-count_call-clause-happened : goal.returns-in_err-count_call-clause-happened
+returns-in_err-count_call-clause-happened c = real_write _ _ _ _
