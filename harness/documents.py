@@ -7,8 +7,8 @@ minute.
 
 Then: no table cell over 120 characters and no sentence over 40 words, no link that leads nowhere, pictures as docs/pictures/draw.py draws
 them, with the figures of docs/PERFORMANCE.md, and the crates of docs/ARCHITECTURE.md as crates.txt has them. The commands and refusals of
-docs/PROTOCOL.md, docs/CLIENTS.md and man/ssikvd.7 are those of the definitions. Of each block of ```ini and ```python: a unit that
-`systemd-analyze verify` takes, Python that is Python.
+docs/PROTOCOL.md, docs/CLIENTS.md and man/ssikvd.7 are those of the definitions, and the tables of docs/LOG_FORMAT.md those of the model's
+logs. Of each block of ```ini and ```python: a unit that `systemd-analyze verify` takes, Python that is Python.
 """
 import os
 import re
@@ -19,7 +19,7 @@ import sys
 import time
 
 from client import PATIENCE, PROGRAM, Tally, expect, folder, free_port, is_long, need, run, run_harness
-from model import PARTS
+from model import BODY_MAX, HEAD, KEY_MAX, OLD_HEAD, PARTS, SECTOR, VALUE_MAX, WRITES_MAX, body_sectors, log_image, payload
 
 TOP = os.path.normpath(os.path.join(os.path.dirname(os.path.abspath(__file__)), ".."))
 CELL_MAX, WORDS_MAX = 120, 40
@@ -385,10 +385,45 @@ def names(tally):
         expect(told == due, f"CLIENTS.md and the definitions differ in {sorted(told ^ due)}")
 
 
+def rows_of(table):
+    """The rows below the head of a table, each its cells."""
+    return [[cell.strip() for cell in line.strip("|").split("|")] for line in table.splitlines() if line.startswith("| ")][1:]
+
+
+def log_format(tally):
+    """The tables of docs/LOG_FORMAT.md have the bytes and sizes that the model's logs have."""
+    text = text_of("docs/LOG_FORMAT.md")
+    formats, body, example = (text.partition(place)[2].partition(end)[0] for place, end in (
+        ("two formats", "## Records"), ("| Offset", "`b` is"), ("## An example", "Sector 0 is")))
+    with tally.run("the table of the formats"):
+        table = {name: cells for name, *cells in rows_of("| | |\n" + formats)}
+        for column, (head, value_max) in enumerate(((OLD_HEAD, 4_096), (HEAD, VALUE_MAX))):
+            largest = len(payload([(b"%c" % i * KEY_MAX, bytes(value_max)) for i in range(WRITES_MAX)]))
+            cells = {name: cells[column] for name, cells in table.items() if len(cells) == 2}
+            expect(cells["head"] == f"`{head[:8].decode()}` (hex `{head[:8].hex()}`)", f"a head is {cells['head']}")
+            expect(cells["bytes of a value"] == f"0 to {value_max:,}", f"values have {cells['bytes of a value']}")
+            expect(cells["largest payload"].endswith(f"= {largest:,} bytes"), f"the largest payload is {cells['largest payload']}")
+            bodies = body_sectors(bytes(largest))
+            expect(cells["most body sectors"] == f"{bodies:,}", f"there are {cells['most body sectors']} body sectors")
+        expect(bodies == BODY_MAX, f"a body has {bodies} sectors at most")
+    image = log_image([[(b"a", b"1")], [(b"a", None)]], 8)
+    with tally.run("the table of a body"):
+        parts = [(int(offset), length) for offset, length, _ in rows_of("| Offset" + body) if offset.isdigit()]
+        expect(parts == [(0, "4"), (4, "8"), (12, "32"), (44, "L")], f"the parts of a body are {parts}")
+    with tally.run("the vectors"):
+        table = {name: [cell.strip("`") for cell in cells] for name, *cells in rows_of(example)}
+        for column, sector in enumerate((2, 4)):
+            place = sector * SECTOR
+            size = int.from_bytes(image[place:place + 4], "big")
+            due = {"L": image[place:place + 4], "index": image[place + 4:place + 12], "payload": image[place + 44:place + 44 + size]}
+            found = {name: bytes.fromhex(cells[column]) for name, cells in table.items()}
+            expect(found == due, f"record {column} is {found}, and the model writes {due}")
+
+
 def main():
     need(PROGRAM)
     tally = Tally("documents")
-    for part in (run_commands, worked, other_blocks, style, links, pictures, layers, sealed, names):
+    for part in (run_commands, worked, other_blocks, style, links, pictures, layers, sealed, names, log_format):
         part(tally)
     return 0 if tally.end() else 1
 

@@ -7,6 +7,8 @@
 mod crashes;
 #[cfg(test)]
 mod hub_store;
+#[cfg(test)]
+mod largest;
 mod lines;
 mod plain;
 #[cfg(test)]
