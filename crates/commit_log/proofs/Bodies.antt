@@ -1,4 +1,5 @@
 -- The parts of a record's body.
+use Rattle.std.proofs.lemmas.Grind.{common_steps}
 use Rattle.std.proofs.Common.{◌≡◌, ℕ, ◌<◌, ◌+◌, ◌-◌, ◌*◌, ◌^◌, List, ◌++◌, length, take, drop, get_or, replicate, sym, ◌∙◌, ap, arith, append_assoc, length-append, take-append-drop}
 use Rattle.std.proofs.lemmas.List.{length-replicate, get_or-replicate, same_lists, get_or_default}
 use Rattle.byteorder.specs.Endian.{big_bytes}
@@ -21,16 +22,7 @@ zeros_of before index writes = replicate (512 * sectors_of writes - length (body
 pub padded_split : (before : List ℕ) (index : ℕ) (writes : List KeyWrite)
     → padded_body before index writes ≡ big_bytes 4 (length (payload_bytes writes)) ++ (big_bytes 8 index ++ (record_digest before index writes ++ (payload_bytes writes ++ zeros_of before index writes)))
 unfolding padded_body body_bytes zeros_of
-padded_split before index writes =
-    let a : List ℕ = big_bytes 4 (length (payload_bytes writes)) in
-    let b : List ℕ = big_bytes 8 index in
-    let d : List ℕ = record_digest before index writes in
-    let p : List ℕ = payload_bytes writes in
-    let z : List ℕ = zeros_of before index writes in
-    regroup a b d p z
-  where
-    regroup : (a b d p z : List ℕ) → (((a ++ b) ++ d) ++ p) ++ z ≡ a ++ (b ++ (d ++ (p ++ z)))
-    regroup a b d p z = simp append_assoc
+padded_split before index writes = grind (arith, common_steps, zeros_of, append_assoc)
 
 pub length-digest : (before : List ℕ) (index : ℕ) (writes : List KeyWrite) → length (record_digest before index writes) ≡ 32
 unfolding record_digest

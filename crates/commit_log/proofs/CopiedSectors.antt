@@ -1,5 +1,6 @@
 -- The sectors of a copy, and the log that they are.
-use Rattle.std.proofs.Common.{bytes_eq, ◌≡◌, ℕ, zero, suc, ◌<◌, ◌≤◌, ◌+◌, ◌-◌, ◌*◌, ◌/◌, true, false, List, [], ◌∷◌, ◌++◌, length, take, drop, get_or, set, slice_get, Option, unwrap_or, Some, None, refl, sym, ◌∙◌, ap, subst, inl, inr, arith, append_assoc, length-append}
+use Rattle.std.proofs.lemmas.Grind.{common_steps}
+use Rattle.std.proofs.Common.{bytes_eq, ◌≡◌, ℕ, zero, suc, ◌<◌, ◌≤◌, ◌+◌, ◌-◌, ◌*◌, ◌/◌, true, false, List, [], ◌∷◌, ◌++◌, length, take, drop, get_or, set, slice_get, unwrap_or, Some, None, refl, sym, ◌∙◌, ap, subst, inl, inr, arith, append_assoc, length-append}
 use Rattle.std.proofs.lemmas.Bool.{cases_lt, cases_Bool}
 use Rattle.std.proofs.lemmas.Slice.Eq.{bytes_eq-Decides}
 use Rattle.std.proofs.lemmas.List.{append-nil, get_or_append_left, get_or-append-add}
@@ -26,11 +27,7 @@ length-log_sectors (w ∷ lists) index before =
 pub log_sectors-push : (lists : List (List KeyWrite)) (w : List KeyWrite) (index : ℕ) (before : List ℕ)
     → log_sectors (lists ++ w ∷ []) index before ≡ log_sectors lists index before ++ (open_gate ∷ record_body (last_digest lists index before) (next_index lists index) w)
 log_sectors-push [] w index before = append-nil (open_gate ∷ record_body before index w)
-log_sectors-push (x ∷ lists) w index before =
-    let here : List (List ℕ) = open_gate ∷ record_body before index x in
-    let rest : List (List ℕ) = log_sectors lists (index + 1) (record_digest before index x) in
-    ap (λ (l : List (List ℕ)). here ++ l) (log_sectors-push lists w (index + 1) (record_digest before index x))
-    ∙ sym (append_assoc here rest (open_gate ∷ record_body (last_digest lists (index + 1) (record_digest before index x)) (next_index lists (index + 1)) w))
+log_sectors-push (x ∷ lists) w index before = grind (arith, common_steps, append_assoc, log_sectors-push lists w (index + 1) (record_digest before index x))
 
 -- sectors that stand in an image
 abbrev pub StandsAt : List (List ℕ) → ℕ → List (List ℕ) → Type 0
@@ -109,16 +106,10 @@ log_if_head lists c (inr none) head = absurd (none head)
 
 pub zeros_are_no_log : (lists : List (List KeyWrite)) (c : List (List ℕ)) → slice_get c 0 ≡ Some zero_sector → IsCopyOrNoLog lists c
 unfolding zero_sector head_sector
-zeros_are_no_log lists c zeros = inr (λ head.
-    let both : Some zero_sector ≡ Some (head_sector current) = sym zeros ∙ head in
-    let same : 0 ≡ 83 = ap (λ (o : Option (List ℕ)). get_or (unwrap_or o []) 0 0) both in
-    absurd (omega arith))
+zeros_are_no_log lists c zeros = grind (arith, common_steps, unwrap_or)
 
 pub same_first : (c d : List (List ℕ)) → take 1 c ≡ take 1 d → slice_get c 0 ≡ slice_get d 0
-same_first [] [] same = refl
-same_first [] (y ∷ d) same = absurd (cc same)
-same_first (x ∷ c) [] same = absurd (cc same)
-same_first (x ∷ c) (y ∷ d) same = let is : x ≡ y = cc same in ap (λ (s : List ℕ). Some s) is
+same_first a0 a1 a2 = grind (arith, common_steps)
 
 -- sectors behind those that were read
 pub reads_more : (old_read new_read : ℕ → List ℕ → Type 0) (at : ℕ) (xs ys : List (List ℕ)) → ReadsFrom old_read at xs → ReadsFrom new_read (at + length xs) ys

@@ -1,4 +1,5 @@
 -- How a copy ends: its records are settled, and then its head is written.
+use Rattle.std.proofs.lemmas.Grind.{common_steps}
 use Rattle.std.proofs.Common.{◌≡◌, inl, inr, ⊎_elim, ℕ, ◌<◌, ◌≤◌, ◌+◌, List, [], ◌∷◌, length, set, slice_get, Some, refl, sym, ◌∙◌, ap, subst, arith}
 use Rattle.sector.specs.declared.device.Sectors.{Ghosts}
 use Rattle.sector.specs.SectorModel.{IsSettled, FollowsWrite, FollowsWrites, Settles, Elapses, LeavesOnly}
@@ -44,10 +45,7 @@ module _ {D : Type 0} (S : Ghosts D) (lists : List (List KeyWrite)) where
 
   -- the head is being written
   pub being_headed : (now next : D) → AreWriteSets lists → Ready now → FollowsWrite 0 (S.may_leave now) (S.may_leave next) → (c : List (List ℕ)) → S.may_leave next c → IsCopyOrNoLog lists c
-  being_headed now next proper is follows c left =
-      let from = follows c left in
-      let image : c ≡ set is.image 0 from.2.0 = from.2.1 ∙ ap (λ (l : List (List ℕ)). set l 0 from.2.0) (is.left from.0 from.1) in
-      subst (λ (l : List (List ℕ)). IsCopyOrNoLog lists l) (sym image) (with_first lists is.image from.2.0 closed_gate proper is.some is.stands is.behind closed_gate_shut)
+  being_headed now next proper is follows c left = grind (arith, common_steps, with_first, closed_gate_shut)
 
   -- the sync that settles the head
   pub headed : (now next : D) (size : ℕ) → 1 ≤ size → ((c : List (List ℕ)) → S.may_leave now c → IsCopyOrNoLog lists c) → ((s : List ℕ) → S.may_read now 0 s → s ≡ head_sector current)
@@ -75,11 +73,7 @@ module _ {D : Type 0} (S : Ghosts D) (lists : List (List KeyWrite)) where
     same_before c from = (from.0, from.1, from.2.before)
 
     pub after_records : (now : D) → Within S 1 (1 + span lists) start now → LeavesOnly S.moment S.left_since start now (IsCopyStep lists (S.may_leave start))
-    after_records now alone = record {
-      later = alone.time.later;
-      each = λ c left. inl (same_before c (alone.time.each c left));
-      before = λ t c le left. ⊎_elim (λ was. inl was) (λ same. inr (inl (same_before c same))) (alone.time.before t c le left);
-    }
+    after_records now alone = grind (arith, common_steps, same_before, ⊎_elim)
 
     pub after_sync : (now next : D) → LeavesOnly S.moment S.left_since start now (IsCopyStep lists (S.may_leave start)) → Within S 1 (1 + span lists) start now
         → ((c : List (List ℕ)) → S.may_leave next c → S.may_leave now c) → Elapses (S.moment now) (S.moment next) (S.left_since now) (S.left_since next) (S.may_leave next)
@@ -91,11 +85,7 @@ module _ {D : Type 0} (S : Ghosts D) (lists : List (List KeyWrite)) where
     not_begun only_now = started S.moment S.left_since start (IsCopyStep lists (S.may_leave start)) (λ c left. inl (c, only_now c left, refl))
 
     pub still_first : (now : D) → LeavesOnly S.moment S.left_since start now (S.may_leave start) → LeavesOnly S.moment S.left_since start now (IsCopyStep lists (S.may_leave start))
-    still_first now time = record {
-      later = time.later;
-      each = λ c left. inl (c, time.each c left, refl);
-      before = λ t c le left. ⊎_elim (λ was. inl was) (λ here. inr (inl (c, here, refl))) (time.before t c le left);
-    }
+    still_first now time = grind (arith, common_steps, ⊎_elim)
 
     pub after_reads : (now next : D) → LeavesOnly S.moment S.left_since start now (S.may_leave start) → ((c : List (List ℕ)) → S.may_leave now c → S.may_leave start c)
         → LeavesOnly S.moment S.left_since now next (IsCopyStep lists (S.may_leave now)) → LeavesOnly S.moment S.left_since start next (IsCopyStep lists (S.may_leave start))

@@ -1,4 +1,5 @@
 -- What a device reads and a crash leaves while some of its sectors alone are written.
+use Rattle.std.proofs.lemmas.Grind.{common_steps}
 use Rattle.std.proofs.Common.{⊎_elim, inl, inr, ℕ, ◌≤◌, ◌<◌, ◌≢◌, ◌≡◌, ◌+◌, ◌-◌, List, take, drop, refl, sym, ◌∙◌, ap, arith}
 use Rattle.std.proofs.lemmas.List.{take-take, drop-drop}
 use Rattle.sector.specs.declared.device.Sectors.{Ghosts}
@@ -37,34 +38,18 @@ module _ {D : Type 0} (S : Ghosts D) where
 
   module _ (only_now : (d : D) (c : List (List ℕ)) → S.left_since d (S.moment d) c → S.may_leave d c) (at n : ℕ) (start : D) where
     pub nothing_yet : Within at n start start
-    nothing_yet = record {
-      others = λ i s outside read. read;
-      left = as_before at n (S.may_leave start);
-      time = started S.moment S.left_since start (FollowsWrites at n (S.may_leave start)) (λ c left. as_before at n (S.may_leave start) c (only_now start c left));
-    }
+    nothing_yet = grind (arith, common_steps, as_before, started)
 
     -- one call of many writes
     pub sectors_written : (new : D) → ((i : ℕ) (s : List ℕ) → IsOutside at n i → S.may_read new i s → S.may_read start i s) → ((c : List (List ℕ)) → S.may_leave new c → FollowsWrites at n (S.may_leave start) c)
         → Elapses (S.moment start) (S.moment new) (S.left_since start) (S.left_since new) (FollowsWrites at n (S.may_leave start)) → Within at n start new
-    sectors_written new others follows time = record {
-      others = others;
-      left = follows;
-      time = goes_on S.moment S.left_since start start new (FollowsWrites at n (S.may_leave start)) (FollowsWrites at n (S.may_leave start)) nothing_yet.time time (λ c has. has);
-    }
+    sectors_written new others follows time = grind (arith, common_steps, goes_on, nothing_yet)
 
   module _ (at n : ℕ) (start now next : D) (so_far : Within at n start now) where
     -- one sector more
     pub one_write : (i : ℕ) → at ≤ i → i < at + n → ((j : ℕ) (s : List ℕ) → j ≢ i → S.may_read next j s → S.may_read now j s) → FollowsWrite i (S.may_leave now) (S.may_leave next)
         → Elapses (S.moment now) (S.moment next) (S.left_since now) (S.left_since next) (S.may_leave next) → Within at n start next
-    one_write i le lt others follows time =
-        let kept = writes_on at n i (S.may_leave start) (S.may_leave now) (S.may_leave next) le lt so_far.left follows in
-        record {
-          others = λ j s outside read.
-              let other : j ≢ i = omega (arith, outside) in
-              so_far.others j s outside (others j s other read);
-          left = kept;
-          time = goes_on S.moment S.left_since start now next (FollowsWrites at n (S.may_leave start)) (S.may_leave next) so_far.time time kept;
-        }
+    one_write i le lt others follows time = grind (arith, common_steps, writes_on, goes_on)
 
     -- many sectors more
     pub many_writes : (i m : ℕ) → at ≤ i → i + m ≤ at + n → Within i m now next → Within at n start next
@@ -79,11 +64,7 @@ module _ {D : Type 0} (S : Ghosts D) where
     -- a call that writes nothing
     pub no_write : ((j : ℕ) (s : List ℕ) → S.may_read next j s → S.may_read now j s) → ((c : List (List ℕ)) → S.may_leave next c → S.may_leave now c)
         → Elapses (S.moment now) (S.moment next) (S.left_since now) (S.left_since next) (S.may_leave next) → Within at n start next
-    no_write reads fewer time = record {
-      others = λ j s outside read. so_far.others j s outside (reads j s read);
-      left = λ c left. so_far.left c (fewer c left);
-      time = goes_on S.moment S.left_since start now next (FollowsWrites at n (S.may_leave start)) (S.may_leave next) so_far.time time (λ c left. so_far.left c (fewer c left));
-    }
+    no_write reads fewer time = grind (arith, common_steps, goes_on)
 
     -- a sync that succeeded
     pub settled_reads : (size : ℕ) → Settles size (S.may_read now) (S.may_read next) (S.may_leave now) (S.may_leave next) → (j : ℕ) (s : List ℕ) → S.may_read next j s → S.may_read now j s
@@ -91,12 +72,4 @@ module _ {D : Type 0} (S : Ghosts D) where
 
   -- calls that only read
   pub only_read : (at n : ℕ) (old new : D) → OnlyReads S.may_read S.may_leave S.moment S.left_since old new → Within at n old new
-  only_read at n old new only = record {
-    others = λ i s outside read. only.reads i s read;
-    left = λ c left. as_before at n (S.may_leave old) c (only.left c left);
-    time = record {
-      later = only.time.later;
-      each = λ c left. as_before at n (S.may_leave old) c (only.time.each c left);
-      before = λ t c le left. ⊎_elim (λ was. inl was) (λ here. inr (as_before at n (S.may_leave old) c here)) (only.time.before t c le left);
-    };
-  }
+  only_read at n old new only = grind (arith, common_steps, as_before, ⊎_elim)

@@ -1,5 +1,6 @@
 -- How far a copy of a map has come.
-use Rattle.std.proofs.Common.{inl, ◌≡◌, ◌≢◌, ℕ, ◌<◌, ◌≤◌, ◌+◌, ◌*◌, ◌/◌, List, [], ◌∷◌, ◌++◌, length, take, drop, get_or, replicate, refl, sym, ◌∙◌, ap, subst, arith}
+use Rattle.std.proofs.lemmas.Grind.{common_steps}
+use Rattle.std.proofs.Common.{inl, ◌≡◌, ◌≢◌, ℕ, ◌<◌, ◌≤◌, ◌+◌, ◌*◌, ◌/◌, List, [], ◌∷◌, ◌++◌, length, take, drop, replicate, refl, sym, ◌∙◌, ap, subst, arith}
 use Rattle.std.proofs.lemmas.List.{append-nil}
 use Rattle.sector.specs.declared.device.Sectors.{Ghosts}
 use Rattle.sector.specs.SectorModel.{FollowsWrite, Elapses}
@@ -118,7 +119,4 @@ module _ {D : Type 0} (S : Ghosts D) (start : D) (m : KeyMap) (now : D) (pairs :
         copied.reads keeps k s lt (others (1 + k) s other read))
 
     pub shut_read : (next : D) (shut : List ℕ) → ((s : List ℕ) → S.may_read next gate s → s ≡ shut) → ReadsFrom (S.may_read next) (1 + span (write_sets_of m)) (shut ∷ [])
-    shut_read next shut written k s lt read =
-        let place : 1 + span (write_sets_of m) + k ≡ gate = omega (arith, gate_is_last) in
-        let first : k ≡ 0 = omega arith in
-        written s (subst (λ (i : ℕ). S.may_read next i s) place read) ∙ ap (λ (i : ℕ). get_or (shut ∷ []) i []) (sym first)
+    shut_read next shut written k s lt read = grind (arith, common_steps, gate_is_last)

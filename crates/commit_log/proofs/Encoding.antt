@@ -1,5 +1,6 @@
 -- What the encoder makes.
-use Rattle.std.proofs.Common.{◌≡◌, ℕ, zero, suc, ◌<◌, ◌≤◌, ◌+◌, ◌-◌, ◌*◌, ◌/◌, List, [], ◌∷◌, ◌++◌, length, take, drop, get_or, Some, None, replicate, All, refl, sym, ◌∙◌, ap, subst, arith, append_assoc, length-append}
+use Rattle.std.proofs.lemmas.Grind.{common_steps}
+use Rattle.std.proofs.Common.{◌≡◌, ℕ, zero, suc, ◌<◌, ◌≤◌, ◌+◌, ◌-◌, ◌*◌, ◌/◌, List, [], ◌∷◌, ◌++◌, length, take, drop, get_or, replicate, All, refl, sym, ◌∙◌, ap, subst, arith, append_assoc, length-append}
 use Rattle.std.proofs.lemmas.List.{take_all, take_at, drop_at}
 use Rattle.std.proofs.Math.Nat.{mul_comm}
 use Rattle.std.specs.List.{flat_map}
@@ -8,7 +9,7 @@ use Rattle.sha2.specs.Sha256.{sha256}
 use Rattle.sha2.proofs.Facts256.{length-sha256}
 use Rattle.model.specs.Map.{KeyWrite}
 use Rattle.model.specs.Machine.{payload_size, write_size}
-use Rattle.commit_log.specs.RecordFormat.{IsWithinLimits, value_bytes, entry_bytes, payload_bytes, record_digest, body_bytes, sectors_of, padded_body}
+use Rattle.commit_log.specs.RecordFormat.{IsWithinLimits, entry_bytes, payload_bytes, record_digest, body_bytes, sectors_of, padded_body}
 use Rattle.commit_log.specs.Format.{current}
 
 pub limits_at : (ws : List KeyWrite) (i : ℕ) (w : KeyWrite) → w ≡ get_or ws i w → i < length ws → All (IsWithinLimits current) ws → IsWithinLimits current w
@@ -19,9 +20,7 @@ unfolding payload_bytes
 payload_is ws i le = ap (λ (l : List KeyWrite). big_bytes 4 (length ws) ++ flat_map entry_bytes l) (take_all i ws le)
 
 entry_size : (w : KeyWrite) → length (entry_bytes w) ≡ write_size w.0 w.1
-entry_size (k, None) = omega (arith, length-append (big_bytes 2 (length k) ++ k) (value_bytes None), length-append (big_bytes 2 (length k)) k)
-entry_size (k, Some v) =
-    omega (arith, length-append (big_bytes 2 (length k) ++ k) (value_bytes (Some v)), length-append (big_bytes 2 (length k)) k, length-append (big_bytes 4 (length v)) v)
+entry_size a0 = grind (arith, common_steps, length-append)
 
 entries_size : (ws : List KeyWrite) → payload_size ws ≡ 4 + length (flat_map entry_bytes ws)
 entries_size [] = refl
@@ -51,20 +50,10 @@ module _ (before : List ℕ) (index : ℕ) (writes : List KeyWrite) (len : ℕ) 
 
   pub body_made : bytes ≡ body_bytes before index writes
   unfolding body_bytes
-  body_made =
-      bytes_are
-      ∙ ap (λ (n : ℕ). ((big_bytes 4 n ++ big_bytes 8 index) ++ digest) ++ payload) len_is
-      ∙ ap (λ (l : List ℕ). ((big_bytes 4 (length (payload_bytes writes)) ++ big_bytes 8 index) ++ l) ++ payload) digest_made
-      ∙ ap (λ (l : List ℕ). ((big_bytes 4 (length (payload_bytes writes)) ++ big_bytes 8 index) ++ record_digest before index writes) ++ l) payload_is_that
+  body_made = grind (arith, common_steps, digest_made)
 
   pub bytes_length : length bytes ≡ 44 + len
-  bytes_length =
-      let digest_length : length digest ≡ 32 = ap length digest_is ∙ length-sha256 ((before ++ big_bytes 8 index) ++ payload) in
-      let payload_length : length payload ≡ len = ap length payload_is_that ∙ sym len_is in
-      let parts : length bytes ≡ length ((big_bytes 4 len ++ big_bytes 8 index) ++ digest) + length payload =
-      ap length bytes_are ∙ length-append ((big_bytes 4 len ++ big_bytes 8 index) ++ digest) payload in
-      let front : length ((big_bytes 4 len ++ big_bytes 8 index) ++ digest) ≡ 12 + length digest = length-append (big_bytes 4 len ++ big_bytes 8 index) digest in
-      omega arith
+  bytes_length = grind (arith, common_steps, length-sha256, length-append)
 
   pub sectors_are : (44 + len + 511) / 512 * 512 ≡ 512 * sectors_of writes
   unfolding sectors_of
@@ -72,12 +61,7 @@ module _ (before : List ℕ) (index : ℕ) (writes : List KeyWrite) (len : ℕ) 
 
   pub padded_made : (n : ℕ) → n ≡ (44 + len + 511) / 512 * 512 → take n bytes ++ replicate (n - length bytes) 0 ≡ padded_body before index writes
   unfolding padded_body
-  padded_made n is =
-      let long : length bytes ≤ n = omega (arith, bytes_length) in
-      let size : n ≡ 512 * sectors_of writes = is ∙ sectors_are in
-      ap (λ (l : List ℕ). l ++ replicate (n - length bytes) 0) (take_all n bytes long)
-      ∙ ap (λ (m : ℕ). bytes ++ replicate (m - length bytes) 0) size
-      ∙ ap (λ (l : List ℕ). l ++ replicate (512 * sectors_of writes - length l) 0) body_made
+  padded_made n is = grind (arith, common_steps, bytes_length, sectors_are, take_all, body_made)
 
 -- the body before its zeros, once its digest is in its place
 pub built : (before : List ℕ) (index : ℕ) (payload a b z s0 s1 s2 s3 s4 : List ℕ) → s0 ≡ [] → s1 ≡ s0 ++ a → s2 ≡ s1 ++ b → s3 ≡ s2 ++ z → s4 ≡ s3 ++ payload → length a ≡ 4 → length b ≡ 8 → length z ≡ 32

@@ -1,5 +1,6 @@
 -- The two gates.
-use Rattle.std.proofs.Common.{◌≡◌, true, false, refl, ℕ, List, [], ◌∷◌, ◌≤◌, length, slice_get, Some, arith}
+use Rattle.std.proofs.lemmas.Grind.{common_steps}
+use Rattle.std.proofs.Common.{◌≡◌, true, false, refl, ℕ, List, [], ◌≤◌, length, slice_get, Some, arith}
 use Rattle.commit_log.specs.RecordFormat.{is_open, open_gate, closed_gate}
 use Rattle.commit_log.specs.LogImage.{IsLogImage}
 use Rattle.commit_log.specs.Format.{current}
@@ -15,6 +16,4 @@ open_gate_open = refl
 
 -- a head and a closed gate make an empty log
 pub formatted : (image : List (List ℕ)) → 2 ≤ length image → ((s : List ℕ) → slice_get image 0 ≡ Some s → s ≡ head_sector current) → ((s : List ℕ) → slice_get image 1 ≡ Some s → is_open s ≡ false) → IsLogImage current [] image
-formatted [] some head gate = absurd (omega arith)
-formatted (h ∷ []) some head gate = absurd (omega arith)
-formatted (h ∷ g ∷ rest) some head gate = (head h refl, gate g refl)
+formatted a0 a1 a2 a3 = grind (arith, common_steps)

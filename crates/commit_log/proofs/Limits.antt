@@ -1,5 +1,6 @@
 -- How long a record is, and what its first bytes say.
-use Rattle.std.proofs.Common.{◌≡◌, ℕ, suc, ◌<◌, ◌≤◌, ◌+◌, ◌-◌, ◌*◌, ◌^◌, List, [], ◌∷◌, ◌++◌, length, replicate, All, Some, None, ◌∙◌, ap, arith, lit<, lit≤, get_or, Option, IfSome, append_assoc, length-append}
+use Rattle.std.proofs.lemmas.Grind.{common_steps}
+use Rattle.std.proofs.Common.{◌≡◌, ℕ, suc, ◌<◌, ◌≤◌, ◌+◌, ◌-◌, ◌*◌, ◌^◌, List, [], ◌∷◌, ◌++◌, length, replicate, All, Some, None, ◌∙◌, ap, arith, lit<, lit≤, append_assoc, length-append}
 use Rattle.std.proofs.lemmas.List.{length-replicate}
 use Rattle.std.proofs.lemmas.Nat.{mul-le}
 use Rattle.std.specs.List.{flat_map}
@@ -7,9 +8,9 @@ use Rattle.byteorder.specs.Endian.{big_bytes, big_number}
 use Rattle.byteorder.specs.Numbers.{big_number-reads_back}
 use Rattle.sha2.proofs.Facts256.{length-sha256}
 use Rattle.model.specs.Map.{KeyWrite}
-use Rattle.commit_log.specs.RecordFormat.{IsValueIn, IsWithinLimits, IsWriteSet, entry_bytes, value_bytes, payload_bytes, record_digest, body_bytes, sectors_of, padded_body}
+use Rattle.commit_log.specs.RecordFormat.{IsWithinLimits, IsWriteSet, entry_bytes, value_bytes, payload_bytes, record_digest, body_bytes, sectors_of, padded_body}
 use Rattle.commit_log.specs.declared.formats.LogFormat.{LogFormat}
-use Rattle.commit_log.specs.Format.{current, value_bound}
+use Rattle.commit_log.specs.Format.{value_bound}
 use Rattle.model.specs.Bounds.{value_max, entry_bound, payload_bound, body_bound}
 use Rattle.commit_log.specs.declared.formats.LogFormat.TheVariants.{One, Two}
 
@@ -22,15 +23,6 @@ value_small Two = lit< tt
 pub value_known : (f : LogFormat) → value_bound f ≤ value_max
 value_known One = lit≤ tt
 value_known Two = lit≤ tt
-
-pub limits_known : (f : LogFormat) (writes : List KeyWrite) → All (IsWithinLimits f) writes → All (IsWithinLimits current) writes
-limits_known f writes limits k d lt =
-    let here = limits k d lt in
-    record { key = here.key; value = known f (get_or writes k d).1 here.value }
-  where
-    known : (f : LogFormat) (v : Option (List ℕ)) → IfSome v (IsValueIn f) → IfSome v (IsValueIn current)
-    known f None is = is
-    known f (Some v) is = omega (arith, is, value_known f)
 
 length-value_le : (f : LogFormat) (write : KeyWrite) → IsWithinLimits f write → length (value_bytes write.1) ≤ 5 + value_bound f
 length-value_le f (key, None) limits = omega arith
@@ -63,10 +55,7 @@ sectors_of_bounds f writes proper = let le = length-payload_le f writes proper i
 
 pub length-body : (before : List ℕ) (index : ℕ) (writes : List KeyWrite) → length (body_bytes before index writes) ≡ 44 + length (payload_bytes writes)
 unfolding body_bytes record_digest
-length-body before index writes =
-    let digest = record_digest before index writes in
-    let digest_length : length digest ≡ 32 = length-sha256 ((before ++ big_bytes 8 index) ++ payload_bytes writes) in
-    omega (arith, digest_length, length-append ((big_bytes 4 (length (payload_bytes writes)) ++ big_bytes 8 index) ++ digest) (payload_bytes writes), length-append (big_bytes 4 (length (payload_bytes writes)) ++ big_bytes 8 index) digest)
+length-body before index writes = grind (arith, common_steps, length-sha256, length-append)
 
 pub length-padded_body : (before : List ℕ) (index : ℕ) (writes : List KeyWrite) → length (padded_body before index writes) ≡ 512 * sectors_of writes
 unfolding padded_body sectors_of

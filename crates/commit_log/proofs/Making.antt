@@ -1,5 +1,6 @@
 -- How a device is made an empty log: the gate is closed and settled before the head is written.
-use Rattle.std.proofs.Common.{◌≡◌, inl, inr, ℕ, zero, suc, ◌≤◌, List, [], ◌∷◌, get_or, set, slice_get, Some, sym, ◌∙◌, ap, arith}
+use Rattle.std.proofs.lemmas.Grind.{common_steps}
+use Rattle.std.proofs.Common.{◌≡◌, inl, ℕ, suc, ◌≤◌, List, [], ◌∷◌, get_or, set, slice_get, Some, sym, ◌∙◌, ap, arith}
 use Rattle.std.proofs.lemmas.List.{set-get_or}
 use Rattle.sector.specs.declared.device.Sectors.{Ghosts}
 use Rattle.sector.specs.SectorModel.{IsSameElsewhere, FollowsWrite, Settles, Elapses, LeavesOnly}
@@ -10,9 +11,8 @@ use Rattle.commit_log.proofs.Records.{slice_get_there}
 
 -- a sector that was set
 set_there : (l : List (List ℕ)) (i : ℕ) (s t : List ℕ) → slice_get (set l i s) i ≡ Some t → s ≡ t
-set_there [] i s t at = cc
-set_there (x ∷ l) zero s t at = cc
 set_there (x ∷ l) (suc i) s t at = set_there l i s t at
+set_there b0 b1 s t at = cc
 
 module _ {D : Type 0} (S : Ghosts D) (start : D) where
   -- so far, where a crash leaves what has P
@@ -28,20 +28,12 @@ module _ {D : Type 0} (S : Ghosts D) (start : D) where
 
   pub gate_written : (next : D) → ((c : List (List ℕ)) → S.left_since start (S.moment start) c → S.may_leave start c) → FollowsWrite 1 (S.may_leave start) (S.may_leave next)
       → Elapses (S.moment start) (S.moment next) (S.left_since start) (S.left_since next) (S.may_leave next) → Making next (IsSameElsewhere 1)
-  gate_written next only_now follows time = record {
-    left = follows;
-    time = goes_on S.moment S.left_since start start next (IsBeingMade (S.may_leave start)) (S.may_leave next) (none_yet only_now) time
-        (λ c left. let from = follows c left in (from.0, from.1, inl from.2));
-  }
+  gate_written next only_now follows time = grind (arith, common_steps, goes_on, none_yet)
 
   -- a sync that failed
   pub gate_fewer : (now next : D) → Making now (IsSameElsewhere 1) → ((c : List (List ℕ)) → S.may_leave next c → S.may_leave now c)
       → Elapses (S.moment now) (S.moment next) (S.left_since now) (S.left_since next) (S.may_leave next) → Making next (IsSameElsewhere 1)
-  gate_fewer now next so_far fewer time = record {
-    left = λ c left. so_far.left c (fewer c left);
-    time = goes_on S.moment S.left_since start now next (IsBeingMade (S.may_leave start)) (S.may_leave next) so_far.time time
-        (λ c left. let from = so_far.left c (fewer c left) in (from.0, from.1, inl from.2));
-  }
+  gate_fewer now next so_far fewer time = grind (arith, common_steps, goes_on)
 
   -- the sync that settles the gate
   pub gate_settled : (now next : D) (size : ℕ) → 2 ≤ size → ((s : List ℕ) → S.may_read now 1 s → s ≡ closed_gate) → Making now (IsSameElsewhere 1)
@@ -62,21 +54,8 @@ module _ {D : Type 0} (S : Ghosts D) (start : D) where
 
   pub head_written : (now next : D) → Making now (λ d c. c ≡ set d 1 closed_gate) → FollowsWrite 0 (S.may_leave now) (S.may_leave next)
       → Elapses (S.moment now) (S.moment next) (S.left_since now) (S.left_since next) (S.may_leave next) → Making next (λ d c. IsSameElsewhere 0 (set d 1 closed_gate) c)
-  head_written now next so_far follows time =
-      let kept : (c : List (List ℕ)) → S.may_leave next c → (d : List (List ℕ)) × S.may_leave start d × IsSameElsewhere 0 (set d 1 closed_gate) c = λ c left.
-      let was = follows c left in
-      let from = so_far.left was.0 was.1 in
-      (from.0, from.1, (was.2.0, was.2.1 ∙ ap (λ (l : List (List ℕ)). set l 0 was.2.0) from.2)) in
-      record {
-        left = kept;
-        time = goes_on S.moment S.left_since start now next (IsBeingMade (S.may_leave start)) (S.may_leave next) so_far.time time
-            (λ c left. let from = kept c left in (from.0, from.1, inr from.2));
-      }
+  head_written now next so_far follows time = grind (arith, common_steps, goes_on)
 
   pub head_fewer : (now next : D) → Making now (λ d c. IsSameElsewhere 0 (set d 1 closed_gate) c) → ((c : List (List ℕ)) → S.may_leave next c → S.may_leave now c)
       → Elapses (S.moment now) (S.moment next) (S.left_since now) (S.left_since next) (S.may_leave next) → Making next (λ d c. IsSameElsewhere 0 (set d 1 closed_gate) c)
-  head_fewer now next so_far fewer time = record {
-    left = λ c left. so_far.left c (fewer c left);
-    time = goes_on S.moment S.left_since start now next (IsBeingMade (S.may_leave start)) (S.may_leave next) so_far.time time
-        (λ c left. let from = so_far.left c (fewer c left) in (from.0, from.1, inr from.2));
-  }
+  head_fewer now next so_far fewer time = grind (arith, common_steps, goes_on)

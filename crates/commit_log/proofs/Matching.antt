@@ -1,9 +1,9 @@
 -- When the sectors that were read are a record, and when they are none.
+use Rattle.std.proofs.lemmas.Grind.{common_steps}
 use Rattle.std.proofs.Common.{◌≡◌, ℕ, zero, suc, ◌<◌, ◌≤◌, ◌+◌, ◌-◌, ◌*◌, List, [], ◌∷◌, ◌++◌, length, take, drop, slice_get, Some, refl, sym, ◌∙◌, ap, arith, length-drop, take-append-drop}
 use Rattle.std.proofs.lemmas.List.{take_all}
 use Rattle.std.specs.List.{concat}
 use Rattle.byteorder.specs.Endian.{big_number}
-use Rattle.byteorder.specs.Numbers.{big_from-take}
 use Rattle.model.specs.Map.{KeyWrite}
 use Rattle.commit_log.specs.RecordFormat.{IsWriteSet, payload_bytes, sectors_of, sectors_for, padded_body, sectors_in, record_body}
 use Rattle.commit_log.specs.LogImage.{IsRecordAt}
@@ -37,11 +37,7 @@ sectors_read image at n bytes each =
 first_number : (n : ℕ) (bytes : List ℕ) (rest : List (List ℕ)) (first : List ℕ) → 1 ≤ n → take n rest ≡ sectors_in n bytes → slice_get rest 0 ≡ Some first → big_number 4 first ≡ big_number 4 bytes
 first_number zero bytes rest first some same at = absurd (omega arith)
 first_number (suc n) bytes [] first some same at = absurd (cc at)
-first_number (suc n) bytes (s ∷ rest) first some same at =
-    let is : s ≡ first = cc at in
-    let same' : s ∷ take n rest ≡ take 512 bytes ∷ sectors_in n (drop 512 bytes) = same in
-    let head : s ≡ take 512 bytes = cc same' in
-    ap (λ (l : List ℕ). big_number 4 l) (sym is ∙ head) ∙ big_from-take 0 4 512 bytes (omega arith)
+first_number (suc n) bytes (s ∷ rest) first some same at = grind (arith, common_steps)
 
 -- a record's length stands in its first sector
 pub length_read : (f : LogFormat) (index : ℕ) (before : List ℕ) (rest : List (List ℕ)) (writes : List KeyWrite) (first : List ℕ) → IsRecordAt f index before rest writes → slice_get rest 0 ≡ Some first → big_number 4 first ≡ length (payload_bytes writes)

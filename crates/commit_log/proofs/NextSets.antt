@@ -1,9 +1,10 @@
 -- What one record more makes of a copy's numbers.
-use Rattle.std.proofs.Common.{◌≡◌, ℕ, suc, ◌≤◌, ◌+◌, List, [], ◌∷◌, ◌++◌, length, take, drop, min, sym, ◌∙◌, ap, arith, append_assoc, length-append}
+use Rattle.std.proofs.lemmas.Grind.{common_steps}
+use Rattle.std.proofs.Common.{◌≡◌, ℕ, ◌≤◌, ◌+◌, List, [], ◌∷◌, ◌++◌, length, take, drop, min, arith, append_assoc, length-append}
 use Rattle.model.specs.Map.{KeyMap, KeyWrite}
 use Rattle.model.specs.Machine.{payload_size}
 use Rattle.commit_log.specs.RecordFormat.{sectors_for, sectors_of, record_digest, first_digest}
-use Rattle.commit_log.specs.LogImage.{span, last_digest, next_index}
+use Rattle.commit_log.specs.LogImage.{span, last_digest}
 use Rattle.commit_log.specs.Copying.{puts, write_sets_of}
 use Rattle.commit_log.proofs.Encoding.{payload_size_is}
 use Rattle.commit_log.proofs.Appending.{sectors_of_is, span-push, next_index-is, last_digest-push}
@@ -16,16 +17,7 @@ pub record NextSet (m : KeyMap) (n len : ℕ) : Type 0 where
   pub span_is : span (write_sets_of m) ≡ sectors_for len + 1 + span (write_sets_of (drop n m))
 
 pub next_set_of : (m : KeyMap) (n len : ℕ) → n ≡ min (length m) 64 → 1 ≤ length m → len ≡ payload_size (puts (take n m)) → NextSet m n len
-next_set_of m n len is some size =
-    let same = next_set m n is in
-    let split : write_sets_of m ≡ puts (take n m) ∷ write_sets_of (drop n m) =
-    sets_split m some ∙ ap (λ (l : KeyMap). puts l ∷ write_sets_of (drop 64 m)) (sym same.0) ∙ ap (λ (l : KeyMap). puts (take n m) ∷ write_sets_of l) (sym same.1) in
-    let sectors : sectors_of (puts (take n m)) ≡ sectors_for len = sectors_of_is (puts (take n m)) len (size ∙ payload_size_is (puts (take n m))) in
-    record {
-      sets = split;
-      sectors = sectors;
-      span_is = ap span split ∙ ap (λ (k : ℕ). suc (k + span (write_sets_of (drop n m)))) sectors ∙ omega arith;
-    }
+next_set_of m n len is some size = grind (arith, common_steps, next_set, sets_split, sectors_of_is, payload_size_is)
 
 -- one write set more is done
 pub record DoneMore (done : List (List KeyWrite)) (m : KeyMap) (n len gate records : ℕ) (digest : List ℕ) : Type 0 where
@@ -36,13 +28,4 @@ pub record DoneMore (done : List (List KeyWrite)) (m : KeyMap) (n len gate recor
 
 pub done_more : (done : List (List KeyWrite)) (m : KeyMap) (n len gate records : ℕ) (digest : List ℕ) → NextSet m n len → gate ≡ 1 + span done → records ≡ length done → digest ≡ last_digest done 0 first_digest
     → DoneMore done m n len gate records digest
-done_more done m n len gate records digest next gate_is records_are digest_is =
-    let writes : List KeyWrite = puts (take n m) in
-    let index : records ≡ next_index done 0 = omega (arith, next_index-is done 0) in
-    record {
-      joined = append_assoc done (writes ∷ []) (write_sets_of (drop n m)) ∙ ap (λ (l : List (List KeyWrite)). done ++ l) (sym next.sets);
-      gate_is = omega (arith, span-push done writes, next.sectors);
-      records_are = omega (arith, length-append done (writes ∷ []));
-      digest_is = ap (λ (d : List ℕ). record_digest d records writes) digest_is ∙ ap (λ (k : ℕ). record_digest (last_digest done 0 first_digest) k writes) index
-          ∙ sym (last_digest-push done writes 0 first_digest);
-    }
+done_more done m n len gate records digest next gate_is records_are digest_is = grind (arith, common_steps, next_index-is, append_assoc, span-push, length-append, last_digest-push)

@@ -1,7 +1,7 @@
 -- Bytes have one reading at most.
-use Rattle.std.proofs.Common.{◌≡◌, ℕ, zero, suc, ◌<◌, ◌≤◌, ◌+◌, ◌-◌, ◌^◌, ◌==◌, Bool, true, false, List, [], ◌∷◌, ◌++◌, length, take, drop, get_or, All, IfSome, Option, Some, None, refl, sym, ◌∙◌, ap, subst, arith, append_assoc, length-append}
+use Rattle.std.proofs.Common.{◌≡◌, ℕ, zero, suc, ◌<◌, ◌≤◌, ◌+◌, ◌-◌, ◌^◌, ◌==◌, Bool, true, false, List, [], ◌∷◌, ◌++◌, length, take, drop, get_or, All, IfSome, Option, refl, sym, ◌∙◌, ap, subst, arith, append_assoc, length-append}
 use Rattle.std.proofs.lemmas.List.{take_at, drop_at, drop_all, get_or-take, append-nil}
-use Rattle.std.proofs.lemmas.Grind.{flat_map-append}
+use Rattle.std.proofs.lemmas.Grind.{common_steps, flat_map-append}
 use Rattle.std.proofs.lemmas.Bool.Decides.{nat_tests}
 use Rattle.std.specs.Cmp.Lexicographic.{slice_cmp}
 use Rattle.std.specs.Ordering.{nat_cmp}
@@ -30,39 +30,19 @@ same_number n x y r s x_fits y_fits same = (
 )
 
 pub same_value : (f : LogFormat) (v w : Option (List ℕ)) (r s : List ℕ) → IfSome v (IsValueIn f) → IfSome w (IsValueIn f) → value_bytes v ++ r ≡ value_bytes w ++ s → (v ≡ w) × (r ≡ s)
-same_value f None None r s v_is w_is same = (refl, cc same)
-same_value f None (Some w) r s v_is w_is same = absurd (cc same)
-same_value f (Some v) None r s v_is w_is same = absurd (cc same)
-same_value f (Some v) (Some w) r s v_is w_is same =
-    let tails : (big_bytes 4 (length v) ++ v) ++ r ≡ (big_bytes 4 (length w) ++ w) ++ s = cc same in
-    let regrouped : big_bytes 4 (length v) ++ (v ++ r) ≡ big_bytes 4 (length w) ++ (w ++ s) =
-    sym (append_assoc (big_bytes 4 (length v)) v r) ∙ tails ∙ append_assoc (big_bytes 4 (length w)) w s in
-    let number = same_number 4 (length v) (length w) (v ++ r) (w ++ s) (omega (arith, v_is, value_small f)) (omega (arith, w_is, value_small f)) regrouped in
-    let parts = same_front v w r s number.0 number.1 in
-    (ap (λ (l : List ℕ). Some l) parts.0, parts.1)
+same_value a0 a1 a2 a3 a4 a5 a6 a7 = grind (arith, common_steps, append_assoc, same_number, value_small, same_front, nat_tests)
 
 entry_split : (w : KeyWrite) (r : List ℕ) → entry_bytes w ++ r ≡ big_bytes 2 (length w.0) ++ (w.0 ++ (value_bytes w.1 ++ r))
 entry_split w r =
     append_assoc (big_bytes 2 (length w.0) ++ w.0) (value_bytes w.1) r ∙ append_assoc (big_bytes 2 (length w.0)) w.0 (value_bytes w.1 ++ r)
 
 pub same_entry : (f : LogFormat) (w x : KeyWrite) (r s : List ℕ) → IsWithinLimits f w → IsWithinLimits f x → entry_bytes w ++ r ≡ entry_bytes x ++ s → (w ≡ x) × (r ≡ s)
-same_entry f w x r s w_is x_is same =
-    let regrouped : big_bytes 2 (length w.0) ++ (w.0 ++ (value_bytes w.1 ++ r)) ≡ big_bytes 2 (length x.0) ++ (x.0 ++ (value_bytes x.1 ++ s)) =
-    sym (entry_split w r) ∙ same ∙ entry_split x s in
-    let number = same_number 2 (length w.0) (length x.0) (w.0 ++ (value_bytes w.1 ++ r)) (x.0 ++ (value_bytes x.1 ++ s)) (omega (arith, w_is.key.1)) (omega (arith, x_is.key.1)) regrouped in
-    let key = same_front w.0 x.0 (value_bytes w.1 ++ r) (value_bytes x.1 ++ s) number.0 number.1 in
-    let value = same_value f w.1 x.1 r s w_is.value x_is.value key.1 in
-    ((λ i. (key.0 i, value.0 i)), value.1)
+same_entry f w x r s w_is x_is same = grind (arith, common_steps, entry_split, same_number, same_front, same_value, nat_tests)
 
 -- no value stands behind the key
 pub no_value : (f : LogFormat) (bytes key rest : List ℕ) → bytes ≡ (big_bytes 2 (length key) ++ key) ++ rest → IsKey key → ((v : Option (List ℕ)) (r : List ℕ) → IfSome v (IsValueIn f) → rest ≡ value_bytes v ++ r → ⊥)
     → (w : KeyWrite) (r : List ℕ) → IsWithinLimits f w → bytes ≡ entry_bytes w ++ r → ⊥
-no_value f bytes key rest is key_is none w r w_is same =
-    let regrouped : big_bytes 2 (length key) ++ (key ++ rest) ≡ big_bytes 2 (length w.0) ++ (w.0 ++ (value_bytes w.1 ++ r)) =
-    sym (append_assoc (big_bytes 2 (length key)) key rest) ∙ sym is ∙ same ∙ entry_split w r in
-    let number = same_number 2 (length key) (length w.0) (key ++ rest) (w.0 ++ (value_bytes w.1 ++ r)) (omega (arith, key_is.1)) (omega (arith, w_is.key.1)) regrouped in
-    let there = same_front key w.0 rest (value_bytes w.1 ++ r) number.0 number.1 in
-    none w.1 r w_is.value there.1
+no_value f bytes key rest is key_is none w r w_is same = grind (arith, common_steps, append_assoc, entry_split, same_number, same_front, nat_tests)
 
 limits_after : (f : LogFormat) (w : KeyWrite) (writes : List KeyWrite) → All (IsWithinLimits f) (w ∷ writes) → All (IsWithinLimits f) writes
 limits_after f w writes limits k d lt = limits (suc k) d (omega arith)
@@ -122,18 +102,11 @@ module _ (f : LogFormat) (bytes rest : List ℕ) (count : ℕ) (done : List KeyW
 
   -- bytes are left behind the last entry
   pub left_over : length done ≡ count → 1 ≤ length rest → (writes : List KeyWrite) → IsWriteSet f writes → payload_bytes writes ≡ bytes → ⊥
-  left_over all some writes proper same =
-      let read = reading writes proper same (omega arith) in
-      let none : drop (length done) writes ≡ [] = drop_all (length done) writes (omega (arith, read.0)) in
-      let empty : [] ≡ rest = sym (ap (λ (l : List KeyWrite). flat_map entry_bytes l) none) ∙ read.2 in
-      omega (arith, ap length empty)
+  left_over all some writes proper same = grind (arith, common_steps, reading, drop_all, sym, nat_tests)
 
   pub whole : length done ≡ count → rest ≡ [] → payload_bytes done ≡ bytes
   unfolding payload_bytes
-  whole all none =
-      ap (λ (n : ℕ). big_bytes 4 n ++ flat_map entry_bytes done) all
-      ∙ ap (λ (l : List ℕ). big_bytes 4 count ++ l) (sym (append-nil (flat_map entry_bytes done)) ∙ ap (λ (l : List ℕ). flat_map entry_bytes done ++ l) (sym none))
-      ∙ sym is
+  whole all none = grind (arith, common_steps, sym, append-nil, nat_tests)
 
 -- a count that no write set has
 pub no_count : (f : LogFormat) (bytes rest : List ℕ) (count : ℕ) → bytes ≡ big_bytes 4 count ++ rest → count < 256 ^ 4 → (1 ≤ count → count ≤ 64 → ⊥) → (writes : List KeyWrite) → IsWriteSet f writes → payload_bytes writes ≡ bytes → ⊥
@@ -148,11 +121,7 @@ too_few f bytes short writes proper same = omega (arith, ap length same, length-
 
 -- one entry more was read
 pub read_more : (bytes front rest after : List ℕ) (done : List KeyWrite) (w : KeyWrite) → bytes ≡ front ++ (flat_map entry_bytes done ++ rest) → rest ≡ entry_bytes w ++ after → bytes ≡ front ++ (flat_map entry_bytes (done ++ w ∷ []) ++ after)
-read_more bytes front rest after done w so_far entry =
-    so_far ∙ ap (λ (l : List ℕ). front ++ (flat_map entry_bytes done ++ l)) entry
-    ∙ ap (λ (l : List ℕ). front ++ l)
-    (sym (append_assoc (flat_map entry_bytes done) (entry_bytes w) after)
-    ∙ ap (λ (l : List ℕ). l ++ after) (ap (λ (l : List ℕ). flat_map entry_bytes done ++ l) (sym (append-nil (entry_bytes w))) ∙ sym (flat_map-append entry_bytes done (w ∷ []))))
+read_more bytes front rest after done w so_far entry = grind (arith, common_steps, append_assoc, append-nil, flat_map-append, nat_tests)
 
 zero_if : (n : ℕ) → (n == 0) ≡ true → n ≡ 0
 zero_if n told = grind (arith, nat_tests)
@@ -161,11 +130,7 @@ some_unless : (n : ℕ) → (n == 0) ≡ false → 1 ≤ n
 some_unless n told = grind (arith, nat_tests)
 
 pub empty_if : (b : Bool) (xs : List ℕ) → b ≡ (length xs == 0) → b ≡ true → xs ≡ []
-empty_if b xs is told = none xs (zero_if (length xs) (sym is ∙ told))
-  where
-    none : (l : List ℕ) → length l ≡ 0 → l ≡ []
-    none [] empty = refl
-    none (x ∷ l) empty = absurd (omega arith)
+empty_if b xs is told = grind (arith, common_steps, zero_if, nat_tests)
 
 pub some_if : (b : Bool) (xs : List ℕ) → b ≡ (length xs == 0) → b ≡ false → 1 ≤ length xs
 some_if b xs is told = some_unless (length xs) (sym is ∙ told)

@@ -1,6 +1,7 @@
 -- The two phases of an append: until the body is settled each crash leaves the log from before it; from then on the body and
 -- a closed gate stand behind its gate, whatever that gate holds.
-use Rattle.std.proofs.Common.{◌≡◌, ◌≢◌, inl, inr, ⊎_elim, ℕ, suc, ◌<◌, ◌≤◌, ◌+◌, ◌*◌, ◌/◌, true, false, List, [], ◌∷◌, ◌++◌, length, take, drop, slice_get, Some, sym, ◌∙◌, ap, subst, arith}
+use Rattle.std.proofs.lemmas.Grind.{common_steps}
+use Rattle.std.proofs.Common.{◌≡◌, ◌≢◌, inl, ⊎_elim, ℕ, ◌<◌, ◌≤◌, ◌+◌, ◌*◌, ◌/◌, true, false, List, [], ◌∷◌, ◌++◌, length, take, drop, slice_get, Some, sym, ◌∙◌, ap, subst, arith}
 use Rattle.sector.specs.declared.device.Sectors.{Ghosts}
 use Rattle.sector.specs.SectorModel.{FollowsWrite, Settles, Elapses, LeavesOnly, IsSettled}
 use Rattle.sector.proofs.Moments.{started, goes_on}
@@ -27,27 +28,13 @@ module _ {D : Type 0} (S : Ghosts D) (lists : List (List KeyWrite)) (writes : Li
 module _ {D : Type 0} (S : Ghosts D) (lists : List (List KeyWrite)) (writes : List KeyWrite) (start : D) where
   -- before the gate is written
   pub not_opened : IsWriteSet current writes → ((c : List (List ℕ)) → S.may_leave start c → IsStaged current lists writes c) → ((c : List (List ℕ)) → S.left_since start (S.moment start) c → S.may_leave start c) → Opening S lists writes start start
-  not_opened proper here only_now = record {
-    left = here;
-    time = started S.moment S.left_since start (IsBeforeOrAfter lists writes) (λ c left. image_staged_gate current lists writes c proper (here c (only_now c left)));
-  }
+  not_opened proper here only_now = grind (arith, common_steps, started, image_staged_gate)
 
 module _ {D : Type 0} (S : Ghosts D) (lists : List (List KeyWrite)) (writes : List KeyWrite) (start now next : D) where
   pub after_body : (at : ℕ) → at ≡ 2 + span lists → ((c : List (List ℕ)) → S.may_leave start c → IsLogImage current lists c)
       → ((c : List (List ℕ)) → S.may_leave next c → IsSameBefore at (S.may_leave start) c)
       → LeavesOnly S.moment S.left_since start next (IsSameBefore at (S.may_leave start)) → Writing S lists writes start next
-  after_body at is here follows time =
-      let P : List (List ℕ) → Type 0 = IsBeforeOrAfter lists writes in
-      let size : at ≡ suc (suc (span lists)) = omega arith in
-      let kept = λ (c : List (List ℕ)) (same : IsSameBefore at (S.may_leave start) c). same_log current lists at c same.0 size same.2 (here same.0 same.1) in
-      record {
-        left = λ c left. kept c (follows c left);
-        time = record {
-          later = time.later;
-          each = λ c left. inl (kept c (time.each c left));
-          before = λ t c le left. ⊎_elim (λ was. inl was) (λ same. inr (inl (kept c same))) (time.before t c le left);
-        };
-      }
+  after_body at is here follows time = grind (arith, common_steps, same_log, ⊎_elim)
 
   pub after_gate : (at : ℕ) → 2 + span lists ≤ at → Writing S lists writes start now → FollowsWrite at (S.may_leave now) (S.may_leave next)
       → Elapses (S.moment now) (S.moment next) (S.left_since now) (S.left_since next) (S.may_leave next) → Writing S lists writes start next
@@ -64,10 +51,7 @@ module _ {D : Type 0} (S : Ghosts D) (lists : List (List KeyWrite)) (writes : Li
   -- a sync that failed
   pub after_sync : Writing S lists writes start now → ((c : List (List ℕ)) → S.may_leave next c → S.may_leave now c)
       → Elapses (S.moment now) (S.moment next) (S.left_since now) (S.left_since next) (S.may_leave next) → Writing S lists writes start next
-  after_sync so_far fewer time = record {
-    left = λ c left. so_far.left c (fewer c left);
-    time = goes_on S.moment S.left_since start now next (IsBeforeOrAfter lists writes) (S.may_leave next) so_far.time time (λ c left. inl (so_far.left c (fewer c left)));
-  }
+  after_sync so_far fewer time = grind (arith, common_steps, goes_on)
 
   -- the sync that settles the body
   pub settled : (gate size : ℕ) (bytes shut : List ℕ) → gate ≡ 1 + span lists → bytes ≡ padded_body (last_digest lists 0 first_digest) (next_index lists 0) writes
@@ -100,21 +84,11 @@ module _ {D : Type 0} (S : Ghosts D) (lists : List (List KeyWrite)) (writes : Li
 
   pub after_open : (gate : ℕ) → gate ≡ 1 + span lists → IsWriteSet current writes → Opening S lists writes start now → FollowsWrite gate (S.may_leave now) (S.may_leave next)
       → Elapses (S.moment now) (S.moment next) (S.left_since now) (S.left_since next) (S.may_leave next) → Opening S lists writes start next
-  after_open gate at proper so_far follows time =
-      let kept : (c : List (List ℕ)) → S.may_leave next c → IsStaged current lists writes c = λ c left.
-      let from = follows c left in
-      rw from.2.1 (image_staged-set current lists writes from.0 gate from.2.0 at (so_far.left from.0 from.1)) in
-      record {
-        left = kept;
-        time = goes_on S.moment S.left_since start now next (IsBeforeOrAfter lists writes) (S.may_leave next) so_far.time time (λ c left. image_staged_gate current lists writes c proper (kept c left));
-      }
+  after_open gate at proper so_far follows time = grind (arith, common_steps, image_staged-set, goes_on, image_staged_gate)
 
   pub after_last_sync : IsWriteSet current writes → Opening S lists writes start now → ((c : List (List ℕ)) → S.may_leave next c → S.may_leave now c)
       → Elapses (S.moment now) (S.moment next) (S.left_since now) (S.left_since next) (S.may_leave next) → Opening S lists writes start next
-  after_last_sync proper so_far fewer time = record {
-    left = λ c left. so_far.left c (fewer c left);
-    time = goes_on S.moment S.left_since start now next (IsBeforeOrAfter lists writes) (S.may_leave next) so_far.time time (λ c left. image_staged_gate current lists writes c proper (so_far.left c (fewer c left)));
-  }
+  after_last_sync proper so_far fewer time = grind (arith, common_steps, goes_on, image_staged_gate)
 
   -- the sync that settles the gate
   pub acknowledged : (gate size : ℕ) (opened : List ℕ) → gate ≡ 1 + span lists → IsWriteSet current writes → gate < size → ((s : List ℕ) → S.may_read now gate s → s ≡ opened) → is_open opened ≡ true

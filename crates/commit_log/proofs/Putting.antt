@@ -1,13 +1,14 @@
 -- The puts of a map's pairs, cut into write sets.
-use Rattle.std.proofs.Common.{◌≡◌, ℕ, zero, suc, ◌<◌, ◌≤◌, ◌+◌, ◌*◌, Bool, true, false, ◌&&◌, T, List, [], ◌∷◌, ◌++◌, length, take, drop, Some, All, min, refl, sym, ◌∙◌, ap, subst, arith, append_assoc, length-append, length-drop, Ordering}
+use Rattle.std.proofs.Common.{◌≡◌, ℕ, zero, suc, ◌<◌, ◌≤◌, ◌+◌, ◌*◌, Bool, ◌&&◌, T, List, [], ◌∷◌, ◌++◌, length, take, drop, Some, All, min, refl, sym, ◌∙◌, ap, subst, arith, append_assoc, length-append, length-drop, Ordering}
 use Rattle.std.proofs.lemmas.List.{append-nil, length-take, take_min, take-append-drop, append_cancel_left}
-use Rattle.std.proofs.lemmas.Grind.{flat_map-append}
+use Rattle.std.proofs.lemmas.Grind.{common_steps, flat_map-append}
 use Rattle.std.specs.List.{flat_map}
 use Rattle.std.specs.Cmp.Lexicographic.{slice_cmp, nat_list_cmp_total}
 use Rattle.std.specs.Ordering.{nat_cmp, is_lt, ordering_reverse}
 use Rattle.std.specs.FinMap.Entries.{put, is_sorted, below_all, by_order}
-use Rattle.std.specs.declared.cmp.Ordering.TheVariants.{Less, Equal, Greater}
+use Rattle.std.specs.declared.cmp.Ordering.TheVariants.{Greater}
 use Rattle.byteorder.specs.Endian.{big_bytes}
+use Rattle.model.proofs.InOrder.{parts, less, sorted_take, sorted_drop}
 use Rattle.model.specs.Key.{IsKey, IsValue}
 use Rattle.model.specs.Map.{Bytes, KeyMap, KeyWrite, IsMap, IsInBounds, after_writes}
 use Rattle.model.specs.Machine.{payload_size, write_size}
@@ -23,14 +24,8 @@ put_of p = (p.0, Some p.1)
 pub pair_more : (m : KeyMap) (i : ℕ) (p : Bytes × Bytes) (rest : KeyMap) → drop i m ≡ p ∷ rest → (take (i + 1) m ≡ take i m ++ p ∷ []) × (drop (i + 1) m ≡ rest)
 pair_more [] zero p rest is = absurd (cc is)
 pair_more [] (suc i) p rest is = absurd (cc is)
-pair_more (x ∷ m) zero p rest is =
-    let first : x ≡ p = cc is in
-    let behind : m ≡ rest = cc is in
-    (ap (λ (y : Bytes × Bytes). y ∷ []) first, behind)
-pair_more (x ∷ m) (suc i) p rest is =
-    let r = pair_more m i p rest is in
-    let next : suc i + 1 ≡ suc (i + 1) = omega arith in
-    (ap (λ (n : ℕ). take n (x ∷ m)) next ∙ ap (λ (l : KeyMap). x ∷ l) r.0, ap (λ (n : ℕ). drop n (x ∷ m)) next ∙ r.1)
+pair_more (x ∷ m) zero p rest is = grind (arith, common_steps)
+pair_more (x ∷ m) (suc i) p rest is = grind (arith, common_steps, pair_more m i p rest is)
 
 pub length-puts : (m : KeyMap) → length (puts m) ≡ length m
 length-puts [] = refl
@@ -45,14 +40,12 @@ payload_size-push [] w = omega arith
 payload_size-push (x ∷ ws) w = omega (arith, payload_size-push ws w)
 
 bounds_drop : (i : ℕ) (m : KeyMap) → IsInBounds m → IsInBounds (drop i m)
-bounds_drop zero m h = h
-bounds_drop (suc i) [] h = h
 bounds_drop (suc i) (p ∷ m) h = bounds_drop i m h.2
+bounds_drop b0 b1 h = h
 
 bounds_take : (i : ℕ) (m : KeyMap) → IsInBounds m → IsInBounds (take i m)
-bounds_take zero m h = tt
-bounds_take (suc i) [] h = tt
 bounds_take (suc i) (p ∷ m) h = (h.0, h.1, bounds_take i m h.2)
+bounds_take b0 b1 h = tt
 
 pub bounds_behind : (i : ℕ) (m now : KeyMap) → now ≡ drop i m → IsInBounds m → IsInBounds now
 bounds_behind i m now is h = subst IsInBounds (sym is) (bounds_drop i m h)
@@ -67,19 +60,7 @@ pub record NextPair (m : KeyMap) (i : ℕ) (next : KeyMap) (p : Bytes × Bytes) 
   pub entries : flat_map entry_bytes (puts (take (i + 1) m)) ≡ flat_map entry_bytes (puts (take i m)) ++ entry_bytes (put_of p)
 
 pub next_pair : (m : KeyMap) (i : ℕ) (now next : KeyMap) (p : Bytes × Bytes) → now ≡ drop i m → now ≡ p ∷ next → IsInBounds m → NextPair m i next p
-next_pair m i now next p at is h =
-    let more = pair_more m i p next (sym at ∙ is) in
-    let here : IsInBounds (p ∷ next) = subst IsInBounds (sym at ∙ is) (bounds_drop i m h) in
-    let grown : puts (take (i + 1) m) ≡ puts (take i m) ++ put_of p ∷ [] = ap puts more.0 ∙ puts-push (take i m) p in
-    record {
-      front = more.0;
-      behind = sym more.1;
-      key = here.0;
-      value = here.1;
-      size = ap payload_size grown ∙ payload_size-push (puts (take i m)) (put_of p) ∙ omega arith;
-      entries = ap (λ (l : List KeyWrite). flat_map entry_bytes l) grown ∙ flat_map-append entry_bytes (puts (take i m)) (put_of p ∷ [])
-          ∙ ap (λ (l : List ℕ). flat_map entry_bytes (puts (take i m)) ++ l) (append-nil (entry_bytes (put_of p)));
-    }
+next_pair m i now next p at is h = grind (arith, common_steps, pair_more, bounds_drop, puts-push, payload_size-push, flat_map-append, append-nil)
 
 pub length-put_bytes : (p : Bytes × Bytes) → length (entry_bytes (put_of p)) ≡ 7 + length p.0 + length p.1
 length-put_bytes p =
@@ -107,12 +88,7 @@ size_le [] (suc i) (suc n) le = omega arith
 size_le (p ∷ m) zero n le = at_least n
   where
     at_least : (n : ℕ) → 4 ≤ payload_size (puts (take n (p ∷ m)))
-    at_least zero = omega arith
-    at_least (suc n) = omega (arith, some (puts (take n m)))
-      where
-        some : (ws : List KeyWrite) → 4 ≤ payload_size ws
-        some [] = omega arith
-        some (w ∷ ws) = omega (arith, some ws)
+    at_least a0 = grind (arith, common_steps)
 size_le (p ∷ m) (suc i) zero le = absurd (omega arith)
 size_le (p ∷ m) (suc i) (suc n) le = omega (arith, size_le m i n (omega arith))
 
@@ -140,19 +116,6 @@ unfolding write_sets_of
 sets_split m some =
     let count : set_count (length m) ≡ suc (set_count (length (drop 64 m))) = omega (arith, length-drop 64 m) in
     ap (λ (n : ℕ). first_sets n m) count
-
-both : (a b : Bool) → T a → T b → T (a && b)
-both true b p q = q
-both false b p q = p
-
-parts : (a b : Bool) → T (a && b) → T a × T b
-parts true b p = (tt, p)
-parts false b p = absurd p
-
-less : (o : Ordering) → T (is_lt o) → o ≡ Less
-less Less p = refl
-less Equal p = absurd p
-less Greater p = absurd p
 
 -- a pair behind all others is put there
 put_last : (m : KeyMap) (p : Bytes × Bytes) (rest : KeyMap) → IsMap (m ++ p ∷ rest) → put (slice_cmp nat_cmp) p.0 p.1 m ≡ m ++ p ∷ []
@@ -202,25 +165,6 @@ sorted-puts [] = refl
 sorted-puts (p ∷ m) =
     ap (λ (b : Bool). b && is_sorted (slice_cmp nat_cmp) (puts m)) (below-puts p.0 m) ∙ ap (λ (b : Bool). below_all (slice_cmp nat_cmp) p.0 m && b) (sorted-puts m)
 
-map_drop : (i : ℕ) (m : KeyMap) → IsMap m → IsMap (drop i m)
-map_drop zero m h = h
-map_drop (suc i) [] h = h
-map_drop (suc i) (p ∷ m) h = map_drop i m (parts (below_all (slice_cmp nat_cmp) p.0 m) (is_sorted (slice_cmp nat_cmp) m) h).1
-
-below_take : (k : Bytes) (i : ℕ) (m : KeyMap) → T (below_all (slice_cmp nat_cmp) k m) → T (below_all (slice_cmp nat_cmp) k (take i m))
-below_take k zero m h = tt
-below_take k (suc i) [] h = tt
-below_take k (suc i) (p ∷ m) h =
-    let q = parts (is_lt (slice_cmp nat_cmp k p.0)) (below_all (slice_cmp nat_cmp) k m) h in
-    both _ _ q.0 (below_take k i m q.1)
-
-map_take : (i : ℕ) (m : KeyMap) → IsMap m → IsMap (take i m)
-map_take zero m h = tt
-map_take (suc i) [] h = tt
-map_take (suc i) (p ∷ m) h =
-    let q = parts (below_all (slice_cmp nat_cmp) p.0 m) (is_sorted (slice_cmp nat_cmp) m) h in
-    both _ _ (below_take p.0 i m q.0) (map_take i m q.1)
-
 limits-puts : (m : KeyMap) → IsInBounds m → All (IsWithinLimits current) (puts m)
 limits-puts [] h k d lt = absurd (omega arith)
 limits-puts (p ∷ m) h zero d lt = record { key = h.0; value = h.1 }
@@ -232,13 +176,13 @@ set_is_proper m is bounds some = record {
   some = omega (arith, length-puts (take 64 m), length-take 64 m);
   at_most = omega (arith, length-puts (take 64 m), length-take 64 m);
   limits = limits-puts (take 64 m) (bounds_take 64 m bounds);
-  rising = subst T (sym (sorted-puts (take 64 m))) (map_take 64 m is);
+  rising = subst T (sym (sorted-puts (take 64 m))) (sorted_take (slice_cmp nat_cmp) 64 m is);
 }
 
 sets_are_proper : (n : ℕ) (m : KeyMap) → IsMap m → IsInBounds m → 64 * n < length m + 64 → AreWriteSets (first_sets n m)
 sets_are_proper zero m is bounds lt = tt
 sets_are_proper (suc n) m is bounds lt =
-    (set_is_proper m is bounds (omega arith), sets_are_proper n (drop 64 m) (map_drop 64 m is) (bounds_drop 64 m bounds) (omega (arith, length-drop 64 m)))
+    (set_is_proper m is bounds (omega arith), sets_are_proper n (drop 64 m) (sorted_drop (slice_cmp nat_cmp) 64 m is) (bounds_drop 64 m bounds) (omega (arith, length-drop 64 m)))
 
 pub write_sets_are_proper : (m : KeyMap) → IsMap m → IsInBounds m → AreWriteSets (write_sets_of m)
 unfolding write_sets_of

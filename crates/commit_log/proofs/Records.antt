@@ -1,4 +1,5 @@
 -- Images of records, and what a changed sector makes of them.
+use Rattle.std.proofs.lemmas.Grind.{common_steps}
 use Rattle.std.proofs.Common.{◌≡◌, ◌⊎◌, inl, inr, ⊎_elim, ℕ, zero, suc, ◌<◌, ◌+◌, ◌*◌, true, false, List, [], ◌∷◌, ◌++◌, length, take, drop, set, get_or, slice_get, Some, None, refl, sym, ◌∙◌, ap, subst, arith}
 use Rattle.std.proofs.lemmas.List.{take-take, drop-take, drop-drop, take-set-le, drop-set-add}
 use Rattle.std.proofs.lemmas.Bool.{cases_Bool}
@@ -10,12 +11,10 @@ use Rattle.commit_log.specs.declared.formats.LogFormat.{LogFormat}
 
 -- the sectors up to the closed gate decide
 pub same_records : (f : LogFormat) (lists : List (List KeyWrite)) (index : ℕ) (before : List ℕ) (c d : List (List ℕ)) → take (suc (span lists)) c ≡ take (suc (span lists)) d → HoldsRecords f lists index before d → HoldsRecords f lists index before c
-same_records f [] index before c [] same holds = absurd holds
 same_records f [] index before [] (gate ∷ d) same holds = absurd (cc same)
 same_records f [] index before (x ∷ c) (gate ∷ d) same holds =
     let is : x ≡ gate = cc same in
     rw is holds
-same_records f (writes ∷ lists) index before c [] same holds = absurd holds
 same_records f (writes ∷ lists) index before [] (gate ∷ d) same holds = absurd (cc same)
 same_records f (writes ∷ lists) index before (x ∷ c) (gate ∷ d) same holds =
     let b = sectors_of writes in
@@ -28,17 +27,10 @@ same_records f (writes ∷ lists) index before (x ∷ c) (gate ∷ d) same holds
     sym (drop-take b (suc (span lists)) c) ∙ ap (λ (k : ℕ). drop b (take k c)) (sym n) ∙ ap (λ (l : List (List ℕ)). drop b l) rest
     ∙ ap (λ (k : ℕ). drop b (take k d)) n ∙ drop-take b (suc (span lists)) d in
     (ap is_open is ∙ holds.0, holds.1, body ∙ holds.2, same_records f lists (index + 1) (record_digest before index writes) (drop b c) (drop b d) behind holds.3)
+same_records f b1 index before c [] same holds = absurd holds
 
 pub same_log : (f : LogFormat) (lists : List (List KeyWrite)) (n : ℕ) (c d : List (List ℕ)) → n ≡ suc (suc (span lists)) → take n c ≡ take n d → IsLogImage f lists d → IsLogImage f lists c
-same_log f lists n c [] is same holds = absurd holds
-same_log f lists n [] (h ∷ d) is same holds =
-    let at : take (suc (suc (span lists))) [] ≡ h ∷ take (suc (span lists)) d = subst (λ (k : ℕ). take k [] ≡ take k (h ∷ d)) is same in
-    absurd (cc at)
-same_log f lists n (x ∷ c) (h ∷ d) is same holds =
-    let at : x ∷ take (suc (span lists)) c ≡ h ∷ take (suc (span lists)) d = subst (λ (k : ℕ). take k (x ∷ c) ≡ take k (h ∷ d)) is same in
-    let head : x ≡ h = cc at in
-    let rest : take (suc (span lists)) c ≡ take (suc (span lists)) d = cc at in
-    (head ∙ holds.0, same_records f lists 0 first_digest c d rest holds.1)
+same_log a0 a1 a2 a3 a4 a5 a6 a7 = grind (arith, common_steps, same_records)
 
 pub slice_get-drop : {X : Type 0} (n : ℕ) (xs : List X) (i : ℕ) → slice_get (drop n xs) i ≡ slice_get xs (n + i)
 slice_get-drop zero xs i = let e : 0 + i ≡ i = omega arith in ap (λ (k : ℕ). slice_get xs k) (sym e)
@@ -58,10 +50,9 @@ begins (x ∷ xs) (y ∷ ys) each =
     cc
 
 closed_at : (f : LogFormat) (rest : List (List ℕ)) (n : ℕ) (s : List ℕ) (index : ℕ) (before : List ℕ) → slice_get rest n ≡ Some s → is_open s ≡ false → HoldsRecords f [] index before (drop n rest)
-closed_at f [] zero s index before is shut = absurd (cc is)
-closed_at f [] (suc n) s index before is shut = absurd (cc is)
 closed_at f (x ∷ rest) zero s index before is shut = let e : x ≡ s = cc is in ap is_open e ∙ shut
 closed_at f (x ∷ rest) (suc n) s index before is shut = closed_at f rest n s index before is shut
+closed_at f [] b2 s index before is shut = absurd (cc is)
 
 pub staged_from : (f : LogFormat) (lists : List (List KeyWrite)) (writes : List KeyWrite) (index : ℕ) (before : List ℕ) (rest : List (List ℕ)) (shut : List ℕ) → length (record_body (last_digest lists index before) (next_index lists index) writes) ≡ sectors_of writes → HoldsRecords f lists index before rest
     → ((k i : ℕ) → k < sectors_of writes → i ≡ suc (span lists + k) → slice_get rest i ≡ Some (get_or (record_body (last_digest lists index before) (next_index lists index) writes) k []))
@@ -86,8 +77,6 @@ staged_from f (x ∷ lists) writes index before (gate ∷ rest) shut size holds 
 pub staged-set : (f : LogFormat) (lists : List (List KeyWrite)) (writes : List KeyWrite) (index : ℕ) (before : List ℕ) (rest : List (List ℕ)) (n : ℕ) (s : List ℕ) → n ≡ span lists → Staged f lists writes index before rest → Staged f lists writes index before (set rest n s)
 staged-set f lists writes index before [] n s is staged = absurd staged
 staged-set f [] writes index before (gate ∷ rest) zero s is staged = staged
-staged-set f [] writes index before (gate ∷ rest) (suc n) s is staged = absurd (omega arith)
-staged-set f (x ∷ lists) writes index before (gate ∷ rest) zero s is staged = absurd (omega arith)
 staged-set f (x ∷ lists) writes index before (gate ∷ rest) (suc n) s is staged =
     let b = sectors_of x in
     let split : n ≡ b + span lists = omega arith in
@@ -95,14 +84,12 @@ staged-set f (x ∷ lists) writes index before (gate ∷ rest) (suc n) s is stag
     let back : drop b (set rest n s) ≡ set (drop b rest) (span lists) s =
     ap (λ (k : ℕ). drop b (set rest k s)) split ∙ drop-set-add b rest (span lists) s in
     (staged.0, staged.1, front ∙ staged.2, rw back (staged-set f lists writes (index + 1) (record_digest before index x) (drop b rest) (span lists) s refl staged.3))
+staged-set f b1 writes index before (gate ∷ rest) b6 s is staged = absurd (omega arith)
 
 -- a staged record counts where its gate is open
 pub staged_gate : (f : LogFormat) (lists : List (List KeyWrite)) (writes : List KeyWrite) (index : ℕ) (before : List ℕ) (rest : List (List ℕ)) → IsWriteSet f writes → Staged f lists writes index before rest → HoldsRecords f lists index before rest ⊎ HoldsRecords f (lists ++ writes ∷ []) index before rest
 staged_gate f lists writes index before [] proper staged = absurd staged
-staged_gate f [] writes index before (gate ∷ rest) proper staged = elim (cases_Bool (is_open gate)) [
-  | inl opened ↦ inr (opened, proper, staged.0, staged.1)
-  | inr shut ↦ inl shut
-]
+staged_gate f [] writes index before (gate ∷ rest) proper staged = grind (arith, common_steps, cases_Bool)
 staged_gate f (x ∷ lists) writes index before (gate ∷ rest) proper staged =
     ⊎_elim (λ holds. inl (staged.0, staged.1, staged.2, holds)) (λ holds. inr (staged.0, staged.1, staged.2, holds))
     (staged_gate f lists writes (index + 1) (record_digest before index x) (drop (sectors_of x) rest) proper staged.3)
@@ -116,21 +103,13 @@ staged_open f (x ∷ lists) writes index before (g ∷ rest) gate proper staged 
     (staged.0, staged.1, staged.2, staged_open f lists writes (index + 1) (record_digest before index x) (drop (sectors_of x) rest) gate proper staged.3 (slice_get-drop (sectors_of x) rest (span lists) ∙ at) opened)
 
 pub image_staged-set : (f : LogFormat) (lists : List (List KeyWrite)) (writes : List KeyWrite) (c : List (List ℕ)) (n : ℕ) (s : List ℕ) → n ≡ 1 + span lists → IsStaged f lists writes c → IsStaged f lists writes (set c n s)
-image_staged-set f lists writes [] n s is staged = absurd staged
-image_staged-set f lists writes (head ∷ rest) zero s is staged = absurd (omega arith)
-image_staged-set f lists writes (head ∷ rest) (suc n) s is staged = (staged.0, staged-set f lists writes 0 first_digest rest n s (omega arith) staged.1)
+image_staged-set a0 a1 a2 a3 a4 a5 a6 a7 = grind (arith, common_steps, staged-set)
 
 pub image_staged_gate : (f : LogFormat) (lists : List (List KeyWrite)) (writes : List KeyWrite) (c : List (List ℕ)) → IsWriteSet f writes → IsStaged f lists writes c → IsLogImage f lists c ⊎ IsLogImage f (lists ++ writes ∷ []) c
-image_staged_gate f lists writes [] proper staged = absurd staged
-image_staged_gate f lists writes (head ∷ rest) proper staged =
-    ⊎_elim (λ holds. inl (staged.0, holds)) (λ holds. inr (staged.0, holds)) (staged_gate f lists writes 0 first_digest rest proper staged.1)
+image_staged_gate a0 a1 a2 a3 a4 a5 = grind (arith, common_steps, ⊎_elim, staged_gate)
 
 pub image_staged_open : (f : LogFormat) (lists : List (List KeyWrite)) (writes : List KeyWrite) (c : List (List ℕ)) (n : ℕ) (gate : List ℕ) → n ≡ 1 + span lists → IsWriteSet f writes → IsStaged f lists writes c → slice_get c n ≡ Some gate → is_open gate ≡ true → IsLogImage f (lists ++ writes ∷ []) c
-image_staged_open f lists writes [] n gate is proper staged at opened = absurd staged
-image_staged_open f lists writes (head ∷ rest) zero gate is proper staged at opened = absurd (omega arith)
-image_staged_open f lists writes (head ∷ rest) (suc n) gate is proper staged at opened =
-    let same : n ≡ span lists = omega arith in
-    (staged.0, staged_open f lists writes 0 first_digest rest gate proper staged.1 (subst (λ (k : ℕ). slice_get rest k ≡ Some gate) same at) opened)
+image_staged_open a0 a1 a2 a3 a4 a5 a6 a7 a8 a9 a10 = grind (arith, common_steps, staged_open, slice_get)
 
 pub length-sectors_in : (n : ℕ) (bytes : List ℕ) → length (sectors_in n bytes) ≡ n
 length-sectors_in zero bytes = refl

@@ -1,4 +1,5 @@
 -- How a run of reads goes on.
+use Rattle.std.proofs.lemmas.Grind.{common_steps}
 use Rattle.std.proofs.Common.{◌≡◌, ℕ, ◌≤◌, ◌+◌, ◌-◌, ◌*◌, List, length, take, drop, ◌++◌, slice_get, Some, sym, ◌∙◌, ap, arith, length-drop, append_assoc}
 use Rattle.std.proofs.lemmas.List.{take-append-le, drop-append-le, drop-take, length-take, take_all}
 use Rattle.std.proofs.Math.Seq.{drop-append-add, take-add}
@@ -11,27 +12,15 @@ use Rattle.commit_log.specs.Reading.{OnlyReads}
 pub read_on : {D : Type 0} (S : Ghosts D) (old mid new : D) → OnlyReads S.may_read S.may_leave S.moment S.left_since old mid
     → ((i : ℕ) (s : List ℕ) → S.may_read new i s → S.may_read mid i s) → ((c : List (List ℕ)) → S.may_leave new c → S.may_leave mid c)
     → Elapses (S.moment mid) (S.moment new) (S.left_since mid) (S.left_since new) (S.may_leave new) → OnlyReads S.may_read S.may_leave S.moment S.left_since old new
-read_on S old mid new so_far reads crash time = record {
-  reads = λ i s read. so_far.reads i s (reads i s read);
-  left = λ c left. so_far.left c (crash c left);
-  time = goes_on S.moment S.left_since old mid new (S.may_leave old) (S.may_leave new) so_far.time time (λ c left. so_far.left c (crash c left));
-}
+read_on S old mid new so_far reads crash time = grind (arith, common_steps, goes_on)
 
 -- before the first read
 pub no_reads : {D : Type 0} (S : Ghosts D) (old : D) → ((c : List (List ℕ)) → S.left_since old (S.moment old) c → S.may_leave old c) → OnlyReads S.may_read S.may_leave S.moment S.left_since old old
-no_reads S old only_now = record {
-  reads = λ i s read. read;
-  left = λ c left. left;
-  time = started S.moment S.left_since old (S.may_leave old) only_now;
-}
+no_reads S old only_now = grind (arith, common_steps, started)
 
 -- one run of reads after the other
 pub reads_joined : {D : Type 0} (S : Ghosts D) (old mid new : D) → OnlyReads S.may_read S.may_leave S.moment S.left_since old mid → OnlyReads S.may_read S.may_leave S.moment S.left_since mid new → OnlyReads S.may_read S.may_leave S.moment S.left_since old new
-reads_joined S old mid new first second = record {
-  reads = λ i s read. first.reads i s (second.reads i s read);
-  left = λ c left. first.left c (second.left c left);
-  time = joined S.moment S.left_since old mid new (S.may_leave old) (S.may_leave mid) (S.may_leave old) first.time second.time (λ c left. left) (λ c left. first.left c left);
-}
+reads_joined S old mid new first second = grind (arith, common_steps, joined)
 
 -- a sector of what was read into the end of a buffer
 pub read_behind : (front into post rest : List ℕ) (k whole : ℕ) → 512 * k + 512 ≤ length into → length front + length into ≤ whole

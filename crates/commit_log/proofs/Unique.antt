@@ -1,5 +1,6 @@
 -- An image is a log of one list of write sets at most, or it is damaged in one place.
-use Rattle.std.proofs.Common.{get_or, ◌≡◌, ◌⊎◌, inl, inr, ℕ, suc, ◌≤◌, ◌+◌, List, [], ◌∷◌, ◌++◌, length, take, drop, slice_get, Some, refl, sym, ◌∙◌, ap, subst, arith, length-drop}
+use Rattle.std.proofs.lemmas.Grind.{common_steps}
+use Rattle.std.proofs.Common.{◌≡◌, ◌⊎◌, inl, inr, ℕ, suc, ◌≤◌, ◌+◌, List, [], ◌∷◌, ◌++◌, length, take, drop, slice_get, Some, refl, sym, ◌∙◌, ap, subst, arith, length-drop}
 use Rattle.std.proofs.lemmas.List.{take_all, append-nil}
 use Rattle.std.specs.List.{flat_map}
 use Rattle.byteorder.specs.Endian.{big_bytes}
@@ -11,7 +12,7 @@ use Rattle.commit_log.specs.Reading.{ReadsAs}
 use Rattle.commit_log.specs.Opening.{CanSettle, IsRefusal}
 use Rattle.commit_log.specs.LogFaults.{IsDeviceOrMemory}
 use Rattle.commit_log.specs.declared.faults.LogFault.{LogFault}
-use Rattle.commit_log.specs.declared.faults.LogFault.TheVariants.{NotALog, Damaged, Full, Device, Stopped, Memory, OldFormat, NotEmpty}
+use Rattle.commit_log.specs.declared.faults.LogFault.TheVariants.{NotALog, Damaged, OldFormat}
 use Rattle.commit_log.proofs.Limits.{length-padded_body, length-payload_le}
 use Rattle.commit_log.proofs.Matching.{length_read, same_bytes}
 use Rattle.commit_log.proofs.Records.{slice_get_there}
@@ -19,7 +20,7 @@ use Rattle.commit_log.proofs.Parsing.{reading}
 use Rattle.commit_log.proofs.Bodies.{parts, padded_split, zeros_of, length-digest}
 use Rattle.commit_log.proofs.Appending.{sectors_of_is}
 use Rattle.commit_log.specs.declared.formats.LogFormat.{LogFormat}
-use Rattle.commit_log.specs.declared.formats.LogFormat.TheVariants.{One, Two}
+use Rattle.commit_log.specs.declared.formats.LogFormat.TheVariants.{One}
 use Rattle.commit_log.specs.Format.{current, head_sector}
 use Rattle.commit_log.proofs.Limits.{value_small}
 
@@ -101,26 +102,19 @@ damaged_unique f lists others [] one two = absurd one
 damaged_unique f lists others (head ∷ rest) one two = damage_unique f lists others 0 first_digest rest one.1 two.1
 
 pub log_is_log : (f : LogFormat) (lists : List (List KeyWrite)) (image : List (List ℕ)) → IsLogImage f lists image → IsNoLog f image → ⊥
-log_is_log f lists [] holds no_log = absurd holds
-log_is_log f lists (head ∷ []) holds no_log = absurd holds.1
-log_is_log f lists (head ∷ g ∷ rest) holds (inl short) = omega arith
-log_is_log f lists (head ∷ g ∷ rest) holds (inr other) = other (ap (λ (s : List ℕ). Some s) holds.0)
+log_is_log a0 a1 a2 a3 a4 = grind (arith, common_steps)
 
 pub damaged_is_log : (f : LogFormat) (lists : List (List KeyWrite)) (image : List (List ℕ)) → IsDamaged f lists image → IsNoLog f image → ⊥
-damaged_is_log f lists [] holds no_log = absurd holds
-damaged_is_log f lists (head ∷ []) holds no_log = absurd holds.1
-damaged_is_log f lists (head ∷ g ∷ rest) holds (inl short) = omega arith
-damaged_is_log f lists (head ∷ g ∷ rest) holds (inr other) = other (ap (λ (s : List ℕ). Some s) holds.0)
+damaged_is_log a0 a1 a2 a3 a4 = grind (arith, common_steps)
 
 same_by_get : (xs ys : List (List ℕ)) → length xs ≡ length ys → ((i : ℕ) (s : List ℕ) → slice_get xs i ≡ Some s → slice_get ys i ≡ Some s) → xs ≡ ys
 same_by_get [] [] len each = refl
-same_by_get [] (y ∷ ys) len each = absurd (omega arith)
-same_by_get (x ∷ xs) [] len each = absurd (omega arith)
 same_by_get (x ∷ xs) (y ∷ ys) len each =
     let here : Some y ≡ Some x = each 0 x refl in
     let first : y ≡ x = cc here in
     let rest : xs ≡ ys = same_by_get xs ys (omega arith) (λ i s at. each (suc i) s at) in
     cc
+same_by_get b0 b1 len each = absurd (omega arith)
 
 -- a device that reads as an image settles as it
 pub settles_as : (size : ℕ) (may_read : ℕ → List ℕ → Type 0) (may_leave : List (List ℕ) → Type 0) (image disk : List (List ℕ)) → CanSettle size may_read may_leave image → length disk ≡ size → ReadsAs may_read disk → image ≡ disk
@@ -129,23 +123,16 @@ settles_as size may_read may_leave image disk settles len reads = same_by_get im
 -- the heads differ
 pub heads_apart : (f g : LogFormat) → head_sector f ≡ head_sector g → f ≡ g
 unfolding head_sector
-heads_apart One One same = refl
-heads_apart Two Two same = refl
-heads_apart One Two same = let e : 49 ≡ 50 = ap (λ (l : List ℕ). get_or l 7 0) same in absurd (omega (arith, e))
-heads_apart Two One same = let e : 50 ≡ 49 = ap (λ (l : List ℕ). get_or l 7 0) same in absurd (omega (arith, e))
+heads_apart a0 a1 a2 = grind (arith, common_steps)
 
 pub one_head : (f g : LogFormat) (image : List (List ℕ)) → HasHead f image → HasHead g image → f ≡ g
 one_head f g image one two = let same : Some (head_sector f) ≡ Some (head_sector g) = sym one.1 ∙ two.1 in heads_apart f g (cc same)
 
 pub log_has_head : (f : LogFormat) (lists : List (List KeyWrite)) (image : List (List ℕ)) → IsLogImage f lists image → HasHead f image
-log_has_head f lists [] holds = absurd holds
-log_has_head f lists (head ∷ []) holds = absurd holds.1
-log_has_head f lists (head ∷ g ∷ rest) holds = (omega arith, ap (λ (s : List ℕ). Some s) holds.0)
+log_has_head a0 a1 a2 a3 = grind (arith, common_steps)
 
 damage_has_head : (f : LogFormat) (lists : List (List KeyWrite)) (image : List (List ℕ)) → IsDamaged f lists image → HasHead f image
-damage_has_head f lists [] holds = absurd holds
-damage_has_head f lists (head ∷ []) holds = absurd holds.1
-damage_has_head f lists (head ∷ g ∷ rest) holds = (omega arith, ap (λ (s : List ℕ). Some s) holds.0)
+damage_has_head a0 a1 a2 a3 = grind (arith, common_steps)
 
 -- what has the head of a format is no image without it
 head_is_log : (f : LogFormat) (image : List (List ℕ)) → HasHead f image → IsNoLog f image → ⊥
@@ -160,44 +147,16 @@ log_not_old lists image holds has = not_old image (log_has_head current lists im
 
 -- what opening answers where it refuses
 pub refused_log : (lists : List (List KeyWrite)) (image : List (List ℕ)) (e : LogFault) → IsLogImage current lists image → IsRefusal image e → IsDeviceOrMemory e
-refused_log lists image NotALog holds refusal = absurd (log_is_log current lists image holds (refusal current))
-refused_log lists image (Damaged index) holds refusal = absurd (log_not_damaged current lists refusal.0 image holds refusal.2)
-refused_log lists image Full holds refusal = refusal
-refused_log lists image Device holds refusal = refusal
-refused_log lists image Stopped holds refusal = refusal
-refused_log lists image Memory holds refusal = refusal
-refused_log lists image OldFormat holds refusal = absurd (log_not_old lists image holds refusal)
-refused_log lists image NotEmpty holds refusal = refusal
+refused_log a0 a1 a2 a3 a4 = grind (arith, common_steps, log_is_log, log_not_damaged, log_not_old)
 
 pub refused_damaged : (lists : List (List KeyWrite)) (image : List (List ℕ)) (e : LogFault) → IsDamaged current lists image → IsRefusal image e → (e ≡ Damaged (length lists)) ⊎ IsDeviceOrMemory e
-refused_damaged lists image NotALog holds refusal = absurd (damaged_is_log current lists image holds (refusal current))
-refused_damaged lists image (Damaged index) holds refusal = inl (ap (λ (n : ℕ). Damaged n) (sym refusal.1 ∙ ap length (damaged_unique current refusal.0 lists image refusal.2 holds)))
-refused_damaged lists image Full holds refusal = absurd refusal
-refused_damaged lists image Device holds refusal = inr refusal
-refused_damaged lists image Stopped holds refusal = absurd refusal
-refused_damaged lists image Memory holds refusal = inr refusal
-refused_damaged lists image OldFormat holds refusal = absurd (not_old image (damage_has_head current lists image holds) refusal)
-refused_damaged lists image NotEmpty holds refusal = absurd refusal
+refused_damaged a0 a1 a2 a3 a4 = grind (arith, common_steps, damaged_is_log, damaged_unique, not_old, damage_has_head)
 
 pub refused_no_log : (image : List (List ℕ)) (e : LogFault) → ((f : LogFormat) → IsNoLog f image) → IsRefusal image e → (e ≡ NotALog) ⊎ IsDeviceOrMemory e
-refused_no_log image NotALog no_log refusal = inl refl
-refused_no_log image (Damaged index) no_log refusal = absurd (damaged_is_log current refusal.0 image refusal.2 (no_log current))
-refused_no_log image Full no_log refusal = absurd refusal
-refused_no_log image Device no_log refusal = inr refusal
-refused_no_log image Stopped no_log refusal = absurd refusal
-refused_no_log image Memory no_log refusal = inr refusal
-refused_no_log image OldFormat no_log refusal = absurd (head_is_log One image refusal (no_log One))
-refused_no_log image NotEmpty no_log refusal = absurd refusal
+refused_no_log a0 a1 a2 a3 = grind (arith, common_steps, damaged_is_log, head_is_log)
 
 pub refused_old : (image : List (List ℕ)) (e : LogFault) → HasHead One image → IsRefusal image e → (e ≡ OldFormat) ⊎ IsDeviceOrMemory e
-refused_old image NotALog has refusal = absurd (head_is_log One image has (refusal One))
-refused_old image (Damaged index) has refusal = absurd (not_old image (damage_has_head current refusal.0 image refusal.2) has)
-refused_old image Full has refusal = absurd refusal
-refused_old image Device has refusal = inr refusal
-refused_old image Stopped has refusal = absurd refusal
-refused_old image Memory has refusal = inr refusal
-refused_old image OldFormat has refusal = inl refl
-refused_old image NotEmpty has refusal = absurd refusal
+refused_old a0 a1 a2 a3 = grind (arith, common_steps, head_is_log, not_old, damage_has_head)
 
 -- the same, where a device was settled
 abbrev pub Refused : (ℕ → List ℕ → Type 0) → (List (List ℕ) → Type 0) → ℕ → LogFault → Type 0
@@ -237,9 +196,4 @@ module _ (may_read : ℕ → List ℕ → Type 0) (may_leave : List (List ℕ) �
   ]
 
   pub device_refused_left : ((c : List (List ℕ)) → may_leave c → (lists : List (List KeyWrite)) × IsLogImage current lists c) → IsDeviceOrMemory e
-  device_refused_left all_logs = elim refused [
-    | inl told ↦ told
-    | inr found ↦
-        let its = all_logs found.0 found.1.left in
-        refused_log its.0 found.0 e its.1 found.2
-  ]
+  device_refused_left all_logs = grind (arith, common_steps, refused_log)

@@ -7,7 +7,7 @@ use Rattle.commit_log.specs.RecordFormat.{open_gate, record_body, record_digest}
 use Rattle.commit_log.specs.LogImage.{IsLogImage, span}
 use Rattle.commit_log.specs.LogState.{IsSameBefore}
 use Rattle.commit_log.specs.declared.faults.LogFault.{LogFault}
-use Rattle.commit_log.specs.declared.faults.LogFault.TheVariants.{NotALog, Damaged, Full, Device, Stopped, Memory, OldFormat, NotEmpty}
+use Rattle.commit_log.specs.declared.faults.LogFault.TheVariants.{Full, Device, Memory, NotEmpty}
 
 -- a put of each pair
 abbrev pub puts : KeyMap → List KeyWrite
@@ -65,11 +65,8 @@ IsCopyStep lists may_leave c = IsSameBefore 1 may_leave c ⊎ ((image : List (Li
 
 -- a fault of a copy
 abbrev pub IsCopyFault : LogFault → Type 0
-IsCopyFault NotALog = ⊥
-IsCopyFault (Damaged index) = ⊥
 IsCopyFault Full = Unit {0}
 IsCopyFault Device = Unit {0}
-IsCopyFault Stopped = ⊥
 IsCopyFault Memory = Unit {0}
-IsCopyFault OldFormat = ⊥
 IsCopyFault NotEmpty = Unit {0}
+IsCopyFault other = ⊥

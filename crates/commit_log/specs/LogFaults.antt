@@ -1,47 +1,34 @@
 -- Which faults a call of the log may answer.
 use Rattle.commit_log.specs.declared.faults.LogFault.{LogFault}
-use Rattle.commit_log.specs.declared.faults.LogFault.TheVariants.{NotALog, Damaged, Full, Device, Stopped, Memory, OldFormat, NotEmpty}
+use Rattle.commit_log.specs.declared.faults.LogFault.TheVariants.{NotALog, Damaged, Full, Device, Stopped, Memory, OldFormat}
 
 -- the device failed, or memory was refused
 abbrev pub IsDeviceOrMemory : LogFault → Type 0
-IsDeviceOrMemory NotALog = ⊥
-IsDeviceOrMemory (Damaged index) = ⊥
-IsDeviceOrMemory Full = ⊥
 IsDeviceOrMemory Device = Unit {0}
-IsDeviceOrMemory Stopped = ⊥
 IsDeviceOrMemory Memory = Unit {0}
-IsDeviceOrMemory OldFormat = ⊥
-IsDeviceOrMemory NotEmpty = ⊥
+IsDeviceOrMemory other = ⊥
 
 -- a fault of opening a log
 abbrev pub IsOpenFault : LogFault → Type 0
 IsOpenFault NotALog = Unit {0}
 IsOpenFault (Damaged index) = Unit {0}
-IsOpenFault Full = ⊥
 IsOpenFault Device = Unit {0}
-IsOpenFault Stopped = ⊥
 IsOpenFault Memory = Unit {0}
 IsOpenFault OldFormat = Unit {0}
-IsOpenFault NotEmpty = ⊥
+IsOpenFault other = ⊥
 
 -- a fault of an append
 abbrev pub IsAppendFault : LogFault → Type 0
-IsAppendFault NotALog = ⊥
-IsAppendFault (Damaged index) = ⊥
 IsAppendFault Full = Unit {0}
 IsAppendFault Device = Unit {0}
 IsAppendFault Stopped = Unit {0}
 IsAppendFault Memory = Unit {0}
-IsAppendFault OldFormat = ⊥
-IsAppendFault NotEmpty = ⊥
+IsAppendFault other = ⊥
 
 -- a fault of reading the map of a log of either format
 abbrev pub IsReadMapFault : LogFault → Type 0
 IsReadMapFault NotALog = Unit {0}
 IsReadMapFault (Damaged index) = Unit {0}
-IsReadMapFault Full = ⊥
 IsReadMapFault Device = Unit {0}
-IsReadMapFault Stopped = ⊥
 IsReadMapFault Memory = Unit {0}
-IsReadMapFault OldFormat = ⊥
-IsReadMapFault NotEmpty = ⊥
+IsReadMapFault other = ⊥

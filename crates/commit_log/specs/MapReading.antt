@@ -7,7 +7,7 @@ use Rattle.commit_log.specs.Opening.{IsDamagedImage}
 use Rattle.commit_log.specs.Recovery.{map_after}
 use Rattle.commit_log.specs.declared.formats.LogFormat.{LogFormat}
 use Rattle.commit_log.specs.declared.faults.LogFault.{LogFault}
-use Rattle.commit_log.specs.declared.faults.LogFault.TheVariants.{NotALog, Damaged, Full, Device, Stopped, Memory, OldFormat, NotEmpty}
+use Rattle.commit_log.specs.declared.faults.LogFault.TheVariants.{NotALog, Damaged, Device, Memory}
 
 -- the image is a log of write sets that give this map, in the format of this number
 pub record IsMapOf (image : List (List ℕ)) (m : KeyMap) (number : ℕ) : Type 0 where
@@ -21,9 +21,6 @@ pub record IsMapOf (image : List (List ℕ)) (m : KeyMap) (number : ℕ) : Type 
 abbrev pub IsMapRefusal : List (List ℕ) → LogFault → Type 0
 IsMapRefusal image NotALog = (f : LogFormat) → IsNoLog f image
 IsMapRefusal image (Damaged index) = (f : LogFormat) × IsDamagedImage f image index
-IsMapRefusal image Full = ⊥
 IsMapRefusal image Device = Unit {0}
-IsMapRefusal image Stopped = ⊥
 IsMapRefusal image Memory = Unit {0}
-IsMapRefusal image OldFormat = ⊥
-IsMapRefusal image NotEmpty = ⊥
+IsMapRefusal image other = ⊥

@@ -10,7 +10,7 @@ use Rattle.commit_log.specs.declared.formats.LogFormat.{LogFormat}
 use Rattle.commit_log.specs.declared.formats.LogFormat.TheVariants.{One}
 use Rattle.commit_log.specs.declared.read.Found.{Found}
 use Rattle.commit_log.specs.declared.faults.LogFault.{LogFault}
-use Rattle.commit_log.specs.declared.faults.LogFault.TheVariants.{NotALog, Damaged, Full, Device, Stopped, Memory, OldFormat, NotEmpty}
+use Rattle.commit_log.specs.declared.faults.LogFault.TheVariants.{NotALog, Damaged, Device, Memory, OldFormat}
 
 -- it tells of the records of these write sets
 pub record TellsOf (lists : List (List KeyWrite)) (found : Found) : Type 0 where
@@ -33,14 +33,10 @@ pub record IsDamagedAt (f : LogFormat) (rest : List (List ℕ)) (index : ℕ) : 
 
 -- reading records fails by the device, for want of memory, or where they are damaged
 abbrev pub IsReadFault : LogFormat → List (List ℕ) → LogFault → Type 0
-IsReadFault f rest NotALog = ⊥
 IsReadFault f rest (Damaged index) = IsDamagedAt f rest index
-IsReadFault f rest Full = ⊥
 IsReadFault f rest Device = Unit {0}
-IsReadFault f rest Stopped = ⊥
 IsReadFault f rest Memory = Unit {0}
-IsReadFault f rest OldFormat = ⊥
-IsReadFault f rest NotEmpty = ⊥
+IsReadFault f rest other = ⊥
 
 -- the image is damaged behind so many records
 abbrev pub IsDamagedImage : LogFormat → List (List ℕ) → ℕ → Type 0
@@ -50,12 +46,10 @@ IsDamagedImage f image index = (lists : List (List KeyWrite)) × (length lists �
 abbrev pub IsRefusal : List (List ℕ) → LogFault → Type 0
 IsRefusal image NotALog = (f : LogFormat) → IsNoLog f image
 IsRefusal image (Damaged index) = IsDamagedImage current image index
-IsRefusal image Full = ⊥
 IsRefusal image Device = Unit {0}
-IsRefusal image Stopped = ⊥
 IsRefusal image Memory = Unit {0}
 IsRefusal image OldFormat = HasHead One image
-IsRefusal image NotEmpty = ⊥
+IsRefusal image other = ⊥
 
 -- a sync might have settled this image
 pub record CanSettle (size : ℕ) (may_read : ℕ → List ℕ → Type 0) (may_leave : List (List ℕ) → Type 0) (image : List (List ℕ)) : Type 0 where

@@ -5,7 +5,7 @@ use Rattle.std.proofs.lemmas.Bool.{or_left}
 use Rattle.std.specs.List.{list_any}
 use Rattle.model.specs.declared.refusals.Refusal.{Refusal}
 use Rattle.model.specs.declared.refusals.Refusal.TheVariants as refusals
-use Rattle.model.specs.Map.{Bytes, KeyMap, KeyWrite, is_same_key, is_empty_range, value_at, pairs_in_range}
+use Rattle.model.specs.Map.{Bytes, KeyMap, is_same_key, is_empty_range, value_at, pairs_in_range}
 use Rattle.model.specs.Operations.{Operation, Response}
 use Rattle.model.specs.Operations.Operation.{Get, Range}
 use Rattle.model.specs.Operations.Response.{Value, Pairs, Refused}
@@ -18,7 +18,7 @@ use Rattle.marks.specs.Marked.{has_mark}
 use Rattle.write_buffer.specs.Buffered.{written}
 use Rattle.snapshot.specs.declared.faults.SnapshotFault.{SnapshotFault}
 use Rattle.snapshot.specs.declared.faults.SnapshotFault.TheVariants.{FullWrites, FullMarks, Memory}
-use Rattle.snapshot.specs.View.{View, after_get, keys_of, marked}
+use Rattle.snapshot.specs.View.{View, after_get, marked}
 use Rattle.snapshot.specs.Made.{HasMade, MakesOneMoreOver, IsFault, IsKnownRange, is_refused}
 use Rattle.snapshot.specs.Merged.{after_range, mark_of_rows}
 use Rattle.sector.specs.declared.device.Sectors.{Ghosts}
@@ -29,6 +29,7 @@ use Rattle.engine.specs.declared.faults.ReadFault.{ReadFault}
 use Rattle.engine.specs.Faults.{of_read, of_write}
 use Rattle.engine.specs.StandsFor.{StandsFor}
 use Rattle.engine.specs.Meaning.{response_to, response_to_read, copy_in, IsKnownKey}
+use Rattle.snapshot.proofs.Copies.{any_keys}
 use Rattle.engine.proofs.Calls.{Answered, found_open, not_open, made_refused}
 
 pub begin-after_get : (t t' : View) (k : Bytes) → t' ≡ after_get t k → t'.begin ≡ t.begin
@@ -36,10 +37,6 @@ begin-after_get t t' k e = ap (λ (u : View). u.begin) e ∙ elim (is_some (writ
 
 pub begin-after_range : (t t' : View) (n : KeyMap) (lo : Bytes) (hi : Option Bytes) (limit : ℕ) → t' ≡ after_range t n lo hi limit → t'.begin ≡ t.begin
 begin-after_range t t' n lo hi limit e = ap (λ (u : View). u.begin) e ∙ elim (is_empty_range lo hi) as (λ b. (cond b t (marked t (mark_of_rows t n lo hi limit))).begin ≡ t.begin) [ true ↦ refl | false ↦ refl ]
-
-any_keys : (k : Bytes) (ws : List KeyWrite) → list_any (is_same_key k) (keys_of ws) ≡ is_some (written ws k)
-any_keys k [] = refl
-any_keys k (w ∷ ws) = elim (is_same_key k w.0) as (λ b. (b || list_any (is_same_key k) (keys_of ws)) ≡ is_some (cond b (Some w.1) (written ws k))) [ true ↦ refl | false ↦ any_keys k ws ]
 
 -- a read is not refused for its writes
 abbrev IsOfWrites : Response × PrivateCopy → Type 0

@@ -1,8 +1,8 @@
 -- Open transactions by session: the engine's beside the machine's.
-use Rattle.std.proofs.Common.{◌≡◌, ℕ, suc, Bool, true, false, cond, T, ◌&&◌, List, [], ◌∷◌, Some, None, refl, sym, ap, subst, ◌∙◌, length, arith}
+use Rattle.std.proofs.Common.{◌≡◌, ℕ, suc, Bool, true, false, cond, T, List, [], ◌∷◌, Some, None, refl, sym, ap, subst, ◌∙◌, length, arith}
 use Rattle.std.specs.Prelude.{not, ◌==◌}
 use Rattle.std.specs.List.{AllZip}
-use Rattle.std.specs.Ordering.{match_ordering, is_eq, is_lt, nat_cmp}
+use Rattle.std.specs.Ordering.{match_ordering, is_eq, nat_cmp}
 use Rattle.std.specs.declared.cmp.Ordering.{Ordering}
 use Rattle.std.specs.declared.cmp.Ordering.TheVariants.{Less, Equal, Greater}
 use Rattle.std.specs.Map.{lookup, remove_entry, set_value}
@@ -10,6 +10,7 @@ use Rattle.std.specs.BTreeMap.{insert_entry, is_at}
 use Rattle.std.specs.FinMap.Entries.{find, put, where_key, by_order, below_all, is_sorted}
 use Rattle.std.proofs.lemmas.Bool.Decides.{nat_tests}
 use Rattle.std.proofs.lemmas.Cmp.{nat_cmp_total}
+use Rattle.model.proofs.InOrder.{parts, less, find_none, below_later, below_equal}
 
 none_some : {B : Type 0} (x : B) → None ≡ Some x → ⊥
 none_some x q = cc
@@ -18,44 +19,12 @@ none_some x q = cc
 is_other : (s k : ℕ) → not (k == s) ≡ not (is_eq (nat_cmp s k))
 is_other s k = grind (arith, nat_tests)
 
-parts : (a b : Bool) → T (a && b) → T a × T b
-parts true b h = (tt, h)
-parts false b h = absurd h
-
-both : (a b : Bool) → T a → T b → T (a && b)
-both true b x y = y
-both false b x y = x
-
-less : (o : Ordering) → T (is_lt o) → o ≡ Less
-less Less h = refl
-less Equal h = absurd h
-less Greater h = absurd h
-
--- a session below all is not among them
-none_above : {B : Type 0} (s : ℕ) (rs : List (ℕ × B)) → T (below_all nat_cmp s rs) → find nat_cmp s rs ≡ None
-none_above s [] h = refl
-none_above s (r ∷ rs) h =
-    let p = parts _ _ h in
-    (λ i. cond (is_eq (less (nat_cmp s r.0) p.0 i)) (Some r.1) (find nat_cmp s rs)) ∙ none_above s rs p.1
-
 all_above : {B : Type 0} (s : ℕ) (rs : List (ℕ × B)) → T (below_all nat_cmp s rs) → where_key nat_cmp (λ x. not (x == s)) rs ≡ rs
 all_above s [] h = refl
 all_above s (r ∷ rs) h =
     let p = parts _ _ h in
     let stays : not (r.0 == s) ≡ true = is_other s r.0 ∙ ap (λ o. not (is_eq o)) (less (nat_cmp s r.0) p.0) in
     (λ i. cond (stays i) (r ∷ where_key nat_cmp (λ x. not (x == s)) rs) (where_key nat_cmp (λ x. not (x == s)) rs)) ∙ ap (λ l. r ∷ l) (all_above s rs p.1)
-
-still_below : {B : Type 0} (s x : ℕ) (rs : List (ℕ × B)) → nat_cmp s x ≡ Less → T (below_all nat_cmp x rs) → T (below_all nat_cmp s rs)
-still_below s x [] e h = tt
-still_below s x (r ∷ rs) e h =
-    let p = parts _ _ h in
-    both _ _ (subst (λ o. T (is_lt o)) (sym (nat_cmp_total.trans s x r.0 e (less _ p.0))) tt) (still_below s x rs e p.1)
-
-same_below : {B : Type 0} (s x : ℕ) (rs : List (ℕ × B)) → nat_cmp s x ≡ Equal → T (below_all nat_cmp x rs) → T (below_all nat_cmp s rs)
-same_below s x [] e h = tt
-same_below s x (r ∷ rs) e h =
-    let p = parts _ _ h in
-    both _ _ (subst (λ o. T (is_lt o)) (sym (nat_cmp_total.congr s x r.0 e)) p.0) (same_below s x rs e p.1)
 
 module _ {A B : Type 0} (R : A → B → Type 0) where
   abbrev pub Beside : List (ℕ × A) → List (ℕ × B) → Type 0
@@ -122,7 +91,7 @@ module _ {A B : Type 0} (R : A → B → Type 0) where
     where
       by : (o : Ordering) → nat_cmp s r.0 ≡ o → (b : Bool) → b ≡ is_eq o → (b' : Bool) → b' ≡ not (is_eq o) → Beside (remove_entry (is_at (nat_cmp s)) xs) (where_key nat_cmp (λ x. not (x == s)) rs) →
           Beside (cond b xs (x ∷ remove_entry (is_at (nat_cmp s)) xs)) (cond b' (r ∷ where_key nat_cmp (λ x. not (x == s)) rs) (where_key nat_cmp (λ x. not (x == s)) rs))
-      by Equal o true e false e' rest = subst (λ l. Beside xs l) (sym (all_above s rs (same_below s r.0 rs o (parts _ _ sorted).0))) h.1
+      by Equal o true e false e' rest = subst (λ l. Beside xs l) (sym (all_above s rs (below_equal nat_cmp_total s r.0 rs o (parts _ _ sorted).0))) h.1
       by Less o false e true e' rest = (h.0, rest)
       by Greater o false e true e' rest = (h.0, rest)
       by Equal o false e b' e' rest = cc
@@ -147,7 +116,7 @@ module _ {A B : Type 0} (R : A → B → Type 0) where
       by Greater o false g f rest = (h.0, rest f)
       by Less o false g f rest =
           let there = beside_some s t xs rs h.1 f in
-          let absent = none_above s rs (still_below s r.0 rs o (parts _ _ sorted).0) in
+          let absent = find_none nat_cmp s rs (below_later nat_cmp_total s r.0 rs o (parts _ _ sorted).0) in
           absurd (none_some _ (sym absent ∙ there.is))
       by Equal o false g f rest = cc
       by Greater o true g f rest = cc

@@ -37,7 +37,7 @@ after_append : (m : State) (is : List Input) (i : Input) → state_after m (is +
 after_append m [] i = refl
 after_append m (j ∷ is) i = after_append (next m j) is i
 
-reached_next : (m : State) (i : Input) → IsReached m → IsReached (next m i)
+pub reached_next : (m : State) (i : Input) → IsReached m → IsReached (next m i)
 reached_next m i h = record {
   contents = h.contents;
   sectors_used = h.sectors_used;

@@ -1,12 +1,13 @@
 -- How much is held of writes.
-use Rattle.std.proofs.Common.{◌≡◌, ◌≢◌, ◌<◌, ◌⊎◌, ℕ, ◌+◌, ◌-◌, ◌^◌, min, true, false, List, [], ◌∷◌, ◌++◌, None, refl, ap, subst, ◌∙◌, inl, inr, arith, append_assoc}
+use Rattle.std.proofs.lemmas.Grind.{common_steps}
+use Rattle.std.proofs.Common.{◌≡◌, ◌≢◌, ◌<◌, ◌⊎◌, ℕ, ◌+◌, ◌-◌, ◌^◌, min, true, false, List, [], ◌∷◌, ◌++◌, None, refl, ap, subst, inl, inr, arith, append_assoc}
 use Rattle.std.specs.declared.cmp.Ordering.{Ordering}
 use Rattle.std.specs.declared.cmp.Ordering.TheVariants.{Less, Equal, Greater}
 use Rattle.std.specs.Ordering.{is_eq, is_lt, is_gt}
 use Rattle.std.specs.Cmp.Lexicographic.{nat_list_cmp_total}
 use Rattle.std.proofs.lemmas.List.Sums.{sum_by_push}
 use Rattle.model.specs.Map.{Bytes, KeyWrite, key_cmp, is_same_key}
-use Rattle.latest_writes.specs.Held.{weight, weight_of, HasOneOfEach, IsHeld}
+use Rattle.latest_writes.specs.Held.{weight, HasOneOfEach, IsHeld}
 use Rattle.latest_writes.proofs.Sweeping.{IsUpTo, same_key}
 
 abbrev pub IsUnder : Bytes → Bytes → Type 0
@@ -48,16 +49,4 @@ one_more (w ∷ v ∷ ws) p e h lt some = (h.0, h.1, one_more (v ∷ ws) p e h.2
 
 -- one write more, below the limit
 pub held_more : (old new : List KeyWrite) (w : KeyWrite) (total limit more : ℕ) → IsHeld old total limit → new ≡ old ++ w ∷ [] → more ≡ min (total + weight w) (2 ^ 64 - 1) → more < limit → IsHeld new more limit
-held_more old new w total limit more held is more_is below =
-    let sum : weight_of new ≡ weight_of old + weight w = ap weight_of is ∙ sum_by_push weight old w in
-    let was = held.total_is in
-    let le = held.limit_is in
-    record {
-      kept = held.kept;
-      later = held.later ++ w ∷ [];
-      joined = is ∙ ap (λ (l : List KeyWrite). l ++ w ∷ []) held.joined ∙ append_assoc held.kept held.later (w ∷ []);
-      one_of_each = held.one_of_each;
-      few = omega arith;
-      total_is = omega arith;
-      limit_is = held.limit_is;
-    }
+held_more old new w total limit more held is more_is below = grind (arith, common_steps, sum_by_push, append_assoc)

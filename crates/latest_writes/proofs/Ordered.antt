@@ -1,9 +1,10 @@
 -- The first bytes of two keys stand as the keys do, where they differ.
-use Rattle.std.proofs.Common.{◌≡◌, ℕ, zero, suc, ◌+◌, ◌*◌, ◌^◌, ◌<◌, ◌≤◌, List, [], ◌∷◌, drop, refl, sym, ap, ◌∙◌, arith}
+use Rattle.std.proofs.lemmas.Grind.{common_steps}
+use Rattle.std.proofs.Common.{◌≡◌, ℕ, zero, suc, ◌+◌, ◌*◌, ◌^◌, ◌<◌, ◌≤◌, List, [], ◌∷◌, drop, refl, ap, ◌∙◌, arith}
 use Rattle.std.proofs.Math.Nat.{mul-le-mul_left}
 use Rattle.std.specs.declared.cmp.Ordering.{Ordering}
-use Rattle.std.specs.declared.cmp.Ordering.TheVariants.{Less, Equal, Greater}
-use Rattle.std.specs.Ordering.{nat_cmp, ordering_then, ordering_reverse, MatchOrdering}
+use Rattle.std.specs.declared.cmp.Ordering.TheVariants.{Less, Greater}
+use Rattle.std.specs.Ordering.{nat_cmp, ordering_then, ordering_reverse}
 use Rattle.std.specs.Cmp.Lexicographic.{slice_cmp, nat_list_cmp_total}
 use Rattle.std.proofs.lemmas.Cmp.{ranked, by_ranked}
 use Rattle.latest_writes.specs.Heads.{head, AreBytes}
@@ -18,12 +19,7 @@ above : (P x y a b : ℕ) → a < P → y < x → y * P + a < x * P + b
 above P x y a b fits lt = let m : P * (y + 1) ≤ P * x = mul-le-mul_left P (omega arith) in omega (arith, m)
 
 then_less : (o : Ordering) (x y : ℕ) (rest : Ordering) → o ≡ nat_cmp x y → (x < y → Less ≡ Less) → (x ≡ y → rest ≡ Less) → (y < x → ordering_then o rest ≡ Less) → ordering_then o rest ≡ Less
-then_less o x y rest is less same more = cases o (ranked x y o is) more
-  where
-    cases : (q : Ordering) → MatchOrdering q (x < y) (x ≡ y) (y < x) → (y < x → ordering_then q rest ≡ Less) → ordering_then q rest ≡ Less
-    cases Less p g = refl
-    cases Equal p g = same p
-    cases Greater p g = g p
+then_less o x y rest is less same more = grind (arith, common_steps, ranked)
 
 -- the first n bytes decide
 pub less : (n : ℕ) (xs ys : List ℕ) → AreBytes xs → AreBytes ys → head n xs < head n ys → slice_cmp nat_cmp xs ys ≡ Less
@@ -53,14 +49,8 @@ turned xs ys e = nat_list_cmp_total.antisymm xs ys ∙ ap ordering_reverse e
 
 -- numbers that differ stand as the keys do
 pub by_first : (n : ℕ) (xs ys : List ℕ) (a b : ℕ) (o : Ordering) → AreBytes xs → AreBytes ys → a ≡ head n xs → b ≡ head n ys → (a ≡ b → ⊥) → o ≡ nat_cmp a b → o ≡ slice_cmp nat_cmp xs ys
-by_first n xs ys a b o h g is_a is_b differ is = by_ranked (a < b) (a ≡ b) (b < a) o (ranked a b o is)
-    (λ e p. e ∙ sym (less n xs ys h g (omega arith)))
-    (λ e p. absurd (differ p))
-    (λ e p. e ∙ sym (turned xs ys (less n ys xs g h (omega arith))))
+by_first n xs ys a b o h g is_a is_b differ is = grind (arith, common_steps, by_ranked, ranked, less, turned)
 
 pub by_next : (n m : ℕ) (xs ys : List ℕ) (a b c d : ℕ) (o : Ordering) → AreBytes xs → AreBytes ys → c ≡ head n xs → d ≡ head n ys → c ≡ d
     → a ≡ head m (drop n xs) → b ≡ head m (drop n ys) → (a ≡ b → ⊥) → o ≡ nat_cmp a b → o ≡ slice_cmp nat_cmp xs ys
-by_next n m xs ys a b c d o h g is_c is_d same is_a is_b differ is = by_ranked (a < b) (a ≡ b) (b < a) o (ranked a b o is)
-    (λ e p. e ∙ sym (less_behind n m xs ys h g (sym is_c ∙ same ∙ is_d) (omega arith)))
-    (λ e p. absurd (differ p))
-    (λ e p. e ∙ sym (turned xs ys (less_behind n m ys xs g h (sym is_d ∙ sym same ∙ is_c) (omega arith))))
+by_next n m xs ys a b c d o h g is_c is_d same is_a is_b differ is = grind (arith, common_steps, by_ranked, ranked, less_behind, turned)

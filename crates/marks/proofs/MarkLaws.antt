@@ -42,12 +42,3 @@ with_new hs gs h ms m is new same pushed =
 pub copied : (hs all : List Held) (i : ℕ) (h g : Held) → i < length all → marks_of hs ≡ marks_of (take i all) → mark_of h ≡ mark_of g → g ≡ get_or all i g → marks_of (hs ++ h ∷ []) ≡ marks_of (take (i + 1) all)
 copied hs all i h g lt same made is =
     marks_of-push hs h ∙ (λ j. same j ++ made j ∷ []) ∙ sym (ap marks_of (take_more all i g lt ∙ ap (λ x. take i all ++ x ∷ []) (sym is)) ∙ marks_of-push (take i all) g)
-
-pub all_copied : (hs all : List Held) (i : ℕ) → length all ≤ i → marks_of hs ≡ marks_of (take i all) → marks_of hs ≡ marks_of all
-all_copied hs all i le same = same ∙ ap marks_of (take_all all i le)
-  where
-    take_all : (xs : List Held) (n : ℕ) → length xs ≤ n → take n xs ≡ xs
-    take_all [] zero h = refl
-    take_all [] (suc n) h = refl
-    take_all (x ∷ xs) zero h = absurd (omega arith)
-    take_all (x ∷ xs) (suc n) h = ap (λ l. x ∷ l) (take_all xs n (omega arith))

@@ -1,5 +1,6 @@
 -- What a reader found at the front decides which answer is right, since no request begins another.
-use Rattle.std.proofs.Common.{◌≡◌, ℕ, ◌-◌, ◌≤◌, List, [], ◌++◌, length, take, drop, refl, sym, ap, subst, ◌∙◌, append_assoc, arith, length-append}
+use Rattle.std.proofs.lemmas.Grind.{common_steps}
+use Rattle.std.proofs.Common.{◌≡◌, ℕ, ◌-◌, ◌≤◌, List, [], ◌++◌, length, take, drop, refl, sym, ap, ◌∙◌, append_assoc, arith, length-append}
 use Rattle.std.proofs.lemmas.List.{append-nil, take-append-drop, take_at, length-take-le}
 use Rattle.model.specs.Grammar.{array_of_bulks, Spells, FrontSpells, IsProperBeginning}
 use Rattle.resp.specs.Reading.{IsForeign}
@@ -14,10 +15,7 @@ module _ (input text rest : List ℕ) (parts : List (List ℕ)) (used : ℕ) (sp
   text_len = omega (arith, ap length is, length-append text rest)
 
   pub is_whole : (ps : List (List ℕ)) (n : ℕ) → (parts ≡ ps) × (used ≡ n) → FrontSpells input n ps
-  is_whole ps n same =
-      let at : take n input ≡ text = ap (take n) is ∙ take_at text rest n (omega (arith, same.1, text_len)) in
-      let q = same.0 in
-      (omega (arith, same.1, long), subst (Spells (take n input)) q (spells.0, at ∙ spells.1))
+  is_whole ps n same = grind (arith, common_steps, take_at, text_len)
 
   pub only_whole : (ps : List (List ℕ)) (n : ℕ) → FrontSpells input n ps → (parts ≡ ps) × (used ≡ n)
   only_whole ps n h =

@@ -1,4 +1,5 @@
 -- The pairs that an iterator gives, written one after the other.
+use Rattle.std.proofs.lemmas.Grind.{common_steps}
 use Rattle.std.proofs.Common.{◌≡◌, ℕ, ◌*◌, ◌≤◌, List, [], ◌∷◌, ◌++◌, length, map, Option, None, refl, sym, ap, subst, ◌∙◌, append_assoc, arith, length-append}
 use Rattle.std.specs.Prelude.{codes}
 use Rattle.std.specs.List.{flat_map}
@@ -35,10 +36,7 @@ pairs_more n pairs pair =
 
 -- a front of the pairs has no longer text than all
 pub pairs_front : (n : ℕ) (pairs : List (KeyRef × Bor (List ℕ))) (rest all : List (List ℕ × List ℕ)) → map pair_bytes pairs ++ rest ≡ all → length all ≡ n → length (pairs_text n pairs) ≤ length (reply_text (Pairs all))
-pairs_front n pairs rest all is len =
-    let line = codes "*" ++ decimal (2 * n) ++ crlf in
-    let whole : reply_text (Pairs all) ≡ line ++ (flat_map pair_text (map pair_bytes pairs) ++ flat_map pair_text rest) = ap (λ (k : ℕ). (codes "*" ++ decimal (2 * k) ++ crlf) ++ flat_map pair_text all) len ∙ ap (λ (xs : List ℕ). line ++ xs) (sym (ap (flat_map pair_text) is) ∙ flat_map-append pair_text (map pair_bytes pairs) rest) in
-    omega (arith, ap length whole, length-append line (flat_map pair_text (map pair_bytes pairs) ++ flat_map pair_text rest), length-append line (flat_map pair_text (map pair_bytes pairs)), length-append (flat_map pair_text (map pair_bytes pairs)) (flat_map pair_text rest))
+pairs_front n pairs rest all is len = grind (arith, common_steps, flat_map-append, length-append)
 
 -- what always comes is one list
 pub same_given : {S A B : Type 0} (steps : S → Option A → S → Type 0) (view : A → B) (s : S) (all : List B) (xs : List A) (t u : S) → AlwaysYields steps view s all → Yields steps s xs t → steps t None u → map view xs ≡ all

@@ -1,5 +1,6 @@
 -- The parts of a request, written one after the other.
-use Rattle.std.proofs.Common.{◌≡◌, ℕ, ◌+◌, ◌<◌, ◌≤◌, List, [], ◌∷◌, ◌++◌, length, get_or, take, drop, map, sym, ap, ◌∙◌, append_assoc, arith, length-append}
+use Rattle.std.proofs.lemmas.Grind.{common_steps}
+use Rattle.std.proofs.Common.{◌≡◌, ℕ, ◌+◌, ◌<◌, ◌≤◌, List, ◌∷◌, ◌++◌, length, get_or, take, drop, map, sym, ap, ◌∙◌, append_assoc, arith, length-append}
 use Rattle.std.specs.List.{flat_map}
 use Rattle.std.specs.Borrow.{Bor}
 use Rattle.std.specs.Fmt.{decimal}
@@ -16,16 +17,7 @@ abbrev pub parts_text : ℕ → List (Bor (List ℕ)) → List ℕ
 parts_text n parts = (42 ∷ decimal n ++ crlf) ++ flat_map bulk (bytes_of parts)
 
 pub parts_more : (n : ℕ) (parts : List (Bor (List ℕ))) (i : ℕ) (d : Bor (List ℕ)) → i < length parts → parts_text n (take (i + 1) parts) ≡ parts_text n (take i parts) ++ bulk (get_or parts i d).now
-parts_more n parts i d lt =
-    let now = λ (part : Bor (List ℕ)). part.now in
-    let front = take i parts in
-    let part = get_or parts i d in
-    let bulks : flat_map bulk (bytes_of (take (i + 1) parts)) ≡ flat_map bulk (bytes_of front) ++ bulk part.now =
-    ap (λ (ps : List (Bor (List ℕ))). flat_map bulk (bytes_of ps)) (take_more parts i d lt)
-    ∙ ap (flat_map bulk) (map-append now front (part ∷ []))
-    ∙ flat_map-append bulk (bytes_of front) (part.now ∷ [])
-    ∙ ap (λ (xs : List ℕ). flat_map bulk (bytes_of front) ++ xs) (append-nil (bulk part.now)) in
-    ap (λ (xs : List ℕ). (42 ∷ decimal n ++ crlf) ++ xs) bulks ∙ sym (append_assoc (42 ∷ decimal n ++ crlf) (flat_map bulk (bytes_of front)) (bulk part.now))
+parts_more n parts i d lt = grind (arith, common_steps, take_more, map-append, flat_map-append, append-nil, append_assoc)
 
 -- the line and all the parts are the request
 pub parts_all : (n : ℕ) (parts : List (Bor (List ℕ))) → length (bytes_of parts) ≡ n → parts_text n parts ≡ array_of_bulks (bytes_of parts)

@@ -1,7 +1,7 @@
 -- The parts that a request lends.
+use Rattle.std.proofs.lemmas.Grind.{common_steps}
 use Rattle.std.proofs.Common.{◌≡◌, ◌<◌, [], ◌∷◌, List, ℕ, length, take, map, arith, ◌+◌, ◌++◌, set, ap, ◌∙◌, length-append}
 use Rattle.std.proofs.lemmas.List.{map-set, take_more_set, length-map}
-use Rattle.std.proofs.lemmas.List.Elements.{All-push}
 use Rattle.model.specs.Grammar.{IsPart, IsRequest}
 use Rattle.std.specs.Borrow.{Bor}
 
@@ -17,8 +17,4 @@ lent_more parts len part room =
 
 -- and the parts are a request again
 pub request_more : (parts : List (List ℕ)) (part : List ℕ) → IsRequest parts → length parts < 4 → IsPart part → IsRequest (parts ++ part ∷ [])
-request_more parts part so_far less fits = record {
-  some = omega (arith, length-append parts (part ∷ []), so_far.some);
-  few = omega (arith, length-append parts (part ∷ []));
-  each = All-push IsPart parts part so_far.each fits;
-}
+request_more parts part so_far less fits = grind (arith, common_steps, length-append)

@@ -1,4 +1,5 @@
 -- The number whose decimal some digits are.
+use Rattle.std.proofs.lemmas.Grind.{common_steps}
 use Rattle.std.proofs.Common.{◌≡◌, ℕ, zero, suc, ◌<◌, ◌≤◌, ◌^◌, List, Bool, false, cond, Some, None, refl, sym, ap, ◌∙◌, arith, inl, inr}
 use Rattle.std.specs.Prelude.{Result, Ok, Err}
 use Rattle.std.specs.Fmt.{decimal}
@@ -27,11 +28,7 @@ number_found (suc most) n digits small some le e =
 number_absent : (most : ℕ) (digits : List ℕ) → ((n : ℕ) → 1 ≤ n → n ≤ most → digits ≡ decimal n → ⊥) → number_up_to most digits ≡ None
 unfolding number_up_to
 number_absent zero digits none = refl
-number_absent (suc most) digits none =
-    elim (cases_Bool (bytes_eq digits (decimal (suc most)))) [
-      | inl same ↦ absurd (none (suc most) (omega arith) (omega arith) ((bytes_eq-Decides digits (decimal (suc most))).0 same))
-      | inr other ↦ ap (λ (b : Bool). cond b (Some (suc most)) (number_up_to most digits)) other ∙ number_absent most digits (λ n some le e. none n some (omega arith) e)
-    ]
+number_absent (suc most) digits none = grind (arith, common_steps, cases_Bool, bytes_eq-Decides, number_absent most digits (λ n some le e. none n some (omega arith) e))
 
 abbrev given : ℕ → Result ℕ Refusal
 given n = Ok n

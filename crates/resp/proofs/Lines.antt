@@ -1,4 +1,5 @@
 -- The two kinds of line with a number.
+use Rattle.std.proofs.lemmas.Grind.{common_steps}
 use Rattle.std.proofs.Common.{◌≡◌, ℕ, ◌+◌, ◌-◌, ◌^◌, ◌<◌, ◌≤◌, List, [], ◌∷◌, ◌++◌, length, get_or, take, drop, refl, sym, ap, subst, ◌∙◌, append_assoc, arith}
 use Rattle.std.specs.Fmt.{decimal}
 use Rattle.std.proofs.lemmas.Fmt.{decimal_digit, decimal_injective}
@@ -13,11 +14,7 @@ use Rattle.resp.proofs.Digits.{IsDigit, AreDigits, same_digits, is_front, decima
 
 -- the first byte and the others
 pub first_and_rest : (bytes : List ℕ) → 1 ≤ length bytes → bytes ≡ get_or bytes 0 0 ∷ take (length bytes - 1) (drop 1 bytes)
-first_and_rest bytes some = at_front bytes some ∙ ap (λ (xs : List ℕ). get_or bytes 0 0 ∷ xs) (sym (take_rest bytes 1))
-  where
-    at_front : (bytes : List ℕ) → 1 ≤ length bytes → bytes ≡ get_or bytes 0 0 ∷ drop 1 bytes
-    at_front [] some = absurd (omega arith)
-    at_front (x ∷ bytes) some = refl
+first_and_rest bytes some = grind (arith, common_steps, take_rest)
 
 not_return : IsDigit 13 → ⊥
 not_return d = omega arith
@@ -27,10 +24,7 @@ line_text : (n : ℕ) (others : List ℕ) → (decimal n ++ crlf) ++ others ≡ 
 line_text n others = append_assoc (decimal n) crlf others
 
 pub line_one_form : (m n : ℕ) (a b : List ℕ) → m < 2 ^ 64 → n < 2 ^ 64 → (decimal m ++ crlf) ++ a ≡ (decimal n ++ crlf) ++ b → (m ≡ n) × (a ≡ b)
-line_one_form m n a b lm ln e =
-    let same = same_digits (decimal m) (decimal n) 13 13 (10 ∷ a) (10 ∷ b) (decimal_digits m lm) (decimal_digits n ln) not_return not_return (sym (line_text m a) ∙ e ∙ line_text n b) in
-    let tails : 13 ∷ 10 ∷ a ≡ 13 ∷ 10 ∷ b = same.1 in
-    (decimal_injective m n lm ln same.0, cc)
+line_one_form m n a b lm ln e = grind (arith, common_steps, same_digits, decimal_digits, not_return, line_text, decimal_injective)
 
 -- ---- the number of parts
 
@@ -45,11 +39,7 @@ nothing_of_count [] none = (decimal 1 ++ crlf, 1, lit, (omega arith, omega arith
 nothing_of_count (x ∷ bytes) none = absurd (omega arith)
 
 pub no_count : (bytes : List ℕ) → 1 ≤ length bytes → (49 ≤ get_or bytes 0 0 → get_or bytes 0 0 ≤ 52 → ⊥) → Stops CountLine bytes Bad
-no_count [] some other = absurd (omega arith)
-no_count (d ∷ bytes) some other = λ text more others n h e.
-    let spelled : d ∷ (bytes ++ more) ≡ ((48 + n) ∷ crlf) ++ others = e ∙ ap (λ (xs : List ℕ). xs ++ others) (h.2 ∙ ap (λ (xs : List ℕ). xs ++ crlf) (decimal_digit n (omega (arith, h.1)))) in
-    let first : d ≡ 48 + n = cc in
-    other (omega (arith, h.0)) (omega (arith, h.1))
+no_count a0 a1 a2 = grind (arith, common_steps, decimal_digit)
 
 pub count_behind : (bytes rest : List ℕ) (d : ℕ) (e : Stop) → bytes ≡ d ∷ rest → 49 ≤ d → d ≤ 52 → Stops (Only crlf) rest e → Stops CountLine bytes e
 count_behind bytes rest d e is low high stopped =
@@ -96,9 +86,7 @@ length_behind bytes digits rest len e is number fits last stopped =
     stopped
   where
     must : (rest : List ℕ) → 1 ≤ length rest → NoDigitFirst rest → (text more others : List ℕ) (n : ℕ) → LengthLine text n → digits ++ (rest ++ more) ≡ text ++ others → rest ++ more ≡ crlf ++ others
-    must [] some last text more others n h joined = absurd (omega arith)
-    must (c ∷ rest) some last text more others n h joined =
-        (same_digits digits (decimal n) c 13 (rest ++ more) (10 ∷ others) (subst AreDigits (sym number) (decimal_digits len (omega arith))) (decimal_digits n (omega (arith, h.0))) (last (omega arith)) not_return (joined ∙ ap (λ (xs : List ℕ). xs ++ others) h.1 ∙ line_text n others)).1
+    must a0 a1 a2 a3 a4 a5 a6 a7 a8 = grind (arith, common_steps, same_digits, decimal_digits, not_return, line_text)
 
 pub length_text : (bytes digits rest after : List ℕ) (len : ℕ) → bytes ≡ digits ++ rest → digits ≡ decimal len → len ≤ value_max → rest ≡ crlf ++ after → (text : List ℕ) × LengthLine text len × (bytes ≡ text ++ after)
 length_text bytes digits rest after len is number fits ended =

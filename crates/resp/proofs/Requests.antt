@@ -1,10 +1,11 @@
 -- Parts and requests: one form, and where a reader stops within one.
+use Rattle.std.proofs.lemmas.Grind.{common_steps}
 use Rattle.std.proofs.Common.{◌≡◌, ℕ, ◌+◌, ◌-◌, ◌<◌, ◌≤◌, List, [], ◌∷◌, ◌++◌, length, replicate, refl, sym, ap, ◌∙◌, append_assoc, arith, All, length-append}
 use Rattle.std.specs.List.{flat_map}
 use Rattle.std.specs.Fmt.{decimal}
 use Rattle.std.proofs.lemmas.List.{append-nil, length-replicate}
 use Rattle.std.proofs.lemmas.List.Concat.{flat_map-append}
-use Rattle.std.proofs.lemmas.List.Elements.{All-append, All-replicate, All-nil, All-cons, All-head, All-tail, All-push}
+use Rattle.std.proofs.lemmas.List.Elements.{All-append, All-replicate, All-nil, All-cons, All-head, All-tail}
 use Rattle.model.specs.Bounds.{value_max}
 use Rattle.resp.specs.declared.decoding.Stop.{Stop}
 use Rattle.resp.specs.declared.decoding.Stop.TheVariants.{More}
@@ -16,13 +17,12 @@ use Rattle.resp.proofs.Lines.{line_one_form}
 -- lists of one length before others
 pub same_front : (xs ys a b : List ℕ) → length xs ≡ length ys → xs ++ a ≡ ys ++ b → (xs ≡ ys) × (a ≡ b)
 same_front [] [] a b len e = (refl, e)
-same_front [] (y ∷ ys) a b len e = absurd (omega arith)
-same_front (x ∷ xs) [] a b len e = absurd (omega arith)
 same_front (x ∷ xs) (y ∷ ys) a b len e =
     let t : xs ++ a ≡ ys ++ b = cc in
     let same = same_front xs ys a b (omega arith) t in
     let first = same.0 in
     (cc, same.1)
+same_front b0 b1 a b len e = absurd (omega arith)
 
 -- ---- parts
 
@@ -31,20 +31,11 @@ pub bulk_text : (part others : List ℕ) → bulk part ++ others ≡ 36 ∷ ((de
 bulk_text part others = simp append_assoc
 
 pub bulk_one_form : (p q a b : List ℕ) → IsPart p → IsPart q → bulk p ++ a ≡ bulk q ++ b → (p ≡ q) × (a ≡ b)
-bulk_one_form p q a b ip iq e =
-    let spelled : 36 ∷ ((decimal (length p) ++ crlf) ++ (p ++ (crlf ++ a))) ≡ 36 ∷ ((decimal (length q) ++ crlf) ++ (q ++ (crlf ++ b))) = sym (bulk_text p a) ∙ e ∙ bulk_text q b in
-    let lines : (decimal (length p) ++ crlf) ++ (p ++ (crlf ++ a)) ≡ (decimal (length q) ++ crlf) ++ (q ++ (crlf ++ b)) = cc in
-    let line = line_one_form (length p) (length q) (p ++ (crlf ++ a)) (q ++ (crlf ++ b)) (omega (arith, ip.short)) (omega (arith, iq.short)) lines in
-    let same = same_front p q (crlf ++ a) (crlf ++ b) line.0 line.1 in
-    let ends : 13 ∷ 10 ∷ a ≡ 13 ∷ 10 ∷ b = same.1 in
-    (same.0, cc)
+bulk_one_form p q a b ip iq e = grind (arith, common_steps, bulk_text, line_one_form, same_front)
 
 -- a part's text from its parts
 joined_text : (digits front back : List ℕ) → (36 ∷ ((digits ++ crlf) ++ front)) ++ (back ++ crlf) ≡ (((36 ∷ digits) ++ crlf) ++ (front ++ back)) ++ crlf
-joined_text digits front back = ap (λ (xs : List ℕ). 36 ∷ xs) (regroup digits crlf front back)
-  where
-    regroup : (d c f b : List ℕ) → ((d ++ c) ++ f) ++ (b ++ c) ≡ ((d ++ c) ++ (f ++ b)) ++ c
-    regroup d c f b = simp append_assoc
+joined_text digits front back = grind (arith, common_steps, append_assoc)
 
 zeros_part : (n : ℕ) → n ≤ value_max → IsPart (replicate n 0)
 zeros_part n le = record { short = omega (arith, length-replicate {A = ℕ} n 0); bytes = All-replicate (λ b. b < 256) n 0 (omega arith) }
@@ -71,10 +62,6 @@ part_length bytes rest e is stopped =
     made : (t : List ℕ) (n : ℕ) → t ≡ decimal n ++ crlf → (36 ∷ []) ++ (t ++ (replicate n 0 ++ crlf)) ≡ bulk (replicate n 0)
     made t n same = rw (same, length-replicate {A = ℕ} n 0) (ap (λ (xs : List ℕ). 36 ∷ xs) (sym (append_assoc (decimal n ++ crlf) (replicate n 0) crlf)))
 
--- the text of a part up to the end of its bytes
-pub part_front : (len : ℕ) (part : List ℕ) → List ℕ
-part_front len part = 36 ∷ ((decimal len ++ crlf) ++ part)
-
 pub part_short : (bytes line rest : List ℕ) (len : ℕ) → bytes ≡ 36 ∷ (line ++ rest) → LengthLine line len → length rest < len → All (λ b. b < 256) rest → Stops PartText bytes More
 part_short bytes line rest len is h less bytes_fit =
     let gap = len - length rest in
@@ -98,18 +85,10 @@ part_end bytes line part rest len e is h same_len bytes_fit stopped =
     made line part len same same_len = rw (same, same_len) refl
 
     behind : (line part : List ℕ) (len : ℕ) (p rest more others : List ℕ) → LengthLine line len → IsPart part → length part ≡ len → IsPart p → (36 ∷ (line ++ part)) ++ (rest ++ more) ≡ bulk p ++ others → rest ++ more ≡ crlf ++ others
-    behind line part len p rest more others h fits same_len ip joined =
-        let spelled : 36 ∷ (line ++ (part ++ (rest ++ more))) ≡ 36 ∷ ((decimal (length p) ++ crlf) ++ (p ++ (crlf ++ others))) = ap (λ (xs : List ℕ). 36 ∷ xs) (sym (append_assoc line part (rest ++ more))) ∙ joined ∙ bulk_text p others in
-        let lines : line ++ (part ++ (rest ++ more)) ≡ (decimal (length p) ++ crlf) ++ (p ++ (crlf ++ others)) = cc in
-        let one = line_one_form len (length p) (part ++ (rest ++ more)) (p ++ (crlf ++ others)) (omega (arith, h.0)) (omega (arith, ip.short)) (ap (λ (xs : List ℕ). xs ++ (part ++ (rest ++ more))) (sym h.1) ∙ lines) in
-        (same_front part p (rest ++ more) (crlf ++ others) (same_len ∙ one.0) one.1).1
+    behind line part len p rest more others h fits same_len ip joined = grind (arith, common_steps, append_assoc, bulk_text, line_one_form, same_front)
 
 pub part_text : (bytes line part rest after : List ℕ) (len : ℕ) → bytes ≡ 36 ∷ (line ++ (part ++ rest)) → LengthLine line len → length part ≡ len → All (λ b. b < 256) part → rest ≡ crlf ++ after → (text : List ℕ) × PartText text part × (bytes ≡ text ++ after)
-part_text bytes line part rest after len is h same_len bytes_fit ended =
-    (bulk part, (record { short = omega (arith, h.0); bytes = bytes_fit }, refl), made)
-  where
-    made : bytes ≡ bulk part ++ after
-    made = rw (is, ended, h.1, ← same_len) (sym (bulk_text part after))
+part_text bytes line part rest after len is h same_len bytes_fit ended = grind (arith, common_steps, bulk_text)
 
 -- ---- requests
 
@@ -120,22 +99,17 @@ array_text parts others = ap (λ (xs : List ℕ). 42 ∷ xs) (append_assoc (deci
 -- as many parts with one text are the same
 parts_one_form : (ps qs : List (List ℕ)) (a b : List ℕ) → length ps ≡ length qs → All IsPart ps → All IsPart qs → flat_map bulk ps ++ a ≡ flat_map bulk qs ++ b → (ps ≡ qs) × (a ≡ b)
 parts_one_form [] [] a b len ips iqs e = (refl, e)
-parts_one_form [] (q ∷ qs) a b len ips iqs e = absurd (omega arith)
-parts_one_form (p ∷ ps) [] a b len ips iqs e = absurd (omega arith)
 parts_one_form (p ∷ ps) (q ∷ qs) a b len ips iqs e =
     let one = bulk_one_form p q (flat_map bulk ps ++ a) (flat_map bulk qs ++ b) (All-head IsPart p ps ips) (All-head IsPart q qs iqs) (sym (append_assoc (bulk p) (flat_map bulk ps) a) ∙ e ∙ append_assoc (bulk q) (flat_map bulk qs) b) in
     let others = parts_one_form ps qs a b (omega arith) (All-tail IsPart p ps ips) (All-tail IsPart q qs iqs) one.1 in
     let first = one.0 in
     let rest = others.0 in
     (cc, others.1)
+parts_one_form b0 b1 a b len ips iqs e = absurd (omega arith)
 
 -- one request's text doesn't begin another's
 pub array_one_form : (ps qs : List (List ℕ)) (a b : List ℕ) → IsRequest ps → IsRequest qs → array_of_bulks ps ++ a ≡ array_of_bulks qs ++ b → (ps ≡ qs) × (a ≡ b)
-array_one_form ps qs a b ips iqs e =
-    let spelled : 42 ∷ ((decimal (length ps) ++ crlf) ++ (flat_map bulk ps ++ a)) ≡ 42 ∷ ((decimal (length qs) ++ crlf) ++ (flat_map bulk qs ++ b)) = sym (array_text ps a) ∙ e ∙ array_text qs b in
-    let lines : (decimal (length ps) ++ crlf) ++ (flat_map bulk ps ++ a) ≡ (decimal (length qs) ++ crlf) ++ (flat_map bulk qs ++ b) = cc in
-    let line = line_one_form (length ps) (length qs) (flat_map bulk ps ++ a) (flat_map bulk qs ++ b) (omega (arith, ips.few)) (omega (arith, iqs.few)) lines in
-    parts_one_form ps qs a b line.0 ips.each iqs.each line.1
+array_one_form ps qs a b ips iqs e = grind (arith, common_steps, array_text, line_one_form, parts_one_form)
 
 -- after some of a request's parts, the next one follows
 next_part : (done ps : List (List ℕ)) (a b : List ℕ) → All IsPart done → All IsPart ps → length done < length ps → flat_map bulk done ++ a ≡ flat_map bulk ps ++ b → (t c : List ℕ) × (p : List ℕ) × PartText t p × (a ≡ t ++ c)
@@ -186,28 +160,10 @@ pub record IsReadTo (bytes : List ℕ) (count i : ℕ) (parts : List (List ℕ))
   pub text : bytes ≡ request_front count parts ++ rest
 
 pub read_start : (bytes rest line after : List ℕ) (count : ℕ) → bytes ≡ 42 ∷ rest → CountLine line count → rest ≡ line ++ after → IsReadTo bytes count 0 [] after
-read_start bytes rest line after count is h line_is = record {
-  some = h.0;
-  few = h.1;
-  len = refl;
-  each = All-nil IsPart;
-  text = is ∙ ap (λ (xs : List ℕ). 42 ∷ xs) (line_is ∙ ap (λ (xs : List ℕ). xs ++ after) (h.2 ∙ sym (append-nil (decimal count ++ crlf))));
-}
+read_start bytes rest line after count is h line_is = grind (arith, common_steps, append-nil)
 
 pub read_more : (bytes : List ℕ) (count i : ℕ) (parts : List (List ℕ)) (rest part line after : List ℕ) → IsReadTo bytes count i parts rest → PartText line part → rest ≡ line ++ after → IsReadTo bytes count (i + 1) (parts ++ part ∷ []) after
-read_more bytes count i parts rest part line after so_far h is = record {
-  some = so_far.some;
-  few = so_far.few;
-  len = omega (arith, length-append parts (part ∷ []), so_far.len);
-  each = All-push IsPart parts part so_far.each h.0;
-  text = so_far.text ∙ ap (λ (xs : List ℕ). request_front count parts ++ xs) (is ∙ ap (λ (xs : List ℕ). xs ++ after) h.1) ∙ regroup (decimal count ++ crlf) (flat_map bulk parts) (bulk part) after (flat_map bulk (parts ++ part ∷ [])) (flat_map-append bulk parts (part ∷ []) ∙ ap (λ (xs : List ℕ). flat_map bulk parts ++ xs) (append-nil (bulk part)));
-}
-  where
-    regroup : (line front last after all : List ℕ) → all ≡ front ++ last → (42 ∷ (line ++ front)) ++ (last ++ after) ≡ (42 ∷ (line ++ all)) ++ after
-    regroup line front last after all is = ap (λ (xs : List ℕ). 42 ∷ xs) (sides line front last after) ∙ ap (λ (xs : List ℕ). (42 ∷ (line ++ xs)) ++ after) (sym is)
-      where
-        sides : (a b c d : List ℕ) → (a ++ b) ++ (c ++ d) ≡ (a ++ (b ++ c)) ++ d
-        sides a b c d = simp append_assoc
+read_more bytes count i parts rest part line after so_far h is = grind (arith, common_steps, length-append, flat_map-append, append-nil, append_assoc)
 
 pub read_stops : (bytes : List ℕ) (count i : ℕ) (parts : List (List ℕ)) (rest : List ℕ) (e : Stop) → IsReadTo bytes count i parts rest → i < count → Stops PartText rest e → Stops Spells bytes e
 read_stops bytes count i parts rest e so_far less stopped =

@@ -36,9 +36,6 @@ unsettled (x ∷ slots) (suc at) slot (s ∷ c) left =
     let rest = unsettled slots at slot c left.1 in
     (s ∷ rest.0, (left.0, rest.1), (rest.2.0, ap (λ (l : List (List ℕ)). s ∷ l) rest.2.1))
 
-pub same_slots : (old new : List Slot) → new ≡ old → (c : List (List ℕ)) → MayLeave new c → MayLeave old c
-same_slots old new same c left = rw same at left
-
 -- what was written is a possible outcome
 pub was_left : (slots : List Slot) → MayLeave slots (written slots)
 was_left [] = tt
@@ -113,13 +110,6 @@ blank-push slots slot n so_far is =
     written-push slots slot ∙ ap (λ (l : List (List ℕ)). l ++ slot.written ∷ []) so_far
     ∙ ap (λ (s : List ℕ). replicate n (replicate 512 0) ++ s ∷ []) is
     ∙ replicate-append-replicate n 1 (replicate 512 0)
-
-pub same_sectors : (old new : MemSectors) → new.slots ≡ old.slots → HasSameSectors old new
-same_sectors old new same = record {
-  content = ap (λ (l : List Slot). map (λ slot. slot.written) l) (ap (λ v. v.items) same);
-  settled = ap (λ (l : List Slot). map settled_content l) (ap (λ v. v.items) same);
-  which = ap (λ (l : List Slot). map is_settled l) (ap (λ v. v.items) same);
-}
 
 pub all_settled : (slots : List Slot) → All IsSettledSlot (map settled_slot slots)
 all_settled [] k d lt = absurd (omega (arith, lt))

@@ -4,19 +4,19 @@ use Rattle.std.specs.Prelude.{nat_lt, is_some, IsTrue, ◌↔◌, option_copied,
 use Rattle.std.specs.Borrow.{Bor}
 use Rattle.std.specs.List.{AllByRecursion, list_any}
 use Rattle.std.specs.BTreeSet.{insert_key}
-use Rattle.std.specs.declared.cmp.Ordering.{Ordering}
 use Rattle.std.specs.declared.cmp.Ordering.TheVariants.{Less, Equal, Greater}
-use Rattle.std.specs.Ordering.{is_eq, is_lt, nat_cmp, match_ordering}
+use Rattle.std.specs.Ordering.{is_eq, nat_cmp, match_ordering}
 use Rattle.std.specs.Cmp.Lexicographic.{slice_cmp, nat_list_cmp_total}
-use Rattle.std.specs.FinMap.Entries.{find, put, is_sorted, below_all, by_order, find-put, is_sorted-put}
-use Rattle.std.proofs.lemmas.Bool.{both_ways, cases_Bool}
+use Rattle.std.specs.FinMap.Entries.{put, is_sorted, below_all, by_order, find-put, is_sorted-put}
+use Rattle.std.proofs.lemmas.Bool.{both_ways, cases_Bool, not-true, not-false}
 use Rattle.model.specs.declared.refusals.Refusal.TheVariants as refusal
 use Rattle.model.specs.Map.{Bytes, KeyMap, KeyWrite, IsMap, key_cmp, is_same_key, value_at, after_write, after_writes}
 use Rattle.model.specs.Operations.{Operation, Response}
 use Rattle.model.specs.Operations.Operation.{Get, Set, Del}
 use Rattle.model.specs.Operations.Response.{Done, Value, Refused}
-use Rattle.model.specs.PrivateCopy.{PrivateCopy, Mark, copy_of, respond, answer, after_read, reads, writes, values_at, after_put as copy_put}
+use Rattle.model.specs.PrivateCopy.{PrivateCopy, Mark, copy_of, respond, answer, after_read, writes, values_at, after_put as copy_put}
 use Rattle.model.specs.PrivateCopy.Mark.{OfKey}
+use Rattle.model.proofs.InOrder.{parts, less, below_later, find_none}
 use Rattle.model.proofs.Lookups.{same_key, same_key_comm, same_key_itself, same_map, value_after_write, IsMap-after_write, IsMap-after_writes}
 use Rattle.model.proofs.Steps.{copy_after-push}
 use Rattle.marks.specs.Marked.{has_mark, is_full_for}
@@ -34,19 +34,6 @@ use Rattle.versions.specs.Meaning.{map_seen}
 
 -- ---- lookups over writes
 
-parts : (a b : Bool) → T (a && b) → T a × T b
-parts true b h = (tt, h)
-parts false b h = absurd h
-
-less_not_equal : (o : Ordering) → T (is_lt o) → is_eq o ≡ false
-less_not_equal Less h = refl
-less_not_equal Equal h = absurd h
-less_not_equal Greater h = absurd h
-
-pub none_above : {X : Type 0} (k : Bytes) (es : List (Bytes × X)) → T (below_all (slice_cmp nat_cmp) k es) → find (slice_cmp nat_cmp) k es ≡ None
-none_above k [] h = refl
-none_above k (e ∷ es) h = let p = parts _ _ h in ap (λ b. cond b (Some e.1) (find (slice_cmp nat_cmp) k es)) (less_not_equal _ p.0) ∙ none_above k es p.1
-
 -- what the map has at a key after the writes
 pub value_held : (ws : List KeyWrite) (m : KeyMap) (q : Bytes) → T (is_sorted (slice_cmp nat_cmp) ws) → value_at (after_writes m ws) q ≡ or_else (written ws q) (value_at m q)
 value_held [] m q h = refl
@@ -54,7 +41,7 @@ value_held (w ∷ ws) m q h =
     let p = parts _ _ h in
     value_held ws (after_write m w.0 w.1) q p.1 ∙ ap (or_else (written ws q)) (value_after_write m w.0 w.1 q)
     ∙ elim (is_same_key q w.0) as (λ b. is_same_key q w.0 ≡ b → or_else (written ws q) (cond b w.1 (value_at m q)) ≡ or_else (cond b (Some w.1) (written ws q)) (value_at m q)) [
-      | true ↦ λ t. ap (λ o. or_else o w.1) (ap (written ws) (same_key q w.0 t) ∙ none_above w.0 ws p.0)
+      | true ↦ λ t. ap (λ o. or_else o w.1) (ap (written ws) (same_key q w.0 t) ∙ find_none key_cmp w.0 ws p.0)
       | false ↦ λ t. refl
     ] refl
 
@@ -79,23 +66,10 @@ keys-put_same k v [] h e = absurd (both_ways _ refl e)
 keys-put_same k v (w ∷ ws) h e =
     let p = parts _ _ h in
     elim (key_cmp k w.0) as (λ o. key_cmp k w.0 ≡ o → is_some (cond (is_eq o) (Some w.1) (written ws k)) ≡ true → keys_of (by_order o ((k, v) ∷ w ∷ ws) ((w.0, v) ∷ ws) (w ∷ put (slice_cmp nat_cmp) k v ws)) ≡ w.0 ∷ keys_of ws) [
-      | Less ↦ λ o t. absurd (both_ways _ (ap is_some (none_above k ws (lower k w.0 ws o p.0))) t)
+      | Less ↦ λ o t. absurd (both_ways _ (ap is_some (find_none key_cmp k ws (below_later nat_list_cmp_total k w.0 ws o p.0))) t)
       | Equal ↦ λ o t. refl
       | Greater ↦ λ o t. ap (λ l. w.0 ∷ l) (keys-put_same k v ws p.1 t)
     ] refl e
-  where
-    both : (a b : Bool) → T a → T b → T (a && b)
-    both true b x y = y
-    both false b x y = x
-
-    less : (o : Ordering) → T (is_lt o) → o ≡ Less
-    less Less x = refl
-    less Equal x = absurd x
-    less Greater x = absurd x
-
-    lower : (j i : Bytes) (us : List KeyWrite) → key_cmp j i ≡ Less → T (below_all (slice_cmp nat_cmp) i us) → T (below_all (slice_cmp nat_cmp) j us)
-    lower j i [] o x = tt
-    lower j i (u ∷ us) o x = let y = parts _ _ x in both _ _ (subst (λ r. T (is_lt r)) (sym (nat_list_cmp_total.trans j i u.0 o (less _ y.0))) tt) (lower j i us o y.1)
 
 through : (b : Bool) (w : Option Bytes) (o : Option (Option Bytes)) (v : Option Bytes) → or_else (cond b (Some w) o) v ≡ cond b w (or_else o v)
 through true w o v = refl
@@ -123,26 +97,18 @@ put_out t m k v there few = if there then (Done, record (copy_held t m) { conten
 
 -- ---- a mark
 
-negated : (b : Bool) → not b ≡ false → b ≡ true
-negated true e = refl
-negated false e = absurd (both_ways true e refl)
-
-negated_true : (b : Bool) → not b ≡ true → b ≡ false
-negated_true true e = absurd (both_ways false refl e)
-negated_true false e = refl
-
 pub marked_as : (t : View) (m : KeyMap) (mark : Mark) (response : Response) → is_full_for t.marks mark ≡ false → after_read (copy_held t m) mark response ≡ (response, copy_held (marked t mark) m)
 marked_as t m mark response e = elim (has_mark t.marks mark) as (λ b. (not b && not (nat_lt (length t.marks) 256)) ≡ false →
     ◌≡◌ {A = Response × PrivateCopy} (read_out t m mark response b (nat_lt (length t.marks) 256)) (response, record { contents = after_writes m t.writes; written = keys_of t.writes; marks = if b then t.marks else t.marks ++ mark ∷ [] })) [
       | true ↦ λ f. refl
-      | false ↦ λ f. ap (λ (b : Bool). read_out t m mark response false b) (negated (nat_lt (length t.marks) 256) f)
+      | false ↦ λ f. ap (λ (b : Bool). read_out t m mark response false b) (not-false (nat_lt (length t.marks) 256) f)
     ] e
 
 pub refused_as : (t : View) (m : KeyMap) (mark : Mark) (response : Response) → is_full_for t.marks mark ≡ true → (after_read (copy_held t m) mark response).0 ≡ Refused refusal.FullMarks
 refused_as t m mark response e = elim (has_mark t.marks mark) as (λ b. (not b && not (nat_lt (length t.marks) 256)) ≡ true →
     (read_out t m mark response b (nat_lt (length t.marks) 256)).0 ≡ Refused refusal.FullMarks) [
       | true ↦ λ f. absurd (both_ways false refl f)
-      | false ↦ λ f. ap (λ (b : Bool). (read_out t m mark response false b).0) (negated_true (nat_lt (length t.marks) 256) f)
+      | false ↦ λ f. ap (λ (b : Bool). (read_out t m mark response false b).0) (not-true (nat_lt (length t.marks) 256) f)
     ] e
 
 -- ---- a read of a key
@@ -184,7 +150,7 @@ module _ (t : View) (m : KeyMap) (k : Bytes) (v : Option Bytes) (h : AreEntries 
       ◌≡◌ {A = Response × PrivateCopy} (put_out t m k v b (nat_lt (length (keys_of t.writes)) 64)) (Done, copy_held (after_put t k v) m)) [
         | true ↦ λ w f. λ i. (Done, record { contents = sym contents i; written = sym (keys-put_same k v t.writes h.sorted w) i; marks = t.marks })
         | false ↦ λ w f. ap (λ (b : Bool). put_out t m k v false b)
-            (ap (λ n. nat_lt n 64) (length-keys_of t.writes) ∙ negated (nat_lt (length t.writes) 64) f)
+            (ap (λ n. nat_lt n 64) (length-keys_of t.writes) ∙ not-false (nat_lt (length t.writes) 64) f)
             ∙ λ i. (Done, record { contents = sym contents i; written = sym (keys-put k v t.writes) i; marks = t.marks })
       ] refl e
 
@@ -195,7 +161,7 @@ module _ (t : View) (m : KeyMap) (k : Bytes) (v : Option Bytes) (h : AreEntries 
       (put_out t m k v b (nat_lt (length (keys_of t.writes)) 64)).0 ≡ Refused refusal.FullWrites) [
         | true ↦ λ f. absurd (both_ways false refl f)
         | false ↦ λ f. ap (λ (b : Bool). (put_out t m k v false b).0)
-            (ap (λ n. nat_lt n 64) (length-keys_of t.writes) ∙ negated_true (nat_lt (length t.writes) 64) f)
+            (ap (λ n. nat_lt n 64) (length-keys_of t.writes) ∙ not-true (nat_lt (length t.writes) 64) f)
       ] e
 
 -- ---- what the calls answer, after own requests
@@ -250,12 +216,6 @@ pub put-done : (t : View) (m : KeyMap) (qs : List Operation) (k : Bytes) (v : Op
 put-done t m qs k v e h = answer_held t m qs (write_of k v) h ∙ ap (λ (r : Response × PrivateCopy). r.0) (respond_write (copy_held t m) k v ∙ respond-put t m k v h.entries h.is_map e)
 
 -- a call that answered Ok was not refused
-pub ok_not_full : {A E : Type 0} (r : Result A E) (x : A) (e : E) (b : Bool) → ((r ≡ Err e) ↔ IsTrue b) → r ≡ Ok x → b ≡ false
-ok_not_full {A} {E} r x e b iff is = elim (cases_Bool b) [
-  | inl t ↦ let c : ◌≡◌ {A = Result A E} (Ok x) (Err e) = sym is ∙ iff.1 t in cc
-  | inr f ↦ f
-]
-
 -- the clauses of a write, by what the buffer answered
 pub put-refused : (t : View) (m : KeyMap) (qs : List Operation) (k : Bytes) (v : Option Bytes) → buffer.is_full_for t.writes k ≡ true → HasMade t m qs → answer m qs (write_of k v) ≡ Refused refusal.FullWrites
 put-refused t m qs k v full h = answer_held t m qs (write_of k v) h ∙ ap (λ (r : Response × PrivateCopy). r.0) (respond_write (copy_held t m) k v) ∙ respond-put_full t m k v h.entries full
@@ -322,7 +282,7 @@ never_of {B} {e} h is = h (ap Err is)
 all_apart : (x : KeyWrite) (ws us : List KeyWrite) → T (below_all (slice_cmp nat_cmp) x.0 us) → AllByRecursion (λ w. written ws w.0 ≡ Some w.1) us → AllByRecursion (λ w. written (x ∷ ws) w.0 ≡ Some w.1) us
 all_apart x ws [] b h = tt
 all_apart x ws (u ∷ us) b h = let y = parts _ _ b in
-    (ap (λ c. cond c (Some x.1) (written ws u.0)) (same_key_comm u.0 x.0 ∙ less_not_equal _ y.0) ∙ h.0, all_apart x ws us y.1 h.1)
+    (ap (λ c. cond c (Some x.1) (written ws u.0)) (same_key_comm u.0 x.0 ∙ ap is_eq (less _ y.0)) ∙ h.0, all_apart x ws us y.1 h.1)
 
 all_written : (ws : List KeyWrite) → T (is_sorted (slice_cmp nat_cmp) ws) → AllByRecursion (λ w. written ws w.0 ≡ Some w.1) ws
 all_written [] h = tt
@@ -335,9 +295,6 @@ values_of m ws (u ∷ us) s h = λ i. (u.0, sym (value_held ws m u.0 s ∙ ap (�
 
 pub writes-made : (t : View) (m : KeyMap) (qs : List Operation) → HasMade t m qs → t.writes ≡ writes m qs
 writes-made t m qs h = values_of m t.writes t.writes h.entries.sorted (all_written t.writes h.entries.sorted) ∙ ap (λ (c : PrivateCopy). values_at c.contents c.written) h.copy
-
-pub reads-made : (t : View) (m : KeyMap) (qs : List Operation) → HasMade t m qs → t.marks ≡ reads m qs
-reads-made t m qs h = ap (λ (c : PrivateCopy). c.marks) h.copy
 
 pub new-made : (b : ℕ) (m : KeyMap) → IsMap m → HasMade (new_view b) m []
 new-made b m is_map = record { is_map = is_map; entries = record { sorted = tt; few = omega arith; within = tt }; copy = refl }

@@ -9,12 +9,14 @@ use Rattle.std.proofs.Math.Seq.{take-length}
 use Rattle.std.proofs.lemmas.List.{length-drop}
 use Rattle.std.proofs.lemmas.Map.Lookups.{exact_bytes}
 use Rattle.model.specs.Map.{Bytes, KeyMap, KeyWrite, IsMap, key_cmp, is_same_key, value_at, after_writes, is_below, is_in_range, pairs_in_range}
+use Rattle.model.proofs.InOrder.{parts, both, less, is_less, find_none, below_later}
 use Rattle.model.proofs.Lookups.{same_key, same_map, value_in_range, IsMap-after_writes}
 use Rattle.model.proofs.Entries.{turned}
 use Rattle.write_buffer.specs.Buffered.{written}
+use Rattle.versions.proofs.Visibles.{where_twice}
 use Rattle.snapshot.specs.View.{or_else}
 use Rattle.snapshot.specs.Merged.{with_value, merged, merged_one}
-use Rattle.snapshot.proofs.Copies.{none_above, value_held}
+use Rattle.snapshot.proofs.Copies.{value_held}
 
 pub rest_all : {X : Type 0} (l : List X) (a : ℕ) → take (length l - a) (drop a l) ≡ drop a l
 rest_all l a = ap (λ n. take n (drop a l)) (sym (length-drop a l)) ∙ take-length (drop a l)
@@ -31,20 +33,6 @@ all-below (e ∷ es) = ap (λ l. e ∷ l) (all-below es)
 pub sorted-where : {X : Type 0} (p : Bytes → Bool) (es : List (Bytes × X)) → T (is_sorted (slice_cmp nat_cmp) es) → T (is_sorted (slice_cmp nat_cmp) (where_key (slice_cmp nat_cmp) p es))
 sorted-where p es h = is_sorted-where_key (slice_cmp nat_cmp) p es h
 
--- first by one test and then by another
-where_twice : {X : Type 0} (p q r : Bytes → Bool) → ((k : Bytes) → r k ≡ (p k && q k)) → (es : List (Bytes × X)) → where_key (slice_cmp nat_cmp) p (where_key (slice_cmp nat_cmp) q es) ≡ where_key (slice_cmp nat_cmp) r es
-where_twice p q r h [] = refl
-where_twice {X} p q r h (e ∷ es) =
-    let rest = where_twice p q r h es in
-    let out : Bool → List (Bytes × X) = λ b. cond b (e ∷ where_key (slice_cmp nat_cmp) r es) (where_key (slice_cmp nat_cmp) r es) in
-    elim (q e.0) as (λ b. q e.0 ≡ b → where_key (slice_cmp nat_cmp) p (cond b (e ∷ where_key (slice_cmp nat_cmp) q es) (where_key (slice_cmp nat_cmp) q es)) ≡ out (r e.0)) [
-      | true ↦ λ t. elim (p e.0) as (λ b. p e.0 ≡ b → cond b (e ∷ where_key (slice_cmp nat_cmp) p (where_key (slice_cmp nat_cmp) q es)) (where_key (slice_cmp nat_cmp) p (where_key (slice_cmp nat_cmp) q es)) ≡ out (r e.0)) [
-        | true ↦ λ s. ap (λ l. e ∷ l) rest ∙ sym (ap out (h e.0 ∙ ap (λ b. b && q e.0) s ∙ t))
-        | false ↦ λ s. rest ∙ sym (ap out (h e.0 ∙ ap (λ b. b && q e.0) s))
-      ] refl
-      | false ↦ λ t. rest ∙ sym (ap out (h e.0 ∙ elim (p e.0) as (λ b. (b && q e.0) ≡ false) [ true ↦ t | false ↦ refl ]))
-    ] refl
-
 pub span : {X : Type 0} (lo : Bytes) (hi : Option Bytes) (es fs gs : List (Bytes × X)) → fs ≡ where_key (slice_cmp nat_cmp) (λ q. is_below q hi) es → gs ≡ where_key (slice_cmp nat_cmp) (λ q. not (is_lt (key_cmp q lo))) fs → gs ≡ where_key (slice_cmp nat_cmp) (is_in_range lo hi) es
 span lo hi es fs gs below from =
     from ∙ ap (where_key (slice_cmp nat_cmp) (λ q. not (is_lt (key_cmp q lo)))) below
@@ -52,28 +40,8 @@ span lo hi es fs gs below from =
 
 -- ---- merged pairs
 
-parts : (a b : Bool) → T (a && b) → T a × T b
-parts true b h = (tt, h)
-parts false b h = absurd h
-
-both : (a b : Bool) → T a → T b → T (a && b)
-both true b x y = y
-both false b x y = x
-
-less : (o : Ordering) → T (is_lt o) → o ≡ Less
-less Less x = refl
-less Equal x = absurd x
-less Greater x = absurd x
-
-is_less : (o : Ordering) → o ≡ Less → T (is_lt o)
-is_less o e = subst (λ r. T (is_lt r)) (sym e) tt
-
 abbrev pub IsAbove : {X : Type 0} → Bytes → List (Bytes × X) → Type 0
 IsAbove k es = T (below_all (slice_cmp nat_cmp) k es)
-
-lower : {X : Type 0} (j i : Bytes) (us : List (Bytes × X)) → key_cmp j i ≡ Less → IsAbove i us → IsAbove j us
-lower j i [] o x = tt
-lower j i (u ∷ us) o x = let y = parts _ _ x in both _ _ (is_less _ (nat_list_cmp_total.trans j i u.0 o (less _ y.0))) (lower j i us o y.1)
 
 above-with : (j k : Bytes) (v : Option Bytes) (ps : KeyMap) → key_cmp j k ≡ Less → IsAbove j ps → IsAbove j (with_value k v ps)
 above-with j k None ps o h = h
@@ -112,9 +80,9 @@ is_map_one w ws f r [] h = sorted-with w.0 w.1 (f []) (r.above w.0 [] r.first tt
 is_map_one w ws f r (p ∷ ps) h =
     let y = parts _ _ h in
     elim (key_cmp w.0 p.0) as (λ o. key_cmp w.0 p.0 ≡ o → IsMap (by_order o (with_value w.0 w.1 (f (p ∷ ps))) (with_value w.0 w.1 (f ps)) (p ∷ merged_one w f ps))) [
-      | Less ↦ λ o. sorted-with w.0 w.1 (f (p ∷ ps)) (r.above w.0 (p ∷ ps) r.first (both _ _ (is_less _ o) (lower w.0 p.0 ps o y.0))) (r.maps (p ∷ ps) h)
+      | Less ↦ λ o. sorted-with w.0 w.1 (f (p ∷ ps)) (r.above w.0 (p ∷ ps) r.first (both _ _ (is_less _ o) (below_later nat_list_cmp_total w.0 p.0 ps o y.0))) (r.maps (p ∷ ps) h)
       | Equal ↦ λ o. sorted-with w.0 w.1 (f ps) (r.above w.0 ps r.first (subst (λ k. IsAbove k ps) (sym (exact_bytes w.0 p.0 o)) y.0)) (r.maps ps y.1)
-      | Greater ↦ λ o. both _ _ (above_one p.0 w f (λ qs x. r.above p.0 qs (lower p.0 w.0 ws (turn w.0 p.0 o) r.first) x) (turn w.0 p.0 o) ps y.0) (is_map_one w ws f r ps y.1)
+      | Greater ↦ λ o. both _ _ (above_one p.0 w f (λ qs x. r.above p.0 qs (below_later nat_list_cmp_total p.0 w.0 ws (turn w.0 p.0 o) r.first) x) (turn w.0 p.0 o) ps y.0) (is_map_one w ws f r ps y.1)
     ] refl
 
 -- a write before what f leaves
@@ -122,7 +90,7 @@ found-with : (q : Bytes) (w : KeyWrite) (ws : List KeyWrite) (l : KeyMap) (v : O
 found-with q w ws l v a b e =
     elim (is_same_key q w.0) as (λ t. is_same_key q w.0 ≡ t → value_at (with_value w.0 w.1 l) q ≡ or_else (cond t (Some w.1) (written ws q)) v) [
       | true ↦ λ t. elim w.1 as (λ o. value_at (with_value w.0 o l) q ≡ o) [
-        | None ↦ ap (value_at l) (same_key q w.0 t) ∙ none_above w.0 l b
+        | None ↦ ap (value_at l) (same_key q w.0 t) ∙ find_none key_cmp w.0 l b
         | Some x ↦ ap (λ c. cond c (Some x) (value_at l q)) t
       ]
       | false ↦ λ t. elim w.1 as (λ o. value_at (with_value w.0 o l) q ≡ or_else (written ws q) v) [
@@ -140,14 +108,14 @@ found_one q w ws f r [] h = found-with q w ws (f []) None r.first (r.above w.0 [
 found_one q w ws f r (p ∷ ps) h =
     let y = parts _ _ h in
     elim (key_cmp w.0 p.0) as (λ o. key_cmp w.0 p.0 ≡ o → value_at (by_order o (with_value w.0 w.1 (f (p ∷ ps))) (with_value w.0 w.1 (f ps)) (p ∷ merged_one w f ps)) q ≡ or_else (cond (is_same_key q w.0) (Some w.1) (written ws q)) (value_at (p ∷ ps) q)) [
-      | Less ↦ λ o. found-with q w ws (f (p ∷ ps)) (value_at (p ∷ ps) q) r.first (r.above w.0 (p ∷ ps) r.first (both _ _ (is_less _ o) (lower w.0 p.0 ps o y.0))) (r.found q (p ∷ ps) h)
+      | Less ↦ λ o. found-with q w ws (f (p ∷ ps)) (value_at (p ∷ ps) q) r.first (r.above w.0 (p ∷ ps) r.first (both _ _ (is_less _ o) (below_later nat_list_cmp_total w.0 p.0 ps o y.0))) (r.found q (p ∷ ps) h)
       | Equal ↦ λ o.
           let same : w.0 ≡ p.0 = exact_bytes w.0 p.0 o in
           found-with q w ws (f ps) (value_at ps q) r.first (r.above w.0 ps r.first (subst (λ k. IsAbove k ps) (sym same) y.0)) (r.found q ps y.1)
           ∙ hidden (is_same_key q w.0) (is_same_key q p.0) w.1 (written ws q) p.1 (value_at ps q) (ap (is_same_key q) same)
       | Greater ↦ λ o. ap (cond (is_same_key q p.0) (Some p.1)) (found_one q w ws f r ps y.1)
           ∙ through (is_same_key q p.0) (cond (is_same_key q w.0) (Some w.1) (written ws q)) p.1 (value_at ps q)
-          (λ t. ap (λ k. cond (is_same_key k w.0) (Some w.1) (written ws k)) (same_key q p.0 t) ∙ none_above p.0 (w ∷ ws) (both _ _ (is_less _ (turn w.0 p.0 o)) (lower p.0 w.0 ws (turn w.0 p.0 o) r.first)))
+          (λ t. ap (λ k. cond (is_same_key k w.0) (Some w.1) (written ws k)) (same_key q p.0 t) ∙ find_none key_cmp p.0 (w ∷ ws) (both _ _ (is_less _ (turn w.0 p.0 o)) (below_later nat_list_cmp_total p.0 w.0 ws (turn w.0 p.0 o) r.first)))
     ] refl
   where
     hidden : (a b : Bool) (x : Option Bytes) (o : Option (Option Bytes)) (v : Bytes) (z : Option Bytes) → a ≡ b → or_else (cond a (Some x) o) z ≡ or_else (cond a (Some x) o) (cond b (Some v) z)

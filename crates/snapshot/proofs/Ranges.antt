@@ -5,7 +5,7 @@ use Rattle.std.specs.declared.cmp.Ordering.TheVariants.{Less, Equal, Greater}
 use Rattle.std.specs.Ordering.{is_lt, is_le, nat_cmp}
 use Rattle.std.specs.Cmp.Lexicographic.{slice_cmp, nat_list_cmp_total}
 use Rattle.std.specs.FinMap.Entries.{where_key}
-use Rattle.std.proofs.lemmas.Bool.{both_ways}
+use Rattle.std.proofs.lemmas.Bool.{not-true, both_ways}
 use Rattle.std.proofs.lemmas.Map.Lookups.{exact_bytes}
 use Rattle.model.specs.declared.refusals.Refusal.TheVariants as refusal
 use Rattle.model.specs.Map.{Bytes, KeyMap, KeyWrite, IsMap, key_cmp, after_writes, is_in_range, is_empty_range, pairs_in_range}
@@ -44,11 +44,7 @@ nothing_between lo h q e = elim (key_cmp lo q) as (λ o. key_cmp lo q ≡ o → 
 
 none_in : (lo : Bytes) (hi : Option Bytes) (q : Bytes) → is_empty_range lo hi ≡ true → is_in_range lo hi q ≡ false
 none_in lo None q e = absurd (both_ways false refl e)
-none_in lo (Some h) q e = nothing_between lo h q (negated (is_lt (key_cmp lo h)) e)
-  where
-    negated : (b : Bool) → not b ≡ true → b ≡ false
-    negated true x = absurd (both_ways false refl x)
-    negated false x = refl
+none_in lo (Some h) q e = nothing_between lo h q (not-true (is_lt (key_cmp lo h)) e)
 
 no_pairs : (lo : Bytes) (hi : Option Bytes) (m : KeyMap) → is_empty_range lo hi ≡ true → pairs_in_range m lo hi ≡ []
 no_pairs lo hi [] e = refl

@@ -1,4 +1,6 @@
-use Rattle.std.proofs.Common.{◌≡◌, ◌∙◌, sym, ap, refl, subst, [], ◌∷◌, ◌++◌, List}
+use Rattle.std.proofs.Common.{arith}
+use Rattle.std.proofs.lemmas.Grind.{common_steps}
+use Rattle.std.proofs.Common.{◌∙◌, sym, ap, refl, subst, [], ◌∷◌, ◌++◌, List}
 use Rattle.std.proofs.lemmas.List.{nil_from_length}
 use Rattle.latest_writes.proofs.Sweeping.{begun, left_out, kept_more, ended}
 use Rattle.model.specs.Map.{KeyWrite}
@@ -32,9 +34,4 @@ loop-entry-preserved c =
     ]
 
 pub returns : goal.returns
-returns c =
-    let none : c.loop-entry.entry-iterator.rest.items ≡ [] = nil_from_length _ (sym c.loop-entry.entry-iterator.rest.ok.0 ∙ c.in-None.ensures.steps.0) in
-    record {
-      map = ended _ _ _ _ (rw none at c.loop-entry.invariant.swept) c.in_ok-push-2.ensures.items;
-      one_of_each = rw c.in_ok-push-2.ensures.items c.loop-entry.invariant.one_of_each;
-    }
+returns c = grind (arith, common_steps, nil_from_length, ended)
