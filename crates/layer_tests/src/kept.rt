@@ -1,5 +1,5 @@
 //! The versions that are kept.
-ghost use Rattle.std.specs.Prelude.{◌≡◌, ◌<◌, OnOk};
+ghost use Rattle.std.specs.Prelude.{◌≡◌, ◌^◌, ◌<◌, OnOk};
 
 use crate::helpers::{is_pair, key, put};
 use model::{Key, KeyRef, Map, Memory, RangeRef, Write};
@@ -15,7 +15,8 @@ fn commit(
     key: KeyRef<'_>,
     value: Option<Vec<u8>>,
 ) -> Result<(), Memory>
-    requires { versions.old.last < n }
+    requires above { versions.old.last < n }
+    requires fits { n < 2 ^ 63 }
     ensures { OnOk result (versions.new.last ≡ n) }
 {
     let mut writes = Vec::new(alloc);

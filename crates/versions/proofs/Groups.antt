@@ -3,18 +3,18 @@ use Rattle.std.proofs.Common.{◌≡◌, ℕ, zero, suc, ◌+◌, ◌-◌, ◌<�
 use Rattle.std.specs.Prelude.{option_map, nat_lt, nat_le, ◌==◌, not, ◌⊎◌, if◌then◌else◌, swap_remove, IfSome}
 use Rattle.std.proofs.lemmas.Grind.{common_steps}
 use Rattle.std.specs.List.{AllByRecursion, list_any, remove}
-use Rattle.std.proofs.lemmas.List.{get_or_default}
 use Rattle.std.proofs.lemmas.List.Sorted.{list_any-IsPermutation, IsPermutation-swap_remove}
 use Rattle.std.proofs.lemmas.Bool.{both_ways, or_cases, or_left, or_right}
 use Rattle.std.proofs.lemmas.Bool.Decides.{nat_tests}
 use Rattle.model.specs.Map.{Bytes, is_same_key}
 use Rattle.model.proofs.Lookups.{same_key, same_key_itself}
 use Rattle.versions.specs.Chains.{Stamped, ChainValue, Chains, find_chain, first_number, is_between, reclaimed, IsKept, IsReclaimedAt}
-use Rattle.versions.specs.Listings.{is_seen_from, is_seen_by, AreSeenFrom, is_of, is_in, is_listed, AreListed, IsListedChain, IsListed, AreFound, has_version, AreNeeded, IsNeededChain, IsSettled, IsPartReclaimed, AreKept, CanJoin}
+use Rattle.versions.specs.Listings.{is_seen_from, is_seen_by, AreSeenFrom, is_of, is_in, is_listed, AreListed, IsListedChain, IsListed, AreFound, has_version, AreNeeded, IsNeededChain, IsSettled, IsPartReclaimed, AreKept, AreAmong, witnesses, lists_in}
 use Rattle.versions.specs.Groups.{GroupValue, Listed}
 use Rattle.versions.specs.Meaning.{is_among, due_for, due_in, lists_a_reclaim}
 use Rattle.versions.proofs.Stores.{rising_found}
 use Rattle.versions.proofs.Calls.{take_all}
+use Rattle.versions.proofs.Witnesses.{lists-fewer}
 use Rattle.versions.proofs.ChainLaws.{any-weaker, between-wider}
 use Rattle.versions.proofs.Listings.{needed-chain, reclaimed-needed, part-refl, part-at, part-trans, all-settled-part, left-part, listed-part}
 
@@ -173,7 +173,7 @@ take-set [] (suc i) y = refl
 take-set (x ∷ xs) zero y = refl
 take-set (x ∷ xs) (suc i) y = ap (λ l. x ∷ l) (take-set xs i y)
 
-length-set : {X : Type 0} (xs : List X) (i : ℕ) (y : X) → length (set xs i y) ≡ length xs
+pub length-set : {X : Type 0} (xs : List X) (i : ℕ) (y : X) → length (set xs i y) ≡ length xs
 length-set [] i y = refl
 length-set (x ∷ xs) zero y = refl
 length-set (x ∷ xs) (suc i) y = ap suc (length-set xs i y)
@@ -218,6 +218,10 @@ due-take bs (x ∷ gs) zero g lt at = let same : due_for bs g ≡ due_for bs x =
     none (y ∷ ys) same = omega (arith, same)
 due-take bs (x ∷ gs) (suc i) g lt at = let rest = due-take bs gs i g (omega arith) at in omega (arith, rest)
 
+-- the witness is one of the numbers or 0
+abbrev pub IsHeld : List ℕ → GroupValue → Type 0
+IsHeld bs g = is_among (0 ∷ bs) g.witness ≡ true
+
 -- the groups before i were looked at, and `most` of the lists that are due may be looked at still
 pub record Settling (bs : List ℕ) (old now : Chains) (olds gs : List GroupValue) (i most : ℕ) : Type 0 where
   pub part : IsPartReclaimed bs old now
@@ -227,6 +231,8 @@ pub record Settling (bs : List ℕ) (old now : Chains) (olds gs : List GroupValu
   pub looked_at : due_in bs gs + lists_a_reclaim ≡ due_in bs olds + most
   pub none_before : 0 < most → due_in bs (take i gs) ≡ 0
   pub few : most ≤ lists_a_reclaim
+  pub held : AllByRecursion (IsHeld bs) (take i gs)
+  pub lists : lists_in gs ≤ lists_in olds
 
 nothing-before : {X : Type 0} (P : X → Type 0) (xs : List X) → AllByRecursion P (take 0 xs)
 nothing-before P [] = tt
@@ -241,6 +247,8 @@ settling-begun bs es gs most all h = record {
   looked_at = omega (arith, all);
   none_before = λ some. none gs;
   few = omega (arith, all);
+  held = nothing-before (IsHeld bs) gs;
+  lists = omega arith;
 }
   where
     none : (xs : List GroupValue) → due_in bs (take 0 xs) ≡ 0
@@ -249,8 +257,9 @@ settling-begun bs es gs most all h = record {
 
 -- the next group was looked at
 pub settling-settled : (bs : List ℕ) (old now new : Chains) (olds gs : List GroupValue) (i last most more : ℕ) (g h : GroupValue) → i < length gs → g ≡ get_or gs i g → IsKept old last → IsPartReclaimed bs now new → ((last : ℕ) → IsKept now last → IsKept new last)
-    → more ≡ most - due_for bs g → due_for bs h ≡ due_for bs g - most → IsLookedAfter bs new h → AreKept g.versions h.versions new → Settling bs old now olds gs i most → Settling bs old new olds (set gs i h) (i + 1) more
-settling-settled bs old now new olds gs i last most more g h lt at ordered p keeps spare due settled left s =
+    → more ≡ most - due_for bs g → due_for bs h ≡ due_for bs g - most → IsLookedAfter bs new h → AreKept g.versions h.versions new → IsHeld bs h → h.lists ≤ g.lists → Settling bs old now olds gs i most
+    → Settling bs old new olds (set gs i h) (i + 1) more
+settling-settled bs old now new olds gs i last most more g h lt at ordered p keeps spare due settled left held counted s =
     let long : i < length (set gs i h) = omega (arith, lt, length-set gs i h) in
     let there : h ≡ get_or (set gs i h) i h = sym (get-set gs i h h lt) in
     let sum = due-set bs gs i g h lt at in
@@ -272,6 +281,8 @@ settling-settled bs old now new olds gs i last most more g h lt at ordered p kee
           omega (arith, some, spare, due, before, now, more, at_next)
           );
       few = omega (arith, few, spare);
+      held = subst (λ n. AllByRecursion (IsHeld bs) (take n (set gs i h))) next (take-more (IsHeld bs) (set gs i h) i h long there held (subst (λ l. AllByRecursion (IsHeld bs) l) (sym (take-set gs i h)) s.held));
+      lists = (let now = s.lists in let fewer = lists-fewer gs i g h lt at counted in omega (arith, now, fewer));
     }
   where
     still : (k : Bytes) (n high : ℕ) → has_version n (find_chain k new) ≡ true → is_in g.versions k n high ≡ true → is_in h.versions k n high ≡ true
@@ -324,6 +335,14 @@ settling-due bs old now olds gs i (suc most) all s =
     let none : due_in bs gs ≡ 0 = sym (ap (due_in bs) (take_all gs i all)) ∙ s.none_before (omega arith) in
     omega (arith, looked, few, none)
 
+-- each witness is one of the numbers or 0
+pub settling-held : (bs : List ℕ) (old now : Chains) (olds gs : List GroupValue) (i most : ℕ) → length gs ≤ i → Settling bs old now olds gs i most → AreAmong (0 ∷ bs) (witnesses gs)
+settling-held bs old now olds gs i most all s = each gs (subst (λ l. AllByRecursion (IsHeld bs) l) (take_all gs i all) s.held)
+  where
+    each : (hs : List GroupValue) → AllByRecursion (IsHeld bs) hs → AreAmong (0 ∷ bs) (witnesses hs)
+    each [] h = tt
+    each (g ∷ hs) h = (h.0, each hs h.1)
+
 -- where none is due, all chains were reclaimed
 pub settling-ended : (bs : List ℕ) (old now : Chains) (olds gs : List GroupValue) (i most : ℕ) → length gs ≤ i → Settling bs old now olds gs i most → due_in bs gs ≡ 0 → (k : Bytes) → find_chain k now ≡ option_map (reclaimed bs) (find_chain k old)
 settling-ended bs old now olds gs i most all s none k = elim (s.part k) [
@@ -359,52 +378,31 @@ found-trans fs gs hs a b k n high t = b k n high (a k n high t)
 abbrev pub Joins : GroupValue → GroupValue → GroupValue → Type 0
 Joins a g j = (k : Bytes) (n high : ℕ) → is_in j.versions k n high ≡ (is_in a.versions k n high || is_in g.versions k n high)
 
--- a group's versions move to the one before it
-pub found-joined : (gs hs : List GroupValue) (i : ℕ) (a g j : GroupValue) → suc i < length gs → a ≡ get_or gs i a → g ≡ get_or gs (suc i) g → hs ≡ set (remove gs (suc i)) i j → Joins a g j → AreFound gs hs
-found-joined gs hs i a g j lt first second is both k n high t = ap (λ l. is_listed l k n high) is ∙ at gs i lt first second t
-  where
-    inside : is_in j.versions k n high ≡ (is_in a.versions k n high || is_in g.versions k n high)
-    inside = both k n high
+listed-split : (gs : List GroupValue) (i : ℕ) (g : GroupValue) (k : Bytes) (n high : ℕ) → i < length gs → g ≡ get_or gs i g → is_listed gs k n high ≡ true → (is_in g.versions k n high ≡ true) ⊎ (is_listed (remove gs i) k n high ≡ true)
+listed-split [] i g k n high lt at t = absurd (omega arith)
+listed-split (x ∷ gs) zero g k n high lt at t = elim (or_cases (is_in x.versions k n high) (is_listed gs k n high) t) [
+  | inl e ↦ inl (ap (λ (y : GroupValue). is_in y.versions k n high) at ∙ e)
+  | inr e ↦ inr e
+]
+listed-split (x ∷ gs) (suc i) g k n high lt at t = elim (or_cases (is_in x.versions k n high) (is_listed gs k n high) t) [
+  | inl e ↦ inr (or_left (is_in x.versions k n high) (is_listed (remove gs i) k n high) e)
+  | inr e ↦ elim (listed-split gs i g k n high (omega arith) at e) [
+    | inl own ↦ inl own
+    | inr r ↦ inr (or_right (is_in x.versions k n high) (is_listed (remove gs i) k n high) r)
+  ]
+]
 
-    at : (xs : List GroupValue) (m : ℕ) → suc m < length xs → a ≡ get_or xs m a → g ≡ get_or xs (suc m) g → is_listed xs k n high ≡ true → is_listed (set (remove xs (suc m)) m j) k n high ≡ true
-    at [] m lt first second t = absurd (omega arith)
-    at (x ∷ []) m lt first second t = absurd (omega arith)
-    at (x ∷ y ∷ xs) zero lt first second t =
-        let there = inside in
-        let one = ap (λ (z : GroupValue). is_in z.versions k n high) first in
-        let two = ap (λ (z : GroupValue). is_in z.versions k n high) second in
-        elim (or_cases (is_in x.versions k n high) (is_in y.versions k n high || is_listed xs k n high) t) [
-          | inl e ↦ or_left (is_in j.versions k n high) (is_listed xs k n high) (there ∙ or_left (is_in a.versions k n high) (is_in g.versions k n high) (one ∙ e))
-          | inr r ↦ elim (or_cases (is_in y.versions k n high) (is_listed xs k n high) r) [
-            | inl e ↦ or_left (is_in j.versions k n high) (is_listed xs k n high) (there ∙ or_right (is_in a.versions k n high) (is_in g.versions k n high) (two ∙ e))
-            | inr e ↦ or_right (is_in j.versions k n high) (is_listed xs k n high) e
-          ]
-        ]
-    at (x ∷ y ∷ xs) (suc m) lt first second t = elim (or_cases (is_in x.versions k n high) (is_listed (y ∷ xs) k n high) t) [
-      | inl e ↦ or_left (is_in x.versions k n high) (is_listed (set (remove (y ∷ xs) (suc m)) m j) k n high) e
-      | inr e ↦ or_right (is_in x.versions k n high) (is_listed (set (remove (y ∷ xs) (suc m)) m j) k n high) (at (y ∷ xs) m (omega arith) first second e)
-    ]
+listed-there : (gs : List GroupValue) (i : ℕ) (h : GroupValue) (k : Bytes) (n high : ℕ) → i < length gs → is_in h.versions k n high ≡ true → is_listed (set gs i h) k n high ≡ true
+listed-there [] i h k n high lt t = absurd (omega arith)
+listed-there (x ∷ gs) zero h k n high lt t = or_left (is_in h.versions k n high) (is_listed gs k n high) t
+listed-there (x ∷ gs) (suc i) h k n high lt t = or_right (is_in x.versions k n high) (is_listed (set gs i h) k n high) (listed-there gs i h k n high (omega arith) t)
 
-get-before : {X : Type 0} (xs : List X) (i : ℕ) (d : X) → suc i < length xs → get_or (remove xs (suc i)) i d ≡ get_or xs i d
-get-before [] i d lt = absurd (omega arith)
-get-before (x ∷ []) i d lt = absurd (omega arith)
-get-before (x ∷ y ∷ xs) zero d lt = refl
-get-before (x ∷ y ∷ xs) (suc i) d lt = get-before (y ∷ xs) i d (omega arith)
-
--- the two are the same behind the removal
-pub join-fits : (gs hs : List GroupValue) (i m : ℕ) (x y a g : GroupValue) → i ≡ suc m → i < length gs → x ≡ get_or gs m x → y ≡ get_or gs i y → g ≡ get_or gs i g → hs ≡ remove gs i → a ≡ get_or hs m a → CanJoin x y → CanJoin a g
-join-fits gs hs i m x y a g e lt first second gone less at fits =
-    let long : suc m < length gs = omega (arith, e) in
-    let one : a ≡ x = at ∙ ap (λ l. get_or l m a) (less ∙ ap (remove gs) e) ∙ get-before gs m a long ∙ get_or_default gs m a x (omega (arith, e)) ∙ sym first in
-    let two : g ≡ y = gone ∙ get_or_default gs i g y lt ∙ sym second in
-    subst (λ (p : GroupValue). CanJoin p g) (sym one) (subst (λ (p : GroupValue). CanJoin x p) (sym two) fits)
-
-pub join-found : (gs hs : List GroupValue) (i m : ℕ) (a g j : GroupValue) → i ≡ suc m → i < length gs → g ≡ get_or gs i g → hs ≡ remove gs i → a ≡ get_or hs m a → Joins a g j → AreFound gs (set hs m j)
-join-found gs hs i m a g j e lt second less first both =
-    let is : hs ≡ remove gs (suc m) = less ∙ ap (remove gs) e in
-    let long : suc m < length gs = omega (arith, e) in
-    subst (λ l. AreFound gs (set l m j)) (sym is)
-    (found-joined gs (set (remove gs (suc m)) m j) m a g j long (first ∙ ap (λ l. get_or l m a) is ∙ get-before gs m a long) (subst (λ (p : ℕ). g ≡ get_or gs p g) e second) refl both)
+-- a group's versions move to another
+pub join-found : (gs hs : List GroupValue) (i m : ℕ) (a g j : GroupValue) → i < length gs → g ≡ get_or gs i g → hs ≡ remove gs i → m < length hs → a ≡ get_or hs m a → Joins a g j → AreFound gs (set hs m j)
+join-found gs hs i m a g j lt second less short first both k n high t = elim (listed-split gs i g k n high lt second t) [
+  | inl own ↦ listed-there hs m j k n high short (both k n high ∙ or_right (is_in a.versions k n high) (is_in g.versions k n high) own)
+  | inr r ↦ listed-set hs m a j k n high short first (λ e. both k n high ∙ or_left (is_in a.versions k n high) (is_in g.versions k n high) e) (ap (λ l. is_listed l k n high) less ∙ r)
+]
 
 -- ---- what is due stays when groups are joined
 
@@ -416,8 +414,8 @@ due-remove bs (x ∷ gs) (suc i) g lt at = let rest = due-remove bs gs i g (omeg
 pub due-empty : (bs : List ℕ) (gs hs : List GroupValue) (i : ℕ) (g : GroupValue) → i < length gs → g ≡ get_or gs i g → hs ≡ remove gs i → due_for bs g ≡ 0 → due_in bs hs ≡ due_in bs gs
 due-empty bs gs hs i g lt at is none = let one = ap (due_in bs) is in let two = due-remove bs gs i g lt at in omega (arith, one, two, none)
 
-pub due-joined : (bs : List ℕ) (gs hs : List GroupValue) (i m : ℕ) (a g j : GroupValue) → i ≡ suc m → i < length gs → g ≡ get_or gs i g → hs ≡ remove gs i → a ≡ get_or hs m a → m < length hs → due_for bs j ≡ due_for bs a + due_for bs g → due_in bs (set hs m j) ≡ due_in bs gs
-due-joined bs gs hs i m a g j e lt second less first short both =
+pub due-joined : (bs : List ℕ) (gs hs : List GroupValue) (i m : ℕ) (a g j : GroupValue) → i < length gs → g ≡ get_or gs i g → hs ≡ remove gs i → a ≡ get_or hs m a → m < length hs → due_for bs j ≡ due_for bs a + due_for bs g → due_in bs (set hs m j) ≡ due_in bs gs
+due-joined bs gs hs i m a g j lt second less first short both =
     let one = due-set bs hs m a j short first in
     let two = ap (due_in bs) less in
     let three = due-remove bs gs i g lt second in

@@ -1,5 +1,5 @@
 -- Which older versions are listed, so that a reclaim finds those that no number sees any more.
-use Rattle.std.specs.Prelude.{◌≡◌, ℕ, ◌+◌, ◌-◌, ◌<◌, ◌^◌, Bool, false, not, ◌||◌, ◌&&◌, ◌==◌, ◌⊎◌, nat_le, nat_lt, List, [], ◌∷◌, Option, Some, None, option_map, IsTrue, ⊤}
+use Rattle.std.specs.Prelude.{◌≡◌, ℕ, ◌+◌, ◌-◌, ◌<◌, ◌≤◌, ◌^◌, length, Bool, false, not, ◌||◌, ◌&&◌, ◌==◌, ◌⊎◌, nat_le, nat_lt, max, List, [], ◌∷◌, map, fold, Option, Some, None, option_map, IsTrue, ⊤, if◌then◌else◌}
 use Rattle.std.specs.List.{AllByRecursion, list_any, flat_map}
 use Rattle.std.specs.Vec.{vec_len, vec_capacity}
 use Rattle.std.specs.declared.vec.Vec.{Vec}
@@ -59,6 +59,39 @@ AreFound gs hs = (k : Bytes) (n high : ℕ) → IsTrue (is_listed gs k n high) �
 -- two groups have one witness, and their lists can be counted
 abbrev pub CanJoin : GroupValue → GroupValue → Type 0
 CanJoin g h = (g.witness ≡ h.witness) × (g.lists + h.lists < 2 ^ 63)
+
+-- how many lists the groups have
+abbrev pub lists_in : List GroupValue → ℕ
+lists_in [] = 0
+lists_in (g ∷ gs) = g.lists + lists_in gs
+
+-- the groups have a list for some of the commits up to the last, and at most one list more is ready
+pub record HasFewLists {Z : Type 0} (gs : List GroupValue) (next : List (Vec Listed Z)) (last : ℕ) : Type 0 where
+  pub lists : lists_in gs ≤ last
+  pub ready : length next ≤ 1
+  pub fits : last < 2 ^ 63
+
+-- ---- under which number a group stands
+
+-- the greatest of the numbers below this one, and 0 where none is
+abbrev pub greatest_below : List ℕ → ℕ → ℕ
+greatest_below bs high = fold (λ greatest b. if nat_lt b high then max greatest b else greatest) 0 bs
+
+-- the witness where it is one of the numbers, and else the greatest below it
+abbrev pub witness_for : List ℕ → ℕ → ℕ
+witness_for bs w = if is_among bs w then w else greatest_below bs w
+
+abbrev pub witnesses : List GroupValue → List ℕ
+witnesses = map (λ g. g.witness)
+
+-- no two of the numbers are the same
+abbrev pub AreApart : List ℕ → Type 0
+AreApart [] = ⊤
+AreApart (n ∷ ns) = (is_among ns n ≡ false) × AreApart ns
+
+-- each of the numbers is among the others
+abbrev pub AreAmong : List ℕ → List ℕ → Type 0
+AreAmong bs ns = AllByRecursion (λ n. IsTrue (is_among bs n)) ns
 
 -- ---- what is to be looked at
 

@@ -36,6 +36,10 @@ due_in bs (g ∷ gs) = due_for bs g + due_in bs gs
 abbrev pub due_of : List ℕ → ChainsValue → ℕ
 due_of bs v = due_in bs v.groups
 
+-- in how many groups the older versions stand
+abbrev pub groups_of : ChainsValue → ℕ
+groups_of v = length v.groups
+
 -- nothing that can be asked for has changed
 pub record IsSameMeaning (old new : ChainsValue) : Type 0 where
   pub maps : (n : ℕ) → map_seen new n ≡ map_seen old n

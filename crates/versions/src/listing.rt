@@ -1,8 +1,8 @@
 //! Which versions are to be looked at when a number is held no more.
-ghost use Rattle.std.specs.Prelude.{◌≡◌, ◌==◌, ◌≤◌, ◌<◌, ◌^◌, ℕ, List, nat_lt, length, true, [], IfSome, IsOk, IsTrue, OnOk};
+ghost use Rattle.std.specs.Prelude.{◌≡◌, ◌==◌, ◌≤◌, ◌<◌, ◌^◌, ℕ, List, nat_lt, length, true, [], IsOk, OnOk};
 ghost use Rattle.std.specs.List.{list_all};
 ghost use Rattle.std.specs.Vec.{vec_len};
-ghost use Rattle.versions.specs.Listings.{AreSeenFrom, is_seen_by, is_seen_from, spare_in, versions_in};
+ghost use Rattle.versions.specs.Listings.{AreSeenFrom, greatest_below, is_seen_by, is_seen_from, spare_in, versions_in};
 ghost use Rattle.versions.specs.Meaning.{due_for};
 ghost use Rattle.versions.specs.Meaning.{is_among};
 
@@ -76,6 +76,7 @@ impl Group {
         requires { AreSeenFrom witness (versions_in lists) }
         ensures versions { result.versions ≡ versions_in lists }
         ensures due { (bs : List ℕ) → due_for bs result ≤ length lists }
+        ensures lists { result.lists ≡ length lists }
     {
         let alloc = *lists.allocator();
         let _fits = lists.len();
@@ -132,6 +133,7 @@ pub(crate) fn reserve_list(
     more: usize,
 ) -> Result<(), Memory>
     ensures none { versions_in lists.old ≡ [] → versions_in lists.new ≡ [] }
+    ensures one { length lists.old ≤ 1 → length lists.new ≤ 1 }
     ensures made { OnOk result (more ≤ spare_in lists.new) }
     ensures known { more ≤ spare_in lists.old → IsOk result }
 {
@@ -152,15 +154,17 @@ pub(crate) fn is_among(numbers: &[u64], n: u64) -> bool
     numbers.iter().any(|number| *number == n)
 }
 
-// The greatest of the numbers below this one.
-pub(crate) fn greatest_below(numbers: &[u64], high: u64) -> Option<u64>
-    ensures { IfSome result (λ n. IsTrue (is_among numbers.now n)) }
+// The greatest of the numbers below this one, and 0 where none is.
+pub(crate) fn greatest_below(numbers: &[u64], high: u64) -> u64
+    ensures { result ≡ greatest_below numbers.now high }
 {
-    numbers
-        .iter()
-        .copied()
-        .filter(|number| *number < high)
-        .max()
+    numbers.iter().fold(0, |greatest, number| {
+        if *number < high {
+            greatest.max(*number)
+        } else {
+            greatest
+        }
+    })
 }
 
 // Does the number see each of these versions?

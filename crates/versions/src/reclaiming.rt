@@ -1,5 +1,5 @@
 //! Old versions go.
-ghost use Rattle.std.specs.Prelude.{◌≡◌, ◌↔◌, ◌||◌, ℕ, List, T, false, IfSome, IsTrue, nat_lt, ◌<◌, ◌≤◌, ◌+◌, ◌-◌, ◌^◌, ◌++◌, length, take, drop, option_map};
+ghost use Rattle.std.specs.Prelude.{◌≡◌, ◌||◌, ◌==◌, ℕ, List, ◌∷◌, T, false, IfSome, IsTrue, nat_lt, ◌<◌, ◌≤◌, ◌+◌, ◌-◌, ◌^◌, ◌++◌, length, take, drop, get_or, position, option_map};
 ghost use Rattle.std.specs.List.{AllByRecursion, list_any};
 ghost use Rattle.std.specs.Ordering.{nat_cmp};
 ghost use Rattle.std.specs.Cmp.Lexicographic.{slice_cmp};
@@ -8,7 +8,7 @@ ghost use Rattle.std.specs.Vec.{vec_len};
 ghost use Rattle.model.specs.Map.{Bytes};
 ghost use Rattle.sorted_pages.specs.Pages.{entries};
 ghost use Rattle.versions.specs.Chains.{IsKept, IsReclaimedAt, find_chain, reclaimed};
-ghost use Rattle.versions.specs.Listings.{AreFound, AreIn, AreKept, AreSeenFrom, CanJoin, IsListed, IsPartReclaimed, IsSettled, IsTakenIn, has_version, is_in, versions_in};
+ghost use Rattle.versions.specs.Listings.{AreAmong, AreApart, AreFound, AreIn, AreKept, AreSeenFrom, CanJoin, IsListed, IsPartReclaimed, IsSettled, IsTakenIn, has_version, is_in, lists_in, versions_in, witness_for, witnesses};
 ghost use Rattle.versions.specs.Meaning.{due_for, due_in};
 ghost use Rattle.versions.specs.Meaning.{is_among, lists_a_reclaim};
 
@@ -20,9 +20,6 @@ use std::mem;
 
 // How many of the due lists one reclaim looks at.
 const LISTS_A_RECLAIM: usize = 16;
-
-// One more than the most lists that a group can have.
-const LISTS_END: usize = 0x8000_0000_0000_0000;
 
 // Drops the older versions of the key that none of the numbers sees. Is this one still there?
 fn reclaim_version(chains: &mut SortedPages<Chain>, version: &OldVersion, begins: &[u64]) -> bool
@@ -140,6 +137,8 @@ impl Group {
         ensures found { AreIn self.old.versions self.new.versions }
         ensures due { self.new.due ≡ due_for begins.now self.old }
         ensures taken_in { IsTakenIn begins.now self.new }
+        ensures witness { self.new.witness ≡ witness_for begins.now self.old.witness }
+        ensures lists { self.new.lists ≡ self.old.lists }
     {
         if is_among(begins, self.witness) {
             return;
@@ -147,7 +146,7 @@ impl Group {
         let alloc = *self.lists.allocator();
         let lists = mem::replace(&mut self.lists, LinkedList::new(alloc));
         append(&mut self.due, lists);
-        self.witness = greatest_below(begins, self.witness).unwrap_or(0);
+        self.witness = greatest_below(begins, self.witness);
     }
 
     // Puts lists that were looked at under the witness, where it is held and sees all of them, and else to the mixed. Takes no memory.
@@ -158,6 +157,8 @@ impl Group {
         ensures kept { AreIn (versions_in lists) self.new.versions }
         ensures due { self.new.due ≡ self.old.due }
         ensures taken_in { IsTakenIn begins.now self.new }
+        ensures witness { self.new.witness ≡ self.old.witness }
+        ensures lists { self.new.lists ≡ self.old.lists + length lists }
     {
         if is_among(begins, self.witness) && are_seen_from(&lists, self.witness) {
             append(&mut self.lists, lists);
@@ -176,6 +177,8 @@ impl Group {
         ensures left { AreKept self.old.versions self.new.versions (entries chains.new) }
         ensures due { self.new.due + count ≡ self.old.due }
         ensures taken_in { IsTakenIn begins.now self.new }
+        ensures witness { self.new.witness ≡ self.old.witness }
+        ensures lists { self.new.lists ≤ self.old.lists }
     {
         let witness = Some(self.witness).filter(|witness| is_among(begins, *witness));
         let mut lists = take_front(&mut self.due, count);
@@ -192,6 +195,8 @@ impl Group {
         ensures left { AreKept self.old.versions self.new.versions (entries chains.new) }
         ensures due { due_for begins.now self.new ≡ self.old.due }
         ensures settled { due_for begins.now self.new ≡ 0 → AllByRecursion (IsSettled begins.now (entries chains.new)) self.new.versions }
+        ensures witness { self.new.witness ≡ self.old.witness }
+        ensures lists { self.new.lists ≤ self.old.lists }
     {
         settle_lists(chains, &mut self.mixed, begins, None);
     }
@@ -205,6 +210,8 @@ impl Group {
         ensures kept { (last : ℕ) → IsKept (entries chains.old) last → IsKept (entries chains.new) last }
         ensures left { AreKept self.old.versions self.new.versions (entries chains.new) }
         ensures settled { due_for begins.now self.new ≡ 0 → AllByRecursion (IsSettled begins.now (entries chains.new)) self.new.versions }
+        ensures witness { self.new.witness ≡ witness_for begins.now self.old.witness }
+        ensures lists { self.new.lists ≤ self.old.lists }
     {
         self.take_in(begins);
         let count = self.due().min(most);
@@ -213,18 +220,13 @@ impl Group {
         most - count
     }
 
-    // Can the other group be joined to this one? It has the same witness, and their lists can be counted.
-    fn can_absorb(&self, other: &Group) -> bool
-        ensures { IsTrue result ↔ CanJoin self.now other.now }
-    {
-        self.witness == other.witness && self.count() + other.count() < LISTS_END
-    }
-
     // Takes in the versions of a group with the same witness. Takes no memory.
     fn absorb(&mut self, other: Group)
         requires { CanJoin self.old other }
         ensures found { (k : Bytes) (n high : ℕ) → is_in self.new.versions k n high ≡ (is_in self.old.versions k n high || is_in other.versions k n high) }
         ensures due { (bs : List ℕ) → due_for bs self.new ≡ due_for bs self.old + due_for bs other }
+        ensures witness { self.new.witness ≡ self.old.witness }
+        ensures lists { self.new.lists ≡ self.old.lists + other.lists }
     {
         append(&mut self.lists, other.lists);
         append(&mut self.due, other.due);
@@ -241,6 +243,8 @@ fn reclaim_groups(chains: &mut SortedPages<Chain>, groups: &mut [Group], begins:
     ensures all { due_in begins.now groups.new ≡ 0 → (k : Bytes) → find_chain k (entries chains.new) ≡ option_map (reclaimed begins.now) (find_chain k (entries chains.old)) }
     ensures kept { (last : ℕ) → IsKept (entries chains.old) last → IsKept (entries chains.new) last }
     ensures listed { IsListed (entries chains.new) groups.new }
+    ensures held { AreAmong (0 ∷ begins.now) (witnesses groups.new) }
+    ensures lists { lists_in groups.new ≤ lists_in groups.old }
 {
     let mut most = LISTS_A_RECLAIM;
     for i in 0..groups.len() {
@@ -248,32 +252,50 @@ fn reclaim_groups(chains: &mut SortedPages<Chain>, groups: &mut [Group], begins:
     }
 }
 
-// Joins a group to the one before it, where both have one witness. Did it? Takes no memory.
+// The first of the groups with this witness.
+fn place_of(groups: &[Group], witness: u64) -> Option<usize>
+    ensures { result ≡ position (λ g. g.witness == witness) groups.now }
+{
+    groups.iter().position(|group| group.witness == witness)
+}
+
+// Joins a group to one before it with the same witness. Is there one? Takes no memory.
 fn join(groups: &mut Vec<Group>, i: usize) -> bool
-    requires { (0 < i) × (i < vec_len groups.old) }
+    requires within { i < vec_len groups.old }
+    requires few { lists_in groups.old.items < 2 ^ 63 }
     ensures found { AreFound groups.old.items groups.new.items }
     ensures due { (bs : List ℕ) → due_in bs groups.new.items ≡ due_in bs groups.old.items }
     ensures joined { IsTrue result → vec_len groups.new + 1 ≡ vec_len groups.old }
-    ensures same { result ≡ false → vec_len groups.new ≡ vec_len groups.old }
+    ensures same { result ≡ false → groups.new.items ≡ groups.old.items }
+    ensures first { take i (witnesses groups.new.items) ≡ take i (witnesses groups.old.items) }
+    ensures other { result ≡ false → is_among (take i (witnesses groups.old.items)) (get_or (witnesses groups.old.items) i 0) ≡ false }
+    ensures held { (bs : List ℕ) → AreAmong bs (witnesses groups.old.items) → AreAmong bs (witnesses groups.new.items) }
+    ensures lists { lists_in groups.new.items ≡ lists_in groups.old.items }
 {
-    if !groups[i - 1].can_absorb(&groups[i]) {
-        return false;
+    match place_of(&groups[..i], groups[i].witness) {
+        Some(place) => {
+            let group = groups.remove(i);
+            groups[place].absorb(group);
+            true
+        }
+        None => false,
     }
-    let group = groups.remove(i);
-    groups[i - 1].absorb(group);
-    true
 }
 
-// Takes the empty groups out, and joins neighbours with one witness.
+// Takes the empty groups out, and joins those with one witness.
 fn join_groups(groups: &mut Vec<Group>)
+    requires { lists_in groups.old.items < 2 ^ 63 }
     ensures found { AreFound groups.old.items groups.new.items }
     ensures due { (bs : List ℕ) → due_in bs groups.new.items ≡ due_in bs groups.old.items }
+    ensures apart { AreApart (witnesses groups.new.items) }
+    ensures held { (bs : List ℕ) → AreAmong bs (witnesses groups.old.items) → AreAmong bs (witnesses groups.new.items) }
+    ensures lists { lists_in groups.new.items ≤ lists_in groups.old.items }
 {
     let mut i = 0;
     while i < groups.len() {
         if groups[i].is_empty() {
             let _ = groups.remove(i);
-        } else if i == 0 || !join(groups, i) {
+        } else if !join(groups, i) {
             i += 1;
         }
     }
@@ -295,12 +317,15 @@ pub(crate) fn reclaim_versions(
 ) -> bool
     requires kept { (last : ℕ) × IsKept (entries chains.old) last }
     requires listed { IsListed (entries chains.old) groups.old.items }
+    requires few { lists_in groups.old.items < 2 ^ 63 }
     ensures still { result ≡ nat_lt 0 (due_in begins.now groups.new.items) }
     ensures due { due_in begins.now groups.new.items ≡ due_in begins.now groups.old.items - lists_a_reclaim }
     ensures part { IsPartReclaimed begins.now (entries chains.old) (entries chains.new) }
     ensures all { due_in begins.now groups.new.items ≡ 0 → (k : Bytes) → find_chain k (entries chains.new) ≡ option_map (reclaimed begins.now) (find_chain k (entries chains.old)) }
     ensures kept { (last : ℕ) → IsKept (entries chains.old) last → IsKept (entries chains.new) last }
     ensures listed { IsListed (entries chains.new) groups.new.items }
+    ensures few { length groups.new.items ≤ length begins.now + 1 }
+    ensures lists { lists_in groups.new.items ≤ lists_in groups.old.items }
 {
     reclaim_groups(chains, groups, begins);
     join_groups(groups);

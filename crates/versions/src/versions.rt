@@ -1,12 +1,12 @@
 //! The versions of all keys.
-ghost use Rattle.std.specs.Prelude.{◌≡◌, ◌≢◌, ℕ, T, true, nat_lt, ◌+◌, ◌≤◌, ◌<◌, ◌&&◌, Bool, List, [], ◌∷◌, ◌++◌, length, IsOk, IfOk, OnOk, option_map, option_copied};
+ghost use Rattle.std.specs.Prelude.{◌≡◌, ◌≢◌, ℕ, T, true, nat_lt, ◌^◌, ◌+◌, ◌≤◌, ◌<◌, ◌&&◌, Bool, List, [], ◌∷◌, ◌++◌, length, IsOk, IfOk, OnOk, option_map, option_copied};
 ghost use Rattle.std.specs.Ordering.{nat_cmp};
 ghost use Rattle.std.specs.Cmp.Lexicographic.{slice_cmp};
 ghost use Rattle.std.specs.FinMap.Entries.{put, is_sorted, where_key};
 ghost use Rattle.model.specs.Map.{Bytes, KeyMap, IsMap, value_at, pairs_in_range, is_below};
 ghost use Rattle.model.specs.History.{Record};
 ghost use Rattle.versions.specs.Chains.{IsPrepared, IsReady, HasPlace, HasRoom, IsRoomier, find_chain, added, stamped};
-ghost use Rattle.versions.specs.Meaning.{map_seen, newest_of, kept_of, due_of, is_among, IsSameMeaning, IsInstalled, IsReclaimed};
+ghost use Rattle.versions.specs.Meaning.{map_seen, newest_of, kept_of, due_of, groups_of, is_among, IsSameMeaning, IsInstalled, IsReclaimed};
 ghost use Rattle.sorted_pages.specs.Pages.{room_at};
 ghost use Rattle.versions.specs.Lent.{range_pairs};
 ghost use Rattle.versions.specs.StandsFor.{StandsFor};
@@ -43,13 +43,13 @@ impl Model for Versions {
     ghost use Rattle.std.specs.Vec.{vec_len, vec_capacity};
     ghost use Rattle.sorted_pages.specs.Pages.{entries};
     ghost use Rattle.versions.specs.Chains.{ChainsValue, IsKept};
-    ghost use Rattle.versions.specs.Listings.{IsListed, spare_in, versions_in};
+    ghost use Rattle.versions.specs.Listings.{HasFewLists, IsListed, spare_in, versions_in};
 
     ghost Value = { ChainsValue };
 
     ghost view = { λ v. record { chains = entries v.chains; pages = v.chains; listed_spare = spare_in v.listed; groups_spare = vec_capacity v.groups - vec_len v.groups; groups = v.groups.items; last = v.last } };
 
-    ghost invariant = { λ v. IsKept (entries v.chains) v.last × IsListed (entries v.chains) v.groups.items × (versions_in v.listed ≡ []) };
+    ghost invariant = { λ v. IsKept (entries v.chains) v.last × IsListed (entries v.chains) v.groups.items × (versions_in v.listed ≡ []) × HasFewLists v.groups.items v.listed v.last };
 }
 
 impl Versions {
@@ -150,6 +150,7 @@ impl Versions {
         requires rising { T (is_sorted (slice_cmp nat_cmp) writes.items) }
         requires prepared { IsPrepared self.old writes.items }
         requires above { self.old.last < n }
+        requires fits { n < 2 ^ 63 }
         ensures installed { IsInstalled self.old self.new n writes.items }
         ensures stands { (held : ℕ → Bool) (base : KeyMap) (history : List Record) (r : Record) → StandsFor self.old held base history → length history + 1 ≡ n → r.commit ≡ n → r.writes ≡ writes.items → StandsFor self.new held base (history ++ r ∷ []) }
     {
@@ -172,10 +173,11 @@ impl Versions {
     /// What each commit replaced is a list, of as many versions as it wrote, under a number that sees them. Once that number is none of
     /// these, the list is due, and a call looks at 16 of the lists that are due. So what a call costs is bounded, beside the numbers
     /// themselves, and called again with the same numbers it ends. Takes no memory: where the lists of two commits come under one number,
-    /// they are linked.
+    /// they are linked. What stands under one number is one group, so there are no more groups than numbers and one.
     pub fn reclaim(&mut self, begins: &[u64]) -> bool
         ensures reclaimed { IsReclaimed self.old self.new begins.now }
         ensures still { result ≡ nat_lt 0 (due_of begins.now self.new) }
+        ensures few { groups_of self.new ≤ length begins.now + 1 }
         ensures stands { (held : ℕ → Bool) (base : KeyMap) (history : List Record) → StandsFor self.old held base history → StandsFor self.new (λ n. held n && is_among begins.now n) base history }
     {
         reclaim_versions(&mut self.chains, &mut self.groups, begins)

@@ -1,11 +1,59 @@
-use Rattle.std.proofs.Common.{sym, subst, refl, ◌∙◌, arith}
-use Rattle.versions.specs.Listings.{AreFound}
+use Rattle.std.proofs.Common.{◌+◌, List, take, sym, ap, subst, refl, ◌∙◌, arith}
+use Rattle.versions.specs.Groups.{GroupValue}
+use Rattle.versions.specs.Listings.{AreAmong, AreApart, AreFound, lists_in, witnesses}
+use Rattle.versions.proofs.Calls.{take_all}
 use Rattle.versions.proofs.Groups.{due-empty, found-remove, found-trans}
+use Rattle.versions.proofs.Witnesses.{apart-none, apart-next, among-remove, take-remove, lists-remove, length-map}
 use Rattle.versions.proofs.reclaiming.join_groups.Goals as goal
 
+pub loop-i-init : goal.loop-i-init
+loop-i-init c = record { found = λ k n high t. t; due = λ bs. refl; apart = apart-none (witnesses c.args.groups.now.items); held = λ bs h. h; lists = omega arith }
+
+pub join-requires-clause-few : goal.join-requires-clause-few
+join-requires-clause-few c = omega (arith, c.requires, c.loop-i.invariant.lists)
+
 pub loop-i-preserved-then-is_empty : goal.loop-i-preserved-then-is_empty
-loop-i-preserved-then-is_empty c = record {
-  found = found-trans c.args.groups.now.items c.loop-i.groups.items c.remove.new.self.items c.loop-i.invariant.found
-      (subst (λ l. AreFound c.loop-i.groups.items l) (sym c.remove.ensures.items) (found-remove c.loop-i.groups.items c.loop-i.i c.index.result.now (omega arith) c.index.ensures (c.if-is_empty.ensures.none refl)));
-  due = λ bs. due-empty bs c.loop-i.groups.items c.remove.new.self.items c.loop-i.i c.index.result.now (omega arith) c.index.ensures c.remove.ensures.items (c.if-is_empty.ensures.due refl bs) ∙ c.loop-i.invariant.due bs;
+loop-i-preserved-then-is_empty c =
+    let gs = c.loop-i.groups.items in
+    let i = c.loop-i.i in
+    let less = c.remove.ensures.items in
+    record {
+      found = found-trans c.args.groups.now.items gs c.remove.new.self.items c.loop-i.invariant.found
+          (subst (λ l. AreFound gs l) (sym less) (found-remove gs i c.index.result.now (omega arith) c.index.ensures (c.if-is_empty.ensures.none refl)));
+      due = λ bs. due-empty bs gs c.remove.new.self.items i c.index.result.now (omega arith) c.index.ensures less (c.if-is_empty.ensures.due refl bs) ∙ c.loop-i.invariant.due bs;
+      apart = subst AreApart (sym (ap (λ (l : List GroupValue). take i (witnesses l)) less ∙ take-remove (λ (g : GroupValue). g.witness) gs i)) c.loop-i.invariant.apart;
+      held = λ bs h. subst (λ (l : List GroupValue). AreAmong bs (witnesses l)) (sym less) (among-remove bs gs i (c.loop-i.invariant.held bs h));
+      lists = (let sum = lists-remove gs i c.index.result.now (omega arith) c.index.ensures in let now = ap lists_in less in let before = c.loop-i.invariant.lists in omega (arith, sum, now, before));
+    }
+
+pub loop-i-preserved : goal.loop-i-preserved
+loop-i-preserved c = record {
+  found = found-trans c.args.groups.now.items c.loop-i.groups.items c.join.new.groups.items c.loop-i.invariant.found c.join.ensures.found;
+  due = λ bs. c.join.ensures.due bs ∙ c.loop-i.invariant.due bs;
+  apart = subst AreApart (sym c.join.ensures.first) c.loop-i.invariant.apart;
+  held = λ bs h. c.join.ensures.held bs (c.loop-i.invariant.held bs h);
+  lists = omega (arith, c.join.ensures.lists, c.loop-i.invariant.lists);
 }
+
+pub loop-i-preserved-then-not-join : goal.loop-i-preserved-then-not-join
+loop-i-preserved-then-not-join c =
+    let same = c.if-not-join.ensures.same refl in
+    let inv = c.loop-i.invariant in
+    record {
+      found = found-trans c.args.groups.now.items c.loop-i.groups.items c.join.new.groups.items inv.found c.join.ensures.found;
+      due = λ bs. c.join.ensures.due bs ∙ inv.due bs;
+      apart = subst (λ (l : List GroupValue). AreApart (take (c.loop-i.i + 1) (witnesses l))) (sym same) (apart-next c.loop-i.groups.items c.loop-i.i (omega arith) inv.apart (c.if-not-join.ensures.other refl));
+      held = λ bs h. c.join.ensures.held bs (inv.held bs h);
+      lists = omega (arith, c.join.ensures.lists, inv.lists);
+    }
+
+pub returns-clause-apart : goal.returns-clause-apart
+returns-clause-apart c =
+    let gs = c.loop-i.groups.items in
+    subst AreApart (take_all (witnesses gs) c.loop-i.i (omega (arith, length-map (λ (g : GroupValue). g.witness) gs))) c.loop-i.invariant.apart
+
+pub returns-clause-held : goal.returns-clause-held
+returns-clause-held c = c.loop-i.invariant.held
+
+pub returns-clause-lists : goal.returns-clause-lists
+returns-clause-lists c = c.loop-i.invariant.lists

@@ -1,12 +1,16 @@
-use Rattle.std.proofs.Common.{◌≡◌, ℕ, List, ◌-◌, length}
-use Rattle.versions.specs.Listings.{AreFound}
+use Rattle.std.proofs.Common.{◌≡◌, ◌≤◌, ℕ, List, ◌-◌, length, take}
+use Rattle.versions.specs.Listings.{AreAmong, AreApart, AreFound, lists_in, witnesses}
 use Rattle.versions.specs.Meaning.{due_in}
 use Rattle.versions.proofs.reclaiming.join_groups.Given as goal
 
+-- no two of the groups before i have one witness
 abbrev pub invariant-loop-i : goal.invariant-loop-i
 invariant-loop-i l = record {
   found : AreFound l.initial.groups.items l.groups.items;
   due : (bs : List ℕ) → due_in bs l.groups.items ≡ due_in bs l.initial.groups.items;
+  apart : AreApart (take l.i (witnesses l.groups.items));
+  held : (bs : List ℕ) → AreAmong bs (witnesses l.initial.groups.items) → AreAmong bs (witnesses l.groups.items);
+  lists : lists_in l.groups.items ≤ lists_in l.initial.groups.items;
 }
 
 abbrev pub decreases-loop-i : goal.decreases-loop-i

@@ -1,12 +1,15 @@
-use Rattle.std.proofs.Common.{◌≡◌, ℕ, List, [], ◌∷◌, ◌++◌, ◌-◌, sym, subst, ap, ◌∙◌, refl}
+use Rattle.std.proofs.Common.{◌≡◌, ◌^◌, ◌<◌, ◌≤◌, ℕ, List, [], ◌∷◌, ◌++◌, ◌-◌, length, sym, subst, ap, ◌∙◌, refl, arith}
+use Rattle.std.specs.declared.vec.Vec.{Vec}
 use Rattle.model.specs.Map.{KeyWrite}
 use Rattle.sorted_pages.specs.Pages.{entries}
 use Rattle.versions.specs.Chains.{ChainsValue}
-use Rattle.versions.specs.Listings.{AreSeenFrom, IsListed, unwitnessed, versions_in}
-use Rattle.versions.specs.Groups.{GroupValue}
+use Rattle.versions.specs.Listings.{AreSeenFrom, HasFewLists, IsListed, lists_in, unwitnessed, versions_in}
+use Rattle.versions.specs.Groups.{GroupValue, Listed}
 use Rattle.versions.specs.Meaning.{AreInstalled, IsInstalled}
 use Rattle.versions.proofs.Lists.{in-first, in-filled}
 use Rattle.versions.proofs.Listings.{groups-found, found-last}
+use Rattle.versions.proofs.Groups.{length-set}
+use Rattle.versions.proofs.Witnesses.{lists-push}
 use Rattle.versions.proofs.Histories.{stands-installed}
 use Rattle.versions.proofs.versions.Versions.install.Goals as goal
 
@@ -20,6 +23,14 @@ pub new-requires-2 : goal.new-requires-2
 new-requires-2 c =
     subst (AreSeenFrom (c.args.n - 1)) (sym (in-filled c.replace-listed.result c.add_all.new.listed (ap versions_in c.replace-listed.ensures.value ∙ c.self.invariant.2) (c.in-Some.ensures.variant.0 refl))) c.add_all.ensures.seen
 
+-- one list more, for the commit
+few : {Z : Type 0} (last n : ℕ) (gs : List GroupValue) (g : GroupValue) (hs : List GroupValue) (next : List (Vec Listed Z)) → hs ≡ gs ++ g ∷ [] → lists_in gs ≤ last → last < n → n < 2 ^ 63 → g.lists ≤ 1 → next ≡ [] → HasFewLists hs next n
+few last n gs g hs next is before above fits one none = record {
+  lists = (let now = ap lists_in is in let sum = lists-push gs g in omega (arith, now, sum, before, above, one));
+  ready = omega (arith, ap length none);
+  fits = fits;
+}
+
 pub invariant_of-self : goal.invariant_of-self
 invariant_of-self c =
     let gs = c.self.inside.groups.items in
@@ -29,6 +40,8 @@ invariant_of-self c =
       subst (λ (l : List GroupValue). IsListed (entries c.add_all.new.chains) l) (sym c.in-Ok.ensures.items)
           (groups-found (entries c.add_all.new.chains) (unwitnessed ls ∷ gs) (gs ++ c.new-2.result ∷ []) (found-last gs ls c.new-2.result (c.new-2.ensures.versions ∙ filled)) (c.add_all.ensures.listed gs c.self.invariant.1)),
       ap versions_in (c.replace-listed.ensures.after ∙ c.new.ensures),
+      few c.self.inside.last c.args.n gs c.new-2.result c.push.new.self.items c.replace-listed.new.dest c.in-Ok.ensures.items c.self.invariant.3.lists (omega (arith, c.requires.above, ap (λ (v : ChainsValue). v.last) c.self.view_is)) c.requires.fits
+          (omega (arith, c.new-2.ensures.lists, length-set c.replace-listed.result 0 c.add_all.new.listed, ap length c.replace-listed.ensures.value, c.self.invariant.3.ready)) (c.replace-listed.ensures.after ∙ c.new.ensures),
     )
 
 pub returns-clause-installed : goal.returns-clause-installed

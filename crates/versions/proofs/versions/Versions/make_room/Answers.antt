@@ -7,4 +7,4 @@ pub invariant_of-self : goal.invariant_of-self
 invariant_of-self c =
     let es = entries c.self.inside.chains in
     let fs = entries c.make_room.new.chains in
-    (kept-roomier es fs c.self.inside.last c.make_room.ensures.chains c.self.invariant.0, listed-roomier es fs c.self.inside.groups.items c.make_room.ensures.chains c.self.invariant.1, c.self.invariant.2)
+    (kept-roomier es fs c.self.inside.last c.make_room.ensures.chains c.self.invariant.0, listed-roomier es fs c.self.inside.groups.items c.make_room.ensures.chains c.self.invariant.1, c.self.invariant.2, c.self.invariant.3)

@@ -1,4 +1,4 @@
-use Rattle.std.proofs.Common.{ℕ, List, ◌≡◌, ◌-◌, subst, refl}
+use Rattle.std.proofs.Common.{ℕ, List, ◌≡◌, ◌-◌, subst, refl, arith}
 use Rattle.std.specs.Prelude.{option_map}
 use Rattle.model.specs.Map.{Bytes}
 use Rattle.versions.specs.Chains.{ChainsValue, IsKept, find_chain, reclaimed}
@@ -16,10 +16,13 @@ pub reclaim_versions-requires-clause-kept : goal.reclaim_versions-requires-claus
 reclaim_versions-requires-clause-kept c = (c.self.inside.last, c.self.invariant.0)
 
 pub invariant_of-self : goal.invariant_of-self
-invariant_of-self c = (c.reclaim_versions.ensures.kept c.self.inside.last c.self.invariant.0, c.reclaim_versions.ensures.listed, c.self.invariant.2)
+invariant_of-self c = (c.reclaim_versions.ensures.kept c.self.inside.last c.self.invariant.0, c.reclaim_versions.ensures.listed, c.self.invariant.2, record { lists = omega (arith, c.self.invariant.3.lists, c.reclaim_versions.ensures.lists); ready = c.self.invariant.3.ready; fits = c.self.invariant.3.fits })
 
 pub returns-clause-reclaimed : goal.returns-clause-reclaimed
 returns-clause-reclaimed c = whole c.args.self.now _ _ c.args.begins.now c.self.view_is c.self.invariant.0 (c.reclaim_versions.ensures.kept c.self.inside.last c.self.invariant.0) refl c.reclaim_versions.ensures.due c.reclaim_versions.ensures.part c.reclaim_versions.ensures.all
 
 pub returns-clause-stands : goal.returns-clause-stands
 returns-clause-stands c = λ held base history s. stands-reclaimed c.args.self.now held base history _ c.args.begins.now (returns-clause-reclaimed c) s
+
+pub reclaim_versions-requires-clause-few : goal.reclaim_versions-requires-clause-few
+reclaim_versions-requires-clause-few c = omega (arith, c.self.invariant.3.lists, c.self.invariant.3.fits)
