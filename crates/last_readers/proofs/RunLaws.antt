@@ -94,6 +94,13 @@ passed_over b g r k le =
     let z : max (cut b g) 0 ≡ cut b g = omega arith in
     sym (cut_max b g (number_in (run_of r) k) ∙ ap (max (cut b g)) (cut_below b (number_in (run_of r) k) (omega arith)) ∙ z)
 
+-- one that has none was taken out
+pub old_out : (o : ℕ) (rs : List Run) (i : ℕ) (r : Run) (k : Bytes) → i < length rs → r ≡ get_or rs i r → r.last ≤ o → cut o (greatest_at (runs_in (remove rs i)) k) ≡ cut o (greatest_at (runs_in rs) k)
+old_out o rs i r k lt is le =
+    let rest = greatest_at (runs_in (remove rs i)) k in
+    let turn : max rest (number_in (run_of r) k) ≡ max (number_in (run_of r) k) rest = omega arith in
+    passed_over o rest r k le ∙ ap (cut o) turn ∙ sym (ap (cut o) (taken_out rs i r k lt is))
+
 pub no_run_left : (b : ℕ) (rs : List Run) (k : Bytes) (i g : ℕ) → length rs ≤ i → Decides b rs k i g → cut b g ≡ cut b (greatest_at (runs_in rs) k)
 no_run_left b rs k i g le h = let z : max g 0 ≡ g = omega arith in ap (cut b) (sym z) ∙ ap (λ (l : List Run). cut b (max g (greatest_at (runs_in l) k))) (sym (drop_past rs i le)) ∙ h
   where

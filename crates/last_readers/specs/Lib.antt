@@ -1,4 +1,5 @@
 pub mod Steps
 pub mod Merging
 pub mod Readers
+pub mod Held
 pub mod Inside

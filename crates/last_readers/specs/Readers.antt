@@ -2,6 +2,7 @@
 use Rattle.std.specs.Prelude.{◌≡◌, ℕ, ◌<◌, ◌≤◌, max, nat_lt, List, [], ◌∷◌, Option, Some, None, IsSome, if◌then◌else◌}
 use Rattle.model.specs.Map.{Bytes}
 use Rattle.model.specs.PrivateCopy.{Mark, is_covered}
+use Rattle.last_readers.specs.Held.{Held, due_upto}
 use Rattle.last_readers.specs.Steps.{StepValue, RunValue, number_at, number_in}
 
 -- what is kept: numbers by key in several runs, some of which may be being made of two, those up to `oldest` counting as none
@@ -17,6 +18,11 @@ pub record ReadersRoom : Type 0 where
 pub record LastReadersValue : Type 0 where
   pub readers : Readers
   pub room : ReadersRoom
+  pub held : Held
+
+-- how much is to be given back of runs all of whose numbers are forgotten
+abbrev pub due_of : LastReadersValue → ℕ
+due_of v = due_upto v.readers.oldest v.held
 
 -- n, where it is above o, else 0
 abbrev pub cut : ℕ → ℕ → ℕ

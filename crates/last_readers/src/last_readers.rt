@@ -1,11 +1,12 @@
 //! The last readers.
-ghost use Rattle.std.specs.Prelude.{◌≡◌, ◌<◌, ◌≤◌, ℕ, List, max, OnOk};
+ghost use Rattle.std.specs.Prelude.{◌≡◌, ◌<◌, ◌≤◌, ◌+◌, ◌-◌, ℕ, List, max, nat_lt, true, false, OnOk};
 ghost use Rattle.model.specs.Map.{Bytes};
 ghost use Rattle.model.specs.PrivateCopy.{Mark};
-ghost use Rattle.last_readers.specs.Readers.{last_reader, after, AreUpto, IsNoted, IsForgotten, IsReady, HasRoom};
+ghost use Rattle.last_readers.specs.Held.{due_upto, given_a_forget};
+ghost use Rattle.last_readers.specs.Readers.{last_reader, after, AreUpto, IsNoted, IsForgotten, IsReady, HasRoom, due_of};
 
 use crate::gathering::steps_of;
-use crate::merges::{add_run, greatest_in, move_runs, open_last};
+use crate::merges::{add_run, greatest_in, is_one_old, move_runs, open_last, take_old};
 use crate::run::{Ready, Run};
 use crate::stale::Stale;
 use marks::Marks;
@@ -19,7 +20,7 @@ const MOVES_EACH: usize = 16;
 /// How many more are moved for a commit.
 const MOVES_MORE: usize = 64;
 
-/// The most steps that are dropped in one call.
+/// The most steps that are dropped in one call, where a run counts as one more.
 const GIVEN_BACK_MAX: usize = 1_024;
 
 /// For each key the number of the last commit that has read it. A clause sees what is kept (`readers`) and the memory that was made ready
@@ -36,20 +37,21 @@ pub struct LastReaders {
     // the steps of the marks that are noted next
     ready: Option<Ready>,
     // a run whose numbers are all forgotten
-    stale: Stale,
+    stale: Option<Stale>,
 }
 
 impl Model for LastReaders {
     ghost use Rattle.std.specs.Prelude.{◌-◌};
     ghost use Rattle.std.specs.Vec.{vec_len, vec_capacity};
     ghost use Rattle.last_readers.specs.Readers.{LastReadersValue};
-    ghost use Rattle.last_readers.specs.Inside.{runs_in, ready_of};
+    ghost use Rattle.last_readers.specs.Inside.{runs_in, ready_of, held_in, taken_of};
 
     ghost Value = { LastReadersValue };
 
     ghost view = { λ r. record {
       readers = record { runs = runs_in r.runs.items; oldest = r.oldest };
       room = record { places = vec_capacity r.runs - vec_len r.runs; ready = ready_of r.ready };
+      held = record { runs = held_in r.runs.items; taken = taken_of r.stale };
     } };
 }
 
@@ -63,7 +65,7 @@ impl LastReaders {
             runs: Vec::new(alloc),
             oldest: 0,
             ready: None,
-            stale: Stale::new(alloc),
+            stale: None,
         }
     }
 
@@ -134,30 +136,65 @@ impl LastReaders {
         self.merge(count.saturating_mul(MOVES_EACH).saturating_add(MOVES_MORE));
     }
 
-    // Takes the first run out where all its numbers are forgotten and there is none that is still being given back.
-    fn take_stale(&mut self)
+    // Takes out a run all of whose numbers are forgotten, where there is one and none is still being given back: is one being given back?
+    fn take_stale(&mut self) -> bool
         ensures same { (key : Bytes) → last_reader self.new.readers key ≡ last_reader self.old.readers key }
         ensures oldest { self.new.readers.oldest ≡ self.old.readers.oldest }
+        ensures due { due_of self.new ≡ due_of self.old }
+        ensures some { result ≡ true → 0 < self.new.held.taken }
+        ensures none { result ≡ false → due_of self.new ≡ 0 }
     {
-        if !self.stale.is_empty() {
-            return;
+        if self.stale.is_none() {
+            self.stale = take_old(&mut self.runs, self.oldest).map(Stale::of);
         }
-        match self.runs.first() {
-            Some(run) if run.last <= self.oldest => {}
-            _ => return,
-        }
-        self.stale = Stale::of(self.runs.remove(0));
+        self.stale.is_some()
     }
 
-    /// Forgets the last readers with numbers up to `oldest`: to such keys it answers from then on that there is none. A run is dropped once all
-    /// its numbers are as old, one a call at most and 1,024 of its steps a call; and merging leaves out what is as old. Takes no memory.
-    pub fn forget(&mut self, oldest: u64)
+    // Gives back so much at most of the run that was taken out, of which there is some: how much more may be given back, which is none while
+    // something is left of it.
+    fn give_back(&mut self, most: usize) -> usize
+        requires some { 0 < self.old.held.taken }
+        requires most { 0 < most }
+        ensures readers { self.new.readers ≡ self.old.readers }
+        ensures runs { self.new.held.runs ≡ self.old.held.runs }
+        ensures taken { self.old.held.taken + result ≡ self.new.held.taken + most }
+        ensures fewer { result < most }
+    {
+        let Some(stale) = &mut self.stale else {
+            unreachable!()
+        };
+        let left = stale.give_back(most);
+        if left == 0 {
+            return 0;
+        }
+        self.stale = None;
+        left - 1
+    }
+
+    // Gives back runs all of whose numbers are forgotten, 1,024 of their steps at most.
+    fn give_back_old(&mut self)
+        ensures same { (key : Bytes) → last_reader self.new.readers key ≡ last_reader self.old.readers key }
+        ensures oldest { self.new.readers.oldest ≡ self.old.readers.oldest }
+        ensures due { due_of self.new ≡ due_of self.old - given_a_forget }
+    {
+        let mut left = GIVEN_BACK_MAX;
+        'runs: while left > 0 && self.take_stale() {
+            left = self.give_back(left);
+        }
+    }
+
+    /// Forgets the last readers with numbers up to `oldest`: to such keys it answers from then on that there is none. Merging leaves out what is
+    /// as old, and runs are dropped once all their numbers are as old, 1,024 of their steps a call at most, where a run counts as one step more.
+    /// Answers whether it has to be called again until no such run is left. Takes no memory.
+    pub fn forget(&mut self, oldest: u64) -> bool
         ensures forgotten { IsForgotten oldest self.old.readers self.new.readers }
         ensures upto { (n : ℕ) → AreUpto n self.old.readers → AreUpto n self.new.readers }
         ensures oldest { self.new.readers.oldest ≡ max self.old.readers.oldest oldest }
+        ensures due { due_of self.new ≡ due_upto self.new.readers.oldest self.old.held - given_a_forget }
+        ensures still { result ≡ nat_lt 0 (due_of self.new) }
     {
         self.oldest = self.oldest.max(oldest);
-        self.take_stale();
-        self.stale.give_back(GIVEN_BACK_MAX);
+        self.give_back_old();
+        self.stale.is_some() || is_one_old(&self.runs, self.oldest)
     }
 }

@@ -1,11 +1,13 @@
 //! Runs of a like size made into one, some steps at a time.
-ghost use Rattle.std.specs.Prelude.{◌≡◌, ◌≤◌, ◌<◌, ◌+◌, Bool, true, max};
+ghost use Rattle.std.specs.Prelude.{◌≡◌, ◌≤◌, ◌<◌, ◌+◌, Bool, true, max, None, nat_lt, nat_le};
+ghost use Rattle.std.specs.List.{position};
 ghost use Rattle.std.specs.Vec.{vec_len, vec_capacity};
 ghost use Rattle.std.specs.VecDeque.{deque_len};
 ghost use Rattle.model.specs.Map.{Bytes};
 ghost use Rattle.last_readers.specs.Steps.{merged_at};
 ghost use Rattle.last_readers.specs.Readers.{cut, greatest_at};
-ghost use Rattle.last_readers.specs.Inside.{runs_in};
+ghost use Rattle.last_readers.specs.Held.{size_upto};
+ghost use Rattle.last_readers.specs.Inside.{runs_in, held_in, size_of};
 
 use crate::run::Run;
 use model::KeyRef;
@@ -32,6 +34,32 @@ pub(crate) fn add_run(runs: &mut Vec<Run>, run: Run)
     match runs.push(run) {
         Ok(()) => {}
         Err(_) => unreachable!(),
+    }
+}
+
+// The place of the first run that has no number above `oldest`.
+fn first_old(runs: &[Run], oldest: u64) -> Option<usize>
+    ensures { result ≡ position (λ r. nat_le r.last oldest) runs.now }
+{
+    runs.iter().position(|run| run.last <= oldest)
+}
+
+// Has some run no number above `oldest`?
+pub(crate) fn is_one_old(runs: &[Run], oldest: u64) -> bool
+    ensures { result ≡ nat_lt 0 (size_upto oldest (held_in runs.now)) }
+{
+    first_old(runs, oldest).is_some()
+}
+
+// Takes out a run that has no number above `oldest`, if there is one.
+pub(crate) fn take_old(runs: &mut Vec<Run>, oldest: u64) -> Option<Run>
+    ensures same { (k : Bytes) → cut oldest (greatest_at (runs_in runs.new.items) k) ≡ cut oldest (greatest_at (runs_in runs.old.items) k) }
+    ensures none { result ≡ None → size_upto oldest (held_in runs.new.items) ≡ 0 }
+    ensures size { size_upto oldest (held_in runs.old.items) ≡ size_of result + size_upto oldest (held_in runs.new.items) }
+{
+    match first_old(runs, oldest) {
+        Some(place) => Some(runs.remove(place)),
+        None => None,
     }
 }
 

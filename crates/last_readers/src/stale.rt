@@ -1,13 +1,12 @@
 //! A run that is given back in steps.
-ghost use Rattle.std.specs.Prelude.{◌≡◌, ◌≤◌, ◌+◌};
+ghost use Rattle.std.specs.Prelude.{◌≡◌, ◌≤◌, ◌<◌, ◌+◌};
 ghost use Rattle.std.specs.VecDeque.{deque_len};
 
 use crate::run::Run;
 use crate::step::Step;
-use std::alloc::Global;
 use std::collections::VecDeque;
 
-/// The steps of a run that nothing is asked of any more. Each of them has memory of its own where its key is long, so that a run isn't
+/// The steps of a run of which nothing is asked any more. Each of them has memory of its own where its key is long, so that a run isn't
 /// dropped at once.
 #[derive(Drop)]
 pub(crate) struct Stale {
@@ -20,6 +19,7 @@ pub(crate) struct Stale {
 fn shorten(steps: &mut VecDeque<Step>, most: usize) -> usize
     ensures most { result ≤ most }
     ensures len { deque_len steps.old + result ≡ deque_len steps.new + most }
+    ensures ended { 0 < result → deque_len steps.new ≡ 0 }
 {
     let count = steps.len().min(most);
     steps.truncate(steps.len() - count);
@@ -27,15 +27,6 @@ fn shorten(steps: &mut VecDeque<Step>, most: usize) -> usize
 }
 
 impl Stale {
-    // Nothing. Takes no memory.
-    pub(crate) fn new(alloc: Global) -> Stale {
-        Stale {
-            first: VecDeque::new(alloc),
-            second: VecDeque::new(alloc),
-            made: VecDeque::new(alloc),
-        }
-    }
-
     pub(crate) fn of(run: Run) -> Stale
         ensures first { result.first ≡ run.first }
         ensures second { result.second ≡ run.second }
@@ -54,16 +45,14 @@ impl Stale {
         }
     }
 
-    pub(crate) fn is_empty(&self) -> bool {
-        self.first.is_empty() && self.second.is_empty() && self.made.is_empty()
-    }
-
-    // Drops so many steps at most.
-    pub(crate) fn give_back(&mut self, most: usize)
-        ensures { deque_len self.old.first + deque_len self.old.second + deque_len self.old.made ≤ deque_len self.new.first + deque_len self.new.second + deque_len self.new.made + most }
+    // Drops so many steps at most: how many more may be dropped, which are none while a step is left.
+    pub(crate) fn give_back(&mut self, most: usize) -> usize
+        ensures most { result ≤ most }
+        ensures len { deque_len self.old.first + deque_len self.old.second + deque_len self.old.made + result ≡ deque_len self.new.first + deque_len self.new.second + deque_len self.new.made + most }
+        ensures ended { 0 < result → deque_len self.new.first + deque_len self.new.second + deque_len self.new.made ≡ 0 }
     {
         let more = shorten(&mut self.first, most);
         let still_more = shorten(&mut self.second, more);
-        shorten(&mut self.made, still_more);
+        shorten(&mut self.made, still_more)
     }
 }

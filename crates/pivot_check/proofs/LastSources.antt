@@ -216,6 +216,16 @@ cut_all m o n le above = elim (cases_lt 0 n) [
   | inr none ↦ let e : n ≡ 0 = omega arith in e ∙ sym (cut_none m n (omega arith))
 ]
 
+-- what is left of a number that is above a
+pub cut_later : (a b n left : ℕ) → (0 < n → a < n) → left ≡ cut b n → left ≡ cut (max a b) n
+cut_later a b n left above is = elim (cases_lt (max a b) n) [
+  | inl lt ↦ is ∙ cut_is b n (omega arith) ∙ sym (cut_is (max a b) n lt)
+  | inr le ↦ elim (cases_lt b n) [
+    | inl later ↦ let l = above (omega arith) in absurd (omega arith)
+    | inr low ↦ is ∙ cut_none b n low ∙ sym (cut_none (max a b) n le)
+  ]
+]
+
 -- what is left of a number
 pub above_after : (o n left : ℕ) → left ≡ cut o n → 0 < left → o < left
 above_after o n left is some = elim (cases_lt o n) [

@@ -291,13 +291,12 @@ pushed c (q ∷ rs) r =
     ∙ sym (lesser_assoc (least c q.written.items) (least c (postings_in rs)) (least c r.written.items))
     ∙ ap (λ o. lesser o (least c r.written.items)) (sym (least-append c q.written.items (postings_in rs)))
 
--- the first run is left out, where it has no later number
-pub without_first : (o : ℕ) (c : Posting → Bool) (rs : List Run) (r : Run) → Some r ≡ slice_get rs 0 → r.last ≤ o
-    → least (λ p. nat_lt o p.number && c p) (postings_in (remove rs 0)) ≡ least (λ p. nat_lt o p.number && c p) (postings_in rs)
-without_first o c [] r is le = cc
-without_first o c (q ∷ rs) r is le =
-    let same : r ≡ q = cc in
-    sym (ap (λ u. lesser u (least test (postings_in rs))) (none_above o q.last c (subst (λ (x : Run). x.last ≤ o) same le) q.written.items (none (least (λ p. nat_lt q.last p.number) q.written.items) q.upto)))
+-- a run is left out, where it has no later number
+pub without_old : (o : ℕ) (c : Posting → Bool) (rs : List Run) (i : ℕ) (r : Run) → i < length rs → r ≡ get_or rs i r → r.last ≤ o
+    → least (λ p. nat_lt o p.number && c p) (postings_in (remove rs i)) ≡ least (λ p. nat_lt o p.number && c p) (postings_in rs)
+without_old o c [] i r lt is le = absurd (omega arith)
+without_old o c (q ∷ rs) zero r lt is le =
+    sym (ap (λ u. lesser u (least test (postings_in rs))) (none_above o q.last c (subst (λ (x : Run). x.last ≤ o) is le) q.written.items (none (least (λ p. nat_lt q.last p.number) q.written.items) q.upto)))
     ∙ sym (least-append test q.written.items (postings_in rs))
   where
     test : Posting → Bool
@@ -306,3 +305,9 @@ without_first o c (q ∷ rs) r is le =
     none : (u : Option ℕ) → not (is_some u) ≡ true → u ≡ None
     none None e = refl
     none (Some n) e = absurd (both_ways _ refl e)
+without_old o c (q ∷ rs) (suc i) r lt is le =
+    least-append test q.written.items (postings_in (remove rs i)) ∙ ap (lesser (least test q.written.items)) (without_old o c rs i r (omega arith) is le)
+    ∙ sym (least-append test q.written.items (postings_in rs))
+  where
+    test : Posting → Bool
+    test p = nat_lt o p.number && c p

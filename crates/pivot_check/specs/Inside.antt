@@ -1,7 +1,10 @@
 -- What a `Committed` holds as contracts see it.
-use Rattle.std.specs.Prelude.{List, [], ◌∷◌, ◌++◌, Option, option_map}
+use Rattle.std.specs.Prelude.{ℕ, ◌+◌, List, [], ◌∷◌, ◌++◌, Option, Some, None, map, option_map}
+use Rattle.std.specs.Vec.{vec_len}
+use Rattle.last_readers.specs.Held.{HeldRun}
 use Rattle.pivot_check.specs.declared.ready.Ready.{Ready}
 use Rattle.pivot_check.specs.declared.run.Run.{Run}
+use Rattle.pivot_check.specs.declared.stale.Stale.{Stale}
 use Rattle.model.specs.Map.{Bytes}
 use Rattle.pivot_check.specs.Postings.{Posting}
 
@@ -12,3 +15,19 @@ postings_in (r ∷ rs) = r.written.items ++ postings_in rs
 
 abbrev pub ready_of : Option Ready → Option (List Bytes)
 ready_of ready = option_map (λ r. r.keys.items) ready
+
+-- how much there is to give back of a run
+abbrev pub held_of : Run → HeldRun
+held_of r = record { last = r.last; size = vec_len r.written + 1 }
+
+abbrev pub held_in : List Run → List HeldRun
+held_in rs = map held_of rs
+
+abbrev pub size_of : Option Run → ℕ
+size_of None = 0
+size_of (Some r) = (held_of r).size
+
+-- how much there is still to give back of a run that was taken out
+abbrev pub taken_of : Option Stale → ℕ
+taken_of None = 0
+taken_of (Some s) = vec_len s.written + 1

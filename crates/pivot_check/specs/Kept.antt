@@ -1,10 +1,11 @@
 -- What is kept of committed transactions, so that a commit can be checked once older ones are forgotten.
-use Rattle.std.specs.Prelude.{◌≡◌, ℕ, ◌<◌, ◌≤◌, nat_le, Bool, false, ◌&&◌, List, [], ◌∷◌, Option, Some, None, find, option_map, map, length, drop, max, ◌-◌, if◌then◌else◌}
+use Rattle.std.specs.Prelude.{◌≡◌, ℕ, ◌<◌, ◌≤◌, nat_le, Bool, false, ◌&&◌, List, [], ◌∷◌, Option, Some, None, find, option_map, map, length, drop, max, ◌+◌, ◌-◌, if◌then◌else◌}
 use Rattle.std.specs.List.{list_any}
 use Rattle.model.specs.Map.{Bytes, KeyWrite, is_same_key}
 use Rattle.model.specs.PrivateCopy.{Mark, is_covered}
 use Rattle.snapshot.specs.View.{View}
 use Rattle.last_readers.specs.Readers.{Readers, ReadersRoom, last_reader, after, HasRoom as HasReadersRoom}
+use Rattle.last_readers.specs.Held.{Held, due_upto, given_a_forget}
 use Rattle.pivot_check.specs.Postings.{Posting}
 
 -- what the check needs of a committed transaction: the marks of what it read, the keys that it wrote by rising key, and whether it has a
@@ -140,6 +141,21 @@ pub record Room : Type 0 where
 abbrev pub HasRoom : Room → View → Type 0
 HasRoom room t = HasReadersRoom t.marks room.readers × (0 < room.runs) × (room.ready ≡ Some (keys_of t.writes))
 
+-- how much the runs of the last readers hold, and those of written keys
+pub record HeldParts : Type 0 where
+  pub readers : Held
+  pub written : Held
+
 pub record CommittedValue : Type 0 where
   pub facts : Facts
   pub room : Room
+  pub held : HeldParts
+
+-- how much is to be given back of runs of last readers for which none may ask, and of such runs of written keys
+abbrev pub runs_due : CommittedValue → ℕ
+runs_due v = due_upto v.facts.readers.oldest v.held.readers + due_upto v.facts.oldest v.held.written
+
+-- A step of what was to be given back has gone. So where the last numbers stay, it is all gone after as many steps as it takes.
+pub record IsGivenBack (old new : CommittedValue) : Type 0 where
+  pub readers : due_upto new.facts.readers.oldest new.held.readers ≡ due_upto new.facts.readers.oldest old.held.readers - given_a_forget
+  pub written : due_upto new.facts.oldest new.held.written ≡ due_upto new.facts.oldest old.held.written - given_a_forget

@@ -1,8 +1,9 @@
 //! The committed transactions.
-ghost use Rattle.std.specs.Prelude.{◌≡◌, ◌+◌, ◌≤◌, List, [], ◌∷◌, ◌++◌, is_some, max, OnOk, ◌-◌};
+ghost use Rattle.std.specs.Prelude.{◌≡◌, ◌+◌, ◌≤◌, ◌<◌, List, [], ◌∷◌, ◌++◌, true, false, is_some, max, nat_lt, OnOk, ◌-◌};
 ghost use Rattle.model.specs.History.{Record};
 ghost use Rattle.last_readers.specs.Readers.{IsForgotten};
-ghost use Rattle.pivot_check.specs.Kept.{HasForgotten, IsEmpty, IsInReach, HasRoom};
+ghost use Rattle.last_readers.specs.Held.{due_upto, given_a_forget};
+ghost use Rattle.pivot_check.specs.Kept.{HasForgotten, IsEmpty, IsInReach, HasRoom, IsGivenBack, runs_due};
 ghost use Rattle.pivot_check.specs.Index.{FindsTarget, answer_found, target};
 ghost use Rattle.pivot_check.specs.StandsFor.{StandsFor, IsRecordOf, IsVerdict, IsPlaced, IsClear};
 
@@ -10,8 +11,9 @@ use crate::by_start::ByStart;
 use crate::merges::merge_runs;
 use crate::ready::Ready;
 use crate::run::Run;
-use crate::runs::{add_run, drop_old, first_overwritten, least_covered};
+use crate::runs::{add_run, first_overwritten, is_one_old, least_covered, take_old};
 use crate::sources::last_source;
+use crate::stale::Stale;
 use crate::verdict::Verdict;
 use crate::written::add_all;
 use last_readers::LastReaders;
@@ -20,9 +22,12 @@ use snapshot::Transaction;
 use std::alloc::Global;
 use std::marker::Model;
 
-/// The committed transactions that an open one may still be concurrent with. A clause sees what is kept of them (`facts`), and the memory
-/// that was made ready (`room`). What is kept stands for histories: over each of them the answers are those of the definition, which
-/// looks at the whole history.
+/// The most written keys that are dropped in one call, where a run counts as one more.
+const GIVEN_BACK_MAX: usize = 1_024;
+
+/// The committed transactions that an open one may still be concurrent with. A clause sees what is kept of them (`facts`), the memory that
+/// was made ready (`room`), and how much the runs hold (`held`). What is kept stands for histories: over each of them the answers are those
+/// of the definition, which looks at the whole history.
 ///
 /// Kept are the last reader of each key, and the keys that they wrote, each with the number and the flag of its transaction. The keys stand
 /// in runs, each sorted by key, of transactions that committed one after another; runs of a like size are merged, so that few are left.
@@ -34,6 +39,8 @@ pub struct Committed {
     last: u64,
     // what the next commit needs
     ready: Option<Ready>,
+    // a run that has no number for which one may ask
+    stale: Option<Stale>,
 }
 
 impl Model for Committed {
@@ -41,13 +48,14 @@ impl Model for Committed {
     ghost use Rattle.std.specs.Vec.{vec_len, vec_capacity};
     ghost use Rattle.last_readers.specs.Readers.{last_reader, AreUpto};
     ghost use Rattle.pivot_check.specs.Kept.{CommittedValue, AreAbove};
-    ghost use Rattle.pivot_check.specs.Inside.{postings_in, ready_of};
+    ghost use Rattle.pivot_check.specs.Inside.{postings_in, ready_of, held_in, taken_of};
 
     ghost Value = { CommittedValue };
 
     ghost view = { λ c. record {
       facts = record { readers = c.readers.readers; postings = postings_in c.runs.items; oldest = c.oldest; last = c.last };
       room = record { readers = c.readers.room; runs = vec_capacity c.runs - vec_len c.runs; ready = ready_of c.ready };
+      held = record { readers = c.readers.held; written = record { runs = held_in c.runs.items; taken = taken_of c.stale } };
     } };
 
     ghost invariant = { λ c. record {
@@ -70,6 +78,7 @@ impl Committed {
             oldest: 0,
             last: 0,
             ready: None,
+            stale: None,
         }
     }
 
@@ -196,44 +205,97 @@ impl Committed {
         self.merge();
     }
 
-    // From now on none may ask that began before number `oldest`: readers that committed at or before it are dropped.
-    fn raise(&mut self, oldest: u64)
+    // From now on none may ask that began before number `oldest`: readers that committed at or before it are dropped. Are more of their runs
+    // to be given back?
+    fn raise(&mut self, oldest: u64) -> bool
         requires { oldest ≤ self.old.facts.last }
         ensures stands_for { (h : List Record) → StandsFor self.old.facts h → StandsFor self.new.facts h }
         ensures readers { IsForgotten oldest self.old.facts.readers self.new.facts.readers }
         ensures forgotten { HasForgotten oldest self.new.facts }
         ensures oldest { self.new.facts.oldest ≡ max self.old.facts.oldest oldest }
         ensures last { self.new.facts.last ≡ self.old.facts.last }
+        ensures written { self.new.held.written ≡ self.old.held.written }
+        ensures due { due_upto self.new.facts.readers.oldest self.new.held.readers ≡ due_upto self.new.facts.readers.oldest self.old.held.readers - given_a_forget }
+        ensures still { result ≡ nat_lt 0 (due_upto self.new.facts.readers.oldest self.new.held.readers) }
     {
-        if oldest > self.oldest {
-            self.readers.forget(oldest);
-            self.oldest = oldest;
-        }
+        let due = self.readers.forget(oldest);
+        self.oldest = self.oldest.max(oldest);
+        due
     }
 
-    // Drops some of the runs that have no number for which one may ask.
-    fn drop_runs(&mut self)
+    // Takes out a run that has no number for which one may ask, where there is one and none is still being given back: is one being given
+    // back?
+    fn take_stale(&mut self) -> bool
         ensures stands_for { (h : List Record) → StandsFor self.old.facts h → StandsFor self.new.facts h }
         ensures readers { self.new.facts.readers ≡ self.old.facts.readers }
         ensures oldest { self.new.facts.oldest ≡ self.old.facts.oldest }
         ensures last { self.new.facts.last ≡ self.old.facts.last }
+        ensures held { self.new.held.readers ≡ self.old.held.readers }
+        ensures due { due_upto self.new.facts.oldest self.new.held.written ≡ due_upto self.new.facts.oldest self.old.held.written }
+        ensures some { result ≡ true → 0 < self.new.held.written.taken }
+        ensures none { result ≡ false → due_upto self.new.facts.oldest self.new.held.written ≡ 0 }
     {
-        drop_old(&mut self.runs, self.oldest);
+        if self.stale.is_some() {
+            return true;
+        }
+        self.stale = take_old(&mut self.runs, self.oldest).map(Stale::of);
+        self.stale.is_some()
+    }
+
+    // Gives back so much at most of the run that was taken out, of which there is some: how much more may be given back, which is none while
+    // something is left of it.
+    fn give_back(&mut self, most: usize) -> usize
+        requires some { 0 < self.old.held.written.taken }
+        requires most { 0 < most }
+        ensures facts { self.new.facts ≡ self.old.facts }
+        ensures readers { self.new.held.readers ≡ self.old.held.readers }
+        ensures runs { self.new.held.written.runs ≡ self.old.held.written.runs }
+        ensures taken { self.old.held.written.taken + result ≡ self.new.held.written.taken + most }
+        ensures fewer { result < most }
+    {
+        let Some(stale) = &mut self.stale else {
+            unreachable!()
+        };
+        let left = stale.give_back(most);
+        if left == 0 {
+            return 0;
+        }
+        self.stale = None;
+        left - 1
+    }
+
+    // Gives back runs that have no number for which one may ask, 1,024 of their keys at most.
+    fn give_back_old(&mut self)
+        ensures stands_for { (h : List Record) → StandsFor self.old.facts h → StandsFor self.new.facts h }
+        ensures readers { self.new.facts.readers ≡ self.old.facts.readers }
+        ensures oldest { self.new.facts.oldest ≡ self.old.facts.oldest }
+        ensures last { self.new.facts.last ≡ self.old.facts.last }
+        ensures held { self.new.held.readers ≡ self.old.held.readers }
+        ensures due { due_upto self.new.facts.oldest self.new.held.written ≡ due_upto self.old.facts.oldest self.old.held.written - given_a_forget }
+    {
+        let mut left = GIVEN_BACK_MAX;
+        'runs: while left > 0 && self.take_stale() {
+            left = self.give_back(left);
+        }
     }
 
     /// Drops what was kept of the transactions that committed at or before number `oldest`, from the runs when the whole run is as
     /// old: from then on none may ask that began before it. What is left stands for the same histories, since a flag was fixed when it was
-    /// noted. One call drops two runs at most, of 131,072 written keys each, so that it is short also at the end of a transaction that was
-    /// open for long; those that are left go in the next calls. Takes no memory.
-    pub fn forget(&mut self, oldest: u64)
+    /// noted. One call drops 1,024 written keys and as many steps of the last readers at most, where a run counts as one more, so that it is
+    /// short also at the end of a transaction that was open for long. Answers whether it has to be called again until no run is left that is
+    /// wholly as old. Takes no memory.
+    pub fn forget(&mut self, oldest: u64) -> bool
         requires { oldest ≤ self.old.facts.last }
         ensures stands_for { (h : List Record) → StandsFor self.old.facts h → StandsFor self.new.facts h }
         ensures readers { IsForgotten oldest self.old.facts.readers self.new.facts.readers }
         ensures forgotten { HasForgotten oldest self.new.facts }
         ensures oldest { self.new.facts.oldest ≡ max self.old.facts.oldest oldest }
         ensures last { self.new.facts.last ≡ self.old.facts.last }
+        ensures given_back { IsGivenBack self.old self.new }
+        ensures still { result ≡ nat_lt 0 (runs_due self.new) }
     {
-        self.raise(oldest);
-        self.drop_runs();
+        let due = self.raise(oldest);
+        self.give_back_old();
+        due || self.stale.is_some() || is_one_old(&self.runs, self.oldest)
     }
 }

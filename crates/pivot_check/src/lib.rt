@@ -15,6 +15,7 @@ mod ready;
 mod run;
 mod runs;
 mod sources;
+mod stale;
 mod verdict;
 mod written;
 

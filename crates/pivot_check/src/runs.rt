@@ -1,12 +1,13 @@
 //! Runs of written keys.
-ghost use Rattle.std.specs.Prelude.{◌≡◌, ◌<◌, ◌-◌, ◌&&◌, nat_lt, IsTrue, Bool, List, map, position, is_some};
+ghost use Rattle.std.specs.Prelude.{◌≡◌, ◌<◌, ◌+◌, ◌-◌, ◌&&◌, nat_lt, nat_le, IsTrue, Bool, List, None, map, position, is_some};
 ghost use Rattle.std.specs.List.{filter};
 ghost use Rattle.std.specs.Vec.{vec_len, vec_capacity};
 ghost use Rattle.model.specs.Map.{KeyWrite};
 ghost use Rattle.marks.specs.Lent.{lent_mark};
 ghost use Rattle.marks.specs.Marked.{marks_of};
 ghost use Rattle.pivot_check.specs.Postings.{Posting, keys_rise, are_upto, least, lesser, asked_of, covered_of};
-ghost use Rattle.pivot_check.specs.Inside.{postings_in};
+ghost use Rattle.last_readers.specs.Held.{size_upto};
+ghost use Rattle.pivot_check.specs.Inside.{postings_in, held_in, size_of};
 ghost use Rattle.pivot_check.specs.Index.{is_written_since};
 
 use crate::bound::Bound;
@@ -15,9 +16,6 @@ use crate::run::Run;
 use crate::written::Written;
 use marks::MarkRef;
 use model::Write;
-
-/// The most runs that are dropped in one call, since each of their postings is looked at then.
-const DROPPED_MAX: u64 = 2;
 
 // The least commit number above `begin` that has written a key that the mark covers, of those with the flag where these alone are asked
 // for.
@@ -82,22 +80,28 @@ pub(crate) fn add_run(runs: &mut Vec<Run>, written: Vec<Written>, last: u64)
     }
 }
 
-// Drops the first run where it has no number above `oldest`.
-fn drop_first(runs: &mut Vec<Run>, oldest: u64)
-    ensures { (c : Posting → Bool) → least (λ p. nat_lt oldest p.number && c p) (postings_in runs.new.items) ≡ least (λ p. nat_lt oldest p.number && c p) (postings_in runs.old.items) }
+// The place of the first run that has no number above `oldest`.
+fn first_old(runs: &[Run], oldest: u64) -> Option<usize>
+    ensures { result ≡ position (λ r. nat_le r.last oldest) runs.now }
 {
-    match runs.first() {
-        Some(run) if run.last <= oldest => {}
-        _ => return,
-    }
-    let _ = runs.remove(0);
+    runs.iter().position(|run| run.last <= oldest)
 }
 
-// Drops the first runs as long as they have no number above `oldest`, and leaves some of them for later calls where there are many.
-pub(crate) fn drop_old(runs: &mut Vec<Run>, oldest: u64)
-    ensures { (c : Posting → Bool) → least (λ p. nat_lt oldest p.number && c p) (postings_in runs.new.items) ≡ least (λ p. nat_lt oldest p.number && c p) (postings_in runs.old.items) }
+// Has some run no number above `oldest`?
+pub(crate) fn is_one_old(runs: &[Run], oldest: u64) -> bool
+    ensures { result ≡ nat_lt 0 (size_upto oldest (held_in runs.now)) }
 {
-    for _dropped in 0..DROPPED_MAX {
-        drop_first(runs, oldest);
+    first_old(runs, oldest).is_some()
+}
+
+// Takes out a run that has no number above `oldest`, if there is one.
+pub(crate) fn take_old(runs: &mut Vec<Run>, oldest: u64) -> Option<Run>
+    ensures same { (c : Posting → Bool) → least (λ p. nat_lt oldest p.number && c p) (postings_in runs.new.items) ≡ least (λ p. nat_lt oldest p.number && c p) (postings_in runs.old.items) }
+    ensures none { result ≡ None → size_upto oldest (held_in runs.new.items) ≡ 0 }
+    ensures size { size_upto oldest (held_in runs.old.items) ≡ size_of result + size_upto oldest (held_in runs.new.items) }
+{
+    match first_old(runs, oldest) {
+        Some(place) => Some(runs.remove(place)),
+        None => None,
     }
 }

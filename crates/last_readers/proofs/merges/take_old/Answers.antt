@@ -1,0 +1,43 @@
+use Rattle.std.proofs.Common.{◌≡◌, ◌<◌, ◌≤◌, ◌+◌, length, Some, sym, ap, ◌∙◌, arith}
+use Rattle.std.specs.Prelude.{nat_le}
+use Rattle.std.specs.List.{position}
+use Rattle.std.proofs.lemmas.Bool.{leb-true}
+use Rattle.std.proofs.lemmas.List.Quantifiers.{position-Some}
+use Rattle.last_readers.specs.declared.run.Run.{Run}
+use Rattle.last_readers.specs.Readers.{cut, greatest_at}
+use Rattle.last_readers.specs.Held.{size_upto}
+use Rattle.last_readers.specs.Inside.{held_of, held_in, runs_in}
+use Rattle.last_readers.proofs.OldRuns.{part_of, none_old}
+use Rattle.last_readers.proofs.RunLaws.{old_out}
+use Rattle.last_readers.proofs.merges.take_old.Goals as goal
+
+-- a run stands at the place, and has no number above `oldest`
+record IsOld (c : goal.After-remove) : Type 0 where
+  within : c.in-Some.place < length c.args.runs.now.items
+  old : c.remove.result.last ≤ c.args.oldest
+
+is_old : (c : goal.After-remove) → IsOld c
+is_old c =
+    let r = c.remove.result in
+    let rs = c.args.runs.now.items in
+    let i = c.in-Some.place in
+    let placed : position (λ (r : Run). nat_le r.last c.args.oldest) rs ≡ Some i = ap (position (λ (r : Run). nat_le r.last c.args.oldest)) (sym c.deref.ensures.value) ∙ sym c.first_old.ensures ∙ c.in-Some.is in
+    let at = position-Some (λ (r : Run). nat_le r.last c.args.oldest) rs i r placed in
+    record { within = at.0; old = leb-true r.last c.args.oldest (ap (λ (q : Run). nat_le q.last c.args.oldest) c.remove.ensures.value ∙ at.1) }
+
+pub returns-in-Some-clause-same : goal.returns-in-Some-clause-same
+returns-in-Some-clause-same c = λ k.
+    let is = is_old c in
+    ap (λ l. cut c.args.oldest (greatest_at (runs_in l) k)) c.remove.ensures.items ∙ old_out c.args.oldest c.args.runs.now.items c.in-Some.place c.remove.result k is.within c.remove.ensures.value is.old
+
+pub returns-in-Some-clause-size : goal.returns-in-Some-clause-size
+returns-in-Some-clause-size c =
+    let is = is_old c in
+    let r = c.remove.result in
+    part_of held_of c.args.oldest c.args.runs.now.items c.in-Some.place r is.within c.remove.ensures.value is.old ∙ ap (λ l. (held_of r).size + size_upto c.args.oldest (held_in l)) (sym c.remove.ensures.items)
+
+pub returns-in-None-clause-none : goal.returns-in-None-clause-none
+returns-in-None-clause-none c = λ none. none_old held_of c.args.oldest c.args.runs.now.items (ap (position (λ (r : Run). nat_le r.last c.args.oldest)) (sym c.deref.ensures.value) ∙ sym c.first_old.ensures ∙ c.in-None.is)
+
+pub returns-in-None-clause-size : goal.returns-in-None-clause-size
+returns-in-None-clause-size c = omega arith
