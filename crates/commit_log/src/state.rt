@@ -37,6 +37,13 @@ impl<D: Sectors> Log<D> {
         sectors_for(len) + 1 < self.device.count() - self.gate
     }
 
+    /// The device, lent. Takes no memory.
+    pub fn device(&self) -> &D
+        ensures { result.now ≡ device_of self.now }
+    {
+        &self.device
+    }
+
     /// Gives the device back.
     pub fn into_device(self) -> D
         ensures { result ≡ device_of self }

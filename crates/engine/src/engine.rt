@@ -178,6 +178,13 @@ impl<D: Sectors> Engine<D> {
         self.history.committed().kept()
     }
 
+    /// The device, lent. Takes no memory.
+    pub fn device(&self) -> &D
+        ensures { result.now ≡ device_of self.now }
+    {
+        self.log.device()
+    }
+
     /// Gives the device back. Takes no memory.
     pub fn into_device(self) -> D
         ensures { result ≡ device_of self }

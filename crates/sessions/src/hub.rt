@@ -97,6 +97,13 @@ impl<D: Sectors> Hub<D> {
         self.engine.stopped()
     }
 
+    /// The device of the engine, lent. Takes no memory.
+    pub fn device(&self) -> &D
+        ensures { result.now ≡ device self.now }
+    {
+        self.engine.device()
+    }
+
     /// Gives the engine back. Open transactions stay open in it. Takes no memory.
     pub fn into_engine(self) -> Engine<D>
         ensures { (h : HubState) → StandsFor self h → EngineStandsFor result h.machine }
