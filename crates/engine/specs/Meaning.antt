@@ -20,7 +20,7 @@ use Rattle.engine.specs.declared.faults.ReadFault.TheVariants as reads
 use Rattle.versions.specs.Chains.{ChainsValue}
 use Rattle.snapshot.specs.Made.{is_refused}
 use Rattle.engine.specs.Recovery.{HoldsMap, committed_map}
-use Rattle.pivot_check.specs.Kept.{Facts}
+use Rattle.pivot_check.specs.Kept.{Facts, CommittedValue}
 pub use Rattle.engine.specs.StandsFor.{StandsFor}
 
 -- the device, how many of its calls have failed, and whether one failed in a commit
@@ -79,6 +79,9 @@ IsReadOnly m s = (t : Running) → running_of m s ≡ Some t → writes (snapsho
 -- the versions that are kept, and what is kept to check later commits
 abbrev pub versions_of : {D : Type 0} {g : Ghosts D} → Engine D g → ChainsValue
 versions_of e = e.history.versions
+
+abbrev pub committed_of : {D : Type 0} {g : Ghosts D} → Engine D g → CommittedValue
+committed_of e = e.history.committed
 
 abbrev pub facts_of : {D : Type 0} {g : Ghosts D} → Engine D g → Facts
 facts_of e = e.history.committed.facts

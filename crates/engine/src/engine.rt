@@ -31,7 +31,7 @@ pub struct Engine<D: Sectors> {
 }
 
 impl<D: Sectors> Engine<D> {
-    ghost use Rattle.std.specs.Prelude.{◌≡◌, ◌≢◌, ◌≤◌, ◌<◌, ◌-◌, ℕ, List, map, false, Some, None, Err, IfOk, length, nat_lt};
+    ghost use Rattle.std.specs.Prelude.{◌≡◌, ◌≢◌, ◌≤◌, ◌<◌, ◌+◌, ◌-◌, ℕ, List, map, false, Some, None, Err, IfOk, length, nat_lt};
     ghost use Rattle.model.specs.declared.refusals.Refusal.{Refusal as Reason};
     ghost use Rattle.model.specs.Operations.Operation.{Begin, Set, Del, Abort, Ping, Faulty};
     ghost use Rattle.model.specs.Operations.Response.{Done, Pong, Refused};
@@ -40,9 +40,9 @@ impl<D: Sectors> Engine<D> {
     ghost use Rattle.model.specs.Map.{Bytes};
     ghost use Rattle.versions.specs.Meaning.{due_of, kept_of, IsReclaimed};
     ghost use Rattle.std.specs.List.{AllByRecursion};
-    ghost use Rattle.pivot_check.specs.Kept.{HasForgotten};
+    ghost use Rattle.pivot_check.specs.Kept.{HasForgotten, IsGivenBack, runs_due};
     ghost use Rattle.engine.specs.Recovery.{LeavesCommitted};
-    ghost use Rattle.engine.specs.Meaning.{StandsFor, Leads, response_to, device_of, is_stopped, versions_of, facts_of};
+    ghost use Rattle.engine.specs.Meaning.{StandsFor, Leads, response_to, device_of, is_stopped, versions_of, committed_of, facts_of};
 
     /// Begins a transaction of the session, over the map that is committed now.
     ///
@@ -139,14 +139,16 @@ impl<D: Sectors> Engine<D> {
 
     /// Drops what no open transaction needs: what was kept of transactions that were committed when each open one began, and versions that
     /// are neither the newest of their keys nor seen from the begin of an open transaction. Answers whether it has to be called again until
-    /// all those versions are gone.
+    /// all of that is gone.
     ///
     /// What each commit replaced is a list. One is due once no open transaction began with the number under which it stands, and a call
-    /// looks at 16 of those that are due. Takes no memory.
+    /// looks at 16 of those that are due. What was kept to check later commits stands in runs, and a call gives back 1,024 written keys and
+    /// as many steps of last readers of those that are wholly old. Takes no memory.
     pub fn reclaim(&mut self) -> bool
         ensures keeps { (m : State) → StandsFor self.old m → StandsFor self.new m }
         ensures versions { (m : State) → StandsFor self.old m → IsReclaimed (versions_of self.old) (versions_of self.new) (map (λ e. e.1.begin) m.running) }
-        ensures still { (m : State) → StandsFor self.old m → result ≡ nat_lt 0 (due_of (map (λ e. e.1.begin) m.running) (versions_of self.new)) }
+        ensures still { (m : State) → StandsFor self.old m → result ≡ nat_lt 0 (due_of (map (λ e. e.1.begin) m.running) (versions_of self.new) + runs_due (committed_of self.new)) }
+        ensures given_back { IsGivenBack (committed_of self.old) (committed_of self.new) }
         ensures forgotten { (m : State) → StandsFor self.old m → (n : ℕ) → n ≤ last m → AllByRecursion (λ e. n ≤ e.1.begin) m.running → HasForgotten n (facts_of self.new) }
         ensures device { device_of self.new ≡ device_of self.old }
         ensures stopped { is_stopped self.new ≡ is_stopped self.old }

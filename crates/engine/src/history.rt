@@ -3,7 +3,7 @@ ghost use Rattle.std.specs.Prelude.{◌≡◌, ℕ, ◌+◌, ◌-◌, ◌^◌, �
 ghost use Rattle.model.specs.Map.{Bytes, KeyMap};
 ghost use Rattle.model.specs.History.{Record};
 ghost use Rattle.versions.specs.Meaning.{due_of, is_among, IsReclaimed};
-ghost use Rattle.pivot_check.specs.Kept.{HasForgotten, IsEmpty, IsInReach};
+ghost use Rattle.pivot_check.specs.Kept.{HasForgotten, IsEmpty, IsInReach, IsGivenBack, runs_due};
 ghost use Rattle.pivot_check.specs.Index.{target};
 ghost use Rattle.pivot_check.specs.StandsFor.{IsRecordOf, IsClear};
 ghost use Rattle.engine.specs.HistoryValue.{HistoryStandsFor, IsSameHistory, IsReady};
@@ -91,18 +91,20 @@ impl History {
     }
 
     /// Drops versions that are neither the newest of their keys nor seen from one of the numbers, as `Versions::reclaim` does, and what was
-    /// kept of commits with a number of at most `oldest`. Answers whether it has to be called again until all those versions are gone.
+    /// kept of commits with a number of at most `oldest`, as `Committed::forget` does. Answers whether it has to be called again until all of
+    /// that is gone.
     pub(crate) fn reclaim(&mut self, begins: &[u64], oldest: u64) -> bool
         requires { oldest ≤ self.old.committed.facts.last }
         ensures stands { (held : ℕ → Bool) (base : KeyMap) (history : List Record) → HistoryStandsFor self.old held base history → HistoryStandsFor self.new (λ n. held n && is_among begins.now n) base history }
         ensures last { self.new.committed.facts.last ≡ self.old.committed.facts.last }
         ensures oldest { self.new.committed.facts.oldest ≡ max self.old.committed.facts.oldest oldest }
         ensures reclaimed { IsReclaimed self.old.versions self.new.versions begins.now }
-        ensures still { result ≡ nat_lt 0 (due_of begins.now self.new.versions) }
+        ensures given_back { IsGivenBack self.old.committed self.new.committed }
+        ensures still { result ≡ nat_lt 0 (due_of begins.now self.new.versions + runs_due self.new.committed) }
         ensures forgotten { HasForgotten oldest self.new.committed.facts }
     {
-        let due = self.versions.reclaim(begins);
-        self.committed.forget(oldest);
-        due
+        let versions_due = self.versions.reclaim(begins);
+        let runs_due = self.committed.forget(oldest);
+        versions_due || runs_due
     }
 }

@@ -133,7 +133,7 @@ impl<D: Sectors> EventLoop<D> {
     /// session sends anything, until nothing is due.
     ///
     /// It waits for no more than `timeout`, without end where none is given, and not at all where a session is still ready, 128
-    /// connections were accepted last time, or the turn before it has left old versions that are due. After an accept that fails, the next turn waits for no more than `RETRY_AFTER_MILLIS` and
+    /// connections were accepted last time, or the turn before it has left old versions or runs that are due. After an accept that fails, the next turn waits for no more than `RETRY_AFTER_MILLIS` and
     /// accepts again. A connection beyond 128 sessions, or for which memory, registration or an option of the socket is refused, is
     /// closed without a byte.
     ///

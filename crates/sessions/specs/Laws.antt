@@ -3,9 +3,9 @@ use Rattle.std.specs.Prelude.{◌≡◌, ◌≤◌, ◌+◌, if◌then◌else◌
 use Rattle.std.specs.List.{AllByRecursion, flat_map}
 use Rattle.sector.specs.declared.device.Sectors.{Ghosts}
 use Rattle.sector.specs.SectorModel.{LeavesOnly}
-use Rattle.engine.specs.Meaning.{facts_of, versions_of}
+use Rattle.engine.specs.Meaning.{committed_of, facts_of, versions_of}
 use Rattle.engine.specs.Recovery.{HoldsMap, committed_map}
-use Rattle.pivot_check.specs.Kept.{HasForgotten}
+use Rattle.pivot_check.specs.Kept.{HasForgotten, IsGivenBack, runs_due}
 use Rattle.versions.specs.Meaning.{IsReclaimed, due_of}
 use Rattle.model.specs.Map.{Bytes}
 use Rattle.model.specs.Laws.{IsIsolated, IsSerializable}
@@ -110,11 +110,13 @@ abbrev pub NoneRuns : {D : Type 0} {g : Ghosts D} → Hub D g → Type 0
 NoneRuns hub = Ran hub hub []
 
 -- What no open transaction needs has gone, or a step of it, by no event. What was kept to check later commits against those that committed
--- before each open one began has gone whole. Old versions go in steps, and `more` says whether some are still due.
+-- before each open one began is asked for no more. Old versions go in steps, and so do the runs in which that was kept; `more` says whether some
+-- are still due.
 pub record GivesBack {D : Type 0} {g : Ghosts D} (old new : Hub D g) (more : Bool) : Type 0 where
   pub ran : Ran old new []
   pub versions : (h : HubState) → StandsFor old h → IsReclaimed (versions_of old.engine) (versions_of new.engine) (begins h)
-  pub more_is : (h : HubState) → StandsFor old h → more ≡ nat_lt 0 (due_of (begins h) (versions_of new.engine))
+  pub more_is : (h : HubState) → StandsFor old h → more ≡ nat_lt 0 (due_of (begins h) (versions_of new.engine) + runs_due (committed_of new.engine))
+  pub runs : IsGivenBack (committed_of old.engine) (committed_of new.engine)
   pub forgotten : (h : HubState) → StandsFor old h → (n : ℕ) → n ≤ last h.machine → AllByRecursion (λ e. n ≤ e.1.begin) h.machine.running → HasForgotten n (facts_of new.engine)
 
 -- runs that follow each other are one run

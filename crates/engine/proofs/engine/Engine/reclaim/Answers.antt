@@ -1,8 +1,8 @@
-use Rattle.std.proofs.Common.{◌≡◌, ◌∙◌, ap, subst}
+use Rattle.std.proofs.Common.{◌≡◌, ◌∙◌, ◌+◌, ap, subst}
 use Rattle.std.specs.BTreeMap.{values}
 use Rattle.std.specs.Prelude.{nat_lt}
 use Rattle.versions.specs.Meaning.{IsReclaimed, due_of}
-use Rattle.pivot_check.specs.Kept.{CommittedValue}
+use Rattle.pivot_check.specs.Kept.{CommittedValue, runs_due}
 use Rattle.engine.specs.Least.{IsLeast}
 use Rattle.engine.proofs.Reclaims.{reclaimed_stands, numbers_are, none_below}
 use Rattle.engine.proofs.engine.Engine.reclaim.Goals as goal
@@ -22,7 +22,7 @@ returns-clause-versions g c m h =
 pub returns-clause-still : goal.returns-clause-still
 returns-clause-still g c m h =
     let least = subst (λ n. IsLeast (λ t. t.begin) n (values c.args.self.now.running) c.oldest_begin-oldest.result) (c.last.ensures ∙ ap (λ (v : CommittedValue). v.facts.last) c.committed.ensures) c.oldest_begin-oldest.ensures in
-    subst (λ ns. c.reclaim.result ≡ nat_lt 0 (due_of ns c.reclaim.new.self.versions))
+    subst (λ ns. c.reclaim.result ≡ nat_lt 0 (due_of ns c.reclaim.new.self.versions + runs_due c.reclaim.new.self.committed))
     (numbers_are c.args.self.now c.reclaim.new.self c.oldest_begin-oldest.result _ least c.begins-count.ensures.numbers m h) c.reclaim.ensures.still
 
 pub returns-clause-forgotten : goal.returns-clause-forgotten

@@ -14,5 +14,6 @@ returns g c = record {
   );
   versions = λ h s. c.reclaim-more.ensures.versions h.machine s.engine;
   more_is = λ h s. c.reclaim-more.ensures.still h.machine s.engine;
+  runs = c.reclaim-more.ensures.given_back;
   forgotten = λ h s. c.reclaim-more.ensures.forgotten h.machine s.engine;
 }
