@@ -2,9 +2,9 @@
 use Rattle.std.proofs.Common.{◌≡◌, ℕ, zero, suc, ◌+◌, ◌-◌, ◌<◌, ◌≤◌, Bool, true, false, cond, ◌&&◌, List, [], ◌∷◌, ◌++◌, length, take, drop, get_or, Option, Some, None, refl, sym, ap, ◌∙◌, arith, inl, inr}
 use Rattle.std.specs.Prelude.{nat_le, nat_lt, if◌then◌else◌, ◌==◌}
 use Rattle.std.specs.List.{AllByRecursion, list_any, remove}
-use Rattle.std.proofs.lemmas.Bool.{cases_Bool, both_ways, or_cases, or_left, or_right, lt-leb, le-leb}
+use Rattle.std.proofs.lemmas.Bool.{cases_Bool, both_ways, or_cases, or_left, or_right, lt-leb, le-leb, eq-eqb}
 use Rattle.std.proofs.lemmas.Bool.Decides.{nat_tests}
-use Rattle.versions.specs.Chains.{Stamped, ChainValue, last_at, version_at, value_of, seen, seen_in, added, first_number, is_between, seen_by, reclaimed, IsRisingTo, IsRisingChain}
+use Rattle.versions.specs.Chains.{Stamped, ChainValue, last_at, version_at, value_of, seen, seen_in, added, first_number, is_between, seen_by, reclaimed, room_left, IsRisingTo, IsRisingChain}
 use Rattle.versions.specs.Meaning.{is_among, IsSeen, IsTightChain}
 
 pub last_at-push : (n : ℕ) (d : Option Stamped) (vs : List Stamped) (v : Stamped) → last_at n d (vs ++ v ∷ []) ≡ (if nat_le v.number n then Some v else last_at n d vs)
@@ -218,5 +218,7 @@ reclaimed_twice bs c h =
     let vs = seen_by bs c.newest.number c.older in
     let same : seen_by bs c.newest.number vs ≡ vs = seen_twice bs c.newest.number c.older h in
     let long : length (seen_by bs c.newest.number vs) ≡ length vs = ap length same in
-    let room : c.room + (length c.older - length vs) + (length vs - length (seen_by bs c.newest.number vs)) ≡ c.room + (length c.older - length vs) = omega arith in
+    let us = seen_by bs c.newest.number vs in
+    let room : (if length us == length vs then room_left c vs else (if length us == 0 then 0 else room_left c vs + (length vs - length us))) ≡ room_left c vs =
+    ap (λ b. if b then room_left c vs else (if length us == 0 then 0 else room_left c vs + (length vs - length us))) (eq-eqb (length us) (length vs) long) in
     λ i. record { older = same i; newest = c.newest; room = room i }

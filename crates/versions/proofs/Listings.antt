@@ -6,11 +6,11 @@ use Rattle.std.proofs.lemmas.List.Folds.{list_any-append}
 use Rattle.std.specs.Ordering.{nat_cmp}
 use Rattle.std.specs.Cmp.Lexicographic.{slice_cmp}
 use Rattle.std.specs.FinMap.Entries.{put}
-use Rattle.std.proofs.lemmas.Bool.{cases_Bool, both_ways, or_cases, or_left, or_right}
+use Rattle.std.proofs.lemmas.Bool.{cases_Bool, both_ways, or_cases, or_left, or_right, eq-eqb}
 use Rattle.std.proofs.lemmas.Bool.Decides.{nat_tests}
 use Rattle.model.specs.Map.{Bytes, KeyMap, is_same_key}
 use Rattle.model.proofs.Lookups.{same_key, same_key_itself}
-use Rattle.versions.specs.Chains.{Stamped, ChainValue, Chains, find_chain, added, fresh_chain, stamped, first_number, is_between, seen_by, reclaimed, base_chains, IsKept, IsRisingTo, IsRisingChain, IsReclaimedAt, IsRoomier}
+use Rattle.versions.specs.Chains.{Stamped, ChainValue, Chains, find_chain, added, fresh_chain, stamped, first_number, is_between, seen_by, reclaimed, room_left, base_chains, IsKept, IsRisingTo, IsRisingChain, IsReclaimedAt, IsRoomier}
 use Rattle.versions.specs.Listings.{is_of, is_in, is_listed, AreListed, IsListedChain, IsListed, AreFound, unwitnessed, followed, has_version, AreNeeded, IsNeededChain, IsSettled, IsPartReclaimed, AreKept}
 use Rattle.versions.specs.Groups.{GroupValue, Listed}
 use Rattle.versions.proofs.ChainLaws.{any-weaker, between-wider, first_rises}
@@ -140,9 +140,11 @@ needed-same : (bs : List ℕ) (n : ℕ) (vs : List Stamped) → AreNeeded bs n v
 needed-same bs n [] h = refl
 needed-same bs n (v ∷ vs) h = ap (λ b. if b then v ∷ seen_by bs n vs else seen_by bs n vs) h.0 ∙ ap (λ l. v ∷ l) (needed-same bs n vs h.1)
 
-reclaimed-same : (bs : List ℕ) (c : ChainValue) (us : List Stamped) → us ≡ c.older → ◌≡◌ {A = ChainValue} (record { older = us; newest = c.newest; room = c.room + (length c.older - length us) }) c
-reclaimed-same bs c us e = ap (λ (l : List Stamped). record { older = l; newest = c.newest; room = c.room + (length c.older - length l) }) e
-    ∙ (let same : c.room + (length c.older - length c.older) ≡ c.room = omega arith in λ i. record { older = c.older; newest = c.newest; room = same i })
+reclaimed-same : (bs : List ℕ) (c : ChainValue) (us : List Stamped) → us ≡ c.older → ◌≡◌ {A = ChainValue} (record { older = us; newest = c.newest; room = room_left c us }) c
+reclaimed-same bs c us e = ap (λ (l : List Stamped). record { older = l; newest = c.newest; room = room_left c l }) e
+    ∙ (let n = length c.older in
+    let same : room_left c c.older ≡ c.room = ap (λ b. if b then c.room else (if n == 0 then 0 else c.room + (n - n))) (eq-eqb n n refl) in
+    λ i. record { older = c.older; newest = c.newest; room = same i })
 
 pub reclaimed-needed : (bs : List ℕ) (o : Option ChainValue) → IsNeededChain bs o → option_map (reclaimed bs) o ≡ o
 reclaimed-needed bs None h = refl

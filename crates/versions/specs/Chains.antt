@@ -142,8 +142,16 @@ abbrev pub seen_by : List ℕ → ℕ → List Stamped → List Stamped
 seen_by bs next [] = []
 seen_by bs next (v ∷ vs) = if is_between bs v.number (first_number vs next) then v ∷ seen_by bs next vs else seen_by bs next vs
 
+-- without the older versions that none of the numbers sees
+abbrev pub thinned : List ℕ → ChainValue → ChainValue
+thinned bs c = record { older = seen_by bs c.newest.number c.older; newest = c.newest; room = c.room + (length c.older - length (seen_by bs c.newest.number c.older)) }
+
+-- the room for more is given back with the last older version
+abbrev pub room_left : ChainValue → List Stamped → ℕ
+room_left c left = if length left == length c.older then c.room else (if length left == 0 then 0 else c.room + (length c.older - length left))
+
 abbrev pub reclaimed : List ℕ → ChainValue → ChainValue
-reclaimed bs c = record { older = seen_by bs c.newest.number c.older; newest = c.newest; room = c.room + (length c.older - length (seen_by bs c.newest.number c.older)) }
+reclaimed bs c = record { older = seen_by bs c.newest.number c.older; newest = c.newest; room = room_left c (seen_by bs c.newest.number c.older) }
 
 -- ---- what always holds
 

@@ -1,5 +1,6 @@
 pub mod Groups
 pub mod Chains
+pub mod Kept
 pub mod Listings
 pub mod Meaning
 pub mod StandsFor

@@ -1,66 +1,58 @@
 //! The versions of one key.
-ghost use Rattle.std.specs.Prelude.{◌≡◌, ◌+◌, ◌<◌, ◌≤◌, length, IsOk, OnOk, Some, option_copied};
-ghost use Rattle.versions.specs.Chains.{seen, hides, shows, first_shown, least_value, longer_chain, fresh_chain, reclaimed, is_between, is_blank};
+ghost use Rattle.std.specs.Prelude.{◌≡◌, ◌+◌, ◌<◌, ◌≤◌, [], length, IsOk, OnOk, Some, option_copied};
+ghost use Rattle.versions.specs.Chains.{seen, hides, shows, first_shown, longer_chain, fresh_chain, reclaimed, is_blank};
+ghost use Rattle.versions.specs.Kept.{kept_chain};
 ghost use Rattle.versions.specs.Listings.{has_version};
 
+use crate::several::{Several, Version};
 use sorted_pages::Aging;
 use std::alloc::{AllocError, Global};
+use std::boxed::Box;
 use std::marker::Model;
 use std::mem;
 
-/// What a commit left at a key: a value, or `None` for a deletion.
+// The versions of one key. Most keys have a single one, for which there is no memory but that of its value.
 #[derive(Drop)]
-pub(crate) struct Version {
-    pub(crate) number: u64,
-    pub(crate) value: Option<Vec<u8>>,
-}
-
-impl Model for Version {
-    ghost use Rattle.std.specs.Prelude.{option_map};
-    ghost use Rattle.versions.specs.Chains.{Stamped};
-
-    ghost Value = { Stamped };
-
-    ghost view = { λ v. record { number = v.number; value = option_map (λ b. b.items) v.value } };
-}
-
-impl Version {
-    // The version's number, where it is a value and that is less than `n`, and else `n`.
-    fn least_value(&self, n: u64) -> u64
-        ensures { result ≡ least_value n self.now }
-    {
-        match self.value {
-            None => n,
-            Some(_) => n.min(self.number),
-        }
-    }
+enum Kept {
+    // one version, a value
+    Value(u64, Vec<u8>),
+    // one version, a deletion
+    Deletion(u64),
+    // several, or room for them
+    More(Box<Several>),
 }
 
 /// The newest version of a key, and those before it by rising number.
 #[derive(Drop)]
 pub(crate) struct Chain {
-    newest: Version,
-    older: Vec<Version>,
+    kept: Kept,
 }
 
+// One stands in each entry of a page.
+const _: () = prove!(size_of::<Chain>() == 40);
+
 impl Model for Chain {
-    ghost use Rattle.std.specs.Prelude.{◌-◌};
-    ghost use Rattle.std.specs.Vec.{vec_len, vec_capacity};
     ghost use Rattle.versions.specs.Chains.{ChainValue};
+    ghost use Rattle.versions.specs.Kept.{kept_chain};
 
     ghost Value = { ChainValue };
 
-    ghost view = { λ c. record { older = c.older.items; newest = c.newest; room = vec_capacity c.older - vec_len c.older } };
+    ghost view = { λ c. kept_chain c.kept };
 }
 
 impl Chain {
     // A chain of one version. Takes no memory.
-    pub(crate) fn new(alloc: Global, version: Version) -> Chain
+    pub(crate) fn new(version: Version) -> Chain
         ensures { result ≡ fresh_chain version 0 }
     {
-        Chain {
-            newest: version,
-            older: Vec::new(alloc),
+        let Version { number, value } = version;
+        match value {
+            Some(value) => Chain {
+                kept: Kept::Value(number, value),
+            },
+            None => Chain {
+                kept: Kept::Deletion(number),
+            },
         }
     }
 
@@ -68,45 +60,48 @@ impl Chain {
     pub(crate) fn number(&self) -> u64
         ensures { result ≡ self.now.newest.number }
     {
-        self.newest.number
+        match &self.kept {
+            Kept::Value(number, _) => *number,
+            Kept::Deletion(number) => *number,
+            Kept::More(several) => several.as_ref().number(),
+        }
     }
 
     // How many versions are kept.
     pub(crate) fn len(&self) -> usize
         ensures { result ≡ length self.now.older + 1 }
     {
-        self.older.len() + 1
+        match &self.kept {
+            Kept::Value(_, _) => 1,
+            Kept::Deletion(_) => 1,
+            Kept::More(several) => several.as_ref().len(),
+        }
     }
 
-    // What number `n` sees. The walk starts at the newest, which most readers see.
+    // What number `n` sees.
     pub(crate) fn seen(&self, n: u64) -> Option<&[u8]>
         ensures { option_copied result ≡ seen n self.now }
     {
-        if self.newest.number <= n {
-            return lend_value(&self.newest);
+        match &self.kept {
+            Kept::Value(number, value) if *number <= n => Some(value.as_slice()),
+            Kept::Value(_, _) => None,
+            Kept::Deletion(_) => None,
+            Kept::More(several) => several.as_ref().seen(n),
         }
-        for version in self.older.iter().rev() {
-            if version.number <= n {
-                return lend_value(version);
-            }
-        }
-        None
     }
 
     // Makes room for a version.
-    pub(crate) fn reserve(&mut self) -> Result<(), AllocError>
+    pub(crate) fn reserve(&mut self, alloc: Global) -> Result<(), AllocError>
         ensures older { self.new.older ≡ self.old.older }
         ensures newest { self.new.newest ≡ self.old.newest }
         ensures room { self.old.room ≤ self.new.room }
         ensures made { OnOk result (0 < self.new.room) }
         ensures known { 0 < self.old.room → IsOk result }
     {
-        // Most keys never have more than one older version, so the first takes no room to spare.
-        if self.older.capacity() == 0 {
-            self.older.reserve_exact(1)
-        } else {
-            self.older.reserve(1)
-        }
+        let kept = mem::replace(&mut self.kept, Kept::Deletion(0));
+        let (kept, result) = with_room(alloc, kept);
+        self.kept = kept;
+        result
     }
 
     // Adds a version in the room that was made for it.
@@ -114,30 +109,36 @@ impl Chain {
         requires { 0 < self.old.room }
         ensures { self.new ≡ longer_chain self.old version self.new.room }
     {
-        let before = mem::replace(&mut self.newest, version);
-        match self.older.push(before) {
-            Ok(()) => {}
-            Err(_) => unreachable!(),
+        match &mut self.kept {
+            Kept::More(several) => several.as_mut().add(version),
+            _ => unreachable!(),
         }
     }
 
-    // Drops the older versions that none of the numbers sees.
+    // Drops the older versions that none of the numbers sees, and gives back the room for more with the last of them.
     fn reclaim(&mut self, begins: &[u64])
         ensures { self.new ≡ reclaimed begins.now self.old }
     {
-        let last = self.newest.number;
-        let mut i = 0;
-        while i < self.older.len() {
-            let next = if i + 1 < self.older.len() {
-                self.older[i + 1].number
-            } else {
-                last
-            };
-            if is_any_between(begins, self.older[i].number, next) {
-                i += 1;
-            } else {
-                let _ = self.older.remove(i);
-            }
+        let count = self.len();
+        if count == 1 {
+            return;
+        }
+        if let Kept::More(several) = &mut self.kept {
+            several.as_mut().reclaim(begins);
+        }
+        if self.len() == 1 {
+            self.give_back();
+        }
+    }
+
+    // Gives back the room for more versions than the newest.
+    fn give_back(&mut self)
+        requires { self.old.older ≡ [] }
+        ensures { self.new ≡ fresh_chain self.old.newest 0 }
+    {
+        match mem::replace(&mut self.kept, Kept::Deletion(0)) {
+            Kept::More(several) => *self = Chain::new(Box::into_inner(several).newest),
+            kept => self.kept = kept,
         }
     }
 }
@@ -163,7 +164,10 @@ impl Aging for Chain {
 
     // Is there a version of this number before the newest?
     fn has(&self, number: u64) -> bool {
-        self.older.iter().any(|version| version.number == number)
+        match &self.kept {
+            Kept::More(several) => several.as_ref().has(number),
+            _ => false,
+        }
     }
 
     // Does the number see no value?
@@ -173,43 +177,81 @@ impl Aging for Chain {
 
     // Is the key deleted, with nothing older?
     fn is_blank(&self) -> bool {
-        self.older.is_empty() && self.newest.value.is_none()
+        match &self.kept {
+            Kept::Value(_, _) => false,
+            Kept::Deletion(_) => true,
+            Kept::More(several) => several.as_ref().is_alone() && !several.as_ref().shows(),
+        }
     }
 
     // Is the newest version a value?
     fn shows(&self) -> bool {
-        self.newest.value.is_some()
+        match &self.kept {
+            Kept::Value(_, _) => true,
+            Kept::Deletion(_) => false,
+            Kept::More(several) => several.as_ref().shows(),
+        }
     }
 
     // The least number of a version that is a value.
     fn first(&self) -> u64 {
-        self.older
-            .iter()
-            .fold(self.newest.least_value(u64::MAX), |first, version| {
-                version.least_value(first)
-            })
+        match &self.kept {
+            Kept::Value(number, _) => u64::MAX.min(*number),
+            Kept::Deletion(_) => u64::MAX,
+            Kept::More(several) => several.as_ref().first(),
+        }
     }
 
     // The number of the newest version.
     fn last(&self) -> u64 {
-        self.newest.number
+        self.number()
     }
 }
 
-fn lend_value(version: &Version) -> Option<&[u8]>
-    ensures { option_copied result ≡ version.now.value }
+// The versions with room for one more. Where memory is refused, they are as they were.
+fn with_room(alloc: Global, kept: Kept) -> (Kept, Result<(), AllocError>)
+    ensures older { (kept_chain result.0).older ≡ (kept_chain kept).older }
+    ensures newest { (kept_chain result.0).newest ≡ (kept_chain kept).newest }
+    ensures room { (kept_chain kept).room ≤ (kept_chain result.0).room }
+    ensures made { OnOk result.1 (0 < (kept_chain result.0).room) }
+    ensures known { 0 < (kept_chain kept).room → IsOk result.1 }
 {
-    match &version.value {
-        None => None,
-        Some(value) => Some(value.as_slice()),
+    match kept {
+        Kept::More(several) => {
+            let mut several = several;
+            let result = several.as_mut().reserve();
+            (Kept::More(several), result)
+        }
+        Kept::Value(number, value) => grown(
+            alloc,
+            Version {
+                number,
+                value: Some(value),
+            },
+        ),
+        Kept::Deletion(number) => grown(
+            alloc,
+            Version {
+                number,
+                value: None,
+            },
+        ),
     }
 }
 
-// Is some number at least `low` and below `high`?
-fn is_any_between(numbers: &[u64], low: u64, high: u64) -> bool
-    ensures { result ≡ is_between numbers.now low high }
+// The one version with room for one more. Where memory is refused, it stands alone.
+fn grown(alloc: Global, newest: Version) -> (Kept, Result<(), AllocError>)
+    ensures older { (kept_chain result.0).older ≡ [] }
+    ensures newest { (kept_chain result.0).newest ≡ newest }
+    ensures made { OnOk result.1 (0 < (kept_chain result.0).room) }
 {
-    numbers
-        .iter()
-        .any(|number| low <= *number && *number < high)
+    let mut older = Vec::new(alloc);
+    match older.reserve_exact(1) {
+        Ok(()) => {}
+        Err(fault) => return (Chain::new(newest).kept, Err(fault)),
+    }
+    match Box::new(alloc, Several { newest, older }) {
+        Ok(several) => (Kept::More(several), Ok(())),
+        Err(failed) => (Chain::new(failed.value.newest).kept, Err(AllocError)),
+    }
 }

@@ -12,11 +12,12 @@ ghost use Rattle.versions.specs.Listings.{AreSeenFrom, IsListed, followed, unwit
 ghost use Rattle.versions.specs.Groups.{GroupValue};
 ghost use Rattle.versions.specs.Meaning.{AreInstalled};
 
-use crate::chain::{Chain, Version};
+use crate::chain::Chain;
 use crate::listing::OldVersion;
+use crate::several::Version;
 use model::{Key, KeyRef, Write};
 use sorted_pages::SortedPages;
-use std::alloc::AllocError;
+use std::alloc::{AllocError, Global};
 
 // Lists the version of the key that commit `n` puts its own behind.
 fn list(listed: &mut Vec<OldVersion>, key: Key, number: u64, n: u64)
@@ -46,7 +47,7 @@ fn newest(chains: &SortedPages<Chain>, key: KeyRef<'_>) -> Option<u64>
 }
 
 // Makes room for a version in the chain of a key that has one.
-fn widen(chains: &mut SortedPages<Chain>, key: KeyRef<'_>) -> Result<(), AllocError>
+fn widen(alloc: Global, chains: &mut SortedPages<Chain>, key: KeyRef<'_>) -> Result<(), AllocError>
     requires sorted { T (is_sorted (slice_cmp nat_cmp) (entries chains.old)) }
     requires present { IsSome (find_chain key.bytes.now (entries chains.old)) }
     ensures chains { IsRoomier (entries chains.old) (entries chains.new) }
@@ -54,11 +55,12 @@ fn widen(chains: &mut SortedPages<Chain>, key: KeyRef<'_>) -> Result<(), AllocEr
     ensures room { OnOk result (HasRoom (find_chain key.entry.bytes.now (entries chains.new))) }
     ensures known { HasRoom (find_chain key.entry.bytes.now (entries chains.old)) → IsOk result }
 {
-    chains.value_mut(key).reserve()
+    chains.value_mut(key).reserve(alloc)
 }
 
 // Makes room for a version in the key's chain, or for `n` new chains where it would stand.
 pub(crate) fn make_room(
+    alloc: Global,
     chains: &mut SortedPages<Chain>,
     key: KeyRef<'_>,
     n: usize,
@@ -71,7 +73,7 @@ pub(crate) fn make_room(
     ensures known { HasRoom (find_chain key.entry.bytes.now (entries chains.old)) → HasPlace n (room_at key.entry.bytes.now chains.old) (find_chain key.entry.bytes.now (entries chains.old)) → IsOk result }
 {
     if chains.get(key).is_some() {
-        widen(chains, key)
+        widen(alloc, chains, key)
     } else {
         chains.reserve(key, n)
     }
@@ -106,10 +108,7 @@ fn add(chains: &mut SortedPages<Chain>, listed: &mut Vec<OldVersion>, n: u64, wr
             lengthen(chains, key.lend(), version);
             list(listed, key, number, n);
         }
-        None => {
-            let alloc = *listed.allocator();
-            chains.insert(key, Chain::new(alloc, version));
-        }
+        None => chains.insert(key, Chain::new(version)),
     }
 }
 

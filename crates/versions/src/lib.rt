@@ -10,6 +10,7 @@ mod laws;
 mod listing;
 mod pairs;
 mod reclaiming;
+mod several;
 mod versions;
 
 pub use laws::{history_has_maps, numbers_change, read_only_record_follows};

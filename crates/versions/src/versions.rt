@@ -11,11 +11,12 @@ ghost use Rattle.sorted_pages.specs.Pages.{room_at};
 ghost use Rattle.versions.specs.Lent.{range_pairs};
 ghost use Rattle.versions.specs.StandsFor.{StandsFor};
 
-use crate::chain::{Chain, Version};
+use crate::chain::Chain;
 use crate::installing::{add_all, make_room};
 use crate::listing::{Group, OldVersion, reserve_list};
 use crate::pairs::Pairs;
 use crate::reclaiming::reclaim_versions;
+use crate::several::Version;
 use model::{KeyRef, Map, Memory, RangeRef, Write};
 use sorted_pages::SortedPages;
 use std::alloc::{AllocError, Global};
@@ -64,7 +65,7 @@ impl Versions {
                 number: 0,
                 value: Some(value),
             };
-            chains.push(key, Chain::new(alloc, newest))?;
+            chains.push(key, Chain::new(newest))?;
         }
         Ok(Versions {
             chains,
@@ -123,7 +124,8 @@ impl Versions {
         ensures place { OnOk result (HasPlace n (room_at key.entry.bytes.now self.new.pages) (find_chain key.entry.bytes.now self.new.chains)) }
         ensures known { HasRoom (find_chain key.entry.bytes.now self.old.chains) → HasPlace n (room_at key.entry.bytes.now self.old.pages) (find_chain key.entry.bytes.now self.old.chains) → IsOk result }
     {
-        make_room(&mut self.chains, key, n)
+        let alloc = *self.listed.allocator();
+        make_room(alloc, &mut self.chains, key, n)
     }
 
     /// Makes the room in which these writes can be installed: in the pages of new keys, where a full page is split, once in the chain

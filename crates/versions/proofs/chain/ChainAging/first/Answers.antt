@@ -3,8 +3,8 @@ use Rattle.versions.specs.Chains.{first_shown}
 use Rattle.versions.proofs.Visibles.{first_hides}
 use Rattle.versions.proofs.chain.ChainAging.first.Goals as goal
 
-pub returns-clause-hidden : goal.returns-clause-hidden
-returns-clause-hidden c = λ n lt.
-    let value : c.fold.result ≡ first_shown c.args.self.now = search rules in
+pub returns-in-More-clause-hidden : goal.returns-in-More-clause-hidden
+returns-in-More-clause-hidden c = λ n lt.
+    let value : c.first.result ≡ first_shown c.args.self.now = search rules in
     let P : ℕ → Type 0 = λ m. n < m in
     first_hides n c.args.self.now (subst P value lt)

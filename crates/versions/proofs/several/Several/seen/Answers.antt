@@ -1,7 +1,7 @@
 use Rattle.std.proofs.Common.{ap, ◌∙◌}
 use Rattle.versions.specs.Chains.{Stamped}
 use Rattle.versions.proofs.ChainLaws.{passed_by, met}
-use Rattle.versions.proofs.chain.Chain.seen.Goals as goal
+use Rattle.versions.proofs.several.Several.seen.Goals as goal
 
 pub returns-then-version-n : goal.returns-then-version-n
 returns-then-version-n c = c.lend_value-then-version-n.ensures

@@ -1,7 +1,7 @@
 use Rattle.std.proofs.Common.{◌≡◌, ◌-◌, ◌≤◌, ◌++◌, length, take, drop}
 use Rattle.std.specs.Vec.{vec_capacity}
 use Rattle.versions.specs.Chains.{seen_by}
-use Rattle.versions.proofs.chain.Chain.reclaim.Given as goal
+use Rattle.versions.proofs.several.Several.reclaim.Given as goal
 
 -- those before i are kept, and from i on it stands to be seen which
 abbrev pub invariant-loop-i : goal.invariant-loop-i

@@ -1,6 +1,6 @@
 use Rattle.std.proofs.Common.{◌≡◌, None}
 use Rattle.versions.specs.Chains.{last_at, version_at}
-use Rattle.versions.proofs.chain.Chain.seen.Given as goal
+use Rattle.versions.proofs.several.Several.seen.Given as goal
 
 -- the versions that were passed by are too new
 abbrev pub invariant-loop-version : goal.invariant-loop-version

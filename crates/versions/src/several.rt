@@ -1,0 +1,184 @@
+//! Several versions of one key.
+ghost use Rattle.std.specs.Prelude.{◌≡◌, ◌==◌, ◌+◌, ◌<◌, ◌≤◌, length, IsOk, OnOk, Some, option_copied};
+ghost use Rattle.versions.specs.Chains.{seen, shows, first_shown, least_value, longer_chain, thinned, is_between};
+ghost use Rattle.versions.specs.Listings.{has_version};
+
+use std::alloc::AllocError;
+use std::marker::Model;
+use std::mem;
+
+/// What a commit left at a key: a value, or `None` for a deletion.
+#[derive(Drop)]
+pub(crate) struct Version {
+    pub(crate) number: u64,
+    pub(crate) value: Option<Vec<u8>>,
+}
+
+impl Model for Version {
+    ghost use Rattle.std.specs.Prelude.{option_map};
+    ghost use Rattle.versions.specs.Chains.{Stamped};
+
+    ghost Value = { Stamped };
+
+    ghost view = { λ v. record { number = v.number; value = option_map (λ b. b.items) v.value } };
+}
+
+impl Version {
+    // The version's number, where it is a value and that is less than `n`, and else `n`.
+    fn least_value(&self, n: u64) -> u64
+        ensures { result ≡ least_value n self.now }
+    {
+        match self.value {
+            None => n,
+            Some(_) => n.min(self.number),
+        }
+    }
+}
+
+/// The newest version of a key, and those before it by rising number, or room for them.
+#[derive(Drop)]
+pub(crate) struct Several {
+    pub(crate) newest: Version,
+    pub(crate) older: Vec<Version>,
+}
+
+impl Model for Several {
+    ghost use Rattle.std.specs.Prelude.{◌-◌};
+    ghost use Rattle.std.specs.Vec.{vec_len, vec_capacity};
+    ghost use Rattle.versions.specs.Chains.{ChainValue};
+
+    ghost Value = { ChainValue };
+
+    ghost view = { λ c. record { older = c.older.items; newest = c.newest; room = vec_capacity c.older - vec_len c.older } };
+}
+
+impl Several {
+    // The number of the newest version.
+    pub(crate) fn number(&self) -> u64
+        ensures { result ≡ self.now.newest.number }
+    {
+        self.newest.number
+    }
+
+    // How many versions are kept.
+    pub(crate) fn len(&self) -> usize
+        ensures { result ≡ length self.now.older + 1 }
+    {
+        self.older.len() + 1
+    }
+
+    // What number `n` sees. The walk starts at the newest, which most readers see.
+    pub(crate) fn seen(&self, n: u64) -> Option<&[u8]>
+        ensures { option_copied result ≡ seen n self.now }
+    {
+        if self.newest.number <= n {
+            return lend_value(&self.newest);
+        }
+        for version in self.older.iter().rev() {
+            if version.number <= n {
+                return lend_value(version);
+            }
+        }
+        None
+    }
+
+    // Makes room for a version.
+    pub(crate) fn reserve(&mut self) -> Result<(), AllocError>
+        ensures older { self.new.older ≡ self.old.older }
+        ensures newest { self.new.newest ≡ self.old.newest }
+        ensures room { self.old.room ≤ self.new.room }
+        ensures made { OnOk result (0 < self.new.room) }
+        ensures known { 0 < self.old.room → IsOk result }
+    {
+        // Most keys never have more than one older version, so the first takes no room to spare.
+        if self.older.capacity() == 0 {
+            self.older.reserve_exact(1)
+        } else {
+            self.older.reserve(1)
+        }
+    }
+
+    // Adds a version in the room that was made for it.
+    pub(crate) fn add(&mut self, version: Version)
+        requires { 0 < self.old.room }
+        ensures { self.new ≡ longer_chain self.old version self.new.room }
+    {
+        let before = mem::replace(&mut self.newest, version);
+        match self.older.push(before) {
+            Ok(()) => {}
+            Err(_) => unreachable!(),
+        }
+    }
+
+    // Drops the older versions that none of the numbers sees.
+    pub(crate) fn reclaim(&mut self, begins: &[u64])
+        ensures { self.new ≡ thinned begins.now self.old }
+    {
+        let last = self.newest.number;
+        let mut i = 0;
+        while i < self.older.len() {
+            let next = if i + 1 < self.older.len() {
+                self.older[i + 1].number
+            } else {
+                last
+            };
+            if is_any_between(begins, self.older[i].number, next) {
+                i += 1;
+            } else {
+                let _ = self.older.remove(i);
+            }
+        }
+    }
+
+    // Is there no version but the newest?
+    pub(crate) fn is_alone(&self) -> bool
+        ensures { result ≡ (length self.now.older == 0) }
+    {
+        let _ = &self.newest;
+        self.older.is_empty()
+    }
+
+    // Is there a version of this number before the newest?
+    pub(crate) fn has(&self, number: u64) -> bool
+        ensures { result ≡ has_version number (Some self.now) }
+    {
+        let _ = &self.newest;
+        self.older.iter().any(|version| version.number == number)
+    }
+
+    // Is the newest version a value?
+    pub(crate) fn shows(&self) -> bool
+        ensures { result ≡ shows self.now }
+    {
+        self.newest.value.is_some()
+    }
+
+    // The least number of a version that is a value.
+    pub(crate) fn first(&self) -> u64
+        ensures { result ≡ first_shown self.now }
+    {
+        self.older
+            .iter()
+            .fold(self.newest.least_value(u64::MAX), |first, version| {
+                version.least_value(first)
+            })
+    }
+}
+
+fn lend_value(version: &Version) -> Option<&[u8]>
+    ensures { option_copied result ≡ version.now.value }
+{
+    match &version.value {
+        None => None,
+        Some(value) => Some(value.as_slice()),
+    }
+}
+
+// Is some number at least `low` and below `high`?
+fn is_any_between(numbers: &[u64], low: u64, high: u64) -> bool
+    ensures { result ≡ is_between numbers.now low high }
+{
+    numbers
+        .iter()
+        .any(|number| low <= *number && *number < high)
+}
