@@ -1,5 +1,5 @@
 //! Keys, lent and owned.
-ghost use Rattle.std.specs.Prelude.{◌≡◌, ◌↔◌, IsSome, IfSome, IfOk};
+ghost use Rattle.std.specs.Prelude.{◌≡◌, ◌↔◌, ◌≤◌, length, IsSome, IfSome, IfOk, IsOk};
 ghost use Rattle.model.specs.Key.{IsKey};
 ghost use Rattle.model.specs.Map.{key_cmp};
 
@@ -59,28 +59,32 @@ pub struct Key {
 impl Model for Key {
     ghost use Rattle.std.specs.Prelude.{ℕ, List};
     ghost use Rattle.model.specs.Key.{IsKey};
-    ghost use Rattle.model.specs.Stored.{stored_bytes};
+    ghost use Rattle.model.specs.Stored.{IsInPlace, stored_bytes};
 
     ghost Value = { List ℕ };
 
     ghost view = { λ k. stored_bytes k.bytes };
 
-    ghost invariant = { λ k. IsKey (stored_bytes k.bytes) };
+    ghost invariant = { λ k. IsKey (stored_bytes k.bytes) × IsInPlace k.bytes };
 }
 
 impl Key {
-    /// A copy of a lent key. It takes as many bytes as the key has, where these are more than 16; `Memory` where they are refused.
+    /// A copy of a lent key. It takes as many bytes as the key has, where these are more than 16; `Memory` where they are refused, and
+    /// so never for up to 16.
     pub fn from_ref(alloc: Global, key: KeyRef<'_>) -> Result<Key, Memory>
-        ensures { IfOk result (λ k. k ≡ key.entry.bytes.now) }
+        ensures bytes { IfOk result (λ k. k ≡ key.entry.bytes.now) }
+        ensures short { length key.entry.bytes.now ≤ 16 → IsOk result }
     {
         Ok(Key {
             bytes: Stored::from_slice(alloc, key.bytes())?,
         })
     }
 
-    /// A key of the same bytes. It takes as many bytes as the key has, where these are more than 16; `Memory` where they are refused.
+    /// A key of the same bytes. It takes as many bytes as the key has, where these are more than 16; `Memory` where they are refused, and
+    /// so never for up to 16.
     pub fn copy(&self) -> Result<Key, Memory>
-        ensures { IfOk result (λ k. k ≡ self.now) }
+        ensures bytes { IfOk result (λ k. k ≡ self.now) }
+        ensures short { length self.now ≤ 16 → IsOk result }
     {
         Ok(Key {
             bytes: self.bytes.copy()?,

@@ -1,6 +1,6 @@
 //! The bytes of owned keys.
-ghost use Rattle.std.specs.Prelude.{◌≡◌, IfOk};
-ghost use Rattle.model.specs.Stored.{stored_bytes};
+ghost use Rattle.std.specs.Prelude.{◌≡◌, ◌≤◌, length, IfOk, IsOk};
+ghost use Rattle.model.specs.Stored.{IsInPlace, stored_bytes};
 
 use crate::refusals::Memory;
 use arrayvec::ArrayVec;
@@ -17,9 +17,11 @@ pub(crate) enum Stored {
 }
 
 impl Stored {
-    // A copy of these bytes.
+    // A copy of these bytes. Up to 16 take no memory.
     pub(crate) fn from_slice(alloc: Global, bytes: &[u8]) -> Result<Stored, Memory>
-        ensures { IfOk result (λ s. stored_bytes s ≡ bytes.now) }
+        ensures bytes { IfOk result (λ s. stored_bytes s ≡ bytes.now) }
+        ensures place { IfOk result (λ s. IsInPlace s) }
+        ensures short { length bytes.now ≤ 16 → IsOk result }
     {
         match ArrayVec::try_from(bytes) {
             Ok(short) => Ok(Stored::Short(short)),
@@ -36,12 +38,18 @@ impl Stored {
         }
     }
 
-    // A copy of the same bytes.
+    // A copy of the same bytes. Up to 16 take no memory.
     pub(crate) fn copy(&self) -> Result<Stored, Memory>
-        ensures { IfOk result (λ s. stored_bytes s ≡ stored_bytes self.now) }
+        requires { IsInPlace self.now }
+        ensures bytes { IfOk result (λ s. stored_bytes s ≡ stored_bytes self.now) }
+        ensures place { IfOk result (λ s. IsInPlace s) }
+        ensures short { length (stored_bytes self.now) ≤ 16 → IsOk result }
     {
         match self {
-            Stored::Short(bytes) => Ok(Stored::Short(bytes.clone()?)),
+            Stored::Short(bytes) => match ArrayVec::try_from(bytes.as_slice()) {
+                Ok(copied) => Ok(Stored::Short(copied)),
+                Err(_) => unreachable!(),
+            },
             Stored::Long(bytes) => Ok(Stored::Long(bytes.clone()?)),
         }
     }

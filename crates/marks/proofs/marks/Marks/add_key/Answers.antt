@@ -15,7 +15,7 @@ pub returns-in_err-push-clause-full : goal.returns-in_err-push-clause-full
 returns-in_err-push-clause-full c = only_full _ _ (search rules) (not_full c.self.inside.held.items c.args.self.now (OfKey c.args.key.bytes.now) c.self.view_is (omega arith))
 
 pub returns-clause-ok : goal.returns-clause-ok
-returns-clause-ok c = with_new c.self.inside.held.items _ _ c.args.self.now (OfKey c.args.key.bytes.now) c.self.view_is (sym c.if-has_key.ensures) (ap OfKey c.in_ok-from_ref.ensures) c.in_ok-push.ensures.items
+returns-clause-ok c = with_new c.self.inside.held.items _ _ c.args.self.now (OfKey c.args.key.bytes.now) c.self.view_is (sym c.if-has_key.ensures) (ap OfKey c.in_ok-from_ref.ensures.bytes) c.in_ok-push.ensures.items
 
 pub returns-clause-full : goal.returns-clause-full
 returns-clause-full c = only_full _ _ (λ e. cc) (not_full c.self.inside.held.items c.args.self.now (OfKey c.args.key.bytes.now) c.self.view_is (omega arith))

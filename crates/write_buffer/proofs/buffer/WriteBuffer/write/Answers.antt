@@ -9,7 +9,7 @@ invariant_of-self c = entries-put_as c.args.self.now c.self.inside.entries.items
 
 pub invariant_of-self-in-Continue-branch-2 : goal.invariant_of-self-in-Continue-branch-2
 invariant_of-self-in-Continue-branch-2 c = entries-put_as c.args.self.now c.self.inside.entries.items c.insert.new.self.items c.args.key.bytes.now _ c.self.view_is
-    (c.in_ok-insert-in-Err.ensures.items ∙ insert_there c.args.self.now c.self.inside.entries.items c.bytes.result.now c.args.key.bytes.now c.in_ok-key-in-Err.key c.in-Err.i c.new.result _ c.self.view_is c.in-Err.ensures.absent c.bytes.ensures.bytes c.in_ok-key-in-Err.ensures c.new.ensures)
+    (c.in_ok-insert-in-Err.ensures.items ∙ insert_there c.args.self.now c.self.inside.entries.items c.bytes.result.now c.args.key.bytes.now c.in_ok-key-in-Err.key c.in-Err.i c.new.result _ c.self.view_is c.in-Err.ensures.absent c.bytes.ensures.bytes c.in_ok-key-in-Err.ensures.bytes c.new.ensures)
     c.self.invariant (c.args.key.sized.0, c.args.key.sized.1, c.requires.short) c.requires.room
 
 pub returns-in-Ok-clause-entries : goal.returns-in-Ok-clause-entries
@@ -19,5 +19,5 @@ returns-in-Ok-clause-entries c = entries-put_as c.args.self.now c.self.inside.en
 
 pub returns-in_ok-insert-in-Err-clause-entries : goal.returns-in_ok-insert-in-Err-clause-entries
 returns-in_ok-insert-in-Err-clause-entries c = entries-put_as c.args.self.now c.self.inside.entries.items c.insert.new.self.items c.args.key.bytes.now _ c.self.view_is
-    (c.in_ok-insert-in-Err.ensures.items ∙ insert_there c.args.self.now c.self.inside.entries.items c.bytes.result.now c.args.key.bytes.now c.in_ok-key-in-Err.key c.in-Err.i c.new.result _ c.self.view_is c.in-Err.ensures.absent c.bytes.ensures.bytes c.in_ok-key-in-Err.ensures c.new.ensures)
+    (c.in_ok-insert-in-Err.ensures.items ∙ insert_there c.args.self.now c.self.inside.entries.items c.bytes.result.now c.args.key.bytes.now c.in_ok-key-in-Err.key c.in-Err.i c.new.result _ c.self.view_is c.in-Err.ensures.absent c.bytes.ensures.bytes c.in_ok-key-in-Err.ensures.bytes c.new.ensures)
     c.self.invariant (c.args.key.sized.0, c.args.key.sized.1, c.requires.short) c.requires.room
