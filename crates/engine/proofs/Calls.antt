@@ -1,4 +1,5 @@
 -- What each kind of call does to the states that an engine stands for.
+use Rattle.std.proofs.lemmas.Grind.{common_steps}
 use Rattle.std.proofs.Common.{◌≡◌, ◌<◌, ◌≤◌, ◌↔◌, ℕ, Bool, true, false, T, List, [], ◌∷◌, ◌++◌, Option, Some, None, refl, sym, ap, subst, ◌∙◌, length, arith, ◌||◌, ◌+◌}
 use Rattle.std.specs.Prelude.{nat_lt, nat_le, not, ◌==◌, IsTrue, IsFalse, is_some, if◌then◌else◌}
 use Rattle.std.specs.Ordering.{nat_cmp}
@@ -14,7 +15,7 @@ use Rattle.model.specs.Map.{KeyMap, IsMap}
 use Rattle.model.specs.Operations.{Operation, Response}
 use Rattle.model.specs.Operations.Operation.{Begin, Abort, Ping}
 use Rattle.model.specs.Operations.Response.{Done, Refused}
-use Rattle.model.specs.PrivateCopy.{copy_of, copy_after, answer}
+use Rattle.model.specs.PrivateCopy.{copy_of, answer}
 use Rattle.model.specs.History.{map_at}
 use Rattle.model.specs.Machine.{State, Running, last, snapshot, running_of, with_running, leave, step_outside, own_step, step_inside, step, IsReached}
 use Rattle.model.proofs.Steps.{copy_after-push}
@@ -23,12 +24,10 @@ use Rattle.versions.specs.Laws.{HoldingLaw}
 use Rattle.snapshot.specs.View.{View, new_view}
 use Rattle.snapshot.specs.Made.{HasMade, is_refused}
 use Rattle.sector.specs.declared.device.Sectors.{Ghosts}
-use Rattle.commit_log.specs.declared.log.Log.{Log}
 use Rattle.commit_log.specs.LogState.{is_stopped}
-use Rattle.engine.specs.HistoryValue.{HistoryValue, HistoryStandsFor}
+use Rattle.engine.specs.HistoryValue.{HistoryStandsFor}
 use Rattle.engine.specs.declared.engine.Engine.{Engine}
 use Rattle.engine.specs.StandsFor.{StandsFor, IsRunning, AreRunning}
-use Rattle.engine.specs.Recovery.{IsStored, IsInDoubt}
 use Rattle.engine.specs.Changes.{entry_of, IsSameStore, Leaves}
 use Rattle.engine.specs.Meaning.{StandsForSame, IsNotRefused, Leads}
 use Rattle.engine.proofs.Sessions.{IsFound, beside_length, beside_none, beside_some, beside_insert, beside_remove, beside_set, beside_weaker}
@@ -36,11 +35,7 @@ use Rattle.engine.proofs.Steps.{step_with, step_without, reached_step, reached_l
 
 -- a request that was refused, and that changed nothing, is one more own request
 pub made_refused : (t : View) (m : KeyMap) (qs : List Operation) (q : Operation) → HasMade t m qs → is_refused (answer m qs q) ≡ true → HasMade t m (qs ++ q ∷ [])
-made_refused t m qs q h e = record {
-  is_map = h.is_map;
-  entries = h.entries;
-  copy = h.copy ∙ sym (refused_same (copy_after (copy_of m) qs) q e) ∙ sym (copy_after-push (copy_of m) qs q);
-}
+made_refused t m qs q h e = grind (arith, common_steps, refused_same, copy_after-push)
 
 pub made_pong : (t : View) (m : KeyMap) (qs : List Operation) → HasMade t m qs → HasMade t m (qs ++ Ping ∷ [])
 made_pong t m qs h = record { is_map = h.is_map; entries = h.entries; copy = h.copy ∙ sym (copy_after-push (copy_of m) qs Ping) }
@@ -74,23 +69,7 @@ module _ {D : Type 0} {g : Ghosts D} where
   pub stands_with : (e e' : Engine D g) (m : State) (rs : List (ℕ × Running)) (held : ℕ → Bool) → IsSameStore e e' → StandsFor e m → IsReached (record m { running = rs })
       → HistoryStandsFor e.history held m.base m.history → AreRunning e.history.committed.facts held m.base m.history e'.running.entries rs → T (is_sorted nat_cmp rs) → length e'.running.entries ≤ 64
       → StandsFor e' (record m { running = rs })
-  stands_with e e' m rs held same h reached history running sorted few =
-      let log = same.log in let at = same.history in
-      record {
-        reached = reached;
-        stopped = h.stopped ∙ ap is_stopped (sym log);
-        used = subst (λ (l : Log D g). m.used ≡ l.gate + 1) (sym log) h.used;
-        count = subst (λ (l : Log D g). m.count ≡ g.size l.device) (sym log) h.count;
-        stored = subst (λ (l : Log D g). g.keeps_model → is_stopped l ≡ false → IsStored l (map_at m.base m.history (length m.history))) (sym log) h.stored;
-        doubt = subst (λ (l : Log D g). g.keeps_model → is_stopped l ≡ true → IsInDoubt (map_at m.base m.history (length m.history)) (g.may_leave l.device)) (sym log) h.doubt;
-        held = held;
-        history = subst (λ (v : HistoryValue). HistoryStandsFor v held m.base m.history) (sym at) history;
-        kept = subst (λ (v : HistoryValue). v.committed.facts.oldest ≤ length m.history) (sym at) h.kept;
-        few = h.few;
-        running = subst (λ (v : HistoryValue). AreRunning v.committed.facts held m.base m.history e'.running.entries rs) (sym at) running;
-        sorted = sorted;
-        few_open = few;
-      }
+  stands_with e e' m rs held same h reached history running sorted few = grind (arith, common_steps)
 
   -- the same open transactions
   pub stands_same : (e e' : Engine D g) (m : State) → IsSameStore e e' → e'.running.entries ≡ e.running.entries → StandsFor e m → StandsFor e' m

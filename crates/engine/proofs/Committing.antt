@@ -1,6 +1,7 @@
 -- What a commit does to the states that an engine stands for.
-use Rattle.std.proofs.Common.{◌≡◌, ◌⊎◌, ◌<◌, ◌≤◌, ◌+◌, ◌-◌, ◌^◌, ◌↔◌, ℕ, suc, zero, Bool, true, false, List, [], ◌∷◌, ◌++◌, Option, Some, None, refl, sym, ap, subst, ◌∙◌, length, length-append, arith, ◌||◌, inl, inr}
-use Rattle.std.specs.Prelude.{nat_lt, nat_le, not, ◌==◌, IsTrue, if◌then◌else◌, slice_get, slice_index_or, Err}
+use Rattle.std.proofs.lemmas.Grind.{common_steps}
+use Rattle.std.proofs.Common.{◌≡◌, ◌⊎◌, ◌<◌, ◌≤◌, ◌+◌, ◌-◌, ◌^◌, ◌↔◌, ℕ, suc, Bool, true, false, List, [], ◌∷◌, ◌++◌, Option, Some, None, refl, sym, ap, subst, ◌∙◌, length, length-append, arith, inl, inr}
+use Rattle.std.specs.Prelude.{not, ◌==◌, IsTrue, if◌then◌else◌, slice_get, slice_index_or, Err}
 use Rattle.std.specs.List.{AllByRecursion}
 use Rattle.std.specs.Ordering.{nat_cmp}
 use Rattle.std.specs.Map.{lookup, remove_entry}
@@ -19,7 +20,7 @@ use Rattle.model.specs.Machine.{State, Running, last, snapshot, leave, record_to
 use Rattle.model.proofs.Machines.{map_at-append, commit_low}
 use Rattle.snapshot.specs.View.{View}
 use Rattle.snapshot.specs.Made.{HasMade, is_refused}
-use Rattle.model.specs.PrivateCopy.{PrivateCopy, writes}
+use Rattle.model.specs.PrivateCopy.{writes}
 use Rattle.pivot_check.specs.Kept.{Facts, IsInReach}
 use Rattle.pivot_check.specs.StandsFor.{IsRecordOf, IsVerdict, IsClear, StandsFor as CommittedStandsFor}
 use Rattle.pivot_check.specs.declared.Verdict.TheVariants as verdicts
@@ -45,17 +46,7 @@ use Rattle.engine.specs.Judgements.{IsRefused, IsToJudge, IsToCommit}
 -- ---- memory made ready
 
 pub same_history : (a b : HistoryValue) (held : ℕ → Bool) (base : KeyMap) (history : List Record) → IsSameHistory a b → HistoryStandsFor a held base history → HistoryStandsFor b held base history
-same_history a b held base history same h =
-    let v = same.versions in let old = h.versions in
-    record {
-      versions = record {
-        is_map = old.is_map;
-        maps = λ n t. v.maps n ∙ old.maps n (subst (λ l. IsTrue (held n || nat_le l n)) v.last t);
-        newest = λ k. v.newest k ∙ old.newest k;
-        within = subst (λ l. l ≤ length history) (sym v.last) old.within;
-      };
-      committed = subst (λ f. CommittedStandsFor f history) (sym same.facts) h.committed;
-    }
+same_history a b held base history same h = grind (arith, common_steps)
 
 pub same_turned : (a b : HistoryValue) → IsSameHistory a b → IsSameHistory b a
 same_turned a b same =
@@ -69,23 +60,16 @@ are_running facts facts' held base history es es' rs f x h = subst (λ (l : List
 -- ---- places
 
 at_place : (ws : List KeyWrite) (i : ℕ) (w d : KeyWrite) → slice_get ws i ≡ Some w → slice_index_or ws i d ≡ w
-at_place [] i w d e = cc
-at_place (x ∷ ws) zero w d e = cc
 at_place (x ∷ ws) (suc i) w d e = at_place ws i w d e
+at_place b0 b1 w d e = cc
 
 -- ---- the device's failures
 
 pub not_risen : (before now : ℕ) → Stayed before now → has_risen before now ≡ false
-not_risen before now h =
-    let a : nat_lt before now ≡ false = le-ltb before now (omega (arith, h.0)) in
-    let b : (before == 2 ^ 64 - 1) ≡ false = ne_eqb before (2 ^ 64 - 1) (λ k. omega (arith, h.1)) in
-    rw (a, b) refl
+not_risen before now h = grind (arith, common_steps, le-ltb, ne_eqb)
 
 pub risen : (before now : ℕ) → Rose before now → has_risen before now ≡ true
-risen before now h = elim h [
-  | inl l ↦ or_left (nat_lt before now) (before == 2 ^ 64 - 1) (lt-ltb before now l)
-  | inr r ↦ or_right (nat_lt before now) (before == 2 ^ 64 - 1) (eq-eqb before (2 ^ 64 - 1) r.0)
-]
+risen before now h = grind (arith, common_steps, or_left, lt-ltb, or_right, eq-eqb)
 
 some_same : {X : Type 0} (x y : X) → Some x ≡ Some y → x ≡ y
 some_same x y q = cc
@@ -109,21 +93,7 @@ HasVerdict f t o = IsInReach f t → (history : List Record) → CommittedStands
 
 module _ {D : Type 0} {g : Ghosts D} where
   pub same_with : (e e' : Engine D g) (m : State) → e'.log ≡ e.log → e'.running.entries ≡ e.running.entries → IsSameHistory e.history e'.history → StandsFor e m → StandsFor e' m
-  same_with e e' m log entries same h = record {
-    reached = h.reached;
-    stopped = h.stopped ∙ ap is_stopped (sym log);
-    used = subst (λ (l : Log D g). m.used ≡ l.gate + 1) (sym log) h.used;
-    count = subst (λ (l : Log D g). m.count ≡ g.size l.device) (sym log) h.count;
-    stored = subst (λ (l : Log D g). g.keeps_model → is_stopped l ≡ false → IsStored l (map_at m.base m.history (length m.history))) (sym log) h.stored;
-    doubt = subst (λ (l : Log D g). g.keeps_model → is_stopped l ≡ true → IsInDoubt (map_at m.base m.history (length m.history)) (g.may_leave l.device)) (sym log) h.doubt;
-    held = h.held;
-    history = same_history e.history e'.history h.held m.base m.history same h.history;
-    kept = subst (λ (f : Facts). f.oldest ≤ length m.history) (sym same.facts) h.kept;
-    few = h.few;
-    running = are_running e.history.committed.facts e'.history.committed.facts h.held m.base m.history e.running.entries e'.running.entries m.running (sym same.facts) (sym entries) h.running;
-    sorted = h.sorted;
-    few_open = subst (λ (es : List (ℕ × View)). length es ≤ 64) (sym entries) h.few_open;
-  }
+  same_with e e' m log entries same h = grind (arith, common_steps, same_history, are_running)
 
   -- memory was refused
   pub refused_memory : (e e' : Engine D g) → e'.log ≡ e.log → e'.running.entries ≡ e.running.entries → IsSameHistory e.history e'.history → StandsForSame e e'
@@ -152,14 +122,7 @@ module _ {D : Type 0} {g : Ghosts D} where
 
   -- the machine's record of the transaction
   own_record : (e : Engine D g) (m : State) (t : View) (r : Running) (h : StandsFor e m) → HasItsWrites t → Held e m h t r → IsRecordOf t (e.history.committed.facts.last + 1) (record_to_commit m r)
-  own_record e m t r h made same =
-      let l = h.history.committed.last in
-      record {
-        begin = sym same.begin;
-        commit = omega arith;
-        reads = sym (ap (λ (c : PrivateCopy). c.marks) same.made.copy);
-        writes = sym (made (snapshot m r) r.requests same.made);
-      }
+  own_record e m t r h made same = grind (arith, common_steps)
 
   judged : (e : Engine D g) (m : State) (s : ℕ) (t : View) (r : Running) (failed : Bool) (h : StandsFor e m) → IsToJudge e s t → (o : Option Refusal) → verdict m.history (record_to_commit m r) ≡ o
       → commit m s r failed ≡ store_unless o m s (record_to_commit m r) failed

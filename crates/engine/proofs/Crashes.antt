@@ -1,5 +1,6 @@
 -- What a crash leaves.
-use Rattle.std.proofs.Common.{◌≡◌, ◌⊎◌, ⊎_elim, inl, inr, ℕ, List, [], ◌∷◌, ◌++◌, ap, ◌∙◌}
+use Rattle.std.proofs.lemmas.Grind.{common_steps}
+use Rattle.std.proofs.Common.{arith, ◌≡◌, ◌⊎◌, ⊎_elim, inl, inr, ℕ, List, [], ◌∷◌, ◌++◌, ap, ◌∙◌}
 use Rattle.model.specs.Map.{KeyMap, KeyWrite, after_writes}
 use Rattle.sector.specs.SectorModel.{LeavesOnly}
 use Rattle.sector.specs.declared.device.Sectors.{Ghosts}
@@ -9,11 +10,7 @@ use Rattle.commit_log.specs.Recovery.{map_after, map_after-push}
 use Rattle.engine.specs.Recovery.{HoldsMap, IsStored}
 
 pub weaker_crash : {D : Type 0} (moment : D → ℕ) (left_since : D → ℕ → List (List ℕ) → Type 0) (old new : D) (P Q : List (List ℕ) → Type 0) → ((c : List (List ℕ)) → P c → Q c) → LeavesOnly moment left_since old new P → LeavesOnly moment left_since old new Q
-weaker_crash moment left_since old new P Q f h = record {
-  later = h.later;
-  each = λ c left. f c (h.each c left);
-  before = λ t c le left. ⊎_elim (λ was. inl was) (λ now. inr (f c now)) (h.before t c le left);
-}
+weaker_crash moment left_since old new P Q f h = grind (arith, common_steps, ⊎_elim)
 
 module _ {D : Type 0} {g : Ghosts D} (log : Log D g) (map : KeyMap) (ws : List KeyWrite) (h : IsStored log map) where
   pub makes_more : map_after [] (h.lists ++ ws ∷ []) ≡ after_writes map ws

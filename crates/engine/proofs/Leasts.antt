@@ -1,4 +1,5 @@
 -- The least so far, and one more.
+use Rattle.std.proofs.lemmas.Grind.{common_steps}
 use Rattle.std.proofs.Common.{◌≡◌, ◌≤◌, ◌<◌, ◌++◌, ℕ, List, [], ◌∷◌, arith, refl}
 use Rattle.std.specs.Prelude.{All, Contains}
 use Rattle.std.proofs.Common.{map, ap, sym, ◌∙◌, append_assoc}
@@ -12,11 +13,7 @@ front_has : {X : Type 0} (P : X → Type 0) (xs : List X) (x : X) → All P (xs 
 front_has P xs x h = All-weaker (Contains xs) P (λ y c. All-contains P (xs ++ x ∷ []) y h (Contains-append_left xs (x ∷ []) y c)) xs (All-contains_itself xs)
 
 pub least_less : {X : Type 0} (b : X → ℕ) (last : ℕ) (xs : List X) (n : ℕ) (x : X) → b x < n → IsLeast b last xs n → IsLeast b last (xs ++ x ∷ []) (b x)
-least_less b last xs n x h i = record {
-  below_last = let k = i.below_last in omega arith;
-  below = All-push (λ y. b x ≤ b y) xs x (All-weaker (λ y. n ≤ b y) (λ y. b x ≤ b y) (λ y k. omega arith) xs i.below) (omega arith);
-  greatest = λ k l a. last_has (λ y. k ≤ b y) xs x a;
-}
+least_less b last xs n x h i = grind (arith, common_steps, last_has)
 
 pub least_same : {X : Type 0} (b : X → ℕ) (last : ℕ) (xs : List X) (n : ℕ) (x : X) → n ≤ b x → IsLeast b last xs n → IsLeast b last (xs ++ x ∷ []) n
 least_same b last xs n x h i = record {

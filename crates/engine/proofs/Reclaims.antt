@@ -1,4 +1,5 @@
 -- What an engine stands for once nothing is kept that no open transaction needs.
+use Rattle.std.proofs.lemmas.Grind.{common_steps}
 use Rattle.std.proofs.Common.{◌≡◌, ◌≤◌, ◌&&◌, ℕ, Bool, true, List, [], ◌∷◌, refl, sym, subst, ◌∙◌, length, arith, map}
 use Rattle.std.specs.Prelude.{max, ◌==◌}
 use Rattle.std.specs.List.{AllByRecursion}
@@ -40,32 +41,18 @@ module _ (facts facts' : Facts) (held : ℕ → Bool) (bs : List ℕ) (base : Ke
   still_running oldest l o [] [] low among h = tt
   still_running oldest l o [] (r ∷ rs) low among h = absurd h
   still_running oldest l o (e ∷ es) [] low among h = absurd h
-  still_running oldest l o (e ∷ es) (r ∷ rs) low among h =
-      let k = h.0.1 in let begun = k.in_reach.begun in let held' = k.in_reach.held in let least = low.0 in (
-        (
-          h.0.0,
-          record {
-            begin = k.begin;
-            made = k.made;
-            in_reach = record { begun = omega arith; held = omega arith };
-            is_held = and_from (held r.1.begin) (is_among bs r.1.begin) k.is_held (subst (λ n. is_among bs n ≡ true) k.begin among.0);
-          },
-        ),
-        still_running oldest l o es rs low.1 among.1 h.1,
-      )
+  still_running oldest l o (e ∷ es) (r ∷ rs) low among h = grind (arith, common_steps, and_from, still_running oldest l o es rs low.1 among.1 h.1)
 
 begins_same : (facts : Facts) (held : ℕ → Bool) (base : KeyMap) (history : List Record) (es : List (ℕ × View)) (rs : List (ℕ × Running)) → AreRunning facts held base history es rs → begins_of es ≡ map (λ r. r.1.begin) rs
 begins_same facts held base history [] [] h = refl
-begins_same facts held base history [] (r ∷ rs) h = absurd h
-begins_same facts held base history (e ∷ es) [] h = absurd h
 begins_same facts held base history (e ∷ es) (r ∷ rs) h = λ i. h.0.1.begin i ∷ begins_same facts held base history es rs h.1 i
+begins_same facts held base history b4 b5 h = absurd h
 
 begins_low : (facts : Facts) (held : ℕ → Bool) (base : KeyMap) (history : List Record) (n : ℕ) (es : List (ℕ × View)) (rs : List (ℕ × Running)) → AreRunning facts held base history es rs → AllByRecursion (λ r. n ≤ r.1.begin) rs
     → AllByRecursion (λ t. n ≤ t.begin) (values_of es)
 begins_low facts held base history n [] [] h low = tt
-begins_low facts held base history n [] (r ∷ rs) h low = absurd h
-begins_low facts held base history n (e ∷ es) [] h low = absurd h
 begins_low facts held base history n (e ∷ es) (r ∷ rs) h low = (subst (λ k. n ≤ k) (sym h.0.1.begin) low.0, begins_low facts held base history n es rs h.1 low.1)
+begins_low facts held base history n b5 b6 h low = absurd h
 
 module _ {D : Type 0} {g : Ghosts D} (e : Engine D g) (new : HistoryValue) (oldest : ℕ) (bs : List ℕ) (least : IsLeast (λ t. t.begin) e.history.committed.facts.last (values e.running) oldest)
     (numbers : length e.running.entries ≤ 64 → bs ≡ begins_of e.running.entries) where

@@ -1,5 +1,6 @@
 -- The states that an engine stands for once it was opened.
-use Rattle.std.proofs.Common.{◌≡◌, ◌≤◌, ◌+◌, ◌∷◌, ◌∙◌, ℕ, Bool, true, false, List, [], sym, subst, refl, length, arith}
+use Rattle.std.proofs.lemmas.Grind.{common_steps}
+use Rattle.std.proofs.Common.{◌≡◌, ◌+◌, ◌∷◌, ℕ, Bool, true, false, List, [], sym, subst, refl, arith}
 use Rattle.std.proofs.lemmas.Bool.{both_ways}
 use Rattle.model.specs.Map.{KeyMap, KeyWrite}
 use Rattle.model.specs.History.{Record}
@@ -24,21 +25,7 @@ none_running facts held base history (_ ∷ _) h = elim h [ ]
 module _ {D : Type 0} {g : Ghosts D} where
   pub opened_stands : (e : Engine D g) (map : KeyMap) (count : ℕ) → is_stopped e.log ≡ false → sector_count e.log ≡ count → HistoryStandsFor e.history (λ _. true) map [] → IsEmpty e.history.committed.facts
       → e.running.entries ≡ [] → (g.keeps_model → IsStored e.log map) → StandsFor e (opened map (used_sectors e.log) count)
-  opened_stands e map count running size h facts none stored = record {
-    reached = reached_opened map (used_sectors e.log) count h.versions.is_map;
-    stopped = sym running;
-    used = refl;
-    count = sym size;
-    stored = λ keeps runs. stored keeps;
-    doubt = λ keeps stop. absurd (both_ways (is_stopped e.log) running stop);
-    held = λ _. true;
-    history = h;
-    kept = (let oldest = facts.oldest in omega (arith, oldest));
-    few = omega arith;
-    running = subst (λ (es : List (ℕ × View)). AreRunning e.history.committed.facts (λ _. true) map [] es []) (sym none) tt;
-    sorted = tt;
-    few_open = subst (λ (es : List (ℕ × View)). length es ≤ 64) (sym none) (omega arith);
-  }
+  opened_stands e map count running size h facts none stored = grind (arith, common_steps, reached_opened, both_ways)
 
   pub stored_from : (log : Log D g) (map : KeyMap) (lists : List (List KeyWrite)) → LogStandsFor log lists → map ≡ map_after [] lists → IsStored log map
   stored_from log map lists stands makes = record { lists = lists; stands = stands; makes = sym makes }
@@ -46,10 +33,7 @@ module _ {D : Type 0} {g : Ghosts D} where
   -- the map and the sectors that were found
   pub found_stands : (e : Engine D g) (map : KeyMap) (count : ℕ) (lists : List (List KeyWrite)) → LogStandsFor e.log lists → map ≡ map_after [] lists → StandsFor e (opened map (used_sectors e.log) count)
       → StandsFor e (opened (map_after [] lists) (2 + span lists) count)
-  found_stands e map count lists stands makes h =
-      let gate = stands.gate in
-      let used : used_sectors e.log ≡ 2 + span lists = omega (arith, gate) in
-      subst (λ (k : KeyMap). StandsFor e (opened k (2 + span lists) count)) makes (subst (λ n. StandsFor e (opened map n count)) used h)
+  found_stands e map count lists stands makes h = grind (arith, common_steps)
 
   -- nothing is open in the machine either
   pub idle_stands : (e : Engine D g) → e.running.entries ≡ [] → (m : State) → StandsFor e m → m.running ≡ []
@@ -57,7 +41,4 @@ module _ {D : Type 0} {g : Ghosts D} where
 
   -- what a crash leaves
   pub leaves_committed : (e : Engine D g) → g.keeps_model → (m : State) → StandsFor e m → LeavesCommitted m (g.may_leave e.log.device)
-  leaves_committed e keeps m h = record {
-    running = λ runs c left. let s = h.stored keeps (sym h.stopped ∙ runs) in (s.lists, s.stands.left c left, s.makes);
-    stopped = λ stop. h.doubt keeps (sym h.stopped ∙ stop);
-  }
+  leaves_committed e keeps m h = grind (arith, common_steps)

@@ -1,15 +1,15 @@
 -- What a request of an open transaction is answered, and what it makes of the transaction.
-use Rattle.std.proofs.Common.{◌≡◌, ℕ, true, false, cond, ◌||◌, List, [], ◌∷◌, ◌++◌, Option, Some, None, Err, refl, sym, ap, subst, ◌∙◌, take}
-use Rattle.std.specs.Prelude.{IsTrue, is_some, nat_lt, nat_le, length, if◌then◌else◌}
+use Rattle.std.proofs.lemmas.Grind.{common_steps}
+use Rattle.std.proofs.Common.{arith, ◌≡◌, ℕ, true, false, cond, ◌||◌, List, [], ◌∷◌, ◌++◌, Option, Some, None, Err, refl, sym, ap, subst, ◌∙◌}
+use Rattle.std.specs.Prelude.{IsTrue, is_some, nat_le}
 use Rattle.std.proofs.lemmas.Bool.{or_left}
-use Rattle.std.specs.List.{list_any}
 use Rattle.model.specs.declared.refusals.Refusal.{Refusal}
 use Rattle.model.specs.declared.refusals.Refusal.TheVariants as refusals
-use Rattle.model.specs.Map.{Bytes, KeyMap, is_same_key, is_empty_range, value_at, pairs_in_range}
+use Rattle.model.specs.Map.{Bytes, KeyMap, is_empty_range}
 use Rattle.model.specs.Operations.{Operation, Response}
 use Rattle.model.specs.Operations.Operation.{Get, Range}
-use Rattle.model.specs.Operations.Response.{Value, Pairs, Refused}
-use Rattle.model.specs.PrivateCopy.{PrivateCopy, Mark, respond, after_read, copy_of, copy_after, is_written, is_same_mark, answer, mark_asked}
+use Rattle.model.specs.Operations.Response.{Refused}
+use Rattle.model.specs.PrivateCopy.{PrivateCopy, Mark, respond, after_read, copy_of, copy_after, answer}
 use Rattle.model.specs.PrivateCopy.Mark.{OfKey}
 use Rattle.model.specs.Machine.{State, Running, running_of, snapshot}
 use Rattle.versions.specs.Chains.{ChainsValue}
@@ -43,11 +43,7 @@ abbrev IsOfWrites : Response × PrivateCopy → Type 0
 IsOfWrites r = r.0 ≡ Refused refusals.FullWrites
 
 read_writes : (c : PrivateCopy) (mark : Mark) (response : Response) → (response ≡ Refused refusals.FullWrites → ⊥) → IsOfWrites (after_read c mark response) → ⊥
-read_writes c mark response plain =
-    elim (list_any (is_same_mark mark) c.marks) as (λ b. IsOfWrites (if b then (response, c) else (if nat_lt (length c.marks) 256 then (response, record c { marks = c.marks ++ mark ∷ [] }) else (Refused refusals.FullMarks, c))) → ⊥) [
-      | true ↦ plain
-      | false ↦ elim (nat_lt (length c.marks) 256) as (λ b. IsOfWrites (if b then (response, record c { marks = c.marks ++ mark ∷ [] }) else (Refused refusals.FullMarks, c)) → ⊥) [ true ↦ plain | false ↦ λ x. cc ]
-    ]
+read_writes c mark response plain = grind (arith, common_steps)
 
 -- a read
 abbrev pub IsReading : Operation → Type 0
@@ -56,17 +52,7 @@ IsReading (Range lo hi limit) = Unit {0}
 IsReading other = ⊥
 
 never_writes : (c : PrivateCopy) (q : Operation) → IsReading q → (respond c q).0 ≡ Refused refusals.FullWrites → ⊥
-never_writes c (Get k) r =
-    elim (is_written c k) as (λ b. IsOfWrites (if b then (Value (value_at c.contents k), c) else after_read c (OfKey k) (Value (value_at c.contents k))) → ⊥) [
-      | true ↦ λ x. cc
-      | false ↦ read_writes c (OfKey k) (Value (value_at c.contents k)) (λ x. cc)
-    ]
-never_writes c (Range lo hi limit) r =
-    elim (is_empty_range lo hi) as (λ b. IsOfWrites (if b then (Pairs [], c) else after_read c (mark_asked c lo hi limit) (Pairs (take limit (pairs_in_range c.contents lo hi)))) → ⊥) [
-      | true ↦ λ x. cc
-      | false ↦ read_writes c (mark_asked c lo hi limit) (Pairs (take limit (pairs_in_range c.contents lo hi))) (λ x. cc)
-    ]
-never_writes c other r = absurd r
+never_writes a0 a1 a2 = grind (arith, common_steps, read_writes)
 
 module _ {D : Type 0} {g : Ghosts D} (e : Engine D g) (t t' : View) where
   -- what the transaction says of the versions that were lent
@@ -115,10 +101,7 @@ module _ {D : Type 0} {g : Ghosts D} (e : Engine D g) (s : ℕ) (t : View) (some
       subst (λ (x : Running). HasMade t (snapshot m x) x.requests) same f.same.made
 
   pub known_key : (k : Bytes) (m : State) → StandsFor e m → (r : Running) → running_of m s ≡ Some r → IsKnownKey m r k → IsTrue (is_some (written t.writes k) || has_mark t.marks (OfKey k))
-  known_key k m h r is known =
-      let made = copy_is m h r is in
-      subst (λ b. (b || has_mark t.marks (OfKey k)) ≡ true) (any_keys k t.writes)
-      (subst (λ (c : PrivateCopy). (list_any (is_same_key k) c.written || has_mark c.marks (OfKey k)) ≡ true) (sym made.copy) known)
+  known_key k m h r is known = grind (arith, common_steps, copy_is, any_keys)
 
   pub seen_is : (m : State) (h : StandsFor e m) (r : Running) → running_of m s ≡ Some r → map_seen e.history.versions t.begin ≡ snapshot m r
   seen_is m h r is =

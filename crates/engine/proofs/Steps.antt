@@ -1,19 +1,15 @@
 -- The machine's steps, case by case.
-use Rattle.std.proofs.Common.{◌≡◌, ◌<◌, ◌≤◌, ◌+◌, ◌-◌, ◌^◌, ℕ, Bool, true, false, List, [], ◌∷◌, ◌++◌, Option, Some, None, refl, sym, ap, ◌∙◌, length, take, arith}
-use Rattle.std.specs.Prelude.{nat_lt, nat_le, if◌then◌else◌}
-use Rattle.std.specs.List.{list_any, AllByRecursion}
+use Rattle.std.proofs.lemmas.Grind.{common_steps}
+use Rattle.std.proofs.Common.{◌≡◌, ◌<◌, ◌≤◌, ◌+◌, ◌-◌, ◌^◌, ℕ, Bool, true, false, List, [], ◌∷◌, ◌++◌, Option, Some, None, refl, sym, ap, ◌∙◌, arith}
+use Rattle.std.specs.Prelude.{nat_le, if◌then◌else◌}
+use Rattle.std.specs.List.{AllByRecursion}
 use Rattle.std.proofs.lemmas.Bool.{le-leb, lt-leb, eq-eqb, ne_eqb, both_ways}
 use Rattle.model.specs.declared.refusals.Refusal.{Refusal}
-use Rattle.model.specs.declared.refusals.Refusal.TheVariants.{StoreStopped, FullNumbers, FullLog, StoreFault, FullMarks, FullWrites}
-use Rattle.model.specs.Map.{Bytes, KeyMap, KeyWrite, IsMap, is_empty_range, after_write, after_writes, value_at, pairs_in_range}
+use Rattle.model.specs.declared.refusals.Refusal.TheVariants.{StoreStopped, FullNumbers, FullLog, StoreFault}
+use Rattle.model.specs.Map.{Bytes, KeyMap, KeyWrite, IsMap, after_writes}
 use Rattle.model.specs.Operations.{Operation, Response}
-use Rattle.model.specs.Operations.Operation.{Begin, Get, Set, Del, Range, Commit, Abort, Ping, Faulty}
-use Rattle.model.specs.Operations.Response.{Done, Value, Pairs, Refused}
-use Rattle.model.specs.PrivateCopy.{PrivateCopy, Mark, respond, after_read, after_put, is_written, is_same_mark, mark_asked}
-use Rattle.model.specs.PrivateCopy.Mark.{OfKey}
-use Rattle.std.specs.BTreeSet.{insert_key}
-use Rattle.std.specs.Ordering.{nat_cmp}
-use Rattle.std.specs.Cmp.Lexicographic.{slice_cmp}
+use Rattle.model.specs.Operations.Response.{Refused}
+use Rattle.model.specs.PrivateCopy.{PrivateCopy, Mark, respond, after_read, after_put}
 use Rattle.model.specs.History.{Record, map_at}
 use Rattle.model.specs.Verdict.{verdict}
 use Rattle.model.specs.Machine.{State, Running, Input, opened, last, running_of, leave, record_to_commit, refuse, join_history, body_sectors, store, store_unless, commit, step_outside, step_inside, step_of, step, next, state_after, IsReached}
@@ -68,39 +64,13 @@ reached_map m n h = IsMap-map_at m.base m.history n ((machine_law m h).1.faithfu
 -- ---- a request that is refused inside a transaction changes nothing
 
 refused_read : (c : PrivateCopy) (mark : Mark) (response : Response) → is_refused response ≡ false → is_refused (after_read c mark response).0 ≡ true → (after_read c mark response).1 ≡ c
-refused_read c mark response plain =
-    elim (list_any (is_same_mark mark) c.marks) as (λ b. is_refused (read_out b (nat_lt (length c.marks) 256)).0 ≡ true → (read_out b (nat_lt (length c.marks) 256)).1 ≡ c) [
-      | true ↦ λ e. refl
-      | false ↦ elim (nat_lt (length c.marks) 256) as (λ b. is_refused (read_out false b).0 ≡ true → (read_out false b).1 ≡ c) [ true ↦ λ e. absurd (both_ways _ plain e) | false ↦ λ e. refl ]
-    ]
-  where
-    read_out : Bool → Bool → Response × PrivateCopy
-    read_out there few = if there then (response, c) else (if few then (response, record c { marks = c.marks ++ mark ∷ [] }) else (Refused FullMarks, c))
+refused_read c mark response plain = grind (arith, common_steps, both_ways)
 
 refused_put : (c : PrivateCopy) (k : Bytes) (v : Option Bytes) → is_refused (after_put c k v).0 ≡ true → (after_put c k v).1 ≡ c
-refused_put c k v =
-    elim (is_written c k) as (λ b. is_refused (put_out b (nat_lt (length c.written) 64)).0 ≡ true → (put_out b (nat_lt (length c.written) 64)).1 ≡ c) [
-      | true ↦ λ e. cc
-      | false ↦ elim (nat_lt (length c.written) 64) as (λ b. is_refused (put_out false b).0 ≡ true → (put_out false b).1 ≡ c) [ true ↦ λ e. cc | false ↦ λ e. refl ]
-    ]
-  where
-    put_out : Bool → Bool → Response × PrivateCopy
-    put_out there few = if there then (Done, record c { contents = after_write c.contents k v }) else (if few then (Done, record c { contents = after_write c.contents k v; written = insert_key (slice_cmp nat_cmp) c.written k }) else (Refused FullWrites, c))
+refused_put c k v = grind (arith, common_steps)
 
 pub refused_same : (c : PrivateCopy) (q : Operation) → is_refused (respond c q).0 ≡ true → (respond c q).1 ≡ c
-refused_same c (Get k) e =
-    elim (is_written c k) as (λ b. is_refused (if b then (Value (value_at c.contents k), c) else after_read c (OfKey k) (Value (value_at c.contents k))).0 ≡ true
-    → (if b then (Value (value_at c.contents k), c) else after_read c (OfKey k) (Value (value_at c.contents k))).1 ≡ c) [ true ↦ λ x. refl | false ↦ refused_read c (OfKey k) (Value (value_at c.contents k)) refl ] e
-refused_same c (Range lo hi limit) e =
-    elim (is_empty_range lo hi) as (λ b. is_refused (if b then (Pairs [], c) else after_read c (mark_asked c lo hi limit) (Pairs (take limit (pairs_in_range c.contents lo hi)))).0 ≡ true
-    → (if b then (Pairs [], c) else after_read c (mark_asked c lo hi limit) (Pairs (take limit (pairs_in_range c.contents lo hi)))).1 ≡ c) [ true ↦ λ x. refl | false ↦ refused_read c (mark_asked c lo hi limit) (Pairs (take limit (pairs_in_range c.contents lo hi))) refl ] e
-refused_same c (Set k v) e = refused_put c k (Some v) e
-refused_same c (Del k) e = refused_put c k None e
-refused_same c Begin e = refl
-refused_same c Ping e = refl
-refused_same c (Faulty refusal) e = refl
-refused_same c Commit e = refl
-refused_same c Abort e = refl
+refused_same a0 a1 a2 = grind (arith, common_steps, refused_read, refused_put)
 
 -- ---- the cases of a commit
 
@@ -126,11 +96,7 @@ module _ (m : State) (s : ℕ) (r : Record) where
   store_fault (w ∷ ws) failed e room f = rw (lt-leb m.count (m.used + body_sectors (w ∷ ws)) room, f) refl
 
   pub store_joined : (ws : List KeyWrite) (failed : Bool) → HasLogRoom m.used m.count ws → ((ws ≡ [] → ⊥) → failed ≡ false) → store m s r ws failed ≡ join_history m s r (sectors_taken ws)
-  store_joined [] failed room f = refl
-  store_joined (w ∷ ws) failed room f = rw (lt-leb m.count (m.used + body_sectors (w ∷ ws)) (room some), f some) refl
-    where
-      some : (w ∷ ws) ≡ [] → ⊥
-      some e = cc
+  store_joined a0 a1 a2 a3 = grind (arith, common_steps, lt-leb)
 
 -- ---- maps under one more record
 

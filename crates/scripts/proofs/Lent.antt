@@ -1,22 +1,13 @@
 -- The words of a line, lent from its text, and the parts that they stand for.
 use Rattle.std.proofs.Common.{◌≡◌, ◌<◌, ◌≤◌, ◌+◌, ◌-◌, [], ◌∷◌, ◌++◌, List, ℕ, length, take, drop, map, set, get_or, ap, sym, refl, ◌∙◌, arith}
 use Rattle.std.specs.Borrow.{Bor}
-use Rattle.std.proofs.lemmas.List.{map-set, take_more, take_more_set, take_all, length-map, length-set, map-append, take-map, drop-take}
+use Rattle.std.proofs.lemmas.List.{take_more, take_all, length-map, length-set, map-append, take-map, drop-take}
+use Rattle.resp.proofs.Lent.{lent, lent_more}
 use Rattle.scripts.specs.Lines.{part_of}
-
--- the bytes that are lent
-abbrev pub lent : Bor (List ℕ) → List ℕ
-lent word = word.now
 
 -- what a word stands for
 abbrev pub lent_part : Bor (List ℕ) → List ℕ
 lent_part word = part_of word.now
-
--- one more word behind the first ones
-pub lent_more : (words : List (Bor (List ℕ))) (count : ℕ) (word : Bor (List ℕ)) → count < length words → take (count + 1) (map lent (set words count word)) ≡ take count (map lent words) ++ lent word ∷ []
-lent_more words count word room =
-    let within : count < length (map lent words) = omega (arith, length-map words lent) in
-    ap (take (count + 1)) (map-set lent words count word) ∙ take_more_set (map lent words) count (lent word) within
 
 -- the first i parts stand in place of their words
 pub record ArePartsTo (words parts : List (Bor (List ℕ))) (i : ℕ) : Type 0 where

@@ -12,7 +12,7 @@ use Rattle.std.proofs.lemmas.List.{map-append}
 use Rattle.std.proofs.lemmas.List.Elements.{filter-append}
 use Rattle.std.proofs.lemmas.Iterator.Splits.{YieldsList-from_slice_split}
 use Rattle.resp.proofs.GivenPairs.{given_front, same_given}
-use Rattle.scripts.proofs.Lent.{lent}
+use Rattle.resp.proofs.Lent.{lent}
 use Rattle.scripts.specs.Lines.{words_of}
 use denote.Param.Members.{Mut}
 

@@ -1,5 +1,5 @@
 -- The lines of a text, taken off its front.
-use Rattle.std.proofs.Common.{◌≡◌, ◌<◌, ◌≤◌, ◌-◌, List, ℕ, suc, [], ◌∷◌, length, take, get_or, Bool, true, false, cond, eqb, ltb, ap, sym, refl, ◌∙◌, arith}
+use Rattle.std.proofs.Common.{◌≡◌, ◌-◌, List, ℕ, suc, [], ◌∷◌, length, take, get_or, Bool, true, false, cond, eqb, ltb, ap, sym, refl, ◌∙◌, arith}
 use Rattle.std.specs.Prelude.{◌≢◌}
 use Rattle.std.specs.List.{onto_first}
 use Rattle.std.specs.Io.BufRead.{take_through, drop_through, strip_last, first_piece}
@@ -41,16 +41,3 @@ pub first_of_lines : (xs : List ℕ) → xs ≢ [] → lines_of xs ≡ first_pie
 first_of_lines [] some = absurd (some refl)
 first_of_lines (x ∷ []) some = last_by (eqb x 10) x refl
 first_of_lines (x ∷ y ∷ ys) some = first_by (eqb x 10) x y ys refl (first_of_lines (y ∷ ys) (λ e. absurd cc))
-
-no_longer : (b : Bool) (n : ℕ) (xs ys : List ℕ) → length xs ≤ n → length ys ≤ n → length (cond b xs ys) ≤ n
-no_longer true n xs ys h k = h
-no_longer false n xs ys h k = k
-
-gone_through : (xs : List ℕ) → length (drop_through 10 xs) ≤ length xs
-gone_through [] = omega arith
-gone_through (x ∷ xs) = no_longer (eqb x 10) (length (x ∷ xs)) xs (drop_through 10 xs) (omega arith) (omega (arith, gone_through xs))
-
--- and the text gets shorter
-pub line_gone : (xs : List ℕ) → xs ≢ [] → length (drop_through 10 xs) < length xs
-line_gone [] some = absurd (some refl)
-line_gone (x ∷ xs) some = omega (arith, no_longer (eqb x 10) (length xs) xs (drop_through 10 xs) (omega arith) (gone_through xs))

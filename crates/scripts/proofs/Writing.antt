@@ -3,7 +3,6 @@ use Rattle.std.proofs.Common.{◌≡◌, ℕ, [], ◌∷◌, ◌++◌, length, t
 use Rattle.std.proofs.lemmas.List.{append-nil, take-append-drop}
 use Rattle.std.specs.Io.KnownBytes.{Appends, Keeps}
 use Rattle.model.specs.Map.{Bytes}
-use Rattle.scripts.specs.Transcript.{AppendsPart}
 use Rattle.scripts.proofs.Runs.{appends_nothing, appends_then, keeps_on}
 
 -- it took the first bytes, and `rest` is left
@@ -29,7 +28,3 @@ written_kept a b c bytes rest kept w = (w.0, w.1, keeps_on a b c w.0 w.2 kept)
 pub written_all : (a b : Option Bytes) (bytes rest : Bytes) → length rest ≡ 0 → Written a b bytes rest → Appends a b bytes
 written_all a b bytes [] none w = subst (Appends a b) (sym (append-nil w.0) ∙ sym w.1) w.2
 written_all a b bytes (x ∷ rest) none w = absurd (omega arith)
-
--- some are left
-pub written_part : (a b : Option Bytes) (bytes rest : Bytes) → Written a b bytes rest → AppendsPart a b bytes
-written_part a b bytes rest w = (w.0, rest, w.1, w.2)

@@ -1,5 +1,6 @@
 -- From the crashes of a request to those of an event.
-use Rattle.std.proofs.Common.{◌≡◌, ℕ, Bool, true, false, List, inl, inr, refl, sym, subst, ◌∙◌, arith}
+use Rattle.std.proofs.lemmas.Grind.{common_steps}
+use Rattle.std.proofs.Common.{◌≡◌, ℕ, List, inl, inr, sym, subst, ◌∙◌, arith}
 use Rattle.sector.specs.declared.device.Sectors.{Ghosts}
 use Rattle.sector.specs.SectorModel.{LeavesOnly}
 use Rattle.model.specs.Map.{Bytes}
@@ -8,7 +9,6 @@ use Rattle.engine.specs.Meaning.{device_of, IsLeftByCommit}
 use Rattle.sessions.specs.declared.hub.Hub.{Hub}
 use Rattle.sessions.specs.Crashes.{SurvivesCommit, SurvivesRequest, SurvivesFront, SurvivesEvent, SurvivesCrash, ServesCommit, Commits, IsLeftByEvent, IsStored}
 use Rattle.sessions.specs.SessionStreams.{HubEvent, Whole, IsFront, asks}
-use Rattle.sessions.specs.StandsFor.{device}
 use Rattle.sessions.proofs.EventSteps.{stream-some}
 
 -- a call that leaves the device alone may follow
@@ -24,17 +24,7 @@ module _ {D : Type 0} {g : Ghosts D} (old mid new : Engine D g) (s : ℕ) (inbox
 
 module _ {D : Type 0} {g : Ghosts D} (old new : Hub D g) (e : HubEvent) (only_now : g.keeps_model → (d : D) (c : List (List ℕ)) → g.left_since d (g.moment d) c → g.may_leave d c) where
   pub survives : IsStored old → SurvivesEvent old new e → SurvivesCrash old new e
-  survives stored (inl same) keeps h stands =
-      let P : D → Type 0 = λ d. LeavesOnly g.moment g.left_since (device old) d (IsLeftByEvent old h e) in
-      subst P (sym same) (record {
-        later = omega arith;
-        each = λ c left. by h.machine.stopped refl c (only_now keeps (device old) c left);
-        before = λ t c le left. inl left;
-      })
-    where
-      by : (b : Bool) → h.machine.stopped ≡ b → (c : List (List ℕ)) → g.may_leave (device old) c → IsLeftByEvent old h e c
-      by true stop c left = inr (stop, left)
-      by false up c left = inl (up, inl ((stored keeps h stands).running up c left))
+  survives stored (inl same) keeps h stands = grind (arith, common_steps)
   survives stored (inr x) keeps h stands =
       let f = stream-some old h stands x.0 x.1 x.3 in
       let commits : Commits h e x.0 = record { is = x.2; stream = f.stream; present = f.is; serves = subst ServesCommit (sym f.now) x.4 } in

@@ -1,8 +1,7 @@
 -- What an event does to a hub, by its outcome.
+use Rattle.std.proofs.lemmas.Grind.{common_steps}
 use Rattle.std.proofs.Common.{◌≡◌, ◌≤◌, ◌<◌, ℕ, ◌-◌, Bool, true, false, cond, not, List, [], ◌∷◌, ◌++◌, map, length, take, drop, Option, Some, None, option_map, IsTrue, refl, sym, ap, subst, ◌∙◌, nat_cmp, nat_le, nat_lt, arith, if◌then◌else◌}
 use Rattle.sector.specs.declared.device.Sectors.{Ghosts}
-use Rattle.std.specs.declared.cmp.Ordering.TheVariants.{Less, Equal, Greater}
-use Rattle.std.specs.Ordering.{match_ordering}
 use Rattle.std.specs.Map.{lookup, remove_entry, set_value}
 use Rattle.std.specs.BTreeMap.{insert_entry, is_at}
 use Rattle.std.proofs.lemmas.Map.Steps.{set_value_same}
@@ -32,29 +31,15 @@ module _ (s : ℕ) where
 
   pub set-at_hand : (st : SessionStream) (es : List (ℕ × SessionStream)) → set_value (test s) (at_hand es) st.now ≡ at_hand (set_value (test s) es st)
   set-at_hand st [] = refl
-  set-at_hand st (e ∷ es) =
-      elim (test s e.0) as (λ b. cond b ((e.0, st.now) ∷ at_hand es) ((e.0, e.1.now) ∷ set_value (test s) (at_hand es) st.now) ≡ at_hand (cond b ((e.0, st) ∷ es) (e ∷ set_value (test s) es st))) [
-        | true ↦ refl
-        | false ↦ ap (λ xs. (e.0, e.1.now) ∷ xs) (set-at_hand st es)
-      ]
+  set-at_hand st (e ∷ es) = grind (arith, common_steps, nat_tests, set-at_hand st es)
 
   pub remove-at_hand : (es : List (ℕ × SessionStream)) → remove_entry (test s) (at_hand es) ≡ at_hand (remove_entry (test s) es)
   remove-at_hand [] = refl
-  remove-at_hand (e ∷ es) =
-      elim (test s e.0) as (λ b. cond b (at_hand es) ((e.0, e.1.now) ∷ remove_entry (test s) (at_hand es)) ≡ at_hand (cond b es (e ∷ remove_entry (test s) es))) [
-        | true ↦ refl
-        | false ↦ ap (λ xs. (e.0, e.1.now) ∷ xs) (remove-at_hand es)
-      ]
+  remove-at_hand (e ∷ es) = grind (arith, common_steps, nat_tests, remove-at_hand es)
 
   pub insert-at_hand : (st : SessionStream) (es : List (ℕ × SessionStream)) → insert_entry nat_cmp (at_hand es) s st.now ≡ at_hand (insert_entry nat_cmp es s st)
   insert-at_hand st [] = refl
-  insert-at_hand st (e ∷ es) =
-      elim (nat_cmp s e.0) as (λ o. match_ordering o ((s, st.now) ∷ at_hand (e ∷ es)) ((e.0, st.now) ∷ at_hand es) ((e.0, e.1.now) ∷ insert_entry nat_cmp (at_hand es) s st.now)
-      ≡ at_hand (match_ordering o ((s, st) ∷ e ∷ es) ((e.0, st) ∷ es) (e ∷ insert_entry nat_cmp es s st))) [
-        | Less ↦ refl
-        | Equal ↦ refl
-        | Greater ↦ ap (λ xs. (e.0, e.1.now) ∷ xs) (insert-at_hand st es)
-      ]
+  insert-at_hand st (e ∷ es) = grind (arith, common_steps, nat_tests, insert-at_hand st es)
 
 pub length-at_hand : (es : List (ℕ × SessionStream)) → length (at_hand es) ≡ length es
 length-at_hand [] = refl

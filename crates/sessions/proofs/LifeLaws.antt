@@ -1,13 +1,14 @@
 -- Runs that follow each other, and what a crash leaves of them.
+use Rattle.std.proofs.lemmas.Grind.{common_steps}
 use Rattle.std.proofs.Common.{◌≡◌, ◌≤◌, ◌+◌, ◌⊎◌, inl, inr, ℕ, zero, suc, Bool, true, false, List, [], ◌∷◌, ◌++◌, length, length-append, Option, Some, None, refl, sym, ap, subst, ◌∙◌, arith, nat_le, if◌then◌else◌}
-use Rattle.std.specs.Prelude.{◌==◌, ◌^◌, ◌-◌, nat_lt}
+use Rattle.std.specs.Prelude.{◌==◌, ◌^◌, ◌-◌}
 use Rattle.std.proofs.lemmas.Bool.{both_ways}
 use Rattle.sector.specs.declared.device.Sectors.{Ghosts}
 use Rattle.sector.specs.SectorModel.{LeavesOnly}
 use Rattle.model.specs.declared.refusals.Refusal.{Refusal}
 use Rattle.model.specs.Map.{KeyMap, KeyWrite}
 use Rattle.model.specs.Operations.{Operation, Response}
-use Rattle.model.specs.Operations.Operation.{Begin, Get, Set, Del, Range, Commit, Abort, Ping, Faulty}
+use Rattle.model.specs.Operations.Operation.{Commit}
 use Rattle.model.specs.History.{Record, map_at}
 use Rattle.model.specs.Verdict.{verdict}
 use Rattle.model.specs.Machine.{State, Running, step, step_of, running_of, commit, store, store_unless, record_to_commit, last, body_sectors}
@@ -17,7 +18,7 @@ use Rattle.sessions.specs.SessionStreams.{HubState, HubEvent, Choice, hub_step, 
 use Rattle.sessions.specs.StandsFor.{StandsFor, device, is_stopped}
 use Rattle.sessions.specs.Crashes.{HoldsBeforeOrAfter}
 use Rattle.sessions.specs.Life.{MayFind, Holds, FoundAfter, FoundDuring}
-use Rattle.sessions.proofs.StreamLaws.{Moved, Rests, Lets, Steps, moved}
+use Rattle.sessions.proofs.StreamLaws.{Moved, Steps, moved}
 use Rattle.sessions.proofs.RunLaws.{hub-stopped, stays_stopped}
 
 by_case : {A : Type 0} (P : A → Type 0) (b : Bool) (x y : A) → (b ≡ true → P x) → (b ≡ false → P y) → P (if b then x else y)
@@ -59,28 +60,11 @@ unfolding step
 commits_in_step m s q f = elim (running_of m s) as (λ o. Answers m f (step_of o m s q f)) [ None ↦ outside q | Some t ↦ inside t q ]
   where
     outside : (q : Operation) → Answers m f (step_of None m s q f)
-    outside Begin =
-        by_case (Answers m f) m.stopped _ _ (λ _. NoMore refl refl refl)
-        (λ _. by_case (Answers m f) (nat_lt (length m.running) 64) _ _ (λ _. NoMore refl refl refl) (λ _. NoMore refl refl refl))
-    outside (Get k) = NoMore refl refl refl
-    outside (Set k v) = NoMore refl refl refl
-    outside (Del k) = NoMore refl refl refl
-    outside (Range lo hi limit) = NoMore refl refl refl
-    outside Commit = NoMore refl refl refl
-    outside Abort = NoMore refl refl refl
-    outside Ping = NoMore refl refl refl
-    outside (Faulty refusal) = NoMore refl refl refl
+    outside a0 = grind (arith, common_steps, by_case)
 
     inside : (t : Running) (q : Operation) → Answers m f (step_of (Some t) m s q f)
-    inside t Begin = NoMore refl refl refl
-    inside t (Get k) = NoMore refl refl refl
-    inside t (Set k v) = NoMore refl refl refl
-    inside t (Del k) = NoMore refl refl refl
-    inside t (Range lo hi limit) = NoMore refl refl refl
     inside t Commit = commits_in_commit m s t f
-    inside t Abort = NoMore refl refl refl
-    inside t Ping = NoMore refl refl refl
-    inside t (Faulty refusal) = NoMore refl refl refl
+    inside t b1 = NoMore refl refl refl
 
 same_map : (m n : State) → n.base ≡ m.base → n.history ≡ m.history → committed_map n ≡ committed_map m
 same_map m n b h = ap (λ base. map_at base n.history (length n.history)) b ∙ ap (λ history. map_at m.base history (length history)) h
@@ -93,41 +77,25 @@ module _ (h : HubState) (e : HubEvent) (c : Choice) where
   commits_in_event = by_move (moved h e c)
     where
       by_move : {m : State} → Moved c h.machine m → CommitsBy h.machine c.failed m
-      by_move Rests = NoMore refl refl refl
-      by_move (Lets s) = NoMore refl refl refl
       by_move (Steps s q) = commits_in_step h.machine s q c.failed
+      by_move b0 = NoMore refl refl refl
 
   -- an event after which the store is stopped commits nothing
   pub hub-same : after.machine.stopped ≡ true → committed_map after.machine ≡ committed_map h.machine
-  hub-same stop = by_kind commits_in_event
-    where
-      by_kind : CommitsBy h.machine c.failed after.machine → committed_map after.machine ≡ committed_map h.machine
-      by_kind (NoMore b is s) = same_map h.machine after.machine b is
-      by_kind (OneMore r up b is s) = absurd (both_ways h.machine.stopped up (sym s ∙ stop))
-      by_kind (Fails f up b is s) = same_map h.machine after.machine b is
+  hub-same stop = grind (arith, common_steps, commits_in_event, same_map, both_ways)
 
   hub-quiet : c.failed ≡ false → after.machine.stopped ≡ h.machine.stopped
-  hub-quiet quiet = by_kind commits_in_event
-    where
-      by_kind : CommitsBy h.machine c.failed after.machine → after.machine.stopped ≡ h.machine.stopped
-      by_kind (NoMore b is s) = s
-      by_kind (OneMore r up b is s) = s
-      by_kind (Fails f up b is s) = absurd (both_ways c.failed quiet f)
+  hub-quiet quiet = grind (arith, common_steps, commits_in_event, both_ways)
 
   -- only the device's failure stops a store
   pub hub-failed : h.machine.stopped ≡ false → after.machine.stopped ≡ true → c.failed ≡ true
-  hub-failed up stop = by_flag c.failed refl
-    where
-      by_flag : (b : Bool) → c.failed ≡ b → c.failed ≡ true
-      by_flag true is = is
-      by_flag false is = let bad : false ≡ true = sym up ∙ sym (hub-quiet is) ∙ stop in absurd (cc)
+  hub-failed up stop = grind (arith, common_steps, hub-quiet)
 
 -- ---- what may be found
 
 fewer : (h : HubState) (es : List (HubEvent × Choice)) (k : ℕ) (map : KeyMap) → MayFind h es k map → MayFind h es zero map
-fewer h [] k map x = x
-fewer h (e ∷ es) zero map x = x
 fewer h (e ∷ es) (suc k) map x = elim x [ inl a ↦ inr (inl a.1) | inr y ↦ inr (inr (fewer (hub_step h e.0 e.1).0 es k map y)) ]
+fewer h b1 b2 map x = x
 
 earlier : (h : HubState) (es fs : List (HubEvent × Choice)) (k : ℕ) (map : KeyMap) → k ≤ length es → MayFind h es k map → MayFind h (es ++ fs) k map
 earlier h [] [] k map le x = x
@@ -175,18 +143,10 @@ found_during h (d ∷ es) e map x =
 
 module _ {D : Type 0} (moment : D → ℕ) (left_since : D → ℕ → List (List ℕ) → Type 0) where
   pub weaker : (old new : D) (P Q : List (List ℕ) → Type 0) → ((c : List (List ℕ)) → P c → Q c) → LeavesOnly moment left_since old new P → LeavesOnly moment left_since old new Q
-  weaker old new P Q f x = record {
-    later = x.later;
-    each = λ c left. f c (x.each c left);
-    before = λ t c le left. elim (x.before t c le left) [ inl was ↦ inl was | inr y ↦ inr (f c y) ];
-  }
+  weaker old new P Q f x = grind (arith, common_steps, later)
 
   joined : (old mid new : D) (P : List (List ℕ) → Type 0) → LeavesOnly moment left_since old mid P → LeavesOnly moment left_since mid new P → LeavesOnly moment left_since old new P
-  joined old mid new P x y = record {
-    later = omega (arith, x.later, y.later);
-    each = λ c left. elim (y.before (moment old) c x.later left) [ inl was ↦ x.each c was | inr p ↦ p ];
-    before = λ t c le left. elim (y.before t c (omega (arith, le, x.later)) left) [ inl was ↦ x.before t c le was | inr p ↦ inr p ];
-  }
+  joined old mid new P x y = grind (arith, common_steps, later)
 
 -- What the events leave on the device. A store that was stopped leaves the device alone. Else a crash at any moment since the
 -- first event leaves such an image, and one after the last leaves the map that is then committed, or that with the COMMIT that
@@ -213,20 +173,10 @@ module _ {D : Type 0} {g : Ghosts D} (old mid new : Hub D g) (h : HubState) (es 
   holds_second c x = (x.0, x.1, fewer h (es ++ fs) (length es) x.0 (later h es fs zero (length es) x.0 (omega arith) x.2))
 
   leaves_by : (b : Bool) → (run h es).machine.stopped ≡ b → h.machine.stopped ≡ false → LeavesOnly g.moment g.left_since (device old) (device new) All
-  leaves_by true stop up =
-      let P : D → Type 0 = λ d. LeavesOnly g.moment g.left_since (device old) d All in
-      subst P (sym (second.still stop)) (weaker g.moment g.left_since (device old) (device mid) (Holds h es zero) All holds_first (first.leaves up))
-  leaves_by false runs up =
-      joined g.moment g.left_since (device old) (device mid) (device new) All (weaker g.moment g.left_since (device old) (device mid) (Holds h es zero) All holds_first (first.leaves up))
-      (weaker g.moment g.left_since (device mid) (device new) (Holds (run h es) fs zero) All holds_second (second.leaves runs))
+  leaves_by a0 a1 a2 = grind (arith, common_steps, weaker, holds_first, joined, holds_second)
 
   now_by : (b : Bool) → (run h es).machine.stopped ≡ b → h.machine.stopped ≡ false → (c : List (List ℕ)) → g.may_leave (device new) c → Holds h (es ++ fs) (length (es ++ fs)) c
-  now_by true stop up c left =
-      let x = now_up old mid h es first up c (subst (λ d. g.may_leave d c) (second.still stop) left) in
-      (x.0, x.1, rests h es fs x.0 stop x.2)
-  now_by false runs up c left =
-      let x = now_up mid new (run h es) fs second runs c left in
-      (x.0, x.1, later h es fs (length fs) (length (es ++ fs)) x.0 (length-append es fs) x.2)
+  now_by a0 a1 a2 a3 a4 = grind (arith, common_steps, now_up, rests, later, length-append)
 
   now_from : (b : Bool) → h.machine.stopped ≡ b → (c : List (List ℕ)) → g.may_leave (device new) c
       → ((h.machine.stopped ≡ false) × Holds h (es ++ fs) (length (es ++ fs)) c) ⊎ ((h.machine.stopped ≡ true) × g.may_leave (device old) c)
@@ -234,20 +184,11 @@ module _ {D : Type 0} {g : Ghosts D} (old mid new : Hub D g) (h : HubState) (es 
   now_from false up c left = inl (up, now_by (run h es).machine.stopped refl up c left)
 
   pub goes_on : Survives old new h (es ++ fs)
-  goes_on = record {
-    still = λ stop. second.still (stays_stopped h es stop) ∙ first.still stop;
-    leaves = leaves_by (run h es).machine.stopped refl;
-    now = now_from h.machine.stopped refl;
-  }
+  goes_on = grind (arith, common_steps, stays_stopped, leaves_by, now_from)
 
   since_by : (b : Bool) → (run h es).machine.stopped ≡ b → (g.keeps_model → (d : D) (c : List (List ℕ)) → g.left_since d (g.moment d) c → g.may_leave d c) → g.keeps_model → h.machine.stopped ≡ false
       → (c : List (List ℕ)) → g.left_since (device new) (g.moment (device mid)) c → Holds h (es ++ fs) (length es) c
-  since_by true stop only_now keeps up c left =
-      let x = now_up old mid h es first up c (only_now keeps (device mid) c (subst (λ d. g.left_since d (g.moment (device mid)) c) (second.still stop) left)) in
-      (x.0, x.1, earlier h es fs (length es) x.0 (omega arith) x.2)
-  since_by false runs only_now keeps up c left =
-      let x = (second.leaves runs).each c left in
-      (x.0, x.1, later h es fs zero (length es) x.0 (omega arith) x.2)
+  since_by a0 a1 a2 a3 a4 a5 a6 = grind (arith, common_steps, now_up, earlier, later)
 
   pub loses_nothing : (g.keeps_model → (d : D) (c : List (List ℕ)) → g.left_since d (g.moment d) c → g.may_leave d c) → g.keeps_model → h.machine.stopped ≡ false
       → (c : List (List ℕ)) → g.left_since (device new) (g.moment (device mid)) c → Holds h (es ++ fs) (length es) c
@@ -260,19 +201,7 @@ Stored {D} {g} hub = g.keeps_model → (h : HubState) → StandsFor hub h → h.
 -- no event
 pub nothing : {D : Type 0} {g : Ghosts D} (hub new : Hub D g) (h : HubState) → device new ≡ device hub → (g.keeps_model → (d : D) (c : List (List ℕ)) → g.left_since d (g.moment d) c → g.may_leave d c)
     → StandsFor hub h → Stored hub → g.keeps_model → Survives hub new h []
-nothing {D} {g} hub new h same only_now stands stored keeps = record {
-  still = λ stop. same;
-  leaves = λ up. subst (λ (d : D). LeavesOnly g.moment g.left_since (device hub) d (Holds h [] zero)) (sym same) (record {
-    later = omega arith;
-    each = λ c left. (committed_map h.machine, stored keeps h stands up c (only_now keeps (device hub) c left), refl);
-    before = λ t c le left. inl left;
-  });
-  now = λ c left. now_from h.machine.stopped refl c (subst (λ (d : D). g.may_leave d c) same left);
-}
-  where
-    now_from : (b : Bool) → h.machine.stopped ≡ b → (c : List (List ℕ)) → g.may_leave (device hub) c → ((h.machine.stopped ≡ false) × Holds h [] zero c) ⊎ ((h.machine.stopped ≡ true) × g.may_leave (device hub) c)
-    now_from true stop c left = inr (stop, left)
-    now_from false up c left = inl (up, (committed_map h.machine, stored keeps h stands up c left, refl))
+nothing {D} {g} hub new h same only_now stands stored keeps = grind (arith, common_steps, later)
 
 -- one event
 module _ {D : Type 0} {g : Ghosts D} (old new : Hub D g) (h : HubState) (e : HubEvent) (n : Choice)
@@ -302,8 +231,4 @@ module _ {D : Type 0} {g : Ghosts D} (old new : Hub D g) (h : HubState) (e : Hub
   now_one false up c left = inl (up, now_after (hub_step h e n).0.machine.stopped refl up c left)
 
   pub one_event : Survives old new h one
-  one_event = record {
-    still = λ stop. still (sym stands.engine.stopped ∙ stop);
-    leaves = λ up. weaker g.moment g.left_since (device old) (device new) (HoldsBeforeOrAfter h e) (Holds h one zero) during (crash keeps h stands up);
-    now = now_one h.machine.stopped refl;
-  }
+  one_event = grind (arith, common_steps, weaker, during, now_one)

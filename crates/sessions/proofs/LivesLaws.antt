@@ -1,5 +1,6 @@
 -- The lives of a store, one after another.
-use Rattle.std.proofs.Common.{◌≡◌, ℕ, List, [], ◌∷◌, ◌++◌, length, Result, refl, sym, subst}
+use Rattle.std.proofs.lemmas.Grind.{common_steps}
+use Rattle.std.proofs.Common.{arith, ◌≡◌, ℕ, List, [], ◌∷◌, ◌++◌, length, Result, refl, sym, subst}
 use Rattle.sector.specs.declared.device.Sectors.{Ghosts}
 use Rattle.model.specs.Map.{KeyMap}
 use Rattle.model.specs.Machine.{opened}
@@ -16,13 +17,7 @@ use Rattle.sessions.proofs.Runs.{CountsNow, OnlyNow, loses_nothing, ran_parts}
 
 -- one image was left
 pub cuts_reopen : {D : Type 0} {g : Ghosts D} (hub : Hub D g) → CutsReopen hub
-cuts_reopen hub life dev disk was settled = record {
-  image = disk;
-  was_left = was;
-  size_is = settled.size_is;
-  read = settled.read;
-  left = λ c l. subst (IsLeftAt life.ending) (sym (settled.left c l)) was;
-}
+cuts_reopen hub life dev disk was settled = grind (arith, common_steps)
 
 module _ {D : Type 0} {g : Ghosts D} (any : Hub D g) (only_now : OnlyNow D g) (counts_now : CountsNow D g) (keeps : g.keeps_model) where
   -- what the end of a life leaves, whose opening ended with this map

@@ -1,5 +1,6 @@
 -- What was committed in all lives of a store has one order.
-use Rattle.std.proofs.Common.{◌≡◌, ℕ, zero, suc, Bool, false, List, [], ◌∷◌, ◌++◌, length, Result, refl, sym, subst, ◌∙◌, inl, inr}
+use Rattle.std.proofs.lemmas.Grind.{common_steps}
+use Rattle.std.proofs.Common.{arith, ◌≡◌, ℕ, zero, suc, Bool, false, List, [], ◌∷◌, ◌++◌, length, Result, refl, sym, subst, ◌∙◌, inl, inr}
 use Rattle.sector.specs.declared.device.Sectors.{Ghosts}
 use Rattle.model.specs.Map.{KeyMap}
 use Rattle.model.specs.Operations.Operation.{Commit}
@@ -13,8 +14,9 @@ use Rattle.sessions.specs.Life.{MayFind}
 use Rattle.sessions.specs.Lives.{EndOfLife, EndsWith, FollowOn, IsLeftAt, IsLeftLast, Life, MapAt}
 use Rattle.sessions.specs.Lives.EndOfLife.{InOpening, InRun}
 use Rattle.sessions.specs.OneOrder.{MayComeTo, LeavesStates, ComeTo, HaveOneHistory}
-use Rattle.sessions.proofs.StreamLaws.{machine_reached, moved, reached_moved, reached_next}
-use Rattle.sessions.proofs.LifeLaws.{CommitsBy, NoMore, OneMore, Fails, commits_in_event, commits_in_step}
+use Rattle.engine.proofs.Steps.{reached_next}
+use Rattle.sessions.proofs.StreamLaws.{machine_reached, moved, reached_moved}
+use Rattle.sessions.proofs.LifeLaws.{CommitsBy, commits_in_event, commits_in_step}
 use Rattle.sessions.proofs.LivesLaws.{left}
 use Rattle.sessions.proofs.Runs.{CountsNow, OnlyNow}
 
@@ -40,9 +42,7 @@ record IsOver (m st : State) : Type 0 where
   base : st.base ≡ m.base
 
 same_base : (m n : State) {f : Bool} → CommitsBy m f n → n.base ≡ m.base
-same_base m n (NoMore b is s) = b
-same_base m n (OneMore r up b is s) = b
-same_base m n (Fails f up b is s) = b
+same_base a0 a1 a2 = grind (arith, common_steps)
 
 over_event : (h : HubState) (e : HubEvent) (c : Choice) → IsReached h.machine → IsOver h.machine (hub_step h e c).0.machine
 over_event h e c r = record { reached = reached_moved c h.machine _ r (moved h e c); base = same_base h.machine _ (commits_in_event h e c) }
@@ -85,12 +85,7 @@ came {D} {g} dev result Maps map next was (InRun hub answered last es fs ok ran 
 -- before the states to which the later lives came
 before : {D : Type 0} {g : Ghosts D} (dev : D) (result : Result (Hub D g) (Unopened D)) (map next found : KeyMap) (own rest : List State) (ending : EndOfLife dev result) →
     LeavesStates ending map own next → FollowEachOther next rest found → FollowEachOther map (own ++ rest) found
-before dev result map next found own rest InOpening is follow =
-    subst (λ (o : List State). FollowEachOther map (o ++ rest) found) (sym is.0) (subst (λ (m : KeyMap). FollowEachOther m rest found) is.1 follow)
-before {D} {g} dev result map next found own rest (InRun hub answered last es fs ok ran more) is follow =
-    let h : HubState = hub_over (opened map is.0.used (g.size dev)) in
-    let over = is_over h (es ++ fs) (length es) is.1 (machine_reached h is.0.stands.reached) is.3 in
-    subst (λ (o : List State). FollowEachOther map (o ++ rest) found) (sym is.2) (over.reached, over.base, subst (λ (m : KeyMap). FollowEachOther m rest found) is.4 follow)
+before a0 a1 a2 a3 a4 a5 a6 a7 a8 a9 = grind (arith, common_steps, is_over, machine_reached)
 
 -- the states to which the lives came
 record Story {D : Type 0} {g : Ghosts D} (map : KeyMap) (disk : List (List ℕ)) (lives : List (Life D g)) : Type 0 where

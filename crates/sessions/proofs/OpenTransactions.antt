@@ -1,9 +1,9 @@
 -- The replies of an open transaction are the last ones of its session.
+use Rattle.std.proofs.lemmas.Grind.{common_steps}
+use Rattle.std.proofs.lemmas.Bool.{not-false}
 use Rattle.std.proofs.Common.{◌≡◌, ℕ, Bool, true, false, cond, not, List, [], ◌∷◌, ◌++◌, map, length, Option, Some, None, inl, inr, refl, sym, ap, subst, ◌∙◌, nat_cmp, nat_le, nat_lt, arith, if◌then◌else◌, append_assoc}
 use Rattle.std.specs.Prelude.{◌==◌, ◌^◌, ◌-◌, ◌+◌, ◌⊎◌}
-use Rattle.std.specs.Ordering.{match_ordering, eq_by_cmp}
-use Rattle.std.specs.declared.cmp.Ordering.{Ordering}
-use Rattle.std.specs.declared.cmp.Ordering.TheVariants.{Less, Equal, Greater}
+use Rattle.std.specs.declared.cmp.Ordering.TheVariants.{Equal}
 use Rattle.std.specs.Map.{lookup, remove_entry, set_value}
 use Rattle.std.specs.BTreeMap.{insert_entry, is_at}
 use Rattle.std.specs.FinMap.Entries.{find, put}
@@ -12,14 +12,14 @@ use Rattle.std.proofs.lemmas.List.{append-nil, map-append}
 use Rattle.model.specs.declared.refusals.Refusal.{Refusal}
 use Rattle.model.specs.Map.{Bytes, KeyWrite}
 use Rattle.model.specs.Operations.{Operation, Response}
-use Rattle.model.specs.Operations.Operation.{Begin, Get, Set, Del, Range, Commit, Abort, Ping, Faulty}
+use Rattle.model.specs.Operations.Operation.{Begin, Commit, Abort}
 use Rattle.model.specs.Operations.Response.{Done}
 use Rattle.model.specs.History.{Record}
 use Rattle.model.specs.Verdict.{verdict}
 use Rattle.model.specs.Machine.{State, Running, step, step_of, leave, running_of, commit, store, store_unless, record_to_commit, last, body_sectors}
 use Rattle.model.proofs.Steps.{running_of-with_running, running_of-leave}
 use Rattle.sessions.specs.declared.events.Outcome.{Outcome}
-use Rattle.sessions.specs.SessionStreams.{HubState, SessionStream, HubEvent, Joins, Receives, Serves, Sends, Leaves, Front, Whole, More, Bad, Choice, Effect, asks, hub_step, stream_of, with_stream, new_stream, room, is_open, is_above, may_serve, serve, serve_front, no_effect, receive, serve_session, send, depart, IsReachedHub, Begun, Continued}
+use Rattle.sessions.specs.SessionStreams.{HubState, SessionStream, HubEvent, Joins, Receives, Serves, Sends, Leaves, Choice, asks, hub_step, stream_of, with_stream, new_stream, is_above, serve, receive, serve_session, send, depart, IsReachedHub, Begun, Continued}
 use Rattle.sessions.specs.Laws.{EndsStream, EndsItsStream}
 use Rattle.sessions.proofs.StreamLaws.{by_if, after_effect}
 
@@ -51,25 +51,12 @@ ran m s q f = by (running_of m s) refl
   where
     outside : (q : Operation) → running_of m s ≡ None → Ran m s q (step_of None m s q f)
     outside Begin e = by_if (Ran m s Begin) m.stopped _ _ (Kept e refl) (by_if (Ran m s Begin) (nat_lt (length m.running) 64) _ _ (Opened _ refl refl refl refl refl) (Kept e refl))
-    outside (Get k) e = Kept e refl
-    outside (Set k v) e = Kept e refl
-    outside (Del k) e = Kept e refl
-    outside (Range lo hi limit) e = Kept e refl
-    outside Commit e = Kept e refl
-    outside Abort e = Kept e refl
-    outside Ping e = Kept e refl
-    outside (Faulty refusal) e = Kept e refl
+    outside b0 e = Kept e refl
 
     inside : (t : Running) (q : Operation) → running_of m s ≡ Some t → Ran m s q (step_of (Some t) m s q f)
-    inside t Begin e = Owned t _ e refl refl refl
-    inside t (Get k) e = Owned t _ e refl refl refl
-    inside t (Set k v) e = Owned t _ e refl refl refl
-    inside t (Del k) e = Owned t _ e refl refl refl
-    inside t (Range lo hi limit) e = Owned t _ e refl refl refl
     inside t Commit e = committed m s t f Commit
     inside t Abort e = Ended refl
-    inside t Ping e = Owned t _ e refl refl refl
-    inside t (Faulty refusal) e = Owned t _ e refl refl refl
+    inside t b1 e = Owned t _ e refl refl refl
 
     by : (o : Option Running) → running_of m s ≡ o → Ran m s q (step_of o m s q f)
     by None e = outside q e
@@ -95,10 +82,7 @@ set-either (y ∷ ys) q s v x e = by (test s y.0) (test q y.0) (λ k. set-either
     by true true rec ta tb k = inr (same_number q s y.0 tb ta, ap (λ b. cond b (Some v) (lookup (test q) ys)) tb)
     by true false rec ta tb k = inl (ap (λ b. cond b (Some v) (lookup (test q) ys)) tb ∙ k)
     by false true rec ta tb k = inl (ap (λ b. cond b (Some y.1) (lookup (test q) (set_value (test s) ys v))) tb ∙ k)
-    by false false rec ta tb k = elim (rec k) [
-      | inl l ↦ inl (ap (λ b. cond b (Some y.1) (lookup (test q) (set_value (test s) ys v))) tb ∙ l)
-      | inr r ↦ inr (r.0, ap (λ b. cond b (Some y.1) (lookup (test q) (set_value (test s) ys v))) tb ∙ r.1)
-    ]
+    by false false rec ta tb k = grind (arith, common_steps, nat_tests)
 
 set-found : (es : List (ℕ × SessionStream)) (q s : ℕ) (v x : SessionStream) → lookup (test q) (set_value (test s) es v) ≡ Some x → (y : SessionStream) × (lookup (test q) es ≡ Some y)
 set-found [] q s v x e = absurd (cc)
@@ -111,12 +95,7 @@ set-found (y ∷ ys) q s v x e = by (test s y.0) (test q y.0) (λ k. set-found y
 
 remove-apart : (es : List (ℕ × SessionStream)) (q s : ℕ) → (q ≡ s → ⊥) → lookup (test q) (remove_entry (test s) es) ≡ lookup (test q) es
 remove-apart [] q s apart = refl
-remove-apart (y ∷ ys) q s apart = by (test s y.0) (test q y.0) (remove-apart ys q s apart) refl refl
-  where
-    by : (a b : Bool) → lookup (test q) (remove_entry (test s) ys) ≡ lookup (test q) ys → test s y.0 ≡ a → test q y.0 ≡ b → lookup (test q) (cond a ys (y ∷ remove_entry (test s) ys)) ≡ cond b (Some y.1) (lookup (test q) ys)
-    by true true rec ta tb = absurd (apart (same_number q s y.0 tb ta))
-    by true false rec ta tb = refl
-    by false b rec ta tb = ap (λ b. cond b (Some y.1) (lookup (test q) (remove_entry (test s) ys))) tb ∙ ap (λ o. cond b (Some y.1) o) rec
+remove-apart (y ∷ ys) q s apart = grind (arith, common_steps, same_number, nat_tests, remove-apart ys q s apart)
 
 remove-found : (es : List (ℕ × SessionStream)) (q s : ℕ) (x : SessionStream) → lookup (test q) (remove_entry (test s) es) ≡ Some x → (y : SessionStream) × (lookup (test q) es ≡ Some y)
 remove-found [] q s x e = absurd (cc)
@@ -127,9 +106,6 @@ remove-found (y ∷ ys) q s x e = by (test s y.0) (test q y.0) (λ k. remove-fou
     by true false rec tb k = (x, k)
     by false false rec tb k = rec (sym (ap (λ b. cond b (Some y.1) (lookup (test q) (remove_entry (test s) ys))) tb) ∙ k)
 
-its_test : (s : ℕ) → test s s ≡ true
-its_test s = grind (arith, nat_tests)
-
 other_test : (q s : ℕ) → (q ≡ s → ⊥) → test q s ≡ false
 other_test q s apart = grind (arith, nat_tests)
 
@@ -138,36 +114,18 @@ tied_test q s x apart e = grind (arith, nat_tests)
 
 insert-apart : (es : List (ℕ × SessionStream)) (q s : ℕ) (v : SessionStream) → (q ≡ s → ⊥) → lookup (test q) (insert_entry nat_cmp es s v) ≡ lookup (test q) es
 insert-apart [] q s v apart = ap (λ b. cond b (Some v) None) (other_test q s apart)
-insert-apart (y ∷ ys) q s v apart = by (nat_cmp s y.0) (insert-apart ys q s v apart) refl
-  where
-    by : (o : Ordering) → lookup (test q) (insert_entry nat_cmp ys s v) ≡ lookup (test q) ys → nat_cmp s y.0 ≡ o → lookup (test q) (match_ordering o ((s, v) ∷ y ∷ ys) ((y.0, v) ∷ ys) (y ∷ insert_entry nat_cmp ys s v)) ≡ lookup (test q) (y ∷ ys)
-    by Less rec e = ap (λ b. cond b (Some v) (lookup (test q) (y ∷ ys))) (other_test q s apart)
-    by Equal rec e = ap (λ b. cond b (Some v) (lookup (test q) ys)) (tied_test q s y.0 apart e) ∙ sym (ap (λ b. cond b (Some y.1) (lookup (test q) ys)) (tied_test q s y.0 apart e))
-    by Greater rec e = ap (λ o. cond (test q y.0) (Some y.1) o) rec
+insert-apart (y ∷ ys) q s v apart = grind (arith, common_steps, other_test, tied_test, nat_tests, insert-apart ys q s v apart)
 
 -- ---- open transactions after a step
 
 put-apart : (m : State) (s q : ℕ) (t : Running) → (q ≡ s → ⊥) → find nat_cmp q (put nat_cmp s t m.running) ≡ running_of m q
-put-apart m s q t apart = running_of-with_running m s t q ∙ ap (λ b. cond b (Some t) (running_of m q)) (other_test' q s apart)
-  where
-    other_test' : (q s : ℕ) → (q ≡ s → ⊥) → eq_by_cmp nat_cmp q s ≡ false
-    other_test' q s apart = grind (arith, nat_tests)
+put-apart m s q t apart = grind (arith, common_steps, running_of-with_running, nat_tests)
 
 put-same : (m : State) (s : ℕ) (t : Running) → find nat_cmp s (put nat_cmp s t m.running) ≡ Some t
-put-same m s t = running_of-with_running m s t s ∙ ap (λ b. cond b (Some t) (running_of m s)) (itself s)
-  where
-    itself : (s : ℕ) → eq_by_cmp nat_cmp s s ≡ true
-    itself s = grind (arith, nat_tests)
+put-same m s t = grind (arith, common_steps, running_of-with_running, nat_tests)
 
 left-some : (m : State) (s q : ℕ) (t : Running) → running_of (leave m s) q ≡ Some t → (q ≡ s → ⊥) × (running_of m q ≡ Some t)
-left-some m s q t e = by (q == s) refl (sym (running_of-leave m s q) ∙ e)
-  where
-    differ : (q == s) ≡ false → q ≡ s → ⊥
-    differ f same = let bad : (q == s) ≡ true = grind (arith, nat_tests) in absurd (let b : true ≡ false = sym bad ∙ f in cc)
-
-    by : (b : Bool) → (q == s) ≡ b → cond (not b) (running_of m q) None ≡ Some t → (q ≡ s → ⊥) × (running_of m q ≡ Some t)
-    by true f k = absurd (cc)
-    by false f k = (differ f, k)
+left-some m s q t e = grind (arith, common_steps, running_of-leave, nat_tests)
 
 -- ---- the requests and replies of open transactions stay the last ones
 
@@ -191,11 +149,7 @@ some_running : (o : Option Running) (x y : Running) → o ≡ Some x → o ≡ S
 some_running o x y a b = cc
 
 decide : (q s : ℕ) → (q ≡ s) ⊎ (q ≡ s → ⊥)
-decide q s = by (q == s) refl
-  where
-    by : (b : Bool) → (q == s) ≡ b → (q ≡ s) ⊎ (q ≡ s → ⊥)
-    by true e = inl (let same : q ≡ s = grind (arith, nat_tests) in same)
-    by false e = inr (λ same. (let yes : (q == s) ≡ true = grind (arith, nat_tests) in let b : true ≡ false = sym yes ∙ e in absurd (cc)))
+decide q s = grind (arith, common_steps, nat_tests)
 
 module _ (h : HubState) (invariant : Invariant h) (s : ℕ) (st : SessionStream) (is : stream_of h s ≡ Some st) where
   -- one session changed, and with it its transaction at most
@@ -218,12 +172,7 @@ module _ (h : HubState) (invariant : Invariant h) (s : ℕ) (st : SessionStream)
   had t e = let o = invariant.ends s t e in subst (λ (x : SessionStream). EndsStream x t) (some_same (stream_of h s) o.0 st o.1 is) o.2
 
   same_session : (v : SessionStream) → v.replies ≡ st.replies → v.served ≡ st.served → Invariant (with_stream h s v)
-  same_session v replies served = changed v h.machine (λ q t apart e. e) (λ t e. (let o = had t e in record {
-    earlier = o.earlier;
-    replies = replies ∙ o.replies;
-    before = o.before;
-    requests = ap (map asks) served ∙ o.requests;
-  }))
+  same_session v replies served = grind (arith, common_steps, changed, had, nat_tests)
 
   ended : (v : SessionStream) → Invariant (record (with_stream h s v) { machine = leave h.machine s })
   ended v = changed v (leave h.machine s) (λ q t apart e. (left-some h.machine s q t e).1) (λ t e. absurd ((left-some h.machine s s t e).0 refl))
@@ -258,71 +207,31 @@ module _ (h : HubState) (invariant : Invariant h) (s : ℕ) (st : SessionStream)
       by (Ended e) = changed v _ (λ q t apart k. (left-some h.machine s q t (sym (ap (find nat_cmp q) e) ∙ k)).1) (λ t k. absurd ((left-some h.machine s s t (sym (ap (find nat_cmp s) e) ∙ k)).0 refl))
 
   served : (c : Choice) → Invariant (record (with_stream h s (after_effect st (serve c h.machine s st.now))) { machine = (serve c h.machine s st.now).machine })
-  served c = by_if P (may_serve st.now) _ _ (found c.front) idle
-    where
-      P : Effect → Type 0
-      P e = Invariant (record (with_stream h s (after_effect st e)) { machine = e.machine })
-
-      idle : Invariant (record (with_stream h s (after_effect st (no_effect h.machine st.now))) { machine = h.machine })
-      idle = same_session _ (append-nil st.replies) (append-nil st.served)
-
-      found : (f : Front) → Invariant (record (with_stream h s (after_effect st (serve_front f c h.machine s st.now))) { machine = (serve_front f c h.machine s st.now).machine })
-      found (Whole parts used) =
-          let Q : Effect → Type 0 = λ e. Invariant (record (with_stream h s (after_effect st e)) { machine = e.machine }) in
-          by_if Q c.refused _ _ (ended _) (stepped parts c.failed _ refl refl)
-      found More = same_session _ (append-nil st.replies) (append-nil st.served)
-      found Bad = ended _
+  served c = grind (arith, common_steps, by_if, after_effect, same_session, append-nil, ended, stepped, nat_tests)
 
   parted : Invariant (record { machine = leave h.machine s; present = remove_entry (test s) h.present; gone = h.gone ++ (s, st) ∷ []; latest = h.latest })
-  parted = record {
-    known = λ q x e. (let f = remove-found h.present q s x e in invariant.known q f.0 f.1);
-    ends = λ q t e. (
-        let k = left-some h.machine s q t e in
-        let o = invariant.ends q t k.1 in
-        (o.0, remove-apart h.present q s k.0 ∙ o.1, o.2)
-        );
-  }
+  parted = grind (arith, common_steps, remove-found, left-some, remove-apart, nat_tests)
 
 above_last : (q s : ℕ) (o : Option ℕ) → is_above s o ≡ true → is_above q o ≡ false → nat_lt s q ≡ false
 above_last q s None a b = absurd (cc)
 above_last q s (Some t) a b = grind (arith, nat_tests)
 
 joined_too : (h : HubState) → Invariant h → (s : ℕ) → is_above s h.latest ≡ true → Invariant (record h { present = insert_entry nat_cmp h.present s new_stream; latest = Some s })
-joined_too h invariant s above = record {
-  known = λ q x e. elim (decide q s) [
-    | inl same ↦ least q same
-    | inr apart ↦ above_last q s h.latest above (invariant.known q x (sym (insert-apart h.present q s new_stream apart) ∙ e))
-  ];
-  ends = λ q t e. (
-      let o = invariant.ends q t e in
-      let apart : q ≡ s → ⊥ = λ same. (let bad : true ≡ false = sym above ∙ ap (λ k. is_above k h.latest) (sym same) ∙ invariant.known q o.0 o.1 in cc) in
-      (o.0, insert-apart h.present q s new_stream apart ∙ o.1, o.2)
-      );
-}
-  where
-    least : (q : ℕ) → q ≡ s → nat_lt s q ≡ false
-    least q same = grind (arith, nat_tests)
+joined_too h invariant s above = grind (arith, common_steps, decide, above_last, insert-apart, nat_lt, nat_tests)
 
 by_true : {A : Type 0} (P : A → Type 0) (b : Bool) (x y : A) → P x → (b ≡ false → P y) → P (if b then x else y)
 by_true P true x y p q = p
 by_true P false x y p q = q refl
 
-not_false : (b : Bool) → not b ≡ false → b ≡ true
-not_false true e = refl
-not_false false e = absurd (cc)
-
 pub invariant_step : (h : HubState) (e : HubEvent) (c : Choice) → Invariant h → Invariant (hub_step h e c).0
 unfolding hub_step
 invariant_step h (Joins s) c invariant =
     let P : HubState × Outcome → Type 0 = λ r. Invariant r.0 in
-    by_true P (not (is_above s h.latest)) _ _ invariant (λ above. by_if P (nat_le 128 (length h.present)) _ _ invariant (by_if P c.refused _ _ invariant (joined_too h invariant s (not_false (is_above s h.latest) above))))
+    by_true P (not (is_above s h.latest)) _ _ invariant (λ above. by_if P (nat_le 128 (length h.present)) _ _ invariant (by_if P c.refused _ _ invariant (joined_too h invariant s (not-false (is_above s h.latest) above))))
 invariant_step h (Receives s piece) c invariant = brought (stream_of h s) refl
   where
     brought : (o : Option SessionStream) → stream_of h s ≡ o → Invariant (receive o h s piece).0
-    brought None e = invariant
-    brought (Some st) e =
-        let P : HubState × Outcome → Type 0 = λ r. Invariant r.0 in
-        by_if P (not (is_open st.now.status)) _ _ invariant (by_if P (nat_lt (room st.now) (length piece)) _ _ invariant (same_session h invariant s st e _ refl refl))
+    brought a0 a1 = grind (arith, common_steps, by_if, nat_lt, same_session, nat_tests)
 invariant_step h (Serves s) c invariant = answered (stream_of h s) refl
   where
     answered : (o : Option SessionStream) → stream_of h s ≡ o → Invariant (serve_session o h s c).0
@@ -331,10 +240,7 @@ invariant_step h (Serves s) c invariant = answered (stream_of h s) refl
 invariant_step h (Sends s n) c invariant = sent (stream_of h s) refl
   where
     sent : (o : Option SessionStream) → stream_of h s ≡ o → Invariant (send o h s n).0
-    sent None e = invariant
-    sent (Some st) e =
-        let P : HubState × Outcome → Type 0 = λ r. Invariant r.0 in
-        by_if P (nat_le n (length st.now.pending)) _ _ (same_session h invariant s st e _ refl refl) invariant
+    sent a0 a1 = grind (arith, common_steps, by_if, nat_le, same_session, nat_tests)
 invariant_step h (Leaves s) c invariant = gone (stream_of h s) refl
   where
     gone : (o : Option SessionStream) → stream_of h s ≡ o → Invariant (depart o h s).0
@@ -342,8 +248,5 @@ invariant_step h (Leaves s) c invariant = gone (stream_of h s) refl
     gone (Some st) e = parted h invariant s st e
 
 pub always : (h : HubState) → IsReachedHub h → Invariant h
-always h (Begun m r none) = record {
-  known = λ q x e. absurd (let bad : None ≡ Some x = e in cc);
-  ends = λ q t e. absurd (let bad : None ≡ Some t = sym (ap (find nat_cmp q) none) ∙ e in cc);
-}
+always h (Begun m r none) = grind (arith, common_steps, nat_tests)
 always h (Continued g e c possible r) = invariant_step g e c (always g r)

@@ -1,39 +1,20 @@
 -- Where the place found last, or a binary search, stands among sessions by rising number.
-use Rattle.std.proofs.Common.{◌≡◌, ℕ, zero, suc, ◌<◌, ◌≤◌, Bool, true, false, T, cond, ◌&&◌, List, [], ◌∷◌, length, get_or, set, insert, Option, Some, Result, Ok, Err, IfOk, IfErr, Ordering, Less, Equal, Greater, is_lt, is_eq, nat_cmp, refl, sym, ap, subst, ◌∙◌, arith}
-use Rattle.std.specs.List.Sorted.{IsSearchInRange, IsBinarySearchResult, IsNonDecreasingBy}
-use Rattle.std.specs.Ordering.{match_ordering, ordering_index, ordering_reverse}
-use Rattle.std.specs.FinMap.Entries.{put, by_order, below_all, is_sorted, is_sorted-put}
+use Rattle.std.proofs.lemmas.Grind.{common_steps}
+use Rattle.std.proofs.Common.{◌≡◌, ℕ, zero, suc, ◌<◌, ◌≤◌, Bool, true, false, T, cond, List, [], ◌∷◌, length, get_or, set, insert, Option, Some, Result, Ok, Err, IfOk, IfErr, Ordering, Less, Equal, Greater, is_eq, nat_cmp, refl, sym, ap, subst, ◌∙◌, arith}
+use Rattle.std.specs.List.Sorted.{IsSearchInRange, IsBinarySearchResult}
+use Rattle.std.specs.Ordering.{match_ordering, ordering_reverse}
+use Rattle.std.specs.FinMap.Entries.{put, below_all, is_sorted, is_sorted-put}
 use Rattle.std.specs.Map.{lookup, set_value, remove_entry}
 use Rattle.std.specs.BTreeMap.{insert_entry, is_at}
 use Rattle.std.proofs.lemmas.Bool.Decides.{nat_tests}
-use Rattle.std.proofs.lemmas.Cmp.{nat_cmp_total, ranked, tied_itself}
+use Rattle.std.proofs.lemmas.Cmp.{nat_cmp_total, tied_itself}
 use Rattle.std.proofs.lemmas.Map.Lookups.{exact_unsigned}
+use Rattle.model.proofs.InOrder.{parts, both, below_at, rise}
 use Rattle.sessions.specs.Places.{IsPlace, IsGap}
-
-parts : (a b : Bool) → T (a && b) → T a × T b
-parts true b h = (tt, h)
-parts false b h = absurd h
-
-both : (a b : Bool) → T a → T b → T (a && b)
-both true b x y = y
-both false b x y = x
-
-less : (o : Ordering) → T (is_lt o) → o ≡ Less
-less Less h = refl
-less Equal h = absurd h
-less Greater h = absurd h
-
-higher : (a b s : ℕ) → a < b → ordering_index (nat_cmp a s) ≤ ordering_index (nat_cmp b s)
-higher a b s lt = grind (arith, nat_tests)
 
 module _ {X : Type 0} where
   abbrev pub IsRising : List (ℕ × X) → Type 0
   IsRising es = T (is_sorted nat_cmp es)
-
-  below_at : (k : ℕ) (es : List (ℕ × X)) (i : ℕ) (d : ℕ × X) → T (below_all nat_cmp k es) → i < length es → nat_cmp k (get_or es i d).0 ≡ Less
-  below_at k [] i d h lt = absurd (omega arith)
-  below_at k (e ∷ es) zero d h lt = less _ (parts _ _ h).0
-  below_at k (e ∷ es) (suc i) d h lt = below_at k es i d (parts _ _ h).1 (omega arith)
 
   module _ (s : ℕ) where
     -- what the number's place among e and es comes to, by how the number compares to that of e
@@ -66,7 +47,7 @@ module _ {X : Type 0} where
         }
     is_place (e ∷ es) (suc i) h lt number =
         let p = parts _ _ h in
-        let above : nat_cmp s e.0 ≡ Greater = nat_cmp_total.antisymm s e.0 ∙ ap ordering_reverse (ap (nat_cmp e.0) (sym (number e)) ∙ below_at e.0 es i e p.0 (omega arith)) in
+        let above : nat_cmp s e.0 ≡ Greater = nat_cmp_total.antisymm s e.0 ∙ ap ordering_reverse (ap (nat_cmp e.0) (sym (number e)) ∙ below_at nat_cmp e.0 es i e p.0 (omega arith)) in
         let rest = is_place es i p.1 (omega arith) number in
         record {
           in_range = lt;
@@ -104,13 +85,6 @@ module _ {X : Type 0} where
 
     -- ---- where the binary search ends
 
-    rise : (es : List (ℕ × X)) → IsRising es → IsNonDecreasingBy (λ e. ordering_index (nat_cmp e.0 s)) es
-    rise [] h i j d le lt = absurd (omega arith)
-    rise (e ∷ es) h zero zero d le lt = omega arith
-    rise (e ∷ es) h zero (suc j) d le lt = higher e.0 (get_or es j d).0 s (ranked e.0 (get_or es j d).0 Less (sym (below_at e.0 es j d (parts _ _ h).0 (omega arith))))
-    rise (e ∷ es) h (suc i) zero d le lt = absurd (omega arith)
-    rise (e ∷ es) h (suc i) (suc j) d le lt = rise es (parts _ _ h).1 i j d (omega arith) (omega arith)
-
     pub searched : (es xs : List (ℕ × X)) → xs ≡ es → IsRising es → (r : Result ℕ ℕ) → IsSearchInRange r (length xs) → IsBinarySearchResult (λ (e : ℕ × X). nat_cmp e.0 s) xs r
         → record { found : IfOk r (IsPlace es s); absent : IfErr r (IsGap es s) }
     searched es xs same h r within by = ends r (subst (λ (l : List (ℕ × X)). IsSearchInRange r (length l)) same within) (subst (λ (l : List (ℕ × X)). IsBinarySearchResult (λ (e : ℕ × X). nat_cmp e.0 s) l r) same by)
@@ -118,7 +92,7 @@ module _ {X : Type 0} where
         ends : (r : Result ℕ ℕ) → IsSearchInRange r (length es) → IsBinarySearchResult (λ (e : ℕ × X). nat_cmp e.0 s) es r → record { found : IfOk r (IsPlace es s); absent : IfErr r (IsGap es s) }
         ends (Ok i) lt equal = record { found = is_place es i h lt (λ d. exact_unsigned (get_or es i d).0 s (equal d)); absent = tt }
         ends (Err i) le parted =
-            let p = parted (rise es h) in
+            let p = parted (rise nat_cmp_total es s h) in
             record { found = tt; absent = is_gap es i le (λ j d lt. p.0 j d (omega arith) lt) (λ j d from lt. p.1 j d from lt) }
 
     -- ---- the place found last
@@ -143,12 +117,7 @@ module _ {X : Type 0} where
 
     put_is : (x : X) (es : List (ℕ × X)) → put nat_cmp s x es ≡ insert_entry nat_cmp es s x
     put_is x [] = refl
-    put_is x (e ∷ es) =
-        elim (nat_cmp s e.0) as (λ o. by_order o ((s, x) ∷ e ∷ es) ((e.0, x) ∷ es) (e ∷ put nat_cmp s x es) ≡ match_ordering o ((s, x) ∷ e ∷ es) ((e.0, x) ∷ es) (e ∷ insert_entry nat_cmp es s x)) [
-          | Less ↦ refl
-          | Equal ↦ refl
-          | Greater ↦ ap (λ l. e ∷ l) (put_is x es)
-        ]
+    put_is x (e ∷ es) = grind (arith, common_steps, nat_tests, put_is x es)
 
     inserted_rising : (x : X) (es : List (ℕ × X)) → IsRising es → IsRising (insert_entry nat_cmp es s x)
     inserted_rising x es h = subst IsRising (put_is x es) (is_sorted-put nat_cmp nat_cmp_total s x es h)

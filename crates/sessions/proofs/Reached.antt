@@ -1,5 +1,6 @@
 -- What an event led to, said of its step.
-use Rattle.std.proofs.Common.{◌≡◌, sym}
+use Rattle.std.proofs.lemmas.Grind.{common_steps}
+use Rattle.std.proofs.Common.{arith, ◌≡◌}
 use Rattle.sector.specs.declared.device.Sectors.{Ghosts}
 use Rattle.model.proofs.Leading.{stepped}
 use Rattle.sessions.specs.declared.events.Outcome.{Outcome}
@@ -13,7 +14,4 @@ pub record Reached {D : Type 0} {g : Ghosts D} (new : Hub D g) (h : HubState) (e
   pub outcome_is : outcome ≡ (hub_step h e c).1
 
 pub reached : {D : Type 0} {g : Ghosts D} (old new : Hub D g) (e : HubEvent) (outcome : Outcome) (leads : HubLeads old new e outcome) (h : HubState) → StandsFor old h → Reached new h e leads.0 outcome
-reached old new e outcome leads h stands =
-    let later = leads.3 h stands in
-    let all = stepped StandsFor new later.0 outcome (hub_step h e leads.0) later.1 later.2.step in
-    record { possible = later.2.possible; stands = all.0; outcome_is = sym all.1 }
+reached old new e outcome leads h stands = grind (arith, common_steps, stepped)

@@ -1,15 +1,16 @@
 -- How a request's parts make one step of the machine.
+use Rattle.std.proofs.lemmas.Grind.{common_steps}
 use Rattle.std.proofs.Common.{◌≡◌, ◌≢◌, ℕ, Bool, true, false, cond, not, List, [], ◌∷◌, ◌++◌, Option, Some, None, Result, Ok, Err, OnOk, OnErr, IsOk, IsTrue, refl, sym, ap, subst, ◌∙◌, nat_cmp, arith}
 use Rattle.sector.specs.declared.device.Sectors.{Ghosts}
 use Rattle.std.specs.Prelude.{◌==◌, Vec}
 use Rattle.std.specs.declared.alloc.Global.{Global}
-use Rattle.std.specs.declared.cmp.Ordering.TheVariants.{Less, Equal, Greater}
-use Rattle.std.specs.FinMap.Entries.{put, where_key, by_order}
+use Rattle.std.specs.declared.cmp.Ordering.TheVariants.{Equal}
+use Rattle.std.specs.FinMap.Entries.{put, where_key}
 use Rattle.std.proofs.lemmas.Bool.Decides.{nat_tests}
 use Rattle.model.specs.declared.refusals.Memory.{Memory}
 use Rattle.model.specs.Map.{Bytes}
 use Rattle.model.specs.Operations.{Operation, Response}
-use Rattle.model.specs.Operations.Operation.{Begin, Get, Set, Del, Range, Commit, Abort, Ping, Faulty}
+use Rattle.model.specs.Operations.Operation.{Get, Range, Commit}
 use Rattle.model.specs.Machine.{State, Running, step, step_of, leave, running_of, with_running}
 use Rattle.model.specs.ReplyText.{reply_text}
 use Rattle.model.proofs.Leading.{stepped}
@@ -21,7 +22,6 @@ use Rattle.engine.specs.declared.faults.EngineFault.{EngineFault}
 use Rattle.engine.specs.declared.faults.EngineFault.TheVariants.{Refused as RefusedFor, Memory as OutOfMemory}
 use Rattle.model.specs.Operations.Response.{Done, Refused as Refusing}
 use Rattle.engine.specs.declared.faults.ReadFault.{ReadFault}
-use Rattle.engine.specs.declared.faults.ReadFault.TheVariants.{NotOpen, FullMarks, Memory as NoMemory}
 use Rattle.sessions.specs.Calls.{Writes, Executes, has_failed, refusal_to_read}
 use Rattle.sessions.specs.SessionStreams.{takes_memory}
 
@@ -34,18 +34,7 @@ is_commit other = false
 
 pub step_flag : (m : State) (s : ℕ) (q : Operation) (b : Bool) → is_commit q ≡ false → step m s q b ≡ step m s q false
 unfolding step
-step_flag m s q b e = elim (running_of m s) as (λ o. step_of o m s q b ≡ step_of o m s q false) [ None ↦ refl | Some t ↦ inside t q e ]
-  where
-    inside : (t : Running) (q : Operation) → is_commit q ≡ false → step_of (Some t) m s q b ≡ step_of (Some t) m s q false
-    inside t Begin e = refl
-    inside t (Get k) e = refl
-    inside t (Set k v) e = refl
-    inside t (Del k) e = refl
-    inside t (Range lo hi limit) e = refl
-    inside t Commit e = absurd (cc)
-    inside t Abort e = refl
-    inside t Ping e = refl
-    inside t (Faulty refusal) e = refl
+step_flag m s q b e = grind (arith, common_steps, nat_tests)
 
 abbrev others : {X : Type 0} → ℕ → List (ℕ × X) → List (ℕ × X)
 others s es = where_key nat_cmp (λ x. not (x == s)) es
@@ -60,12 +49,7 @@ module _ {X : Type 0} (s : ℕ) where
   -- what is put there is among no others
   pub others-put : (t : X) (es : List (ℕ × X)) → others s (put nat_cmp s t es) ≡ others s es
   others-put t [] = ap (λ b. cond (not b) ((s, t) ∷ []) []) (itself s)
-  others-put t (e ∷ es) =
-      elim (nat_cmp s e.0) as (λ o. nat_cmp s e.0 ≡ o → others s (by_order o ((s, t) ∷ e ∷ es) ((e.0, t) ∷ es) (e ∷ put nat_cmp s t es)) ≡ others s (e ∷ es)) [
-        | Less ↦ λ h. ap (λ b. cond (not b) ((s, t) ∷ others s (e ∷ es)) (others s (e ∷ es))) (itself s)
-        | Equal ↦ λ h. ap (λ b. cond (not b) ((e.0, t) ∷ others s es) (others s es)) (same_number s e.0 h) ∙ sym (ap (λ b. cond (not b) (e ∷ others s es) (others s es)) (same_number s e.0 h))
-        | Greater ↦ λ h. ap (λ rest. cond (not (e.0 == s)) (e ∷ rest) rest) (others-put t es)
-      ] refl
+  others-put t (e ∷ es) = grind (arith, common_steps, itself, same_number, nat_tests, others-put t es)
 
 -- an own request, and then the session leaves
 abbrev pub IsRead : Operation → Type 0
@@ -74,44 +58,20 @@ IsRead (Range lo hi limit) = Unit {0}
 IsRead other = ⊥
 
 read_takes : (q : Operation) → IsRead q → IsTrue (takes_memory q)
-read_takes (Get k) r = refl
-read_takes (Range lo hi limit) r = refl
-read_takes Begin r = absurd r
-read_takes (Set k v) r = absurd r
-read_takes (Del k) r = absurd r
-read_takes Commit r = absurd r
-read_takes Abort r = absurd r
-read_takes Ping r = absurd r
-read_takes (Faulty refusal) r = absurd r
+read_takes a0 a1 = grind (arith, common_steps, nat_tests)
 
 pub leave-read : (m : State) (s : ℕ) (q : Operation) → IsRead q → leave (step m s q false).0 s ≡ leave m s
 unfolding step
 leave-read m s q r = elim (running_of m s) as (λ o. leave (step_of o m s q false).0 s ≡ leave m s) [ None ↦ outside q r | Some t ↦ inside t q r ]
   where
     outside : (q : Operation) → IsRead q → leave (step_of None m s q false).0 s ≡ leave m s
-    outside (Get k) r = refl
-    outside (Range lo hi limit) r = refl
-    outside Begin r = absurd r
-    outside (Set k v) r = absurd r
-    outside (Del k) r = absurd r
-    outside Commit r = absurd r
-    outside Abort r = absurd r
-    outside Ping r = absurd r
-    outside (Faulty refusal) r = absurd r
+    outside a0 a1 = grind (arith, common_steps, nat_tests)
 
     again : (t : Running) → leave (with_running m s t) s ≡ leave m s
     again t = ap (λ rs. record m { running = rs }) (others-put s t m.running)
 
     inside : (t : Running) (q : Operation) → IsRead q → leave (step_of (Some t) m s q false).0 s ≡ leave m s
-    inside t (Get k) r = again _
-    inside t (Range lo hi limit) r = again _
-    inside t Begin r = absurd r
-    inside t (Set k v) r = absurd r
-    inside t (Del k) r = absurd r
-    inside t Commit r = absurd r
-    inside t Abort r = absurd r
-    inside t Ping r = absurd r
-    inside t (Faulty refusal) r = absurd r
+    inside a0 a1 a2 = grind (arith, common_steps, again, nat_tests)
 
 -- ---- the parts of a request
 
@@ -168,9 +128,7 @@ module _ {D : Type 0} {g : Ghosts D} (old new : Engine D g) (s : ℕ) (q : Opera
 
 -- a read's refusal doesn't depend on what it reads
 same_refusal : {T : Type 0} (f : T → Response) (fault : ReadFault) → response_to_read f (Err fault) ≡ refusal_to_read fault
-same_refusal f NotOpen = refl
-same_refusal f FullMarks = refl
-same_refusal f NoMemory = refl
+same_refusal a0 a1 = grind (arith, common_steps, nat_tests)
 
 -- a read that was refused
 pub executes_refused : {T D : Type 0} {g : Ghosts D} (old new : Engine D g) (s : ℕ) (q : Operation) (f : T → Response) (result : Result T ReadFault) (fault : ReadFault) (after : Bytes) (r : Result (Unit {0}) Memory)

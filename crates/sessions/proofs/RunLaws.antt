@@ -1,20 +1,20 @@
 -- One event after another.
+use Rattle.std.proofs.lemmas.Grind.{common_steps}
 use Rattle.std.proofs.Common.{◌≡◌, ◌<◌, ◌+◌, take, get_or, ◌⊎◌, inl, inr, ℕ, zero, suc, Bool, true, false, List, [], ◌∷◌, ◌++◌, map, length, Option, Some, None, refl, ap, ◌∙◌, arith, nat_le, if◌then◌else◌}
-use Rattle.std.specs.Prelude.{◌==◌, ◌^◌, ◌-◌, nat_lt}
+use Rattle.std.specs.Prelude.{◌==◌, ◌^◌, ◌-◌}
 use Rattle.std.proofs.lemmas.List.{map-append}
 use Rattle.model.specs.declared.refusals.Refusal.{Refusal}
 use Rattle.model.specs.Map.{KeyWrite}
 use Rattle.model.specs.Operations.{Operation, Response}
-use Rattle.model.specs.Operations.Operation.{Begin, Get, Set, Del, Range, Commit, Abort, Ping, Faulty}
 use Rattle.model.specs.History.{Record}
 use Rattle.model.specs.Laws.{MachineLaw}
 use Rattle.model.specs.Verdict.{verdict}
-use Rattle.model.specs.Machine.{State, Running, step, step_of, running_of, commit, store, store_unless, record_to_commit, last, body_sectors}
+use Rattle.model.specs.Machine.{State, Running, step, commit, store, store_unless, record_to_commit, last, body_sectors}
 use Rattle.sessions.specs.declared.events.Outcome.{Outcome}
-use Rattle.sessions.specs.SessionStreams.{HubState, SessionStream, HubEvent, Joins, Receives, Serves, Sends, Leaves, Front, Whole, More, Bad, Choice, Effect, IsPossible, IsServePossible, hub_step, run, stream_of, with_effect, may_serve, serve_session, serve_front, served_with, asks, IsReachedHub}
+use Rattle.sessions.specs.SessionStreams.{HubState, HubEvent, Choice, IsPossible, hub_step, run, IsReachedHub}
 use Rattle.sessions.specs.Laws.{IsLawful}
 use Rattle.sessions.proofs.OpenTransactions.{always}
-use Rattle.sessions.proofs.StreamLaws.{machine_reached, are_streams, Moved, Rests, Lets, Steps, moved, by_if}
+use Rattle.sessions.proofs.StreamLaws.{machine_reached, are_streams, Moved, moved, by_if}
 
 by_if2 : {A : Type 0} (P : A → A → Type 0) (b : Bool) (x y x' y' : A) → (b ≡ true → P x x') → (b ≡ false → P y y') → P (if b then x else y) (if b then x' else y')
 by_if2 P true x y x' y' p q = p refl
@@ -45,52 +45,17 @@ module _ (m : State) (s : ℕ) (t : Running) where
 
 pub flagged : (m : State) (s : ℕ) (q : Operation) → Flagged m (step m s q true) (step m s q false)
 unfolding step
-flagged m s q = elim (running_of m s) as (λ o. Flagged m (step_of o m s q true) (step_of o m s q false)) [ None ↦ inl refl | Some t ↦ inside t q ]
-  where
-    inside : (t : Running) (q : Operation) → Flagged m (step_of (Some t) m s q true) (step_of (Some t) m s q false)
-    inside t Begin = inl refl
-    inside t (Get k) = inl refl
-    inside t (Set k v) = inl refl
-    inside t (Del k) = inl refl
-    inside t (Range lo hi limit) = inl refl
-    inside t Commit = committed m s t
-    inside t Abort = inl refl
-    inside t Ping = inl refl
-    inside t (Faulty refusal) = inl refl
+flagged m s q = grind (arith, common_steps)
 
 step-stopped : (m : State) (s : ℕ) (q : Operation) (f : Bool) → m.stopped ≡ true → (step m s q f).0.stopped ≡ true
 unfolding step
-step-stopped m s q f e = elim (running_of m s) as (λ o. (step_of o m s q f).0.stopped ≡ true) [ None ↦ outside q | Some t ↦ inside t q ]
-  where
-    outside : (q : Operation) → (step_of None m s q f).0.stopped ≡ true
-    outside Begin = let P : State × Response → Type 0 = λ r. r.0.stopped ≡ true in by_if P m.stopped _ _ e (by_if P (nat_lt (length m.running) 64) _ _ e e)
-    outside (Get k) = e
-    outside (Set k v) = e
-    outside (Del k) = e
-    outside (Range lo hi limit) = e
-    outside Commit = e
-    outside Abort = e
-    outside Ping = e
-    outside (Faulty refusal) = e
-
-    inside : (t : Running) (q : Operation) → (step_of (Some t) m s q f).0.stopped ≡ true
-    inside t Begin = e
-    inside t (Get k) = e
-    inside t (Set k v) = e
-    inside t (Del k) = e
-    inside t (Range lo hi limit) = e
-    inside t Commit = let P : State × Response → Type 0 = λ r. r.0.stopped ≡ true in by_true P m.stopped _ _ e e
-    inside t Abort = e
-    inside t Ping = e
-    inside t (Faulty refusal) = e
+step-stopped m s q f e = grind (arith, common_steps, by_if, by_true)
 
 pub hub-stopped : (h : HubState) (e : HubEvent) (c : Choice) → h.machine.stopped ≡ true → (hub_step h e c).0.machine.stopped ≡ true
 hub-stopped h e c is = by_move (moved h e c)
   where
     by_move : {after : State} → Moved c h.machine after → after.stopped ≡ true
-    by_move Rests = is
-    by_move (Lets s) = is
-    by_move (Steps s q) = step-stopped h.machine s q c.failed is
+    by_move a0 = grind (arith, common_steps, step-stopped)
 
 pub stays_stopped : (h : HubState) (es : List (HubEvent × Choice)) → h.machine.stopped ≡ true → (run h es).machine.stopped ≡ true
 stays_stopped h [] stop = stop
@@ -105,34 +70,10 @@ HubFlagged h a b = (a ≡ b) ⊎ ((h.machine.stopped ≡ false) × (a.0.machine.
 
 pub hub-flagged : (h : HubState) (e : HubEvent) (c : Choice) → HubFlagged h (hub_step h e (flag c true)) (hub_step h e (flag c false))
 unfolding hub_step
-hub-flagged h (Joins s) c = inl refl
-hub-flagged h (Receives s piece) c = inl refl
-hub-flagged h (Sends s n) c = inl refl
-hub-flagged h (Leaves s) c = inl refl
-hub-flagged h (Serves s) c = answered (stream_of h s)
-  where
-    answered : (o : Option SessionStream) → HubFlagged h (serve_session o h s (flag c true)) (serve_session o h s (flag c false))
-    answered None = inl refl
-    answered (Some st) =
-        let P : Effect → Effect → Type 0 = λ x y. HubFlagged h (with_effect h s st x) (with_effect h s st y) in
-        by_if2 P (may_serve st.now) _ _ _ _ (λ _. found c.front) (λ _. inl refl)
-      where
-        found : (f : Front) → HubFlagged h (with_effect h s st (serve_front f (flag c true) h.machine s st.now)) (with_effect h s st (serve_front f (flag c false) h.machine s st.now))
-        found More = inl refl
-        found Bad = inl refl
-        found (Whole parts used) =
-            let P : Effect → Effect → Type 0 = λ x y. HubFlagged h (with_effect h s st x) (with_effect h s st y) in
-            by_if2 P c.refused _ _ _ _ (λ _. inl refl) (λ _. elim (flagged h.machine s (asks parts)) [
-              | inl e ↦ inl (ap (λ a. with_effect h s st (served_with a st.now parts used)) e)
-              | inr e ↦ inr e
-            ])
+hub-flagged a0 a1 a2 = grind (arith, common_steps, by_if2, flagged)
 
 pub possible-flag : (h : HubState) (e : HubEvent) (c : Choice) (b : Bool) → IsPossible h e c → IsPossible h e (flag c b)
-possible-flag h (Joins s) c b n = tt
-possible-flag h (Receives s piece) c b n = tt
-possible-flag h (Sends s k) c b n = tt
-possible-flag h (Leaves s) c b n = tt
-possible-flag h (Serves s) c b n = elim (stream_of h s) as (λ o. IsServePossible h.machine s o c → IsServePossible h.machine s o (flag c b)) [ None ↦ λ x. x | Some st ↦ λ x. x ] n
+possible-flag a0 a1 a2 a3 a4 = grind (arith, common_steps)
 
 pub choice_is : (c : Choice) (b : Bool) → c.failed ≡ b → c ≡ flag c b
 choice_is c b e = λ i. record { front = c.front; refused = c.refused; failed = e i }

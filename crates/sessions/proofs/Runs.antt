@@ -1,4 +1,5 @@
 -- Runs, event by event.
+use Rattle.std.proofs.lemmas.Grind.{common_steps}
 use Rattle.std.proofs.Common.{◌≡◌, ◌≤◌, ◌+◌, ℕ, zero, suc, Bool, true, false, inl, inr, if◌then◌else◌, List, [], ◌∷◌, ◌++◌, take, length, refl, sym, ap, subst, ◌∙◌, arith}
 use Rattle.std.proofs.lemmas.Bool.{both_ways}
 use Rattle.sector.specs.declared.device.Sectors.{Ghosts}
@@ -33,11 +34,7 @@ module _ {D : Type 0} {g : Ghosts D} where
 
   -- a hub that rests, and then runs
   rest_then : (old mid new : Hub D g) (fs : List (HubEvent × Choice)) → Ran old mid [] → Ran mid new fs → Ran old new fs
-  rest_then old mid new [] p q = (
-    p.0,
-    q.1,
-    record { stands = λ h s. q.2.stands h (p.2.stands h s); device_is = q.2.device_is ∙ p.2.device_is; stopped_is = q.2.stopped_is ∙ p.2.stopped_is },
-  )
+  rest_then old mid new [] p q = grind (arith, common_steps)
   rest_then old mid new (e ∷ fs) p q =
       let steps = q.2 in
       let same : failures mid ≡ failures old = ap (λ (d : D). g.failures d) p.2.device_is in
@@ -64,10 +61,7 @@ module _ {D : Type 0} {g : Ghosts D} where
 
   pub ran_counted : (old new : Hub D g) (es : List (HubEvent × Choice)) → Ran old new es → failures old ≤ failures new
   ran_counted old new [] r = let same : failures new ≡ failures old = ap (λ (d : D). g.failures d) r.2.device_is in omega arith
-  ran_counted old new (e ∷ es) r =
-      let first : failures old ≤ failures r.1 = r.2.counted in
-      let rest : failures r.1 ≤ failures new = ran_counted r.1 new es r.3 in
-      omega arith
+  ran_counted old new (e ∷ es) r = grind (arith, common_steps, ran_counted r.1 new es r.3)
 
   -- ---- what it leads to
 
@@ -88,13 +82,7 @@ module _ {D : Type 0} {g : Ghosts D} where
   -- the device fails in no event once the store is stopped, and in one at most
   ran_none : (old new : Hub D g) (es : List (HubEvent × Choice)) → Ran old new es → (h : HubState) → StandsFor old h → h.machine.stopped ≡ true → failures_in es ≡ 0
   ran_none old new [] r h s stop = refl
-  ran_none old new (e ∷ es) r h s stop =
-      let rest : failures_in es ≡ 0 = ran_none r.1 new es r.3 (hub_step h e.0 e.1).0 (r.2.leads h s).1 (hub-stopped h e.0 e.1 stop) in
-      by_flag e.1.failed refl rest
-    where
-      by_flag : (b : Bool) → e.1.failed ≡ b → failures_in es ≡ 0 → (if b then failures_in es + 1 else failures_in es) ≡ 0
-      by_flag false is rest = rest
-      by_flag true is rest = absurd (both_ways (is_stopped old) (r.2.failed is).1 (sym s.engine.stopped ∙ stop))
+  ran_none old new (e ∷ es) r h s stop = grind (arith, common_steps, hub-stopped, both_ways, ran_none r.1 new es r.3 (hub_step h e.0 e.1).0 (r.2.leads h s).1 (hub-stopped h e.0 e.1 stop))
 
   ran_once : (old new : Hub D g) (es : List (HubEvent × Choice)) → Ran old new es → (h : HubState) → StandsFor old h → failures_in es ≤ 1
   ran_once old new [] r h s = omega arith
@@ -168,14 +156,7 @@ module _ {D : Type 0} {g : Ghosts D} (old new : Hub D g) (e : HubEvent) (sound_o
   quiet is apart = by_choice (flag c false) same (λ h s. possible-flag h e c false (leads h s).0) (λ up. (let bad : false ≡ true = up in absurd (cc)))
     where
       same : (h : HubState) → StandsFor old h → (hub_step h e (flag c false)).0 ≡ (hub_step h e c).0
-      same h s =
-          let whole = choice_is c true is in
-          elim (hub-flagged h e c) [
-            | inl even ↦ sym (ap (λ r. r.0) even) ∙ sym (ap (λ m. (hub_step h e m).0) whole)
-            | inr stops ↦
-                let Q : Choice → Type 0 = λ m. (hub_step h e m).0.machine.stopped ≡ true in
-                absurd (apart (sym s.engine.stopped ∙ stops.0) (sym (leads h s).1.engine.stopped ∙ subst Q (sym whole) stops.1))
-          ]
+      same h s = grind (arith, common_steps, choice_is, hub-flagged)
 
   by_flags : (f a b : Bool) → c.failed ≡ f → is_stopped old ≡ a → is_stopped new ≡ b → Alone
   by_flags false a b is first last = by_choice c (λ h s. refl) (λ h s. (leads h s).0) (λ up. absurd (both_ways c.failed is up))

@@ -1,5 +1,6 @@
 -- From the parts of a Serve to its effect.
-use Rattle.std.proofs.Common.{◌≡◌, ℕ, Bool, true, false, List, [], ◌∷◌, length, arith, IsTrue, drop, refl, sym, ap, subst, ◌∙◌, if◌then◌else◌}
+use Rattle.std.proofs.lemmas.Grind.{common_steps}
+use Rattle.std.proofs.Common.{◌≡◌, ℕ, Bool, true, false, List, [], length, arith, IsTrue, drop, refl, ap, subst, ◌∙◌, if◌then◌else◌}
 use Rattle.sector.specs.declared.device.Sectors.{Ghosts}
 use Rattle.std.specs.Prelude.{◌==◌}
 use Rattle.std.proofs.lemmas.Bool.Decides.{nat_tests}
@@ -8,40 +9,20 @@ use Rattle.model.specs.Machine.{State, step}
 use Rattle.model.specs.ReplyText.{reply_text}
 use Rattle.engine.specs.declared.engine.Engine.{Engine}
 use Rattle.engine.specs.Meaning.{StandsFor, IsNotRefused}
-use Rattle.sessions.specs.declared.events.Status.TheVariants.{Absent, Open, Ending, Refused}
+use Rattle.sessions.specs.declared.events.Status.TheVariants.{Open, Ending, Refused}
 use Rattle.sessions.specs.declared.events.Outcome.{Outcome}
 use Rattle.sessions.specs.declared.events.Outcome.TheVariants.{Done as OfDone, Idle as OfIdle, Memory as OutOfMemory}
-use Rattle.sessions.specs.SessionStreams.{SessionState, Choice, IsServed, Effect, Whole, More, Bad, is_open, IsFront, asks, takes_memory, bad_frame, serve, serve_front, no_effect, may_serve}
+use Rattle.sessions.specs.SessionStreams.{SessionState, Choice, IsServed, Whole, More, Bad, IsFront, asks, takes_memory, bad_frame, serve, serve_front, no_effect, may_serve}
 use Rattle.sessions.specs.Calls.{LeavesSame, Aborts, HasEffect, ServesSession, has_failed}
 
 pub aborts_left : {D : Type 0} {g : Ghosts D} (old mid new : Engine D g) (s : ℕ) → LeavesSame old mid s → Aborts mid new s → Aborts old new s
 aborts_left old mid new s f a = λ m h. let x = f m h in let P : State → Type 0 = λ y. StandsFor new y in subst P x.2 (a x.0 x.1)
 
 pub is_open_there : (n : SessionState) → may_serve n ≡ true → n.status ≡ Open
-is_open_there n e =
-    elim n.status as (λ st. n.status ≡ st → st ≡ Open) [
-      | Absent ↦ λ h. absurd (closed h)
-      | Open ↦ λ _. refl
-      | Ending ↦ λ h. absurd (ended h)
-      | Refused ↦ λ h. absurd (refused h)
-    ] refl
-  where
-    closed : n.status ≡ Absent → ⊥
-    closed h = let bad : false ≡ true = rw h at e in cc
-
-    ended : n.status ≡ Ending → ⊥
-    ended h = let bad : false ≡ true = rw h at e in cc
-
-    refused : n.status ≡ Refused → ⊥
-    refused h = let bad : false ≡ true = rw h at e in cc
+is_open_there n e = grind (arith, common_steps, nat_tests)
 
 pub nothing_pending : (opened : Bool) (xs : Bytes) → (if opened then length xs == 0 else false) ≡ true → xs ≡ []
-nothing_pending true [] e = refl
-nothing_pending true (x ∷ xs) e = absurd (more xs e)
-  where
-    more : (xs : Bytes) → (length (x ∷ xs) == 0) ≡ true → ⊥
-    more xs e = let z : length (x ∷ xs) ≡ 0 = grind (arith, nat_tests) in omega (arith, z)
-nothing_pending false xs e = absurd (cc)
+nothing_pending a0 a1 a2 = grind (arith, common_steps, nat_tests)
 
 module _ {D : Type 0} {g : Ghosts D} (old new : Engine D g) (s : ℕ) (before after : SessionState) (may : may_serve before ≡ true) where
   effect_is : (c : Choice) (m : State) → serve c m s before ≡ serve_front c.front c m s before
@@ -49,10 +30,7 @@ module _ {D : Type 0} {g : Ghosts D} (old new : Engine D g) (s : ℕ) (before af
 
   effects : (c : Choice) (m : State) (outcome : Outcome) → IsServed m s before.inbox c → StandsFor new (serve_front c.front c m s before).machine → after ≡ (serve_front c.front c m s before).now → outcome ≡ (serve_front c.front c m s before).outcome
       → HasEffect old new s c m before after outcome
-  effects c m outcome front stands now is =
-      let P : Effect → Type 0 = λ e. StandsFor new e.machine × (after ≡ e.now) × (outcome ≡ e.outcome) in
-      let all = subst P (sym (effect_is c m)) (stands, now, is) in
-      record { possible = λ _. front; engine = all.0; session = all.1; outcome_is = all.2 }
+  effects c m outcome front stands now is = grind (arith, common_steps, effect_is, nat_tests)
 
   standing : (n : SessionState) → after.inbox ≡ n.inbox → after.pending ≡ n.pending → after.status ≡ n.status → after ≡ n
   standing n inbox pending status = λ i. record { inbox = inbox i; pending = pending i; status = status i }
@@ -67,10 +45,7 @@ module _ {D : Type 0} {g : Ghosts D} (old new : Engine D g) (s : ℕ) (before af
     )
 
     pub more : IsFront before.inbox More → new ≡ old → out ≡ [] → after.inbox ≡ before.inbox → after.status ≡ before.status → ServesSession old new s before after OfIdle
-    more front same none inbox status = (
-      More,
-      λ m h. effects _ m OfIdle (front, λ wrong. absurd (cc)) (subst (λ (x : Engine D g). StandsFor x m) (sym same) h) (standing _ inbox (pending ∙ none ∙ sym (nothing_pending (is_open before.status) before.pending may)) status) refl,
-    )
+    more front same none inbox status = grind (arith, common_steps, effects, standing, nothing_pending, nat_tests)
 
     pub bad : IsFront before.inbox Bad → Aborts old new s → after.inbox ≡ [] → out ≡ reply_text bad_frame → after.status ≡ Ending → ServesSession old new s before after OfDone
     bad front a inbox text status = (Bad, λ m h. effects _ m OfDone (front, λ wrong. absurd (cc)) (a m h) (standing _ inbox (pending ∙ text) status) refl)

@@ -1,17 +1,17 @@
 -- Every state that a hub stands for is lawful.
-use Rattle.std.proofs.Common.{◌≡◌, ℕ, Bool, true, false, cond, not, List, [], ◌∷◌, ◌++◌, length, take, drop, Option, Some, None, IsTrue, refl, sym, ap, subst, ◌∙◌, nat_cmp, nat_le, nat_lt, if◌then◌else◌, append_assoc}
+use Rattle.std.proofs.lemmas.Grind.{common_steps}
+use Rattle.std.proofs.Common.{arith, ◌≡◌, ℕ, Bool, true, false, cond, not, List, [], ◌∷◌, ◌++◌, length, take, drop, Option, Some, None, IsTrue, refl, sym, ap, subst, ◌∙◌, nat_cmp, nat_le, nat_lt, if◌then◌else◌, append_assoc}
 use Rattle.std.specs.List.{AllByRecursion, flat_map}
-use Rattle.std.specs.declared.cmp.Ordering.TheVariants.{Less, Equal, Greater}
-use Rattle.std.specs.Ordering.{match_ordering}
 use Rattle.std.specs.Map.{lookup, remove_entry, set_value}
 use Rattle.std.specs.BTreeMap.{insert_entry, is_at}
 use Rattle.std.proofs.lemmas.List.{append-nil, take-append-drop}
 use Rattle.std.proofs.lemmas.List.Concat.{flat_map-append}
 use Rattle.model.specs.Map.{Bytes}
 use Rattle.model.specs.Operations.{Operation, Response}
-use Rattle.model.specs.Machine.{State, Input, Asks, Leaves as LeavesIt, next, state_after, IsReached, step, leave}
+use Rattle.model.specs.Machine.{State, Asks, Leaves as LeavesIt, IsReached, step, leave}
 use Rattle.model.specs.Grammar.{array_of_bulks}
 use Rattle.model.specs.ReplyText.{reply_text}
+use Rattle.engine.proofs.Steps.{reached_next}
 use Rattle.sessions.specs.declared.events.Outcome.{Outcome}
 use Rattle.sessions.specs.SessionStreams.{HubState, SessionState, SessionStream, HubEvent, Joins, Receives, Serves, Sends, Leaves, Front, Whole, More, Bad, Choice, Effect, IsFront, IsServed, IsPossible, IsServePossible, hub_step, stream_of, new_stream, room, is_open, is_above, may_serve, serve, serve_front, out_of_memory, broken_frame, served_with, no_effect, asks, bad_frame, replies_text, requests_text, receive, serve_session, send, depart, IsReachedHub, Begun, Continued}
 use Rattle.sessions.specs.Laws.{IsSessionStream}
@@ -71,20 +71,6 @@ moved h (Leaves s) c = parted (stream_of h s)
     parted None = Rests
     parted (Some st) = Lets s
 
-state_after-append : (m : State) (is js : List Input) → state_after m (is ++ js) ≡ state_after (state_after m is) js
-state_after-append m [] js = refl
-state_after-append m (i ∷ is) js = state_after-append (next m i) is js
-
-pub reached_next : (m : State) (i : Input) → IsReached m → IsReached (next m i)
-reached_next m i r = record {
-  contents = r.contents;
-  sectors_used = r.sectors_used;
-  sectors = r.sectors;
-  inputs = r.inputs ++ i ∷ [];
-  is_map = r.is_map;
-  is = ap (λ x. next x i) r.is ∙ sym (state_after-append _ r.inputs (i ∷ []));
-}
-
 pub reached_moved : (c : Choice) (m after : State) → IsReached m → Moved c m after → IsReached after
 reached_moved c m after r Rests = r
 reached_moved c m after r (Lets s) = reached_next m (LeavesIt s) r
@@ -117,12 +103,7 @@ module _ (t : ℕ → Bool) where
 
 all-insert : (s : ℕ) (st : SessionStream) (es : List (ℕ × SessionStream)) → AllByRecursion (λ e. IsSessionStream e.1) es → IsSessionStream st → AllByRecursion (λ e. IsSessionStream e.1) (insert_entry nat_cmp es s st)
 all-insert s st [] a h = (h, tt)
-all-insert s st (x ∷ xs) a h =
-    elim (nat_cmp s x.0) as (λ o. AllByRecursion (λ e. IsSessionStream e.1) (match_ordering o ((s, st) ∷ x ∷ xs) ((x.0, st) ∷ xs) (x ∷ insert_entry nat_cmp xs s st))) [
-      | Less ↦ (h, a)
-      | Equal ↦ (h, a.1)
-      | Greater ↦ (a.0, all-insert s st xs a.1 h)
-    ]
+all-insert s st (x ∷ xs) a h = grind (arith, common_steps, all-insert s st xs a.1 h)
 
 all-append : (es : List (ℕ × SessionStream)) (e : ℕ × SessionStream) → AllByRecursion (λ e. IsSessionStream e.1) es → IsSessionStream e.1 → AllByRecursion (λ e. IsSessionStream e.1) (es ++ e ∷ [])
 all-append [] e a h = (h, tt)
@@ -136,20 +117,10 @@ fresh : IsSessionStream new_stream
 fresh = record { rest = []; input = refl; inbox = λ _. refl; output = refl }
 
 brought_more : (st : SessionStream) (piece : Bytes) → IsSessionStream st → IsSessionStream (record st { now = record { inbox = st.now.inbox ++ piece; pending = st.now.pending; status = st.now.status }; received = st.received ++ piece })
-brought_more st piece h = record {
-  rest = h.rest ++ piece;
-  input = ap (λ xs. xs ++ piece) h.input ∙ append_assoc (requests_text st) h.rest piece;
-  inbox = λ opened. ap (λ xs. xs ++ piece) (h.inbox opened);
-  output = h.output;
-}
+brought_more st piece h = grind (arith, common_steps, append_assoc)
 
 sent_some : (st : SessionStream) (n : ℕ) → IsSessionStream st → IsSessionStream (record st { now = record { inbox = st.now.inbox; pending = drop n st.now.pending; status = st.now.status }; sent = st.sent ++ take n st.now.pending })
-sent_some st n h = record {
-  rest = h.rest;
-  input = h.input;
-  inbox = h.inbox;
-  output = h.output ∙ ap (λ xs. st.sent ++ xs) (sym (take-append-drop n st.now.pending)) ∙ sym (append_assoc st.sent (take n st.now.pending) (drop n st.now.pending));
-}
+sent_some st n h = grind (arith, common_steps, take-append-drop, append_assoc)
 
 flat_map-push : {A : Type 0} (f : A → Bytes) (xs : List A) (x : A) → flat_map f (xs ++ x ∷ []) ≡ flat_map f xs ++ f x
 flat_map-push f xs x = flat_map-append f xs (x ∷ []) ∙ ap (λ ys. flat_map f xs ++ ys) (append-nil (f x))
@@ -159,12 +130,7 @@ after_effect st e = record st { now = e.now; served = st.served ++ e.served; rep
 
 module _ (st : SessionStream) (h : IsSessionStream st) (c : Choice) (m : State) (s : ℕ) where
   idle : IsSessionStream (after_effect st (no_effect m st.now))
-  idle = record {
-    rest = h.rest;
-    input = h.input ∙ ap (λ xs. flat_map array_of_bulks xs ++ h.rest) (sym (append-nil st.served));
-    inbox = h.inbox;
-    output = ap (flat_map reply_text) (append-nil st.replies) ∙ h.output;
-  }
+  idle = grind (arith, common_steps, append-nil)
 
   module _ (may : may_serve st.now ≡ true) where
     all_sent : replies_text st ≡ st.sent
@@ -218,25 +184,16 @@ streams_step h (Receives s piece) c possible a = brought (stream_of h s) refl
   where
     brought : (o : Option SessionStream) → stream_of h s ≡ o → AreStreams (receive o h s piece).0
     brought None e = a
-    brought (Some st) e =
-        let P : HubState × Outcome → Type 0 = λ r. AreStreams r.0 in
-        let old = all-lookup (is_at (nat_cmp s)) h.present st a.present e in
-        by_if P (not (is_open st.now.status)) _ _ a (by_if P (nat_lt (room st.now) (length piece)) _ _ a (record { present = all-set (is_at (nat_cmp s)) h.present _ a.present (brought_more st piece old); gone = a.gone }))
+    brought (Some st) e = grind (arith, common_steps, all-lookup, by_if, nat_lt, all-set, brought_more)
 streams_step h (Serves s) c possible a = answered (stream_of h s) refl possible
   where
     answered : (o : Option SessionStream) → stream_of h s ≡ o → IsServePossible h.machine s o c → AreStreams (serve_session o h s c).0
-    answered None e n = a
-    answered (Some st) e n =
-        let old = all-lookup (is_at (nat_cmp s)) h.present st a.present e in
-        record { present = all-set (is_at (nat_cmp s)) h.present _ a.present (serving st old c h.machine s n); gone = a.gone }
+    answered a0 a1 a2 = grind (arith, common_steps, all-lookup, all-set, serving)
 streams_step h (Sends s n) c possible a = sent (stream_of h s) refl
   where
     sent : (o : Option SessionStream) → stream_of h s ≡ o → AreStreams (send o h s n).0
     sent None e = a
-    sent (Some st) e =
-        let P : HubState × Outcome → Type 0 = λ r. AreStreams r.0 in
-        let old = all-lookup (is_at (nat_cmp s)) h.present st a.present e in
-        by_if P (nat_le n (length st.now.pending)) _ _ (record { present = all-set (is_at (nat_cmp s)) h.present _ a.present (sent_some st n old); gone = a.gone }) a
+    sent (Some st) e = grind (arith, common_steps, all-lookup, by_if, nat_le, all-set, sent_some)
 streams_step h (Leaves s) c possible a = parted (stream_of h s) refl
   where
     parted : (o : Option SessionStream) → stream_of h s ≡ o → AreStreams (depart o h s).0

@@ -1,5 +1,5 @@
 use Rattle.std.proofs.Common.{◌<◌, ◌++◌, ◌∷◌, [], List, ℕ, length, ap, ◌∙◌, arith}
-use Rattle.scripts.proofs.Lent.{lent_more}
+use Rattle.resp.proofs.Lent.{lent_more}
 use Rattle.scripts.proofs.lines.Words.add.Goals as goal
 
 pub returns-clause-added : goal.returns-clause-added

@@ -2,7 +2,8 @@ use Rattle.std.proofs.Common.{◌≤◌, List, ℕ, length, map, ap, subst, arit
 use Rattle.std.proofs.lemmas.List.{length-take}
 use Rattle.model.specs.Grammar.{array_of_bulks}
 use Rattle.resp.specs.Writing.{Appends}
-use Rattle.scripts.proofs.Lent.{lent, parts_behind}
+use Rattle.resp.proofs.Lent.{lent}
+use Rattle.scripts.proofs.Lent.{parts_behind}
 use Rattle.scripts.proofs.lines.Words.write_frame.Goals as goal
 
 pub returns : goal.returns
