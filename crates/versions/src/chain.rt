@@ -245,6 +245,7 @@ fn grown(alloc: Global, newest: Version) -> (Kept, Result<(), AllocError>)
     ensures newest { (kept_chain result.0).newest ≡ newest }
     ensures made { OnOk result.1 (0 < (kept_chain result.0).room) }
 {
+    // Most keys never have more than one older version, so the first takes no room to spare.
     let mut older = Vec::new(alloc);
     match older.reserve_exact(1) {
         Ok(()) => {}

@@ -90,12 +90,7 @@ impl Several {
         ensures made { OnOk result (0 < self.new.room) }
         ensures known { 0 < self.old.room → IsOk result }
     {
-        // Most keys never have more than one older version, so the first takes no room to spare.
-        if self.older.capacity() == 0 {
-            self.older.reserve_exact(1)
-        } else {
-            self.older.reserve(1)
-        }
+        self.older.reserve(1)
     }
 
     // Adds a version in the room that was made for it.
