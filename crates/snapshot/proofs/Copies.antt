@@ -1,11 +1,12 @@
 -- A transaction's writes and marks against its private copy.
-use Rattle.std.proofs.Common.{◌≡◌, ◌≢◌, ℕ, suc, Bool, true, false, T, not, cond, ◌&&◌, ◌||◌, List, [], ◌∷◌, ◌++◌, length, Option, Some, None, Result, Ok, Err, refl, sym, ap, subst, ◌∙◌, arith, inl, inr}
-use Rattle.std.specs.Prelude.{nat_lt, is_some, IsTrue, ◌↔◌, option_copied, if◌then◌else◌}
+use Rattle.std.proofs.lemmas.Grind.{common_steps}
+use Rattle.std.proofs.Common.{◌≡◌, ◌≢◌, ℕ, suc, Bool, true, false, T, cond, ◌||◌, List, [], ◌∷◌, ◌++◌, length, Option, Some, None, Result, Ok, Err, refl, sym, ap, subst, ◌∙◌, arith, inl, inr}
+use Rattle.std.specs.Prelude.{is_some, IsTrue, ◌↔◌, option_copied, if◌then◌else◌}
 use Rattle.std.specs.Borrow.{Bor}
 use Rattle.std.specs.List.{AllByRecursion, list_any}
 use Rattle.std.specs.BTreeSet.{insert_key}
 use Rattle.std.specs.declared.cmp.Ordering.TheVariants.{Less, Equal, Greater}
-use Rattle.std.specs.Ordering.{is_eq, nat_cmp, match_ordering}
+use Rattle.std.specs.Ordering.{is_eq, nat_cmp}
 use Rattle.std.specs.Cmp.Lexicographic.{slice_cmp, nat_list_cmp_total}
 use Rattle.std.specs.FinMap.Entries.{put, is_sorted, below_all, by_order, find-put, is_sorted-put}
 use Rattle.std.proofs.lemmas.Bool.{both_ways, cases_Bool, not-true, not-false}
@@ -19,7 +20,7 @@ use Rattle.model.specs.PrivateCopy.Mark.{OfKey}
 use Rattle.model.proofs.InOrder.{parts, less, below_later, find_none}
 use Rattle.model.proofs.Lookups.{same_key, same_key_comm, same_key_itself, same_map, value_after_write, IsMap-after_write, IsMap-after_writes}
 use Rattle.model.proofs.Steps.{copy_after-push}
-use Rattle.marks.specs.Marked.{has_mark, is_full_for}
+use Rattle.marks.specs.Marked.{is_full_for}
 use Rattle.write_buffer.specs.Buffered as buffer
 use Rattle.write_buffer.specs.Buffered.{AreEntries, written, with_write}
 use Rattle.snapshot.specs.declared.faults.SnapshotFault.{SnapshotFault}
@@ -55,11 +56,7 @@ length-keys_of (w ∷ ws) = ap (λ n. suc n) (length-keys_of ws)
 
 keys-put : (k : Bytes) (v : Option Bytes) (ws : List KeyWrite) → keys_of (put (slice_cmp nat_cmp) k v ws) ≡ insert_key (slice_cmp nat_cmp) (keys_of ws) k
 keys-put k v [] = refl
-keys-put k v (w ∷ ws) = elim (key_cmp k w.0) as (λ o. keys_of (by_order o ((k, v) ∷ w ∷ ws) ((w.0, v) ∷ ws) (w ∷ put (slice_cmp nat_cmp) k v ws)) ≡ match_ordering o (k ∷ w.0 ∷ keys_of ws) (w.0 ∷ keys_of ws) (w.0 ∷ insert_key (slice_cmp nat_cmp) (keys_of ws) k)) [
-  | Less ↦ refl
-  | Equal ↦ refl
-  | Greater ↦ ap (λ l. w.0 ∷ l) (keys-put k v ws)
-]
+keys-put k v (w ∷ ws) = grind (arith, common_steps, keys-put k v ws)
 
 keys-put_same : (k : Bytes) (v : Option Bytes) (ws : List KeyWrite) → T (is_sorted (slice_cmp nat_cmp) ws) → is_some (written ws k) ≡ true → keys_of (put (slice_cmp nat_cmp) k v ws) ≡ keys_of ws
 keys-put_same k v [] h e = absurd (both_ways _ refl e)
@@ -84,32 +81,13 @@ contents-put m k v ws h s = same_map (after_writes m (put (slice_cmp nat_cmp) k 
     ∙ ap (cond (is_same_key q k) v) (sym (value_held ws m q s))
     ∙ sym (value_after_write (after_writes m ws) k v q))
 
--- ---- what a read, a read of a key and a write give, by what is there and what fits
-
-abbrev pub read_out : View → KeyMap → Mark → Response → Bool → Bool → Response × PrivateCopy
-read_out t m mark response there few = if there then (response, copy_held t m) else (if few then (response, record (copy_held t m) { marks = t.marks ++ mark ∷ [] }) else (Refused refusal.FullMarks, copy_held t m))
-
-abbrev pub get_out : View → KeyMap → Bytes → Bool → Response × PrivateCopy
-get_out t m k there = if there then (Value (value_at (after_writes m t.writes) k), copy_held t m) else after_read (copy_held t m) (OfKey k) (Value (value_at (after_writes m t.writes) k))
-
-abbrev pub put_out : View → KeyMap → Bytes → Option Bytes → Bool → Bool → Response × PrivateCopy
-put_out t m k v there few = if there then (Done, record (copy_held t m) { contents = after_write (after_writes m t.writes) k v }) else (if few then (Done, record (copy_held t m) { contents = after_write (after_writes m t.writes) k v; written = insert_key (slice_cmp nat_cmp) (keys_of t.writes) k }) else (Refused refusal.FullWrites, copy_held t m))
-
 -- ---- a mark
 
 pub marked_as : (t : View) (m : KeyMap) (mark : Mark) (response : Response) → is_full_for t.marks mark ≡ false → after_read (copy_held t m) mark response ≡ (response, copy_held (marked t mark) m)
-marked_as t m mark response e = elim (has_mark t.marks mark) as (λ b. (not b && not (nat_lt (length t.marks) 256)) ≡ false →
-    ◌≡◌ {A = Response × PrivateCopy} (read_out t m mark response b (nat_lt (length t.marks) 256)) (response, record { contents = after_writes m t.writes; written = keys_of t.writes; marks = if b then t.marks else t.marks ++ mark ∷ [] })) [
-      | true ↦ λ f. refl
-      | false ↦ λ f. ap (λ (b : Bool). read_out t m mark response false b) (not-false (nat_lt (length t.marks) 256) f)
-    ] e
+marked_as t m mark response e = grind (arith, common_steps, not-false)
 
 pub refused_as : (t : View) (m : KeyMap) (mark : Mark) (response : Response) → is_full_for t.marks mark ≡ true → (after_read (copy_held t m) mark response).0 ≡ Refused refusal.FullMarks
-refused_as t m mark response e = elim (has_mark t.marks mark) as (λ b. (not b && not (nat_lt (length t.marks) 256)) ≡ true →
-    (read_out t m mark response b (nat_lt (length t.marks) 256)).0 ≡ Refused refusal.FullMarks) [
-      | true ↦ λ f. absurd (both_ways false refl f)
-      | false ↦ λ f. ap (λ (b : Bool). (read_out t m mark response false b).0) (not-true (nat_lt (length t.marks) 256) f)
-    ] e
+refused_as t m mark response e = grind (arith, common_steps, both_ways, not-true)
 
 -- ---- a read of a key
 
@@ -122,47 +100,19 @@ module _ (t : View) (m : KeyMap) (k : Bytes) (h : AreEntries t.writes) where
   marking response e = marked_as t m (OfKey k) response e
 
   pub respond-get : is_full_get t k ≡ false → respond (copy_held t m) (Get k) ≡ (Value (value_read t m k), copy_held (after_get t k) m)
-  respond-get e =
-      ap (λ (b : Bool). get_out t m k b) (any_keys k t.writes)
-      ∙ elim (is_some (written t.writes k)) as (λ b. (not b && is_full_for t.marks (OfKey k)) ≡ false →
-      ◌≡◌ {A = Response × PrivateCopy} (get_out t m k b) (Value (value_at (after_writes m t.writes) k), copy_held (if b then t else marked t (OfKey k)) m)) [
-        | true ↦ λ f. refl
-        | false ↦ λ f. marking (Value (value_at (after_writes m t.writes) k)) f
-      ] e
-      ∙ ap (λ (v : Option Bytes). (Value v, copy_held (after_get t k) m)) value_is
+  respond-get e = grind (arith, common_steps, any_keys, marking, value_is)
 
   pub respond-get_full : is_full_get t k ≡ true → (respond (copy_held t m) (Get k)).0 ≡ Refused refusal.FullMarks
-  respond-get_full e =
-      ap (λ (b : Bool). (get_out t m k b).0) (any_keys k t.writes)
-      ∙ elim (is_some (written t.writes k)) as (λ b. (not b && is_full_for t.marks (OfKey k)) ≡ true → (get_out t m k b).0 ≡ Refused refusal.FullMarks) [
-        | true ↦ λ f. absurd (both_ways false refl f)
-        | false ↦ λ f. refused_as t m (OfKey k) (Value (value_at (after_writes m t.writes) k)) f
-      ] e
+  respond-get_full e = grind (arith, common_steps, any_keys, both_ways, refused_as)
 
 -- ---- a write of a key
 
 module _ (t : View) (m : KeyMap) (k : Bytes) (v : Option Bytes) (h : AreEntries t.writes) where
   pub respond-put : IsMap m → buffer.is_full_for t.writes k ≡ false → copy_put (copy_held t m) k v ≡ (Done, copy_held (after_put t k v) m)
-  respond-put is_map e =
-      let contents = contents-put m k v t.writes is_map h.sorted in
-      ap (λ (b : Bool). put_out t m k v b (nat_lt (length (keys_of t.writes)) 64)) (any_keys k t.writes)
-      ∙ elim (is_some (written t.writes k)) as (λ b. is_some (written t.writes k) ≡ b → (not b && not (nat_lt (length t.writes) 64)) ≡ false →
-      ◌≡◌ {A = Response × PrivateCopy} (put_out t m k v b (nat_lt (length (keys_of t.writes)) 64)) (Done, copy_held (after_put t k v) m)) [
-        | true ↦ λ w f. λ i. (Done, record { contents = sym contents i; written = sym (keys-put_same k v t.writes h.sorted w) i; marks = t.marks })
-        | false ↦ λ w f. ap (λ (b : Bool). put_out t m k v false b)
-            (ap (λ n. nat_lt n 64) (length-keys_of t.writes) ∙ not-false (nat_lt (length t.writes) 64) f)
-            ∙ λ i. (Done, record { contents = sym contents i; written = sym (keys-put k v t.writes) i; marks = t.marks })
-      ] refl e
+  respond-put is_map e = grind (arith, common_steps, contents-put, any_keys, keys-put_same, length-keys_of, not-false, keys-put)
 
   pub respond-put_full : buffer.is_full_for t.writes k ≡ true → (copy_put (copy_held t m) k v).0 ≡ Refused refusal.FullWrites
-  respond-put_full e =
-      ap (λ (b : Bool). (put_out t m k v b (nat_lt (length (keys_of t.writes)) 64)).0) (any_keys k t.writes)
-      ∙ elim (is_some (written t.writes k)) as (λ b. (not b && not (nat_lt (length t.writes) 64)) ≡ true →
-      (put_out t m k v b (nat_lt (length (keys_of t.writes)) 64)).0 ≡ Refused refusal.FullWrites) [
-        | true ↦ λ f. absurd (both_ways false refl f)
-        | false ↦ λ f. ap (λ (b : Bool). (put_out t m k v false b).0)
-            (ap (λ n. nat_lt n 64) (length-keys_of t.writes) ∙ not-true (nat_lt (length t.writes) 64) f)
-      ] e
+  respond-put_full e = grind (arith, common_steps, any_keys, both_ways, length-keys_of, not-true)
 
 -- ---- what the calls answer, after own requests
 
@@ -171,12 +121,7 @@ answer_held t m qs q h = ap (λ c. (respond c q).0) (sym h.copy)
 
 -- the fault of a read is the response, or memory was refused
 pub read_fault : (e : SnapshotFault) (full : Bool) (response : Response) → e ≢ FullWrites → (◌≡◌ {A = SnapshotFault} e FullMarks ↔ IsTrue full) → (full ≡ true → response ≡ Refused refusal.FullMarks) → (full ≡ false → is_refused response ≡ false) → IsFault e response
-read_fault FullWrites full response never iff fails other = absurd (never refl)
-read_fault FullMarks full response never iff fails other = fails (iff.0 refl)
-read_fault Memory full response never iff fails other = elim (cases_Bool full) [ inl t ↦ absurd (apart (iff.1 t)) | inr f ↦ other f ]
-  where
-    apart : ◌≡◌ {A = SnapshotFault} Memory FullMarks → ⊥
-    apart e = cc
+read_fault a0 a1 a2 a3 a4 a5 a6 = grind (arith, common_steps, cases_Bool)
 
 pub get-made : (t : View) (m : KeyMap) (qs : List Operation) (k : Bytes) → is_full_get t k ≡ false → HasMade t m qs → HasMade (after_get t k) m (qs ++ Get k ∷ [])
 get-made t m qs k e h = record {
@@ -239,19 +184,13 @@ room_after : (r : Result (Unit {0}) faults.WritesFault) (b : Bool) → ((r ≡ E
 room_after r b iff other = elim (cases_Bool b) [ inl t ↦ absurd (other (iff.1 t)) | inr f ↦ f ]
 
 pub write-reply : (r : Result (Unit {0}) faults.WritesFault) (t : View) (new : List KeyWrite) (m : KeyMap) (qs : List Operation) (k : Bytes) (v : Option Bytes) → Answered r t.writes new k v → HasMade t m qs → IsDoneReply (as_fault r) (answer m qs (write_of k v))
-write-reply (Ok x) t new m qs k v a h = put-done t m qs k v (room_after (Ok x) _ a.full (λ e. cc)) h
-write-reply (Err writes_fault.FullWrites) t new m qs k v a h = put-refused t m qs k v (a.full.0 refl) h
-write-reply (Err writes_fault.Memory) t new m qs k v a h = put-granted t m qs k v (room_after (Err writes_fault.Memory) _ a.full (λ e. cc)) h
+write-reply a0 a1 a2 a3 a4 a5 a6 a7 a8 = grind (arith, common_steps, put-done, room_after, put-refused, put-granted)
 
 pub write-made : (r : Result (Unit {0}) faults.WritesFault) (t : View) (new : List KeyWrite) (k : Bytes) (v : Option Bytes) → Answered r t.writes new k v → OnOk (as_fault r) (MakesOneMore t (record t { writes = new }) (write_of k v))
-write-made (Ok x) t new k v a = λ m qs h. subst (λ ws. HasMade (record t { writes = ws }) m (qs ++ write_of k v ∷ [])) (sym a.ok) (put-made t m qs k v (subst AreEntries a.ok a.entries) (room_after (Ok x) _ a.full (λ e. cc)) h)
-write-made (Err writes_fault.FullWrites) t new k v a = tt
-write-made (Err writes_fault.Memory) t new k v a = tt
+write-made a0 a1 a2 a3 a4 a5 = grind (arith, common_steps, put-made, room_after)
 
 pub write-full : (r : Result (Unit {0}) faults.WritesFault) (old new : List KeyWrite) (k : Bytes) (v : Option Bytes) → Answered r old new k v → (as_fault r ≡ Err FullWrites) ↔ IsTrue (buffer.is_full_for old k)
-write-full (Ok x) old new k v a = (λ e. cc, λ t. (let e : ◌≡◌ {A = Result (Unit {0}) faults.WritesFault} (Ok x) (Err writes_fault.FullWrites) = a.full.1 t in cc))
-write-full (Err writes_fault.FullWrites) old new k v a = (λ e. a.full.0 refl, λ t. refl)
-write-full (Err writes_fault.Memory) old new k v a = (λ e. cc, λ t. (let e : ◌≡◌ {A = Result (Unit {0}) faults.WritesFault} (Err writes_fault.Memory) (Err writes_fault.FullWrites) = a.full.1 t in cc))
+write-full a0 a1 a2 a3 a4 a5 = grind (arith, common_steps)
 
 -- the mark of a read changes no answer
 pub read-after_get : (t u : View) (v : ChainsValue) (k : Bytes) → u ≡ after_get t k → value_read u (map_seen v u.begin) k ≡ value_read t (map_seen v t.begin) k

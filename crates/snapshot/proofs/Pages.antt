@@ -1,10 +1,10 @@
 -- The first pairs of a range, and the last of their keys.
+use Rattle.std.proofs.lemmas.Grind.{common_steps}
 use Rattle.std.proofs.Common.{◌≡◌, ℕ, zero, suc, ◌+◌, ◌<◌, ◌≤◌, Bool, true, false, cond, List, [], ◌∷◌, length, take, drop, Option, Some, None, refl, sym, ap, ◌∙◌, arith, add-one, eqb}
 use Rattle.std.specs.List.{AllByRecursion}
-use Rattle.std.specs.declared.cmp.Ordering.TheVariants.{Less, Equal, Greater}
 use Rattle.std.specs.Ordering.{is_le, nat_cmp}
 use Rattle.std.specs.Cmp.Lexicographic.{slice_cmp}
-use Rattle.std.specs.FinMap.Entries.{by_order, where_key}
+use Rattle.std.specs.FinMap.Entries.{where_key}
 use Rattle.std.proofs.lemmas.Bool.{and_parts, eqb-true}
 use Rattle.model.specs.Map.{Bytes, KeyMap, KeyWrite, key_cmp, is_in_range, is_below, pairs_in_range}
 use Rattle.model.specs.PrivateCopy.{last_key, page_end}
@@ -38,14 +38,12 @@ none_left (x ∷ xs) zero h = let no : ◌≡◌ {A = KeyMap} (x ∷ xs) [] = h 
 none_left (x ∷ xs) (suc n) h = let inner = none_left xs n h in omega (arith, inner)
 
 pub taken_length : (n : ℕ) (xs : KeyMap) → take (length (take n xs)) xs ≡ take n xs
-taken_length zero xs = refl
-taken_length (suc n) [] = refl
 taken_length (suc n) (x ∷ xs) = ap (λ l. x ∷ l) (taken_length n xs)
+taken_length b0 b1 = refl
 
 pub taken_within : (n : ℕ) (xs : KeyMap) → length (take n xs) ≤ length xs
-taken_within zero xs = omega arith
-taken_within (suc n) [] = omega arith
 taken_within (suc n) (x ∷ xs) = let inner = taken_within n xs in omega (arith, inner)
+taken_within b0 b1 = omega arith
 
 -- ---- the keys of a range's pairs lie in it
 
@@ -55,10 +53,7 @@ HaveKeys p es = AllByRecursion (λ e. p e.0 ≡ true) es
 module _ (p : Bytes → Bool) where
   keys_where : {V : Type 0} (es : List (Bytes × V)) → AllByRecursion (λ e. p e.0 ≡ true) (where_key (slice_cmp nat_cmp) p es)
   keys_where [] = tt
-  keys_where {V} (e ∷ es) = elim (p e.0) as (λ b. p e.0 ≡ b → AllByRecursion (λ e. p e.0 ≡ true) (cond b (e ∷ where_key (slice_cmp nat_cmp) p es) (where_key (slice_cmp nat_cmp) p es))) [
-    | true ↦ λ h. (h, keys_where es)
-    | false ↦ λ h. keys_where es
-  ] refl
+  keys_where {V} (e ∷ es) = grind (arith, common_steps, keys_where es)
 
   keys-with_value : (k : Bytes) (v : Option Bytes) (es : KeyMap) → p k ≡ true → HaveKeys p es → HaveKeys p (with_value k v es)
   keys-with_value k None es h g = g
@@ -66,20 +61,15 @@ module _ (p : Bytes → Bool) where
 
   keys-merged_one : (w : KeyWrite) (f : KeyMap → KeyMap) → p w.0 ≡ true → ((es : KeyMap) → HaveKeys p es → HaveKeys p (f es)) → (es : KeyMap) → HaveKeys p es → HaveKeys p (merged_one w f es)
   keys-merged_one w f h keeps [] g = keys-with_value w.0 w.1 (f []) h (keeps [] tt)
-  keys-merged_one w f h keeps (e ∷ es) g = elim (key_cmp w.0 e.0) as (λ o. HaveKeys p (by_order o (with_value w.0 w.1 (f (e ∷ es))) (with_value w.0 w.1 (f es)) (e ∷ merged_one w f es))) [
-    | Less ↦ keys-with_value w.0 w.1 (f (e ∷ es)) h (keeps (e ∷ es) g)
-    | Equal ↦ keys-with_value w.0 w.1 (f es) h (keeps es g.1)
-    | Greater ↦ (g.0, keys-merged_one w f h keeps es g.1)
-  ]
+  keys-merged_one w f h keeps (e ∷ es) g = grind (arith, common_steps, keys-with_value, keys-merged_one w f h keeps es g.1)
 
   keys-merged : (ws : List KeyWrite) (es : KeyMap) → AllByRecursion (λ w. p w.0 ≡ true) ws → HaveKeys p es → HaveKeys p (merged ws es)
   keys-merged [] es h g = g
   keys-merged (w ∷ ws) es h g = keys-merged_one w (merged ws) h.0 (λ fs k. keys-merged ws fs h.1 k) es g
 
   keys-taken : (n : ℕ) (es : KeyMap) → HaveKeys p es → HaveKeys p (take n es)
-  keys-taken zero es h = tt
-  keys-taken (suc n) [] h = tt
   keys-taken (suc n) (e ∷ es) h = (h.0, keys-taken n es h.1)
+  keys-taken b0 b1 h = tt
 
   last_has : (es : KeyMap) (k : Bytes) → HaveKeys p es → last_key es ≡ Some k → p k ≡ true
   last_has [] k h e = cc
@@ -109,14 +99,4 @@ all_taken (suc n) [] h = refl
 all_taken (suc n) (x ∷ xs) h = ap (λ l. x ∷ l) (all_taken n xs (omega arith))
 
 pub short_page : (n limit : ℕ) (all : KeyMap) → drop n all ≡ [] → n ≤ length all → n < limit → IsShort n limit all
-short_page n limit all none within less =
-    let most = none_left all n none in
-    let whole = all_taken limit all (omega arith) in
-    let many : n ≡ length (take limit all) = omega (arith, ap length whole) in
-    record { many = many; ends = sym (open_end (length (take limit all)) (last_key (take limit all)) (omega arith)) }
-  where
-    open_end : (k : ℕ) (o : Option Bytes) → k < limit → cond (eqb k limit) o None ≡ None
-    open_end k o h = elim (eqb k limit) as (λ b. eqb k limit ≡ b → cond b o None ≡ None) [
-      | true ↦ λ e. absurd (omega (arith, eqb-true k limit e))
-      | false ↦ λ e. refl
-    ] refl
+short_page n limit all none within less = grind (arith, common_steps, none_left, all_taken, eqb-true)

@@ -1,5 +1,6 @@
 -- A read of a range against the private copy.
-use Rattle.std.proofs.Common.{◌≡◌, ◌≢◌, ℕ, zero, suc, Bool, true, false, not, cond, ◌&&◌, ◌||◌, List, [], ◌∷◌, ◌++◌, take, Option, Some, None, refl, sym, ap, subst, ◌∙◌}
+use Rattle.std.proofs.lemmas.Grind.{common_steps}
+use Rattle.std.proofs.Common.{arith, ◌≡◌, ◌≢◌, ℕ, zero, suc, true, false, not, cond, ◌&&◌, ◌||◌, List, [], ◌∷◌, ◌++◌, take, Option, Some, None, refl, sym, ap, subst, ◌∙◌}
 use Rattle.std.specs.Prelude.{IsTrue, ◌↔◌, if◌then◌else◌}
 use Rattle.std.specs.declared.cmp.Ordering.TheVariants.{Less, Equal, Greater}
 use Rattle.std.specs.Ordering.{is_lt, is_le, nat_cmp}
@@ -12,7 +13,7 @@ use Rattle.model.specs.Map.{Bytes, KeyMap, KeyWrite, IsMap, key_cmp, after_write
 use Rattle.model.specs.Operations.{Operation, Response}
 use Rattle.model.specs.Operations.Operation.{Range}
 use Rattle.model.specs.Operations.Response.{Pairs, Refused}
-use Rattle.model.specs.PrivateCopy.{Mark, PrivateCopy, page_end, copy_of, copy_after, respond, answer, after_read, mark_of_reply}
+use Rattle.model.specs.PrivateCopy.{Mark, PrivateCopy, page_end, copy_of, copy_after, respond, answer, mark_of_reply}
 use Rattle.model.proofs.Steps.{copy_after-push}
 use Rattle.marks.specs.Marked.{has_mark, is_full_for, with_mark}
 use Rattle.write_buffer.specs.Buffered.{AreEntries}
@@ -54,29 +55,15 @@ take_none : (n : ℕ) → ◌≡◌ {A = KeyMap} (take n []) []
 take_none zero = refl
 take_none (suc n) = refl
 
-abbrev pub range_out : View → KeyMap → Bytes → Option Bytes → ℕ → Bool → KeyMap → Response × PrivateCopy
-range_out t m lo hi limit empty ps = if empty then (Pairs [], copy_held t m) else after_read (copy_held t m) (mark_of_reply lo hi limit ps) (Pairs ps)
-
 module _ (t : View) (m : KeyMap) (lo : Bytes) (hi : Option Bytes) (limit : ℕ) (h : AreEntries t.writes) (is_map : IsMap m) where
   pub rows_are : rows_of t m lo hi limit ≡ take limit (pairs_in_range (after_writes m t.writes) lo hi)
   rows_are = ap (take limit) (merged-range m t.writes lo hi is_map h.sorted)
 
   pub respond-range : is_full_range t m lo hi limit ≡ false → respond (copy_held t m) (Range lo hi limit) ≡ (Pairs (rows_of t m lo hi limit), copy_held (after_range t m lo hi limit) m)
-  respond-range e =
-      ap (range_out t m lo hi limit (is_empty_range lo hi)) (sym rows_are)
-      ∙ elim (is_empty_range lo hi) as (λ b. is_empty_range lo hi ≡ b → (not b && is_full_for t.marks (mark_of_rows t m lo hi limit)) ≡ false →
-      ◌≡◌ {A = Response × PrivateCopy} (range_out t m lo hi limit b (rows_of t m lo hi limit)) (Pairs (rows_of t m lo hi limit), copy_held (if b then t else marked t (mark_of_rows t m lo hi limit)) m)) [
-        | true ↦ λ empty f. ap (λ (ps : KeyMap). (Pairs ps, copy_held t m)) (sym (rows_are ∙ ap (take limit) (no_pairs lo hi (after_writes m t.writes) empty) ∙ take_none limit))
-        | false ↦ λ some f. marked_as t m (mark_of_rows t m lo hi limit) (Pairs (rows_of t m lo hi limit)) f
-      ] refl e
+  respond-range e = grind (arith, common_steps, rows_are, no_pairs, take_none, marked_as)
 
   pub respond-range_full : is_full_range t m lo hi limit ≡ true → (respond (copy_held t m) (Range lo hi limit)).0 ≡ Refused refusal.FullMarks
-  respond-range_full e =
-      ap (λ (ps : KeyMap). (range_out t m lo hi limit (is_empty_range lo hi) ps).0) (sym rows_are)
-      ∙ elim (is_empty_range lo hi) as (λ b. (not b && is_full_for t.marks (mark_of_rows t m lo hi limit)) ≡ true → (range_out t m lo hi limit b (rows_of t m lo hi limit)).0 ≡ Refused refusal.FullMarks) [
-        | true ↦ λ f. absurd (both_ways false refl f)
-        | false ↦ λ f. refused_as t m (mark_of_rows t m lo hi limit) (Pairs (rows_of t m lo hi limit)) f
-      ] e
+  respond-range_full e = grind (arith, common_steps, rows_are, both_ways, refused_as)
 
 module _ (t : View) (m : KeyMap) (lo : Bytes) (hi : Option Bytes) (limit : ℕ) where
   range-made : (qs : List Operation) → is_full_range t m lo hi limit ≡ false → HasMade t m qs → HasMade (after_range t m lo hi limit) m (qs ++ Range lo hi limit ∷ [])
