@@ -4,6 +4,7 @@ ghost use Rattle.std.specs.Io.{ReadsAtMost, WritesAtMost};
 
 use mio::net::TcpStream;
 use mio::{Interest, Poll, Token};
+use sector::Sectors;
 use std::io::{self, Read, Write};
 use std::net::Shutdown;
 
@@ -42,12 +43,14 @@ impl CountedSocket {
         self.stream.read(into)
     }
 
-    /// Writes some bytes from the front, and says how many. Answers the system's error. Takes no memory.
-    pub fn write(&mut self, from: &[u8]) -> io::Result<usize>
+    /// Writes some bytes from the front, and says how many. Answers the system's error. It is shown the device of the store, which can't
+    /// be copied: so this is how it stands as the bytes leave. Takes no memory.
+    pub fn write<D: Sectors>(&mut self, device: &D, from: &[u8]) -> io::Result<usize>
         ensures bound { WritesAtMost result from.now }
         ensures next { self.new ≡ next self.old }
-        ensures happened { WasSent self.old (take (moved result) from.now) }
+        ensures happened { WasSent self.old (take (moved result) from.now) (D.moment device.now) }
     {
+        let _ = device;
         self.count_call();
         self.stream.write(from)
     }
