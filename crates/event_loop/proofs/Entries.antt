@@ -245,8 +245,8 @@ module _ {T : Type 0} where
   over_gone entry Ready is e = absurd (let bad : false ≡ true = e in cc)
   over_gone entry EntryGone is e = is
 
-  module _ (tells : Type 0) (traffic : T → Traffic) (old new : List (Option (Entry (BufferedStream T)))) (ended : (key : ℕ) → EndsTurn tells traffic (slot_at old key) (slot_at new key)) where
-    ended_back : (slot after : Option (Entry (BufferedStream T))) (entry : Entry (BufferedStream T)) → EndsTurn tells traffic slot after → after ≡ Some entry → Before slot entry
+  module _ (tells : Type 0) (traffic : T → Traffic) (moment : ℕ) (old new : List (Option (Entry (BufferedStream T)))) (ended : (key : ℕ) → EndsTurn tells traffic moment (slot_at old key) (slot_at new key)) where
+    ended_back : (slot after : Option (Entry (BufferedStream T))) (entry : Entry (BufferedStream T)) → EndsTurn tells traffic moment slot after → after ≡ Some entry → Before slot entry
     ended_back None after entry none e = absurd (let bad : None ≡ Some entry = sym none ∙ e in cc)
     ended_back (Some was) after entry (mid, ends, is) e = over_back (is_over mid) was mid entry ends.session ends.state (sym is ∙ e)
 
@@ -259,7 +259,7 @@ module _ {T : Type 0} where
     pub ended_numbers : (next : ℕ) → AreBelow next old → AreBelow next new
     ended_numbers next numbers = remain_numbers next old new ended_remain numbers
 
-    ended_forth : (entry : Entry (BufferedStream T)) (after : Option (Entry (BufferedStream T))) (s : ℕ) → EndsTurn tells traffic (Some entry) after → entry.session ≡ s
+    ended_forth : (entry : Entry (BufferedStream T)) (after : Option (Entry (BufferedStream T))) (s : ℕ) → EndsTurn tells traffic moment (Some entry) after → entry.session ≡ s
         → ((x : Entry (BufferedStream T)) → after ≡ Some x → x.session ≡ s → x.state ≡ EntryGone) → entry.state ≡ EntryGone
     ended_forth entry after s (mid, ends, is) same without = by (is_over mid) refl
       where
@@ -269,4 +269,4 @@ module _ {T : Type 0} where
 
     pub ended_entries : {D : Type 0} {g : Ghosts D} (hub : Hub D g) → HaveEntries hub old → HaveEntries hub new
     ended_entries hub has = λ h stands s without. has h stands s (λ key entry e same.
-        ended_forth entry (slot_at new key) s (subst (λ slot. EndsTurn tells traffic slot (slot_at new key)) e (ended key)) same (λ x f. without key x f))
+        ended_forth entry (slot_at new key) s (subst (λ slot. EndsTurn tells traffic moment slot (slot_at new key)) e (ended key)) same (λ x f. without key x f))

@@ -4,6 +4,7 @@ use Rattle.std.specs.declared.time.Instant.{Instant}
 use Rattle.mio.specs.declared.event.event.Event.{Event}
 use Rattle.mio.specs.Events.{items}
 use Rattle.sector.specs.declared.device.Sectors.{Ghosts}
+use Rattle.sessions.specs.StandsFor.{device}
 use Rattle.stream_driver.specs.Buffers.{traffic_through}
 use Rattle.stream_driver.specs.Entries.{DrivenAll}
 use Rattle.stream_driver.specs.Sessions.{Adds, Leads, Point}
@@ -30,7 +31,7 @@ module _ {D : Type 0} {g : Ghosts D} (tells : Type 0) (traffic : Socket → Traf
   Drives poller = DrivesReady tells traffic (items poller.events) old.hub old.table.slots driven.hub driven.table.slots
 
   abbrev Linger : (poller : Poller) → Drives poller → Option Instant → Bool → Type 0
-  Linger poller drives now told = LingerOn now told drives.driven (lingerers_of old.lingering) driven.table.slots (lingerers_of driven.lingering)
+  Linger poller drives now told = LingerOn now (g.moment (device driven.hub)) told drives.driven (lingerers_of old.lingering) driven.table.slots (lingerers_of driven.lingering)
 
   abbrev IsRun : (poller : Poller) → Drives poller → (b : Bool) → Accepted b driven accepted → Type 0
   IsRun poller drives b accepts =

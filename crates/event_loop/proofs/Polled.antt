@@ -72,29 +72,29 @@ module _ {T : Type 0} where
   -- ---- the end of a turn
 
   -- the keys below this one were looked at
-  pub record EndedSoFar (tells : Type 0) (traffic : T → Traffic) (key : ℕ) (initial slots : List (Option (Entry (BufferedStream T)))) : Type 0 where
-    pub looked_at : (k : ℕ) → k < key → EndsTurn tells traffic (slot_at initial k) (slot_at slots k)
+  pub record EndedSoFar (tells : Type 0) (traffic : T → Traffic) (moment key : ℕ) (initial slots : List (Option (Entry (BufferedStream T)))) : Type 0 where
+    pub looked_at : (k : ℕ) → k < key → EndsTurn tells traffic moment (slot_at initial k) (slot_at slots k)
     pub rest : (k : ℕ) → key ≤ k → slot_at slots k ≡ slot_at initial k
 
-  module _ (tells : Type 0) (traffic : T → Traffic) (key : ℕ) (initial slots : List (Option (Entry (BufferedStream T)))) (before : EndedSoFar tells traffic key initial slots) where
+  module _ (tells : Type 0) (traffic : T → Traffic) (moment key : ℕ) (initial slots : List (Option (Entry (BufferedStream T)))) (before : EndedSoFar tells traffic moment key initial slots) where
     -- one more
-    pub ended_one : (new : List (Option (Entry (BufferedStream T)))) → EndsTurn tells traffic (slot_at slots key) (slot_at new key) → ((other : ℕ) → other ≢ key → slot_at new other ≡ slot_at slots other)
-        → EndedSoFar tells traffic (key + 1) initial new
+    pub ended_one : (new : List (Option (Entry (BufferedStream T)))) → EndsTurn tells traffic moment (slot_at slots key) (slot_at new key) → ((other : ℕ) → other ≢ key → slot_at new other ≡ slot_at slots other)
+        → EndedSoFar tells traffic moment (key + 1) initial new
     ended_one new this others = record {
       looked_at = λ k lt. elim (cases_eq k key) [
         | inl at ↦
-            subst (λ (n : ℕ). EndsTurn tells traffic (slot_at initial n) (slot_at new n)) (sym at)
-            (subst (λ slot. EndsTurn tells traffic slot (slot_at new key)) (before.rest key (omega arith)) this)
-        | inr differs ↦ subst (λ slot. EndsTurn tells traffic (slot_at initial k) slot) (sym (others k differs)) (before.looked_at k (omega arith))
+            subst (λ (n : ℕ). EndsTurn tells traffic moment (slot_at initial n) (slot_at new n)) (sym at)
+            (subst (λ slot. EndsTurn tells traffic moment slot (slot_at new key)) (before.rest key (omega arith)) this)
+        | inr differs ↦ subst (λ slot. EndsTurn tells traffic moment (slot_at initial k) slot) (sym (others k differs)) (before.looked_at k (omega arith))
       ];
       rest = λ k le. others k (omega arith) ∙ before.rest k (omega arith);
     }
 
-  module _ (tells : Type 0) (traffic : T → Traffic) (slots new : List (Option (Entry (BufferedStream T)))) (key : ℕ) where
-    pub ended_none : slot_at slots key ≡ None → slot_at new key ≡ None → EndsTurn tells traffic (slot_at slots key) (slot_at new key)
-    ended_none was is = subst (λ slot. EndsTurn tells traffic slot (slot_at new key)) (sym was) is
+  module _ (tells : Type 0) (traffic : T → Traffic) (moment : ℕ) (slots new : List (Option (Entry (BufferedStream T)))) (key : ℕ) where
+    pub ended_none : slot_at slots key ≡ None → slot_at new key ≡ None → EndsTurn tells traffic moment (slot_at slots key) (slot_at new key)
+    ended_none was is = subst (λ slot. EndsTurn tells traffic moment slot (slot_at new key)) (sym was) is
 
-    pub ended_some : (old entry : Entry (BufferedStream T)) → slot_at slots key ≡ Some old → EndsDrive tells traffic old entry → (over : Bool) → over ≡ is_over entry → slot_at new key ≡ cond over None (Some entry)
-        → EndsTurn tells traffic (slot_at slots key) (slot_at new key)
+    pub ended_some : (old entry : Entry (BufferedStream T)) → slot_at slots key ≡ Some old → EndsDrive tells traffic moment old entry → (over : Bool) → over ≡ is_over entry → slot_at new key ≡ cond over None (Some entry)
+        → EndsTurn tells traffic moment (slot_at slots key) (slot_at new key)
     ended_some old entry was ends over over_is is =
-        subst (λ slot. EndsTurn tells traffic slot (slot_at new key)) (sym was) (entry, ends, is ∙ ap (λ b. cond b None (Some entry)) over_is)
+        subst (λ slot. EndsTurn tells traffic moment slot (slot_at new key)) (sym was) (entry, ends, is ∙ ap (λ b. cond b None (Some entry)) over_is)

@@ -1,31 +1,61 @@
 -- One call of a socket, under the premise that sockets tell the bytes that they move.
-use Rattle.std.proofs.Common.{◌≡◌, ℕ, List, ◌++◌, take, Option, Result, Ok, Err, IfOk, IfSome, sym, ap, subst, ◌∙◌}
+use Rattle.std.proofs.Common.{◌≡◌, ℕ, List, [], ◌∷◌, ◌++◌, map, take, refl, Option, Result, Ok, Err, IfOk, IfSome, sym, ap, subst, ◌∙◌}
+use Rattle.std.proofs.lemmas.List.{append-nil, map-append}
 use Rattle.std.specs.Result.{result_ok}
-use Rattle.socket_calls.specs.OpenFacts.{given, moved, next, taken}
+use Rattle.socket_calls.specs.OpenFacts.{departed, given, latest, moved, next, taken}
 use Rattle.socket_calls.specs.HappenedCalls.{WasReceived, WasSent}
 use Rattle.socket_calls.specs.declared.counted.CountedSocket.{CountedSocket}
 use Rattle.stream_driver.specs.declared.answers.ReadAnswer.{ReadAnswer}
 use Rattle.stream_driver.specs.declared.answers.WriteAnswer.{WriteAnswer}
 use Rattle.stream_driver.specs.declared.buffered.BufferedStream.{BufferedStream}
 use Rattle.stream_driver.specs.Buffers.{IsNew}
-use Rattle.stream_driver.specs.Traffic.{IsUncalled, bytes_read, bytes_written}
+use Rattle.stream_driver.specs.Traffic.{DepartAt, IsUncalled, Traffic, bytes_read, bytes_written}
 use Rattle.event_loop.specs.declared.socket.Socket.{Socket}
-use Rattle.event_loop.specs.Sockets.{IsNewSocket, SocketsTell, traffic_of}
+use Rattle.event_loop.specs.Sockets.{IsNewSocket, SocketsTell, departure_of, traffic_of}
+
+latest-append : (none : List ℕ) (ds : List (List ℕ × ℕ)) (d : List ℕ × ℕ) → latest none (ds ++ d ∷ []) ≡ d.0
+latest-append none [] d = refl
+latest-append none (x ∷ xs) d = latest-append x.0 xs d
 
 module _ {E : Type 0} (old mid new : CountedSocket) (bytes : List ℕ) (outcome : Result ℕ E) (called : mid ≡ next old) (kept : new ≡ mid) where
   module _ (happened : WasReceived old (take (moved outcome) bytes)) where
     pub given_read : (answer : ReadAnswer) → bytes_read answer ≡ moved outcome → SocketsTell → given new ≡ given old ++ take (bytes_read answer) bytes
     given_read answer count tells = ap given (kept ∙ called) ∙ (tells.received old (take (moved outcome) bytes) happened).0 ∙ ap (λ n. given old ++ take n bytes) (sym count)
 
-    pub taken_read : SocketsTell → taken new ≡ taken old
-    taken_read tells = ap taken (kept ∙ called) ∙ (tells.received old (take (moved outcome) bytes) happened).1
+    none_departed : SocketsTell → departed new ≡ departed old
+    none_departed tells = ap departed (kept ∙ called) ∙ (tells.received old (take (moved outcome) bytes) happened).1
 
-  module _ (happened : WasSent old (take (moved outcome) bytes)) where
+    pub taken_read : SocketsTell → taken new ≡ taken old
+    taken_read tells = ap (λ l. latest [] l) (none_departed tells)
+
+    pub departed_read : (moment : ℕ) (before after : Traffic) → before.departed ≡ map departure_of (departed old) → after.departed ≡ map departure_of (departed new) → SocketsTell → DepartAt moment before after
+    departed_read moment before after was is tells = record {
+      departures = [];
+      departed_are = is ∙ ap (λ l. map departure_of l) (none_departed tells) ∙ sym was ∙ sym (append-nil before.departed);
+      each = tt;
+    }
+
+  module _ (moment : ℕ) (happened : WasSent old (take (moved outcome) bytes) moment) where
     pub given_written : SocketsTell → given new ≡ given old
-    given_written tells = ap given (kept ∙ called) ∙ (tells.sent old (take (moved outcome) bytes) happened).0
+    given_written tells = ap given (kept ∙ called) ∙ (tells.sent old (take (moved outcome) bytes) moment happened).0
+
+    all_departed : SocketsTell → departed new ≡ departed old ++ (taken old ++ take (moved outcome) bytes, moment) ∷ []
+    all_departed tells = ap departed (kept ∙ called) ∙ (tells.sent old (take (moved outcome) bytes) moment happened).1
+
+    all_taken : SocketsTell → taken new ≡ taken old ++ take (moved outcome) bytes
+    all_taken tells = ap (λ l. latest [] l) (all_departed tells) ∙ latest-append [] (departed old) (taken old ++ take (moved outcome) bytes, moment)
+
+    pub departed_written : (before after : Traffic) → before.departed ≡ map departure_of (departed old) → after.departed ≡ map departure_of (departed new) → after.taken ≡ taken new → SocketsTell → DepartAt moment before after
+    departed_written before after was is took tells = record {
+      departures = departure_of (taken old ++ take (moved outcome) bytes, moment) ∷ [];
+      departed_are =
+          is ∙ ap (λ l. map departure_of l) (all_departed tells) ∙ map-append departure_of (departed old) ((taken old ++ take (moved outcome) bytes, moment) ∷ [])
+          ∙ ap (λ l. l ++ departure_of (taken old ++ take (moved outcome) bytes, moment) ∷ []) (sym was);
+      each = ((refl, record { rest = []; all_is = took ∙ all_taken tells ∙ sym (append-nil (taken old ++ take (moved outcome) bytes)) }), tt);
+    }
 
     pub taken_written : (answer : WriteAnswer) → bytes_written answer ≡ moved outcome → SocketsTell → taken new ≡ taken old ++ take (bytes_written answer) bytes
-    taken_written answer count tells = ap taken (kept ∙ called) ∙ (tells.sent old (take (moved outcome) bytes) happened).1 ∙ ap (λ n. taken old ++ take n bytes) (sym count)
+    taken_written answer count tells = all_taken tells ∙ ap (λ n. taken old ++ take n bytes) (sym count)
 
 -- a stream that was made for a new connection
 pub prepared : {E : Type 0} (inner : Socket) (made : Result (BufferedStream Socket) E) (result : Option (BufferedStream Socket)) → result ≡ result_ok made → IfOk made (λ b. IsNew inner b) → IsUncalled SocketsTell (traffic_of inner)

@@ -10,21 +10,14 @@ use Rattle.stream_driver.specs.declared.entries.Entry.{Entry}
 use Rattle.stream_driver.specs.declared.entries.EntryState.{EntryState}
 use Rattle.stream_driver.specs.declared.entries.EntryState.TheVariants.{Idle, Ready, Gone as EntryGone}
 use Rattle.stream_driver.specs.Buffers.{Finishes, fresh, traffic_through}
-use Rattle.stream_driver.specs.Drives.{EndsAs}
 use Rattle.stream_driver.specs.Entries.{DrivenAll, DrivenIn, DrivenOnce, DrivenSlot, EndsDrive, EndsIn, is_over, state_after}
 use Rattle.stream_driver.specs.Sessions.{Point}
 use Rattle.stream_driver.specs.Traffic.{Traffic}
 use Rattle.stream_driver.proofs.Carry.{one_history}
-use Rattle.stream_driver.proofs.Turns.{entry_other}
+use Rattle.stream_driver.proofs.OneEntry.{ends_last, entry_other}
 use Rattle.event_loop.specs.TableBytes.{HasItsBytes, HaveBytes}
 use Rattle.event_loop.specs.Tables.{EndsTurn, after_event, after_poll, slot_at, told, told_slot}
 use Rattle.event_loop.proofs.Entries.{gone_readied, no_entry, some_inj}
-
--- a session that wasn't to leave is where its run led
-ends_last : (s : ℕ) (last new : Point) (answer : Progress) → answer ≢ Gone → EndsAs s last new answer → new ≡ last
-ends_last s last new Waiting differs e = e
-ends_last s last new Again differs e = e
-ends_last s last new Gone differs e = absurd (differs refl)
 
 module _ {T : Type 0} where
   -- each entry that isn't gone has its own session
@@ -141,7 +134,7 @@ module _ {T : Type 0} (tells : Type 0) (traffic : T → Traffic) where
 
 -- ---- streams that hold bytes
 
-module _ {T : Type 0} (tells : Type 0) (traffic : T → Traffic) where
+module _ {T : Type 0} (tells : Type 0) (traffic : T → Traffic) (moment : ℕ) where
   abbrev Through : Option (Entry (BufferedStream T)) → Entry (BufferedStream T) → Type 0
   Through slot entry = Kept tells (traffic_through traffic) slot entry
 
@@ -167,18 +160,18 @@ module _ {T : Type 0} (tells : Type 0) (traffic : T → Traffic) where
   abbrev SameBytes : BufferedStream T → BufferedStream T → Type 0
   SameBytes old new = tells → ((traffic_through traffic new).given ≡ (traffic_through traffic old).given) × ((traffic_through traffic new).taken ≡ (traffic_through traffic old).taken)
 
-  finished_bytes : (old new : BufferedStream T) → Finishes tells traffic (fresh old) new → SameBytes old new
+  finished_bytes : (old new : BufferedStream T) → Finishes tells traffic moment (fresh old) new → SameBytes old new
   finished_bytes old new f = elim f [
     | inl x ↦ λ t. (ap (λ (b : BufferedStream T). (traffic_through traffic b).given) x.1, ap (λ (b : BufferedStream T). (traffic_through traffic b).taken) x.1)
     | inr y ↦ λ t. (y.2.kept.given t, y.2.kept.taken t)
   ]
 
-  ended_bytes : (state : EntryState) (old new : BufferedStream T) → EndsIn tells traffic state old new → SameBytes old new
+  ended_bytes : (state : EntryState) (old new : BufferedStream T) → EndsIn tells traffic moment state old new → SameBytes old new
   ended_bytes Idle old new e = λ t. (ap (λ (b : BufferedStream T). (traffic_through traffic b).given) e, ap (λ (b : BufferedStream T). (traffic_through traffic b).taken) e)
   ended_bytes Ready old new e = finished_bytes old new e
   ended_bytes EntryGone old new e = finished_bytes old new e
 
-  unless_kept : (b : Bool) (was mid entry : Entry (BufferedStream T)) → EndsDrive tells traffic was mid → cond b None (Some mid) ≡ Some entry → Through (Some was) entry
+  unless_kept : (b : Bool) (was mid entry : Entry (BufferedStream T)) → EndsDrive tells traffic moment was mid → cond b None (Some mid) ≡ Some entry → Through (Some was) entry
   unless_kept true was mid entry ends e = absurd (let bad : None ≡ Some entry = e in cc)
   unless_kept false was mid entry ends e =
       let same : mid ≡ entry = some_inj e in
@@ -193,14 +186,14 @@ module _ {T : Type 0} (tells : Type 0) (traffic : T → Traffic) where
         ),
       )
 
-  ended_kept : (slot after : Option (Entry (BufferedStream T))) (entry : Entry (BufferedStream T)) → EndsTurn tells traffic slot after → after ≡ Some entry → Through slot entry
+  ended_kept : (slot after : Option (Entry (BufferedStream T))) (entry : Entry (BufferedStream T)) → EndsTurn tells traffic moment slot after → after ≡ Some entry → Through slot entry
   ended_kept None after entry none e = absurd (let bad : None ≡ Some entry = sym none ∙ e in cc)
   ended_kept (Some was) after entry (mid, ends, is) e = unless_kept (is_over mid) was mid entry ends (sym is ∙ e)
 
   -- ---- the drives of a turn
 
   module _ (slots ready driven new : List (Option (Entry (BufferedStream T)))) (events : List Event) (polled : (key : ℕ) → slot_at ready key ≡ after_poll events key (slot_at slots key))
-      (own : AreOwn ready) (ended : (key : ℕ) → EndsTurn tells traffic (slot_at driven key) (slot_at new key)) where
+      (own : AreOwn ready) (ended : (key : ℕ) → EndsTurn tells traffic moment (slot_at driven key) (slot_at new key)) where
     pub drives_bytes : (h k : Point) → DrivenAll tells (traffic_through traffic) h ready k driven → HaveBytes tells (traffic_through traffic) h.hub slots → HaveBytes tells (traffic_through traffic) k.hub new
     drives_bytes h k d has =
         kept_bytes tells (traffic_through traffic) k.hub driven new (λ key entry e. ended_kept (slot_at driven key) (slot_at new key) entry (ended key) e)

@@ -91,10 +91,10 @@ pub nobody_has : {D : Type 0} {g : Ghosts D} (hub : Hub D g) (slots : List (Opti
 nobody_has hub slots is some = ∥∥₁_map some (λ w. (w.0, w.1, λ key entry e alive. absurd (no_entry slots is key entry e)))
 
 module _ {D : Type 0} {g : Ghosts D} (hub later : Hub D g) where
-  module _ (slots ready driven new : List (Option (Entry (BufferedStream Socket)))) (events : List Event) (polled : (key : ℕ) → slot_at ready key ≡ after_poll events key (slot_at slots key)) (sessions : HaveSessions hub ready)
-      (ended : (key : ℕ) → EndsTurn SocketsTell traffic_of (slot_at driven key) (slot_at new key)) (leads : Leads hub later (λ h k. DrivenAll SocketsTell (traffic_through traffic_of) h ready k driven)) where
+  module _ (moment : ℕ) (slots ready driven new : List (Option (Entry (BufferedStream Socket)))) (events : List Event) (polled : (key : ℕ) → slot_at ready key ≡ after_poll events key (slot_at slots key)) (sessions : HaveSessions hub ready)
+      (ended : (key : ℕ) → EndsTurn SocketsTell traffic_of moment (slot_at driven key) (slot_at new key)) (leads : Leads hub later (λ h k. DrivenAll SocketsTell (traffic_through traffic_of) h ready k driven)) where
     pub drives_keep : KeepBytes hub slots later new
-    drives_keep = leads_map hub later _ _ leads (λ h k stands d has. drives_bytes SocketsTell traffic_of slots ready driven new events polled sessions.own ended h k d has)
+    drives_keep = leads_map hub later _ _ leads (λ h k stands d has. drives_bytes SocketsTell traffic_of moment slots ready driven new events polled sessions.own ended h k d has)
 
   -- what keeps the bytes leads on where they are so
   pub still_has : (slots new : List (Option (Entry (BufferedStream Socket)))) → KeepBytes hub slots later new → SocketsHaveBytes hub slots → SocketsHaveBytes later new

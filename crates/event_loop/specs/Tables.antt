@@ -155,7 +155,7 @@ module _ {T : Type 0} where
   abbrev pub unless_over : Entry (BufferedStream T) → Option (Entry (BufferedStream T))
   unless_over entry = cond (is_over entry) None (Some entry)
 
-  -- the end of a turn at a slot: the drive of its entry has ended, and the entry is taken out if it is over
-  abbrev pub EndsTurn : Type 0 → (T → Traffic) → Option (Entry (BufferedStream T)) → Option (Entry (BufferedStream T)) → Type 0
-  EndsTurn tells traffic None new = new ≡ None
-  EndsTurn tells traffic (Some old) new = (entry : Entry (BufferedStream T)) × EndsDrive tells traffic old entry × (new ≡ unless_over entry)
+  -- the end of a turn at a slot, at this moment of the device: the drive of its entry has ended, and the entry is taken out if it is over
+  abbrev pub EndsTurn : Type 0 → (T → Traffic) → ℕ → Option (Entry (BufferedStream T)) → Option (Entry (BufferedStream T)) → Type 0
+  EndsTurn tells traffic moment None new = new ≡ None
+  EndsTurn tells traffic moment (Some old) new = (entry : Entry (BufferedStream T)) × EndsDrive tells traffic moment old entry × (new ≡ unless_over entry)

@@ -27,6 +27,8 @@ use Rattle.event_loop.specs.declared.connections.Backlog.TheVariants.{Empty, Ful
 use Rattle.event_loop.specs.declared.polling.Poller.{Poller}
 use Rattle.event_loop.specs.Accepts.{Accepts, TurnAccepts}
 use Rattle.event_loop.specs.Leavings.{LingerOn}
+use Rattle.sessions.specs.StandsFor.{device}
+use Rattle.stream_driver.specs.Sends.{DrivesTelling}
 use Rattle.event_loop.specs.Lingerings.{lingerers_of, oldest_waits, unless_failed}
 use Rattle.event_loop.specs.Polls.{Looked, NothingRead, ReadAgain, after_wait, polls_of}
 use Rattle.event_loop.specs.Waits.{nanos_of, own_limit, shorter}
@@ -40,8 +42,8 @@ pub record DrivesReady {T D : Type 0} {g : Ghosts D} (tells : Type 0) (traffic :
   pub ready : List (Option (Entry (BufferedStream T)))
   pub told : (key : ℕ) → slot_at ready key ≡ after_poll events key (slot_at slots key)
   pub driven : List (Option (Entry (BufferedStream T)))
-  pub drives : Leads hub later (λ h k. DrivenAll tells (traffic_through traffic) h ready k driven)
-  pub ended : (key : ℕ) → EndsTurn tells traffic (slot_at driven key) (slot_at new key)
+  pub drives : DrivesTelling (traffic_through traffic) tells hub ready later driven (λ h k. DrivenAll tells (traffic_through traffic) h ready k driven)
+  pub ended : (key : ℕ) → EndsTurn tells traffic (g.moment (device later)) (slot_at driven key) (slot_at new key)
 
 -- what the listener has answered so far
 abbrev pub answers_of : Port → Accepts
@@ -101,7 +103,7 @@ pub record IsTurn {D : Type 0} {g : Ghosts D} (tells : Type 0) (traffic : Socket
   pub port_is : driven.port ≡ old.port
   pub backlog_is : driven.backlog ≡ old.backlog
   pub refused_is : driven.refused ≡ old.refused
-  pub linger : LingerOn new.poller.time (is_told_of LINGERER (items new.poller.events)) drives.driven (lingerers_of old.lingering) driven.table.slots (lingerers_of driven.lingering)
+  pub linger : LingerOn new.poller.time (g.moment (device driven.hub)) (is_told_of LINGERER (items new.poller.events)) drives.driven (lingerers_of old.lingering) driven.table.slots (lingerers_of driven.lingering)
   pub accepted : EventLoop D g
   pub accepts : Accepted (accepts_now old.backlog (items new.poller.events)) driven accepted
   pub lingerers_are : lingerers_of accepted.lingering ≡ unless_failed accepted.backlog (lingerers_of driven.lingering)

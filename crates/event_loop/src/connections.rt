@@ -90,19 +90,20 @@ pub(crate) fn make_polled_ready(events: &Events, table: &mut Slab<Entry<Buffered
 }
 
 // Ends the drive of the entry at a key, if there is one, and takes it out if it is over.
-fn end_drive_at(
+fn end_drive_at<D: Sectors>(
+    device: &D,
     poll: &Poll,
     now: Option<Instant>,
     key: usize,
     table: &mut Slab<Entry<BufferedStream<Socket>>>,
     lingering: &mut Lingering,
 )
-    ensures { EndsAt now key table.old.slots (lingerers_of lingering.old) table.new.slots (lingerers_of lingering.new) }
+    ensures { EndsAt now (D.moment device.now) key table.old.slots (lingerers_of lingering.old) table.new.slots (lingerers_of lingering.new) }
 {
     let Some(entry) = table.get_mut(key) else {
         return;
     };
-    if !end_drive(entry) {
+    if !end_drive(device, entry) {
         return;
     }
     if let Some(entry) = table.try_remove(key) {
@@ -112,17 +113,18 @@ fn end_drive_at(
 
 /// Ends the drives of a turn: writes what the streams hold, but for those that wait, and takes the entries out that are gone and whose
 /// streams hold nothing or failed, and no others. Connections that ended in good order linger, and the others are closed. Takes no memory.
-pub(crate) fn end_drives(
+pub(crate) fn end_drives<D: Sectors>(
+    device: &D,
     poll: &Poll,
     now: Option<Instant>,
     table: &mut Slab<Entry<BufferedStream<Socket>>>,
     lingering: &mut Lingering,
 )
-    ensures ended { (key : ℕ) → EndsTurn SocketsTell traffic_of (slot_at table.old.slots key) (slot_at table.new.slots key) }
-    ensures left { EndAll now table.old.slots (lingerers_of lingering.old) table.new.slots (lingerers_of lingering.new) }
+    ensures ended { (key : ℕ) → EndsTurn SocketsTell traffic_of (D.moment device.now) (slot_at table.old.slots key) (slot_at table.new.slots key) }
+    ensures left { EndAll now (D.moment device.now) table.old.slots (lingerers_of lingering.old) table.new.slots (lingerers_of lingering.new) }
 {
     for key in 0..table.capacity() {
-        end_drive_at(poll, now, key, table, lingering);
+        end_drive_at(device, poll, now, key, table, lingering);
     }
 }
 

@@ -10,6 +10,7 @@ ghost use Rattle.event_loop.specs.Drops.{GivesAtMost, WhyDropped};
 
 use crate::socket::Socket;
 use mio::{Poll, Token};
+use sector::Sectors;
 use std::alloc::{AllocError, Global};
 use std::collections::VecDeque;
 use std::time::{Duration, Instant};
@@ -52,8 +53,8 @@ impl Dropped {
     }
 }
 
-/// Reads at most so many bytes and drops them. Takes no memory.
-pub fn drop_input<S: Stream>(stream: &mut S, most: usize) -> Dropped
+/// Reads at most so many bytes and drops them; each read is shown the device. Takes no memory.
+pub fn drop_input<D: Sectors, S: Stream>(device: &D, stream: &mut S, most: usize) -> Dropped
     ensures given { S.tells → GivesAtMost result most (length (S.traffic stream.old).given) (length (S.traffic stream.new).given) }
     ensures taken { S.tells → (S.traffic stream.new).taken ≡ (S.traffic stream.old).taken }
     ensures why { WhyDropped result most (S.traffic stream.old) (S.traffic stream.new) }
@@ -62,7 +63,7 @@ pub fn drop_input<S: Stream>(stream: &mut S, most: usize) -> Dropped
     let mut left = most;
     while left > 0 {
         let part = &mut buffer[..left.min(READ_MAX)];
-        match stream.read(part) {
+        match stream.read(device, part) {
             ReadAnswer::Moved(n) => left -= n,
             ReadAnswer::Blocked => return Dropped::Blocked(most - left),
             ReadAnswer::Failed | ReadAnswer::Ended => return Dropped::Over,
@@ -84,22 +85,22 @@ impl Lingerer {
     ghost use Rattle.event_loop.specs.Lingerings.{DropsIf, DropsInput, MayLinger};
 
     // Drops what came in, where it is to be read.
-    fn turn(&mut self, reads: bool) -> Dropped
+    fn turn<D: Sectors>(&mut self, device: &D, reads: bool) -> Dropped
         ensures { DropsIf reads self.old result self.new }
     {
         if reads {
-            self.drop_some()
+            self.drop_some(device)
         } else {
             Dropped::Blocked(0)
         }
     }
 
     // Drops what came in, as far as one turn goes.
-    fn drop_some(&mut self) -> Dropped
+    fn drop_some<D: Sectors>(&mut self, device: &D) -> Dropped
         ensures { DropsInput self.old result self.new }
     {
         let most = self.left.min(LINGERING_BYTES_A_TURN);
-        let dropped = drop_input(&mut self.socket, most);
+        let dropped = drop_input(device, &mut self.socket, most);
         match dropped {
             Dropped::Blocked(n) => self.left -= n,
             Dropped::All => self.left -= most,
@@ -206,24 +207,24 @@ impl Lingering {
     }
 
     /// Drops what came in where the poll told of it or there may be more, and closes those that are over.
-    pub(crate) fn turn(&mut self, is_told: bool, now: Option<Instant>)
+    pub(crate) fn turn<D: Sectors>(&mut self, device: &D, is_told: bool, now: Option<Instant>)
         ensures { AreTurned now is_told (lingerers_of self.old) (lingerers_of self.new) }
     {
         let reads = is_told || self.has_more;
         self.has_more = false;
         for _ in 0..self.queue.len() {
-            self.turn_first(reads, now);
+            self.turn_first(device, reads, now);
         }
     }
 
     // The first is closed where it is over, and else becomes the last.
-    fn turn_first(&mut self, reads: bool, now: Option<Instant>)
+    fn turn_first<D: Sectors>(&mut self, device: &D, reads: bool, now: Option<Instant>)
         ensures { FirstTurned now reads self.old.queue.items (lingerers_of self.old) (lingerers_of self.new) }
     {
         let Some(mut lingerer) = self.queue.pop_front() else {
             return;
         };
-        let dropped = lingerer.turn(reads);
+        let dropped = lingerer.turn(device, reads);
         if !lingerer.is_over(now) {
             self.has_more = self.has_more || dropped.is_all();
             self.queue.push_back_reserved(lingerer);

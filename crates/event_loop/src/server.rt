@@ -60,7 +60,7 @@ impl<D: Sectors> EventLoop<D> {
     ghost use Rattle.mio.specs.Events.{items};
     ghost use Rattle.sessions.specs.Lives.{IsOpened};
     ghost use Rattle.sessions.specs.SessionStreams.{HubState};
-    ghost use Rattle.sessions.specs.StandsFor.{StandsFor};
+    ghost use Rattle.sessions.specs.StandsFor.{StandsFor, device};
     ghost use Rattle.event_loop.specs.Leavings.{EndAll};
     ghost use Rattle.event_loop.specs.Lingerings.{lingerers_of, unless_failed};
     ghost use Rattle.event_loop.specs.Loops.{HasItsSessions, hub_of};
@@ -172,7 +172,7 @@ impl<D: Sectors> EventLoop<D> {
         let now = self.poller.time();
         self.drive(now);
         let comes_more = self.is_told(LINGERER);
-        self.lingering.turn(comes_more, now);
+        self.lingering.turn(self.hub.device(), comes_more, now);
         self.accept_told();
         self.give_back();
         Ok(())
@@ -247,7 +247,7 @@ impl<D: Sectors> EventLoop<D> {
 
     // Drives the sessions that are ready, those that the last poll told of among them.
     fn drive(&mut self, now: Option<Instant>)
-        ensures drives { (drives : DrivesReady ⟦<Socket as Stream>⟧.tells ⟦<Socket as Stream>⟧.traffic (items self.old.poller.events) self.old.hub self.old.table.slots self.new.hub self.new.table.slots) × EndAll now drives.driven (lingerers_of self.old.lingering) self.new.table.slots (lingerers_of self.new.lingering) }
+        ensures drives { (drives : DrivesReady ⟦<Socket as Stream>⟧.tells ⟦<Socket as Stream>⟧.traffic (items self.old.poller.events) self.old.hub self.old.table.slots self.new.hub self.new.table.slots) × EndAll now (D.moment (device self.new.hub)) drives.driven (lingerers_of self.old.lingering) self.new.table.slots (lingerers_of self.new.lingering) }
         ensures poller { self.new.poller ≡ self.old.poller }
         ensures next { self.new.next ≡ self.old.next }
         ensures port { self.new.port ≡ self.old.port }
@@ -258,6 +258,7 @@ impl<D: Sectors> EventLoop<D> {
         make_polled_ready(self.poller.events(), &mut self.table);
         drive_ready(&mut self.hub, &mut self.table);
         end_drives(
+            self.hub.device(),
             self.poller.poll(),
             now,
             &mut self.table,

@@ -9,6 +9,7 @@ ghost use Rattle.event_loop.specs.Outcomes.{ReadsAs, WritesAs};
 
 use mio::net::TcpStream;
 use mio::{Poll, Token};
+use sector::Sectors;
 use socket_calls::CountedSocket;
 use std::io::{self, ErrorKind};
 use stream_driver::{Call, ReadAnswer, Stream, WriteAnswer};
@@ -130,14 +131,15 @@ impl Stream for Socket {
 
     ghost traffic = { traffic_of };
 
-    fn read(&mut self, into: &mut [u8]) -> ReadAnswer {
+    fn read<D: Sectors>(&mut self, device: &D, into: &mut [u8]) -> ReadAnswer {
+        let _ = device;
         let answer = read_answer(self.socket.read(into));
         self.note_read(answer);
         answer
     }
 
-    fn write(&mut self, from: &[u8]) -> WriteAnswer {
-        let answer = write_answer(self.socket.write(from));
+    fn write<D: Sectors>(&mut self, device: &D, from: &[u8]) -> WriteAnswer {
+        let answer = write_answer(self.socket.write(device, from));
         self.note_write(answer);
         answer
     }

@@ -30,7 +30,7 @@ fn turn(driven: &mut Driven, entry: &mut Entry<BufferedStream<Script>>) -> bool 
             Progress::Gone => EntryState::Gone,
         };
     }
-    end_drive(entry)
+    end_drive(driven.hub.device(), entry)
 }
 
 /// What a peer has taken once its entry is over.

@@ -1,6 +1,7 @@
 //! A peer in memory.
 ghost use Rattle.std.specs.Prelude.{◌≡◌, ◌≤◌, ◌<◌, ◌+◌, length, vec_len};
 
+use sector::Sectors;
 use stream_driver::{Call, ReadAnswer, Stream, WriteAnswer};
 
 /// What goes wrong at one call of a stream.
@@ -14,7 +15,8 @@ pub enum Trouble {
     Failed,
 }
 
-/// A peer in memory: it gives its bytes and then ends, keeps what it takes, and meets trouble at one of its calls.
+/// A peer in memory: it gives its bytes and then ends, keeps what it takes, and meets trouble at one of its calls. Of its bytes it isn't told
+/// when they left.
 #[derive(PartialEq, Drop)]
 pub struct Script {
     input: Vec<u8>,
@@ -78,13 +80,14 @@ impl Script {
 }
 
 impl Stream for Script {
-    ghost use Rattle.std.specs.Prelude.{take};
+    ghost use Rattle.std.specs.Prelude.{take, []};
 
     ghost tells = { Unit {0} };
 
     ghost traffic = { λ s. record {
       given = take s.at s.input.items;
       taken = s.taken.items;
+      departed = [];
       read_blocked = s.read_blocked;
       read_failed = s.read_failed;
       read_ended = s.read_ended;
@@ -93,7 +96,8 @@ impl Stream for Script {
       last = s.last;
     } };
 
-    fn read(&mut self, into: &mut [u8]) -> ReadAnswer {
+    fn read<D: Sectors>(&mut self, device: &D, into: &mut [u8]) -> ReadAnswer {
+        let _ = device;
         let most = match self.next_trouble() {
             None => into.len(),
             Some(Trouble::Fewer) => 1,
@@ -120,7 +124,8 @@ impl Stream for Script {
         ReadAnswer::Moved(n)
     }
 
-    fn write(&mut self, from: &[u8]) -> WriteAnswer {
+    fn write<D: Sectors>(&mut self, device: &D, from: &[u8]) -> WriteAnswer {
+        let _ = device;
         let n = match self.next_trouble() {
             None => from.len(),
             Some(Trouble::Fewer) => 1,

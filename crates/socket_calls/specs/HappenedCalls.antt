@@ -7,14 +7,14 @@ use Rattle.socket_calls.specs.declared.counted.CountedSocket.{CountedSocket}
 pub WasReceived : CountedSocket → List ℕ → Type 0
 WasReceived socket bytes = Unit {0}
 
--- its next call was a write that took these bytes
-pub WasSent : CountedSocket → List ℕ → Type 0
-WasSent socket bytes = Unit {0}
+-- its next call was a write that took these bytes, as the device stood at this moment
+pub WasSent : CountedSocket → List ℕ → ℕ → Type 0
+WasSent socket bytes moment = Unit {0}
 
 pub real_receive : (socket : CountedSocket) (bytes : List ℕ) → WasReceived socket bytes
 unfolding WasReceived
 real_receive socket bytes = tt
 
-pub real_send : (socket : CountedSocket) (bytes : List ℕ) → WasSent socket bytes
+pub real_send : (socket : CountedSocket) (bytes : List ℕ) (moment : ℕ) → WasSent socket bytes moment
 unfolding WasSent
-real_send socket bytes = tt
+real_send socket bytes moment = tt

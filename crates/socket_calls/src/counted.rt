@@ -1,14 +1,15 @@
 //! The calls of a connection, each counted.
-ghost use Rattle.std.specs.Prelude.{◌≡◌, ◌↔◌, ◌-◌, ◌^◌, IsErr, take};
+ghost use Rattle.std.specs.Prelude.{◌≡◌, take};
 ghost use Rattle.std.specs.Io.{ReadsAtMost, WritesAtMost};
 
 use mio::net::TcpStream;
 use mio::{Interest, Poll, Token};
-use std::io::{self, ErrorKind, Read, Write};
+use sector::Sectors;
+use std::io::{self, Read, Write};
 use std::net::Shutdown;
 
-/// A TCP connection, with the number of reads and writes that were made of it. `read` and `write` make one call and count it. Once the count
-/// is 2^64 - 1 it stays, and they fail (`Other`) without a call, so that no two calls are made at one count.
+/// A TCP connection, with the number of reads and writes that were made of it. `read` and `write` make one call and count it; the count
+/// stays at 2^64 - 1 once it is there.
 #[derive(Drop)]
 pub struct CountedSocket {
     stream: TcpStream,
@@ -36,21 +37,21 @@ impl CountedSocket {
     pub fn read(&mut self, into: &mut [u8]) -> io::Result<usize>
         ensures bound { ReadsAtMost result into.new }
         ensures next { self.new ≡ next self.old }
-        ensures over { self.old.calls ≡ 2 ^ 64 - 1 → IsErr result }
         ensures happened { WasReceived self.old (take (moved result) into.new) }
     {
-        self.count_call()?;
+        self.count_call();
         self.stream.read(into)
     }
 
-    /// Writes some bytes from the front, and says how many. Answers the system's error. Takes no memory.
-    pub fn write(&mut self, from: &[u8]) -> io::Result<usize>
+    /// Writes some bytes from the front, and says how many. Answers the system's error. It is shown the device of the store, which can't
+    /// be copied: so this is how it stands as the bytes leave. Takes no memory.
+    pub fn write<D: Sectors>(&mut self, device: &D, from: &[u8]) -> io::Result<usize>
         ensures bound { WritesAtMost result from.now }
         ensures next { self.new ≡ next self.old }
-        ensures over { self.old.calls ≡ 2 ^ 64 - 1 → IsErr result }
-        ensures happened { WasSent self.old (take (moved result) from.now) }
+        ensures happened { WasSent self.old (take (moved result) from.now) (D.moment device.now) }
     {
-        self.count_call()?;
+        let _ = device;
+        self.count_call();
         self.stream.write(from)
     }
 
@@ -63,15 +64,10 @@ impl CountedSocket {
             .reregister(&mut self.stream, token, Interest::READABLE)
     }
 
-    /// Counts a call; `Other` where no more can be counted.
-    fn count_call(&mut self) -> io::Result<()>
-        ensures next { self.new ≡ next self.old }
-        ensures over { IsErr result ↔ (self.old.calls ≡ 2 ^ 64 - 1) }
+    /// Counts a call.
+    fn count_call(&mut self)
+        ensures { self.new ≡ next self.old }
     {
-        if self.calls == u64::MAX {
-            return Err(io::Error::from(ErrorKind::Other));
-        }
-        self.calls += 1;
-        Ok(())
+        self.calls = self.calls.saturating_add(1);
     }
 }

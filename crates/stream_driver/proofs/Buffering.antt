@@ -1,5 +1,8 @@
 -- A buffer that holds nothing has room.
-use Rattle.std.proofs.Common.{◌≡◌, ◌≢◌, inl, inr, ℕ, ◌-◌, ◌<◌, ◌≤◌, false, [], length, drop, vec_len, refl, sym, ap, subst, ◌∙◌, length-drop, arith}
+use Rattle.std.proofs.Common.{◌≡◌, ◌≢◌, inl, inr, ℕ, ◌-◌, ◌<◌, ◌≤◌, ◌⊎◌, ◌↔◌, not, nat_lt, true, false, List, [], ◌∷◌, ◌++◌, append_assoc, Bool, length, take, drop, vec_len, refl, sym, ap, subst, ◌∙◌, length-drop, arith, Some}
+use Rattle.std.specs.List.{AllByRecursion}
+use Rattle.std.proofs.lemmas.Bool.Decides.{nat_tests}
+use Rattle.std.proofs.lemmas.List.{append-nil, take-append-drop}
 use Rattle.stream_driver.specs.declared.answers.ReadAnswer.{ReadAnswer}
 use Rattle.stream_driver.specs.declared.answers.ReadAnswer.TheVariants.{Moved, Blocked as ReadBlocked, Failed as ReadFailed, Ended}
 use Rattle.stream_driver.specs.declared.answers.WriteAnswer.{WriteAnswer}
@@ -8,8 +11,10 @@ use Rattle.stream_driver.specs.declared.held.Held.{Held}
 use Rattle.stream_driver.specs.declared.buffered.Flushed.{Flushed}
 use Rattle.stream_driver.specs.declared.buffered.Flushed.TheVariants.{All, Blocked, Failed}
 use Rattle.stream_driver.specs.declared.buffered.BufferedStream.{BufferedStream}
-use Rattle.stream_driver.specs.Buffers.{held_in, room_in, FlushFails, Flushes, KeepsBytes, ReadFails, RoomFails, StaysFailed, StaysWithRoom, WhyFlushed, WhyRoom, WriteFails, WritesHeld}
-use Rattle.stream_driver.specs.Traffic.{Traffic}
+use Rattle.stream_driver.specs.Buffers.{held_in, room_in, FlushFails, Flushes, GivesSome, KeepsBytes, ShortAfter, TakesSome, WhyGave, WhyTook, traffic_through, ReadFails, RoomFails, StaysFailed, StaysWithRoom, WhyFlushed, WhyRoom, WriteFails, WritesHeld}
+use Rattle.stream_driver.specs.Traffic.{Departure, DepartAt, IsBeginning, ReadsWithin, Traffic, WritesWithin, bytes_read, bytes_written}
+use Rattle.stream_driver.specs.declared.answers.Call.TheVariants.{Read, Write}
+use Rattle.stream_driver.proofs.Carry.{all_then, grown}
 
 empty_room : (h : Held) → held_in h ≡ [] → 0 < room_in h
 empty_room h e =
@@ -19,10 +24,63 @@ empty_room h e =
     let zero : h.left ≡ 0 = h.empty at_end in
     omega arith
 
-pub room_after : {T : Type 0} (tells : Type 0) (traffic : T → Traffic) (answer : Flushed) (b : BufferedStream T) → WhyFlushed tells traffic answer b → WhyRoom traffic answer b
-room_after tells traffic All b e = empty_room b.held e
-room_after tells traffic Blocked b e = e
-room_after tells traffic Failed b e = e
+pub room_after : {T : Type 0} (traffic : T → Traffic) (answer : Flushed) (b : BufferedStream T) → WhyFlushed traffic answer b → WhyRoom traffic answer b
+room_after traffic All b e = empty_room b.held e
+room_after traffic Blocked b e = e
+room_after traffic Failed b e = e
+
+pub not_less : (n len : ℕ) (b : Bool) → len ≤ n → b ≡ nat_lt n len → b ≡ false
+not_less n len b le is = grind (arith, nat_tests)
+
+not_true : (b : Bool) → not b ≡ true → b ≡ false
+not_true true e = absurd (let bad : false ≡ true = e in cc)
+not_true false e = refl
+
+-- a read that moved bytes is short where they are fewer than it asked for, unless such a read means nothing
+pub short_moved : (n len : ℕ) (was now short : Bool) → now ≡ was → ((n < len) × (short ≡ not now)) ⊎ ((len ≤ n) × (short ≡ false)) → (short ≡ true) ↔ ((n < len) × (was ≡ false))
+short_moved n len was now short same (inl (lt, is)) = (λ on. (lt, sym same ∙ not_true now (sym is ∙ on)), λ p. is ∙ ap not (same ∙ p.1))
+short_moved n len was now short same (inr (le, is)) = (λ on. absurd (let bad : false ≡ true = sym is ∙ on in cc), λ p. (let lt = p.0 in absurd (omega arith)))
+
+pub some_length : (l : List ℕ) → l ≢ [] → 0 < length l
+some_length [] some = absurd (some refl)
+some_length (x ∷ xs) some = omega arith
+
+-- ---- what left
+
+pub beginning_then : (bytes all more later : List ℕ) → IsBeginning bytes all → later ≡ all ++ more → IsBeginning bytes later
+beginning_then bytes all more later b e = record { rest = b.rest ++ more; all_is = e ∙ ap (λ l. l ++ more) b.all_is ∙ append_assoc bytes b.rest more }
+
+pub begins_with_none : (all : List ℕ) → IsBeginning all all
+begins_with_none all = record { rest = []; all_is = sym (append-nil all) }
+
+pub beginnings_then : (moment : ℕ) (all more later : List ℕ) → later ≡ all ++ more → (ds : List Departure) → AllByRecursion (λ d. (d.moment ≡ moment) × IsBeginning d.bytes all) ds
+    → AllByRecursion (λ d. (d.moment ≡ moment) × IsBeginning d.bytes later) ds
+beginnings_then moment all more later e [] each = each
+beginnings_then moment all more later e (d ∷ ds) each = ((each.0.0, beginning_then d.bytes all more later each.0.1 e), beginnings_then moment all more later e ds each.1)
+
+module _ (moment : ℕ) where
+  -- nothing left
+  pub none_departed : (a b : Traffic) → b.departed ≡ a.departed → DepartAt moment a b
+  none_departed a b e = record { departures = []; departed_are = e ∙ sym (append-nil a.departed); each = tt }
+
+  -- more was taken since
+  pub departed_and_taken : (a b c : Traffic) (more : List ℕ) → c.departed ≡ b.departed → c.taken ≡ b.taken ++ more → DepartAt moment a b → DepartAt moment a c
+  departed_and_taken a b c more e taken p = record {
+    departures = p.departures;
+    departed_are = e ∙ p.departed_are;
+    each = beginnings_then moment b.taken more c.taken taken p.departures p.each;
+  }
+
+  -- the same was taken, and nothing more left
+  pub departed_still : (a b c : Traffic) → c.departed ≡ b.departed → c.taken ≡ b.taken → DepartAt moment a b → DepartAt moment a c
+  departed_still a b c e taken p = departed_and_taken a b c [] e (taken ∙ sym (append-nil b.taken)) p
+
+  pub departed_then : (a b c : Traffic) (more : List ℕ) → c.taken ≡ b.taken ++ more → DepartAt moment a b → DepartAt moment b c → DepartAt moment a c
+  departed_then a b c more taken p q = record {
+    departures = p.departures ++ q.departures;
+    departed_are = grown a.departed b.departed b.departed c.departed p.departures q.departures p.departed_are refl q.departed_are;
+    each = all_then (λ d. (d.moment ≡ moment) × IsBeginning d.bytes c.taken) p.departures q.departures (beginnings_then moment b.taken more c.taken taken p.departures p.each) q.each;
+  }
 
 -- ---- whether what is held failed to leave
 
@@ -77,11 +135,19 @@ module _ {T : Type 0} where
       by ReadFailed = inr (held ∙ none, stays)
       by Ended = stays
 
-  module _ (tells : Type 0) (traffic : T → Traffic) where
-    kept_then : (a b c : BufferedStream T) → KeepsBytes tells traffic a b → KeepsBytes tells traffic b c → KeepsBytes tells traffic a c
+  -- a read that moved nothing
+  pub short_still : (old new : BufferedStream T) (len : ℕ) (answer : ReadAnswer) → ((n : ℕ) → answer ≢ Moved n) → new.is_short ≡ old.is_short → ShortAfter old len answer new
+  short_still old new len (Moved n) differs same = absurd (differs n refl)
+  short_still old new len ReadBlocked differs same = same
+  short_still old new len ReadFailed differs same = same
+  short_still old new len Ended differs same = same
+
+  module _ (tells : Type 0) (traffic : T → Traffic) (moment : ℕ) where
+    kept_then : (a b c : BufferedStream T) → KeepsBytes tells traffic moment a b → KeepsBytes tells traffic moment b c → KeepsBytes tells traffic moment a c
     kept_then a b c p q = record {
       given = λ t. q.given t ∙ p.given t;
       taken = λ t. q.taken t ∙ p.taken t;
+      departed = λ t. departed_then moment (traffic_through traffic a) (traffic_through traffic b) (traffic_through traffic c) [] (q.taken t ∙ sym (append-nil ((traffic b.inner).taken ++ held_in b.held))) (p.departed t) (q.departed t);
       counts = q.counts ∙ p.counts;
       short = q.short ∙ p.short;
       drained = q.drained ∙ p.drained;
@@ -90,20 +156,137 @@ module _ {T : Type 0} where
 
     -- between two writes of what is held
     abbrev pub FlushedSoFar : BufferedStream T → BufferedStream T → Type 0
-    FlushedSoFar a b = KeepsBytes tells traffic a b × StaysFailed a b
+    FlushedSoFar a b = KeepsBytes tells traffic moment a b × StaysFailed a b
 
     pub flushed_none : (b : BufferedStream T) → FlushedSoFar b b
-    flushed_none b = (record { given = λ t. refl; taken = λ t. refl; counts = refl; short = refl; drained = refl; reads_on = refl }, stays_same b)
+    flushed_none b = (record { given = λ t. refl; taken = λ t. refl; departed = λ t. none_departed moment (traffic_through traffic b) (traffic_through traffic b) refl; counts = refl; short = refl; drained = refl; reads_on = refl }, stays_same b)
 
     module _ (a b : BufferedStream T) (so_far : FlushedSoFar a b) where
-      pub flushed_all : held_in b.held ≡ [] → Flushes tells traffic a All b
+      pub flushed_all : held_in b.held ≡ [] → Flushes tells traffic moment a All b
       flushed_all none = record { kept = so_far.0; why = none; failed = so_far.1 }
 
-      pub flushed_more : (n : ℕ) (c : BufferedStream T) → WritesHeld tells traffic b (Wrote n) c → FlushedSoFar a c
+      pub flushed_more : (n : ℕ) (c : BufferedStream T) → WritesHeld tells traffic moment b (Wrote n) c → FlushedSoFar a c
       flushed_more n c w = (kept_then a b c so_far.0 w.kept, stays_moved a b c n so_far.1 w.why.0 w.why.1 w.why.2 w.why.3)
 
-      pub flushed_blocked : (c : BufferedStream T) → WritesHeld tells traffic b WriteBlocked c → Flushes tells traffic a Blocked c
+      pub flushed_blocked : (c : BufferedStream T) → WritesHeld tells traffic moment b WriteBlocked c → Flushes tells traffic moment a Blocked c
       flushed_blocked c w = record { kept = kept_then a b c so_far.0 w.kept; why = w.why.1; failed = stays_on a b c so_far.1 w.why.0 w.why.2 }
 
-      pub flushed_failed : (c : BufferedStream T) → held_in b.held ≢ [] → WritesHeld tells traffic b WriteFailed c → Flushes tells traffic a Failed c
+      pub flushed_failed : (c : BufferedStream T) → held_in b.held ≢ [] → WritesHeld tells traffic moment b WriteFailed c → Flushes tells traffic moment a Failed c
       flushed_failed c some w = record { kept = kept_then a b c so_far.0 w.kept; why = w.why.1; failed = (λ none. some (sym w.why.0 ∙ none), w.why.2) }
+
+    -- what left in a call of the stream behind
+    pub left_behind : (old new : BufferedStream T) → DepartAt moment (traffic old.inner) (traffic new.inner) → DepartAt moment (traffic_through traffic old) (traffic_through traffic new)
+    left_behind old new p = record {
+      departures = p.departures;
+      departed_are = p.departed_are;
+      each = beginnings_then moment (traffic new.inner).taken (held_in new.held) (traffic_through traffic new).taken refl p.departures p.each;
+    }
+
+    module _ (old : BufferedStream T) (inner : T) (given : tells → (traffic inner).given ≡ (traffic old.inner).given) (departed : tells → DepartAt moment (traffic old.inner) (traffic inner)) where
+      -- some of what is held left
+      pub wrote_held : (n : ℕ) (held : Held) (from : List ℕ) → from ≡ held_in old.held → (0 < n) × (n ≤ length from) → held_in held ≡ drop n (held_in old.held) → (tells → (traffic inner).taken ≡ (traffic old.inner).taken ++ take n from)
+          → WritesHeld tells traffic moment old (Wrote n) (record old { inner = inner; held = held; has_failed = false })
+      wrote_held n held from is fits rest taken =
+          let fits_held : n ≤ length (held_in old.held) = subst (λ l. n ≤ length l) is fits.1 in
+          record {
+            kept = record {
+              given = given;
+              taken = λ t.
+                  ap (λ l. l ++ held_in held) (taken t) ∙ append_assoc (traffic old.inner).taken (take n from) (held_in held)
+                  ∙ ap (λ l. (traffic old.inner).taken ++ l) (ap (λ l. take n l ++ held_in held) is ∙ ap (λ l. take n (held_in old.held) ++ l) rest ∙ take-append-drop n (held_in old.held));
+              departed = λ t. left_behind old (record old { inner = inner; held = held; has_failed = false }) (departed t);
+              counts = refl;
+              short = refl;
+              drained = refl;
+              reads_on = refl;
+            };
+            why = (fits.0, fits_held, rest, refl);
+          }
+
+      -- none of it left
+      pub kept_held : (failed : Bool) → (tells → (traffic inner).taken ≡ (traffic old.inner).taken ++ []) → KeepsBytes tells traffic moment old (record old { inner = inner; has_failed = failed })
+      kept_held failed taken = record {
+        given = given;
+        taken = λ t. ap (λ l. l ++ held_in old.held) (taken t ∙ append-nil (traffic old.inner).taken);
+        departed = λ t. left_behind old (record old { inner = inner; has_failed = failed }) (departed t);
+        counts = refl;
+        short = refl;
+        drained = refl;
+        reads_on = refl;
+      }
+
+    -- a call of the stream behind after what is held was written
+    pub left_then : (a b c : BufferedStream T) (more : List ℕ) → KeepsBytes tells traffic moment a b → tells → (traffic_through traffic c).taken ≡ (traffic_through traffic b).taken ++ more
+        → DepartAt moment (traffic b.inner) (traffic c.inner) → DepartAt moment (traffic_through traffic a) (traffic_through traffic c)
+    left_then a b c more p t taken q = departed_then moment (traffic_through traffic a) (traffic_through traffic b) (traffic_through traffic c) more taken (p.departed t) (left_behind b c q)
+
+    why_gave : (old new : BufferedStream T) (answer : ReadAnswer) → held_in new.held ≡ [] → (traffic new.inner).last ≡ Some (Read answer) → WhyGave traffic old answer new
+    why_gave old new (Moved n) none last = (none, last)
+    why_gave old new ReadBlocked none last = inl (none, inl last)
+    why_gave old new ReadFailed none last = inl (none, last)
+    why_gave old new Ended none last = (none, last)
+
+    why_took : (new : BufferedStream T) (answer : WriteAnswer) → (traffic new.inner).last ≡ Some (Write answer) → WhyTook traffic answer new
+    why_took new (Wrote n) last = tt
+    why_took new WriteBlocked last = last
+    why_took new WriteFailed last = last
+
+    -- the stream behind was read once nothing was held
+    pub gives_some : (old mid : BufferedStream T) (inner : T) (short : Bool) (before after : List ℕ) (answer : ReadAnswer) → Flushes tells traffic moment old All mid → ReadsWithin answer (length before)
+        → (tells → (traffic inner).given ≡ (traffic mid.inner).given ++ take (bytes_read answer) after) → (tells → (traffic inner).taken ≡ (traffic mid.inner).taken) → (tells → DepartAt moment (traffic mid.inner) (traffic inner))
+        → (traffic inner).last ≡ Some (Read answer) → ShortAfter old (length before) answer (record mid { inner = inner; is_short = short })
+        → GivesSome tells traffic moment old before answer (record mid { inner = inner; is_short = short }) after
+    gives_some old mid inner short before after answer flushed within given taken departed last shorter =
+        let new : BufferedStream T = record mid { inner = inner; is_short = short } in
+        record {
+          within = within;
+          given = λ t. given t ∙ ap (λ l. l ++ take (bytes_read answer) after) (flushed.kept.given t);
+          taken = λ t. ap (λ l. l ++ held_in mid.held) (taken t) ∙ flushed.kept.taken t;
+          departed = λ t. left_then old mid new [] flushed.kept t (ap (λ l. l ++ held_in mid.held) (taken t) ∙ sym (append-nil ((traffic mid.inner).taken ++ held_in mid.held))) (departed t);
+          counts = flushed.kept.counts;
+          why = why_gave old new answer flushed.why last;
+          failed = read_fails old mid new answer flushed.failed flushed.why refl refl;
+          short = record { short = shorter; drained = flushed.kept.drained; reads_on = flushed.kept.reads_on };
+        }
+
+    module _ (old mid : BufferedStream T) (kept : KeepsBytes tells traffic moment old mid) (stays : StaysWithRoom old mid) (from : List ℕ) where
+      -- the stream behind took them
+      pub takes_on : (inner : T) (answer : WriteAnswer) → held_in mid.held ≡ [] → WritesWithin answer (length from) → (tells → (traffic inner).given ≡ (traffic mid.inner).given)
+          → (tells → (traffic inner).taken ≡ (traffic mid.inner).taken ++ take (bytes_written answer) from) → (tells → DepartAt moment (traffic mid.inner) (traffic inner)) → (traffic inner).last ≡ Some (Write answer)
+          → TakesSome tells traffic moment old from answer (record mid { inner = inner })
+      takes_on inner answer none within given taken departed last =
+          let new : BufferedStream T = record mid { inner = inner } in
+          let all : tells → (traffic inner).taken ++ held_in mid.held ≡ ((traffic mid.inner).taken ++ held_in mid.held) ++ take (bytes_written answer) from =
+          λ t. ap (λ l. (traffic inner).taken ++ l) none ∙ append-nil (traffic inner).taken ∙ taken t
+          ∙ ap (λ l. l ++ take (bytes_written answer) from) (sym (append-nil (traffic mid.inner).taken) ∙ ap (λ l. (traffic mid.inner).taken ++ l) (sym none)) in
+          record {
+            within = within;
+            given = λ t. given t ∙ kept.given t;
+            taken = λ t. all t ∙ ap (λ l. l ++ take (bytes_written answer) from) (kept.taken t);
+            departed = λ t. left_then old mid new (take (bytes_written answer) from) kept t (all t) (departed t);
+            counts = kept.counts;
+            why = why_took new answer last;
+            failed = write_fails old mid new answer stays none refl;
+            short = kept.short;
+            drained = kept.drained;
+            reads_on = kept.reads_on;
+          }
+
+      -- they are held
+      pub takes_in : (held : Held) (n : ℕ) → (0 < n) × (n ≤ length from) → held_in held ≡ held_in mid.held ++ take n from → TakesSome tells traffic moment old from (Wrote n) (record mid { held = held })
+      takes_in held n fits is =
+          let new : BufferedStream T = record mid { held = held } in
+          let all : (traffic mid.inner).taken ++ held_in held ≡ ((traffic mid.inner).taken ++ held_in mid.held) ++ take n from =
+          ap (λ l. (traffic mid.inner).taken ++ l) is ∙ sym (append_assoc (traffic mid.inner).taken (held_in mid.held) (take n from)) in
+          record {
+            within = fits;
+            given = kept.given;
+            taken = λ t. all ∙ ap (λ l. l ++ take n from) (kept.taken t);
+            departed = λ t. departed_and_taken moment (traffic_through traffic old) (traffic_through traffic mid) (traffic_through traffic new) (take n from) refl all (kept.departed t);
+            counts = kept.counts;
+            why = tt;
+            failed = stays;
+            short = kept.short;
+            drained = kept.drained;
+            reads_on = kept.reads_on;
+          }

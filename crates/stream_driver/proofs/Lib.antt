@@ -8,3 +8,6 @@ pub mod OneCall
 pub mod Loops
 pub mod Turns
 pub mod Buffering
+pub mod Sends
+pub mod OneEntry
+pub mod TurnSends

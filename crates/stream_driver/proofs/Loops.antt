@@ -22,10 +22,12 @@ use Rattle.stream_driver.specs.declared.driving.Flush.TheVariants.{Empty, Blocke
 use Rattle.stream_driver.specs.declared.driving.Exchange.{Exchange}
 use Rattle.stream_driver.specs.declared.driving.Exchange.TheVariants.{Served, Broke as ExchangeBroke, Starved as ExchangeStarved, Blocked as ExchangeBlocked, Failed as ExchangeFailed, Ended as ExchangeEnded}
 use Rattle.stream_driver.specs.Traffic.{Traffic, AllMoved}
-use Rattle.stream_driver.specs.Sessions.{Point, Leads, Runs, AwaitsMore, status_at, pending_at, room_at, inbox_at, inbox_in, IsPresentIn}
+use Rattle.stream_driver.specs.Sessions.{Point, Runs, AwaitsMore, status_at, pending_at, room_at, inbox_at, inbox_in, IsPresentIn}
 use Rattle.stream_driver.specs.Drives.{Carried, Drove, Departs}
 use Rattle.stream_driver.specs.Calls.{Moves, WritesSome, ReadsSome, Flushes, Exchanges, WrittenSoFar, ReadSoFar, DrivenSoFar, DrivenOut, served_in}
-use Rattle.stream_driver.proofs.States.{Follow, leads_step}
+use Rattle.stream_driver.specs.Sends.{LeadsTelling}
+use Rattle.stream_driver.proofs.States.{Follow}
+use Rattle.stream_driver.proofs.Sends.{tells_step}
 use Rattle.stream_driver.proofs.Inboxes.{beginning_short}
 use Rattle.stream_driver.proofs.Events.{Happens, point_after, Comes, Answered, IsBroken, IsStarved, Awaits, comes_to, serves_is, served_event, effect, open_present}
 use Rattle.stream_driver.proofs.Answered.{none_called, moved_then, ends_then}
@@ -403,8 +405,9 @@ module _ (s : ℕ) (tells : Type 0) (old : Point) (before : Traffic) (mid : Poin
 abbrev pub HasRead : ℕ → Type 0 → Traffic → Traffic → ℕ → Point → Point → Type 0
 HasRead s tells before between room h k = ReadSoFar s tells h before k between room × AwaitsMore k.hub s × (0 < room)
 
-pub waits : {D : Type 0} {g : Ghosts D} → Follow D g → (a b c : Hub D g) (s : ℕ) (tells : Type 0) (before between : Traffic) (room : ℕ) (outcome : Outcome) → Leads a b (λ h k. ReadSoFar s tells h before k between room)
-    → HubLeads b c (Serves s) outcome → RunsAlone b c (Serves s) → failures b ≤ failures c → outcome ≢ Done → outcome ≢ Memory → Leads a c (HasRead s tells before between room)
+pub waits : {D : Type 0} {g : Ghosts D} → Follow D g → (a b c : Hub D g) (s : ℕ) (tells : Type 0) (before between : Traffic) (room : ℕ) (outcome : Outcome)
+    → LeadsTelling s tells a before b between (λ h k. ReadSoFar s tells h before k between room)
+    → HubLeads b c (Serves s) outcome → RunsAlone b c (Serves s) → failures b ≤ failures c → outcome ≢ Done → outcome ≢ Memory → LeadsTelling s tells a before c between (HasRead s tells before between room)
 waits follow a b c s tells before between room outcome p q alone counted not_done not_memory =
-    leads_step follow a b c (λ h k. ReadSoFar s tells h before k between room) (HasRead s tells before between room) (Serves s) outcome p q alone counted
+    tells_step s tells follow a b c before between (λ h k. ReadSoFar s tells h before k between room) (HasRead s tells before between room) (Serves s) outcome p q alone counted (λ h k r. r.moves.carried)
     (λ h k choice happens is stands r. serve_awaits s tells h before k between room r choice (failures c) happens outcome is not_done not_memory)

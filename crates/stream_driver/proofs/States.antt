@@ -88,14 +88,14 @@ pub are_runs : {D : Type 0} {g : Ghosts D} (a b : Hub D g) (P : Point → Point 
 are_runs a b P p = (p.choices, p.ran)
 
 -- nothing happens
-pub leads_none : {D : Type 0} {g : Ghosts D} (hub : Hub D g) → NoneRuns hub → (P : Point → Point → Type 0) → ((h : Point) → StandsAt hub h → P h h) → Leads hub hub P
+abbrev pub leads_none : {D : Type 0} {g : Ghosts D} (hub : Hub D g) → NoneRuns hub → (P : Point → Point → Type 0) → ((h : Point) → StandsAt hub h → P h h) → Leads hub hub P
 leads_none hub none P f = record { choices = []; ran = none; to = λ h at. (h, at, (adds_none h, f h at)) }
 
-pub leads_map : {D : Type 0} {g : Ghosts D} (a b : Hub D g) (P Q : Point → Point → Type 0) → Leads a b P → ((h k : Point) → StandsFor b k.hub → P h k → Q h k) → Leads a b Q
+abbrev pub leads_map : {D : Type 0} {g : Ghosts D} (a b : Hub D g) (P Q : Point → Point → Type 0) → Leads a b P → ((h k : Point) → StandsFor b k.hub → P h k → Q h k) → Leads a b Q
 leads_map a b P Q p f = record { choices = p.choices; ran = p.ran; to = weaken StandsAt a b _ _ p.to (λ h k at last x. (x.0, f h k last.state x.1)) }
 
 -- with what the hub between stands for
-pub leads_two_at : {D : Type 0} {g : Ghosts D} → Follow D g → (a b c : Hub D g) (P Q R : Point → Point → Type 0) → Leads a b P → Leads b c Q
+abbrev pub leads_two_at : {D : Type 0} {g : Ghosts D} → Follow D g → (a b c : Hub D g) (P Q R : Point → Point → Type 0) → Leads a b P → Leads b c Q
     → ((h k l : Point) → StandsFor b k.hub → StandsFor c l.hub → P h k → Q k l → R h l) → Leads a c R
 leads_two_at follow a b c P Q R p q f = record {
   choices = p.choices ++ q.choices;
@@ -106,24 +106,6 @@ leads_two_at follow a b c P Q R p q f = record {
 pub leads_then : {D : Type 0} {g : Ghosts D} → Follow D g → (a b c : Hub D g) (P Q R : Point → Point → Type 0) → Leads a b P → Leads b c Q → ((h k l : Point) → StandsFor c l.hub → P h k → Q k l → R h l)
     → Leads a c R
 leads_then follow a b c P Q R p q f = leads_two_at follow a b c P Q R p q (λ h k l was stands x y. f h k l stands x y)
-
-pub leads_three_at : {D : Type 0} {g : Ghosts D} → Follow D g → (a b c d : Hub D g) (P Q R S : Point → Point → Type 0) → Leads a b P → Leads b c Q → Leads c d R
-    → ((h k l m : Point) → StandsFor b k.hub → StandsFor c l.hub → P h k → Q k l → R l m → S h m) → Leads a d S
-leads_three_at follow a b c d P Q R S p q r f =
-    leads_two_at follow a c d (λ h l. (k : Point) × StandsFor b k.hub × P h k × Q k l) R S
-    (leads_two_at follow a b c P Q (λ h l. (k : Point) × StandsFor b k.hub × P h k × Q k l) p q (λ h k l was stands x y. (k, was, x, y))) r
-    (λ h l m stands last x z. f h x.0 l m x.1 stands x.2 x.3 z)
-
-pub leads_three : {D : Type 0} {g : Ghosts D} → Follow D g → (a b c d : Hub D g) (P Q R S : Point → Point → Type 0) → Leads a b P → Leads b c Q → Leads c d R
-    → ((h k l m : Point) → StandsFor c l.hub → P h k → Q k l → R l m → S h m) → Leads a d S
-leads_three follow a b c d P Q R S p q r f = leads_three_at follow a b c d P Q R S p q r (λ h k l m was stands x y z. f h k l m stands x y z)
-
-pub leads_four : {D : Type 0} {g : Ghosts D} → Follow D g → (a b c d e : Hub D g) (P Q R S T : Point → Point → Type 0) → Leads a b P → Leads b c Q → Leads c d R → Leads d e S
-    → ((h k l m n : Point) → P h k → Q k l → R l m → S m n → T h n) → Leads a e T
-leads_four follow a b c d e P Q R S T p q r s f =
-    leads_two_at follow a d e (λ h m. (k : Point) × (l : Point) × P h k × Q k l × R l m) S T
-    (leads_three_at follow a b c d P Q R (λ h m. (k : Point) × (l : Point) × P h k × Q k l × R l m) p q r (λ h k l m was stands x y z. (k, l, x, y, z))) s
-    (λ h m n was stands x w. f h x.0 x.1 m n x.2 x.3 x.4 w)
 
 -- one event of the hub
 pub leads_event : {D : Type 0} {g : Ghosts D} (b c : Hub D g) (P : Point → Point → Type 0) (e : HubEvent) (outcome : Outcome) (q : HubLeads b c e outcome) → RunsAlone b c e → failures b ≤ failures c
@@ -141,12 +123,6 @@ leads_event b c P e outcome q alone counted f =
             (record { run_is = sym (run.1 h.hub at.state); events_are = refl }, f h at happens there.outcome_is there.stands),
           ));
     }
-
-pub leads_step : {D : Type 0} {g : Ghosts D} → Follow D g → (a b c : Hub D g) (P R : Point → Point → Type 0) (e : HubEvent) (outcome : Outcome) → Leads a b P → HubLeads b c e outcome → RunsAlone b c e → failures b ≤ failures c
-    → ((h k : Point) (choice : Choice) → Happens k e choice (failures c) → outcome ≡ (hub_step k.hub e choice).1 → StandsFor c (hub_step k.hub e choice).0 → P h k → R h (point_after k e choice (failures c))) → Leads a c R
-leads_step follow a b c P R e outcome p q alone counted f =
-    leads_two_at follow a b c P (λ k l. (h : Point) → P h k → R h l) R p
-    (leads_event b c (λ k l. (h : Point) → P h k → R h l) e outcome q alone counted (λ k at happens is stands h x. f h k q.0 happens is stands x)) (λ h k l was stands x y. y h x)
 
 pub some_after : {D : Type 0} {g : Ghosts D} (a b : Hub D g) (P : HubState → Type 0) (Q : Point → Point → Type 0) (R : HubState → Type 0) → InSomeState a P → Leads a b Q → ((h k : Point) → P h.hub → Q h k → R k.hub) → InSomeState b R
 some_after a b P Q R some q f = ∥∥₁_map some (λ w. let h = point_of a w.0 in let k = q.to h (at_point a w.0 w.1) in (k.0.hub, k.1.state, f h k.0 w.2 k.2.1))

@@ -1,8 +1,7 @@
 -- The turns of a walk over the table.
-use Rattle.std.proofs.Common.{◌≡◌, ◌≢◌, ◌⊎◌, inl, inr, ℕ, ◌+◌, ◌<◌, ◌≤◌, List, [], ◌∷◌, ◌++◌, length, set, take, drop, get_or, refl, sym, ap, subst, ◌∙◌, arith, Option, Some, None, unwrap_or, add-zero}
-use Rattle.std.proofs.lemmas.Bool.{cases_lt, cases_eq}
-use Rattle.std.proofs.lemmas.List.{take_all, take_more, take_more_set, get_or-drop, drop-drop, drop-set-lt, length-set, get_or-set_same, get_or-set_other}
-use Rattle.std.proofs.Math.ListN.{get_or-eq_default}
+use Rattle.std.proofs.Common.{◌≡◌, ◌≢◌, ◌⊎◌, inl, inr, ℕ, ◌+◌, ◌<◌, ◌≤◌, List, [], ◌∷◌, ◌++◌, length, set, take, drop, get_or, refl, sym, ap, subst, ◌∙◌, arith, Option, Some, None, add-zero}
+use Rattle.std.proofs.lemmas.Bool.{cases_lt}
+use Rattle.std.proofs.lemmas.List.{take_all, take_more, take_more_set, get_or-drop, drop-drop, drop-set-lt, length-set}
 use Rattle.sector.specs.declared.device.Sectors.{Ghosts}
 use Rattle.sessions.specs.declared.hub.Hub.{Hub}
 use Rattle.sessions.specs.SessionStreams.{stream_of}
@@ -17,35 +16,13 @@ use Rattle.stream_driver.specs.Traffic.{Traffic}
 use Rattle.stream_driver.specs.Sessions.{Point, Leads, IsPresent, IsPresentIn}
 use Rattle.stream_driver.specs.Drives.{Drove, EndsAs}
 use Rattle.stream_driver.specs.Entries.{HaveSessions, DrivenEntry, DrivenIn, DrivenSlot, DrivenAll, EntriesSoFar, state_after}
-use Rattle.stream_driver.proofs.Events.{leaves_others}
-use Rattle.stream_driver.proofs.States.{Follow, leads_none, leads_then, leads_map, some_after}
-
-ends_other : (s : ℕ) (last new : Point) (answer : Progress) (t : ℕ) → t ≢ s → EndsAs s last new answer → stream_of new.hub t ≡ stream_of last.hub t
-ends_other s last new Waiting t d e = ap (λ p. stream_of p.hub t) e
-ends_other s last new Again t d e = ap (λ p. stream_of p.hub t) e
-ends_other s last new Gone t d e = ap (λ h. stream_of h t) e.adds.run_is ∙ leaves_others last.hub s e.choice t d
-
-ends_present : (s : ℕ) (last new : Point) (answer : Progress) → answer ≢ Gone → EndsAs s last new answer → IsPresentIn last.hub s → IsPresentIn new.hub s
-ends_present s last new Waiting d e p = subst (λ v. IsPresentIn v.hub s) (sym e) p
-ends_present s last new Again d e p = subst (λ v. IsPresentIn v.hub s) (sym e) p
-ends_present s last new Gone d e p = absurd (d refl)
+use Rattle.stream_driver.specs.Sends.{DrivesTelling, LeadsTelling}
+use Rattle.stream_driver.proofs.OneEntry.{below, entry_other, entry_present, get_set}
+use Rattle.stream_driver.proofs.Sends.{tells_still}
+use Rattle.stream_driver.proofs.TurnSends.{drives_map, drives_none, drives_then}
+use Rattle.stream_driver.proofs.States.{Follow, leads_none, some_after}
 
 module _ {T : Type 0} (tells : Type 0) (traffic : T → Traffic) where
-  -- the session that an entry holds is the one that it held, and it was not gone
-  entry_session : (state : EntryState) (earlier : Point) (old : Entry T) (later : Point) (new : Entry T) → old.state ≡ state → DrivenIn tells traffic state earlier old later new → new.state ≢ EntryGone
-      → (new.session ≡ old.session) × (old.state ≢ EntryGone)
-  entry_session Ready earlier old later new is d alive = (d.session, λ gone. (let bad : Ready ≡ EntryGone = sym is ∙ gone in cc))
-  entry_session Idle earlier old later new is d alive = (rw d.0 refl, λ gone. (let bad : Idle ≡ EntryGone = sym is ∙ gone in cc))
-  entry_session EntryGone earlier old later new is d alive = absurd (alive (rw d.0 is))
-
-  entry_present : (state : EntryState) (earlier : Point) (old : Entry T) (later : Point) (new : Entry T) → old.state ≡ state → DrivenIn tells traffic state earlier old later new → new.state ≢ EntryGone
-      → IsPresentIn earlier.hub old.session → IsPresentIn later.hub new.session
-  entry_present Ready earlier old later new is d alive p =
-      let going : d.answer ≢ Gone = λ gone. alive (d.state ∙ ap state_after gone) in
-      rw d.session (ends_present old.session d.drove.last later d.answer going d.drove.ends d.drove.carried.runs.present)
-  entry_present Idle earlier old later new is d alive p = rw (d.0, d.1) p
-  entry_present EntryGone earlier old later new is d alive p = absurd (alive (rw d.0 is))
-
   -- an entry that was ready was driven
   pub driven_once : (earlier later : Point) (old : Entry T) (answer : Progress) (stream : T) (state : EntryState) → old.state ≡ Ready → state ≡ state_after answer
       → Drove old.session tells earlier (traffic old.stream) answer later (traffic stream) → DrivenEntry tells traffic earlier old later (record { session = old.session; stream = stream; state = state })
@@ -54,22 +31,14 @@ module _ {T : Type 0} (tells : Type 0) (traffic : T → Traffic) where
       subst (λ (s : EntryState). DrivenIn tells traffic s earlier old later new) (sym ready) (record { answer = answer; drove = drove; session = refl; state = is })
 
   -- one that isn't ready is left alone
-  pub left_alone : {D : Type 0} {g : Ghosts D} (hub : Hub D g) (old : Entry T) → NoneRuns hub → old.state ≢ Ready → Leads hub hub (λ h k. DrivenEntry tells traffic h old k old)
-  left_alone hub old none differs = leads_none hub none _ (λ h at. by old.state differs h)
+  pub left_alone : {D : Type 0} {g : Ghosts D} (hub : Hub D g) (old : Entry T) → NoneRuns hub → old.state ≢ Ready
+      → LeadsTelling old.session tells hub (traffic old.stream) hub (traffic old.stream) (λ h k. DrivenEntry tells traffic h old k old)
+  left_alone hub old none differs = tells_still old.session tells hub hub (traffic old.stream) (λ h k. DrivenEntry tells traffic h old k old) (leads_none hub none _ (λ h at. by old.state differs h))
     where
       by : (state : EntryState) → state ≢ Ready → (h : Point) → DrivenIn tells traffic state h old h old
       by Ready d h = absurd (d refl)
       by Idle d h = (refl, refl)
       by EntryGone d h = (refl, refl)
-
-  -- each other session is as it was
-  pub entry_other : (state : EntryState) (earlier : Point) (old : Entry T) (later : Point) (new : Entry T) → old.state ≡ state → DrivenIn tells traffic state earlier old later new
-      → (t : ℕ) → (old.state ≢ EntryGone → t ≢ old.session) → stream_of later.hub t ≡ stream_of earlier.hub t
-  entry_other Ready earlier old later new is d t differs =
-      let apart : t ≢ old.session = differs (λ gone. (let bad : Ready ≡ EntryGone = sym is ∙ gone in cc)) in
-      ends_other old.session d.drove.last later d.answer t apart d.drove.ends ∙ d.drove.carried.runs.others t apart
-  entry_other Idle earlier old later new is d t differs = rw d.1 refl
-  entry_other EntryGone earlier old later new is d t differs = rw d.1 refl
 
   pub driven_more : (earlier : Point) (xs : List (Option (Entry T))) (mid : Point) (ys : List (Option (Entry T))) (x : Option (Entry T)) (later : Point) (y : Option (Entry T))
       → DrivenAll tells traffic earlier xs mid ys → DrivenSlot tells traffic mid x later y → DrivenAll tells traffic earlier (xs ++ x ∷ []) later (ys ++ y ∷ [])
@@ -78,33 +47,17 @@ module _ {T : Type 0} (tells : Type 0) (traffic : T → Traffic) where
   driven_more earlier (z ∷ zs) mid ys x later y (first, m, others, e, dz, rest) d =
       (first, m, others ++ y ∷ [], ap (λ (l : List (Option (Entry T))). l ++ y ∷ []) e, dz, driven_more m zs mid others x later y rest d)
 
-  some_inj : {a b : Entry T} → Some a ≡ Some b → a ≡ b
-  some_inj {a} e = ap (λ (o : Option (Entry T)). unwrap_or o a) e
-
-  get_set : (slots : List (Option (Entry T))) (key other : ℕ) (new : Entry T) (another : Entry T) → key < length slots → get_or (set slots key (Some new)) other None ≡ Some another
-      → ((other ≡ key) × (another ≡ new)) ⊎ ((other ≢ key) × (get_or slots other None ≡ Some another))
-  get_set slots key other new another lt e = elim (cases_eq other key) [
-    | inl same ↦ inl (same, some_inj (sym e ∙ ap (λ (k : ℕ). get_or (set slots key (Some new)) k None) same ∙ get_or-set_same slots key (Some new) None lt))
-    | inr differs ↦ inr (differs, sym (get_or-set_other slots key other (Some new) None differs) ∙ e)
-  ]
-
-  below : (slots : List (Option (Entry T))) (key : ℕ) (old : Entry T) → get_or slots key None ≡ Some old → key < length slots
-  below slots key old e = elim (cases_lt key (length slots)) [
-    | inl lt ↦ lt
-    | inr ge ↦ absurd (let bad : None ≡ Some old = sym (get_or-eq_default slots None ge) ∙ e in cc)
-  ]
-
   module _ {D : Type 0} {g : Ghosts D} (hub later : Hub D g) (slots : List (Option (Entry T))) (key : ℕ) (old new : Entry T) (is : get_or slots key None ≡ Some old) (same : new.session ≡ old.session)
       (stays : old.state ≡ EntryGone → new.state ≡ EntryGone) (leads : Leads hub later (λ h k. DrivenEntry tells traffic h old k new)) where
     still_present : old.state ≢ EntryGone → new.state ≢ EntryGone → IsPresent hub old.session → IsPresent later new.session
     still_present alive alive_new has =
         some_after hub later (λ h. IsPresentIn h old.session) (λ h k. DrivenEntry tells traffic h old k new) (λ k. IsPresentIn k new.session) has leads
-        (λ h k p d. entry_present old.state h old k new refl d alive_new p)
+        (λ h k p d. entry_present tells traffic old.state h old k new refl d alive_new p)
 
     other_present : (s : ℕ) → (old.state ≢ EntryGone → s ≢ old.session) → IsPresent hub s → IsPresent later s
     other_present s apart has =
         some_after hub later (λ h. IsPresentIn h s) (λ h k. DrivenEntry tells traffic h old k new) (λ k. IsPresentIn k s) has leads
-        (λ h k p d gone. p (sym (ap status_in (entry_other old.state h old k new refl d s apart)) ∙ gone))
+        (λ h k p d gone. p (sym (ap status_in (entry_other tells traffic old.state h old k new refl d s apart)) ∙ gone))
 
     pub sessions_kept : HaveSessions hub slots → HaveSessions later (set slots key (Some new))
     sessions_kept has =
@@ -138,7 +91,7 @@ module _ {T : Type 0} (tells : Type 0) (traffic : T → Traffic) where
   drop_next key slots new e = sym (drop-drop 1 key new) ∙ ap (λ (l : List (Option (Entry T))). drop 1 l) e ∙ drop-drop 1 key slots
 
   pub entries_none : {D : Type 0} {g : Ghosts D} (hub : Hub D g) (slots : List (Option (Entry T))) → NoneRuns hub → HaveSessions hub slots → EntriesSoFar tells traffic 0 hub slots hub slots
-  entries_none hub slots none has = record { driven = leads_none hub none _ (λ h stands. (refl, refl)); rest = refl; len = refl; sessions = has; numbers = λ key entry e. (entry, e, refl) }
+  entries_none hub slots none has = record { driven = drives_none tells traffic hub slots none _ (λ h stands. (refl, refl)); rest = refl; len = refl; sessions = has; numbers = λ key entry e. (entry, e, refl) }
 
   one_vacant : (key : ℕ) (slots new : List (Option (Entry T))) → length new ≡ length slots → drop key new ≡ drop key slots → get_or new key None ≡ None → (h k : Point) → DrivenAll tells traffic h (take key slots) k (take key new)
       → DrivenAll tells traffic h (take (key + 1) slots) k (take (key + 1) new)
@@ -153,7 +106,7 @@ module _ {T : Type 0} (tells : Type 0) (traffic : T → Traffic) where
       → get_or new key None ≡ None → EntriesSoFar tells traffic (key + 1) hub slots later new
   entries_vacant key hub slots later new p none = record {
     driven =
-        leads_map hub later (λ h k. DrivenAll tells traffic h (take key slots) k (take key new)) (λ h k. DrivenAll tells traffic h (take (key + 1) slots) k (take (key + 1) new)) p.driven
+        drives_map tells traffic hub slots later new (λ h k. DrivenAll tells traffic h (take key slots) k (take key new)) (λ h k. DrivenAll tells traffic h (take (key + 1) slots) k (take (key + 1) new)) p.driven
         (λ h k stands now. one_vacant key slots new p.len p.rest none h k now);
     rest = drop_next key slots new p.rest;
     len = p.len;
@@ -171,15 +124,15 @@ module _ {T : Type 0} (tells : Type 0) (traffic : T → Traffic) where
 
   pub entries_driven : {D : Type 0} {g : Ghosts D} → Follow D g → (key : ℕ) (hub : Hub D g) (slots : List (Option (Entry T))) (mid : Hub D g) (new : List (Option (Entry T))) (old : Entry T) (later : Hub D g) (entry : Entry T)
       → EntriesSoFar tells traffic key hub slots mid new → get_or new key None ≡ Some old → entry.session ≡ old.session → (old.state ≡ EntryGone → entry.state ≡ EntryGone)
-      → Leads mid later (λ h k. DrivenEntry tells traffic h old k entry) → EntriesSoFar tells traffic (key + 1) hub slots later (set new key (Some entry))
+      → LeadsTelling old.session tells mid (traffic old.stream) later (traffic entry.stream) (λ h k. DrivenEntry tells traffic h old k entry) → EntriesSoFar tells traffic (key + 1) hub slots later (set new key (Some entry))
   entries_driven follow key hub slots mid new old later entry p is same stays leads = record {
     driven =
-        leads_then follow hub mid later (λ h k. DrivenAll tells traffic h (take key slots) k (take key new)) (λ h k. DrivenEntry tells traffic h old k entry)
-        (λ h k. DrivenAll tells traffic h (take (key + 1) slots) k (take (key + 1) (set new key (Some entry)))) p.driven leads
+        drives_then tells traffic follow key hub slots mid new old later entry (λ h k. DrivenAll tells traffic h (take key slots) k (take key new))
+        (λ h k. DrivenAll tells traffic h (take (key + 1) slots) k (take (key + 1) (set new key (Some entry)))) p.driven leads is (below new key old is) p.sessions p.numbers
         (λ h k l stands now d. one_driven key slots new old entry p.len p.rest is h k l now d);
     rest = rw (drop-set-lt (key + 1) new key (Some entry) (omega arith)) (drop_next key slots new p.rest);
     len = length-set new key (Some entry) ∙ p.len;
-    sessions = sessions_kept mid later new key old entry is same stays leads p.sessions;
+    sessions = sessions_kept mid later new key old entry is same stays leads.leads p.sessions;
     numbers = λ other another e. elim (get_set new key other entry another (below new key old is) e) [
       | inl (at, which) ↦ (
           let was = p.numbers key old is in
@@ -190,7 +143,7 @@ module _ {T : Type 0} (tells : Type 0) (traffic : T → Traffic) where
   }
 
   pub entries_all : {D : Type 0} {g : Ghosts D} (end : ℕ) (hub : Hub D g) (slots : List (Option (Entry T))) (later : Hub D g) (new : List (Option (Entry T))) → length slots ≤ end → EntriesSoFar tells traffic end hub slots later new
-      → Leads hub later (λ h k. DrivenAll tells traffic h slots k new)
+      → DrivesTelling traffic tells hub slots later new (λ h k. DrivenAll tells traffic h slots k new)
   entries_all end hub slots later new le p =
       let all : take end slots ≡ slots = take_all end slots le in
       let all_new : take end new ≡ new = take_all end new (rw p.len le) in

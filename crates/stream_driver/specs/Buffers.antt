@@ -10,7 +10,7 @@ use Rattle.stream_driver.specs.declared.buffered.Counts.{Counts}
 use Rattle.stream_driver.specs.declared.buffered.Flushed.{Flushed}
 use Rattle.stream_driver.specs.declared.buffered.Flushed.TheVariants.{All, Blocked as FlushBlocked, Failed as FlushFailed}
 use Rattle.stream_driver.specs.declared.buffered.BufferedStream.{BufferedStream}
-use Rattle.stream_driver.specs.Traffic.{Traffic, ReadsWithin, WritesWithin, bytes_read, bytes_written, untouched}
+use Rattle.stream_driver.specs.Traffic.{Departure, DepartAt, Traffic, ReadsWithin, WritesWithin, bytes_read, bytes_written, untouched}
 
 -- the bytes that are held
 abbrev pub held_in : Held → List ℕ
@@ -20,11 +20,12 @@ held_in h = drop h.left h.bytes.items
 abbrev pub room_in : Held → ℕ
 room_in h = 16384 - vec_len h.bytes
 
--- counts and the last call, with the bytes that went each way
-abbrev pub counted_with : Counts → List ℕ → List ℕ → Traffic
-counted_with c given taken = record {
+-- counts and the last call, with the bytes that went each way and what has left
+abbrev pub counted_with : Counts → List ℕ → List ℕ → List Departure → Traffic
+counted_with c given taken departed = record {
   given = given;
   taken = taken;
+  departed = departed;
   read_blocked = c.read_blocked;
   read_failed = c.read_failed;
   read_ended = c.read_ended;
@@ -34,7 +35,7 @@ counted_with c given taken = record {
 }
 
 abbrev pub counted : Counts → Traffic
-counted c = counted_with c [] []
+counted c = counted_with c [] [] []
 
 -- nothing is held
 abbrev pub is_none : List ℕ → Bool
@@ -61,9 +62,9 @@ module _ {T : Type 0} where
   fresh b = record b { is_short = false; is_drained = false }
 
   -- The traffic of a buffered stream: what it gave is what the stream behind gave, and what it took is what the stream behind took, followed
-  -- by what it holds. The answers are its own.
+  -- by what it holds. What has left, left from the stream behind. The answers are its own.
   abbrev pub traffic_through : (T → Traffic) → BufferedStream T → Traffic
-  traffic_through traffic b = counted_with b.counts (traffic b.inner).given ((traffic b.inner).taken ++ held_in b.held)
+  traffic_through traffic b = counted_with b.counts (traffic b.inner).given ((traffic b.inner).taken ++ held_in b.held) (traffic b.inner).departed
 
   -- A read that gave fewer bytes than it was asked for is short, unless such a read means nothing; where it gave none, it is as the last
   -- one was. Nothing was taken since then.
@@ -150,36 +151,37 @@ module _ {T : Type 0} where
       ((held_in new.held ≡ []) × (((traffic new.inner).last ≡ Some (Read Blocked)) ⊎ (old.is_drained ≡ true)))
       ⊎ ((traffic new.inner).last ≡ Some (Write WriteBlocked))
 
-  module _ (tells : Type 0) (traffic : T → Traffic) where
+  -- One write of what is held: so much has left, or the stream behind blocked or failed, and all is held still. It has failed after
+  -- the stream behind failed, and no more after some has left.
+  abbrev pub WhyWroteHeld : (T → Traffic) → BufferedStream T → WriteAnswer → BufferedStream T → Type 0
+  WhyWroteHeld traffic old (Wrote n) new = (0 < n) × (n ≤ length (held_in old.held)) × (held_in new.held ≡ drop n (held_in old.held)) × (new.has_failed ≡ false)
+  WhyWroteHeld traffic old WriteBlocked new = (held_in new.held ≡ held_in old.held) × ((traffic new.inner).last ≡ Some (Write WriteBlocked)) × (new.has_failed ≡ old.has_failed)
+  WhyWroteHeld traffic old WriteFailed new = (held_in new.held ≡ held_in old.held) × ((traffic new.inner).last ≡ Some (Write WriteFailed)) × (new.has_failed ≡ true)
+
+  -- why no more of what is held was written: nothing is held, or the stream behind blocked or failed last
+  abbrev pub WhyFlushed : (T → Traffic) → Flushed → BufferedStream T → Type 0
+  WhyFlushed traffic All new = held_in new.held ≡ []
+  WhyFlushed traffic FlushBlocked new = (traffic new.inner).last ≡ Some (Write WriteBlocked)
+  WhyFlushed traffic FlushFailed new = (traffic new.inner).last ≡ Some (Write WriteFailed)
+
+  module _ (tells : Type 0) (traffic : T → Traffic) (moment : ℕ) where
     -- no byte came or went, lost or twice
     pub record KeepsBytes (old new : BufferedStream T) : Type 0 where
       pub given : tells → (traffic new.inner).given ≡ (traffic old.inner).given
       pub taken : tells → (traffic new.inner).taken ++ held_in new.held ≡ (traffic old.inner).taken ++ held_in old.held
+      pub departed : tells → DepartAt moment (traffic_through traffic old) (traffic_through traffic new)
       pub counts : new.counts ≡ old.counts
       pub short : new.is_short ≡ old.is_short
       pub drained : new.is_drained ≡ old.is_drained
       pub reads_on : new.reads_on ≡ old.reads_on
 
-    -- One write of what is held: so much has left, or the stream behind blocked or failed, and all is held still. It has failed after
-    -- the stream behind failed, and no more after some has left.
-    abbrev pub WhyWroteHeld : BufferedStream T → WriteAnswer → BufferedStream T → Type 0
-    WhyWroteHeld old (Wrote n) new = (0 < n) × (n ≤ length (held_in old.held)) × (held_in new.held ≡ drop n (held_in old.held)) × (new.has_failed ≡ false)
-    WhyWroteHeld old WriteBlocked new = (held_in new.held ≡ held_in old.held) × ((traffic new.inner).last ≡ Some (Write WriteBlocked)) × (new.has_failed ≡ old.has_failed)
-    WhyWroteHeld old WriteFailed new = (held_in new.held ≡ held_in old.held) × ((traffic new.inner).last ≡ Some (Write WriteFailed)) × (new.has_failed ≡ true)
-
     pub record WritesHeld (old : BufferedStream T) (answer : WriteAnswer) (new : BufferedStream T) : Type 0 where
       pub kept : KeepsBytes old new
-      pub why : WhyWroteHeld old answer new
-
-    -- why no more of what is held was written: nothing is held, or the stream behind blocked or failed last
-    abbrev pub WhyFlushed : Flushed → BufferedStream T → Type 0
-    WhyFlushed All new = held_in new.held ≡ []
-    WhyFlushed FlushBlocked new = (traffic new.inner).last ≡ Some (Write WriteBlocked)
-    WhyFlushed FlushFailed new = (traffic new.inner).last ≡ Some (Write WriteFailed)
+      pub why : WhyWroteHeld traffic old answer new
 
     pub record Flushes (old : BufferedStream T) (answer : Flushed) (new : BufferedStream T) : Type 0 where
       pub kept : KeepsBytes old new
-      pub why : WhyFlushed answer new
+      pub why : WhyFlushed traffic answer new
       pub failed : FlushFails old answer new
 
     -- what is held is written, unless the stream behind failed to take it
@@ -190,6 +192,7 @@ module _ {T : Type 0} where
       pub within : WritesWithin answer (length from)
       pub given : tells → (traffic new.inner).given ≡ (traffic old.inner).given
       pub taken : tells → (traffic new.inner).taken ++ held_in new.held ≡ ((traffic old.inner).taken ++ held_in old.held) ++ take (bytes_written answer) from
+      pub departed : tells → DepartAt moment (traffic_through traffic old) (traffic_through traffic new)
       pub counts : new.counts ≡ old.counts
       pub why : WhyTook traffic answer new
       pub failed : WriteFails old answer new
@@ -201,6 +204,7 @@ module _ {T : Type 0} where
       pub within : ReadsWithin answer (length before)
       pub given : tells → (traffic new.inner).given ≡ (traffic old.inner).given ++ take (bytes_read answer) after
       pub taken : tells → (traffic new.inner).taken ++ held_in new.held ≡ (traffic old.inner).taken ++ held_in old.held
+      pub departed : tells → DepartAt moment (traffic_through traffic old) (traffic_through traffic new)
       pub counts : new.counts ≡ old.counts
       pub why : WhyGave traffic old answer new
       pub failed : ReadFails old answer new

@@ -10,7 +10,8 @@ use Rattle.stream_driver.specs.declared.entries.Entry.{Entry}
 use Rattle.stream_driver.specs.declared.buffered.BufferedStream.{BufferedStream}
 use Rattle.stream_driver.specs.Traffic.{Traffic}
 use Rattle.stream_driver.specs.Buffers.{Finishes, fresh, is_settled}
-use Rattle.stream_driver.specs.Sessions.{IsPresent, Point, Leads}
+use Rattle.stream_driver.specs.Sends.{DrivesTelling}
+use Rattle.stream_driver.specs.Sessions.{IsPresent, Point}
 use Rattle.stream_driver.specs.Drives.{Drove}
 
 -- what an entry is after its drive
@@ -58,7 +59,7 @@ module _ {T : Type 0} (tells : Type 0) (traffic : T → Traffic) where
 
   -- the slots below a key were driven, and the others stand as they were
   pub record EntriesSoFar {D : Type 0} {g : Ghosts D} (key : ℕ) (hub : Hub D g) (slots : List (Option (Entry T))) (later : Hub D g) (new : List (Option (Entry T))) : Type 0 where
-    pub driven : Leads hub later (λ h k. DrivenAll h (take key slots) k (take key new))
+    pub driven : DrivesTelling traffic tells hub slots later new (λ h k. DrivenAll h (take key slots) k (take key new))
     pub rest : drop key new ≡ drop key slots
     pub len : length new ≡ length slots
     pub sessions : HaveSessions later new
@@ -76,13 +77,14 @@ module _ {T : Type 0} where
   abbrev pub is_over : Entry (BufferedStream T) → Bool
   is_over entry = is_gone entry.state && is_settled entry.stream
 
-  module _ (tells : Type 0) (traffic : T → Traffic) where
+  module _ (tells : Type 0) (traffic : T → Traffic) (moment : ℕ) where
     abbrev pub EndsIn : EntryState → BufferedStream T → BufferedStream T → Type 0
     EndsIn Idle old new = new ≡ fresh old
-    EndsIn Ready old new = Finishes tells traffic (fresh old) new
-    EndsIn EntryGone old new = Finishes tells traffic (fresh old) new
+    EndsIn Ready old new = Finishes tells traffic moment (fresh old) new
+    EndsIn EntryGone old new = Finishes tells traffic moment (fresh old) new
 
-    -- the end of an entry's drive: what its stream holds was written as far as it goes, but for a stream that is waited for
+    -- the end of an entry's drive: what its stream holds was written as far as it goes, at this moment of the device, but for a stream that
+    -- is waited for
     pub record EndsDrive (old new : Entry (BufferedStream T)) : Type 0 where
       pub session : new.session ≡ old.session
       pub state : new.state ≡ old.state

@@ -3,4 +3,5 @@ pub mod Buffers
 pub mod Sessions
 pub mod Drives
 pub mod Calls
+pub mod Sends
 pub mod Entries

@@ -1,5 +1,6 @@
 -- What a stream has moved and answered so far.
-use Rattle.std.specs.Prelude.{◌≡◌, ℕ, ◌+◌, ◌<◌, ◌≤◌, ◌^◌, ◌-◌, min, max, List, [], Option, Some, None}
+use Rattle.std.specs.Prelude.{◌≡◌, ℕ, ◌+◌, ◌<◌, ◌≤◌, ◌^◌, ◌-◌, min, max, List, [], ◌++◌, Option, Some, None}
+use Rattle.std.specs.List.{AllByRecursion}
 use Rattle.stream_driver.specs.declared.answers.Call.{Call}
 use Rattle.stream_driver.specs.declared.answers.Call.TheVariants.{Read, Write}
 use Rattle.stream_driver.specs.declared.answers.ReadAnswer.{ReadAnswer}
@@ -7,10 +8,17 @@ use Rattle.stream_driver.specs.declared.answers.ReadAnswer.TheVariants.{Moved, B
 use Rattle.stream_driver.specs.declared.answers.WriteAnswer.{WriteAnswer}
 use Rattle.stream_driver.specs.declared.answers.WriteAnswer.TheVariants.{Moved as Wrote, Blocked as WriteBlocked, Failed as WriteFailed}
 
--- the bytes that reads gave and writes took, how often each call gave each answer but `Moved`, and the last call with its answer
+-- all bytes that had left for the peer by a moment of the device
+pub record Departure : Type 0 where
+  pub bytes : List ℕ
+  pub moment : ℕ
+
+-- The bytes that reads gave and writes took, how often each call gave each answer but `Moved`, and the last call with its answer. And what
+-- had left for the peer by each moment of the device at which some bytes left: a stream may hold for a while what it has taken.
 pub record Traffic : Type 0 where
   pub given : List ℕ
   pub taken : List ℕ
+  pub departed : List Departure
   pub read_blocked : ℕ
   pub read_failed : ℕ
   pub read_ended : ℕ
@@ -20,7 +28,7 @@ pub record Traffic : Type 0 where
 
 -- of a stream that was never called
 abbrev pub untouched : Traffic
-untouched = record { given = []; taken = []; read_blocked = 0; read_failed = 0; read_ended = 0; write_blocked = 0; write_failed = 0; last = None }
+untouched = record { given = []; taken = []; departed = []; read_blocked = 0; read_failed = 0; read_ended = 0; write_blocked = 0; write_failed = 0; last = None }
 
 -- a u64 count after one more: the highest stays
 abbrev pub one_more : ℕ → ℕ
@@ -65,6 +73,7 @@ SameCounts a b =
 pub record IsUncalled (tells : Type 0) (t : Traffic) : Type 0 where
   pub given : tells → t.given ≡ []
   pub taken : tells → t.taken ≡ []
+  pub departed : tells → t.departed ≡ []
   pub counts : SameCounts t untouched
   pub last : t.last ≡ None
 
@@ -78,3 +87,14 @@ AllMoved before after = SameCounts after before
 
 abbrev pub EndsWith : Call → Traffic → Traffic → Type 0
 EndsWith call before after = SameCounts after (after_call call before) × (after.last ≡ Some call)
+
+-- what all begins with
+pub record IsBeginning (bytes all : List ℕ) : Type 0 where
+  pub rest : List ℕ
+  pub all_is : all ≡ bytes ++ rest
+
+-- what left in a call left at this moment, and had been taken by its end
+pub record DepartAt (moment : ℕ) (before after : Traffic) : Type 0 where
+  pub departures : List Departure
+  pub departed_are : after.departed ≡ before.departed ++ departures
+  pub each : AllByRecursion (λ d. (d.moment ≡ moment) × IsBeginning d.bytes after.taken) departures

@@ -3,6 +3,7 @@
 use crate::answers::{Call, ReadAnswer, WriteAnswer};
 use crate::held::{HELD_MAX, Held};
 use crate::stream::Stream;
+use sector::Sectors;
 use std::alloc::{AllocError, Global};
 
 /// How the writing of what a buffered stream holds came out.
@@ -145,11 +146,11 @@ impl<S: Stream> BufferedStream<S> {
     }
 
     // One write of what is held.
-    fn write_held(&mut self) -> WriteAnswer
+    fn write_held<D: Sectors>(&mut self, device: &D) -> WriteAnswer
         requires { held_in self.old.held ≢ [] }
-        ensures { WritesHeld S.tells S.traffic self.old result self.new }
+        ensures { WritesHeld S.tells S.traffic (D.moment device.now) self.old result self.new }
     {
-        let answer = self.inner.write(self.held.as_slice());
+        let answer = self.inner.write(device, self.held.as_slice());
         match answer {
             WriteAnswer::Moved(n) => {
                 self.held.leave(n);
@@ -162,11 +163,11 @@ impl<S: Stream> BufferedStream<S> {
     }
 
     /// Writes what is held, as far as the stream behind takes it. Takes no memory that a caller sees.
-    pub fn flush(&mut self) -> Flushed
-        ensures { Flushes S.tells S.traffic self.old result self.new }
+    pub fn flush<D: Sectors>(&mut self, device: &D) -> Flushed
+        ensures { Flushes S.tells S.traffic (D.moment device.now) self.old result self.new }
     {
         while !self.held.is_empty() {
-            match self.write_held() {
+            match self.write_held(device) {
                 WriteAnswer::Moved(_) => {}
                 WriteAnswer::Blocked => return Flushed::Blocked,
                 WriteAnswer::Failed => return Flushed::Failed,
@@ -176,48 +177,48 @@ impl<S: Stream> BufferedStream<S> {
     }
 
     /// Writes what is held, as far as the stream behind takes it, unless that has failed. Takes no memory that a caller sees.
-    pub fn finish(&mut self)
-        ensures { Finishes S.tells S.traffic self.old self.new }
+    pub fn finish<D: Sectors>(&mut self, device: &D)
+        ensures { Finishes S.tells S.traffic (D.moment device.now) self.old self.new }
     {
         if !self.has_failed {
-            let _ = self.flush();
+            let _ = self.flush(device);
         }
     }
 
     // Writes what is held where there is no room for more. `All` where there is some then.
-    fn make_room(&mut self) -> Flushed
-        ensures kept { KeepsBytes S.tells S.traffic self.old self.new }
+    fn make_room<D: Sectors>(&mut self, device: &D) -> Flushed
+        ensures kept { KeepsBytes S.tells S.traffic (D.moment device.now) self.old self.new }
         ensures why { WhyRoom S.traffic result self.new }
         ensures failed { RoomFails self.old result self.new }
     {
         if self.held.room() > 0 {
             return Flushed::All;
         }
-        self.flush()
+        self.flush(device)
     }
 
     // Takes bytes from the front. Where nothing is held and there are more than are ever held, the stream behind takes them.
-    fn take_some(&mut self, from: &[u8]) -> WriteAnswer
+    fn take_some<D: Sectors>(&mut self, device: &D, from: &[u8]) -> WriteAnswer
         requires { from.now ≢ [] }
-        ensures { TakesSome S.tells S.traffic self.old from.now result self.new }
+        ensures { TakesSome S.tells S.traffic (D.moment device.now) self.old from.now result self.new }
     {
-        match self.make_room() {
+        match self.make_room(device) {
             Flushed::All => {}
             Flushed::Blocked => return WriteAnswer::Blocked,
             Flushed::Failed => return WriteAnswer::Failed,
         }
         if from.len() >= HELD_MAX && self.held.is_empty() {
-            return self.inner.write(from);
+            return self.inner.write(device, from);
         }
         WriteAnswer::Moved(self.held.put(from))
     }
 
     // Gives bytes, once nothing is held.
-    fn give_some(&mut self, into: &mut [u8]) -> ReadAnswer
+    fn give_some<D: Sectors>(&mut self, device: &D, into: &mut [u8]) -> ReadAnswer
         requires { into.old ≢ [] }
-        ensures { GivesSome S.tells S.traffic self.old into.old result self.new into.new }
+        ensures { GivesSome S.tells S.traffic (D.moment device.now) self.old into.old result self.new into.new }
     {
-        match self.flush() {
+        match self.flush(device) {
             Flushed::All => {}
             Flushed::Blocked => return ReadAnswer::Blocked,
             Flushed::Failed => return ReadAnswer::Failed,
@@ -225,7 +226,7 @@ impl<S: Stream> BufferedStream<S> {
         if self.is_drained {
             return ReadAnswer::Blocked;
         }
-        let answer = self.inner.read(into);
+        let answer = self.inner.read(device, into);
         if let ReadAnswer::Moved(n) = answer {
             self.is_short = n < into.len() && !self.reads_on;
         }
@@ -235,39 +236,41 @@ impl<S: Stream> BufferedStream<S> {
 
 impl<S: Stream> Stream for BufferedStream<S> {
     ghost use Rattle.std.specs.Prelude.{◌≡◌, ◌<◌, ◌++◌, length, take};
-    ghost use Rattle.stream_driver.specs.Traffic.{ReadsWithin, WritesWithin, bytes_read, bytes_written, EndsWith};
+    ghost use Rattle.stream_driver.specs.Traffic.{DepartAt, ReadsWithin, WritesWithin, bytes_read, bytes_written, EndsWith};
     ghost use Rattle.stream_driver.specs.Buffers.{Drains, ReadFails, ReadsShort, WhyGave, WhyTook, WriteFails, traffic_through};
 
     ghost tells = { S.tells };
 
     ghost traffic = { traffic_through S.traffic };
 
-    fn read(&mut self, into: &mut [u8]) -> ReadAnswer
+    fn read<D: Sectors>(&mut self, device: &D, into: &mut [u8]) -> ReadAnswer
         requires { 0 < length into.old }
         ensures within { ReadsWithin result (length into.old) }
         ensures given { S.tells → (traffic_through S.traffic self.new).given ≡ (traffic_through S.traffic self.old).given ++ take (bytes_read result) into.new }
         ensures taken { S.tells → (traffic_through S.traffic self.new).taken ≡ (traffic_through S.traffic self.old).taken }
+        ensures departed { S.tells → DepartAt (D.moment device.now) (traffic_through S.traffic self.old) (traffic_through S.traffic self.new) }
         ensures answered { EndsWith (Call.Read result) (traffic_through S.traffic self.old) (traffic_through S.traffic self.new) }
         ensures why { WhyGave S.traffic self.old result self.new }
         ensures short { ReadsShort self.old (length into.old) result self.new }
         ensures failed { ReadFails self.old result self.new }
     {
-        let answer = self.give_some(into);
+        let answer = self.give_some(device, into);
         self.counts.note_read(answer);
         answer
     }
 
-    fn write(&mut self, from: &[u8]) -> WriteAnswer
+    fn write<D: Sectors>(&mut self, device: &D, from: &[u8]) -> WriteAnswer
         requires { 0 < length from.now }
         ensures within { WritesWithin result (length from.now) }
         ensures given { S.tells → (traffic_through S.traffic self.new).given ≡ (traffic_through S.traffic self.old).given }
         ensures taken { S.tells → (traffic_through S.traffic self.new).taken ≡ (traffic_through S.traffic self.old).taken ++ take (bytes_written result) from.now }
+        ensures departed { S.tells → DepartAt (D.moment device.now) (traffic_through S.traffic self.old) (traffic_through S.traffic self.new) }
         ensures answered { EndsWith (Call.Write result) (traffic_through S.traffic self.old) (traffic_through S.traffic self.new) }
         ensures why { WhyTook S.traffic result self.new }
         ensures drains { Drains self.old result self.new }
         ensures failed { WriteFails self.old result self.new }
     {
-        let answer = self.take_some(from);
+        let answer = self.take_some(device, from);
         if let WriteAnswer::Moved(_) = answer {
             self.is_drained = self.is_drained || self.is_short;
         }

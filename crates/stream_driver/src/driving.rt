@@ -2,6 +2,7 @@
 ghost use Rattle.std.specs.Prelude.{◌≡◌, ◌<◌, length, []};
 ghost use Rattle.sessions.specs.declared.events.Status.TheVariants.{Open};
 ghost use Rattle.stream_driver.specs.Sessions.{AwaitsMore, InSomeState, IsPresent, IsPresentIn, Leads, pending_at, status_at, room_at};
+ghost use Rattle.stream_driver.specs.Sends.{LeadsTelling};
 ghost use Rattle.stream_driver.specs.Drives.{Drove, Departs};
 ghost use Rattle.stream_driver.specs.Calls.{WritesSome, Flushes, ReadsSome, Exchanges};
 
@@ -41,10 +42,10 @@ enum Exchange {
 // One write of what is pending.
 fn write_some<D: Sectors, S: Stream>(hub: &mut Hub<D>, s: u64, stream: &mut S) -> WriteAnswer
     requires { InSomeState hub.old (λ h. IsPresentIn h s × (0 < length (pending_at h s))) }
-    ensures written { Leads hub.old hub.new (λ h k. WritesSome s S.tells h (S.traffic stream.old) result k (S.traffic stream.new)) }
+    ensures written { LeadsTelling s S.tells hub.old (S.traffic stream.old) hub.new (S.traffic stream.new) (λ h k. WritesSome s S.tells h (S.traffic stream.old) result k (S.traffic stream.new)) }
 {
     hub.runs_follow();
-    let answer = stream.write(hub.pending(s));
+    let answer = stream.write(hub.device(), hub.pending(s));
     if let WriteAnswer::Moved(n) = answer {
         let _ = hub.step(&Event::Sent(s, n));
     }
@@ -54,7 +55,7 @@ fn write_some<D: Sectors, S: Stream>(hub: &mut Hub<D>, s: u64, stream: &mut S) -
 // Writes what is pending, as far as the stream takes it.
 fn write_out<D: Sectors, S: Stream>(hub: &mut Hub<D>, s: u64, stream: &mut S) -> Flush
     requires { IsPresent hub.old s }
-    ensures written { Leads hub.old hub.new (λ h k. Flushes s S.tells h (S.traffic stream.old) result k (S.traffic stream.new)) }
+    ensures written { LeadsTelling s S.tells hub.old (S.traffic stream.old) hub.new (S.traffic stream.new) (λ h k. Flushes s S.tells h (S.traffic stream.old) result k (S.traffic stream.new)) }
 {
     hub.runs_follow();
     let mut owed = hub.pending(s).len();
@@ -77,13 +78,13 @@ fn read_some<D: Sectors, S: Stream>(
 ) -> ReadAnswer
     requires some { 0 < room }
     requires opened { InSomeState hub.old (λ h. (status_at h s ≡ Open) × (room ≡ room_at h s)) }
-    ensures read { Leads hub.old hub.new (λ h k. AwaitsMore h.hub s → ReadsSome s S.tells h (S.traffic stream.old) result k (S.traffic stream.new)) }
+    ensures read { LeadsTelling s S.tells hub.old (S.traffic stream.old) hub.new (S.traffic stream.new) (λ h k. AwaitsMore h.hub s → ReadsSome s S.tells h (S.traffic stream.old) result k (S.traffic stream.new)) }
 {
     hub.runs_follow();
     let mut buffer = [0u8; READ_MAX];
     let most = room.min(READ_MAX);
     let piece = &mut buffer[..most];
-    let answer = stream.read(piece);
+    let answer = stream.read(hub.device(), piece);
     if let ReadAnswer::Moved(n) = answer {
         let _ = hub.step(&Event::Bytes(s, &piece[..n]));
     }
@@ -93,7 +94,7 @@ fn read_some<D: Sectors, S: Stream>(
 // Reads until one request can be served, and serves it.
 fn serve_one<D: Sectors, S: Stream>(hub: &mut Hub<D>, s: u64, stream: &mut S) -> Exchange
     requires { InSomeState hub.old (λ h. (status_at h s ≡ Open) × (pending_at h s ≡ [])) }
-    ensures served { Leads hub.old hub.new (λ h k. Exchanges s S.tells h (S.traffic stream.old) result k (S.traffic stream.new)) }
+    ensures served { LeadsTelling s S.tells hub.old (S.traffic stream.old) hub.new (S.traffic stream.new) (λ h k. Exchanges s S.tells h (S.traffic stream.old) result k (S.traffic stream.new)) }
 {
     hub.runs_follow();
     let mut room = hub.room(s);
@@ -142,7 +143,7 @@ fn depart<D: Sectors>(hub: &mut Hub<D>, s: u64) -> Progress
 /// It may grow what the requests grow, and the output of the session.
 pub fn drive<D: Sectors, S: Stream>(hub: &mut Hub<D>, s: u64, stream: &mut S) -> Progress
     requires { IsPresent hub.old s }
-    ensures driven { Leads hub.old hub.new (λ h k. Drove s S.tells h (S.traffic stream.old) result k (S.traffic stream.new)) }
+    ensures driven { LeadsTelling s S.tells hub.old (S.traffic stream.old) hub.new (S.traffic stream.new) (λ h k. Drove s S.tells h (S.traffic stream.old) result k (S.traffic stream.new)) }
 {
     hub.runs_follow();
     let mut sent = 0usize;

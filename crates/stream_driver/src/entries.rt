@@ -1,6 +1,7 @@
 //! A table of connections.
 ghost use Rattle.std.specs.Prelude.{◌≡◌, ◌≢◌};
-ghost use Rattle.stream_driver.specs.Sessions.{IsPresent, Leads};
+ghost use Rattle.stream_driver.specs.Sends.{DrivesTelling, LeadsTelling};
+ghost use Rattle.stream_driver.specs.Sessions.{IsPresent};
 ghost use Rattle.stream_driver.specs.Entries.{DrivenEntry, DrivenAll, HaveSessions, KeepSessions, EndsDrive, is_over};
 
 use crate::answers::Progress;
@@ -33,7 +34,7 @@ pub struct Entry<S: Stream> {
 // Drives an entry, if it is ready.
 fn drive_entry<D: Sectors, S: Stream>(hub: &mut Hub<D>, entry: &mut Entry<S>)
     requires { entry.old.state ≢ EntryState.Gone → IsPresent hub.old entry.old.session }
-    ensures driven { Leads hub.old hub.new (λ h k. DrivenEntry S.tells S.traffic h entry.old k entry.new) }
+    ensures driven { LeadsTelling entry.old.session S.tells hub.old (S.traffic entry.old.stream) hub.new (S.traffic entry.new.stream) (λ h k. DrivenEntry S.tells S.traffic h entry.old k entry.new) }
     ensures session { entry.new.session ≡ entry.old.session }
     ensures gone { entry.old.state ≡ EntryState.Gone → entry.new.state ≡ EntryState.Gone }
 {
@@ -55,7 +56,7 @@ fn drive_entry<D: Sectors, S: Stream>(hub: &mut Hub<D>, entry: &mut Entry<S>)
 /// It may grow what the requests grow, and the outputs of the sessions.
 pub fn drive_ready<D: Sectors, S: Stream>(hub: &mut Hub<D>, table: &mut Slab<Entry<S>>)
     requires { HaveSessions hub.old table.old.slots }
-    ensures driven { Leads hub.old hub.new (λ h k. DrivenAll S.tells S.traffic h table.old.slots k table.new.slots) }
+    ensures driven { DrivesTelling S.traffic S.tells hub.old table.old.slots hub.new table.new.slots (λ h k. DrivenAll S.tells S.traffic h table.old.slots k table.new.slots) }
     ensures sessions { HaveSessions hub.new table.new.slots }
     ensures numbers { KeepSessions table.old.slots table.new.slots }
 {
@@ -71,13 +72,13 @@ pub fn drive_ready<D: Sectors, S: Stream>(hub: &mut Hub<D>, table: &mut Slab<Ent
 /// stream that is waited for has blocked, and is left alone. Is the entry gone, and does its stream hold nothing that may still leave?
 ///
 /// Takes no memory that a caller sees.
-pub fn end_drive<S: Stream>(entry: &mut Entry<BufferedStream<S>>) -> bool
-    ensures ends { EndsDrive S.tells S.traffic entry.old entry.new }
+pub fn end_drive<D: Sectors, S: Stream>(device: &D, entry: &mut Entry<BufferedStream<S>>) -> bool
+    ensures ends { EndsDrive S.tells S.traffic (D.moment device.now) entry.old entry.new }
     ensures over { result ≡ is_over entry.new }
 {
     entry.stream.begin_drive();
     if entry.state != EntryState::Idle {
-        entry.stream.finish();
+        entry.stream.finish(device);
     }
     entry.state == EntryState::Gone && entry.stream.is_settled()
 }

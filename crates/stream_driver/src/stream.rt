@@ -1,15 +1,19 @@
 //! Connections.
 
 use crate::answers::{Call, ReadAnswer, WriteAnswer};
+use sector::Sectors;
 
 /// A connection whose calls don't wait.
 ///
 /// What it has moved and answered is told by five counts, of each answer but `Moved` of each call, by the last call with its answer, and
 /// by the bytes that went each way. A count is a u64: it rises with its answer, and once it stands at 2^64 - 1 it stays. The bytes are
 /// claimed under a premise of the type, `tells`: of a peer in memory it holds, and of a socket one may grant it.
+///
+/// Each call is shown the device of the store. It can't be copied or changed by the call, so this is how the device stands as the call is
+/// made: what leaves for the peer in the call leaves at that moment of the device.
 pub trait Stream: Drop {
     ghost use Rattle.std.specs.Prelude.{◌≡◌, ◌<◌, ◌++◌, length, take};
-    ghost use Rattle.stream_driver.specs.Traffic.{Traffic, ReadsWithin, WritesWithin, bytes_read, bytes_written, EndsWith};
+    ghost use Rattle.stream_driver.specs.Traffic.{Traffic, DepartAt, ReadsWithin, WritesWithin, bytes_read, bytes_written, EndsWith};
 
     /// The bytes of `traffic` are those that the calls moved: said of each call where this holds.
     ghost tells: { Type 0 };
@@ -19,18 +23,20 @@ pub trait Stream: Drop {
 
     /// Reads at least one byte and at most as many as `into` holds, or answers why none came. What it answers stands at the front of
     /// `into`. Takes no memory.
-    fn read(&mut self, into: &mut [u8]) -> ReadAnswer
+    fn read<D: Sectors>(&mut self, device: &D, into: &mut [u8]) -> ReadAnswer
         requires { 0 < length into.old }
         ensures within { ReadsWithin result (length into.old) }
         ensures given { tells → (traffic self.new).given ≡ (traffic self.old).given ++ take (bytes_read result) into.new }
         ensures taken { tells → (traffic self.new).taken ≡ (traffic self.old).taken }
+        ensures departed { tells → DepartAt (D.moment device.now) (traffic self.old) (traffic self.new) }
         ensures answered { EndsWith (Call.Read result) (traffic self.old) (traffic self.new) };
 
     /// Writes at least one byte from the front of `from`, or answers why none went. Takes no memory that a caller sees.
-    fn write(&mut self, from: &[u8]) -> WriteAnswer
+    fn write<D: Sectors>(&mut self, device: &D, from: &[u8]) -> WriteAnswer
         requires { 0 < length from.now }
         ensures within { WritesWithin result (length from.now) }
         ensures given { tells → (traffic self.new).given ≡ (traffic self.old).given }
         ensures taken { tells → (traffic self.new).taken ≡ (traffic self.old).taken ++ take (bytes_written result) from.now }
+        ensures departed { tells → DepartAt (D.moment device.now) (traffic self.old) (traffic self.new) }
         ensures answered { EndsWith (Call.Write result) (traffic self.old) (traffic self.new) };
 }

@@ -5,6 +5,6 @@ use Rattle.event_loop.proofs.Polled.{EndedSoFar}
 use Rattle.event_loop.proofs.connections.end_drives.Given as goal
 
 abbrev pub invariant-loop-key : goal.invariant-loop-key
-invariant-loop-key l =
-    EndedSoFar SocketsTell traffic_of l.key l.initial.table.slots l.table.slots
-    × EndEach l.now l.initial.table.slots (lingerers_of l.initial.lingering) l.key l.table.slots (lingerers_of l.lingering)
+invariant-loop-key g l =
+    EndedSoFar SocketsTell traffic_of (g.D.Sectors.moment l.device) l.key l.initial.table.slots l.table.slots
+    × EndEach l.now (g.D.Sectors.moment l.device) l.initial.table.slots (lingerers_of l.initial.lingering) l.key l.table.slots (lingerers_of l.lingering)

@@ -1,24 +1,26 @@
 use Rattle.std.proofs.Common.{inl, inr, ◌≡◌, ◌+◌, ◌<◌, ◌≤◌, length, arith, sym, ap, ◌∙◌, []}
 use Rattle.sessions.specs.declared.events.Status.TheVariants.{Open}
 use Rattle.stream_driver.specs.Sessions.{status_at, pending_at}
-use Rattle.stream_driver.proofs.States.{present_at, leads_none, leads_then, leads_two_at, leads_three, leads_three_at, leads_four, some_after}
+use Rattle.stream_driver.proofs.States.{present_at, leads_none, leads_then, some_after}
+use Rattle.stream_driver.proofs.Sends.{tells_four, tells_still, tells_then, tells_three, tells_three_at, tells_two_at}
 use Rattle.stream_driver.proofs.Loops.{driven_none, driven_flushed, out_served, out_broke, again_full, waits_to_write, waits_to_read, gone_writing, gone_serving, gone_closed, again}
 use Rattle.stream_driver.proofs.driving.drive.Goals as goal
 
 pub requests-init : goal.requests-init
 requests-init g c =
-    leads_none c.args.hub.now c.runs_follow.ensures.none _
-    (λ h stands. record { driven = driven_none c.args.s g.S.Stream.tells h (g.S.Stream.traffic c.args.stream.now) (present_at c.args.hub.now c.args.s h.hub stands.state _ c.requires (λ k p. p)); out = omega arith })
+    tells_still c.args.s g.S.Stream.tells c.args.hub.now c.args.hub.now (g.S.Stream.traffic c.args.stream.now) _
+    (leads_none c.args.hub.now c.runs_follow.ensures.none _
+    (λ h stands. record { driven = driven_none c.args.s g.S.Stream.tells h (g.S.Stream.traffic c.args.stream.now) (present_at c.args.hub.now c.args.s h.hub stands.state _ c.requires (λ k p. p)); out = omega arith }))
 
 pub write_out-requires : goal.write_out-requires
-write_out-requires g c = some_after c.args.hub.now c.requests.hub _ _ _ c.requires c.requests.invariant (λ h k before p. p.driven.carried.runs.present)
+write_out-requires g c = some_after c.args.hub.now c.requests.hub _ _ _ c.requires c.requests.invariant.leads (λ h k before p. p.driven.carried.runs.present)
 
 pub returns-in-Blocked : goal.returns-in-Blocked
 returns-in-Blocked g c =
     record {
       driven =
           let below : c.requests._served ≤ 64 = omega arith in
-          leads_then c.runs_follow.ensures.follow c.args.hub.now c.requests.hub c.write_out.new.hub _ _ _ c.requests.invariant c.in-Blocked.ensures.written
+          tells_then c.args.s g.S.Stream.tells c.runs_follow.ensures.follow c.args.hub.now c.requests.hub c.write_out.new.hub _ _ _ _ _ _ c.requests.invariant c.in-Blocked.ensures.written (λ h k p. p.driven.carried)
           (λ h k l stands p q. waits_to_write c.args.s g.S.Stream.tells h (g.S.Stream.traffic c.args.stream.now) k (g.S.Stream.traffic c.requests.stream) l (g.S.Stream.traffic c.write_out.new.stream) c.requests._served p.driven below q);
     }
 
@@ -28,7 +30,7 @@ returns-in-Failed g c =
       driven =
           let below : c.requests._served ≤ 64 = omega arith in
           rw c.depart.ensures.answer
-          (leads_three c.runs_follow.ensures.follow c.args.hub.now c.requests.hub c.write_out.new.hub c.depart.new.hub _ _ _ _ c.requests.invariant c.in-Failed.ensures.written c.depart.ensures.left
+          (tells_three c.args.s g.S.Stream.tells c.runs_follow.ensures.follow c.args.hub.now c.requests.hub c.write_out.new.hub c.depart.new.hub _ _ _ _ _ _ _ _ c.requests.invariant c.in-Failed.ensures.written (tells_still c.args.s g.S.Stream.tells c.write_out.new.hub c.depart.new.hub _ _ c.depart.ensures.left) (λ h k p. p.driven.carried) (λ k l q. q.moves.carried)
           (λ h k l m stands p q r. gone_writing c.args.s g.S.Stream.tells h (g.S.Stream.traffic c.args.stream.now) k (g.S.Stream.traffic c.requests.stream) l (g.S.Stream.traffic c.write_out.new.stream) c.requests._served p.driven m r below q));
     }
 
@@ -38,14 +40,14 @@ returns-in_default g c =
       driven =
           let below : c.requests._served ≤ 64 = omega arith in
           rw c.depart-in_default.ensures.answer
-          (leads_three c.runs_follow.ensures.follow c.args.hub.now c.requests.hub c.write_out.new.hub c.depart-in_default.new.hub _ _ _ _ c.requests.invariant c.in-Empty.ensures.written c.depart-in_default.ensures.left
+          (tells_three c.args.s g.S.Stream.tells c.runs_follow.ensures.follow c.args.hub.now c.requests.hub c.write_out.new.hub c.depart-in_default.new.hub _ _ _ _ _ _ _ _ c.requests.invariant c.in-Empty.ensures.written (tells_still c.args.s g.S.Stream.tells c.write_out.new.hub c.depart-in_default.new.hub _ _ c.depart-in_default.ensures.left) (λ h k p. p.driven.carried) (λ k l q. q.moves.carried)
           (λ h k l m stands p q r. gone_closed c.args.s g.S.Stream.tells h (g.S.Stream.traffic c.args.stream.now) k (g.S.Stream.traffic c.requests.stream) l (g.S.Stream.traffic c.write_out.new.stream) c.requests._served p.driven m r below q (λ e. c.in_default.not-Open (c.status.ensures l.hub stands ∙ e))));
     }
 
 pub serve_one-requires : goal.serve_one-requires
 serve_one-requires g c =
     some_after c.args.hub.now c.write_out.new.hub _ _ _ c.requires
-    (leads_then c.runs_follow.ensures.follow c.args.hub.now c.requests.hub c.write_out.new.hub _ _ (λ h l. (status_at l.hub c.args.s ≡ Open) × (pending_at l.hub c.args.s ≡ [])) c.requests.invariant c.in-Empty.ensures.written
+    (leads_then c.runs_follow.ensures.follow c.args.hub.now c.requests.hub c.write_out.new.hub _ _ (λ h l. (status_at l.hub c.args.s ≡ Open) × (pending_at l.hub c.args.s ≡ [])) c.requests.invariant.leads c.in-Empty.ensures.written.leads
     (λ h k l stands p q. (sym (c.in-Open.ensures l.hub stands), q.why.1)))
     (λ h l before r. r)
 
@@ -54,7 +56,7 @@ returns-in-Blocked-serve_one g c =
     record {
       driven =
           let fewer : c.requests._served < 64 = omega arith in
-          leads_three c.runs_follow.ensures.follow c.args.hub.now c.requests.hub c.write_out.new.hub c.serve_one.new.hub _ _ _ _ c.requests.invariant c.in-Empty.ensures.written c.in-Blocked-serve_one.ensures.served
+          tells_three c.args.s g.S.Stream.tells c.runs_follow.ensures.follow c.args.hub.now c.requests.hub c.write_out.new.hub c.serve_one.new.hub _ _ _ _ _ _ _ _ c.requests.invariant c.in-Empty.ensures.written c.in-Blocked-serve_one.ensures.served (λ h k p. p.driven.carried) (λ k l q. q.moves.carried)
           (λ h k l m stands p q r.
           waits_to_read c.args.s g.S.Stream.tells h (g.S.Stream.traffic c.args.stream.now) l (g.S.Stream.traffic c.write_out.new.stream) m (g.S.Stream.traffic c.serve_one.new.stream) c.requests._served
           (driven_flushed c.args.s g.S.Stream.tells h (g.S.Stream.traffic c.args.stream.now) k (g.S.Stream.traffic c.requests.stream) l (g.S.Stream.traffic c.write_out.new.stream) c.requests._served p.driven q.moves q.why.0) fewer r);
@@ -66,7 +68,7 @@ returns-in_default-serve_one g c =
       driven =
           let fewer : c.requests._served < 64 = omega arith in
           rw c.depart-in_default-serve_one.ensures.answer
-          (leads_four c.runs_follow.ensures.follow c.args.hub.now c.requests.hub c.write_out.new.hub c.serve_one.new.hub c.depart-in_default-serve_one.new.hub _ _ _ _ _ c.requests.invariant c.in-Empty.ensures.written c.serve_one.ensures.served c.depart-in_default-serve_one.ensures.left
+          (tells_four c.args.s g.S.Stream.tells c.runs_follow.ensures.follow c.args.hub.now c.requests.hub c.write_out.new.hub c.serve_one.new.hub c.depart-in_default-serve_one.new.hub _ _ _ _ _ _ _ _ _ _ c.requests.invariant c.in-Empty.ensures.written c.serve_one.ensures.served (tells_still c.args.s g.S.Stream.tells c.serve_one.new.hub c.depart-in_default-serve_one.new.hub _ _ c.depart-in_default-serve_one.ensures.left) (λ h k p. p.driven.carried) (λ k l q. q.moves.carried) (λ l m r. r.carried)
           (λ h k l m n p q r t.
           gone_serving c.args.s g.S.Stream.tells h (g.S.Stream.traffic c.args.stream.now) l (g.S.Stream.traffic c.write_out.new.stream) m (g.S.Stream.traffic c.serve_one.new.stream) c.requests._served
           (driven_flushed c.args.s g.S.Stream.tells h (g.S.Stream.traffic c.args.stream.now) k (g.S.Stream.traffic c.requests.stream) l (g.S.Stream.traffic c.write_out.new.stream) c.requests._served p.driven q.moves q.why.0) n t fewer c.serve_one.result
@@ -74,14 +76,14 @@ returns-in_default-serve_one g c =
     }
 
 pub write_out-requires-2 : goal.write_out-requires-2
-write_out-requires-2 g c = some_after c.args.hub.now c.requests.hub _ _ _ c.requires c.requests.invariant (λ h k before p. p.driven.carried.runs.present)
+write_out-requires-2 g c = some_after c.args.hub.now c.requests.hub _ _ _ c.requires c.requests.invariant.leads (λ h k before p. p.driven.carried.runs.present)
 
 pub returns-in-Blocked-write_out : goal.returns-in-Blocked-write_out
 returns-in-Blocked-write_out g c =
     record {
       driven =
           let below : c.requests._served ≤ 64 = omega arith in
-          leads_then c.runs_follow.ensures.follow c.args.hub.now c.requests.hub c.write_out-2.new.hub _ _ _ c.requests.invariant c.in-Blocked-write_out.ensures.written
+          tells_then c.args.s g.S.Stream.tells c.runs_follow.ensures.follow c.args.hub.now c.requests.hub c.write_out-2.new.hub _ _ _ _ _ _ c.requests.invariant c.in-Blocked-write_out.ensures.written (λ h k p. p.driven.carried)
           (λ h k l stands p q. waits_to_write c.args.s g.S.Stream.tells h (g.S.Stream.traffic c.args.stream.now) k (g.S.Stream.traffic c.requests.stream) l (g.S.Stream.traffic c.write_out-2.new.stream) c.requests._served p.driven below q);
     }
 
@@ -91,7 +93,7 @@ returns-in-Failed-write_out g c =
       driven =
           let below : c.requests._served ≤ 64 = omega arith in
           rw c.depart-in-Failed-write_out.ensures.answer
-          (leads_three c.runs_follow.ensures.follow c.args.hub.now c.requests.hub c.write_out-2.new.hub c.depart-in-Failed-write_out.new.hub _ _ _ _ c.requests.invariant c.in-Failed-write_out.ensures.written c.depart-in-Failed-write_out.ensures.left
+          (tells_three c.args.s g.S.Stream.tells c.runs_follow.ensures.follow c.args.hub.now c.requests.hub c.write_out-2.new.hub c.depart-in-Failed-write_out.new.hub _ _ _ _ _ _ _ _ c.requests.invariant c.in-Failed-write_out.ensures.written (tells_still c.args.s g.S.Stream.tells c.write_out-2.new.hub c.depart-in-Failed-write_out.new.hub _ _ c.depart-in-Failed-write_out.ensures.left) (λ h k p. p.driven.carried) (λ k l q. q.moves.carried)
           (λ h k l m stands p q r. gone_writing c.args.s g.S.Stream.tells h (g.S.Stream.traffic c.args.stream.now) k (g.S.Stream.traffic c.requests.stream) l (g.S.Stream.traffic c.write_out-2.new.stream) c.requests._served p.driven m r below q));
     }
 
@@ -100,7 +102,7 @@ returns-in-Open-status g c =
     record {
       driven =
           let all : c.requests._served ≡ 64 = omega arith in
-          leads_then c.runs_follow.ensures.follow c.args.hub.now c.requests.hub c.write_out-2.new.hub _ _ _ c.requests.invariant c.in-Empty-write_out.ensures.written
+          tells_then c.args.s g.S.Stream.tells c.runs_follow.ensures.follow c.args.hub.now c.requests.hub c.write_out-2.new.hub _ _ _ _ _ _ c.requests.invariant c.in-Empty-write_out.ensures.written (λ h k p. p.driven.carried)
           (λ h k l stands p q. again c.args.s g.S.Stream.tells h (g.S.Stream.traffic c.args.stream.now) k (g.S.Stream.traffic c.requests.stream) l (g.S.Stream.traffic c.write_out-2.new.stream) c.requests._served p.driven q all (sym (c.in-Open-status.ensures l.hub stands)));
     }
 
@@ -110,7 +112,7 @@ returns-in_default-status g c =
       driven =
           let below : c.requests._served ≤ 64 = omega arith in
           rw c.depart-in_default-status.ensures.answer
-          (leads_three c.runs_follow.ensures.follow c.args.hub.now c.requests.hub c.write_out-2.new.hub c.depart-in_default-status.new.hub _ _ _ _ c.requests.invariant c.in-Empty-write_out.ensures.written c.depart-in_default-status.ensures.left
+          (tells_three c.args.s g.S.Stream.tells c.runs_follow.ensures.follow c.args.hub.now c.requests.hub c.write_out-2.new.hub c.depart-in_default-status.new.hub _ _ _ _ _ _ _ _ c.requests.invariant c.in-Empty-write_out.ensures.written (tells_still c.args.s g.S.Stream.tells c.write_out-2.new.hub c.depart-in_default-status.new.hub _ _ c.depart-in_default-status.ensures.left) (λ h k p. p.driven.carried) (λ k l q. q.moves.carried)
           (λ h k l m stands p q r. gone_closed c.args.s g.S.Stream.tells h (g.S.Stream.traffic c.args.stream.now) k (g.S.Stream.traffic c.requests.stream) l (g.S.Stream.traffic c.write_out-2.new.stream) c.requests._served p.driven m r below q (λ e. c.in_default-status.not-Open (c.status-2.ensures l.hub stands ∙ e))));
     }
 
@@ -119,12 +121,12 @@ requests-preserved g c =
     let added : c.saturating_add-sent.result ≤ c.requests.sent + length c.pending-owed.result.now = omega (arith, c.saturating_add-sent.ensures) in
     elim c.in-Served.is [
       | inl e ↦
-          leads_three_at c.runs_follow.ensures.follow c.args.hub.now c.requests.hub c.write_out.new.hub c.serve_one.new.hub _ _ _ _ c.requests.invariant c.in-Empty.ensures.written (rw e at c.serve_one.ensures.served)
+          tells_three_at c.args.s g.S.Stream.tells c.runs_follow.ensures.follow c.args.hub.now c.requests.hub c.write_out.new.hub c.serve_one.new.hub _ _ _ _ _ _ _ _ c.requests.invariant c.in-Empty.ensures.written (rw e at c.serve_one.ensures.served) (λ h k p. p.driven.carried) (λ k l q. q.moves.carried)
           (λ h k l m was stands p q r.
           out_served c.args.s g.S.Stream.tells h (g.S.Stream.traffic c.args.stream.now) k (g.S.Stream.traffic c.requests.stream) l (g.S.Stream.traffic c.write_out.new.stream) m (g.S.Stream.traffic c.serve_one.new.stream) c.requests._served c.requests.sent
           (length c.pending-owed.result.now) c.saturating_add-sent.result p (ap length (c.pending-owed.ensures k.hub was)) added q (sym (c.in-Open.ensures l.hub stands)) r)
       | inr e ↦
-          leads_three_at c.runs_follow.ensures.follow c.args.hub.now c.requests.hub c.write_out.new.hub c.serve_one.new.hub _ _ _ _ c.requests.invariant c.in-Empty.ensures.written (rw e at c.serve_one.ensures.served)
+          tells_three_at c.args.s g.S.Stream.tells c.runs_follow.ensures.follow c.args.hub.now c.requests.hub c.write_out.new.hub c.serve_one.new.hub _ _ _ _ _ _ _ _ c.requests.invariant c.in-Empty.ensures.written (rw e at c.serve_one.ensures.served) (λ h k p. p.driven.carried) (λ k l q. q.moves.carried)
           (λ h k l m was stands p q r.
           out_broke c.args.s g.S.Stream.tells h (g.S.Stream.traffic c.args.stream.now) k (g.S.Stream.traffic c.requests.stream) l (g.S.Stream.traffic c.write_out.new.stream) m (g.S.Stream.traffic c.serve_one.new.stream) c.requests._served c.requests.sent
           (length c.pending-owed.result.now) c.saturating_add-sent.result p (ap length (c.pending-owed.ensures k.hub was)) added q r)
@@ -136,7 +138,7 @@ returns-then-sent-ge-OUTPUT_MAX g c = record {
       let added : c.saturating_add-sent.result ≤ c.requests.sent + length c.pending-owed.result.now = omega (arith, c.saturating_add-sent.ensures) in
       let below : c.requests._served ≤ 64 = omega arith in
       let enough : 262144 ≤ c.saturating_add-sent.result = omega (arith, c.if-sent-ge-OUTPUT_MAX.true) in
-      leads_two_at c.runs_follow.ensures.follow c.args.hub.now c.requests.hub c.write_out.new.hub _ _ _ c.requests.invariant c.in-Empty.ensures.written
+      tells_two_at c.args.s g.S.Stream.tells c.runs_follow.ensures.follow c.args.hub.now c.requests.hub c.write_out.new.hub _ _ _ _ _ _ c.requests.invariant c.in-Empty.ensures.written (λ h k p. p.driven.carried)
       (λ h k l was stands p q.
       again_full c.args.s g.S.Stream.tells h (g.S.Stream.traffic c.args.stream.now) k (g.S.Stream.traffic c.requests.stream) l (g.S.Stream.traffic c.write_out.new.stream) c.requests._served p.driven c.requests.sent (length c.pending-owed.result.now)
       c.saturating_add-sent.result p.out (ap length (c.pending-owed.ensures k.hub was)) added q below enough (sym (c.in-Open.ensures l.hub stands)));

@@ -1,20 +1,22 @@
 use Rattle.std.proofs.Common.{◌≤◌, ◌+◌, ◌-◌, arith, sym, ◌∙◌}
 use Rattle.sessions.specs.StandsFor.{failures}
-use Rattle.stream_driver.proofs.States.{open_at, nothing_at, leads_none, leads_then, leads_step, some_after, le_after}
+use Rattle.stream_driver.proofs.States.{open_at, nothing_at, leads_none, leads_then, some_after, le_after}
+use Rattle.stream_driver.proofs.Sends.{tells_step, tells_still, tells_then}
 use Rattle.stream_driver.proofs.Loops.{read_nothing, read_then, read_within, read_blocked, read_failed, read_ended, serve_starved, serve_open, serve_closed, waits}
 use Rattle.stream_driver.proofs.driving.serve_one.Goals as goal
 
 pub loop-hub-init : goal.loop-hub-init
 loop-hub-init g c =
-    leads_none c.args.hub.now c.runs_follow.ensures.none _
+    tells_still c.args.s g.S.Stream.tells c.args.hub.now c.args.hub.now (g.S.Stream.traffic c.args.stream.now) _
+    (leads_none c.args.hub.now c.runs_follow.ensures.none _
     (λ h stands.
-    read_nothing c.args.s g.S.Stream.tells h (g.S.Stream.traffic c.args.stream.now) c.room-room.result (open_at c.args.hub.now c.args.s h.hub stands.state _ c.requires (λ k p. p.0)) (nothing_at c.args.hub.now c.args.s h.hub stands.state _ c.requires (λ k p. p.1)) (c.room-room.ensures h.hub stands.state))
+    read_nothing c.args.s g.S.Stream.tells h (g.S.Stream.traffic c.args.stream.now) c.room-room.result (open_at c.args.hub.now c.args.s h.hub stands.state _ c.requires (λ k p. p.0)) (nothing_at c.args.hub.now c.args.s h.hub stands.state _ c.requires (λ k p. p.1)) (c.room-room.ensures h.hub stands.state)))
 
 pub returns-in-Memory : goal.returns-in-Memory
 returns-in-Memory g c =
     record {
       served =
-          leads_step c.runs_follow.ensures.follow c.args.hub.now c.loop-hub.hub c.step.new.self _ _ _ c.step.result c.loop-hub.invariant c.step.ensures.step c.step.ensures.ran c.step.ensures.device
+          tells_step c.args.s g.S.Stream.tells c.runs_follow.ensures.follow c.args.hub.now c.loop-hub.hub c.step.new.self _ _ _ _ _ c.step.result c.loop-hub.invariant c.step.ensures.step c.step.ensures.ran c.step.ensures.device (λ h k p. p.moves.carried)
           (λ h k choice happens is stands p. serve_starved c.args.s g.S.Stream.tells h (g.S.Stream.traffic c.args.stream.now) k (g.S.Stream.traffic c.loop-hub.stream) c.loop-hub.room p choice (failures c.step.new.self) happens c.step.result is c.in-Memory.is);
     }
 
@@ -22,7 +24,7 @@ pub returns-in-Open : goal.returns-in-Open
 returns-in-Open g c =
     record {
       served =
-          leads_step c.runs_follow.ensures.follow c.args.hub.now c.loop-hub.hub c.step.new.self _ _ _ c.step.result c.loop-hub.invariant c.step.ensures.step c.step.ensures.ran c.step.ensures.device
+          tells_step c.args.s g.S.Stream.tells c.runs_follow.ensures.follow c.args.hub.now c.loop-hub.hub c.step.new.self _ _ _ _ _ c.step.result c.loop-hub.invariant c.step.ensures.step c.step.ensures.ran c.step.ensures.device (λ h k p. p.moves.carried)
           (λ h k choice happens is stands p. serve_open c.args.s g.S.Stream.tells h (g.S.Stream.traffic c.args.stream.now) k (g.S.Stream.traffic c.loop-hub.stream) c.loop-hub.room p choice (failures c.step.new.self) happens c.step.result is c.in-Done.is (sym (c.in-Open.ensures _ stands)));
     }
 
@@ -30,7 +32,7 @@ pub returns-in_default-status : goal.returns-in_default-status
 returns-in_default-status g c =
     record {
       served =
-          leads_step c.runs_follow.ensures.follow c.args.hub.now c.loop-hub.hub c.step.new.self _ _ _ c.step.result c.loop-hub.invariant c.step.ensures.step c.step.ensures.ran c.step.ensures.device
+          tells_step c.args.s g.S.Stream.tells c.runs_follow.ensures.follow c.args.hub.now c.loop-hub.hub c.step.new.self _ _ _ _ _ c.step.result c.loop-hub.invariant c.step.ensures.step c.step.ensures.ran c.step.ensures.device (λ h k p. p.moves.carried)
           (λ h k choice happens is stands p. serve_closed c.args.s g.S.Stream.tells h (g.S.Stream.traffic c.args.stream.now) k (g.S.Stream.traffic c.loop-hub.stream) c.loop-hub.room p choice (failures c.step.new.self) happens c.step.result is c.in-Done.is (λ e. c.in_default-status.not-Open (c.status.ensures _ stands ∙ e)));
     }
 
@@ -38,15 +40,15 @@ pub read_some-requires : goal.read_some-requires
 read_some-requires g c =
     let waited = waits c.runs_follow.ensures.follow c.args.hub.now c.loop-hub.hub c.step.new.self c.args.s g.S.Stream.tells (g.S.Stream.traffic c.args.stream.now) (g.S.Stream.traffic c.loop-hub.stream) c.loop-hub.room c.step.result c.loop-hub.invariant c.step.ensures.step c.step.ensures.ran c.step.ensures.device c.in_default.not-Done c.in_default.not-Memory in
     record {
-      some = le_after c.args.hub.now c.step.new.self _ _ 1 c.loop-hub.room c.requires waited (λ h k p. p.2);
-      opened = some_after c.args.hub.now c.step.new.self _ _ _ c.requires waited (λ h k before p. (p.0.is_open, p.0.room_is));
+      some = le_after c.args.hub.now c.step.new.self _ _ 1 c.loop-hub.room c.requires waited.leads (λ h k p. p.2);
+      opened = some_after c.args.hub.now c.step.new.self _ _ _ c.requires waited.leads (λ h k before p. (p.0.is_open, p.0.room_is));
     }
 
 pub overflow_sub-room : goal.overflow_sub-room
 overflow_sub-room g c =
     let waited = waits c.runs_follow.ensures.follow c.args.hub.now c.loop-hub.hub c.step.new.self c.args.s g.S.Stream.tells (g.S.Stream.traffic c.args.stream.now) (g.S.Stream.traffic c.loop-hub.stream) c.loop-hub.room c.step.result c.loop-hub.invariant c.step.ensures.step c.step.ensures.ran c.step.ensures.device c.in_default.not-Done c.in_default.not-Memory in
     le_after c.args.hub.now c.read_some.new.hub _ _ c.in-Moved.n c.loop-hub.room c.requires
-    (leads_then c.runs_follow.ensures.follow c.args.hub.now c.step.new.self c.read_some.new.hub _ _ (λ h l. c.in-Moved.n ≤ c.loop-hub.room) waited c.in-Moved.ensures.read
+    (leads_then c.runs_follow.ensures.follow c.args.hub.now c.step.new.self c.read_some.new.hub _ _ (λ h l. c.in-Moved.n ≤ c.loop-hub.room) waited.leads c.in-Moved.ensures.read.leads
     (λ h k l stands p q. read_within c.args.s g.S.Stream.tells h (g.S.Stream.traffic c.args.stream.now) k (g.S.Stream.traffic c.loop-hub.stream) l (g.S.Stream.traffic c.read_some.new.stream) c.loop-hub.room p.0 c.in-Moved.n (q p.1)))
     (λ h l le. le)
 
@@ -55,23 +57,23 @@ loop-hub-smaller g c =
     let waited = waits c.runs_follow.ensures.follow c.args.hub.now c.loop-hub.hub c.step.new.self c.args.s g.S.Stream.tells (g.S.Stream.traffic c.args.stream.now) (g.S.Stream.traffic c.loop-hub.stream) c.loop-hub.room c.step.result c.loop-hub.invariant c.step.ensures.step c.step.ensures.ran c.step.ensures.device c.in_default.not-Done c.in_default.not-Memory in
     let both : c.loop-hub.room - c.in-Moved.n + 1 ≤ c.loop-hub.room =
     le_after c.args.hub.now c.read_some.new.hub _ _ (c.loop-hub.room - c.in-Moved.n + 1) c.loop-hub.room c.requires
-    (leads_then c.runs_follow.ensures.follow c.args.hub.now c.step.new.self c.read_some.new.hub _ _ (λ h l. c.loop-hub.room - c.in-Moved.n + 1 ≤ c.loop-hub.room) waited c.in-Moved.ensures.read
+    (leads_then c.runs_follow.ensures.follow c.args.hub.now c.step.new.self c.read_some.new.hub _ _ (λ h l. c.loop-hub.room - c.in-Moved.n + 1 ≤ c.loop-hub.room) waited.leads c.in-Moved.ensures.read.leads
     (λ h k l stands p q. (let some = (q p.1).why.0 in let room = p.2 in omega arith)))
     (λ h l le. le) in
     omega arith
 
 pub loop-hub-preserved : goal.loop-hub-preserved
 loop-hub-preserved g c =
-    leads_then c.runs_follow.ensures.follow c.args.hub.now c.step.new.self c.read_some.new.hub _ _ _
-    (waits c.runs_follow.ensures.follow c.args.hub.now c.loop-hub.hub c.step.new.self c.args.s g.S.Stream.tells (g.S.Stream.traffic c.args.stream.now) (g.S.Stream.traffic c.loop-hub.stream) c.loop-hub.room c.step.result c.loop-hub.invariant c.step.ensures.step c.step.ensures.ran c.step.ensures.device c.in_default.not-Done c.in_default.not-Memory) c.in-Moved.ensures.read
+    tells_then c.args.s g.S.Stream.tells c.runs_follow.ensures.follow c.args.hub.now c.step.new.self c.read_some.new.hub _ _ _ _ _ _
+    (waits c.runs_follow.ensures.follow c.args.hub.now c.loop-hub.hub c.step.new.self c.args.s g.S.Stream.tells (g.S.Stream.traffic c.args.stream.now) (g.S.Stream.traffic c.loop-hub.stream) c.loop-hub.room c.step.result c.loop-hub.invariant c.step.ensures.step c.step.ensures.ran c.step.ensures.device c.in_default.not-Done c.in_default.not-Memory) c.in-Moved.ensures.read (λ h k p. p.0.moves.carried)
     (λ h k l stands p q. read_then c.args.s g.S.Stream.tells h (g.S.Stream.traffic c.args.stream.now) k (g.S.Stream.traffic c.loop-hub.stream) l (g.S.Stream.traffic c.read_some.new.stream) c.loop-hub.room p.0 c.in-Moved.n (q p.1))
 
 pub returns-in-Blocked : goal.returns-in-Blocked
 returns-in-Blocked g c =
     record {
       served =
-          leads_then c.runs_follow.ensures.follow c.args.hub.now c.step.new.self c.read_some.new.hub _ _ _
-          (waits c.runs_follow.ensures.follow c.args.hub.now c.loop-hub.hub c.step.new.self c.args.s g.S.Stream.tells (g.S.Stream.traffic c.args.stream.now) (g.S.Stream.traffic c.loop-hub.stream) c.loop-hub.room c.step.result c.loop-hub.invariant c.step.ensures.step c.step.ensures.ran c.step.ensures.device c.in_default.not-Done c.in_default.not-Memory) c.in-Blocked.ensures.read
+          tells_then c.args.s g.S.Stream.tells c.runs_follow.ensures.follow c.args.hub.now c.step.new.self c.read_some.new.hub _ _ _ _ _ _
+          (waits c.runs_follow.ensures.follow c.args.hub.now c.loop-hub.hub c.step.new.self c.args.s g.S.Stream.tells (g.S.Stream.traffic c.args.stream.now) (g.S.Stream.traffic c.loop-hub.stream) c.loop-hub.room c.step.result c.loop-hub.invariant c.step.ensures.step c.step.ensures.ran c.step.ensures.device c.in_default.not-Done c.in_default.not-Memory) c.in-Blocked.ensures.read (λ h k p. p.0.moves.carried)
           (λ h k l stands p q. read_blocked c.args.s g.S.Stream.tells h (g.S.Stream.traffic c.args.stream.now) k (g.S.Stream.traffic c.loop-hub.stream) l (g.S.Stream.traffic c.read_some.new.stream) c.loop-hub.room p.0 p.1 (q p.1));
     }
 
@@ -79,8 +81,8 @@ pub returns-in-Failed : goal.returns-in-Failed
 returns-in-Failed g c =
     record {
       served =
-          leads_then c.runs_follow.ensures.follow c.args.hub.now c.step.new.self c.read_some.new.hub _ _ _
-          (waits c.runs_follow.ensures.follow c.args.hub.now c.loop-hub.hub c.step.new.self c.args.s g.S.Stream.tells (g.S.Stream.traffic c.args.stream.now) (g.S.Stream.traffic c.loop-hub.stream) c.loop-hub.room c.step.result c.loop-hub.invariant c.step.ensures.step c.step.ensures.ran c.step.ensures.device c.in_default.not-Done c.in_default.not-Memory) c.in-Failed.ensures.read
+          tells_then c.args.s g.S.Stream.tells c.runs_follow.ensures.follow c.args.hub.now c.step.new.self c.read_some.new.hub _ _ _ _ _ _
+          (waits c.runs_follow.ensures.follow c.args.hub.now c.loop-hub.hub c.step.new.self c.args.s g.S.Stream.tells (g.S.Stream.traffic c.args.stream.now) (g.S.Stream.traffic c.loop-hub.stream) c.loop-hub.room c.step.result c.loop-hub.invariant c.step.ensures.step c.step.ensures.ran c.step.ensures.device c.in_default.not-Done c.in_default.not-Memory) c.in-Failed.ensures.read (λ h k p. p.0.moves.carried)
           (λ h k l stands p q. read_failed c.args.s g.S.Stream.tells h (g.S.Stream.traffic c.args.stream.now) k (g.S.Stream.traffic c.loop-hub.stream) l (g.S.Stream.traffic c.read_some.new.stream) c.loop-hub.room p.0 p.1 (q p.1));
     }
 
@@ -88,7 +90,7 @@ pub returns-in-Ended : goal.returns-in-Ended
 returns-in-Ended g c =
     record {
       served =
-          leads_then c.runs_follow.ensures.follow c.args.hub.now c.step.new.self c.read_some.new.hub _ _ _
-          (waits c.runs_follow.ensures.follow c.args.hub.now c.loop-hub.hub c.step.new.self c.args.s g.S.Stream.tells (g.S.Stream.traffic c.args.stream.now) (g.S.Stream.traffic c.loop-hub.stream) c.loop-hub.room c.step.result c.loop-hub.invariant c.step.ensures.step c.step.ensures.ran c.step.ensures.device c.in_default.not-Done c.in_default.not-Memory) c.in-Ended.ensures.read
+          tells_then c.args.s g.S.Stream.tells c.runs_follow.ensures.follow c.args.hub.now c.step.new.self c.read_some.new.hub _ _ _ _ _ _
+          (waits c.runs_follow.ensures.follow c.args.hub.now c.loop-hub.hub c.step.new.self c.args.s g.S.Stream.tells (g.S.Stream.traffic c.args.stream.now) (g.S.Stream.traffic c.loop-hub.stream) c.loop-hub.room c.step.result c.loop-hub.invariant c.step.ensures.step c.step.ensures.ran c.step.ensures.device c.in_default.not-Done c.in_default.not-Memory) c.in-Ended.ensures.read (λ h k p. p.0.moves.carried)
           (λ h k l stands p q. read_ended c.args.s g.S.Stream.tells h (g.S.Stream.traffic c.args.stream.now) k (g.S.Stream.traffic c.loop-hub.stream) l (g.S.Stream.traffic c.read_some.new.stream) c.loop-hub.room p.0 p.1 (q p.1));
     }

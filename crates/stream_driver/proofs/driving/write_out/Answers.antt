@@ -1,23 +1,25 @@
 use Rattle.std.proofs.Common.{◌≡◌, ◌≤◌, length, arith, ap}
-use Rattle.stream_driver.proofs.States.{present_at, leads_none, leads_then, leads_map, some_after, le_after}
+use Rattle.stream_driver.proofs.States.{present_at, leads_none, leads_then, some_after, le_after}
+use Rattle.stream_driver.proofs.Sends.{tells_map, tells_still, tells_then}
 use Rattle.stream_driver.proofs.Loops.{written_none, written_then, written_within, written_blocked, written_failed, written_all}
 use Rattle.stream_driver.proofs.driving.write_out.Goals as goal
 
 pub loop-owed-init : goal.loop-owed-init
 loop-owed-init g c =
-    leads_none c.args.hub.now c.runs_follow.ensures.none _
+    tells_still c.args.s g.S.Stream.tells c.args.hub.now c.args.hub.now (g.S.Stream.traffic c.args.stream.now) _
+    (leads_none c.args.hub.now c.runs_follow.ensures.none _
     (λ h stands.
-    written_none c.args.s g.S.Stream.tells h (g.S.Stream.traffic c.args.stream.now) (length c.pending-owed.result.now) (present_at c.args.hub.now c.args.s h.hub stands.state _ c.requires (λ k p. p)) (ap length (c.pending-owed.ensures h.hub stands.state)))
+    written_none c.args.s g.S.Stream.tells h (g.S.Stream.traffic c.args.stream.now) (length c.pending-owed.result.now) (present_at c.args.hub.now c.args.s h.hub stands.state _ c.requires (λ k p. p)) (ap length (c.pending-owed.ensures h.hub stands.state))))
 
 pub write_some-requires : goal.write_some-requires
 write_some-requires g c =
-    some_after c.args.hub.now c.loop-owed.hub _ _ _ c.requires c.loop-owed.invariant
+    some_after c.args.hub.now c.loop-owed.hub _ _ _ c.requires c.loop-owed.invariant.leads
     (λ h k before p. (p.moves.carried.runs.present, (let owed = p.owed_is in let some = c.loop-owed-test.true in omega arith)))
 
 pub overflow_sub-owed : goal.overflow_sub-owed
 overflow_sub-owed g c =
     le_after c.args.hub.now c.write_some.new.hub _ _ c.in-Moved.n c.loop-owed.owed c.requires
-    (leads_then c.runs_follow.ensures.follow c.args.hub.now c.loop-owed.hub c.write_some.new.hub _ _ (λ h l. c.in-Moved.n ≤ c.loop-owed.owed) c.loop-owed.invariant c.in-Moved.ensures.written
+    (leads_then c.runs_follow.ensures.follow c.args.hub.now c.loop-owed.hub c.write_some.new.hub _ _ (λ h l. c.in-Moved.n ≤ c.loop-owed.owed) c.loop-owed.invariant.leads c.in-Moved.ensures.written.leads
     (λ h k l stands p q. written_within c.args.s g.S.Stream.tells h (g.S.Stream.traffic c.args.stream.now) k (g.S.Stream.traffic c.loop-owed.stream) l (g.S.Stream.traffic c.write_some.new.stream) c.loop-owed.owed p c.in-Moved.n q))
     (λ h l le. le)
 
@@ -25,21 +27,21 @@ pub loop-owed-smaller : goal.loop-owed-smaller
 loop-owed-smaller g c =
     let some : 1 ≤ c.in-Moved.n =
     le_after c.args.hub.now c.write_some.new.hub _ _ 1 c.in-Moved.n c.requires
-    (leads_then c.runs_follow.ensures.follow c.args.hub.now c.loop-owed.hub c.write_some.new.hub _ _ (λ h l. 1 ≤ c.in-Moved.n) c.loop-owed.invariant c.in-Moved.ensures.written (λ h k l stands p q. q.why.0))
+    (leads_then c.runs_follow.ensures.follow c.args.hub.now c.loop-owed.hub c.write_some.new.hub _ _ (λ h l. 1 ≤ c.in-Moved.n) c.loop-owed.invariant.leads c.in-Moved.ensures.written.leads (λ h k l stands p q. q.why.0))
     (λ h l le. le) in
     let owes = c.loop-owed-test.true in
     omega arith
 
 pub loop-owed-preserved : goal.loop-owed-preserved
 loop-owed-preserved g c =
-    leads_then c.runs_follow.ensures.follow c.args.hub.now c.loop-owed.hub c.write_some.new.hub _ _ _ c.loop-owed.invariant c.in-Moved.ensures.written
+    tells_then c.args.s g.S.Stream.tells c.runs_follow.ensures.follow c.args.hub.now c.loop-owed.hub c.write_some.new.hub _ _ _ _ _ _ c.loop-owed.invariant c.in-Moved.ensures.written (λ h k p. p.moves.carried)
     (λ h k l stands p q. written_then c.args.s g.S.Stream.tells h (g.S.Stream.traffic c.args.stream.now) k (g.S.Stream.traffic c.loop-owed.stream) l (g.S.Stream.traffic c.write_some.new.stream) c.loop-owed.owed p c.in-Moved.n q)
 
 pub returns-in-Blocked : goal.returns-in-Blocked
 returns-in-Blocked g c =
     record {
       written =
-          leads_then c.runs_follow.ensures.follow c.args.hub.now c.loop-owed.hub c.write_some.new.hub _ _ _ c.loop-owed.invariant c.in-Blocked.ensures.written
+          tells_then c.args.s g.S.Stream.tells c.runs_follow.ensures.follow c.args.hub.now c.loop-owed.hub c.write_some.new.hub _ _ _ _ _ _ c.loop-owed.invariant c.in-Blocked.ensures.written (λ h k p. p.moves.carried)
           (λ h k l stands p q. written_blocked c.args.s g.S.Stream.tells h (g.S.Stream.traffic c.args.stream.now) k (g.S.Stream.traffic c.loop-owed.stream) l (g.S.Stream.traffic c.write_some.new.stream) c.loop-owed.owed p c.loop-owed-test.true q);
     }
 
@@ -47,7 +49,7 @@ pub returns-in-Failed : goal.returns-in-Failed
 returns-in-Failed g c =
     record {
       written =
-          leads_then c.runs_follow.ensures.follow c.args.hub.now c.loop-owed.hub c.write_some.new.hub _ _ _ c.loop-owed.invariant c.in-Failed.ensures.written
+          tells_then c.args.s g.S.Stream.tells c.runs_follow.ensures.follow c.args.hub.now c.loop-owed.hub c.write_some.new.hub _ _ _ _ _ _ c.loop-owed.invariant c.in-Failed.ensures.written (λ h k p. p.moves.carried)
           (λ h k l stands p q. written_failed c.args.s g.S.Stream.tells h (g.S.Stream.traffic c.args.stream.now) k (g.S.Stream.traffic c.loop-owed.stream) l (g.S.Stream.traffic c.write_some.new.stream) c.loop-owed.owed p c.loop-owed-test.true q);
     }
 
@@ -56,5 +58,5 @@ returns g c =
     record {
       written =
           let none : c.loop-owed.owed ≡ 0 = (let ends = c.loop-owed-test.false in omega arith) in
-          leads_map c.args.hub.now c.loop-owed.hub _ _ c.loop-owed.invariant (λ h k stands p. written_all c.args.s g.S.Stream.tells h (g.S.Stream.traffic c.args.stream.now) k (g.S.Stream.traffic c.loop-owed.stream) c.loop-owed.owed p none);
+          tells_map c.args.s g.S.Stream.tells c.args.hub.now c.loop-owed.hub _ _ _ _ c.loop-owed.invariant (λ h k stands p. written_all c.args.s g.S.Stream.tells h (g.S.Stream.traffic c.args.stream.now) k (g.S.Stream.traffic c.loop-owed.stream) c.loop-owed.owed p none);
     }

@@ -1,6 +1,6 @@
 use Rattle.std.proofs.Common.{◌≡◌, sym, ap, ◌∙◌}
 use Rattle.stream_driver.specs.Entries.{state_after}
-use Rattle.stream_driver.proofs.States.{leads_map}
+use Rattle.stream_driver.proofs.Sends.{tells_map}
 use Rattle.stream_driver.proofs.Turns.{driven_once, left_alone}
 use Rattle.stream_driver.proofs.entries.drive_entry.Goals as goal
 use Rattle.stream_driver.proofs.entries.drive_entry.Goals.{in-Waiting, in-Again, in-Gone}
@@ -12,7 +12,7 @@ returns-after-drive-clause-driven g c =
       | in-Again w ↦ w.entry-is ∙ ap state_after (sym w.in-Again.is)
       | in-Gone w ↦ w.entry-is ∙ ap state_after (sym w.in-Gone.is)
     ] in
-    leads_map c.args.hub.now c.drive.new.hub _ _ c.drive.ensures.driven
+    tells_map c.args.entry.now.session g.S.Stream.tells c.args.hub.now c.drive.new.hub _ _ _ _ c.drive.ensures.driven
     (λ h k stands x. driven_once g.S.Stream.tells g.S.Stream.traffic h k c.args.entry.now c.drive.result c.drive.new.stream c.match-drive.entry c.in-Ready.is is x)
 
 pub returns-in_default-clause-driven : goal.returns-in_default-clause-driven

@@ -22,7 +22,7 @@ returns-clause-turned g c =
     c.is_told-comes_more.result (c.is_told-comes_more.ensures ∙ ap (λ (p : Poller). is_told_of LINGERER (items p.events)) c.drive.ensures.poller) c.drive.ensures.drives.0
     (record { begun = lingerers_of c.drive.new.self.lingering; left = c.drive.ensures.drives.1; turned = c.turn.ensures }) c.accept_told.ensures.accepts
     (rest_leads c.runs_follow.ensures.follow c.args.self.now.hub c.accept_told.new.self c.give_back.new.self c.give_back.ensures.gives_back _
-    (then_accepts c.runs_follow.ensures.follow c.args.self.now.hub _ c.accept_told.new.self _ c.drive.ensures.drives.0.drives _ c.accept_told.ensures.accepts))
+    (then_accepts c.runs_follow.ensures.follow c.args.self.now.hub _ c.accept_told.new.self _ c.drive.ensures.drives.0.drives.leads _ c.accept_told.ensures.accepts))
 
 pub returns-clause-bytes : goal.returns-clause-bytes
 returns-clause-bytes g c =

@@ -1,10 +1,13 @@
-use Rattle.std.proofs.Common.{refl}
+use Rattle.std.proofs.Common.{refl, ap, [], map}
+use Rattle.socket_calls.specs.OpenFacts.{latest}
+use Rattle.event_loop.specs.Sockets.{departure_of}
 use Rattle.event_loop.proofs.socket.Socket.new.Goals as goal
 
 pub returns : goal.returns
 returns c = record {
   given = λ tells. (tells.begins c.new.result c.new.ensures).0;
-  taken = λ tells. (tells.begins c.new.result c.new.ensures).1;
+  taken = λ tells. ap (λ l. latest [] l) (tells.begins c.new.result c.new.ensures).1;
+  departed = λ tells. ap (λ l. map departure_of l) (tells.begins c.new.result c.new.ensures).1;
   counts = (refl, refl, refl, refl, refl);
   last = refl;
 }

@@ -16,5 +16,5 @@ drive-requires g c = ∥∥₁_map c.args.self.now.stands (λ w. (
 
 pub invariant_of-self : goal.invariant_of-self
 invariant_of-self g c = record {
-  stands = stands_after c.args.self.now.hub c.drive.new.hub _ c.args.self.now.stands c.drive.ensures.driven;
+  stands = stands_after c.args.self.now.hub c.drive.new.hub _ c.args.self.now.stands c.drive.ensures.driven.leads;
 }

@@ -1,0 +1,188 @@
+-- What left over a stream is told before, from run to run.
+use Rattle.std.proofs.Common.{◌≡◌, ◌≤◌, ℕ, List, [], ◌∷◌, ◌++◌, Some, take, drop, refl, sym, ap, subst, ◌∙◌, append_assoc}
+use Rattle.std.specs.List.{AllByRecursion}
+use Rattle.std.proofs.lemmas.List.{append-nil, take-append-drop}
+use Rattle.sector.specs.declared.device.Sectors.{Ghosts}
+use Rattle.sessions.specs.declared.events.Outcome.{Outcome}
+use Rattle.sessions.specs.declared.hub.Hub.{Hub}
+use Rattle.sessions.specs.Laws.{NoneRuns, Ran, RunsAlone}
+use Rattle.sessions.specs.SessionStreams.{HubState, HubEvent, Choice, SessionStream, hub_step, run, stream_of}
+use Rattle.sessions.specs.StandsFor.{StandsFor, HubLeads, device, failures, pending_in}
+use Rattle.stream_driver.specs.Drives.{Carried}
+use Rattle.stream_driver.specs.Sends.{IsAnswered, IsToldBefore, AreToldBefore, HasSent, LeadsTelling}
+use Rattle.stream_driver.specs.Sessions.{Leads, Point, StandsAt, pending_at}
+use Rattle.stream_driver.specs.Traffic.{Departure, DepartAt, IsBeginning, Traffic}
+use Rattle.stream_driver.proofs.Carry.{all_then, and_then, grown, one_history, run_then}
+use Rattle.stream_driver.proofs.Events.{Happens, point_after}
+use Rattle.stream_driver.proofs.States.{Follow, at_point, leads_event, leads_map, leads_none, leads_two_at, point_of}
+
+module _ {D : Type 0} {g : Ghosts D} (s : ℕ) (h : HubState) where
+  -- more events came since
+  told_since : Follow D g → (a b c : Hub D g) (es fs : List (HubEvent × Choice)) → Ran b c fs → (d : Departure) → IsToldBefore s h a b es d → IsToldBefore s h a c (es ++ fs) d
+  told_since follow a b c es fs ran d t = record {
+    before = t.before;
+    since = t.since ++ fs;
+    events_are = ap (λ l. l ++ fs) t.events_are ∙ append_assoc t.before t.since fs;
+    hub = t.hub;
+    came = t.came;
+    goes_on = follow t.hub b c t.since fs t.goes_on ran;
+    moment_is = t.moment_is;
+    told = t.told;
+  }
+
+  -- others had come before
+  told_then : Follow D g → (a b c : Hub D g) (es fs : List (HubEvent × Choice)) → Ran a b es → (d : Departure) → IsToldBefore s (run h es) b c fs d → IsToldBefore s h a c (es ++ fs) d
+  told_then follow a b c es fs ran d t = record {
+    before = es ++ t.before;
+    since = t.since;
+    events_are = ap (λ l. es ++ l) t.events_are ∙ sym (append_assoc es t.before t.since);
+    hub = t.hub;
+    came = follow a b t.hub es t.before ran t.came;
+    goes_on = t.goes_on;
+    moment_is = t.moment_is;
+    told = record {
+      by = es ++ t.told.by;
+      since = t.told.since;
+      events_are = ap (λ l. es ++ l) t.told.events_are ∙ sym (append_assoc es t.told.by t.told.since);
+      stream = t.told.stream;
+      stream_is = ap (λ v. stream_of v s) (run_then h es t.told.by) ∙ t.told.stream_is;
+      answered = t.told.answered;
+    };
+  }
+
+  all_since : Follow D g → (a b c : Hub D g) (es fs : List (HubEvent × Choice)) → Ran b c fs → (ds : List Departure) → AllByRecursion (IsToldBefore s h a b es) ds → AllByRecursion (IsToldBefore s h a c (es ++ fs)) ds
+  all_since follow a b c es fs ran [] all = all
+  all_since follow a b c es fs ran (d ∷ ds) all = (told_since follow a b c es fs ran d all.0, all_since follow a b c es fs ran ds all.1)
+
+  all_before : Follow D g → (a b c : Hub D g) (es fs : List (HubEvent × Choice)) → Ran a b es → (ds : List Departure) → AllByRecursion (IsToldBefore s (run h es) b c fs) ds
+      → AllByRecursion (IsToldBefore s h a c (es ++ fs)) ds
+  all_before follow a b c es fs ran [] all = all
+  all_before follow a b c es fs ran (d ∷ ds) all = (told_then follow a b c es fs ran d all.0, all_before follow a b c es fs ran ds all.1)
+
+  -- nothing left
+  pub none_left : (a b : Hub D g) (es : List (HubEvent × Choice)) (before after : Traffic) → after.departed ≡ before.departed → AreToldBefore s h a b es before after
+  none_left a b es before after e = record { departures = []; departed_are = e ∙ sym (append-nil before.departed); each = tt }
+
+  pub more_since : Follow D g → (a b c : Hub D g) (es fs : List (HubEvent × Choice)) → Ran b c fs → (t u : Traffic) → AreToldBefore s h a b es t u → AreToldBefore s h a c (es ++ fs) t u
+  more_since follow a b c es fs ran t u p = record { departures = p.departures; departed_are = p.departed_are; each = all_since follow a b c es fs ran p.departures p.each }
+
+  -- one part of the run after the other
+  pub all_told_then : Follow D g → (a b c : Hub D g) (es fs : List (HubEvent × Choice)) → Ran a b es → Ran b c fs → (t u v : Traffic)
+      → AreToldBefore s h a b es t u → AreToldBefore s (run h es) b c fs u v → AreToldBefore s h a c (es ++ fs) t v
+  all_told_then follow a b c es fs first second t u v p q = record {
+    departures = p.departures ++ q.departures;
+    departed_are = grown t.departed u.departed u.departed v.departed p.departures q.departures p.departed_are refl q.departed_are;
+    each = all_then (IsToldBefore s h a c (es ++ fs)) p.departures q.departures (all_since follow a b c es fs second p.departures p.each) (all_before follow a b c es fs first q.departures q.each);
+  }
+
+-- the stream has taken what was told to be sent after a run over it too
+pub sent_after : (s : ℕ) (tells : Type 0) (h : Point) (t : Traffic) (k : Point) (u : Traffic) → Carried s tells h t k u → tells → HasSent s h.hub t → HasSent s k.hub u
+sent_after s tells h t k u c is has =
+    let same : has.stream ≡ c.runs.first = one_history has.stream c.runs.first (sym has.stream_is ∙ c.runs.first_is) in
+    record {
+      stream = c.runs.last;
+      stream_is = c.runs.last_is;
+      taken = c.taken is ∙ ap (λ l. l ++ c.runs.history.sent) (has.taken ∙ ap (λ (x : SessionStream). x.sent) same) ∙ sym c.runs.history.sent_is;
+    }
+
+pub begins_taken : (n : ℕ) (all : List ℕ) → IsBeginning (take n all) all
+begins_taken n all = record { rest = drop n all; all_is = sym (take-append-drop n all) }
+
+pub begins_nothing : (all : List ℕ) → IsBeginning [] all
+begins_nothing all = record { rest = all; all_is = refl }
+
+pub begins_all : (bytes pending sent taken took : List ℕ) → IsBeginning bytes pending → taken ≡ sent → took ≡ taken ++ bytes → IsBeginning took (sent ++ pending)
+begins_all bytes pending sent taken took b is e = record {
+  rest = b.rest;
+  all_is = ap (λ l. sent ++ l) b.all_is ∙ sym (append_assoc sent bytes b.rest) ∙ ap (λ l. l ++ b.rest) (ap (λ l. l ++ bytes) (sym is) ∙ sym e);
+}
+
+pub begins_through : (bytes mid all : List ℕ) → IsBeginning bytes mid → IsBeginning mid all → IsBeginning bytes all
+begins_through bytes mid all a b = record { rest = a.rest ++ b.rest; all_is = b.all_is ∙ ap (λ l. l ++ b.rest) a.all_is ∙ append_assoc bytes a.rest b.rest }
+
+module _ {D : Type 0} {g : Ghosts D} (s : ℕ) (tells : Type 0) where
+  -- the stream was not called
+  pub tells_still : (a b : Hub D g) (t : Traffic) (P : Point → Point → Type 0) → Leads a b P → LeadsTelling s tells a t b t P
+  tells_still a b t P p = record { leads = p; telling = λ _ h stands has. none_left s h a b p.choices t t refl }
+
+  pub tells_map : (a b : Hub D g) (t u : Traffic) (P Q : Point → Point → Type 0) → LeadsTelling s tells a t b u P → ((h k : Point) → StandsFor b k.hub → P h k → Q h k) → LeadsTelling s tells a t b u Q
+  tells_map a b t u P Q p f = record { leads = leads_map a b P Q p.leads f; telling = p.telling }
+
+  pub all_answered : (a b : Hub D g) (es : List (HubEvent × Choice)) (h : HubState) (took : List ℕ) → Ran a a [] → Ran a b es → (stream : SessionStream) → stream_of h s ≡ Some stream → IsBeginning took (stream.sent ++ stream.now.pending)
+      → (moment : ℕ) → moment ≡ g.moment (device a) → (ds : List Departure) → AllByRecursion (λ d. (d.moment ≡ moment) × IsBeginning d.bytes took) ds → AllByRecursion (IsToldBefore s h a b es) ds
+  all_answered a b es h took none ran stream is begins moment now [] all = all
+  all_answered a b es h took none ran stream is begins moment now (d ∷ ds) all = (
+    record {
+      before = [];
+      since = es;
+      events_are = refl;
+      hub = a;
+      came = none;
+      goes_on = ran;
+      moment_is = all.0.0 ∙ now;
+      told = record { by = []; since = []; events_are = refl; stream = stream; stream_is = is; answered = begins_through d.bytes took (stream.sent ++ stream.now.pending) all.0.1 begins };
+    },
+    all_answered a b es h took none ran stream is begins moment now ds all.1,
+  )
+
+  -- one call of the stream, which took no more than was pending
+  pub tells_call : (a b : Hub D g) (t u : Traffic) (P : Point → Point → Type 0) → NoneRuns a → Leads a b P → (moment : ℕ) → moment ≡ g.moment (device a) → (tells → DepartAt moment t u)
+      → ((h : HubState) → StandsFor a h → tells → (bytes : List ℕ) × IsBeginning bytes (pending_at h s) × (u.taken ≡ t.taken ++ bytes)) → LeadsTelling s tells a t b u P
+  tells_call a b t u P none p moment now departs took = record {
+    leads = p;
+    telling = λ is h stands has.
+        let w = took h stands is in
+        let d = departs is in
+        let begins : IsBeginning u.taken (has.stream.sent ++ has.stream.now.pending) =
+        begins_all w.0 has.stream.now.pending has.stream.sent t.taken u.taken (subst (λ l. IsBeginning w.0 l) (ap pending_in has.stream_is) w.1) has.taken w.2 in
+        record { departures = d.departures; departed_are = d.departed_are; each = all_answered a b p.choices h u.taken none p.ran has.stream has.stream_is begins moment now d.departures d.each };
+  }
+
+  -- with what the hub between stands for
+  pub tells_two_at : Follow D g → (a b c : Hub D g) (t u v : Traffic) (P Q R : Point → Point → Type 0) → LeadsTelling s tells a t b u P → LeadsTelling s tells b u c v Q
+      → ((h k : Point) → P h k → Carried s tells h t k u) → ((h k l : Point) → StandsFor b k.hub → StandsFor c l.hub → P h k → Q k l → R h l) → LeadsTelling s tells a t c v R
+  tells_two_at follow a b c t u v P Q R p q carried f = record {
+    leads = leads_two_at follow a b c P Q R p.leads q.leads f;
+    telling = λ is h stands has.
+        let to = p.leads.to (point_of a h) (at_point a h stands) in
+        let at : StandsFor b (run h p.leads.choices) = subst (StandsFor b) to.2.0.run_is to.1.state in
+        let sent : HasSent s (run h p.leads.choices) u = subst (λ v. HasSent s v u) to.2.0.run_is (sent_after s tells (point_of a h) t to.0 u (carried (point_of a h) to.0 to.2.1) is has) in
+        all_told_then s h follow a b c p.leads.choices q.leads.choices p.leads.ran q.leads.ran t u v (p.telling is h stands has) (q.telling is (run h p.leads.choices) at sent);
+  }
+
+  pub tells_then : Follow D g → (a b c : Hub D g) (t u v : Traffic) (P Q R : Point → Point → Type 0) → LeadsTelling s tells a t b u P → LeadsTelling s tells b u c v Q
+      → ((h k : Point) → P h k → Carried s tells h t k u) → ((h k l : Point) → StandsFor c l.hub → P h k → Q k l → R h l) → LeadsTelling s tells a t c v R
+  tells_then follow a b c t u v P Q R p q carried f = tells_two_at follow a b c t u v P Q R p q carried (λ h k l was stands x y. f h k l stands x y)
+
+  pub tells_three_at : Follow D g → (a b c d : Hub D g) (t u v w : Traffic) (P Q R S : Point → Point → Type 0) → LeadsTelling s tells a t b u P → LeadsTelling s tells b u c v Q → LeadsTelling s tells c v d w R
+      → ((h k : Point) → P h k → Carried s tells h t k u) → ((k l : Point) → Q k l → Carried s tells k u l v)
+      → ((h k l m : Point) → StandsFor b k.hub → StandsFor c l.hub → P h k → Q k l → R l m → S h m) → LeadsTelling s tells a t d w S
+  tells_three_at follow a b c d t u v w P Q R S p q r one two f =
+      tells_two_at follow a c d t v w (λ h l. (k : Point) × StandsFor b k.hub × StandsFor c l.hub × P h k × Q k l) R S
+      (tells_two_at follow a b c t u v P Q (λ h l. (k : Point) × StandsFor b k.hub × StandsFor c l.hub × P h k × Q k l) p q one (λ h k l was stands x y. (k, was, stands, x, y))) r
+      (λ h l x. and_then s tells h t x.0 u l v (one h x.0 x.3) (two x.0 l x.4))
+      (λ h l m stands last x z. f h x.0 l m x.1 x.2 x.3 x.4 z)
+
+  pub tells_three : Follow D g → (a b c d : Hub D g) (t u v w : Traffic) (P Q R S : Point → Point → Type 0) → LeadsTelling s tells a t b u P → LeadsTelling s tells b u c v Q → LeadsTelling s tells c v d w R
+      → ((h k : Point) → P h k → Carried s tells h t k u) → ((k l : Point) → Q k l → Carried s tells k u l v)
+      → ((h k l m : Point) → StandsFor c l.hub → P h k → Q k l → R l m → S h m) → LeadsTelling s tells a t d w S
+  tells_three follow a b c d t u v w P Q R S p q r one two f = tells_three_at follow a b c d t u v w P Q R S p q r one two (λ h k l m was stands x y z. f h k l m stands x y z)
+
+  pub tells_four : Follow D g → (a b c d e : Hub D g) (t u v w x : Traffic) (P Q R S U : Point → Point → Type 0) → LeadsTelling s tells a t b u P → LeadsTelling s tells b u c v Q → LeadsTelling s tells c v d w R
+      → LeadsTelling s tells d w e x S → ((h k : Point) → P h k → Carried s tells h t k u) → ((k l : Point) → Q k l → Carried s tells k u l v) → ((l m : Point) → R l m → Carried s tells l v m w)
+      → ((h k l m n : Point) → P h k → Q k l → R l m → S m n → U h n) → LeadsTelling s tells a t e x U
+  tells_four follow a b c d e t u v w x P Q R S U p q r z one two three f =
+      tells_two_at follow a d e t w x (λ h m. (k : Point) × (l : Point) × P h k × Q k l × R l m) S U
+      (tells_three_at follow a b c d t u v w P Q R (λ h m. (k : Point) × (l : Point) × P h k × Q k l × R l m) p q r one two (λ h k l m was stands i j y. (k, l, i, j, y))) z
+      (λ h m y. and_then s tells h t y.1 v m w (and_then s tells h t y.0 u y.1 v (one h y.0 y.2) (two y.0 y.1 y.3)) (three y.1 m y.4))
+      (λ h m n was stands y i. f h y.0 y.1 m n y.2 y.3 y.4 i)
+
+  -- and then an event of the hub
+  pub tells_step : Follow D g → (a b c : Hub D g) (t u : Traffic) (P R : Point → Point → Type 0) (e : HubEvent) (outcome : Outcome) → LeadsTelling s tells a t b u P → HubLeads b c e outcome → RunsAlone b c e
+      → failures b ≤ failures c → ((h k : Point) → P h k → Carried s tells h t k u)
+      → ((h k : Point) (choice : Choice) → Happens k e choice (failures c) → outcome ≡ (hub_step k.hub e choice).1 → StandsFor c (hub_step k.hub e choice).0 → P h k → R h (point_after k e choice (failures c)))
+      → LeadsTelling s tells a t c u R
+  tells_step follow a b c t u P R e outcome p q alone counted carried f =
+      tells_two_at follow a b c t u u P (λ k l. (h : Point) → P h k → R h l) R p
+      (tells_still b c u (λ k l. (h : Point) → P h k → R h l) (leads_event b c (λ k l. (h : Point) → P h k → R h l) e outcome q alone counted (λ k at happens is stands h x. f h k q.0 happens is stands x))) carried
+      (λ h k l was stands x y. y h x)

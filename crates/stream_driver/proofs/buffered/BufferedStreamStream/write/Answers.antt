@@ -1,0 +1,14 @@
+use Rattle.std.proofs.Common.{◌≡◌, ◌++◌, ◌∙◌, ap}
+use Rattle.stream_driver.specs.Buffers.{held_in, traffic_through}
+use Rattle.stream_driver.proofs.Buffering.{departed_still}
+use Rattle.stream_driver.proofs.buffered.BufferedStreamStream.write.Goals as goal
+use Rattle.stream_driver.proofs.buffered.BufferedStreamStream.write.Goals.{in-Moved, in_default}
+
+pub returns-clause-departed : goal.returns-clause-departed
+returns-clause-departed g c = λ t.
+    let inner : c.match-answer.self.inner ≡ c.take_some-answer.new.self.inner = elim c.match-answer.branch [ in-Moved w ↦ ap (λ b. b.inner) w.self-is | in_default w ↦ ap (λ b. b.inner) w.self-is ] in
+    let held : c.match-answer.self.held ≡ c.take_some-answer.new.self.held = elim c.match-answer.branch [ in-Moved w ↦ ap (λ b. b.held) w.self-is | in_default w ↦ ap (λ b. b.held) w.self-is ] in
+    departed_still (g.D.Sectors.moment c.args.device.now) (traffic_through g.S.Stream.traffic c.args.self.now) (traffic_through g.S.Stream.traffic c.take_some-answer.new.self) _
+    (ap (λ i. (g.S.Stream.traffic i).departed) inner)
+    (ap (λ i. (g.S.Stream.traffic i).taken ++ held_in c.match-answer.self.held) inner ∙ ap (λ h. (g.S.Stream.traffic c.take_some-answer.new.self.inner).taken ++ held_in h) held)
+    (c.take_some-answer.ensures.departed t)
