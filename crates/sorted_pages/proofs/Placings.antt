@@ -1,5 +1,5 @@
 -- Pages: where a key stands among them, and what a changed page does to all entries and to the rooms.
-use Rattle.std.proofs.Common.{◌≡◌, ℕ, zero, suc, ◌+◌, ◌-◌, ◌<◌, ◌≤◌, Bool, true, false, List, [], ◌∷◌, ◌++◌, length, get_or, set, take, drop, ◌/◌, min, refl, sym, ap, subst, ◌∙◌, arith}
+use Rattle.std.proofs.Common.{◌≡◌, ℕ, zero, suc, ◌+◌, ◌-◌, ◌<◌, ◌≤◌, Bool, true, false, List, [], ◌∷◌, ◌++◌, length, get_or, set, take, drop, min, refl, sym, ap, subst, ◌∙◌, arith}
 use Rattle.std.specs.Prelude.{if◌then◌else◌}
 use Rattle.std.specs.List.{AllByRecursion, insert}
 use Rattle.std.specs.List.Sorted.{IsPartitionedBy, IsPartitionPoint}
@@ -7,11 +7,12 @@ use Rattle.std.specs.Ordering.{is_le, nat_cmp}
 use Rattle.std.specs.Cmp.Lexicographic.{slice_cmp, nat_list_cmp_total}
 use Rattle.std.specs.FinMap.Entries.{find, put, is_sorted-put}
 use Rattle.std.proofs.lemmas.Bool.{both_ways}
-use Rattle.std.proofs.lemmas.List.{append_assoc, append-nil, set_at, get_or_at, length-take, length-drop, take-append-drop}
+use Rattle.std.proofs.lemmas.List.Edits.{length-insert}
+use Rattle.std.proofs.lemmas.List.{append_assoc, append-nil, length-append, length-set, set_at, get_or_at, length-take, length-drop, take-append-drop}
 use Rattle.model.specs.Map.{Bytes, key_cmp}
 use Rattle.model.proofs.Entries.{IsSorted, IsBelowAll}
 use Rattle.model.proofs.InOrder.{below_left, below_right, sorted_left, sorted_right, parts}
-use Rattle.sorted_pages.specs.Pages.{Page, entries, starts_by, last_room, room_at, IsFilled, AreRestFilled, IsInOrder, AreBelow, IsPlace, IsRoomier}
+use Rattle.sorted_pages.specs.Pages.{Page, entries, starts_by, last_room, room_at, last_page, count_at, IsLoose, AreLoose, IsFilled, AreRestFilled, IsInOrder, AreBelow, IsPlace, IsRoomier}
 use Rattle.sorted_pages.proofs.Keys.{below_of, above_of, first_of, starts_lower, starts-append, starts-put, filled-put, find_middle, put_middle}
 
 -- ---- lists
@@ -54,8 +55,8 @@ pub record Halves {E : Type 0} (es lo up : List E) : Type 0 where
   pub lower : 0 < length lo
   pub upper : 0 < length up
 
-pub halves : {E : Type 0} (es lo up : List E) (half : ℕ) → lo ≡ take half es → up ≡ drop half es → half ≡ length es / 2 → ¬ (half ≡ 0) → Halves es lo up
-halves es lo up half l u is some =
+pub halves : {E : Type 0} (es lo up : List E) (half : ℕ) → lo ≡ take half es → up ≡ drop half es → half ≤ length es - 1 → ¬ (half ≡ 0) → Halves es lo up
+halves es lo up half l u within some =
     let a : length lo ≡ min half (length es) = ap length l ∙ length-take half es in
     let b : length up ≡ length es - half = ap length u ∙ length-drop half es in
     record {
@@ -63,6 +64,21 @@ halves es lo up half l u is some =
       lower = omega arith;
       upper = omega arith;
     }
+
+-- the lists are longer by the page that comes in
+pub longer : {E : Type 0} (old ps new : List E) (i n : ℕ) (lo up : E) → old ≡ ps → n ≡ i + 1 → i < length ps → new ≡ insert (set ps i lo) n up → length old < length new
+longer old ps new i n lo up same next lt is =
+    let a = ap length same in
+    let s : length (set ps i lo) ≡ length ps = length-set ps i lo in
+    let b : length (insert (set ps i lo) n up) ≡ length (set ps i lo) + 1 = length-insert (set ps i lo) n up (omega arith) in
+    let c = ap length is in
+    omega arith
+
+-- what is read at an index below the length
+pub same_at : {E : Type 0} (ps : List E) (i : ℕ) (p q : E) → i < length ps → p ≡ get_or ps i p → q ≡ get_or ps i q → p ≡ q
+same_at [] i p q lt a b = absurd (omega arith)
+same_at (t ∷ ps) zero p q lt a b = a ∙ sym b
+same_at (t ∷ ps) (suc i) p q lt a b = same_at ps i p q (omega arith) a b
 
 module _ {X : Type 0} where
   -- ---- all entries
@@ -138,6 +154,9 @@ module _ {X : Type 0} where
   pub page_is : (ps : List (Page X)) (k : Bytes) (i : ℕ) (p : Page X) → (w : IsPlace ps k i) → p ≡ get_or ps i p → p ≡ w.page
   page_is ps k i p w is = is ∙ ap (λ (l : List (Page X)). get_or l i p) w.is ∙ get_or_at w.before w.page w.after p i w.index
 
+  pub place_within : (ps : List (Page X)) (k : Bytes) (i : ℕ) → IsPlace ps k i → i < length ps
+  place_within ps k i w = (let a = ap length w.is in let b = length-append w.before (w.page ∷ w.after) in let e = w.index in omega arith)
+
   pub set_is : (ps : List (Page X)) (k : Bytes) (i : ℕ) (p : Page X) (w : IsPlace ps k i) → set ps i p ≡ w.before ++ p ∷ w.after
   set_is ps k i p w = ap (λ (l : List (Page X)). set l i p) w.is ∙ set_at w.before w.page w.after p i w.index
 
@@ -183,6 +202,26 @@ module _ {X : Type 0} where
   pub room_of : (ps : List (Page X)) (k : Bytes) (i : ℕ) (p : Page X) (w : IsPlace ps k i) → p ≡ get_or ps i p → room_at k ps ≡ p.1
   room_of ps k i p w is =
       ap (room_at k) w.is ∙ room_here k w.before w.page w.after (λ lt. w.starts (let e = w.index in omega arith)) w.later ∙ sym (ap (λ (q : Page X). q.1) (page_is ps k i p w is))
+
+  last_page-append : (r : Page X) (k : Bytes) (us bs : List (Page X)) → last_page r k (us ++ bs) ≡ last_page (last_page r k us) k bs
+  last_page-append r k [] bs = refl
+  last_page-append r k (p ∷ us) bs = last_page-append (if starts_by k p.0 then p else r) k us bs
+
+  last_page-none : (r : Page X) (k : Bytes) (ps : List (Page X)) → AllByRecursion (λ (p : Page X). starts_by k p.0 ≡ false) ps → last_page r k ps ≡ r
+  last_page-none r k [] h = refl
+  last_page-none r k (p ∷ ps) h = ap (λ b. last_page (if b then p else r) k ps) h.0 ∙ last_page-none r k ps h.1
+
+  -- the entries that are counted for k are those of the page where it stands
+  count_here : (k : Bytes) (before : List (Page X)) (page : Page X) (after : List (Page X)) → (0 < length before → starts_by k page.0 ≡ true) → AllByRecursion (λ (p : Page X). starts_by k p.0 ≡ false) after → count_at k (before ++ page ∷ after) ≡ length page.0
+  count_here k [] page after s n = ap (λ (p : Page X). length p.0) (last_page-none page k after n)
+  count_here k (b ∷ before) page after s n =
+      ap (λ (p : Page X). length p.0) (last_page-append b k before (page ∷ after)
+      ∙ ap (λ t. last_page (if t then page else last_page b k before) k after) (s (omega arith))
+      ∙ last_page-none page k after n)
+
+  pub count_of : (ps : List (Page X)) (k : Bytes) (i : ℕ) (p : Page X) (w : IsPlace ps k i) → p ≡ get_or ps i p → count_at k ps ≡ length p.0
+  count_of ps k i p w is =
+      ap (count_at k) w.is ∙ count_here k w.before w.page w.after (λ lt. w.starts (let e = w.index in omega arith)) w.later ∙ sym (ap (λ (q : Page X). length q.0) (page_is ps k i p w is))
 
   -- another page in its place, with d less room at most
   pub room-replaced : (d : ℕ) (q : Bytes) (before : List (Page X)) (p r : Page X) (after : List (Page X)) → p.1 ≤ r.1 + d → (0 < length before → starts_by q r.0 ≡ starts_by q p.0)
@@ -312,6 +351,32 @@ module _ {X : Type 0} where
       (split_parts w.before w.page lo up w.after (order_parts ps k i w h) (sym (ap (λ (q : Page X). q.0) e) ∙ same) f g (subst (λ (q : Page X). q.1 ≤ lo.1) e l) (subst (λ (q : Page X). q.1 ≤ up.1) e u)))
 
   -- ---- an entry at the end
+
+  all_set : (P : Page X → Type 0) (qs : List (Page X)) (j : ℕ) (q s : Page X) → q ≡ get_or qs j q → (P q → P s) → AllByRecursion P qs → AllByRecursion P (set qs j s)
+  all_set P [] j q s is f a = tt
+  all_set P (t ∷ qs) zero q s is f a = (f (subst P (sym is) a.0), a.1)
+  all_set P (t ∷ qs) (suc j) q s is f a = (a.0, all_set P qs j q s is f a.1)
+
+  all_push : (P : Page X → Type 0) (qs : List (Page X)) (p : Page X) → P p → AllByRecursion P qs → AllByRecursion P (qs ++ p ∷ [])
+  all_push P [] p h a = (h, tt)
+  all_push P (q ∷ qs) p h a = (a.0, all_push P qs p h a.1)
+
+  one_more : (b : Bool) (es more : List (Bytes × X)) (n : ℕ) → length more ≡ 1 → length es < n → length (if b then es ++ more else es) ≤ n
+  one_more true es more n one lt = omega (arith, length-append es more)
+  one_more false es more n one lt = omega arith
+
+  -- an entry more in a page with fewer than 384
+  pub loose-set : (ps : List (Page X)) (e : Bytes × X) (i : ℕ) (p r : Page X) (ok : Bool) → p ≡ get_or ps i p → r.0 ≡ (if ok then p.0 ++ e ∷ [] else p.0) → length p.0 + p.1 ≤ length r.0 + r.1 → length p.0 < 384 → AreLoose ps → AreLoose (set ps i r)
+  loose-set ps e i p r ok is same places lt h =
+      let few : length r.0 ≤ 384 = (let l = ap length same in let m = one_more ok p.0 (e ∷ []) 384 refl lt in omega arith) in
+      all_set IsLoose ps i p r is (λ l. record { few = few; places = (let w = l.places in omega arith) }) h
+
+  -- a page of one entry, with 512 places
+  pub loose-push : (ps : List (Page X)) (e : Bytes × X) (p q : Page X) → q ≡ ([], 512) → p.0 ≡ q.0 ++ e ∷ [] → length q.0 + q.1 ≤ length p.0 + p.1 → AreLoose ps → AreLoose (ps ++ p ∷ [])
+  loose-push ps e p q new same places h =
+      let one : length p.0 ≡ 1 = ap length (same ∙ ap (λ (r : Page X). r.0 ++ e ∷ []) new) in
+      let all : length q.0 + q.1 ≡ 512 = ap (λ (r : Page X). length r.0 + r.1) new in
+      all_push IsLoose ps p (record { few = omega arith; places = omega arith }) h
 
   pub pushed_page : (ps : List (Page X)) (e : Bytes × X) → IsInOrder ps → IsSorted (entries ps ++ e ∷ []) → (p : Page X) → p.0 ≡ e ∷ [] → record { order : IsInOrder (ps ++ p ∷ []); entries : entries (ps ++ p ∷ []) ≡ entries ps ++ e ∷ [] }
   pushed_page ps e h g p is =

@@ -1,7 +1,7 @@
 -- Pages of entries, all by rising key.
-use Rattle.std.specs.Prelude.{◌≡◌, ℕ, T, ◌<◌, ◌≤◌, Bool, true, false, List, [], ◌∷◌, ◌++◌, length, if◌then◌else◌, ⊤}
+use Rattle.std.specs.Prelude.{◌≡◌, ℕ, T, ◌+◌, ◌-◌, ◌<◌, ◌≤◌, Bool, true, false, List, [], ◌∷◌, ◌++◌, length, slice_get, Option, Some, None, if◌then◌else◌, ⊤}
 use Rattle.std.specs.List.{AllByRecursion}
-use Rattle.std.specs.Ordering.{nat_cmp, is_le}
+use Rattle.std.specs.Ordering.{nat_cmp, is_le, is_lt}
 use Rattle.std.specs.declared.cmp.Ordering.TheVariants.{Less}
 use Rattle.std.specs.Cmp.Lexicographic.{slice_cmp}
 use Rattle.std.specs.FinMap.Entries.{below_all, is_sorted}
@@ -21,6 +21,15 @@ abbrev pub starts_by : {X : Type 0} → Bytes → List (Bytes × X) → Bool
 starts_by k [] = true
 starts_by k (e ∷ es) = is_le (key_cmp e.0 k)
 
+-- there is an entry, and its key is below k
+abbrev pub is_entry_below : {X : Type 0} → Bytes → Option (Bytes × X) → Bool
+is_entry_below k None = false
+is_entry_below k (Some e) = is_lt (key_cmp e.0 k)
+
+-- k stands behind the last of the entries
+abbrev pub stands_behind : {X : Type 0} → Bytes → List (Bytes × X) → Bool
+stands_behind k es = is_entry_below k (slice_get es (length es - 1))
+
 -- the room of the last of the pages that starts by k, and r where none does
 abbrev pub last_room : {X : Type 0} → ℕ → Bytes → List (Page X) → ℕ
 last_room r k [] = r
@@ -30,6 +39,30 @@ last_room r k (p ∷ ps) = last_room (if starts_by k p.0 then p.1 else r) k ps
 abbrev pub room_at : {X : Type 0} → Bytes → List (Page X) → ℕ
 room_at k [] = 0
 room_at k (p ∷ ps) = last_room p.1 k ps
+
+-- the last of the pages that starts by k, and r where none does
+abbrev pub last_page : {X : Type 0} → Page X → Bytes → List (Page X) → Page X
+last_page r k [] = r
+last_page r k (p ∷ ps) = last_page (if starts_by k p.0 then p else r) k ps
+
+-- how many entries the page has where k stands or would stand
+abbrev pub count_at : {X : Type 0} → Bytes → List (Page X) → ℕ
+count_at k [] = 0
+count_at k (p ∷ ps) = length (last_page p k ps).0
+
+-- n more entries don't fit in the page where k stands or would stand, and are too many for it: it has 256, and would get more than 512
+pub record IsCrowded {X : Type 0} (k : Bytes) (n : ℕ) (ps : List (Page X)) : Type 0 where
+  pub short : room_at k ps < n
+  pub many : 256 ≤ count_at k ps
+  pub over : 512 < count_at k ps + n
+
+-- a page that entries come to by rising key: it has 384 at most, and 512 places at least, so that those that come in between find room
+pub record IsLoose {X : Type 0} (p : Page X) : Type 0 where
+  pub few : length p.0 ≤ 384
+  pub places : 512 ≤ length p.0 + p.1
+
+abbrev pub AreLoose : {X : Type 0} → List (Page X) → Type 0
+AreLoose ps = AllByRecursion IsLoose ps
 
 -- the page has an entry
 abbrev pub IsFilled : {X : Type 0} → Page X → Type 0

@@ -1,20 +1,17 @@
 //! Pages change.
-ghost use Rattle.std.specs.Prelude.{◌≡◌, ◌+◌, ◌<◌, ◌≤◌, T, None, [], ◌∷◌, ◌++◌, length, is_ok, IsOk, OnOk, if◌then◌else◌};
+ghost use Rattle.std.specs.Prelude.{◌≡◌, ◌+◌, ◌<◌, ◌≤◌, T, true, None, [], ◌∷◌, ◌++◌, length, is_ok, IsOk, OnOk, if◌then◌else◌};
 ghost use Rattle.std.specs.Ordering.{nat_cmp};
 ghost use Rattle.std.specs.Cmp.Lexicographic.{slice_cmp};
 ghost use Rattle.std.specs.FinMap.Entries.{find, put, is_sorted};
 ghost use Rattle.std.specs.Vec.{vec_len};
 ghost use Rattle.model.specs.Map.{Bytes};
-ghost use Rattle.sorted_pages.specs.Pages.{IsInOrder, IsRoomier, entries, room_at};
+ghost use Rattle.sorted_pages.specs.Pages.{AreLoose, IsCrowded, IsInOrder, IsRoomier, entries, room_at};
 
 use crate::aging::Aging;
-use crate::page::Page;
-use crate::placing::{place, room};
+use crate::page::{PAGE_MAX, Page};
+use crate::placing::{count, place, room};
 use model::Key;
 use std::alloc::AllocError;
-
-// How many entries a page may have before it is split, where a few more shall come in.
-const PAGE_MAX: usize = 512;
 
 // A page of fewer entries isn't split.
 const SPLIT_MIN: usize = 256;
@@ -46,38 +43,61 @@ pub(crate) fn look_again<V: Aging>(pages: &mut Vec<Page<V>>, i: usize)
 }
 
 // Makes room for `n` more entries in the page where the key would stand.
-fn grow<V: Aging>(pages: &mut [Page<V>], key: &[u8], n: usize) -> Result<(), AllocError>
-    requires order { IsInOrder pages.old }
-    requires some { 0 < length pages.old }
-    ensures order { IsInOrder pages.new }
-    ensures roomier { IsRoomier pages.old pages.new }
-    ensures made { OnOk result (n ≤ room_at key.now pages.new) }
+fn grow<V: Aging>(pages: &mut Vec<Page<V>>, key: &[u8], n: usize) -> Result<(), AllocError>
+    requires order { IsInOrder pages.old.items }
+    requires some { 0 < vec_len pages.old }
+    ensures order { IsInOrder pages.new.items }
+    ensures roomier { IsRoomier pages.old.items pages.new.items }
+    ensures made { OnOk result (n ≤ room_at key.now pages.new.items) }
+    ensures pages { length pages.new.items ≡ length pages.old.items }
 {
     let i = place(pages, key);
     pages[i].reserve(n)
 }
 
-// Splits the page where the key would stand, and gives its upper half room for `n` entries at least.
+// Splits the page where the key would stand, and gives its upper part the places of a page, with room for `n` entries at least.
 fn split<V: Aging + Drop>(pages: &mut Vec<Page<V>>, key: &[u8], n: usize) -> Result<(), AllocError>
     requires order { IsInOrder pages.old.items }
     requires some { 0 < vec_len pages.old }
     ensures order { IsInOrder pages.new.items }
     ensures roomier { IsRoomier pages.old.items pages.new.items }
     ensures some { 0 < vec_len pages.new }
+    ensures more { OnOk result (IsCrowded key.now n pages.old.items → length pages.old.items < length pages.new.items) }
 {
     pages.reserve(1)?;
     let i = place(pages, key);
     let page = &mut pages[i];
-    let half = page.len() / 2;
-    if half == 0 {
+    let cut = page.cut_for(key);
+    if cut == 0 {
         return Ok(());
     }
-    let needed = page.room().max(n);
-    let upper = page.split_off(half, needed)?;
+    let rest = PAGE_MAX.saturating_sub(page.len() - cut);
+    let needed = page.room().max(n).max(rest);
+    let upper = page.split_off(cut, needed)?;
     match pages.insert(i + 1, upper) {
         Ok(()) => Ok(()),
         Err(_) => unreachable!(),
     }
+}
+
+// Splits the page where the key would stand, and makes room for `n` more entries in the part where it stands then.
+fn divide<V: Aging + Drop>(pages: &mut Vec<Page<V>>, key: &[u8], n: usize) -> Result<(), AllocError>
+    requires order { IsInOrder pages.old.items }
+    requires some { 0 < vec_len pages.old }
+    ensures order { IsInOrder pages.new.items }
+    ensures roomier { IsRoomier pages.old.items pages.new.items }
+    ensures made { OnOk result (n ≤ room_at key.now pages.new.items) }
+    ensures more { OnOk result (IsCrowded key.now n pages.old.items → length pages.old.items < length pages.new.items) }
+{
+    split(pages, key, n)?;
+    grow(pages, key, n)
+}
+
+// Are `n` entries more too many for a page that has `len`?
+fn is_crowded(len: usize, n: usize) -> bool
+    ensures { 0 < n → 256 ≤ len → 512 < len + n → result ≡ true }
+{
+    SPLIT_MIN <= len && PAGE_MAX.saturating_sub(len) < n
 }
 
 // Makes the first page.
@@ -103,6 +123,7 @@ pub(crate) fn reserve<V: Aging + Drop>(
     ensures roomier { IsRoomier pages.old.items pages.new.items }
     ensures made { OnOk result (n ≤ room_at key.now pages.new.items) }
     ensures known { n ≤ room_at key.now pages.old.items → IsOk result }
+    ensures split { OnOk result (IsCrowded key.now n pages.old.items → length pages.old.items < length pages.new.items) }
 {
     if n <= room(pages, key) {
         return Ok(());
@@ -110,24 +131,11 @@ pub(crate) fn reserve<V: Aging + Drop>(
     if pages.is_empty() {
         return start(pages, n);
     }
-    let i = place(pages, key);
-    let len = pages[i].len();
-    if SPLIT_MIN <= len && PAGE_MAX.saturating_sub(len) < n {
-        split(pages, key, n)?;
+    let len = count(pages, key);
+    if is_crowded(len, n) {
+        return divide(pages, key, n);
     }
     grow(pages, key, n)
-}
-
-// Adds an entry to the last page.
-fn push_last<V: Aging + Drop>(pages: &mut [Page<V>], key: Key, value: V) -> Result<(), AllocError>
-    requires some { 0 < length pages.old }
-    requires order { IsInOrder pages.old }
-    requires sorted { T (is_sorted (slice_cmp nat_cmp) (entries pages.old ++ (key, value) ∷ [])) }
-    ensures order { IsInOrder pages.new }
-    ensures entries { entries pages.new ≡ (if is_ok result then entries pages.old ++ (key, value) ∷ [] else entries pages.old) }
-{
-    let last = pages.len() - 1;
-    pages[last].push(key, value)
 }
 
 // Adds a page of one entry, with room for as many as a page may have.
@@ -140,6 +148,7 @@ fn push_page<V: Aging + Drop>(
     requires sorted { T (is_sorted (slice_cmp nat_cmp) (entries pages.old.items ++ (key, value) ∷ [])) }
     ensures order { IsInOrder pages.new.items }
     ensures entries { entries pages.new.items ≡ (if is_ok result then entries pages.old.items ++ (key, value) ∷ [] else entries pages.old.items) }
+    ensures loose { AreLoose pages.old.items → AreLoose pages.new.items }
 {
     let alloc = *pages.allocator();
     let mut page = Page::with_room(alloc, PAGE_MAX)?;
@@ -158,9 +167,11 @@ pub(crate) fn push<V: Aging + Drop>(
     requires sorted { T (is_sorted (slice_cmp nat_cmp) (entries pages.old.items ++ (key, value) ∷ [])) }
     ensures order { IsInOrder pages.new.items }
     ensures entries { entries pages.new.items ≡ (if is_ok result then entries pages.old.items ++ (key, value) ∷ [] else entries pages.old.items) }
+    ensures loose { AreLoose pages.old.items → AreLoose pages.new.items }
 {
-    match pages.last() {
-        Some(page) if page.len() < FILL => push_last(pages, key, value),
-        _ => push_page(pages, key, value),
+    let count = pages.len();
+    if count == 0 || FILL <= pages[count - 1].len() {
+        return push_page(pages, key, value);
     }
+    pages[count - 1].push(key, value)
 }

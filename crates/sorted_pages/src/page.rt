@@ -1,12 +1,12 @@
 //! One page.
-ghost use Rattle.std.specs.Prelude.{◌≡◌, ◌+◌, ◌<◌, ◌≤◌, T, None, [], ◌∷◌, ◌++◌, length, take, drop, IfOk, IfErr, IsSome, OnOk, OnErr, option_copied, is_ok, if◌then◌else◌};
+ghost use Rattle.std.specs.Prelude.{◌≡◌, ◌+◌, ◌-◌, ◌<◌, ◌≤◌, T, true, None, [], ◌∷◌, ◌++◌, length, take, drop, IfOk, IfErr, IsSome, OnOk, OnErr, option_copied, is_ok, if◌then◌else◌};
 ghost use Rattle.std.specs.Ordering.{nat_cmp};
 ghost use Rattle.std.specs.Cmp.Lexicographic.{slice_cmp};
 ghost use Rattle.std.specs.FinMap.Entries.{find, put, is_sorted};
 ghost use Rattle.std.specs.Borrow.{sem};
 ghost use Rattle.model.specs.Map.{key_cmp};
 ghost use Rattle.model.specs.Entries.{IsAt, IsGap, IsSplit};
-ghost use Rattle.sorted_pages.specs.Pages.{starts_by};
+ghost use Rattle.sorted_pages.specs.Pages.{stands_behind, starts_by};
 ghost use Rattle.sorted_pages.specs.Blanks.{IsBlankTo, shown};
 ghost use Rattle.sorted_pages.specs.Trims.{changed_at, passes};
 
@@ -17,8 +17,9 @@ use std::alloc::{AllocError, Global};
 use std::cmp::Ordering;
 use std::marker::Model;
 
-// How many places more than it was asked for a page gets, so that it isn't moved at each new key.
-const SPARE: usize = 64;
+// How many places a page gets at once, for entries that it has and those that may come: what was never used of them costs no memory,
+// while a page that moves at every few new keys leaves blocks behind that no other page fits in. A page that would need more is split.
+pub(crate) const PAGE_MAX: usize = 512;
 
 // Entries by rising key. A clause sees them, and how many more fit without memory.
 #[derive(Drop)]
@@ -84,6 +85,19 @@ impl<V: Aging> Page<V> {
         match self.entries.first() {
             None => true,
             Some(entry) => compare(entry, key).is_le(),
+        }
+    }
+
+    // Where to cut the page so that the key gets room: in the middle, and before its last entry where the key stands behind all of
+    // them, so that keys that come by rising order leave full pages. It is 0 where there are fewer than two entries.
+    pub(crate) fn cut_for(&self, key: &[u8]) -> usize
+        ensures within { result ≤ length self.now.0 - 1 }
+        ensures some { 1 < length self.now.0 → 0 < result }
+        ensures behind { stands_behind key.now self.now.0 ≡ true → result ≡ length self.now.0 - 1 }
+    {
+        match self.entries.last() {
+            Some(entry) if compare(entry, key).is_lt() => self.entries.len() - 1,
+            _ => self.entries.len() / 2,
         }
     }
 
@@ -170,7 +184,7 @@ impl<V: Aging> Page<V> {
         self.summary = self.summary.take_in(&self.entries);
     }
 
-    // Makes room for `n` more entries, and where it is missing for `SPARE` more than that.
+    // Makes room for `n` more entries, and where it is missing for as many as a page may have.
     pub(crate) fn reserve(&mut self, n: usize) -> Result<(), AllocError>
         ensures entries { self.new.0 ≡ self.old.0 }
         ensures room { self.old.1 ≤ self.new.1 }
@@ -179,7 +193,8 @@ impl<V: Aging> Page<V> {
         if n <= self.room() {
             return Ok(());
         }
-        self.entries.reserve_exact(n.saturating_add(SPARE))
+        let rest = PAGE_MAX.saturating_sub(self.entries.len());
+        self.entries.reserve_exact(n.max(rest))
     }
 
     // Adds an entry of a new key in the room that was made for it.
@@ -209,7 +224,8 @@ impl<V: Aging> Page<V> {
 impl<V: Aging + Drop> Page<V> {
     // Adds an entry at the end.
     pub(crate) fn push(&mut self, key: Key, value: V) -> Result<(), AllocError>
-        ensures { self.new.0 ≡ (if is_ok result then self.old.0 ++ (key, value) ∷ [] else self.old.0) }
+        ensures entries { self.new.0 ≡ (if is_ok result then self.old.0 ++ (key, value) ∷ [] else self.old.0) }
+        ensures places { length self.old.0 + self.old.1 ≤ length self.new.0 + self.new.1 }
     {
         let last = self.entries.len();
         self.summary = self.summary.take_in(&self.entries);

@@ -1,6 +1,6 @@
 //! Where keys stand among pages.
 ghost use Rattle.std.specs.Prelude.{◌≡◌, ◌<◌, length};
-ghost use Rattle.sorted_pages.specs.Pages.{IsInOrder, IsPlace, room_at};
+ghost use Rattle.sorted_pages.specs.Pages.{IsInOrder, IsPlace, count_at, room_at};
 
 use crate::aging::Aging;
 use crate::page::Page;
@@ -25,4 +25,15 @@ pub(crate) fn room<V: Aging>(pages: &[Page<V>], key: &[u8]) -> usize
         return 0;
     }
     pages[place(pages, key)].room()
+}
+
+// How many entries the page has where the key stands or would stand.
+pub(crate) fn count<V: Aging>(pages: &[Page<V>], key: &[u8]) -> usize
+    requires { IsInOrder pages.now }
+    ensures { result ≡ count_at key.now pages.now }
+{
+    if pages.is_empty() {
+        return 0;
+    }
+    pages[place(pages, key)].len()
 }

@@ -1,4 +1,5 @@
-use Rattle.std.proofs.Common.{◌≡◌, ℕ, ◌≤◌, Result, OnOk, get_or, ap, sym, subst}
+use Rattle.std.proofs.Common.{◌≡◌, ℕ, ◌≤◌, List, Result, OnOk, sym, subst, rules}
+use Rattle.sorted_pages.specs.Pages.{Page, IsPlace}
 use Rattle.sorted_pages.proofs.Placings.{grown, room_grown}
 use Rattle.sorted_pages.proofs.changing.grow.Goals as goal
 
@@ -7,13 +8,15 @@ to_room r n m k e h = subst (λ j. OnOk r (n ≤ j)) (sym e) h
 
 pub returns : goal.returns
 returns g c =
-    let ps = c.args.pages.now in
+    let ps = c.args.pages.now.items in
     let i = c.place-i.result in
-    let page = get_or ps i c.index-pages-i.result in
-    let here = ap (λ d. get_or ps i d) c.index-pages-i.is in
-    let all = grown ps c.args.key.now i page c.reserve.new.self c.place-i.ensures here c.requires.order c.reserve.ensures.entries c.reserve.ensures.room in
+    let page = c.index_mut.result.now in
+    let here = c.index_mut.ensures.value in
+    let at = subst (λ (l : List (Page g.row.V.Denot)). IsPlace l c.args.key.now i) c.deref.ensures.value c.place-i.ensures in
+    let all = grown ps c.args.key.now i page c.reserve.new.self at here c.requires.order c.reserve.ensures.entries c.reserve.ensures.room in
     record {
       order = all.order;
       roomier = all.roomier;
-      made = to_room c.reserve.result c.args.n _ _ (room_grown ps c.args.key.now i page c.reserve.new.self c.place-i.ensures here c.reserve.ensures.entries) c.reserve.ensures.made;
+      made = to_room c.reserve.result c.args.n _ _ (room_grown ps c.args.key.now i page c.reserve.new.self at here c.reserve.ensures.entries) c.reserve.ensures.made;
+      pages = search rules;
     }

@@ -1,6 +1,6 @@
-use Rattle.std.proofs.Common.{◌≤◌, ◌+◌, ◌/◌, List, set, refl, ap, sym, subst, arith, rules}
-use Rattle.sorted_pages.specs.Pages.{Page, IsPlace, IsInOrder, IsRoomier}
-use Rattle.sorted_pages.proofs.Placings.{grown, split, halves}
+use Rattle.std.proofs.Common.{◌≤◌, ◌+◌, List, set, refl, ap, sym, subst, arith, rules}
+use Rattle.sorted_pages.specs.Pages.{Page, IsPlace, IsInOrder, IsRoomier, count_at}
+use Rattle.sorted_pages.proofs.Placings.{count_of, grown, halves, longer, place_within, split}
 use Rattle.sorted_pages.proofs.changing.split.Goals as goal
 
 pub returns-in_err-upper : goal.returns-in_err-upper
@@ -14,6 +14,7 @@ returns-in_err-upper g c =
       order = all.order;
       roomier = subst (λ (l : List (Page g.row.V.Denot)). IsRoomier l (set ps i c.split_off.new.self)) c.reserve.ensures.items all.roomier;
       some = search rules;
+      more = search rules;
     }
 
 pub returns : goal.returns
@@ -25,11 +26,26 @@ returns g c =
     let up = c.in_ok-upper.upper in
     let at = subst (λ (l : List (Page g.row.V.Denot)). IsPlace l c.args.key.now i) c.deref.ensures.value c.place-i.ensures in
     let order = subst (λ (l : List (Page g.row.V.Denot)). IsInOrder l) (sym c.reserve.ensures.items) c.requires.order in
-    let two = halves p.0 lo.0 up.0 (c.len-half.result / 2) c.in_ok-upper.ensures.lower c.in_ok-upper.ensures.upper (ap (λ n. n / 2) c.len-half.ensures) c.if-half-eq0.false in
-    let more : p.1 ≤ up.1 = (let a = c.in_ok-upper.ensures.upper_room in let b = c.max-needed.ensures in let d = c.room.ensures in omega arith) in
+    let two = halves p.0 lo.0 up.0 c.cut_for-cut.result c.in_ok-upper.ensures.lower c.in_ok-upper.ensures.upper c.cut_for-cut.ensures.within c.if-cut-eq0.false in
+    let more : p.1 ≤ up.1 = (let a = c.in_ok-upper.ensures.upper_room in let b = c.max-needed.ensures in let e = c.max.ensures in let d = c.room.ensures in omega arith) in
     let all = split ps c.args.key.now i (i + 1) p lo up at c.index_mut-page.ensures.value order refl two.same two.lower two.upper c.split_off.ensures.room more in
     record {
       order = subst (λ (l : List (Page g.row.V.Denot)). IsInOrder l) (sym c.in-Ok.ensures.items) all.order;
       roomier = subst (λ (l : List (Page g.row.V.Denot)). IsRoomier l c.insert.new.self.items) c.reserve.ensures.items (subst (λ (l : List (Page g.row.V.Denot)). IsRoomier ps l) (sym c.in-Ok.ensures.items) all.roomier);
       some = search rules;
+      more = λ h. longer c.args.pages.now.items ps c.insert.new.self.items i (i + 1) lo up (sym c.reserve.ensures.items) refl (place_within ps c.args.key.now i at) c.in-Ok.ensures.items;
     }
+
+-- a page with one entry at most isn't crowded
+pub returns-then-cut-eq0-clause-more : goal.returns-then-cut-eq0-clause-more
+returns-then-cut-eq0-clause-more g c = λ h.
+    let ps = c.reserve.new.self.items in
+    let i = c.place-i.result in
+    let p = c.index_mut-page.result.now in
+    let at = subst (λ (l : List (Page g.row.V.Denot)). IsPlace l c.args.key.now i) c.deref.ensures.value c.place-i.ensures in
+    let count = count_of ps c.args.key.now i p at c.index_mut-page.ensures.value in
+    let same = ap (λ (l : List (Page g.row.V.Denot)). count_at c.args.key.now l) c.reserve.ensures.items in
+    let many = h.many in
+    let some = c.cut_for-cut.ensures.some (omega arith) in
+    let none = c.if-cut-eq0.true in
+    absurd (omega arith)

@@ -1,0 +1,9 @@
+use Rattle.std.proofs.Common.{Result, OnOk, Ok, Err, arith}
+use Rattle.sorted_pages.proofs.changing.divide.Goals as goal
+
+on_ok : {E : Type 0} (r : Result (Unit {0}) E) (P : Type 0) → P → OnOk r P
+on_ok (Ok u) P p = p
+on_ok (Err e) P p = tt
+
+pub returns-clause-more : goal.returns-clause-more
+returns-clause-more g c = on_ok c.grow.result _ (λ h. let a = c.in_ok-split.ensures.more h in let b = c.grow.ensures.pages in omega arith)
