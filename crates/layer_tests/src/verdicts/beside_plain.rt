@@ -258,3 +258,27 @@ fn pivot_after_its_neighbour_was_forgotten(rt: HostRuntime) -> Result<(), Fail> 
     assert_eq!(rt; both.committed.kept(), 1);
     Ok(())
 }
+
+// A transaction that writes 64 keys, which no other such one writes.
+fn writer(alloc: Global, begin: u64, n: u8) -> Result<Transaction, Memory> {
+    let mut tx = Transaction::new(alloc, begin);
+    for k in 0..64u8 {
+        write(&mut tx, &[n, k])?;
+    }
+    Ok(tx)
+}
+
+/// What 40 transactions have written, 64 keys each, is given back 1,024 keys a call, where each run counts as a key more.
+#[test]
+fn old_runs_go_in_steps(rt: HostRuntime) -> Result<(), Fail> {
+    let mut committed = Committed::new(rt.alloc());
+    for n in 0..40u8 {
+        let tx = writer(rt.alloc(), committed.last(), n)?;
+        assert!(rt; commit(&mut committed, &tx)? == Verdict::Clear(false));
+    }
+    let last = committed.last();
+    assert!(rt; last == 40 && !committed.forget(0));
+    assert!(rt; committed.forget(last) && committed.forget(last));
+    assert!(rt; !committed.forget(last) && !committed.forget(last));
+    Ok(())
+}
