@@ -18,8 +18,8 @@ from servers import Failure
 PING, PONG = frame(b"PING"), b"+PONG\r\n"
 EACH_SECONDS = 0.001
 SESSIONS, FLOODING = 128, 60
-# The largest RANGE: so many pairs of the largest values.
-PAIRS, LARGE_VALUE = 128, 16_384
+# The largest RANGE: so many pairs of the largest values; and one of values of a quarter of that.
+PAIRS, LARGE_VALUE, MIDDLE_VALUE = 128, 16_384, 4_096
 QUEUE, STEP = 1_000, 32
 SMALL_COMMITS = 50
 
@@ -350,15 +350,15 @@ def large_key(number):
     return b"large%03d" % number
 
 
-def fill_large(client):
+def fill_large(client, value):
     for keys in (range(PAIRS // 2), range(PAIRS // 2, PAIRS)):
-        commit_all(client, [frame(b"SET", large_key(number), b"x" * LARGE_VALUE) for number in keys])
+        commit_all(client, [frame(b"SET", large_key(number), b"x" * value) for number in keys])
 
 
-def flood(address, seconds):
-    """Clients that each ask for the largest RANGE, and for one more with each reply."""
+def flood(address, seconds, value):
+    """Clients that each ask for a RANGE of values of so many bytes, and for one more with each reply."""
     request = frame(b"RANGE", b"large", b"larges", b"%d" % PAIRS)
-    whole = len(b"*%d\r\n" % (2 * PAIRS)) + PAIRS * (len(frame(large_key(0), b"x" * LARGE_VALUE)) - len(b"*2\r\n"))
+    whole = len(b"*%d\r\n" % (2 * PAIRS)) + PAIRS * (len(frame(large_key(0), b"x" * value)) - len(b"*2\r\n"))
     poll, clients, due, buffer = select.epoll(), {}, {}, bytearray(1 << 20)
     for _ in range(FLOODING):
         client = Client(address)
@@ -380,14 +380,22 @@ def flood(address, seconds):
     return replies
 
 
-def largest_ranges(options):
-    with Scene(options, options.keys, 2 * (4 + PAIRS * (LARGE_VALUE + 512) // 512)) as scene:
-        fill_large(scene.client())
-        with scene.part("60 clients with the largest RANGEs"):
-            replies = flood(scene.store.address, options.seconds)
+def flooded(options, value, what):
+    with Scene(options, options.keys, 2 * (4 + PAIRS * (value + 512) // 512)) as scene:
+        fill_large(scene.client(), value)
+        with scene.part(what):
+            replies = flood(scene.store.address, options.seconds, value)
         if not replies:
             raise Failure("no RANGE was answered")
     return scene
+
+
+def largest_ranges(options):
+    return flooded(options, LARGE_VALUE, "60 clients with the largest RANGEs")
+
+
+def middle_ranges(options):
+    return flooded(options, MIDDLE_VALUE, "60 clients with RANGEs of 128 values of 4,096 bytes")
 
 
 def coming_and_going(options):
@@ -410,7 +418,8 @@ def coming_and_going(options):
 
 SCENES = {
     "quiet": quiet, "load": load, "written_again": written_again, "old_commit": old_commit, "younger": younger, "queue": queue,
-    "half_deleted": half_deleted, "straddling": straddling, "largest_ranges": largest_ranges, "coming_and_going": coming_and_going,
+    "half_deleted": half_deleted, "straddling": straddling, "largest_ranges": largest_ranges, "middle_ranges": middle_ranges,
+    "coming_and_going": coming_and_going,
 }
 
 

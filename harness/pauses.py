@@ -29,6 +29,7 @@ BOUNDS_MS = {
     "half of the keys deleted, and ranges over them": 3,
     "256 ranges over a run that straddles the begin": 4,
     "60 clients with the largest RANGEs": 1400,
+    "60 clients with RANGEs of 128 values of 4,096 bytes": 400,
     "128 connections coming and going": 24,
 }
 
