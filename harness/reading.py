@@ -15,6 +15,9 @@ from audit import CLAUSE, DEFINITION
 
 TOP = os.path.normpath(os.path.join(os.path.dirname(os.path.abspath(__file__)), ".."))
 PAGE = "docs/DEFINITIONS.md"
+STATED = r"^Stated as `(\w+)`, in `(crates/\S+\.antt)`"
+# A relation of which the clauses say only that it holds at the beginning and from call to call: what it is said with need not be read.
+UNKNOWN = ("crates/engine/specs/StandsFor.antt", "StandsFor")
 DEFINING = ("abbrev", "unfoldable", "record", "data", "pub", "opaque")
 
 
@@ -129,7 +132,7 @@ class Reading:
     """What is to be read for some clauses, in order."""
 
     def __init__(self):
-        self.order, self.types, self.seen = [], [], set()
+        self.order, self.types, self.seen = [], [], {UNKNOWN}
 
     def follow(self, text, names, own=None):
         """All that a text names; `own` is the file that it stands in, if it is one of specs/."""
@@ -190,8 +193,12 @@ def title(path, name):
     return f"{path.removeprefix('crates/').removesuffix('.antt').replace('/specs/', ': ').replace('/', ': ')}: {name}"
 
 
+def anchor_of(head):
+    return re.sub(r"[^\w\- ]", "", head.lower()).replace(" ", "-")
+
+
 def anchor(path, name):
-    return re.sub(r"[^\w\- ]", "", title(path, name).lower()).replace(" ", "-")
+    return anchor_of(title(path, name))
 
 
 def needed(path, name, shown):
@@ -211,30 +218,51 @@ def printed(path, name, shown):
 
 
 def promises():
-    """Of each promise of AUDIT.md the head, its clauses, and the definitions that stand there."""
+    """Of each promise of AUDIT.md the head, what it is stated as, its clauses, and the definitions that stand there."""
     for promise in re.split(r"^## ", read("docs/AUDIT.md"), flags=re.M)[1:]:
         named = [(path, name) for name, _, path in re.findall(DEFINITION, promise, re.M)]
-        yield promise.splitlines()[0], re.findall(CLAUSE, promise), named
+        stated = [(path, name) for name, path in re.findall(STATED, promise, re.M)]
+        yield promise.splitlines()[0], stated, re.findall(CLAUSE, promise), named
 
 
-def section(reading, head, clauses, named):
-    """What this promise needs beyond those before it."""
-    begun = len(reading.order)
+def counted(definitions_read):
+    return f"{len(definitions_read)} definitions, {sum(lines for _, _, lines in definitions_read)} lines"
+
+
+def section(reading, head, begun, intro=""):
+    """What was read since, under its head."""
+    further = reading.order[begun:]
+    if not further:
+        return [f"## {head}", "", "All that this is said with stands above.", ""]
+    out = [f"## {head}", "", f"{counted(further)}.{intro}", ""]
+    shown = {(path, name) for path, name, _ in reading.order}
+    for path, name, _ in further:
+        out += printed(path, name, shown)
+    return out
+
+
+def follow_promise(reading, head, clauses, named):
+    """All that a promise's clauses are said with."""
     for function, clause, path in clauses:
         text, names = clause_of(path, function, clause)
         reading.follow(text, names)
     for path, name in named:
         if (path, name) not in reading.seen:
             raise Untrue(f"AUDIT.md names {name} at {head}, of which its clauses do not speak")
-    further = reading.order[begun:]
-    if not further:
-        return [f"## {head}", "", "All that this is said with stands above.", ""]
-    out = [f"## {head}", "", f"{len(further)} definitions, {sum(lines for _, _, lines in further)} lines.", ""]
-    shown = {(path, name) for path, name, _ in reading.order}
-    for path, name, _ in further:
-        out += printed(path, name, shown)
-    return out
 
+
+def follow_unknown(reading):
+    """What the relation is said with that may be unknown."""
+    reading.seen.discard(UNKNOWN)
+    reading.add("definition", *UNKNOWN)
+
+
+STATES = "One state: isolated, and serializable"
+BEHIND = "Behind the refinement relation"
+BEHIND_INTRO = (
+    " None of them need be read. The clauses say of this relation of an engine and a state of the machine only that some state is represented"
+    " at an opening, that each call leads from each represented state to one that is so related, and, by equations, what is seen meanwhile:"
+    " replies, faults, images. That is refinement for any relation, also one that nobody knows.")
 
 HEAD = """# Definitions
 
@@ -248,15 +276,26 @@ Whoever has read them knows what is claimed; the proofs need not be read. The cl
 
 
 def page():
-    reading, parts = Reading(), []
-    for head, clauses, named in promises():
-        parts += section(reading, head, clauses, named)
+    reading, parts, table = Reading(), [], []
+
+    def add(head, follow, intro=""):
+        begun = len(reading.order)
+        follow()
+        parts.extend(section(reading, head, begun, intro))
+        table.append((head, len(reading.order) - begun, sum(lines for _, _, lines in reading.order[begun:])))
+
+    every = list(promises())
+    add(STATES, lambda: [reading.add("definition", *one) for _, stated, _, _ in every for one in stated])
+    for head, _, clauses, named in every:
+        add(head, lambda: follow_promise(reading, head, clauses, named))
+    add(BEHIND, lambda: follow_unknown(reading), BEHIND_INTRO)
     by_file = {}
     for path, name in sorted(reading.types):
         by_file.setdefault(path, []).append(f"`{name}`")
     types = [f"- {', '.join(names)} in [{path.removeprefix('crates/')}](../{path})" for path, names in by_file.items()]
-    total = f"In all {len(reading.order)} definitions, {sum(lines for _, _, lines in reading.order)} lines."
-    return "\n".join([HEAD, *types, "", total, "", *parts]).rstrip() + "\n"
+    rows = [f"| [{head}](#{anchor_of(head)}) | {number} | {lines} |" for head, number, lines in table]
+    heads = ["| What is said with them | Definitions | Lines |", "|---|---|---|"]
+    return "\n".join([HEAD, *types, "", f"In all {counted(reading.order)}:", "", *heads, *rows, "", *parts]).rstrip() + "\n"
 
 
 def main():
