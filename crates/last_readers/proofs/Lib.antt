@@ -3,5 +3,6 @@ pub mod StepLaws
 pub mod Cuts
 pub mod MergeLaws
 pub mod RunLaws
+pub mod RunSteps
 pub mod MarkSteps
 pub mod OldRuns

@@ -5,6 +5,7 @@ use Rattle.last_readers.specs.declared.run.Ready.{Ready}
 use Rattle.last_readers.specs.declared.run.Run.{Run}
 use Rattle.last_readers.specs.declared.stale.Stale.{Stale}
 use Rattle.last_readers.specs.Held.{HeldRun}
+use Rattle.last_readers.specs.RunSizes.{RunSize}
 use Rattle.last_readers.specs.Steps.{StepValue, RunValue}
 
 abbrev pub run_of : Run → RunValue
@@ -31,3 +32,10 @@ size_of (Some r) = (held_of r).size
 abbrev pub taken_of : Option Stale → ℕ
 taken_of None = 0
 taken_of (Some s) = deque_len s.first + deque_len s.second + deque_len s.made + 1
+
+-- how far a run is merged
+abbrev pub sizes_of : Run → RunSize
+sizes_of r = record { last = r.last; left = deque_len r.first + deque_len r.second; made = deque_len r.made }
+
+abbrev pub sizes_in : List Run → List RunSize
+sizes_in rs = map sizes_of rs

@@ -1,8 +1,9 @@
 -- The last reader of each key, by commit number.
-use Rattle.std.specs.Prelude.{◌≡◌, ℕ, ◌<◌, ◌≤◌, max, nat_lt, List, [], ◌∷◌, Option, Some, None, IsSome, if◌then◌else◌}
+use Rattle.std.specs.Prelude.{◌≡◌, ℕ, ◌<◌, ◌≤◌, max, nat_lt, List, [], ◌∷◌, length, Option, Some, None, IsSome, if◌then◌else◌}
 use Rattle.model.specs.Map.{Bytes}
 use Rattle.model.specs.PrivateCopy.{Mark, is_covered}
 use Rattle.last_readers.specs.Held.{Held, due_upto}
+use Rattle.last_readers.specs.RunSizes.{RunSize, IsMergedFor, moves_for, with_run}
 use Rattle.last_readers.specs.Steps.{StepValue, RunValue, number_at, number_in}
 
 -- what is kept: numbers by key in several runs, some of which may be being made of two, those up to `oldest` counting as none
@@ -19,6 +20,8 @@ pub record LastReadersValue : Type 0 where
   pub readers : Readers
   pub room : ReadersRoom
   pub held : Held
+  pub runs : List RunSize
+  pub refused : ℕ
 
 -- how much is to be given back of runs all of whose numbers are forgotten
 abbrev pub due_of : LastReadersValue → ℕ
@@ -67,3 +70,13 @@ ready_at (Some ss) k = number_at ss k
 pub record HasRoom (marks : List Mark) (room : ReadersRoom) : Type 0 where
   pub ready : IsReady room
   pub covers : (k : Bytes) → ready_at room.ready k ≡ (if is_covered marks k then 1 else 0)
+
+abbrev pub ready_len : Option (List StepValue) → ℕ
+ready_len None = 0
+ready_len (Some ss) = length ss
+
+-- the steps that were made ready came with number n as a run, one merge at most was begun, and those under way were moved on
+abbrev pub IsMerged : ℕ → LastReadersValue → LastReadersValue → Type 0
+IsMerged n old new =
+    let count = ready_len old.room.ready in
+    IsMergedFor new.readers.oldest (moves_for count) (with_run n count old.runs) new.runs old.refused new.refused

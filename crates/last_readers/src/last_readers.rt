@@ -1,9 +1,10 @@
 //! The last readers.
-ghost use Rattle.std.specs.Prelude.{◌≡◌, ◌<◌, ◌≤◌, ◌+◌, ◌-◌, ℕ, List, max, nat_lt, true, false, OnOk};
+ghost use Rattle.std.specs.Prelude.{◌≡◌, ◌<◌, ◌≤◌, ◌+◌, ◌-◌, ℕ, List, [], length, max, nat_lt, true, false, OnOk};
 ghost use Rattle.model.specs.Map.{Bytes};
 ghost use Rattle.model.specs.PrivateCopy.{Mark};
 ghost use Rattle.last_readers.specs.Held.{due_upto, given_a_forget};
-ghost use Rattle.last_readers.specs.Readers.{last_reader, after, AreUpto, IsNoted, IsForgotten, IsReady, HasRoom, due_of};
+ghost use Rattle.last_readers.specs.Readers.{last_reader, after, AreUpto, IsNoted, IsForgotten, IsMerged, IsReady, HasRoom, due_of, ready_len};
+ghost use Rattle.last_readers.specs.RunSizes.{IsMergedFor, left_above, with_run};
 
 use crate::gathering::steps_of;
 use crate::merges::{add_run, greatest_in, is_one_old, move_runs, open_last, take_old};
@@ -23,8 +24,9 @@ const MOVES_MORE: usize = 64;
 /// The most steps that are dropped in one call, where a run counts as one more.
 const GIVEN_BACK_MAX: usize = 1_024;
 
-/// For each key the number of the last commit that has read it. A clause sees what is kept (`readers`) and the memory that was made ready
-/// (`room`). The last reader of a key is `last_reader` of what is kept, and nothing else matters.
+/// For each key the number of the last commit that has read it. A clause sees what is kept (`readers`), the memory that was made ready
+/// (`room`), how much the runs hold (`held`), how far they are merged (`runs`), and how often memory for a merge was refused (`refused`).
+/// The last reader of a key is `last_reader` of what is kept, and no answer depends on anything else.
 ///
 /// What is kept stands in runs, each the numbers of commits one after another as steps by rising key. A commit adds a run of its own. Two
 /// runs of a like size are merged: where both have read a key, the greater number alone is left. So the runs are few, and what they hold
@@ -38,13 +40,15 @@ pub struct LastReaders {
     ready: Option<Ready>,
     // a run whose numbers are all forgotten
     stale: Option<Stale>,
+    // how often memory for a merge was refused. It stays at 2^64 - 1
+    refused: u64,
 }
 
 impl Model for LastReaders {
     ghost use Rattle.std.specs.Prelude.{◌-◌};
     ghost use Rattle.std.specs.Vec.{vec_len, vec_capacity};
     ghost use Rattle.last_readers.specs.Readers.{LastReadersValue};
-    ghost use Rattle.last_readers.specs.Inside.{runs_in, ready_of, held_in, taken_of};
+    ghost use Rattle.last_readers.specs.Inside.{runs_in, ready_of, held_in, taken_of, sizes_in};
 
     ghost Value = { LastReadersValue };
 
@@ -52,6 +56,8 @@ impl Model for LastReaders {
       readers = record { runs = runs_in r.runs.items; oldest = r.oldest };
       room = record { places = vec_capacity r.runs - vec_len r.runs; ready = ready_of r.ready };
       held = record { runs = held_in r.runs.items; taken = taken_of r.stale };
+      runs = sizes_in r.runs.items;
+      refused = r.refused;
     } };
 }
 
@@ -60,13 +66,29 @@ impl LastReaders {
     pub fn new(alloc: Global) -> LastReaders
         ensures none { (key : Bytes) → last_reader result.readers key ≡ 0 }
         ensures oldest { result.readers.oldest ≡ 0 }
+        ensures runs { result.runs ≡ [] }
     {
         LastReaders {
             runs: Vec::new(alloc),
             oldest: 0,
             ready: None,
             stale: None,
+            refused: 0,
         }
+    }
+
+    /// How many runs are kept. Takes no memory.
+    pub fn runs(&self) -> usize
+        ensures { result ≡ length self.now.runs }
+    {
+        self.runs.len()
+    }
+
+    /// How often memory for a merge was refused, 2^64 - 1 at most: each time two runs of a like size stayed. Takes no memory.
+    pub fn refused(&self) -> u64
+        ensures { result ≡ self.now.refused }
+    {
+        self.refused
     }
 
     /// The number of the last commit that has read the key, where it is above `begin`; `None` where there is none. It takes a binary search
@@ -84,6 +106,8 @@ impl LastReaders {
     pub fn reserve(&mut self, marks: &Marks) -> Result<(), Memory>
         ensures readers { self.new.readers ≡ self.old.readers }
         ensures room { OnOk result (HasRoom marks.now self.new.room) }
+        ensures runs { self.new.runs ≡ self.old.runs }
+        ensures refused { self.new.refused ≡ self.old.refused }
     {
         let alloc = *self.runs.allocator();
         let steps = steps_of(alloc, marks.held())?;
@@ -100,6 +124,9 @@ impl LastReaders {
         ensures noted { (marks : List Mark) → HasRoom marks self.old.room → IsNoted marks n self.old.readers self.new.readers }
         ensures upto { AreUpto n self.new.readers }
         ensures oldest { self.new.readers.oldest ≡ self.old.readers.oldest }
+        ensures count { result ≡ ready_len self.old.room.ready }
+        ensures runs { self.new.runs ≡ with_run n result self.old.runs }
+        ensures refused { self.new.refused ≡ self.old.refused }
     {
         let Some(ready) = self.ready.take() else {
             unreachable!()
@@ -115,15 +142,19 @@ impl LastReaders {
     fn merge(&mut self, most: usize)
         ensures same { (key : Bytes) → last_reader self.new.readers key ≡ last_reader self.old.readers key }
         ensures oldest { self.new.readers.oldest ≡ self.old.readers.oldest }
+        ensures merged { IsMergedFor self.new.readers.oldest most self.old.runs self.new.runs self.old.refused self.new.refused }
     {
-        open_last(&mut self.runs, self.oldest);
+        open_last(&mut self.runs, self.oldest, &mut self.refused);
         move_runs(&mut self.runs, self.oldest, most);
     }
 
     /// Notes that the commit with number `n` has read what the marks cover that room was made for last: it is the last reader of each key that
     /// they cover, and the other keys have the one that they had. The number is above `oldest`, and no last reader has one above it. It can't
-    /// fail: `reserve` made room. Then it begins to merge two runs of a like size, where there are such and there is memory for that, and moves
-    /// the merges that are under way on by 16 steps for each step of the marks, and 64.
+    /// fail: `reserve` made room.
+    ///
+    /// Then it begins to merge two runs beside one another that are of a like size, where there are such; where memory for that is refused, it
+    /// counts the refusal. The merges that are under way go on by 16 moves for each step of the marks, and 64, until nothing is left to move.
+    /// A move takes one step, or two of one key.
     pub fn note(&mut self, n: u64)
         requires later { self.old.readers.oldest < n }
         requires upto { AreUpto n self.old.readers }
@@ -131,6 +162,7 @@ impl LastReaders {
         ensures noted { (marks : List Mark) → HasRoom marks self.old.room → IsNoted marks n self.old.readers self.new.readers }
         ensures upto { AreUpto n self.new.readers }
         ensures oldest { self.new.readers.oldest ≡ self.old.readers.oldest }
+        ensures merged { IsMerged n self.old self.new }
     {
         let count = self.add_ready(n);
         self.merge(count.saturating_mul(MOVES_EACH).saturating_add(MOVES_MORE));
@@ -141,6 +173,7 @@ impl LastReaders {
         ensures same { (key : Bytes) → last_reader self.new.readers key ≡ last_reader self.old.readers key }
         ensures oldest { self.new.readers.oldest ≡ self.old.readers.oldest }
         ensures due { due_of self.new ≡ due_of self.old }
+        ensures left { left_above self.new.readers.oldest self.new.runs ≡ left_above self.new.readers.oldest self.old.runs }
         ensures some { result ≡ true → 0 < self.new.held.taken }
         ensures none { result ≡ false → due_of self.new ≡ 0 }
     {
@@ -156,7 +189,8 @@ impl LastReaders {
         requires some { 0 < self.old.held.taken }
         requires most { 0 < most }
         ensures readers { self.new.readers ≡ self.old.readers }
-        ensures runs { self.new.held.runs ≡ self.old.held.runs }
+        ensures held { self.new.held.runs ≡ self.old.held.runs }
+        ensures runs { self.new.runs ≡ self.old.runs }
         ensures taken { self.old.held.taken + result ≡ self.new.held.taken + most }
         ensures fewer { result < most }
     {
@@ -176,6 +210,7 @@ impl LastReaders {
         ensures same { (key : Bytes) → last_reader self.new.readers key ≡ last_reader self.old.readers key }
         ensures oldest { self.new.readers.oldest ≡ self.old.readers.oldest }
         ensures due { due_of self.new ≡ due_of self.old - given_a_forget }
+        ensures left { left_above self.new.readers.oldest self.new.runs ≡ left_above self.new.readers.oldest self.old.runs }
     {
         let mut left = GIVEN_BACK_MAX;
         'runs: while left > 0 && self.take_stale() {
@@ -192,6 +227,7 @@ impl LastReaders {
         ensures oldest { self.new.readers.oldest ≡ max self.old.readers.oldest oldest }
         ensures due { due_of self.new ≡ due_upto self.new.readers.oldest self.old.held - given_a_forget }
         ensures still { result ≡ nat_lt 0 (due_of self.new) }
+        ensures left { left_above self.new.readers.oldest self.new.runs ≡ left_above self.new.readers.oldest self.old.runs }
     {
         self.oldest = self.oldest.max(oldest);
         self.give_back_old();

@@ -46,7 +46,10 @@ fn renumber(steps: &mut VecDeque<Step>, number: u64)
 impl Run {
     // What was made ready, read by the commit with this number.
     pub(crate) fn numbered(ready: Ready, number: u64) -> Run
-        ensures { (k : Bytes) → merged_at result.first.items result.second.items result.made.items k ≡ in_place_of number (number_at ready.steps.items k) }
+        ensures numbers { (k : Bytes) → merged_at result.first.items result.second.items result.made.items k ≡ in_place_of number (number_at ready.steps.items k) }
+        ensures last { result.last ≡ number }
+        ensures left { deque_len result.first + deque_len result.second ≡ 0 }
+        ensures made { deque_len result.made ≡ deque_len ready.steps }
     {
         let Ready { steps: mut made } = ready;
         renumber(&mut made, number);
@@ -81,7 +84,10 @@ impl Run {
         requires second { deque_len second.first + deque_len second.second ≡ 0 }
         requires none { deque_len places ≡ 0 }
         requires room { deque_len self.old.made + deque_len second.made ≤ deque_capacity places }
-        ensures { (k : Bytes) → merged_at self.new.first.items self.new.second.items self.new.made.items k ≡ max (merged_at self.old.first.items self.old.second.items self.old.made.items k) (merged_at second.first.items second.second.items second.made.items k) }
+        ensures last { self.new.last ≡ max self.old.last second.last }
+        ensures left { deque_len self.new.first + deque_len self.new.second ≡ deque_len self.old.made + deque_len second.made }
+        ensures made { deque_len self.new.made ≡ 0 }
+        ensures numbers { (k : Bytes) → merged_at self.new.first.items self.new.second.items self.new.made.items k ≡ max (merged_at self.old.first.items self.old.second.items self.old.made.items k) (merged_at second.first.items second.second.items second.made.items k) }
     {
         let Run { last, made, .. } = second;
         self.last = self.last.max(last);
@@ -105,6 +111,7 @@ impl Run {
     fn move_steps(&mut self, oldest: u64, most: usize) -> usize
         requires { oldest ≤ self.old.last }
         ensures same { (k : Bytes) → cut oldest (merged_at self.new.first.items self.new.second.items self.new.made.items k) ≡ cut oldest (merged_at self.old.first.items self.old.second.items self.old.made.items k) }
+        ensures last { self.new.last ≡ self.old.last }
         ensures ended { 0 < result → deque_len self.new.first + deque_len self.new.second ≡ 0 }
         ensures fewer { deque_len self.new.first + deque_len self.new.second + (most - result) ≤ deque_len self.old.first + deque_len self.old.second }
         ensures most { result ≤ most }
@@ -138,6 +145,7 @@ impl Run {
     pub(crate) fn move_on(&mut self, oldest: u64, most: usize) -> usize
         requires { oldest ≤ self.old.last }
         ensures same { (k : Bytes) → cut oldest (merged_at self.new.first.items self.new.second.items self.new.made.items k) ≡ cut oldest (merged_at self.old.first.items self.old.second.items self.old.made.items k) }
+        ensures last { self.new.last ≡ self.old.last }
         ensures ended { 0 < result → deque_len self.new.first + deque_len self.new.second ≡ 0 }
         ensures fewer { deque_len self.new.first + deque_len self.new.second + (most - result) ≤ deque_len self.old.first + deque_len self.old.second }
         ensures most { result ≤ most }

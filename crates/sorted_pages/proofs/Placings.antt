@@ -12,7 +12,7 @@ use Rattle.std.proofs.lemmas.List.{append_assoc, append-nil, length-append, leng
 use Rattle.model.specs.Map.{Bytes, key_cmp}
 use Rattle.model.proofs.Entries.{IsSorted, IsBelowAll}
 use Rattle.model.proofs.InOrder.{below_left, below_right, sorted_left, sorted_right, parts}
-use Rattle.sorted_pages.specs.Pages.{Page, entries, starts_by, last_room, room_at, last_page, count_at, IsLoose, AreLoose, IsFilled, AreRestFilled, IsInOrder, AreBelow, IsPlace, IsRoomier}
+use Rattle.sorted_pages.specs.Pages.{AreAllFull, AreFull, Page, entries, starts_by, last_room, room_at, last_page, count_at, IsLoose, AreLoose, IsFilled, AreRestFilled, IsInOrder, AreBelow, IsPlace, IsRoomier}
 use Rattle.sorted_pages.proofs.Keys.{below_of, above_of, first_of, starts_lower, starts-append, starts-put, filled-put, find_middle, put_middle}
 
 -- ---- lists
@@ -66,8 +66,8 @@ halves es lo up half l u within some =
     }
 
 -- the lists are longer by the page that comes in
-pub longer : {E : Type 0} (old ps new : List E) (i n : ℕ) (lo up : E) → old ≡ ps → n ≡ i + 1 → i < length ps → new ≡ insert (set ps i lo) n up → length old < length new
-longer old ps new i n lo up same next lt is =
+pub one_longer : {E : Type 0} (old ps new : List E) (i n : ℕ) (lo up : E) → old ≡ ps → n ≡ i + 1 → i < length ps → new ≡ insert (set ps i lo) n up → length new ≡ length old + 1
+one_longer old ps new i n lo up same next lt is =
     let a = ap length same in
     let s : length (set ps i lo) ≡ length ps = length-set ps i lo in
     let b : length (insert (set ps i lo) n up) ≡ length (set ps i lo) + 1 = length-insert (set ps i lo) n up (omega arith) in
@@ -377,6 +377,30 @@ module _ {X : Type 0} where
       let one : length p.0 ≡ 1 = ap length (same ∙ ap (λ (r : Page X). r.0 ++ e ∷ []) new) in
       let all : length q.0 + q.1 ≡ 512 = ap (λ (r : Page X). length r.0 + r.1) new in
       all_push IsLoose ps p (record { few = omega arith; places = omega arith }) h
+
+  -- ---- full pages
+
+  -- the last is full too
+  pub all_full : (ps : List (Page X)) (i : ℕ) (q : Page X) → i + 1 ≡ length ps → q ≡ get_or ps i q → 384 ≤ length q.0 → AreFull ps → AreAllFull ps
+  all_full [] i q at is le h = tt
+  all_full (p ∷ []) zero q at is le h = (subst (λ (r : Page X). 384 ≤ length r.0) is le, tt)
+  all_full (p ∷ []) (suc i) q at is le h = absurd (omega arith)
+  all_full (p ∷ r ∷ ps) zero q at is le h = absurd (omega arith)
+  all_full (p ∷ r ∷ ps) (suc i) q at is le h = (h.0, all_full (r ∷ ps) i q (omega arith) is le h.1)
+
+  -- another page at the end, or another in the place of the last
+  pub full-push : (ps : List (Page X)) (p : Page X) → AreAllFull ps → AreFull (ps ++ p ∷ [])
+  full-push [] p h = (tt, tt)
+  full-push (q ∷ []) p h = (h.0, (tt, tt))
+  full-push (q ∷ r ∷ ps) p h = (h.0, full-push (r ∷ ps) p h.1)
+
+  pub full-set : (ps : List (Page X)) (i : ℕ) (p : Page X) → i + 1 ≡ length ps → AreFull ps → AreFull (set ps i p)
+  full-set [] i p at h = tt
+  full-set (q ∷ []) zero p at h = (tt, tt)
+  full-set (q ∷ []) (suc i) p at h = absurd (omega arith)
+  full-set (q ∷ r ∷ ps) zero p at h = absurd (omega arith)
+  full-set (q ∷ r ∷ ps) (suc zero) p at h = (h.0, full-set (r ∷ ps) zero p (omega arith) h.1)
+  full-set (q ∷ r ∷ ps) (suc (suc i)) p at h = (h.0, full-set (r ∷ ps) (suc i) p (omega arith) h.1)
 
   pub pushed_page : (ps : List (Page X)) (e : Bytes × X) → IsInOrder ps → IsSorted (entries ps ++ e ∷ []) → (p : Page X) → p.0 ≡ e ∷ [] → record { order : IsInOrder (ps ++ p ∷ []); entries : entries (ps ++ p ∷ []) ≡ entries ps ++ e ∷ [] }
   pushed_page ps e h g p is =

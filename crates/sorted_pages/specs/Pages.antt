@@ -1,5 +1,5 @@
 -- Pages of entries, all by rising key.
-use Rattle.std.specs.Prelude.{◌≡◌, ℕ, T, ◌+◌, ◌-◌, ◌<◌, ◌≤◌, Bool, true, false, List, [], ◌∷◌, ◌++◌, length, slice_get, Option, Some, None, if◌then◌else◌, ⊤}
+use Rattle.std.specs.Prelude.{◌≡◌, ℕ, T, ◌+◌, ◌-◌, ◌<◌, ◌≤◌, Bool, true, false, List, [], ◌∷◌, ◌++◌, length, slice_get, Option, Some, None, if◌then◌else◌, ⊤, ◌⊎◌}
 use Rattle.std.specs.List.{AllByRecursion}
 use Rattle.std.specs.Ordering.{nat_cmp, is_le, is_lt}
 use Rattle.std.specs.declared.cmp.Ordering.TheVariants.{Less}
@@ -56,6 +56,10 @@ pub record IsCrowded {X : Type 0} (k : Bytes) (n : ℕ) (ps : List (Page X)) : T
   pub many : 256 ≤ count_at k ps
   pub over : 512 < count_at k ps + n
 
+-- a page is made where there is none, and else one that is crowded is split
+abbrev pub IsPageWanted : {X : Type 0} → Bytes → ℕ → List (Page X) → Type 0
+IsPageWanted k n ps = (ps ≡ []) ⊎ IsCrowded k n ps
+
 -- a page that entries come to by rising key: it has 384 at most, and 512 places at least, so that those that come in between find room
 pub record IsLoose {X : Type 0} (p : Page X) : Type 0 where
   pub few : length p.0 ≤ 384
@@ -63,6 +67,20 @@ pub record IsLoose {X : Type 0} (p : Page X) : Type 0 where
 
 abbrev pub AreLoose : {X : Type 0} → List (Page X) → Type 0
 AreLoose ps = AllByRecursion IsLoose ps
+
+-- a page has 384 entries, or none is behind it
+abbrev pub IsFullBefore : {X : Type 0} → Page X → List (Page X) → Type 0
+IsFullBefore p [] = ⊤
+IsFullBefore p (q ∷ ps) = 384 ≤ length p.0
+
+-- each page but the last has 384 entries
+abbrev pub AreFull : {X : Type 0} → List (Page X) → Type 0
+AreFull [] = ⊤
+AreFull (p ∷ ps) = IsFullBefore p ps × AreFull ps
+
+-- each page has 384 entries
+abbrev pub AreAllFull : {X : Type 0} → List (Page X) → Type 0
+AreAllFull ps = AllByRecursion (λ p. 384 ≤ length p.0) ps
 
 -- the page has an entry
 abbrev pub IsFilled : {X : Type 0} → Page X → Type 0

@@ -5,7 +5,7 @@ ghost use Rattle.std.specs.Cmp.Lexicographic.{slice_cmp};
 ghost use Rattle.std.specs.FinMap.Entries.{find, put, is_sorted};
 ghost use Rattle.std.specs.Vec.{vec_len};
 ghost use Rattle.model.specs.Map.{Bytes};
-ghost use Rattle.sorted_pages.specs.Pages.{AreLoose, IsCrowded, IsInOrder, IsRoomier, entries, room_at};
+ghost use Rattle.sorted_pages.specs.Pages.{AreAllFull, AreFull, AreLoose, IsCrowded, IsPageWanted, IsInOrder, IsRoomier, entries, room_at};
 
 use crate::aging::Aging;
 use crate::page::{PAGE_MAX, Page};
@@ -62,6 +62,7 @@ fn split<V: Aging + Drop>(pages: &mut Vec<Page<V>>, key: &[u8], n: usize) -> Res
     ensures order { IsInOrder pages.new.items }
     ensures roomier { IsRoomier pages.old.items pages.new.items }
     ensures some { 0 < vec_len pages.new }
+    ensures one { length pages.new.items ≤ length pages.old.items + 1 }
     ensures more { OnOk result (IsCrowded key.now n pages.old.items → length pages.old.items < length pages.new.items) }
 {
     pages.reserve(1)?;
@@ -88,6 +89,7 @@ fn divide<V: Aging + Drop>(pages: &mut Vec<Page<V>>, key: &[u8], n: usize) -> Re
     ensures roomier { IsRoomier pages.old.items pages.new.items }
     ensures made { OnOk result (n ≤ room_at key.now pages.new.items) }
     ensures more { OnOk result (IsCrowded key.now n pages.old.items → length pages.old.items < length pages.new.items) }
+    ensures one { length pages.new.items ≤ length pages.old.items + 1 }
 {
     split(pages, key, n)?;
     grow(pages, key, n)
@@ -95,7 +97,9 @@ fn divide<V: Aging + Drop>(pages: &mut Vec<Page<V>>, key: &[u8], n: usize) -> Re
 
 // Are `n` entries more too many for a page that has `len`?
 fn is_crowded(len: usize, n: usize) -> bool
-    ensures { 0 < n → 256 ≤ len → 512 < len + n → result ≡ true }
+    ensures crowded { 0 < n → 256 ≤ len → 512 < len + n → result ≡ true }
+    ensures many { result ≡ true → 256 ≤ len }
+    ensures over { result ≡ true → 512 < len + n }
 {
     SPLIT_MIN <= len && PAGE_MAX.saturating_sub(len) < n
 }
@@ -106,6 +110,7 @@ fn start<V: Aging + Drop>(pages: &mut Vec<Page<V>>, n: usize) -> Result<(), Allo
     ensures order { IsInOrder pages.new.items }
     ensures roomier { IsRoomier pages.old.items pages.new.items }
     ensures made { OnOk result ((k : Bytes) → n ≤ room_at k pages.new.items) }
+    ensures one { length pages.new.items ≤ 1 }
 {
     let alloc = *pages.allocator();
     pages.push(Page::with_room(alloc, n)?)?;
@@ -124,6 +129,8 @@ pub(crate) fn reserve<V: Aging + Drop>(
     ensures made { OnOk result (n ≤ room_at key.now pages.new.items) }
     ensures known { n ≤ room_at key.now pages.old.items → IsOk result }
     ensures split { OnOk result (IsCrowded key.now n pages.old.items → length pages.old.items < length pages.new.items) }
+    ensures one { length pages.new.items ≤ length pages.old.items + 1 }
+    ensures wanted { length pages.old.items < length pages.new.items → IsPageWanted key.now n pages.old.items }
 {
     if n <= room(pages, key) {
         return Ok(());
@@ -149,6 +156,7 @@ fn push_page<V: Aging + Drop>(
     ensures order { IsInOrder pages.new.items }
     ensures entries { entries pages.new.items ≡ (if is_ok result then entries pages.old.items ++ (key, value) ∷ [] else entries pages.old.items) }
     ensures loose { AreLoose pages.old.items → AreLoose pages.new.items }
+    ensures full { AreAllFull pages.old.items → AreFull pages.old.items → AreFull pages.new.items }
 {
     let alloc = *pages.allocator();
     let mut page = Page::with_room(alloc, PAGE_MAX)?;
@@ -168,9 +176,13 @@ pub(crate) fn push<V: Aging + Drop>(
     ensures order { IsInOrder pages.new.items }
     ensures entries { entries pages.new.items ≡ (if is_ok result then entries pages.old.items ++ (key, value) ∷ [] else entries pages.old.items) }
     ensures loose { AreLoose pages.old.items → AreLoose pages.new.items }
+    ensures full { AreFull pages.old.items → AreFull pages.new.items }
 {
     let count = pages.len();
-    if count == 0 || FILL <= pages[count - 1].len() {
+    if count == 0 {
+        return push_page(pages, key, value);
+    }
+    if FILL <= pages[count - 1].len() {
         return push_page(pages, key, value);
     }
     pages[count - 1].push(key, value)

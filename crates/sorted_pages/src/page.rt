@@ -1,5 +1,5 @@
 //! One page.
-ghost use Rattle.std.specs.Prelude.{◌≡◌, ◌+◌, ◌-◌, ◌<◌, ◌≤◌, T, true, None, [], ◌∷◌, ◌++◌, length, take, drop, IfOk, IfErr, IsSome, OnOk, OnErr, option_copied, is_ok, if◌then◌else◌};
+ghost use Rattle.std.specs.Prelude.{◌≡◌, ◌+◌, ◌-◌, ◌*◌, ◌<◌, ◌≤◌, T, true, false, None, [], ◌∷◌, ◌++◌, length, take, drop, IfOk, IfErr, IsSome, OnOk, OnErr, option_copied, is_ok, if◌then◌else◌};
 ghost use Rattle.std.specs.Ordering.{nat_cmp};
 ghost use Rattle.std.specs.Cmp.Lexicographic.{slice_cmp};
 ghost use Rattle.std.specs.FinMap.Entries.{find, put, is_sorted};
@@ -94,6 +94,8 @@ impl<V: Aging> Page<V> {
         ensures within { result ≤ length self.now.0 - 1 }
         ensures some { 1 < length self.now.0 → 0 < result }
         ensures behind { stands_behind key.now self.now.0 ≡ true → result ≡ length self.now.0 - 1 }
+        ensures low { stands_behind key.now self.now.0 ≡ false → 2 * result ≤ length self.now.0 }
+        ensures high { stands_behind key.now self.now.0 ≡ false → length self.now.0 ≤ 2 * result + 1 }
     {
         match self.entries.last() {
             Some(entry) if compare(entry, key).is_lt() => self.entries.len() - 1,

@@ -4,7 +4,7 @@ ghost use Rattle.std.specs.Ordering.{nat_cmp};
 ghost use Rattle.std.specs.Cmp.Lexicographic.{slice_cmp};
 ghost use Rattle.std.specs.FinMap.Entries.{find, put, is_sorted};
 ghost use Rattle.model.specs.Map.{Bytes};
-ghost use Rattle.sorted_pages.specs.Pages.{AreLoose, IsCrowded, entries, room_at};
+ghost use Rattle.sorted_pages.specs.Pages.{AreFull, AreLoose, IsCrowded, IsPageWanted, entries, room_at};
 
 use crate::aging::Aging;
 use crate::changing::{self, look_again};
@@ -143,13 +143,16 @@ impl<V: Aging + Drop> SortedPages<V> {
 
     /// Makes room for `n` more entries where the key stands or would stand. The entries stay, also where memory is refused, and no
     /// key has less room than before. Where the room is there already, it takes none and succeeds. A page of 256 entries is split where
-    /// the `n` would make them more than 512: in the middle, or before its last entry where the key stands behind all of them.
+    /// the `n` would make them more than 512: in the middle, or before its last entry where the key stands behind all of them. No other
+    /// page is made, but for the first.
     pub fn reserve(&mut self, key: KeyRef<'_>, n: usize) -> Result<(), AllocError>
         ensures entries { entries self.new ≡ entries self.old }
         ensures rooms { (q : Bytes) → room_at q self.old ≤ room_at q self.new }
         ensures made { OnOk result (n ≤ room_at key.entry.bytes.now self.new) }
         ensures known { n ≤ room_at key.entry.bytes.now self.old → IsOk result }
         ensures split { OnOk result (IsCrowded key.entry.bytes.now n self.old → length self.old < length self.new) }
+        ensures one { length self.new ≤ length self.old + 1 }
+        ensures wanted { length self.old < length self.new → IsPageWanted key.entry.bytes.now n self.old }
     {
         changing::reserve(&mut self.pages, key.bytes(), n)
     }
@@ -164,12 +167,13 @@ impl<V: Aging + Drop> SortedPages<V> {
         changing::insert(&mut self.pages, key, value);
     }
 
-    /// Adds an entry above all others, in pages that are filled one after another up to 384 entries, with places for 512. Where memory is
-    /// refused the entries stay.
+    /// Adds an entry above all others, in pages that are filled one after another up to 384 entries, with places for 512: each page but the
+    /// last has 384. Where memory is refused the entries stay.
     pub fn push(&mut self, key: Key, value: V) -> Result<(), AllocError>
         requires { T (is_sorted (slice_cmp nat_cmp) (entries self.old ++ (key, value) ∷ [])) }
         ensures entries { entries self.new ≡ (if is_ok result then entries self.old ++ (key, value) ∷ [] else entries self.old) }
         ensures loose { AreLoose self.old → AreLoose self.new }
+        ensures full { AreFull self.old → AreFull self.new }
     {
         changing::push(&mut self.pages, key, value)
     }

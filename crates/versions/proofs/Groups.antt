@@ -1,15 +1,16 @@
 -- The loops over what is listed.
-use Rattle.std.proofs.Common.{◌≡◌, ℕ, zero, suc, ◌+◌, ◌-◌, ◌<◌, ◌≤◌, true, false, ◌&&◌, ◌||◌, List, [], ◌∷◌, length, take, drop, get_or, set, Option, Some, None, refl, sym, ap, subst, ◌∙◌, arith, inl, inr}
+use Rattle.std.proofs.Common.{◌≡◌, ℕ, zero, suc, ◌+◌, ◌-◌, ◌<◌, ◌≤◌, Bool, true, false, ◌&&◌, ◌||◌, List, [], ◌∷◌, ◌++◌, length, take, drop, get_or, set, Option, Some, None, refl, sym, ap, subst, ◌∙◌, arith, inl, inr}
 use Rattle.std.specs.Prelude.{option_map, nat_lt, nat_le, ◌==◌, not, ◌⊎◌, if◌then◌else◌, swap_remove, IfSome}
 use Rattle.std.proofs.lemmas.Grind.{common_steps}
-use Rattle.std.specs.List.{AllByRecursion, list_any, remove}
+use Rattle.std.specs.declared.vec.Vec.{Vec}
+use Rattle.std.specs.List.{AllByRecursion, list_any, list_all, remove}
 use Rattle.std.proofs.lemmas.List.Sorted.{list_any-IsPermutation, IsPermutation-swap_remove}
 use Rattle.std.proofs.lemmas.Bool.{both_ways, or_cases, or_left, or_right}
 use Rattle.std.proofs.lemmas.Bool.Decides.{nat_tests}
 use Rattle.model.specs.Map.{Bytes, is_same_key}
 use Rattle.model.proofs.Lookups.{same_key, same_key_itself}
 use Rattle.versions.specs.Chains.{Stamped, ChainValue, Chains, find_chain, first_number, is_between, reclaimed, IsKept, IsReclaimedAt}
-use Rattle.versions.specs.Listings.{is_seen_from, is_seen_by, AreSeenFrom, is_of, is_in, is_listed, AreListed, IsListedChain, IsListed, AreFound, has_version, AreNeeded, IsNeededChain, IsSettled, IsPartReclaimed, AreKept, AreAmong, witnesses, lists_in}
+use Rattle.versions.specs.Listings.{is_seen_from, is_seen_by, AreSeenFrom, is_of, is_in, is_listed, AreListed, IsListedChain, IsListed, AreFound, has_version, AreNeeded, IsNeededChain, IsSettled, IsPartReclaimed, AreKept, AreAmong, IsTrulyMixed, sees_mixed, versions_in, witnesses, lists_in}
 use Rattle.versions.specs.Groups.{GroupValue, Listed}
 use Rattle.versions.specs.Meaning.{is_among, due_for, due_in, lists_a_reclaim}
 use Rattle.versions.proofs.Stores.{rising_found}
@@ -20,7 +21,7 @@ use Rattle.versions.proofs.Listings.{needed-chain, reclaimed-needed, part-refl, 
 
 -- ---- a fact of each element
 
-all-set : {X : Type 0} (P : X → Type 0) (xs : List X) (i : ℕ) (y : X) → P y → AllByRecursion P xs → AllByRecursion P (set xs i y)
+pub all-set : {X : Type 0} (P : X → Type 0) (xs : List X) (i : ℕ) (y : X) → P y → AllByRecursion P xs → AllByRecursion P (set xs i y)
 all-set P [] i y p h = tt
 all-set P (x ∷ xs) zero y p h = (p, h.1)
 all-set P (x ∷ xs) (suc i) y p h = (h.0, all-set P xs i y p h.1)
@@ -31,13 +32,19 @@ all-take P [] (suc i) h = tt
 all-take P (x ∷ xs) zero h = tt
 all-take P (x ∷ xs) (suc i) h = (h.0, all-take P xs i h.1)
 
-all-get : {X : Type 0} (P : X → Type 0) (xs : List X) (i : ℕ) (d : X) → i < length xs → AllByRecursion P xs → P (get_or xs i d)
+pub all-get : {X : Type 0} (P : X → Type 0) (xs : List X) (i : ℕ) (d : X) → i < length xs → AllByRecursion P xs → P (get_or xs i d)
 all-get P [] i d lt h = absurd (omega arith)
 all-get P (x ∷ xs) zero d lt h = h.0
 all-get P (x ∷ xs) (suc i) d lt h = all-get P xs i d (omega arith) h.1
 
 all-swap_remove : {X : Type 0} (P : X → Type 0) (xs : List X) (i : ℕ) (d : X) → i < length xs → AllByRecursion P xs → AllByRecursion P (swap_remove xs i d)
 all-swap_remove P xs i d lt h = all-take P (set xs i (get_or xs (length xs - 1) d)) (length xs - 1) (all-set P xs i (get_or xs (length xs - 1) d) (all-get P xs (length xs - 1) d (omega arith) h) h)
+
+pub all-remove : {X : Type 0} (P : X → Type 0) (xs : List X) (i : ℕ) → AllByRecursion P xs → AllByRecursion P (remove xs i)
+all-remove P [] zero h = tt
+all-remove P [] (suc i) h = tt
+all-remove P (x ∷ xs) zero h = h.1
+all-remove P (x ∷ xs) (suc i) h = (h.0, all-remove P xs i h.1)
 
 -- those behind the place that was filled from the end
 rest-filled : {X : Type 0} (P : X → Type 0) (xs : List X) (i n : ℕ) (d : X) → length xs ≡ suc n → i < length xs → AllByRecursion P (drop (suc i) xs) → AllByRecursion P (drop i (take n (set xs i (get_or xs n d))))
@@ -232,6 +239,7 @@ pub record Settling (bs : List ℕ) (old now : Chains) (olds gs : List GroupValu
   pub none_before : 0 < most → due_in bs (take i gs) ≡ 0
   pub few : most ≤ lists_a_reclaim
   pub held : AllByRecursion (IsHeld bs) (take i gs)
+  pub truly : AllByRecursion (IsTrulyMixed bs) (take i gs)
   pub lists : lists_in gs ≤ lists_in olds
 
 nothing-before : {X : Type 0} (P : X → Type 0) (xs : List X) → AllByRecursion P (take 0 xs)
@@ -248,6 +256,7 @@ settling-begun bs es gs most all h = record {
   none_before = λ some. none gs;
   few = omega (arith, all);
   held = nothing-before (IsHeld bs) gs;
+  truly = nothing-before (IsTrulyMixed bs) gs;
   lists = omega arith;
 }
   where
@@ -257,9 +266,9 @@ settling-begun bs es gs most all h = record {
 
 -- the next group was looked at
 pub settling-settled : (bs : List ℕ) (old now new : Chains) (olds gs : List GroupValue) (i last most more : ℕ) (g h : GroupValue) → i < length gs → g ≡ get_or gs i g → IsKept old last → IsPartReclaimed bs now new → ((last : ℕ) → IsKept now last → IsKept new last)
-    → more ≡ most - due_for bs g → due_for bs h ≡ due_for bs g - most → IsLookedAfter bs new h → AreKept g.versions h.versions new → IsHeld bs h → h.lists ≤ g.lists → Settling bs old now olds gs i most
+    → more ≡ most - due_for bs g → due_for bs h ≡ due_for bs g - most → IsLookedAfter bs new h → AreKept g.versions h.versions new → IsHeld bs h → IsTrulyMixed bs h → h.lists ≤ g.lists → Settling bs old now olds gs i most
     → Settling bs old new olds (set gs i h) (i + 1) more
-settling-settled bs old now new olds gs i last most more g h lt at ordered p keeps spare due settled left held counted s =
+settling-settled bs old now new olds gs i last most more g h lt at ordered p keeps spare due settled left held truly counted s =
     let long : i < length (set gs i h) = omega (arith, lt, length-set gs i h) in
     let there : h ≡ get_or (set gs i h) i h = sym (get-set gs i h h lt) in
     let sum = due-set bs gs i g h lt at in
@@ -282,6 +291,7 @@ settling-settled bs old now new olds gs i last most more g h lt at ordered p kee
           );
       few = omega (arith, few, spare);
       held = subst (λ n. AllByRecursion (IsHeld bs) (take n (set gs i h))) next (take-more (IsHeld bs) (set gs i h) i h long there held (subst (λ l. AllByRecursion (IsHeld bs) l) (sym (take-set gs i h)) s.held));
+      truly = subst (λ n. AllByRecursion (IsTrulyMixed bs) (take n (set gs i h))) next (take-more (IsTrulyMixed bs) (set gs i h) i h long there truly (subst (λ l. AllByRecursion (IsTrulyMixed bs) l) (sym (take-set gs i h)) s.truly));
       lists = (let now = s.lists in let fewer = lists-fewer gs i g h lt at counted in omega (arith, now, fewer));
     }
   where
@@ -342,6 +352,9 @@ settling-held bs old now olds gs i most all s = each gs (subst (λ l. AllByRecur
     each : (hs : List GroupValue) → AllByRecursion (IsHeld bs) hs → AreAmong (0 ∷ bs) (witnesses hs)
     each [] h = tt
     each (g ∷ hs) h = (h.0, each hs h.1)
+
+pub settling-truly : (bs : List ℕ) (old now : Chains) (olds gs : List GroupValue) (i most : ℕ) → length gs ≤ i → Settling bs old now olds gs i most → AllByRecursion (IsTrulyMixed bs) gs
+settling-truly bs old now olds gs i most all s = subst (λ l. AllByRecursion (IsTrulyMixed bs) l) (take_all gs i all) s.truly
 
 -- where none is due, all chains were reclaimed
 pub settling-ended : (bs : List ℕ) (old now : Chains) (olds gs : List GroupValue) (i most : ℕ) → length gs ≤ i → Settling bs old now olds gs i most → due_in bs gs ≡ 0 → (k : Bytes) → find_chain k now ≡ option_map (reclaimed bs) (find_chain k old)
@@ -420,3 +433,61 @@ due-joined bs gs hs i m a g j lt second less first short both =
     let two = ap (due_in bs) less in
     let three = due-remove bs gs i g lt second in
     omega (arith, one, two, three, both)
+
+-- ---- what is mixed
+
+list_all-append : (p : Listed → Bool) (us vs : List Listed) → list_all p (us ++ vs) ≡ (list_all p us && list_all p vs)
+list_all-append p [] vs = refl
+list_all-append p (u ∷ us) vs = ap (λ b. p u && b) (list_all-append p us vs) ∙ assoc (p u) (list_all p us) (list_all p vs)
+  where
+    assoc : (a b c : Bool) → (a && (b && c)) ≡ ((a && b) && c)
+    assoc true b c = refl
+    assoc false b c = refl
+
+list_all-lists : {Z : Type 0} (p : Listed → Bool) (xs : List (Vec Listed Z)) → list_all p (versions_in xs) ≡ list_all (λ x. list_all p x.items) xs
+list_all-lists p [] = refl
+list_all-lists p (x ∷ xs) = list_all-append p x.items (versions_in xs) ∙ ap (λ b. list_all p x.items && b) (list_all-lists p xs)
+
+and-false : (a : Bool) → (a && false) ≡ false
+and-false true = refl
+and-false false = refl
+
+-- the number isn't held, or doesn't see each version of the lists
+pub unheld : {Z : Type 0} (bs : List ℕ) (w : ℕ) (xs : List (Vec Listed Z)) → is_among bs w ≡ false → (is_among bs w && list_all (is_seen_from w) (versions_in xs)) ≡ false
+unheld bs w xs f = ap (λ b. b && list_all (is_seen_from w) (versions_in xs)) f
+
+pub unseen : {Z : Type 0} (bs : List ℕ) (w : ℕ) (xs : List (Vec Listed Z)) → list_all (λ x. list_all (is_seen_from w) x.items) xs ≡ false → (is_among bs w && list_all (is_seen_from w) (versions_in xs)) ≡ false
+unseen bs w xs f = ap (λ b. is_among bs w && b) (list_all-lists (is_seen_from w) xs ∙ f) ∙ and-false (is_among bs w)
+
+not-first : (a b c : Bool) → (a && b) ≡ false → (a && (b && c)) ≡ false
+not-first true true c f = absurd (both_ways true f refl)
+not-first true false c f = refl
+not-first false b c f = refl
+
+not-second : (a b c : Bool) → (a && c) ≡ false → (a && (b && c)) ≡ false
+not-second true true c f = f
+not-second true false c f = refl
+not-second false b c f = refl
+
+-- they are the only mixed ones
+pub unseen-put : (bs : List ℕ) (w : ℕ) (ms us vs : List Listed) → vs ≡ ms ++ us → ms ≡ [] → (is_among bs w && list_all (is_seen_from w) us) ≡ false → (is_among bs w && list_all (is_seen_from w) vs) ≡ false
+unseen-put bs w ms us vs is none f = ap (λ l. is_among bs w && list_all (is_seen_from w) l) (is ∙ ap (λ l. l ++ us) none) ∙ f
+
+-- two groups of one witness are joined
+pub truly-joined : (bs : List ℕ) (a g j : GroupValue) → g.witness ≡ a.witness → j.witness ≡ a.witness → j.mixed ≡ a.mixed ++ g.mixed → IsTrulyMixed bs a → IsTrulyMixed bs g → IsTrulyMixed bs j
+truly-joined bs a g j one own is (inl e) (inl d) = inl (is ∙ (λ i. e i ++ d i))
+truly-joined bs a g j one own is (inr f) h = inr (both ∙ not-first (is_among bs a.witness) (list_all (is_seen_from a.witness) a.mixed) (list_all (is_seen_from a.witness) g.mixed) f)
+  where
+    both : sees_mixed bs j ≡ (is_among bs a.witness && (list_all (is_seen_from a.witness) a.mixed && list_all (is_seen_from a.witness) g.mixed))
+    both = (λ i. is_among bs (own i) && list_all (is_seen_from (own i)) (is i)) ∙ ap (λ b. is_among bs a.witness && b) (list_all-append (is_seen_from a.witness) a.mixed g.mixed)
+truly-joined bs a g j one own is (inl e) (inr f) = inr (both ∙ not-second (is_among bs a.witness) (list_all (is_seen_from a.witness) a.mixed) (list_all (is_seen_from a.witness) g.mixed) (sym (λ i. is_among bs (one i) && list_all (is_seen_from (one i)) g.mixed) ∙ f))
+  where
+    both : sees_mixed bs j ≡ (is_among bs a.witness && (list_all (is_seen_from a.witness) a.mixed && list_all (is_seen_from a.witness) g.mixed))
+    both = (λ i. is_among bs (own i) && list_all (is_seen_from (own i)) (is i)) ∙ ap (λ b. is_among bs a.witness && b) (list_all-append (is_seen_from a.witness) a.mixed g.mixed)
+
+-- one of the groups is joined to another
+pub truly-set : (bs : List ℕ) (gs hs : List GroupValue) (i m : ℕ) (a g j : GroupValue) → i < length gs → g ≡ get_or gs i g → hs ≡ remove gs i → m < length hs → a ≡ get_or hs m a → (IsTrulyMixed bs a → IsTrulyMixed bs g → IsTrulyMixed bs j)
+    → AllByRecursion (IsTrulyMixed bs) gs → AllByRecursion (IsTrulyMixed bs) (set hs m j)
+truly-set bs gs hs i m a g j lt at less within other joins h =
+    let left = subst (λ l. AllByRecursion (IsTrulyMixed bs) l) (sym less) (all-remove (IsTrulyMixed bs) gs i h) in
+    all-set (IsTrulyMixed bs) hs m j (joins (subst (IsTrulyMixed bs) (sym other) (all-get (IsTrulyMixed bs) hs m a within left)) (subst (IsTrulyMixed bs) (sym at) (all-get (IsTrulyMixed bs) gs i g lt h))) left

@@ -45,11 +45,11 @@ pub all-append : {X : Type 0} (P : X → Type 0) (xs ys : List X) → AllByRecur
 all-append P [] ys h g = g
 all-append P (x ∷ xs) ys h g = (h.0, all-append P xs ys h.1 g)
 
-all-front : {X : Type 0} (P : X → Type 0) (xs ys : List X) → AllByRecursion P (xs ++ ys) → AllByRecursion P xs
+pub all-front : {X : Type 0} (P : X → Type 0) (xs ys : List X) → AllByRecursion P (xs ++ ys) → AllByRecursion P xs
 all-front P [] ys h = tt
 all-front P (x ∷ xs) ys h = (h.0, all-front P xs ys h.1)
 
-all-back : {X : Type 0} (P : X → Type 0) (xs ys : List X) → AllByRecursion P (xs ++ ys) → AllByRecursion P ys
+pub all-back : {X : Type 0} (P : X → Type 0) (xs ys : List X) → AllByRecursion P (xs ++ ys) → AllByRecursion P ys
 all-back P [] ys h = h
 all-back P (x ∷ xs) ys h = all-back P xs ys h.1
 

@@ -10,7 +10,7 @@ use Rattle.versions.specs.Groups.{Listed, GroupValue}
 use Rattle.versions.specs.Chains.{Chains, find_chain}
 use Rattle.versions.specs.Meaning.{is_among, due_for}
 use Rattle.versions.specs.Listings.{AreIn, AreKept, AreSeenFrom, IsSettled, IsTakenIn, IsPartReclaimed, has_version, is_in, is_of, versions_in}
-use Rattle.versions.proofs.Lists.{all-append}
+use Rattle.versions.proofs.Lists.{all-append, all-back, all-front}
 use Rattle.versions.proofs.Listings.{left-part}
 use Rattle.versions.proofs.Groups.{all-between}
 
@@ -95,6 +95,24 @@ kept-mixed us ds ms xs es h =
     (kept-both ds ms all es (kept-in ds all es (in-trans ds tail all (in-left ds xs) (in-right us tail)))
     (kept-trans ms xs all es h (kept-in xs all es (in-trans xs tail all (in-right ds xs) (in-right us tail)))))
 
+-- the mixed lists were looked after, and put back
+pub kept-put_back : (us ds ms zs xs new : List Listed) (es : Chains) → AreKept ms xs es → AreIn (us ++ (ds ++ zs)) new → AreIn xs new → AreKept (us ++ (ds ++ ms)) new es
+kept-put_back us ds ms zs xs new es h rest these =
+    let tail = ds ++ zs in
+    kept-both us (ds ++ ms) new es (kept-in us new es (in-trans us (us ++ tail) new (in-left us tail) rest))
+    (kept-both ds ms new es (kept-in ds new es (in-trans ds (us ++ tail) new (in-trans ds tail (us ++ tail) (in-left ds zs) (in-right us tail)) rest))
+    (kept-trans ms xs new es h (kept-in xs new es these)))
+
+-- more are seen, or mixed
+pub all-seen_more : (P : Listed → Type 0) (us vs xs ws : List Listed) → ws ≡ us ++ xs → AllByRecursion P (us ++ vs) → AllByRecursion P xs → AllByRecursion P (ws ++ vs)
+all-seen_more P us vs xs ws is h g = subst (λ l. AllByRecursion P (l ++ vs)) (sym is) (all-append P (us ++ xs) vs (all-append P us xs (all-front P us vs h) g) (all-back P us vs h))
+
+pub all-mixed_more : (P : Listed → Type 0) (us ds ms xs ws : List Listed) → ws ≡ ms ++ xs → AllByRecursion P (us ++ (ds ++ ms)) → AllByRecursion P xs → AllByRecursion P (us ++ (ds ++ ws))
+all-mixed_more P us ds ms xs ws is h g =
+    let back = all-back P us (ds ++ ms) h in
+    subst (λ l. AllByRecursion P (us ++ (ds ++ l))) (sym is)
+    (all-append P us (ds ++ (ms ++ xs)) (all-front P us (ds ++ ms) h) (all-append P ds (ms ++ xs) (all-front P ds ms back) (all-append P ms xs (all-back P ds ms back) g)))
+
 -- the two looks at a group
 pub kept-twice : (bs : List ℕ) (now new : Chains) (ls us vs ws : List Listed) → AreIn ls us → IsPartReclaimed bs now new → AreKept us vs now → AreKept vs ws new → AreKept ls ws new
 kept-twice bs now new ls us vs ws found part one two = kept-trans ls us ws new (kept-in ls us new found) (kept-trans us vs ws new (left-part bs now new us vs part one) two)
@@ -136,8 +154,8 @@ no-lists [] [] (m ∷ ms) none = absurd (omega (arith, none))
 no-lists [] (d ∷ ds) ms none = absurd (omega (arith, none))
 no-lists (l ∷ ls) ds ms none = absurd (omega (arith, none))
 
-pub none-due : (bs : List ℕ) (n seen due mixed : ℕ) (vs : List Listed) → seen + due + mixed ≡ 0 → due_for bs (record { witness = n; versions = vs; seen = seen; due = due; lists = seen + due + mixed }) ≡ 0
-none-due bs n seen due mixed vs none = elim (is_among bs n) as (λ b. (if b then due else seen + due) ≡ 0) [
+pub none-due : (bs : List ℕ) (n seen due mixed : ℕ) (vs ms : List Listed) → seen + due + mixed ≡ 0 → due_for bs (record { witness = n; versions = vs; mixed = ms; seen = seen; due = due; lists = seen + due + mixed }) ≡ 0
+none-due bs n seen due mixed vs ms none = elim (is_among bs n) as (λ b. (if b then due else seen + due) ≡ 0) [
   | true ↦ omega (arith, none)
   | false ↦ omega (arith, none)
 ]

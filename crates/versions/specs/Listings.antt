@@ -1,6 +1,6 @@
 -- Which older versions are listed, so that a reclaim finds those that no number sees any more.
 use Rattle.std.specs.Prelude.{◌≡◌, ℕ, ◌+◌, ◌-◌, ◌<◌, ◌≤◌, ◌^◌, length, Bool, false, not, ◌||◌, ◌&&◌, ◌==◌, ◌⊎◌, nat_le, nat_lt, max, List, [], ◌∷◌, map, fold, Option, Some, None, option_map, IsTrue, ⊤, if◌then◌else◌}
-use Rattle.std.specs.List.{AllByRecursion, list_any, flat_map}
+use Rattle.std.specs.List.{AllByRecursion, list_all, list_any, flat_map}
 use Rattle.std.specs.Vec.{vec_len, vec_capacity}
 use Rattle.std.specs.declared.vec.Vec.{Vec}
 use Rattle.model.specs.Map.{Bytes, is_same_key}
@@ -99,6 +99,14 @@ AreAmong bs ns = AllByRecursion (λ n. IsTrue (is_among bs n)) ns
 abbrev pub IsTakenIn : List ℕ → GroupValue → Type 0
 IsTakenIn bs g = IsTrue (is_among bs g.witness) ⊎ (g.seen ≡ 0)
 
+-- the witness is one of the numbers, and sees each version of the mixed lists
+abbrev pub sees_mixed : List ℕ → GroupValue → Bool
+sees_mixed bs g = is_among bs g.witness && list_all (is_seen_from g.witness) g.mixed
+
+-- no version stands in a mixed list, or the witness is none of the numbers or doesn't see all of those versions
+abbrev pub IsTrulyMixed : List ℕ → GroupValue → Type 0
+IsTrulyMixed bs g = (g.mixed ≡ []) ⊎ (sees_mixed bs g ≡ false)
+
 -- each of the versions is among the others
 abbrev pub AreIn : List Listed → List Listed → Type 0
 AreIn us vs = (k : Bytes) (n high : ℕ) → IsTrue (is_in us k n high) → IsTrue (is_in vs k n high)
@@ -107,7 +115,7 @@ AreIn us vs = (k : Bytes) (n high : ℕ) → IsTrue (is_in us k n high) → IsTr
 
 -- a group of these versions, whatever its witness
 abbrev pub unwitnessed : List Listed → GroupValue
-unwitnessed vs = record { witness = 0; versions = vs; seen = 0; due = 0; lists = 0 }
+unwitnessed vs = record { witness = 0; versions = vs; mixed = []; seen = 0; due = 0; lists = 0 }
 
 -- what is listed of a key when a version of number n follows its newest
 abbrev pub followed : Option ChainValue → Bytes → ℕ → List Listed

@@ -65,7 +65,7 @@ impl Model for Group {
 
     ghost Value = { GroupValue };
 
-    ghost view = { λ g. record { witness = g.witness; versions = versions_in g.lists ++ (versions_in g.due ++ versions_in g.mixed); seen = length g.lists; due = length g.due; lists = length g.lists + length g.due + length g.mixed } };
+    ghost view = { λ g. record { witness = g.witness; versions = versions_in g.lists ++ (versions_in g.due ++ versions_in g.mixed); mixed = versions_in g.mixed; seen = length g.lists; due = length g.due; lists = length g.lists + length g.due + length g.mixed } };
 
     ghost invariant = { λ g. AreSeenFrom g.witness (versions_in g.lists) × (length g.lists + length g.due + length g.mixed < 2 ^ 63) };
 }

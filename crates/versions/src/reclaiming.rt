@@ -1,5 +1,5 @@
 //! Old versions go.
-ghost use Rattle.std.specs.Prelude.{◌≡◌, ◌||◌, ◌==◌, ℕ, List, ◌∷◌, T, false, IfSome, IsTrue, nat_lt, ◌<◌, ◌≤◌, ◌+◌, ◌-◌, ◌^◌, ◌++◌, length, take, drop, get_or, position, option_map};
+ghost use Rattle.std.specs.Prelude.{◌≡◌, ◌||◌, ◌==◌, ℕ, List, [], ◌∷◌, T, false, IfSome, IsTrue, nat_lt, ◌<◌, ◌≤◌, ◌+◌, ◌-◌, ◌^◌, ◌++◌, length, take, drop, get_or, position, option_map};
 ghost use Rattle.std.specs.List.{AllByRecursion, list_any};
 ghost use Rattle.std.specs.Ordering.{nat_cmp};
 ghost use Rattle.std.specs.Cmp.Lexicographic.{slice_cmp};
@@ -7,8 +7,8 @@ ghost use Rattle.std.specs.FinMap.Entries.{is_sorted};
 ghost use Rattle.std.specs.Vec.{vec_len};
 ghost use Rattle.model.specs.Map.{Bytes};
 ghost use Rattle.sorted_pages.specs.Pages.{entries};
-ghost use Rattle.versions.specs.Chains.{IsKept, IsReclaimedAt, find_chain, reclaimed};
-ghost use Rattle.versions.specs.Listings.{AreAmong, AreApart, AreFound, AreIn, AreKept, AreSeenFrom, CanJoin, IsListed, IsPartReclaimed, IsSettled, IsTakenIn, has_version, is_in, lists_in, versions_in, witness_for, witnesses};
+ghost use Rattle.versions.specs.Chains.{Chains, IsKept, IsReclaimedAt, find_chain, reclaimed};
+ghost use Rattle.versions.specs.Listings.{AreAmong, AreApart, AreFound, AreIn, AreKept, AreSeenFrom, CanJoin, IsListed, IsPartReclaimed, IsSettled, IsTakenIn, IsTrulyMixed, has_version, is_in, lists_in, versions_in, witness_for, witnesses};
 ghost use Rattle.versions.specs.Meaning.{due_for, due_in};
 ghost use Rattle.versions.specs.Meaning.{is_among, lists_a_reclaim};
 
@@ -159,6 +159,8 @@ impl Group {
         ensures taken_in { IsTakenIn begins.now self.new }
         ensures witness { self.new.witness ≡ self.old.witness }
         ensures lists { self.new.lists ≡ self.old.lists + length lists }
+        ensures settled { (chains : Chains) → AllByRecursion (IsSettled begins.now chains) self.old.versions → AllByRecursion (IsSettled begins.now chains) (versions_in lists) → AllByRecursion (IsSettled begins.now chains) self.new.versions }
+        ensures truly { self.old.mixed ≡ [] → IsTrulyMixed begins.now self.new }
     {
         if is_among(begins, self.witness) && are_seen_from(&lists, self.witness) {
             append(&mut self.lists, lists);
@@ -186,7 +188,8 @@ impl Group {
         self.keep(lists, begins);
     }
 
-    // Looks after the mixed lists. Where no list is due, all was looked after then.
+    // Looks after the mixed lists, and puts them under the witness where it sees all of them now. Where no list is due, all was looked after
+    // then.
     fn look_at_mixed(&mut self, chains: &mut SortedPages<Chain>, begins: &[u64])
         requires taken_in { IsTakenIn begins.now self.old }
         requires kept { (last : ℕ) × IsKept (entries chains.old) last }
@@ -197,8 +200,12 @@ impl Group {
         ensures settled { due_for begins.now self.new ≡ 0 → AllByRecursion (IsSettled begins.now (entries chains.new)) self.new.versions }
         ensures witness { self.new.witness ≡ self.old.witness }
         ensures lists { self.new.lists ≤ self.old.lists }
+        ensures truly { IsTrulyMixed begins.now self.new }
     {
-        settle_lists(chains, &mut self.mixed, begins, None);
+        let alloc = *self.mixed.allocator();
+        let mut mixed = mem::replace(&mut self.mixed, LinkedList::new(alloc));
+        settle_lists(chains, &mut mixed, begins, None);
+        self.keep(mixed, begins);
     }
 
     // Takes in which numbers are held, looks at up to `most` of the lists that are due, and answers how many fewer than those it looked at.
@@ -212,6 +219,7 @@ impl Group {
         ensures settled { due_for begins.now self.new ≡ 0 → AllByRecursion (IsSettled begins.now (entries chains.new)) self.new.versions }
         ensures witness { self.new.witness ≡ witness_for begins.now self.old.witness }
         ensures lists { self.new.lists ≤ self.old.lists }
+        ensures truly { IsTrulyMixed begins.now self.new }
     {
         self.take_in(begins);
         let count = self.due().min(most);
@@ -227,6 +235,7 @@ impl Group {
         ensures due { (bs : List ℕ) → due_for bs self.new ≡ due_for bs self.old + due_for bs other }
         ensures witness { self.new.witness ≡ self.old.witness }
         ensures lists { self.new.lists ≡ self.old.lists + other.lists }
+        ensures truly { (bs : List ℕ) → IsTrulyMixed bs self.old → IsTrulyMixed bs other → IsTrulyMixed bs self.new }
     {
         append(&mut self.lists, other.lists);
         append(&mut self.due, other.due);
@@ -245,6 +254,7 @@ fn reclaim_groups(chains: &mut SortedPages<Chain>, groups: &mut [Group], begins:
     ensures listed { IsListed (entries chains.new) groups.new }
     ensures held { AreAmong (0 ∷ begins.now) (witnesses groups.new) }
     ensures lists { lists_in groups.new ≤ lists_in groups.old }
+    ensures truly { AllByRecursion (IsTrulyMixed begins.now) groups.new }
 {
     let mut most = LISTS_A_RECLAIM;
     for i in 0..groups.len() {
@@ -271,6 +281,7 @@ fn join(groups: &mut Vec<Group>, i: usize) -> bool
     ensures other { result ≡ false → is_among (take i (witnesses groups.old.items)) (get_or (witnesses groups.old.items) i 0) ≡ false }
     ensures held { (bs : List ℕ) → AreAmong bs (witnesses groups.old.items) → AreAmong bs (witnesses groups.new.items) }
     ensures lists { lists_in groups.new.items ≡ lists_in groups.old.items }
+    ensures truly { (bs : List ℕ) → AllByRecursion (IsTrulyMixed bs) groups.old.items → AllByRecursion (IsTrulyMixed bs) groups.new.items }
 {
     match place_of(&groups[..i], groups[i].witness) {
         Some(place) => {
@@ -290,6 +301,7 @@ fn join_groups(groups: &mut Vec<Group>)
     ensures apart { AreApart (witnesses groups.new.items) }
     ensures held { (bs : List ℕ) → AreAmong bs (witnesses groups.old.items) → AreAmong bs (witnesses groups.new.items) }
     ensures lists { lists_in groups.new.items ≤ lists_in groups.old.items }
+    ensures truly { (bs : List ℕ) → AllByRecursion (IsTrulyMixed bs) groups.old.items → AllByRecursion (IsTrulyMixed bs) groups.new.items }
 {
     let mut i = 0;
     while i < groups.len() {
@@ -326,6 +338,7 @@ pub(crate) fn reclaim_versions(
     ensures listed { IsListed (entries chains.new) groups.new.items }
     ensures few { length groups.new.items ≤ length begins.now + 1 }
     ensures lists { lists_in groups.new.items ≤ lists_in groups.old.items }
+    ensures truly { AllByRecursion (IsTrulyMixed begins.now) groups.new.items }
 {
     reclaim_groups(chains, groups, begins);
     join_groups(groups);

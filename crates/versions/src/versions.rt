@@ -8,6 +8,8 @@ ghost use Rattle.model.specs.History.{Record};
 ghost use Rattle.versions.specs.Chains.{IsPrepared, IsReady, HasPlace, HasRoom, IsRoomier, find_chain, added, stamped};
 ghost use Rattle.versions.specs.Meaning.{map_seen, newest_of, kept_of, due_of, groups_of, is_among, IsSameMeaning, IsInstalled, IsReclaimed};
 ghost use Rattle.sorted_pages.specs.Pages.{room_at};
+ghost use Rattle.std.specs.List.{AllByRecursion};
+ghost use Rattle.versions.specs.Listings.{IsTrulyMixed};
 ghost use Rattle.versions.specs.Lent.{range_pairs};
 ghost use Rattle.versions.specs.StandsFor.{StandsFor};
 
@@ -175,11 +177,14 @@ impl Versions {
     /// What each commit replaced is a list, of as many versions as it wrote, under a number that sees them. Once that number is none of
     /// these, the list is due, and a call looks at 16 of the lists that are due. So what a call costs is bounded, beside the numbers
     /// themselves, and called again with the same numbers it ends. Takes no memory: where the lists of two commits come under one number,
-    /// they are linked. What stands under one number is one group, so there are no more groups than numbers and one.
+    /// they are linked. What stands under one number is one group, so there are no more groups than numbers and one. Lists that are needed
+    /// though their number isn't held, or doesn't see all of them, are mixed, and looked at by each call; no others are. Where each number
+    /// was at least that of the last commit when it came to be held, there are none.
     pub fn reclaim(&mut self, begins: &[u64]) -> bool
         ensures reclaimed { IsReclaimed self.old self.new begins.now }
         ensures still { result ≡ nat_lt 0 (due_of begins.now self.new) }
         ensures few { groups_of self.new ≤ length begins.now + 1 }
+        ensures mixed { AllByRecursion (IsTrulyMixed begins.now) self.new.groups }
         ensures stands { (held : ℕ → Bool) (base : KeyMap) (history : List Record) → StandsFor self.old held base history → StandsFor self.new (λ n. held n && is_among begins.now n) base history }
     {
         reclaim_versions(&mut self.chains, &mut self.groups, begins)

@@ -1,8 +1,13 @@
-use Rattle.std.proofs.Common.{◌≡◌}
-use Rattle.model.specs.Map.{Bytes}
-use Rattle.last_readers.specs.Readers.{greatest_at}
-use Rattle.last_readers.specs.Inside.{runs_in}
+use Rattle.std.proofs.Common.{◌≡◌, ◌≤◌, ◌-◌, false, drop}
+use Rattle.std.specs.Vec.{vec_len}
+use Rattle.last_readers.specs.RunSizes.{has_alike}
+use Rattle.last_readers.specs.Inside.{sizes_in}
 use Rattle.last_readers.proofs.merges.open_last.Given as goal
 
 abbrev pub invariant-loop-after : goal.invariant-loop-after
-invariant-loop-after l = (k : Bytes) → greatest_at (runs_in l.runs.items) k ≡ greatest_at (runs_in l.fn.runs.items) k
+invariant-loop-after l = record {
+  runs : l.runs ≡ l.fn.runs;
+  refused : l.refused ≡ l.fn.refused;
+  some : 1 ≤ l.after;
+  unlike : has_alike l.oldest (drop (vec_len l.fn.runs - l.after) (sizes_in l.fn.runs.items)) ≡ false;
+}

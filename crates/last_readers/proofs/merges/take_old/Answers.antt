@@ -6,9 +6,11 @@ use Rattle.std.proofs.lemmas.List.Quantifiers.{position-Some}
 use Rattle.last_readers.specs.declared.run.Run.{Run}
 use Rattle.last_readers.specs.Readers.{cut, greatest_at}
 use Rattle.last_readers.specs.Held.{size_upto}
-use Rattle.last_readers.specs.Inside.{held_of, held_in, runs_in}
+use Rattle.last_readers.specs.RunSizes.{left_above}
+use Rattle.last_readers.specs.Inside.{held_of, held_in, runs_in, sizes_in}
 use Rattle.last_readers.proofs.OldRuns.{part_of, none_old}
 use Rattle.last_readers.proofs.RunLaws.{old_out}
+use Rattle.last_readers.proofs.RunSteps.{left_without}
 use Rattle.last_readers.proofs.merges.take_old.Goals as goal
 
 -- a run stands at the place, and has no number above `oldest`
@@ -41,3 +43,8 @@ returns-in-None-clause-none c = λ none. none_old held_of c.args.oldest c.args.r
 
 pub returns-in-None-clause-size : goal.returns-in-None-clause-size
 returns-in-None-clause-size c = omega arith
+
+pub returns-in-Some-clause-left : goal.returns-in-Some-clause-left
+returns-in-Some-clause-left c =
+    let is = is_old c in
+    ap (λ l. left_above c.args.oldest (sizes_in l)) c.remove.ensures.items ∙ left_without c.args.oldest c.args.runs.now.items c.in-Some.place c.remove.result is.within c.remove.ensures.value is.old

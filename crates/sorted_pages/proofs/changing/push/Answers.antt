@@ -1,7 +1,7 @@
-use Rattle.std.proofs.Common.{◌≡◌, ◌+◌, ◌-◌, ◌<◌, length, ap, arith}
+use Rattle.std.proofs.Common.{◌≡◌, ◌+◌, ◌-◌, ◌<◌, ◌≤◌, length, ap, arith}
 use Rattle.std.specs.Prelude.{is_ok}
 use Rattle.sorted_pages.specs.Pages.{Page}
-use Rattle.sorted_pages.proofs.Placings.{loose-set, pushed_last, same_at}
+use Rattle.sorted_pages.proofs.Placings.{all_full, full-set, loose-set, pushed_last, same_at}
 use Rattle.sorted_pages.proofs.changing.push.Goals as goal
 
 pub returns : goal.returns
@@ -17,4 +17,13 @@ returns g c =
       order = all.order;
       entries = all.entries;
       loose = loose-set ps (c.args.key, c.args.value) i p c.push.new.self (is_ok c.push.result) c.index_mut.ensures.value c.push.ensures.entries c.push.ensures.places few;
+      full = full-set ps i c.push.new.self at;
     }
+
+pub returns-then-len-ge-FILL-clause-full : goal.returns-then-len-ge-FILL-clause-full
+returns-then-len-ge-FILL-clause-full g c = λ full.
+    let ps = c.args.pages.now.items in
+    let i = c.len-count.result - 1 in
+    let at : i + 1 ≡ length ps = (let n = c.len-count.ensures in let s = c.if-count-eq0.false in let w = c.args.pages.now.ok.0 in omega arith) in
+    let many : 384 ≤ length c.index.result.now.0 = (let n = c.len.ensures in let s = c.if-len-ge-FILL.true in omega arith) in
+    c.push_page-then-len-ge-FILL.ensures.full (all_full ps i c.index.result.now at c.index.ensures many full) full

@@ -1,7 +1,7 @@
 use Rattle.std.proofs.Common.{List, [], ◌∷◌, ◌++◌, ap, sym, subst, ◌∙◌}
 use Rattle.model.specs.Map.{Bytes}
-use Rattle.sorted_pages.specs.Pages.{Page, AreLoose, IsInOrder, entries}
-use Rattle.sorted_pages.proofs.Placings.{loose-push, pushed_page}
+use Rattle.sorted_pages.specs.Pages.{Page, AreFull, AreLoose, IsInOrder, entries}
+use Rattle.sorted_pages.proofs.Placings.{full-push, loose-push, pushed_page}
 use Rattle.sorted_pages.proofs.changing.push_page.Goals as goal
 
 pub returns-clause-order : goal.returns-clause-order
@@ -20,3 +20,6 @@ pub returns-clause-loose : goal.returns-clause-loose
 returns-clause-loose g c = λ h.
     subst (λ (l : List (Page g.row.V.Denot)). AreLoose l) (sym c.in_ok-push-2.ensures.items)
     (loose-push c.args.pages.now.items (c.args.key, c.args.value) c.push.new.self c.in_ok-page.page c.in_ok-page.ensures c.in_ok-push.ensures.entries c.in_ok-push.ensures.places h)
+
+pub returns-clause-full : goal.returns-clause-full
+returns-clause-full g c = λ all full. subst (λ (l : List (Page g.row.V.Denot)). AreFull l) (sym c.in_ok-push-2.ensures.items) (full-push c.args.pages.now.items c.push.new.self all)

@@ -14,4 +14,4 @@ returns-clause-split g c = on_ok c.grow.result _ (λ h.
     let many = h.many in
     let over = h.over in
     let short = h.short in
-    absurd (both_ways c.is_crowded.result c.if-is_crowded.false (c.is_crowded.ensures (omega arith) (omega arith) (omega arith))))
+    absurd (both_ways c.is_crowded.result c.if-is_crowded.false (c.is_crowded.ensures.crowded (omega arith) (omega arith) (omega arith))))

@@ -1,6 +1,7 @@
-use Rattle.std.proofs.Common.{◌≤◌, ◌+◌, List, set, refl, ap, sym, subst, arith, rules}
+use Rattle.std.proofs.Common.{◌≤◌, ◌+◌, List, length, set, refl, ap, sym, subst, arith, rules}
+use Rattle.std.proofs.lemmas.List.{length-set}
 use Rattle.sorted_pages.specs.Pages.{Page, IsPlace, IsInOrder, IsRoomier, count_at}
-use Rattle.sorted_pages.proofs.Placings.{count_of, grown, halves, longer, place_within, split}
+use Rattle.sorted_pages.proofs.Placings.{count_of, grown, halves, one_longer, place_within, split}
 use Rattle.sorted_pages.proofs.changing.split.Goals as goal
 
 pub returns-in_err-upper : goal.returns-in_err-upper
@@ -14,6 +15,7 @@ returns-in_err-upper g c =
       order = all.order;
       roomier = subst (λ (l : List (Page g.row.V.Denot)). IsRoomier l (set ps i c.split_off.new.self)) c.reserve.ensures.items all.roomier;
       some = search rules;
+      one = (let a = ap length c.reserve.ensures.items in let b = length-set ps i c.split_off.new.self in omega arith);
       more = search rules;
     }
 
@@ -29,11 +31,13 @@ returns g c =
     let two = halves p.0 lo.0 up.0 c.cut_for-cut.result c.in_ok-upper.ensures.lower c.in_ok-upper.ensures.upper c.cut_for-cut.ensures.within c.if-cut-eq0.false in
     let more : p.1 ≤ up.1 = (let a = c.in_ok-upper.ensures.upper_room in let b = c.max-needed.ensures in let e = c.max.ensures in let d = c.room.ensures in omega arith) in
     let all = split ps c.args.key.now i (i + 1) p lo up at c.index_mut-page.ensures.value order refl two.same two.lower two.upper c.split_off.ensures.room more in
+    let lengthened = one_longer c.args.pages.now.items ps c.insert.new.self.items i (i + 1) lo up (sym c.reserve.ensures.items) refl (place_within ps c.args.key.now i at) c.in-Ok.ensures.items in
     record {
       order = subst (λ (l : List (Page g.row.V.Denot)). IsInOrder l) (sym c.in-Ok.ensures.items) all.order;
       roomier = subst (λ (l : List (Page g.row.V.Denot)). IsRoomier l c.insert.new.self.items) c.reserve.ensures.items (subst (λ (l : List (Page g.row.V.Denot)). IsRoomier ps l) (sym c.in-Ok.ensures.items) all.roomier);
       some = search rules;
-      more = λ h. longer c.args.pages.now.items ps c.insert.new.self.items i (i + 1) lo up (sym c.reserve.ensures.items) refl (place_within ps c.args.key.now i at) c.in-Ok.ensures.items;
+      one = (let l = lengthened in omega arith);
+      more = λ h. (let l = lengthened in omega arith);
     }
 
 -- a page with one entry at most isn't crowded

@@ -4,7 +4,7 @@ use Rattle.std.specs.List.{position, remove}
 use Rattle.versions.specs.Groups.{GroupValue}
 use Rattle.versions.specs.Listings.{AreAmong, witnesses}
 use Rattle.versions.specs.Meaning.{is_among}
-use Rattle.versions.proofs.Groups.{join-found, due-joined}
+use Rattle.versions.proofs.Groups.{join-found, due-joined, truly-set}
 use Rattle.versions.proofs.Witnesses.{found-before, join-fits, lists-joined, witnesses-set, take-remove, among-remove, none-before, take-get}
 use Rattle.versions.proofs.reclaiming.join.Goals as goal
 
@@ -48,3 +48,7 @@ returns-in-None-clause-other c = λ t.
     let own : w ≡ get_or (witnesses gs) c.args.i 0 = ap (λ (g : GroupValue). g.witness) c.behind-groups.view_is ∙ take-get (λ (g : GroupValue). g.witness) gs c.args.i c.index.result.now 0 (omega (arith, c.requires.within)) c.index.ensures in
     ap (is_among (take c.args.i (witnesses gs))) (sym own)
     ∙ none-before gs c.args.i w (sym (ap (λ (l : List GroupValue). position (λ g. g.witness == w) (take c.args.i l)) c.deref.ensures.value) ∙ sym c.place_of.ensures ∙ c.in-None.is)
+
+pub returns-in-Some-clause-truly : goal.returns-in-Some-clause-truly
+returns-in-Some-clause-truly c = λ bs. truly-set bs c.args.groups.now.items c.remove-group.new.self.items c.args.i c.in-Some.place c.index_mut.result.now c.remove-group.result c.absorb.new.self
+    (omega (arith, c.requires.within)) c.remove-group.ensures.value c.remove-group.ensures.items (within c.args.groups.now.items c.deref.result.now c.remove-group.new.self.items c.args.i c.in-Some.place c.behind-groups.inside.witness c.index_mut.result.now c.place_of.result (omega (arith, c.requires.within)) c.remove-group.ensures.items c.deref.ensures.value c.place_of.ensures c.in-Some.is) c.index_mut.ensures.value (c.absorb.ensures.truly bs)

@@ -1,13 +1,14 @@
+use Rattle.std.specs.List.{AllByRecursion}
 use Rattle.std.proofs.Common.{◌+◌, List, take, sym, ap, subst, refl, ◌∙◌, arith}
 use Rattle.versions.specs.Groups.{GroupValue}
-use Rattle.versions.specs.Listings.{AreAmong, AreApart, AreFound, lists_in, witnesses}
+use Rattle.versions.specs.Listings.{AreAmong, AreApart, AreFound, IsTrulyMixed, lists_in, witnesses}
 use Rattle.versions.proofs.Calls.{take_all}
-use Rattle.versions.proofs.Groups.{due-empty, found-remove, found-trans}
+use Rattle.versions.proofs.Groups.{all-remove, due-empty, found-remove, found-trans}
 use Rattle.versions.proofs.Witnesses.{apart-none, apart-next, among-remove, take-remove, lists-remove, length-map}
 use Rattle.versions.proofs.reclaiming.join_groups.Goals as goal
 
 pub loop-i-init : goal.loop-i-init
-loop-i-init c = record { found = λ k n high t. t; due = λ bs. refl; apart = apart-none (witnesses c.args.groups.now.items); held = λ bs h. h; lists = omega arith }
+loop-i-init c = record { found = λ k n high t. t; due = λ bs. refl; apart = apart-none (witnesses c.args.groups.now.items); held = λ bs h. h; truly = λ bs h. h; lists = omega arith }
 
 pub join-requires-clause-few : goal.join-requires-clause-few
 join-requires-clause-few c = omega (arith, c.requires, c.loop-i.invariant.lists)
@@ -23,6 +24,7 @@ loop-i-preserved-then-is_empty c =
       due = λ bs. due-empty bs gs c.remove.new.self.items i c.index.result.now (omega arith) c.index.ensures less (c.if-is_empty.ensures.due refl bs) ∙ c.loop-i.invariant.due bs;
       apart = subst AreApart (sym (ap (λ (l : List GroupValue). take i (witnesses l)) less ∙ take-remove (λ (g : GroupValue). g.witness) gs i)) c.loop-i.invariant.apart;
       held = λ bs h. subst (λ (l : List GroupValue). AreAmong bs (witnesses l)) (sym less) (among-remove bs gs i (c.loop-i.invariant.held bs h));
+      truly = λ bs h. subst (λ (l : List GroupValue). AllByRecursion (IsTrulyMixed bs) l) (sym less) (all-remove (IsTrulyMixed bs) gs i (c.loop-i.invariant.truly bs h));
       lists = (let sum = lists-remove gs i c.index.result.now (omega arith) c.index.ensures in let now = ap lists_in less in let before = c.loop-i.invariant.lists in omega (arith, sum, now, before));
     }
 
@@ -32,6 +34,7 @@ loop-i-preserved c = record {
   due = λ bs. c.join.ensures.due bs ∙ c.loop-i.invariant.due bs;
   apart = subst AreApart (sym c.join.ensures.first) c.loop-i.invariant.apart;
   held = λ bs h. c.join.ensures.held bs (c.loop-i.invariant.held bs h);
+  truly = λ bs h. c.join.ensures.truly bs (c.loop-i.invariant.truly bs h);
   lists = omega (arith, c.join.ensures.lists, c.loop-i.invariant.lists);
 }
 
@@ -44,6 +47,7 @@ loop-i-preserved-then-not-join c =
       due = λ bs. c.join.ensures.due bs ∙ inv.due bs;
       apart = subst (λ (l : List GroupValue). AreApart (take (c.loop-i.i + 1) (witnesses l))) (sym same) (apart-next c.loop-i.groups.items c.loop-i.i (omega arith) inv.apart (c.if-not-join.ensures.other refl));
       held = λ bs h. c.join.ensures.held bs (inv.held bs h);
+      truly = λ bs h. c.join.ensures.truly bs (inv.truly bs h);
       lists = omega (arith, c.join.ensures.lists, inv.lists);
     }
 
@@ -54,6 +58,9 @@ returns-clause-apart c =
 
 pub returns-clause-held : goal.returns-clause-held
 returns-clause-held c = c.loop-i.invariant.held
+
+pub returns-clause-truly : goal.returns-clause-truly
+returns-clause-truly c = c.loop-i.invariant.truly
 
 pub returns-clause-lists : goal.returns-clause-lists
 returns-clause-lists c = c.loop-i.invariant.lists

@@ -1,5 +1,6 @@
+use Rattle.std.specs.List.{AllByRecursion}
 use Rattle.std.proofs.Common.{◌≡◌, ◌≤◌, ℕ, List, ◌-◌, length, take}
-use Rattle.versions.specs.Listings.{AreAmong, AreApart, AreFound, lists_in, witnesses}
+use Rattle.versions.specs.Listings.{AreAmong, AreApart, AreFound, IsTrulyMixed, lists_in, witnesses}
 use Rattle.versions.specs.Meaning.{due_in}
 use Rattle.versions.proofs.reclaiming.join_groups.Given as goal
 
@@ -10,6 +11,7 @@ invariant-loop-i l = record {
   due : (bs : List ℕ) → due_in bs l.groups.items ≡ due_in bs l.initial.groups.items;
   apart : AreApart (take l.i (witnesses l.groups.items));
   held : (bs : List ℕ) → AreAmong bs (witnesses l.initial.groups.items) → AreAmong bs (witnesses l.groups.items);
+  truly : (bs : List ℕ) → AllByRecursion (IsTrulyMixed bs) l.initial.groups.items → AllByRecursion (IsTrulyMixed bs) l.groups.items;
   lists : lists_in l.groups.items ≤ lists_in l.initial.groups.items;
 }
 

@@ -3,7 +3,7 @@ use Rattle.sorted_pages.specs.Pages.{entries}
 use Rattle.versions.specs.Groups.{GroupValue}
 use Rattle.versions.specs.Listings.{AreKept}
 use Rattle.versions.specs.Meaning.{due_for, is_among}
-use Rattle.versions.proofs.Groups.{settling-settled, settling-due, settling-ended, settling-held}
+use Rattle.versions.proofs.Groups.{settling-settled, settling-due, settling-ended, settling-held, settling-truly}
 use Rattle.versions.proofs.Witnesses.{witness-among}
 use Rattle.versions.proofs.reclaiming.reclaim_groups.Goals as goal
 
@@ -20,7 +20,7 @@ loop-i-preserved c =
     let left = subst (λ (x : GroupValue). AreKept x.versions c.reclaim-most.new.self.versions (entries c.reclaim-most.new.chains)) is c.reclaim-most.ensures.left in
     settling-settled c.args.begins.now (entries c.args.chains.now) (entries c.loop-i.chains) (entries c.reclaim-most.new.chains) c.args.groups.now c.loop-i.groups c.loop-i.i c.requires.kept.0 c.loop-i.most c.reclaim-most.result c.index-groups-i.result c.reclaim-most.new.self
     (omega (arith, c.loop-i-test.true, c.loop-i.auto.groups)) c.index-groups-i.is c.requires.kept.1 c.reclaim-most.ensures.part c.reclaim-most.ensures.kept spare due c.reclaim-most.ensures.settled left
-    (ap (is_among (0 ∷ bs)) c.reclaim-most.ensures.witness ∙ witness-among bs _) counted c.loop-i.invariant
+    (ap (is_among (0 ∷ bs)) c.reclaim-most.ensures.witness ∙ witness-among bs _) c.reclaim-most.ensures.truly counted c.loop-i.invariant
 
 pub returns-clause-all : goal.returns-clause-all
 returns-clause-all c = settling-ended c.args.begins.now (entries c.args.chains.now) (entries c.loop-i.chains) c.args.groups.now c.loop-i.groups c.loop-i.i c.loop-i.most (omega (arith, c.loop-i.auto.groups, c.loop-i-test.false)) c.loop-i.invariant
@@ -30,3 +30,6 @@ returns-clause-due c = settling-due c.args.begins.now (entries c.args.chains.now
 
 pub returns-clause-held : goal.returns-clause-held
 returns-clause-held c = settling-held c.args.begins.now (entries c.args.chains.now) (entries c.loop-i.chains) c.args.groups.now c.loop-i.groups c.loop-i.i c.loop-i.most (omega (arith, c.loop-i.auto.groups, c.loop-i-test.false)) c.loop-i.invariant
+
+pub returns-clause-truly : goal.returns-clause-truly
+returns-clause-truly c = settling-truly c.args.begins.now (entries c.args.chains.now) (entries c.loop-i.chains) c.args.groups.now c.loop-i.groups c.loop-i.i c.loop-i.most (omega (arith, c.loop-i.auto.groups, c.loop-i-test.false)) c.loop-i.invariant

@@ -1,9 +1,10 @@
 use Rattle.std.proofs.Common.{List, ◌∷◌, ◌++◌, drop, take, length, sym, ap, subst, ◌∙◌, arith}
+use Rattle.std.specs.List.{AllByRecursion}
 use Rattle.sorted_pages.specs.Pages.{entries}
 use Rattle.versions.specs.Groups.{GroupValue}
 use Rattle.std.specs.Prelude.{nat_lt}
 use Rattle.versions.specs.Meaning.{due_in}
-use Rattle.versions.specs.Listings.{AreAmong, IsListed, witnesses}
+use Rattle.versions.specs.Listings.{AreAmong, IsListed, IsTrulyMixed, witnesses}
 use Rattle.versions.proofs.Calls.{all_items}
 use Rattle.versions.proofs.Groups.{any-due}
 use Rattle.versions.proofs.Witnesses.{apart-few, length-map}
@@ -28,3 +29,10 @@ returns-clause-few c =
     let held = c.join_groups.ensures.held (0 ∷ bs) (subst (λ (l : List GroupValue). AreAmong (0 ∷ bs) (witnesses l)) (sym are) c.reclaim_groups.ensures.held) in
     let few = apart-few (witnesses c.join_groups.new.groups.items) (0 ∷ bs) c.join_groups.ensures.apart held in
     omega (arith, few, length-map (λ (g : GroupValue). g.witness) c.join_groups.new.groups.items)
+
+pub returns-clause-truly : goal.returns-clause-truly
+returns-clause-truly c =
+    let bs = c.args.begins.now in
+    let groups = c.reclaim_groups.new.groups in
+    let are = all_items c.args.groups.now.len groups (drop (length groups) c.args.groups.now.items) (omega (arith, c.deref_mut.ensures.len, c.reclaim_groups.auto.groups)) in
+    c.join_groups.ensures.truly bs (subst (λ (l : List GroupValue). AllByRecursion (IsTrulyMixed bs) l) (sym are) c.reclaim_groups.ensures.truly)

@@ -31,7 +31,7 @@ invariant_of-self c =
           subst (λ (m : ℕ). m ≤ c.max-self.result) (sym (joined_runs was more first.items made.items k c.requires.first c.requires.second (λ i. (value i).items) none)) (omega (arith, upto, upto_more, last));
     }
 
-pub returns : goal.returns
-returns c = λ k.
+pub returns-clause-numbers : goal.returns-clause-numbers
+returns-clause-numbers c = λ k.
     joined_runs c.args.self.now c.args.second c.replace.result.items c.replace.new.dest.items k c.requires.first c.requires.second (λ i. (c.replace.ensures.value i).items)
     (sym c.requires.none ∙ c.args.places.ok.0 ∙ (λ i. length (sym c.replace.ensures.after i).items))

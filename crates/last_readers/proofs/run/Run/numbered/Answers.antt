@@ -20,5 +20,5 @@ invariant_of-result c =
       upto = λ k. subst (λ (m : ℕ). m ≤ n) (sym (renumbered_run n first second made was k c.new.ensures.items c.new-2.ensures.items c.renumber.ensures)) (in_place_low n (number_at was k));
     }
 
-pub returns : goal.returns
-returns c = λ k. renumbered_run c.args.number c.new.result.items c.new-2.result.items c.renumber.new.steps.items c.args.ready.steps.items k c.new.ensures.items c.new-2.ensures.items c.renumber.ensures
+pub returns-clause-numbers : goal.returns-clause-numbers
+returns-clause-numbers c = λ k. renumbered_run c.args.number c.new.result.items c.new-2.result.items c.renumber.new.steps.items c.args.ready.steps.items k c.new.ensures.items c.new-2.ensures.items c.renumber.ensures

@@ -14,4 +14,4 @@ returns-clause-none c = λ t.
 pub returns-clause-due : goal.returns-clause-due
 returns-clause-due c = λ t bs.
     let zero : c.count.result ≡ 0 = grind (arith, nat_tests, t) in
-    sym (ap (due_for bs) c.self.view_is) ∙ none-due bs c.self.inside.witness (length c.self.inside.lists) (length c.self.inside.due) (length c.self.inside.mixed) (versions_in c.self.inside.lists ++ (versions_in c.self.inside.due ++ versions_in c.self.inside.mixed)) (ap (λ (g : GroupValue). g.lists) c.self.view_is ∙ sym c.count.ensures.value ∙ zero)
+    sym (ap (due_for bs) c.self.view_is) ∙ none-due bs c.self.inside.witness (length c.self.inside.lists) (length c.self.inside.due) (length c.self.inside.mixed) (versions_in c.self.inside.lists ++ (versions_in c.self.inside.due ++ versions_in c.self.inside.mixed)) (versions_in c.self.inside.mixed) (ap (λ (g : GroupValue). g.lists) c.self.view_is ∙ sym c.count.ensures.value ∙ zero)

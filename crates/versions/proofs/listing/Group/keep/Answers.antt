@@ -1,8 +1,13 @@
-use Rattle.std.proofs.Common.{◌≡◌, true, length, ap, sym, subst, ◌∙◌, arith}
+use Rattle.std.proofs.Common.{◌≡◌, ◌&&◌, ◌++◌, true, false, inr, length, ap, sym, subst, ◌∙◌, arith}
 use Rattle.std.proofs.lemmas.List.{length-append}
 use Rattle.versions.specs.Groups.{GroupValue, Listed}
-use Rattle.versions.specs.Listings.{AreSeenFrom, is_seen_from, versions_in}
+use Rattle.std.specs.List.{AllByRecursion, list_all}
+use Rattle.versions.specs.Listings.{AreSeenFrom, IsSettled, is_seen_from, versions_in}
+use Rattle.versions.specs.Meaning.{is_among}
 use Rattle.versions.proofs.Lists.{all-append, in-append, in-seen}
+use Rattle.versions.proofs.Groups.{unheld, unseen, unseen-put}
+use Rattle.versions.proofs.Parts.{all-seen_more}
+use Rattle.versions.proofs.listing.Group.keep.Goals.{else-is_among-via-then-is_among+else-are_seen_from, else-is_among-via-else-is_among}
 use Rattle.versions.proofs.listing.Group.keep.Goals as goal
 
 pub invariant_of-self : goal.invariant_of-self
@@ -16,3 +21,21 @@ invariant_of-self c =
           (all-append (λ (v : Listed). is_seen_from n v ≡ true) (versions_in lists) (versions_in c.args.lists) c.self.invariant.0 (in-seen n c.args.lists (sym c.if-are_seen_from.ensures))),
       omega (arith, all, more, fits),
     )
+
+pub returns-then-are_seen_from-clause-settled : goal.returns-then-are_seen_from-clause-settled
+returns-then-are_seen_from-clause-settled c = λ chains h g.
+    let P = IsSettled c.args.begins.now chains in
+    let lists = c.self.inside.lists in
+    all-seen_more P (versions_in lists) (versions_in c.self.inside.due ++ versions_in c.self.inside.mixed) (versions_in c.args.lists) (versions_in c.append.new.lists) (ap versions_in c.append.ensures ∙ in-append lists c.args.lists)
+    (subst (λ (x : GroupValue). AllByRecursion P x.versions) (sym c.self.view_is) h) g
+
+pub returns-else-is_among-clause-truly : goal.returns-else-is_among-clause-truly
+returns-else-is_among-clause-truly c = λ none.
+    let bs = c.args.begins.now in
+    let w = c.self.inside.witness in
+    let mixed = c.self.inside.mixed in
+    let unfit : (is_among bs w && list_all (is_seen_from w) (versions_in c.args.lists)) ≡ false = elim c.else-is_among.branch [
+      | else-is_among-via-then-is_among+else-are_seen_from b ↦ unseen bs w c.args.lists (sym b.are_seen_from.ensures ∙ b.if-are_seen_from.false)
+      | else-is_among-via-else-is_among b ↦ unheld bs w c.args.lists (sym c.is_among.ensures ∙ b.if-is_among.false)
+    ] in
+    inr (unseen-put bs w (versions_in mixed) (versions_in c.args.lists) (versions_in c.append-else-is_among.new.lists) (ap versions_in c.append-else-is_among.ensures ∙ in-append mixed c.args.lists) (ap (λ (x : GroupValue). x.mixed) c.self.view_is ∙ none) unfit)

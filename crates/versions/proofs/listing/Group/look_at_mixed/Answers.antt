@@ -1,16 +1,28 @@
-use Rattle.std.proofs.Common.{◌+◌, ◌++◌, length, sym, subst, ◌∙◌}
+use Rattle.std.proofs.Common.{◌≡◌, List, [], ap, sym, subst, ◌∙◌}
+use Rattle.std.specs.List.{AllByRecursion}
 use Rattle.sorted_pages.specs.Pages.{entries}
-use Rattle.versions.specs.Groups.{GroupValue}
-use Rattle.versions.specs.Listings.{IsTakenIn, versions_in}
-use Rattle.versions.proofs.Parts.{due-taken, parts-settled}
+use Rattle.versions.specs.Groups.{GroupValue, Listed}
+use Rattle.versions.specs.Listings.{AreKept, IsSettled, IsTakenIn, versions_in}
+use Rattle.versions.proofs.Parts.{due-taken, kept-put_back, parts-settled}
 use Rattle.versions.proofs.listing.Group.look_at_mixed.Goals as goal
+
+pub returns-clause-left : goal.returns-clause-left
+returns-clause-left c =
+    let es = entries c.settle_lists.new.chains in
+    let looked = subst (λ l. AreKept (versions_in l) (versions_in c.settle_lists.new.lists) es) c.replace-mixed.ensures.value c.settle_lists.ensures.left in
+    subst (λ (g : GroupValue). AreKept g.versions c.keep.new.self.versions es) c.self.view_is
+    (kept-put_back (versions_in c.self.inside.lists) (versions_in c.self.inside.due) (versions_in c.self.inside.mixed) (versions_in c.replace-mixed.new.dest) (versions_in c.settle_lists.new.lists) c.keep.new.self.versions es looked c.keep.ensures.found c.keep.ensures.kept)
+
+pub returns-clause-due : goal.returns-clause-due
+returns-clause-due c = due-taken c.args.begins.now c.keep.new.self c.keep.ensures.taken_in ∙ c.keep.ensures.due ∙ ap (λ (g : GroupValue). g.due) c.self.view_is
 
 pub returns-clause-settled : goal.returns-clause-settled
 returns-clause-settled c = λ none.
     let bs = c.args.begins.now in
+    let es = entries c.settle_lists.new.chains in
     let held = subst (IsTakenIn bs) (sym c.self.view_is) c.requires.taken_in in
-    let lists = c.self.inside.lists in
-    let due = c.self.inside.due in
-    let mixed = c.settle_lists.new.lists in
-    let group : GroupValue = record { witness = c.self.inside.witness; versions = versions_in lists ++ (versions_in due ++ versions_in mixed); seen = length lists; due = length due; lists = length lists + length due + length mixed } in
-    parts-settled bs (entries c.settle_lists.new.chains) c.self.inside.witness c.self.inside.lists c.self.inside.due c.settle_lists.new.lists held c.self.invariant.0 (sym (due-taken bs group held) ∙ none) c.settle_lists.ensures.settled
+    let empty : versions_in c.replace-mixed.new.dest ≡ [] = ap versions_in (c.replace-mixed.ensures.after ∙ c.new.ensures) in
+    let no_due = sym c.keep.ensures.due ∙ sym (due-taken bs c.keep.new.self c.keep.ensures.taken_in) ∙ none in
+    c.keep.ensures.settled es
+    (parts-settled bs es c.self.inside.witness c.self.inside.lists c.self.inside.due c.replace-mixed.new.dest held c.self.invariant.0 no_due (subst (λ (l : List Listed). AllByRecursion (IsSettled bs es) l) (sym empty) tt))
+    c.settle_lists.ensures.settled

@@ -1,0 +1,76 @@
+-- How runs are merged, some steps at a time.
+use Rattle.std.specs.Prelude.{◌≡◌, ◌≤◌, ◌+◌, ◌*◌, ◌-◌, ◌^◌, ◌++◌, ◌⊎◌, ◌&&◌, ◌||◌, ◌==◌, ℕ, Bool, true, false, nat_lt, nat_le, max, min, map, List, [], ◌∷◌, if◌then◌else◌}
+
+-- a run: a number that none of its numbers is above, how many steps are still to be moved of the two runs that it is being made of, and
+-- how many were made
+pub record RunSize : Type 0 where
+  pub last : ℕ
+  pub left : ℕ
+  pub made : ℕ
+
+-- how many steps are still to be moved in the runs that have numbers above that one
+abbrev pub left_above : ℕ → List RunSize → ℕ
+left_above o [] = 0
+left_above o (r ∷ rs) = (if nat_lt o r.last then r.left else 0) + left_above o rs
+
+-- nothing is left to move in either run, the first has numbers above that one, and it has at most twice as many steps as the second, and one
+abbrev pub are_alike : ℕ → RunSize → RunSize → Bool
+are_alike o r s = nat_lt o r.last && (r.left == 0 && (s.left == 0 && nat_le r.made (2 * s.made + 1)))
+
+abbrev pub starts_alike : ℕ → RunSize → List RunSize → Bool
+starts_alike o r [] = false
+starts_alike o r (s ∷ ss) = are_alike o r s
+
+-- whether two runs beside one another are alike
+abbrev pub has_alike : ℕ → List RunSize → Bool
+has_alike o [] = false
+has_alike o (r ∷ rs) = starts_alike o r rs || has_alike o rs
+
+-- the run that is to be made of both
+abbrev pub joined : RunSize → RunSize → RunSize
+joined r s = record { last = max r.last s.last; left = r.made + s.made; made = 0 }
+
+-- of two runs beside one another that are alike one is being made
+pub record IsBegun (o : ℕ) (old new : List RunSize) : Type 0 where
+  pub earlier : List RunSize
+  pub first : RunSize
+  pub second : RunSize
+  pub later : List RunSize
+  pub alike : are_alike o first second ≡ true
+  pub was : old ≡ earlier ++ first ∷ second ∷ later
+  pub is : new ≡ earlier ++ joined first second ∷ later
+
+-- one refusal more, up to 2^64 - 1
+abbrev pub one_more : ℕ → ℕ
+one_more refused = min (refused + 1) (2 ^ 64 - 1)
+
+-- a merge was begun, or memory for it was refused, which is counted
+abbrev pub IsEnded : ℕ → List RunSize → List RunSize → ℕ → ℕ → Type 0
+IsEnded o old new was is = (IsBegun o old new × (is ≡ was)) ⊎ ((new ≡ old) × (is ≡ one_more was))
+
+-- the same, or no two runs beside one another are alike
+abbrev pub IsTried : ℕ → List RunSize → List RunSize → ℕ → ℕ → Type 0
+IsTried o old new was is = IsEnded o old new was is ⊎ ((has_alike o old ≡ false) × (new ≡ old) × (is ≡ was))
+
+-- the runs, and one of so many steps with that number, where it has any
+abbrev pub with_run : ℕ → ℕ → List RunSize → List RunSize
+with_run n count rs = if nat_lt 0 count then rs ++ record { last = n; left = 0; made = count } ∷ [] else rs
+
+-- how many moves there are for so many steps that are noted
+abbrev pub moves_for : ℕ → ℕ
+moves_for count = min (16 * count + 64) (2 ^ 64 - 1)
+
+abbrev pub lasts_of : List RunSize → List ℕ
+lasts_of rs = map (λ r. r.last) rs
+
+-- what is to be moved was moved so many times, unless nothing is left to move; a move takes one step, or two of one key
+pub record IsMoved (o most : ℕ) (old new : List RunSize) : Type 0 where
+  pub lasts : lasts_of new ≡ lasts_of old
+  pub moved : left_above o new + min most (left_above o old) ≤ left_above o old
+  pub slowly : left_above o old ≤ left_above o new + 2 * most
+
+-- one merge at most was begun, and those under way were moved on
+pub record IsMergedFor (o most : ℕ) (old new : List RunSize) (was is : ℕ) : Type 0 where
+  pub begun : List RunSize
+  pub tried : IsTried o old begun was is
+  pub moved : IsMoved o most begun new
