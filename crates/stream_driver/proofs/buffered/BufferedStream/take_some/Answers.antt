@@ -1,4 +1,4 @@
-use Rattle.std.proofs.Common.{rules, ◌≡◌, ◌≢◌, ◌<◌, ◌≤◌, [], length, arith}
+use Rattle.std.proofs.Common.{rules, ◌≡◌, ◌<◌, [], length, arith}
 use Rattle.std.proofs.lemmas.Grind.{common_steps}
 use Rattle.stream_driver.specs.Buffers.{held_in, room_in}
 use Rattle.stream_driver.proofs.Buffering.{some_length, takes_in, takes_on}
