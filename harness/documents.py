@@ -344,7 +344,7 @@ def layers(tally):
 def sealed(tally):
     """The lemmas that would refute the premises on files and sockets are cited where a call is made of one, and nowhere else."""
     for crate, user, lemmas, calls in (
-        ("file_calls", "sector", "read|write|sync|make|open|open_to_read|length|settle_name|drop_copies",
+        ("file_calls", "sector", "error|read|write|sync|make|open|open_to_read|length|settle_name|drop_copies",
             [f"counted/CountedFile/{name}" for name in ("read", "write", "write_zeros", "sync", "sync_all")]
             + [f"opened/OpenedFile/{name}" for name in ("make", "open", "open_to_read", "length", "settle_name", "drop_copies")]),
         ("socket_calls", "event_loop", "receive|send", [f"counted/CountedSocket/{name}" for name in ("read", "write")]),

@@ -1,7 +1,8 @@
 """Clients that don't behave, against `serve`, while a good client is served.
 
-Half frames and silence, urgent bytes, broken frames with much before and behind them, floods of pipelined requests, peers that don't read,
-as many connections as there are and more, also all at once, resets within a reply, random bytes, and every session at its limits at once.
+Half frames and silence, urgent bytes, broken frames with much before and behind them, floods of pipelined requests, peers that acknowledge
+late or don't read, as many connections as there are and more, also all at once, resets within a reply, random bytes, and every session at
+its limits at once.
 The good client's slowest reply stays under a bound, the server doesn't end, what may be answered is the model's, and the memory of the
 process stays under the bound that its limits give.
 
@@ -24,6 +25,8 @@ from model import (
 
 SECTORS = 262_144
 SLOWEST_REPLY = 5.0
+ACKNOWLEDGED_LATE = 0.04    # how long Linux puts off an acknowledgement
+REQUESTS_MAX = 64    # of a session in one turn
 ENTRY = 144    # a written key or a mark: its vectors, and what the allocator adds to their two blocks
 RECORD = 1_024    # what is kept of one commit of the good client while a transaction is open that began before it
 KEYS = [b"%03d" % i + b"k" * (KEY_MAX - 3) for i in range(128)]
@@ -257,6 +260,21 @@ def flood_of_transactions(siege):
     request = BEGIN + frame("SET", "flood", "1") + frame("GET", "flood") + frame("RANGE", "flood", "floof", "5") + frame("FOO") + ABORT
     due = OK + OK + b"$1\r\n1\r\n" + b"*2\r\n$5\r\nflood\r\n$1\r\n1\r\n" + refusal("ERR command") + OK
     flood(siege, request, due, siege.times(300, 3_000), False)
+
+
+def replies_of_two_turns(siege):
+    """128 requests at once, which are served in two turns: what the second sends doesn't wait until the peer acknowledges what the first
+    sent, which a peer that is told to puts off for 40 ms (TCP_NODELAY)."""
+    with siege.join() as client:
+        waits = []
+        for _ in range(siege.times(15, 101)):
+            client.socket.setsockopt(socket.IPPROTO_TCP, socket.TCP_QUICKACK, 0)
+            begun = time.monotonic()
+            client.send(2 * REQUESTS_MAX * PING)
+            expect(all(client.reply() == PONG for _ in range(2 * REQUESTS_MAX)), "another reply")
+            waits.append(time.monotonic() - begun)
+        usual = sorted(waits)[len(waits) // 2]
+        expect(usual < ACKNOWLEDGED_LATE / 2, f"half of the batches took {1_000 * usual:.0f} ms or more")
 
 
 def flood_before_reading(siege):
@@ -496,8 +514,8 @@ def judge_memory(tally, peak, idle, commits):
 
 SCENES = (
     half_a_frame, one_byte_at_a_time, urgent_bytes, broken_frames, broken_frame_behind_much, value_above_the_bound,
-    held_behind_broken_frames, without_end_behind_a_broken_frame, flood_of_transactions, flood_before_reading, flood_of_commits,
-    never_reads, resets, two_hundred_connections, burst, random_bytes, every_session_at_its_limits)
+    held_behind_broken_frames, without_end_behind_a_broken_frame, flood_of_transactions, replies_of_two_turns, flood_before_reading,
+    flood_of_commits, never_reads, resets, two_hundred_connections, burst, random_bytes, every_session_at_its_limits)
 
 
 def play(tally, siege, scene):

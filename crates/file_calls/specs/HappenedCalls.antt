@@ -1,8 +1,13 @@
 -- The calls that runs of the program really made of a file, the last argument saying whether the call succeeded. They are left open, as
 -- the facts of a file are. The lemmas are to be cited only of the call that a proof is about, by the answers in `proofs/` of this crate.
-use Rattle.std.specs.Prelude.{ℕ, Bool, List}
+use Rattle.std.specs.Prelude.{ℕ, Bool, List, Result, Ok, Err, IfErr}
+use Rattle.std.specs.declared.io.Error.{Error}
 use Rattle.file_calls.specs.declared.counted.CountedFile.{CountedFile}
 use Rattle.file_calls.specs.declared.opened.OpenedFile.{OpenedFile}
+
+-- a call of the system answered this error
+pub WasAnswered : Error → Type 0
+WasAnswered error = Unit {0}
 
 -- it was made as a new file of this name, to be read and written
 pub WasMade : OpenedFile → List ℕ → Type 0
@@ -39,6 +44,11 @@ WasWritten file offset bytes ok = Unit {0}
 -- its next call was a sync
 pub WasSynced : CountedFile → Bool → Type 0
 WasSynced file ok = Unit {0}
+
+pub real_error : {A : Type 0} (answer : Result A Error) → IfErr answer (λ e. WasAnswered e)
+unfolding WasAnswered
+real_error (Ok a) = tt
+real_error (Err e) = tt
 
 pub real_make : (file : OpenedFile) (path : List ℕ) → WasMade file path
 unfolding WasMade

@@ -1,5 +1,5 @@
 //! Opening a file.
-ghost use Rattle.std.specs.Prelude.{IfOk, OnOk};
+ghost use Rattle.std.specs.Prelude.{IfErr, IfOk, OnOk};
 
 use std::fs::{File, OpenFile, OpenOptions};
 use std::io;
@@ -17,7 +17,7 @@ pub struct OpenedFile {
 }
 
 impl OpenedFile {
-    ghost use Rattle.file_calls.specs.HappenedCalls.{WasMade, WasOpened, WasOpenedToRead, HadLength, HadNameSettled, HadCopiesDropped};
+    ghost use Rattle.file_calls.specs.HappenedCalls.{WasAnswered, WasMade, WasOpened, WasOpenedToRead, HadLength, HadNameSettled, HadCopiesDropped};
 
     /// Makes a new file, to be read and written. Answers the system's error, also where a file of this name exists. Takes no memory.
     pub fn make<R: Files<File = File> + Clock>(rt: &R, path: &str) -> io::Result<OpenedFile>
@@ -33,7 +33,8 @@ impl OpenedFile {
 
     /// Opens a file to be read and written. Answers the system's error, also where there is no file of this name. Takes no memory.
     pub fn open<R: Files<File = File> + Clock>(rt: &R, path: &str) -> io::Result<OpenedFile>
-        ensures { IfOk result (λ f. WasOpened f path.now) }
+        ensures opened { IfOk result (λ f. WasOpened f path.now) }
+        ensures error { IfErr result (λ e. WasAnswered e) }
     {
         let mut options = OpenOptions::new();
         options.read(true).write(true);
@@ -46,7 +47,8 @@ impl OpenedFile {
     /// Opens a file to be read alone: the system refuses each write to it. Answers the system's error, also where there is no file of
     /// this name. Takes no memory.
     pub fn open_to_read<R: Files<File = File> + Clock>(rt: &R, path: &str) -> io::Result<OpenedFile>
-        ensures { IfOk result (λ f. WasOpenedToRead f path.now) }
+        ensures opened { IfOk result (λ f. WasOpenedToRead f path.now) }
+        ensures error { IfErr result (λ e. WasAnswered e) }
     {
         Ok(OpenedFile {
             file: File::open(rt, Path::new(path))?,
@@ -56,14 +58,16 @@ impl OpenedFile {
 
     /// How many bytes it has. Answers the system's error. Takes no memory.
     pub fn length(&self) -> io::Result<u64>
-        ensures { IfOk result (λ n. HadLength self.now n) }
+        ensures length { IfOk result (λ n. HadLength self.now n) }
+        ensures error { IfErr result (λ e. WasAnswered e) }
     {
         Ok(self.file.metadata()?.len())
     }
 
     /// Settles the names in the directory of this path, under which it was opened. Answers the system's error. Takes no memory.
     pub fn settle_name<R: Files<File = File>>(&self, rt: &R, path: &str) -> io::Result<()>
-        ensures { OnOk result (HadNameSettled self.now path.now) }
+        ensures settled { OnOk result (HadNameSettled self.now path.now) }
+        ensures error { IfErr result (λ e. WasAnswered e) }
     {
         let directory = match Path::new(path).parent() {
             Some(parent) if !parent.as_str().is_empty() => parent,

@@ -1,10 +1,10 @@
 //! A device over a file. What a file gives back and keeps is left open.
-ghost use Rattle.std.specs.Prelude.{true, false, ℕ, List, ◌≡◌, ◌≢◌, ◌<◌, ◌≤◌, ◌*◌, ◌%◌, ◌^◌, ◌↔◌, MatchOption, IfSome, IfOk, IsOk, IsErrAnd, OnOk, OnErr, replicate};
+ghost use Rattle.std.specs.Prelude.{true, false, ℕ, List, ◌≡◌, ◌≢◌, ◌<◌, ◌≤◌, ◌*◌, ◌%◌, ◌^◌, ◌↔◌, MatchOption, IfSome, IfOk, IsOk, IsErrAnd, OnOk, OnErr, replicate, IfErr};
 ghost use Rattle.std.specs.IoError.{error_kind};
-ghost use Rattle.file_calls.specs.HappenedCalls.{WasWritten, WasSynced, HadNameSettled, HadCopiesDropped};
+ghost use Rattle.file_calls.specs.HappenedCalls.{WasOpened, WasOpenedToRead, WasWritten, WasSynced, HadNameSettled, HadCopiesDropped};
 ghost use Rattle.file_calls.specs.OpenFacts.{next};
 ghost use Rattle.sector.specs.Failures.{Rose, Stayed, greatest};
-ghost use Rattle.sector.specs.FileOpening.{WasMadeOfZeros, WasOpenedWhole, WasOpenedWholeToRead, IsWhole};
+ghost use Rattle.sector.specs.FileOpening.{WasMadeOfZeros, WasOpenedWhole, WasOpenedWholeToRead, IsWhole, WhyNotOpened};
 
 use crate::{DeviceFault, SECTOR_SIZE, Sector, Sectors};
 use file_calls::{CountedFile, OpenedFile};
@@ -70,6 +70,7 @@ impl FileSectors {
         ensures failures { IfOk result (λ f. f.failures ≡ 0) }
         ensures opened { IfOk result (λ f. WasOpenedWhole path.now f.file) }
         ensures drops { IfOk result (λ f. f.drops_copies ≡ true) }
+        ensures refused { IfErr result (λ e. WhyNotOpened (λ f. WasOpened f path.now) e) }
     {
         let file = OpenedFile::open(rt, path)?;
         file.settle_name(rt, path)?;
@@ -82,6 +83,7 @@ impl FileSectors {
         ensures failures { IfOk result (λ f. f.failures ≡ 0) }
         ensures opened { IfOk result (λ f. WasOpenedWholeToRead path.now f.file) }
         ensures keeps { IfOk result (λ f. f.drops_copies ≡ false) }
+        ensures refused { IfErr result (λ e. WhyNotOpened (λ f. WasOpenedToRead f path.now) e) }
     {
         with_whole_sectors(OpenedFile::open_to_read(rt, path)?, false)
     }
@@ -121,6 +123,7 @@ fn with_whole_sectors(file: OpenedFile, drops_copies: bool) -> io::Result<FileSe
     ensures file { IfOk result (λ f. f.file.file ≡ file) }
     ensures whole { IfOk result (λ f. IsWhole f.file) }
     ensures drops { IfOk result (λ f. f.drops_copies ≡ drops_copies) }
+    ensures refused { IfErr result (λ e. WhyNotOpened (λ f. f ≡ file) e) }
 {
     match whole_sectors(file.length()?) {
         Some(count) => Ok(FileSectors {

@@ -13,6 +13,7 @@ use Rattle.model.specs.declared.refusals.Refusal.{Refusal}
 use Rattle.model.specs.Map.{Bytes, KeyWrite}
 use Rattle.model.specs.Operations.{Operation, Response}
 use Rattle.model.specs.Operations.Operation.{Begin, Commit, Abort}
+use Rattle.model.specs.Operations.Response.{Done}
 use Rattle.model.specs.History.{Record}
 use Rattle.model.specs.Verdict.{verdict}
 use Rattle.model.specs.Machine.{State, Running, step, step_of, leave, running_of, commit, store, store_unless, record_to_commit, last, body_sectors}
@@ -25,7 +26,7 @@ use Rattle.sessions.proofs.StreamLaws.{by_if, after_effect}
 -- what a step does to the open transactions
 pub data Ran (m : State) (s : ℕ) (q : Operation) (a : State × Response) : Type 0 where
   Kept : running_of m s ≡ None → a.0.running ≡ m.running → Ran m s q a
-  Opened : (t : Running) → t.requests ≡ [] → t.replies ≡ [] → a.0.running ≡ put nat_cmp s t m.running → Ran m s q a
+  Opened : (t : Running) → q ≡ Begin → a.1 ≡ Done → t.requests ≡ [] → t.replies ≡ [] → a.0.running ≡ put nat_cmp s t m.running → Ran m s q a
   Owned : (t after : Running) → running_of m s ≡ Some t → after.requests ≡ t.requests ++ q ∷ [] → after.replies ≡ t.replies ++ a.1 ∷ [] → a.0.running ≡ put nat_cmp s after m.running → Ran m s q a
   Ended : a.0.running ≡ (leave m s).running → Ran m s q a
 
@@ -49,7 +50,7 @@ unfolding step
 ran m s q f = by (running_of m s) refl
   where
     outside : (q : Operation) → running_of m s ≡ None → Ran m s q (step_of None m s q f)
-    outside Begin e = by_if (Ran m s Begin) m.stopped _ _ (Kept e refl) (by_if (Ran m s Begin) (nat_lt (length m.running) 64) _ _ (Opened _ refl refl refl) (Kept e refl))
+    outside Begin e = by_if (Ran m s Begin) m.stopped _ _ (Kept e refl) (by_if (Ran m s Begin) (nat_lt (length m.running) 64) _ _ (Opened _ refl refl refl refl refl) (Kept e refl))
     outside b0 e = Kept e refl
 
     inside : (t : Running) (q : Operation) → running_of m s ≡ Some t → Ran m s q (step_of (Some t) m s q f)
@@ -171,7 +172,12 @@ module _ (h : HubState) (invariant : Invariant h) (s : ℕ) (st : SessionStream)
   had t e = let o = invariant.ends s t e in subst (λ (x : SessionStream). EndsStream x t) (some_same (stream_of h s) o.0 st o.1 is) o.2
 
   same_session : (v : SessionStream) → v.replies ≡ st.replies → v.served ≡ st.served → Invariant (with_stream h s v)
-  same_session v replies served = grind (arith, common_steps, changed, had, nat_tests)
+  same_session v replies served = changed v h.machine (λ q t apart k. k) (λ t k. let o = had t k in record {
+    earlier = o.earlier;
+    replies = replies ∙ o.replies;
+    before = o.before;
+    requests = ap (map asks) served ∙ o.requests;
+  })
 
   ended : (v : SessionStream) → Invariant (record (with_stream h s v) { machine = leave h.machine s })
   ended v = changed v (leave h.machine s) (λ q t apart e. (left-some h.machine s q t e).1) (λ t e. absurd ((left-some h.machine s s t e).0 refl))
@@ -185,18 +191,23 @@ module _ (h : HubState) (invariant : Invariant h) (s : ℕ) (st : SessionStream)
 
       by : Ran h.machine s (asks parts) (step h.machine s (asks parts) f) → Invariant (record (with_stream h s v) { machine = (step h.machine s (asks parts) f).0 })
       by (Kept none e) = changed v _ (λ q t apart k. sym (ap (find nat_cmp q) e) ∙ k) (λ t k. (let bad : None ≡ Some t = sym none ∙ sym (ap (find nat_cmp s) e) ∙ k in absurd (cc)))
-      by (Opened t0 no_requests no_replies e) = changed v _ (λ q t apart k. sym (put-apart h.machine s q t0 apart) ∙ sym (ap (find nat_cmp q) e) ∙ k) (λ t k.
+      by (Opened t0 begins answered no_requests no_replies e) = changed v _ (λ q t apart k. sym (put-apart h.machine s q t0 apart) ∙ sym (ap (find nat_cmp q) e) ∙ k) (λ t k.
           let same : t0 ≡ t = some_running _ t0 t (put-same h.machine s t0) (sym (ap (find nat_cmp s) e) ∙ k) in
-          subst (λ (x : Running). EndsStream v x) same (record { earlier = v.replies; replies = sym (ap (λ xs. v.replies ++ xs) no_replies ∙ append-nil v.replies); before = map asks v.served; requests = sym (ap (λ xs. map asks v.served ++ xs) no_requests ∙ append-nil (map asks v.served)) }))
+          subst (λ (x : Running). EndsStream v x) same (record {
+            earlier = st.replies;
+            replies = replies ∙ ap (λ a. st.replies ++ a ∷ []) answered ∙ ap (λ xs. st.replies ++ Done ∷ xs) (sym no_replies);
+            before = map asks st.served;
+            requests = asked_all ∙ ap (λ q. map asks st.served ++ q ∷ []) begins ∙ ap (λ xs. map asks st.served ++ Begin ∷ xs) (sym no_requests);
+          }))
       by (Owned t0 t1 was requests_are replies_are e) = changed v _ (λ q t apart k. sym (put-apart h.machine s q t1 apart) ∙ sym (ap (find nat_cmp q) e) ∙ k) (λ t k.
           let same : t1 ≡ t = some_running _ t1 t (put-same h.machine s t1) (sym (ap (find nat_cmp s) e) ∙ k) in
           let o = had t0 was in
           let r = (step h.machine s (asks parts) f).1 in
           subst (λ (x : Running). EndsStream v x) same (record {
             earlier = o.earlier;
-            replies = replies ∙ ap (λ xs. xs ++ r ∷ []) o.replies ∙ append_assoc o.earlier t0.replies (r ∷ []) ∙ ap (λ xs. o.earlier ++ xs) (sym replies_are);
+            replies = replies ∙ ap (λ xs. xs ++ r ∷ []) o.replies ∙ append_assoc o.earlier (Done ∷ t0.replies) (r ∷ []) ∙ ap (λ xs. o.earlier ++ Done ∷ xs) (sym replies_are);
             before = o.before;
-            requests = asked_all ∙ ap (λ xs. xs ++ asks parts ∷ []) o.requests ∙ append_assoc o.before t0.requests (asks parts ∷ []) ∙ ap (λ xs. o.before ++ xs) (sym requests_are);
+            requests = asked_all ∙ ap (λ xs. xs ++ asks parts ∷ []) o.requests ∙ append_assoc o.before (Begin ∷ t0.requests) (asks parts ∷ []) ∙ ap (λ xs. o.before ++ Begin ∷ xs) (sym requests_are);
           }))
       by (Ended e) = changed v _ (λ q t apart k. (left-some h.machine s q t (sym (ap (find nat_cmp q) e) ∙ k)).1) (λ t k. absurd ((left-some h.machine s s t (sym (ap (find nat_cmp s) e) ∙ k)).0 refl))
 

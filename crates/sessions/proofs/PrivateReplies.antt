@@ -1,5 +1,5 @@
 -- The replies of an open transaction are its private copy's.
-use Rattle.std.proofs.Common.{◌≡◌, ℕ, true, false, cond, List, [], ◌∷◌, ◌++◌, Some, sym, ap, subst, ◌∙◌, nat_cmp}
+use Rattle.std.proofs.Common.{◌≡◌, ℕ, true, false, cond, List, [], ◌∷◌, ◌++◌, Some, sym, ap, subst, ◌∙◌, nat_cmp, append_assoc}
 use Rattle.std.specs.List.{AllByRecursion, flat_map}
 use Rattle.std.proofs.lemmas.List.Concat.{flat_map-append}
 use Rattle.std.specs.Ordering.{eq_by_cmp}
@@ -7,6 +7,7 @@ use Rattle.std.specs.FinMap.Entries.{find}
 use Rattle.std.proofs.lemmas.List.Elements.{recursion_from_All}
 use Rattle.model.specs.Laws.{IsIsolated}
 use Rattle.model.specs.Operations.{Response}
+use Rattle.model.specs.Operations.Response.{Done}
 use Rattle.model.specs.ReplyText.{reply_text}
 use Rattle.model.specs.PrivateCopy.{copy_of, responses}
 use Rattle.model.specs.Machine.{State, Running, running_of, snapshot}
@@ -31,7 +32,7 @@ flat_map-end xs ys zs e = ap (flat_map reply_text) e ∙ flat_map-append reply_t
 
 -- the session's output ends with its transaction's replies
 ends_output : (h : HubState) (s : ℕ) (t : Running) → IsLawful h → running_of h.machine s ≡ Some t → EndsOutput h s (own_bytes t)
-ends_output h s t law e = let o = law.transactions s t e in (o.0, flat_map reply_text o.2.earlier, o.1, flat_map-end o.0.replies o.2.earlier t.replies o.2.replies)
+ends_output h s t law e = let o = law.transactions s t e in (o.0, flat_map reply_text (o.2.earlier ++ Done ∷ []), o.1, flat_map-end o.0.replies (o.2.earlier ++ Done ∷ []) t.replies (o.2.replies ∙ sym (append_assoc o.2.earlier (Done ∷ []) t.replies)))
 
 pub same_bytes : SameBytes
 same_bytes h k s r t u a b e f alike requests =

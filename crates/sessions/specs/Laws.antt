@@ -10,6 +10,8 @@ use Rattle.versions.specs.Meaning.{IsReclaimed, due_of}
 use Rattle.model.specs.Map.{Bytes}
 use Rattle.model.specs.Laws.{IsIsolated, IsSerializable}
 use Rattle.model.specs.Operations.{Operation, Response}
+use Rattle.model.specs.Operations.Operation.{Begin}
+use Rattle.model.specs.Operations.Response.{Done}
 use Rattle.model.specs.Machine.{IsReached, Running, last, running_of, snapshot}
 use Rattle.model.specs.ReplyText.{reply_text}
 use Rattle.sessions.specs.declared.events.Status.TheVariants.{Open}
@@ -27,12 +29,12 @@ pub record IsSessionStream (st : SessionStream) : Type 0 where
   pub inbox : st.now.status ≡ Open → rest ≡ st.now.inbox
   pub output : replies_text st ≡ st.sent ++ st.now.pending
 
--- the replies of an open transaction are the last of its session's, and they are those to its last requests
+-- the session's last requests are the BEGIN of its open transaction and the transaction's own, and its last replies are +OK and theirs
 pub record EndsStream (st : SessionStream) (t : Running) : Type 0 where
   pub earlier : List Response
-  pub replies : st.replies ≡ earlier ++ t.replies
+  pub replies : st.replies ≡ earlier ++ Done ∷ t.replies
   pub before : List Operation
-  pub requests : map asks st.served ≡ before ++ t.requests
+  pub requests : map asks st.served ≡ before ++ Begin ∷ t.requests
 
 abbrev pub EndsItsStream : HubState → ℕ → Running → Type 0
 EndsItsStream h s t = (st : SessionStream) × (stream_of h s ≡ Some st) × EndsStream st t

@@ -1,5 +1,5 @@
 -- A buffer that holds nothing has room.
-use Rattle.std.proofs.Common.{◌≡◌, ◌≢◌, inl, inr, ℕ, ◌-◌, ◌<◌, ◌≤◌, ◌⊎◌, ◌↔◌, not, nat_lt, true, false, List, [], ◌∷◌, ◌++◌, append_assoc, Bool, length, take, drop, vec_len, refl, sym, ap, subst, ◌∙◌, length-drop, arith, Some}
+use Rattle.std.proofs.Common.{◌≡◌, ◌≢◌, inl, inr, ℕ, ◌-◌, ◌<◌, ◌≤◌, ◌⊎◌, ◌↔◌, not, nat_lt, true, false, List, [], ◌∷◌, ◌++◌, append_assoc, Bool, length, take, drop, vec_len, refl, sym, ap, subst, ◌∙◌, length-drop, arith}
 use Rattle.std.specs.List.{AllByRecursion}
 use Rattle.std.proofs.lemmas.Bool.Decides.{nat_tests}
 use Rattle.std.proofs.lemmas.List.{append-nil, take-append-drop}
@@ -11,9 +11,10 @@ use Rattle.stream_driver.specs.declared.held.Held.{Held}
 use Rattle.stream_driver.specs.declared.buffered.Flushed.{Flushed}
 use Rattle.stream_driver.specs.declared.buffered.Flushed.TheVariants.{All, Blocked, Failed}
 use Rattle.stream_driver.specs.declared.buffered.BufferedStream.{BufferedStream}
-use Rattle.stream_driver.specs.Buffers.{held_in, room_in, FlushFails, Flushes, GivesSome, KeepsBytes, ShortAfter, TakesSome, WhyGave, WhyTook, traffic_through, ReadFails, RoomFails, StaysFailed, StaysWithRoom, WhyFlushed, WhyRoom, WriteFails, WritesHeld}
-use Rattle.stream_driver.specs.Traffic.{Departure, DepartAt, IsBeginning, ReadsWithin, Traffic, WritesWithin, bytes_read, bytes_written}
+use Rattle.stream_driver.specs.Buffers.{held_in, room_in, BehindEnds, BehindMoved, FlushFails, Flushes, GivesSome, KeepsBytes, ShortAfter, TakesSome, WasRead, WhyGave, WhyTook, traffic_through, ReadFails, RoomFails, StaysFailed, StaysWithRoom, WhyFlushed, WhyRoom, WriteFails, WritesHeld}
+use Rattle.stream_driver.specs.Traffic.{AllMoved, Departure, DepartAt, EndsWith, IsBeginning, ReadsWithin, Traffic, WritesWithin, bytes_read, bytes_written}
 use Rattle.stream_driver.specs.declared.answers.Call.TheVariants.{Read, Write}
+use Rattle.stream_driver.proofs.Answered.{ends_then, moved_then, none_called}
 use Rattle.stream_driver.proofs.Carry.{all_then, grown}
 
 empty_room : (h : Held) → held_in h ≡ [] → 0 < room_in h
@@ -24,10 +25,10 @@ empty_room h e =
     let zero : h.left ≡ 0 = h.empty at_end in
     omega arith
 
-pub room_after : {T : Type 0} (traffic : T → Traffic) (answer : Flushed) (b : BufferedStream T) → WhyFlushed traffic answer b → WhyRoom traffic answer b
-room_after traffic All b e = empty_room b.held e
-room_after traffic Blocked b e = e
-room_after traffic Failed b e = e
+pub room_after : {T : Type 0} (traffic : T → Traffic) (answer : Flushed) (a b : BufferedStream T) → WhyFlushed traffic a answer b → WhyRoom traffic a answer b
+room_after traffic All a b e = (empty_room b.held e.0, e.1)
+room_after traffic Blocked a b e = e
+room_after traffic Failed a b e = e
 
 pub not_less : (n len : ℕ) (b : Bool) → len ≤ n → b ≡ nat_lt n len → b ≡ false
 not_less n len b le is = grind (arith, nat_tests)
@@ -156,23 +157,23 @@ module _ {T : Type 0} where
 
     -- between two writes of what is held
     abbrev pub FlushedSoFar : BufferedStream T → BufferedStream T → Type 0
-    FlushedSoFar a b = KeepsBytes tells traffic moment a b × StaysFailed a b
+    FlushedSoFar a b = KeepsBytes tells traffic moment a b × StaysFailed a b × BehindMoved traffic a b
 
     pub flushed_none : (b : BufferedStream T) → FlushedSoFar b b
-    flushed_none b = (record { given = λ t. refl; taken = λ t. refl; departed = λ t. none_departed moment (traffic_through traffic b) (traffic_through traffic b) refl; counts = refl; short = refl; drained = refl; reads_on = refl }, stays_same b)
+    flushed_none b = (record { given = λ t. refl; taken = λ t. refl; departed = λ t. none_departed moment (traffic_through traffic b) (traffic_through traffic b) refl; counts = refl; short = refl; drained = refl; reads_on = refl }, stays_same b, none_called (traffic b.inner))
 
     module _ (a b : BufferedStream T) (so_far : FlushedSoFar a b) where
       pub flushed_all : held_in b.held ≡ [] → Flushes tells traffic moment a All b
-      flushed_all none = record { kept = so_far.0; why = none; failed = so_far.1 }
+      flushed_all none = record { kept = so_far.0; why = (none, so_far.2); failed = so_far.1 }
 
       pub flushed_more : (n : ℕ) (c : BufferedStream T) → WritesHeld tells traffic moment b (Wrote n) c → FlushedSoFar a c
-      flushed_more n c w = (kept_then a b c so_far.0 w.kept, stays_moved a b c n so_far.1 w.why.0 w.why.1 w.why.2 w.why.3)
+      flushed_more n c w = (kept_then a b c so_far.0 w.kept, stays_moved a b c n so_far.1 w.why.0 w.why.1 w.why.2 w.why.3, moved_then (traffic a.inner) (traffic b.inner) (traffic c.inner) so_far.2 w.why.4)
 
       pub flushed_blocked : (c : BufferedStream T) → WritesHeld tells traffic moment b WriteBlocked c → Flushes tells traffic moment a Blocked c
-      flushed_blocked c w = record { kept = kept_then a b c so_far.0 w.kept; why = w.why.1; failed = stays_on a b c so_far.1 w.why.0 w.why.2 }
+      flushed_blocked c w = record { kept = kept_then a b c so_far.0 w.kept; why = ends_then (Write WriteBlocked) (traffic a.inner) (traffic b.inner) (traffic c.inner) so_far.2 w.why.1; failed = stays_on a b c so_far.1 w.why.0 w.why.2 }
 
       pub flushed_failed : (c : BufferedStream T) → held_in b.held ≢ [] → WritesHeld tells traffic moment b WriteFailed c → Flushes tells traffic moment a Failed c
-      flushed_failed c some w = record { kept = kept_then a b c so_far.0 w.kept; why = w.why.1; failed = (λ none. some (sym w.why.0 ∙ none), w.why.2) }
+      flushed_failed c some w = record { kept = kept_then a b c so_far.0 w.kept; why = ends_then (Write WriteFailed) (traffic a.inner) (traffic b.inner) (traffic c.inner) so_far.2 w.why.1; failed = (λ none. some (sym w.why.0 ∙ none), w.why.2) }
 
     -- what left in a call of the stream behind
     pub left_behind : (old new : BufferedStream T) → DepartAt moment (traffic old.inner) (traffic new.inner) → DepartAt moment (traffic_through traffic old) (traffic_through traffic new)
@@ -184,9 +185,9 @@ module _ {T : Type 0} where
 
     module _ (old : BufferedStream T) (inner : T) (given : tells → (traffic inner).given ≡ (traffic old.inner).given) (departed : tells → DepartAt moment (traffic old.inner) (traffic inner)) where
       -- some of what is held left
-      pub wrote_held : (n : ℕ) (held : Held) (from : List ℕ) → from ≡ held_in old.held → (0 < n) × (n ≤ length from) → held_in held ≡ drop n (held_in old.held) → (tells → (traffic inner).taken ≡ (traffic old.inner).taken ++ take n from)
+      pub wrote_held : (n : ℕ) (held : Held) (from : List ℕ) → AllMoved (traffic old.inner) (traffic inner) → from ≡ held_in old.held → (0 < n) × (n ≤ length from) → held_in held ≡ drop n (held_in old.held) → (tells → (traffic inner).taken ≡ (traffic old.inner).taken ++ take n from)
           → WritesHeld tells traffic moment old (Wrote n) (record old { inner = inner; held = held; has_failed = false })
-      wrote_held n held from is fits rest taken =
+      wrote_held n held from moved is fits rest taken =
           let fits_held : n ≤ length (held_in old.held) = subst (λ l. n ≤ length l) is fits.1 in
           record {
             kept = record {
@@ -200,7 +201,7 @@ module _ {T : Type 0} where
               drained = refl;
               reads_on = refl;
             };
-            why = (fits.0, fits_held, rest, refl);
+            why = (fits.0, fits_held, rest, refl, moved);
           }
 
       -- none of it left
@@ -220,23 +221,23 @@ module _ {T : Type 0} where
         → DepartAt moment (traffic b.inner) (traffic c.inner) → DepartAt moment (traffic_through traffic a) (traffic_through traffic c)
     left_then a b c more p t taken q = departed_then moment (traffic_through traffic a) (traffic_through traffic b) (traffic_through traffic c) more taken (p.departed t) (left_behind b c q)
 
-    why_gave : (old new : BufferedStream T) (answer : ReadAnswer) → held_in new.held ≡ [] → (traffic new.inner).last ≡ Some (Read answer) → WhyGave traffic old answer new
-    why_gave old new (Moved n) none last = (none, last)
-    why_gave old new ReadBlocked none last = inl (none, inl last)
-    why_gave old new ReadFailed none last = inl (none, last)
-    why_gave old new Ended none last = (none, last)
+    why_gave : (old new : BufferedStream T) (answer : ReadAnswer) → WasRead traffic old answer new → WhyGave traffic old answer new
+    why_gave old new (Moved n) read = read
+    why_gave old new ReadBlocked read = inl read
+    why_gave old new ReadFailed read = inl read
+    why_gave old new Ended read = read
 
-    why_took : (new : BufferedStream T) (answer : WriteAnswer) → (traffic new.inner).last ≡ Some (Write answer) → WhyTook traffic answer new
-    why_took new (Wrote n) last = tt
-    why_took new WriteBlocked last = last
-    why_took new WriteFailed last = last
+    why_took : (old new : BufferedStream T) (answer : WriteAnswer) → BehindEnds traffic (Write answer) old new → WhyTook traffic old answer new
+    why_took old new (Wrote n) ends = ends.0
+    why_took old new WriteBlocked ends = ends
+    why_took old new WriteFailed ends = ends
 
     -- the stream behind was read once nothing was held
     pub gives_some : (old mid : BufferedStream T) (inner : T) (short : Bool) (before after : List ℕ) (answer : ReadAnswer) → Flushes tells traffic moment old All mid → ReadsWithin answer (length before)
         → (tells → (traffic inner).given ≡ (traffic mid.inner).given ++ take (bytes_read answer) after) → (tells → (traffic inner).taken ≡ (traffic mid.inner).taken) → (tells → DepartAt moment (traffic mid.inner) (traffic inner))
-        → (traffic inner).last ≡ Some (Read answer) → ShortAfter old (length before) answer (record mid { inner = inner; is_short = short })
+        → EndsWith (Read answer) (traffic mid.inner) (traffic inner) → old.is_drained ≡ false → ShortAfter old (length before) answer (record mid { inner = inner; is_short = short })
         → GivesSome tells traffic moment old before answer (record mid { inner = inner; is_short = short }) after
-    gives_some old mid inner short before after answer flushed within given taken departed last shorter =
+    gives_some old mid inner short before after answer flushed within given taken departed answered more shorter =
         let new : BufferedStream T = record mid { inner = inner; is_short = short } in
         record {
           within = within;
@@ -244,17 +245,17 @@ module _ {T : Type 0} where
           taken = λ t. ap (λ l. l ++ held_in mid.held) (taken t) ∙ flushed.kept.taken t;
           departed = λ t. left_then old mid new [] flushed.kept t (ap (λ l. l ++ held_in mid.held) (taken t) ∙ sym (append-nil ((traffic mid.inner).taken ++ held_in mid.held))) (departed t);
           counts = flushed.kept.counts;
-          why = why_gave old new answer flushed.why last;
-          failed = read_fails old mid new answer flushed.failed flushed.why refl refl;
+          why = why_gave old new answer (more, flushed.why.0, ends_then (Read answer) (traffic old.inner) (traffic mid.inner) (traffic inner) flushed.why.1 answered);
+          failed = read_fails old mid new answer flushed.failed flushed.why.0 refl refl;
           short = record { short = shorter; drained = flushed.kept.drained; reads_on = flushed.kept.reads_on };
         }
 
-    module _ (old mid : BufferedStream T) (kept : KeepsBytes tells traffic moment old mid) (stays : StaysWithRoom old mid) (from : List ℕ) where
+    module _ (old mid : BufferedStream T) (kept : KeepsBytes tells traffic moment old mid) (stays : StaysWithRoom old mid) (moved : BehindMoved traffic old mid) (from : List ℕ) where
       -- the stream behind took them
       pub takes_on : (inner : T) (answer : WriteAnswer) → held_in mid.held ≡ [] → WritesWithin answer (length from) → (tells → (traffic inner).given ≡ (traffic mid.inner).given)
-          → (tells → (traffic inner).taken ≡ (traffic mid.inner).taken ++ take (bytes_written answer) from) → (tells → DepartAt moment (traffic mid.inner) (traffic inner)) → (traffic inner).last ≡ Some (Write answer)
+          → (tells → (traffic inner).taken ≡ (traffic mid.inner).taken ++ take (bytes_written answer) from) → (tells → DepartAt moment (traffic mid.inner) (traffic inner)) → EndsWith (Write answer) (traffic mid.inner) (traffic inner)
           → TakesSome tells traffic moment old from answer (record mid { inner = inner })
-      takes_on inner answer none within given taken departed last =
+      takes_on inner answer none within given taken departed answered =
           let new : BufferedStream T = record mid { inner = inner } in
           let all : tells → (traffic inner).taken ++ held_in mid.held ≡ ((traffic mid.inner).taken ++ held_in mid.held) ++ take (bytes_written answer) from =
           λ t. ap (λ l. (traffic inner).taken ++ l) none ∙ append-nil (traffic inner).taken ∙ taken t
@@ -265,7 +266,7 @@ module _ {T : Type 0} where
             taken = λ t. all t ∙ ap (λ l. l ++ take (bytes_written answer) from) (kept.taken t);
             departed = λ t. left_then old mid new (take (bytes_written answer) from) kept t (all t) (departed t);
             counts = kept.counts;
-            why = why_took new answer last;
+            why = why_took old new answer (ends_then (Write answer) (traffic old.inner) (traffic mid.inner) (traffic inner) moved answered);
             failed = write_fails old mid new answer stays none refl;
             short = kept.short;
             drained = kept.drained;
@@ -284,7 +285,7 @@ module _ {T : Type 0} where
             taken = λ t. all ∙ ap (λ l. l ++ take n from) (kept.taken t);
             departed = λ t. departed_and_taken moment (traffic_through traffic old) (traffic_through traffic mid) (traffic_through traffic new) (take n from) refl all (kept.departed t);
             counts = kept.counts;
-            why = tt;
+            why = moved;
             failed = stays;
             short = kept.short;
             drained = kept.drained;

@@ -174,7 +174,7 @@ pub data Comes (n : SessionState) (e : Effect) : Type 0 where
   Answered : e.outcome ≡ Done → e.now.status ≡ Open → length e.served ≡ 1 → Comes n e
   IsBroken : e.outcome ≡ Done → e.now.status ≡ Ending → e.served ≡ [] → Comes n e
   IsStarved : e.outcome ≡ Memory → e.now.status ≡ Refused → e.served ≡ [] → Comes n e
-  Awaits : e.outcome ≡ Idle → e.now ≡ n → e.served ≡ [] → IsProperBeginning n.inbox → Comes n e
+  Awaits : e.outcome ≡ Idle → e.now ≡ n → e.served ≡ [] → e.replies ≡ [] → IsProperBeginning n.inbox → Comes n e
 
 pub comes : (front : Front) (c : Choice) (m : State) (s : ℕ) (n : SessionState) → IsFront n.inbox front → Comes n (serve_front front c m s n)
 comes (Whole parts used) c m s n is =
@@ -182,8 +182,17 @@ comes (Whole parts used) c m s n is =
       | true ↦ IsStarved refl refl refl
       | false ↦ Answered refl refl refl
     ]
-comes More c m s n is = Awaits refl refl refl is
+comes More c m s n is = Awaits refl refl refl refl is
 comes Bad c m s n is = IsBroken refl refl refl
+
+pub one_reply : (front : Front) (c : Choice) (m : State) (s : ℕ) (n : SessionState) → length (serve_front front c m s n).replies ≤ 1
+one_reply (Whole parts used) c m s n =
+    elim c.refused as (λ b. length (let e : Effect = if b then out_of_memory m s else served_with (step m s (asks parts) c.failed) n parts used in e).replies ≤ 1) [
+      | true ↦ omega arith
+      | false ↦ omega arith
+    ]
+one_reply More c m s n = omega arith
+one_reply Bad c m s n = omega arith
 
 -- the event of a Serve
 module _ (s : ℕ) (p : Point) (c : Choice) (count : ℕ) (st : SessionStream) (is : stream_of p.hub s ≡ Some st) (opened : st.now.status ≡ Open) (nothing : st.now.pending ≡ []) (happens : Happens p (Serves s) c count) where
@@ -210,7 +219,7 @@ module _ (s : ℕ) (p : Point) (c : Choice) (count : ℕ) (st : SessionStream) (
     | Answered o status len ↦ λ gone. (let bad : Open ≡ Absent = sym status ∙ gone in cc)
     | IsBroken o status none ↦ λ gone. (let bad : Ending ≡ Absent = sym status ∙ gone in cc)
     | IsStarved o status none ↦ λ gone. (let bad : Refused ≡ Absent = sym status ∙ gone in cc)
-    | Awaits o same none begins ↦ λ gone. (let bad : Open ≡ Absent = sym opened ∙ sym (ap (λ n. n.status) same) ∙ gone in cc)
+    | Awaits o same none unreplied begins ↦ λ gone. (let bad : Open ≡ Absent = sym opened ∙ sym (ap (λ n. n.status) same) ∙ gone in cc)
   ]
 
   abbrev pub served_event : Runs s p (point_after p (Serves s) c count)

@@ -4,6 +4,7 @@ pub mod Events
 pub mod States
 pub mod Answered
 pub mod Carry
+pub mod Within
 pub mod OneCall
 pub mod Loops
 pub mod Turns

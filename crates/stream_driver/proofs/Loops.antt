@@ -1,6 +1,6 @@
 -- The turns of the loops.
 use Rattle.std.proofs.Common.{◌≡◌, ◌≢◌, ◌⊎◌, inl, inr, ℕ, ◌+◌, ◌-◌, ◌<◌, ◌≤◌, List, [], ◌++◌, length, refl, sym, ap, subst, ◌∙◌, arith, length-append}
-use Rattle.std.proofs.lemmas.List.{nil_from_length}
+use Rattle.std.proofs.lemmas.List.{append-nil, nil_from_length}
 use Rattle.model.specs.Bounds.{inbox_max}
 use Rattle.std.specs.List.{flat_map}
 use Rattle.model.specs.ReplyText.{reply_text}
@@ -9,11 +9,11 @@ use Rattle.sessions.specs.declared.events.Status.{Status}
 use Rattle.sessions.specs.declared.events.Status.TheVariants.{Absent, Open, Ending, Refused}
 use Rattle.sessions.specs.declared.events.Outcome.{Outcome}
 use Rattle.sessions.specs.declared.events.Outcome.TheVariants.{Done, Memory, Idle}
-use Rattle.sessions.specs.SessionStreams.{SessionStream, Serves, Choice, hub_step}
+use Rattle.sessions.specs.SessionStreams.{HubState, SessionStream, Serves, Choice, hub_step}
 use Rattle.sector.specs.declared.device.Sectors.{Ghosts}
 use Rattle.sessions.specs.declared.hub.Hub.{Hub}
 use Rattle.sessions.specs.Laws.{RunsAlone}
-use Rattle.sessions.specs.StandsFor.{HubLeads, status_in, pending_in, room_in, failures}
+use Rattle.sessions.specs.StandsFor.{StandsFor, HubLeads, status_in, pending_in, room_in, failures}
 use Rattle.stream_driver.specs.declared.answers.Call.TheVariants.{Read, Write}
 use Rattle.stream_driver.specs.declared.answers.ReadAnswer.TheVariants.{Moved, Blocked, Failed, Ended}
 use Rattle.stream_driver.specs.declared.answers.WriteAnswer.TheVariants.{Moved as Wrote, Blocked as WriteBlocked, Failed as WriteFailed}
@@ -23,15 +23,16 @@ use Rattle.stream_driver.specs.declared.driving.Exchange.{Exchange}
 use Rattle.stream_driver.specs.declared.driving.Exchange.TheVariants.{Served, Broke as ExchangeBroke, Starved as ExchangeStarved, Blocked as ExchangeBlocked, Failed as ExchangeFailed, Ended as ExchangeEnded}
 use Rattle.stream_driver.specs.Traffic.{Traffic, AllMoved}
 use Rattle.stream_driver.specs.Sessions.{Point, Runs, AwaitsMore, status_at, pending_at, room_at, inbox_at, inbox_in, IsPresentIn}
-use Rattle.stream_driver.specs.Drives.{Carried, Drove, Departs}
+use Rattle.stream_driver.specs.Drives.{Carried, ComeWithin, Drove, Departs}
 use Rattle.stream_driver.specs.Calls.{Moves, WritesSome, ReadsSome, Flushes, Exchanges, WrittenSoFar, ReadSoFar, DrivenSoFar, DrivenOut, served_in}
 use Rattle.stream_driver.specs.Sends.{LeadsTelling}
 use Rattle.stream_driver.proofs.States.{Follow}
-use Rattle.stream_driver.proofs.Sends.{tells_step}
+use Rattle.stream_driver.proofs.Sends.{tells_step, tells_two_at}
 use Rattle.stream_driver.proofs.Inboxes.{beginning_short}
-use Rattle.stream_driver.proofs.Events.{Happens, point_after, Comes, Answered, IsBroken, IsStarved, Awaits, comes_to, serves_is, served_event, effect, open_present}
+use Rattle.stream_driver.proofs.Events.{Happens, point_after, Comes, Answered, IsBroken, IsStarved, Awaits, comes_to, one_reply, serves_is, served_event, effect, open_present}
 use Rattle.stream_driver.proofs.Answered.{none_called, moved_then, ends_then}
 use Rattle.stream_driver.proofs.Carry.{nothing, alone, and_then}
+use Rattle.stream_driver.proofs.Within.{within_then, within_still, none_in_both, none_is_few}
 
 -- a status that is neither absent nor open
 closed_kinds : (status : Status) → status ≢ Absent → status ≢ Open → {none : List ℕ} → none ≡ [] → (status ≡ Refused) ⊎ ((status ≡ Ending) × (none ≡ []))
@@ -48,25 +49,27 @@ some_more xs n e some = λ none. let long : length xs ≡ 0 = ap length none in 
 
 module _ (s : ℕ) (tells : Type 0) where
   pub written_none : (h : Point) (t : Traffic) (owed : ℕ) → IsPresentIn h.hub s → owed ≡ length (pending_at h.hub s) → WrittenSoFar s tells h t h t owed
-  written_none h t owed present is = record { moves = record { carried = nothing s tells h t present; none_served = refl; status = refl }; moved = none_called t; owed_is = is }
+  written_none h t owed present is = record { moves = record { carried = nothing s tells h t present; none_served = refl; none_replied = refl; status = refl }; moved = none_called t; owed_is = is }
 
   pub read_nothing : (h : Point) (t : Traffic) (room : ℕ) → status_at h.hub s ≡ Open → pending_at h.hub s ≡ [] → room ≡ room_at h.hub s → ReadSoFar s tells h t h t room
   read_nothing h t room is_open none is = record {
-    moves = record { carried = nothing s tells h t (open_present h.hub s is_open); none_served = refl; status = refl };
+    moves = record { carried = nothing s tells h t (open_present h.hub s is_open); none_served = refl; none_replied = refl; status = refl };
     moved = none_called t;
+    none_sent = refl;
     is_open = is_open;
     nothing = none;
     room_is = is;
   }
 
-  pub driven_none : (h : Point) (t : Traffic) → IsPresentIn h.hub s → DrivenSoFar s tells h t h t 0
-  driven_none h t present = record { carried = nothing s tells h t present; moved = none_called t; few = omega arith; served_is = λ _. refl }
+  abbrev pub driven_none : (h : Point) (t : Traffic) → IsPresentIn h.hub s → DrivenSoFar s tells h t h t 0
+  driven_none h t present = record { carried = nothing s tells h t present; moved = none_called t; few = omega arith; served_is = λ _. refl; bounded = tt }
 
   module _ (old : Point) (before : Traffic) (mid : Point) (between : Traffic) (new : Point) (after : Traffic) where
     abbrev pub moves_then : Moves s tells old before mid between → Moves s tells mid between new after → Moves s tells old before new after
     moves_then p q = record {
       carried = and_then s tells old before mid between new after p.carried q.carried;
       none_served = length-append p.carried.runs.history.served q.carried.runs.history.served ∙ (let a = p.none_served in let b = q.none_served in omega arith);
+      none_replied = none_in_both p.carried.runs.history.replies q.carried.runs.history.replies p.none_replied q.none_replied;
       status = q.status ∙ p.status;
     }
 
@@ -98,6 +101,7 @@ module _ (s : ℕ) (tells : Type 0) where
       read_then n q = record {
         moves = moves_then p.moves q.moves;
         moved = moved_then before between after p.moved q.answered.0;
+        none_sent = none_in_both p.moves.carried.runs.history.sent q.moves.carried.runs.history.sent p.none_sent q.none_sent;
         is_open = q.moves.status ∙ p.is_open;
         nothing = q.pending ∙ p.nothing;
         room_is = let was = p.room_is in let left = q.why.1 in omega arith;
@@ -113,6 +117,8 @@ module _ (s : ℕ) (tells : Type 0) where
       read_blocked more q = record {
         carried = (so_far q.moves).carried;
         few = let none = (so_far q.moves).none_served in omega arith;
+        one_reply = none_is_few (so_far q.moves).carried.runs.history.replies (so_far q.moves).none_replied;
+        none_sent = none_in_both p.moves.carried.runs.history.sent q.moves.carried.runs.history.sent p.none_sent q.none_sent;
         why = (ends_then (Read Blocked) before between after p.moved q.answered, subst (λ v. AwaitsMore v s) (sym q.why) more);
       }
 
@@ -120,6 +126,8 @@ module _ (s : ℕ) (tells : Type 0) where
       read_failed more q = record {
         carried = (so_far q.moves).carried;
         few = let none = (so_far q.moves).none_served in omega arith;
+        one_reply = none_is_few (so_far q.moves).carried.runs.history.replies (so_far q.moves).none_replied;
+        none_sent = none_in_both p.moves.carried.runs.history.sent q.moves.carried.runs.history.sent p.none_sent q.none_sent;
         why = (ends_then (Read Failed) before between after p.moved q.answered, subst (λ v. AwaitsMore v s) (sym q.why) more);
       }
 
@@ -127,6 +135,8 @@ module _ (s : ℕ) (tells : Type 0) where
       read_ended more q = record {
         carried = (so_far q.moves).carried;
         few = let none = (so_far q.moves).none_served in omega arith;
+        one_reply = none_is_few (so_far q.moves).carried.runs.history.replies (so_far q.moves).none_replied;
+        none_sent = none_in_both p.moves.carried.runs.history.sent q.moves.carried.runs.history.sent p.none_sent q.none_sent;
         why = (ends_then (Read Ended) before between after p.moved q.answered, subst (λ v. AwaitsMore v s) (sym q.why) more);
       }
 
@@ -167,6 +177,16 @@ module _ (s : ℕ) (tells : Type 0) where
     how_many : length (p.moves.carried.runs.history.served ++ served.history.served) ≡ length served.history.served
     how_many = length-append p.moves.carried.runs.history.served served.history.served ∙ (let a = p.moves.none_served in omega arith)
 
+    reply_few : length (p.moves.carried.runs.history.replies ++ served.history.replies) ≤ 1
+    reply_few =
+        let both = length-append p.moves.carried.runs.history.replies served.history.replies in
+        let zero : length p.moves.carried.runs.history.replies ≡ 0 = ap length p.moves.none_replied in
+        let one = one_reply c.front c mid.hub.machine s st.now in
+        omega arith
+
+    unsent : p.moves.carried.runs.history.sent ++ [] ≡ []
+    unsent = none_in_both p.moves.carried.runs.history.sent [] p.none_sent refl
+
     none_more : served.history.served ≡ [] → length (p.moves.carried.runs.history.served ++ served.history.served) ≤ 1
     none_more unserved = let all = how_many in let zero : length served.history.served ≡ 0 = ap length unserved in omega arith
 
@@ -174,24 +194,24 @@ module _ (s : ℕ) (tells : Type 0) where
     serve_starved e = elim what [
       | Answered o status len ↦ absurd (let bad : Done ≡ Memory = sym o ∙ sym effect_outcome ∙ e in cc)
       | IsBroken o status unserved ↦ absurd (let bad : Done ≡ Memory = sym o ∙ sym effect_outcome ∙ e in cc)
-      | IsStarved o status unserved ↦ record { carried = done; few = none_more unserved; why = (p.moved, status_is ∙ status) }
-      | Awaits o same unserved begins ↦ absurd (let bad : Idle ≡ Memory = sym o ∙ sym effect_outcome ∙ e in cc)
+      | IsStarved o status unserved ↦ record { carried = done; few = none_more unserved; one_reply = reply_few; none_sent = unsent; why = (p.moved, status_is ∙ status) }
+      | Awaits o same unserved unreplied begins ↦ absurd (let bad : Idle ≡ Memory = sym o ∙ sym effect_outcome ∙ e in cc)
     ]
 
     pub serve_open : outcome ≡ Done → status_at new.hub s ≡ Open → Exchanges s tells old before Served new between
     serve_open e is_open = elim what [
-      | Answered o status len ↦ record { carried = done; few = (let all = how_many in omega arith); why = (p.moved, is_open, how_many ∙ len) }
+      | Answered o status len ↦ record { carried = done; few = (let all = how_many in omega arith); one_reply = reply_few; none_sent = unsent; why = (p.moved, is_open, how_many ∙ len) }
       | IsBroken o status unserved ↦ absurd (let bad : Ending ≡ Open = sym status ∙ sym status_is ∙ is_open in cc)
       | IsStarved o status unserved ↦ absurd (let bad : Memory ≡ Done = sym o ∙ sym effect_outcome ∙ e in cc)
-      | Awaits o same unserved begins ↦ absurd (let bad : Idle ≡ Done = sym o ∙ sym effect_outcome ∙ e in cc)
+      | Awaits o same unserved unreplied begins ↦ absurd (let bad : Idle ≡ Done = sym o ∙ sym effect_outcome ∙ e in cc)
     ]
 
     pub serve_closed : outcome ≡ Done → status_at new.hub s ≢ Open → Exchanges s tells old before ExchangeBroke new between
     serve_closed e is_closed = elim what [
       | Answered o status len ↦ absurd (is_closed (status_is ∙ status))
-      | IsBroken o status unserved ↦ record { carried = done; few = none_more unserved; why = (p.moved, status_is ∙ status) }
+      | IsBroken o status unserved ↦ record { carried = done; few = none_more unserved; one_reply = reply_few; none_sent = unsent; why = (p.moved, status_is ∙ status) }
       | IsStarved o status unserved ↦ absurd (let bad : Memory ≡ Done = sym o ∙ sym effect_outcome ∙ e in cc)
-      | Awaits o same unserved begins ↦ absurd (let bad : Idle ≡ Done = sym o ∙ sym effect_outcome ∙ e in cc)
+      | Awaits o same unserved unreplied begins ↦ absurd (let bad : Idle ≡ Done = sym o ∙ sym effect_outcome ∙ e in cc)
     ]
 
     -- the inbox holds the beginning of a request, and has room for more
@@ -200,7 +220,7 @@ module _ (s : ℕ) (tells : Type 0) where
       | Answered o status len ↦ absurd (not_done (effect_outcome ∙ o))
       | IsBroken o status unserved ↦ absurd (not_done (effect_outcome ∙ o))
       | IsStarved o status unserved ↦ absurd (not_memory (effect_outcome ∙ o))
-      | Awaits o same unserved begins ↦
+      | Awaits o same unserved unreplied begins ↦
           let inbox_now : inbox_at new.hub s ≡ st.now.inbox = ap inbox_in served.last_is ∙ ap (λ n. n.inbox) same in
           let pending_now : pending_at new.hub s ≡ [] = ap pending_in served.last_is ∙ ap (λ n. n.pending) same ∙ none in
           let status_now : status_at new.hub s ≡ Open = status_is ∙ ap (λ n. n.status) same ∙ opened in
@@ -208,8 +228,9 @@ module _ (s : ℕ) (tells : Type 0) where
           let short : length st.now.inbox < inbox_max = beginning_short st.now.inbox begins in
           let room_was : room ≡ inbox_max - length st.now.inbox = p.room_is ∙ ap room_in p.moves.carried.runs.last_is in (
             record {
-              moves = record { carried = done; none_served = how_many ∙ ap length unserved; status = status_now ∙ sym p.is_open ∙ p.moves.status };
+              moves = record { carried = done; none_served = how_many ∙ ap length unserved; none_replied = none_in_both p.moves.carried.runs.history.replies served.history.replies p.moves.none_replied unreplied; status = status_now ∙ sym p.is_open ∙ p.moves.status };
               moved = p.moved;
+              none_sent = unsent;
               is_open = status_now;
               nothing = pending_now;
               room_is = p.room_is ∙ sym room_now;
@@ -228,6 +249,19 @@ module _ (s : ℕ) (tells : Type 0) where
     pub total : (q : Carried s tells mid between new after) → served_in (further q) ≡ served_in p.carried + served_in q
     total q = length-append p.carried.runs.history.served q.runs.history.served
 
+    abbrev pending : ℕ
+    pending = length (pending_at old.hub s)
+
+    pub still : (q : Moves s tells mid between new after) → ComeWithin pending (further q.carried).runs.history.replies
+    still q = within_still pending p.carried.runs.history.replies q.carried.runs.history.replies p.bounded q.none_replied
+
+    -- fewer than 262,144 bytes were made so far
+    abbrev pub IsBelow : Type 0
+    IsBelow = pending + length (flat_map reply_text p.carried.runs.history.replies) < 262144
+
+    pub bounded_more : (q : Carried s tells mid between new after) → length q.runs.history.replies ≤ 1 → IsBelow → ComeWithin pending (further q).runs.history.replies
+    bounded_more q few below = within_then pending p.carried.runs.history.replies q.runs.history.replies p.bounded few below
+
     -- the output was written, as far as it goes
     abbrev pub driven_flushed : Moves s tells mid between new after → AllMoved between after → DrivenSoFar s tells old before new after count
     driven_flushed q moved = record {
@@ -239,13 +273,14 @@ module _ (s : ℕ) (tells : Type 0) where
           let first : served_in p.carried ≡ count = p.served_is (sym q.status ∙ is_open) in
           let none = q.none_served in
           all ∙ omega arith;
+      bounded = still q;
     }
 
     abbrev more : (q : Carried s tells mid between new after) → served_in q ≤ 1 → served_in (further q) ≤ count + 1
     more q few = let all = total q in omega (arith, p.few)
 
-    abbrev pub driven_served : status_at mid.hub s ≡ Open → Exchanges s tells mid between Served new after → DrivenSoFar s tells old before new after (count + 1)
-    driven_served was_open q = record {
+    abbrev pub driven_served : IsBelow → status_at mid.hub s ≡ Open → Exchanges s tells mid between Served new after → DrivenSoFar s tells old before new after (count + 1)
+    driven_served below was_open q = record {
       carried = further q.carried;
       moved = moved_then before between after p.moved q.why.0;
       few = more q.carried q.few;
@@ -254,14 +289,16 @@ module _ (s : ℕ) (tells : Type 0) where
           let first : served_in p.carried ≡ count = p.served_is was_open in
           let one : served_in q.carried ≡ 1 = q.why.2 in
           all ∙ omega arith;
+      bounded = bounded_more q.carried q.one_reply below;
     }
 
-    abbrev pub driven_broke : Exchanges s tells mid between ExchangeBroke new after → DrivenSoFar s tells old before new after (count + 1)
-    driven_broke q = record {
+    abbrev pub driven_broke : IsBelow → Exchanges s tells mid between ExchangeBroke new after → DrivenSoFar s tells old before new after (count + 1)
+    driven_broke below q = record {
       carried = further q.carried;
       moved = moved_then before between after p.moved q.why.0;
       few = more q.carried q.few;
       served_is = λ is_open. absurd (let bad : Open ≡ Ending = sym is_open ∙ q.why.1 in cc);
+      bounded = bounded_more q.carried q.one_reply below;
     }
 
     few_flushed : count ≤ 64 → (q : Moves s tells mid between new after) → served_in (further q.carried) ≤ 64
@@ -275,15 +312,17 @@ module _ (s : ℕ) (tells : Type 0) where
       last = new;
       carried = further q.moves.carried;
       few = few_flushed le q.moves;
+      bounded = still q.moves;
       ends = refl;
       why = inl (ends_then (Write WriteBlocked) before between after p.moved q.why.0, q.why.1);
     }
 
-    pub waits_to_read : count < 64 → Exchanges s tells mid between ExchangeBlocked new after → Drove s tells old before Waiting new after
-    waits_to_read lt q = record {
+    pub waits_to_read : IsBelow → count < 64 → Exchanges s tells mid between ExchangeBlocked new after → Drove s tells old before Waiting new after
+    waits_to_read below lt q = record {
       last = new;
       carried = further q.carried;
       few = few_served lt q.carried q.few;
+      bounded = bounded_more q.carried q.one_reply below;
       ends = refl;
       why = inr (ends_then (Read Blocked) before between after p.moved q.why.0, q.why.1);
     }
@@ -294,16 +333,18 @@ module _ (s : ℕ) (tells : Type 0) where
         last = new;
         carried = further q.moves.carried;
         few = few_flushed le q.moves;
+        bounded = still q.moves;
         ends = departs;
         why = inr (inl (ends_then (Write WriteFailed) before between after p.moved q.why.0, q.why.1));
       }
 
-      module _ (lt : count < 64) where
+      module _ (below : IsBelow) (lt : count < 64) where
         gone_reading : Exchanges s tells mid between ExchangeFailed new after → Drove s tells old before Gone gone after
         gone_reading q = record {
           last = new;
           carried = further q.carried;
           few = few_served lt q.carried q.few;
+          bounded = bounded_more q.carried q.one_reply below;
           ends = departs;
           why = inl (ends_then (Read Failed) before between after p.moved q.why.0, q.why.1);
         }
@@ -313,6 +354,7 @@ module _ (s : ℕ) (tells : Type 0) where
           last = new;
           carried = further q.carried;
           few = few_served lt q.carried q.few;
+          bounded = bounded_more q.carried q.one_reply below;
           ends = departs;
           why = inr (inr (inl (ends_then (Read Ended) before between after p.moved q.why.0, q.why.1)));
         }
@@ -322,6 +364,7 @@ module _ (s : ℕ) (tells : Type 0) where
           last = new;
           carried = further q.carried;
           few = few_served lt q.carried q.few;
+          bounded = bounded_more q.carried q.one_reply below;
           ends = departs;
           why = inr (inr (inr (moved_then before between after p.moved q.why.0, inl q.why.1)));
         }
@@ -341,37 +384,9 @@ module _ (s : ℕ) (tells : Type 0) where
         last = new;
         carried = further q.moves.carried;
         few = few_flushed le q.moves;
+        bounded = still q.moves;
         ends = departs;
         why = inr (inr (inr (moved_then before between after p.moved q.why.0, closed_kinds (status_at new.hub s) q.moves.carried.runs.present is_closed q.why.1)));
-      }
-
-    -- what was pending has left
-    pub flushed_out : (q : Flushes s tells mid between Empty new after) → length (pending_at mid.hub s) ≤ length q.moves.carried.runs.history.sent
-    flushed_out q =
-        let runs = q.moves.carried.runs in
-        let whole : length (runs.history.sent ++ runs.last.now.pending) ≡ length (runs.first.now.pending ++ flat_map reply_text runs.history.replies) = ap length runs.history.texts in
-        let left : length (runs.history.sent ++ runs.last.now.pending) ≡ length runs.history.sent + length runs.last.now.pending = length-append runs.history.sent runs.last.now.pending in
-        let right : length (runs.first.now.pending ++ flat_map reply_text runs.history.replies) ≡ length runs.first.now.pending + length (flat_map reply_text runs.history.replies) =
-        length-append runs.first.now.pending (flat_map reply_text runs.history.replies) in
-        let none : length runs.last.now.pending ≡ 0 = ap length (sym (ap pending_in runs.last_is) ∙ q.why.1) in
-        let was : length (pending_at mid.hub s) ≡ length runs.first.now.pending = ap (λ o. length (pending_in o)) runs.first_is in
-        omega arith
-
-    module _ (sent owed total : ℕ) (some : sent ≤ length p.carried.runs.history.sent) (owed_is : owed ≡ length (pending_at mid.hub s)) (total_is : total ≤ sent + owed) (q : Flushes s tells mid between Empty new after) where
-      pub out_flushed : total ≤ length (p.carried.runs.history.sent ++ q.moves.carried.runs.history.sent)
-      out_flushed =
-          let both : length (p.carried.runs.history.sent ++ q.moves.carried.runs.history.sent) ≡ length p.carried.runs.history.sent + length q.moves.carried.runs.history.sent =
-          length-append p.carried.runs.history.sent q.moves.carried.runs.history.sent in
-          let left = flushed_out q in
-          omega arith
-
-      pub again_full : count ≤ 64 → 262144 ≤ total → status_at new.hub s ≡ Open → Drove s tells old before Again new after
-      again_full le enough is_open = record {
-        last = new;
-        carried = further q.moves.carried;
-        few = few_flushed le q.moves;
-        ends = refl;
-        why = (moved_then before between after p.moved q.why.0, inr (let all = out_flushed in omega arith), is_open, q.why.1);
       }
 
     pub again : Flushes s tells mid between Empty new after → count ≡ 64 → status_at new.hub s ≡ Open → Drove s tells old before Again new after
@@ -379,27 +394,78 @@ module _ (s : ℕ) (tells : Type 0) where
       last = new;
       carried = further q.moves.carried;
       few = few_flushed (omega arith) q.moves;
+      bounded = still q.moves;
       ends = refl;
       why = (moved_then before between after p.moved q.why.0, inl ((driven_flushed q.moves q.why.0).served_is is_open ∙ all), is_open, q.why.1);
     }
 
--- one more request, once what was pending has left
-module _ (s : ℕ) (tells : Type 0) (old : Point) (before : Traffic) (mid : Point) (between : Traffic) (flushed : Point) (behind : Traffic) (new : Point) (after : Traffic) (count sent owed total : ℕ)
-    (p : DrivenOut s tells old before mid between count sent) (owed_is : owed ≡ length (pending_at mid.hub s)) (total_is : total ≤ sent + owed) (q : Flushes s tells mid between Empty flushed behind) where
-  more_out : (r : Carried s tells flushed behind new after) → total ≤ length ((p.driven.carried.runs.history.sent ++ q.moves.carried.runs.history.sent) ++ r.runs.history.sent)
-  more_out r =
-      let first = out_flushed s tells old before mid between flushed behind count p.driven sent owed total p.out owed_is total_is q in
-      let both = length-append (p.driven.carried.runs.history.sent ++ q.moves.carried.runs.history.sent) r.runs.history.sent in
+-- ---- a request, once what was pending has left
+
+module _ (s : ℕ) (tells : Type 0) where
+  -- what was pending and all that was made has left
+  all_sent : (old : Point) (before : Traffic) (new : Point) (after : Traffic) (q : Carried s tells old before new after) → pending_at new.hub s ≡ []
+      → length (pending_at old.hub s) + length (flat_map reply_text q.runs.history.replies) ≡ length q.runs.history.sent
+  all_sent old before new after q nothing =
+      let runs = q.runs in
+      let whole : length (runs.history.sent ++ runs.last.now.pending) ≡ length (runs.first.now.pending ++ flat_map reply_text runs.history.replies) = ap length runs.history.texts in
+      let left = length-append runs.history.sent runs.last.now.pending in
+      let right = length-append runs.first.now.pending (flat_map reply_text runs.history.replies) in
+      let none : length runs.last.now.pending ≡ 0 = ap length (sym (ap pending_in runs.last_is) ∙ nothing) in
+      let was : length (pending_at old.hub s) ≡ length runs.first.now.pending = ap (λ o. length (pending_in o)) runs.first_is in
       omega arith
 
-  abbrev sofar : DrivenSoFar s tells old before flushed behind count
-  sofar = driven_flushed s tells old before mid between flushed behind count p.driven q.moves q.why.0
+  -- nothing is pending, and so many bytes were sent
+  pub record FlushedOut (old : Point) (before : Traffic) (new : Point) (after : Traffic) (count total : ℕ) : Type 0 where
+    pub driven : DrivenSoFar s tells old before new after count
+    pub nothing : pending_at new.hub s ≡ []
+    pub out : total ≡ length driven.carried.runs.history.sent
 
-  pub out_served : status_at flushed.hub s ≡ Open → Exchanges s tells flushed behind Served new after → DrivenOut s tells old before new after (count + 1) total
-  out_served is_open r = record { driven = driven_served s tells old before flushed behind new after count sofar is_open r; out = more_out r.carried }
+  module _ (old : Point) (before : Traffic) (mid : Point) (between : Traffic) (new : Point) (after : Traffic) (count : ℕ) where
+    pub out_flushed : (sent owed total : ℕ) → owed ≡ length (pending_at mid.hub s) → total ≡ sent + owed → DrivenOut s tells old before mid between count sent → Flushes s tells mid between Empty new after
+        → FlushedOut old before new after count total
+    out_flushed sent owed total owed_is total_is p q = record {
+      driven = driven_flushed s tells old before mid between new after count p.driven q.moves q.why.0;
+      nothing = q.why.1;
+      out =
+          let was = p.out in
+          let both = length-append p.driven.carried.runs.history.sent q.moves.carried.runs.history.sent in
+          let left = all_sent mid between new after q.moves.carried q.why.1 in
+          let none : length (flat_map reply_text q.moves.carried.runs.history.replies) ≡ 0 = ap (λ rs. length (flat_map reply_text rs)) q.moves.none_replied in
+          omega arith;
+    }
 
-  pub out_broke : Exchanges s tells flushed behind ExchangeBroke new after → DrivenOut s tells old before new after (count + 1) total
-  out_broke r = record { driven = driven_broke s tells old before flushed behind new after count sofar r; out = more_out r.carried }
+    module _ (total : ℕ) (p : FlushedOut old before mid between count total) where
+      pub again_full : count ≤ 64 → 262144 ≤ total → status_at mid.hub s ≡ Open → Drove s tells old before Again mid between
+      again_full le enough is_open = record {
+        last = mid;
+        carried = p.driven.carried;
+        few = let few = p.driven.few in omega arith;
+        bounded = p.driven.bounded;
+        ends = refl;
+        why = (p.driven.moved, inr (let out = p.out in omega arith), is_open, p.nothing);
+      }
+
+      module _ (room : total < 262144) where
+        pub is_below : IsBelow s tells old before mid between new after count p.driven
+        is_below = let all = all_sent old before mid between p.driven.carried p.nothing in let out = p.out in omega arith
+
+        sent_still : (r : Carried s tells mid between new after) → r.runs.history.sent ≡ [] → total ≡ length (p.driven.carried.runs.history.sent ++ r.runs.history.sent)
+        sent_still r none = p.out ∙ ap length (sym (append-nil p.driven.carried.runs.history.sent) ∙ ap (λ l. p.driven.carried.runs.history.sent ++ l) (sym none))
+
+        pub out_served : status_at mid.hub s ≡ Open → Exchanges s tells mid between Served new after → DrivenOut s tells old before new after (count + 1) total
+        out_served is_open r = record { driven = driven_served s tells old before mid between new after count p.driven is_below is_open r; out = sent_still r.carried r.none_sent }
+
+        pub out_broke : Exchanges s tells mid between ExchangeBroke new after → DrivenOut s tells old before new after (count + 1) total
+        out_broke r = record { driven = driven_broke s tells old before mid between new after count p.driven is_below r; out = sent_still r.carried r.none_sent }
+
+-- from hub to hub
+pub flushes_out : {D : Type 0} {g : Ghosts D} → Follow D g → (a b c : Hub D g) (s : ℕ) (tells : Type 0) (before between behind : Traffic) (count sent owed total : ℕ)
+    → ((h : HubState) → StandsFor b h → owed ≡ length (pending_at h s)) → total ≡ sent + owed
+    → LeadsTelling s tells a before b between (λ h k. DrivenOut s tells h before k between count sent) → LeadsTelling s tells b between c behind (λ k l. Flushes s tells k between Empty l behind)
+    → LeadsTelling s tells a before c behind (λ h l. FlushedOut s tells h before l behind count total)
+flushes_out follow a b c s tells before between behind count sent owed total owed_is total_is p q =
+    tells_two_at s tells follow a b c before between behind _ _ (λ h l. FlushedOut s tells h before l behind count total) p q (λ h k x. x.driven.carried)
+    (λ h k l was stands x y. out_flushed s tells h before k between l behind count sent owed total (owed_is k.hub was) total_is x y)
 
 -- a request was looked for, and there is only the beginning of one
 abbrev pub HasRead : ℕ → Type 0 → Traffic → Traffic → ℕ → Point → Point → Type 0

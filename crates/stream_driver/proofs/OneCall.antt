@@ -46,6 +46,7 @@ module _ {D : Type 0} {g : Ghosts D} (hub new : Hub D g) (s : ℕ) (tells : Type
             in_turn = (tt, tt);
           };
           none_served = refl;
+          none_replied = refl;
           status = ap status_in runs.last_is ∙ sym (ap status_in is);
         };
         answered = calls;
@@ -79,8 +80,10 @@ module _ {D : Type 0} {g : Ghosts D} (hub new : Hub D g) (s : ℕ) (tells : Type
             in_turn = (awaits, tt);
           };
           none_served = refl;
+          none_replied = refl;
           status = ap status_in runs.last_is ∙ sym (ap status_in is);
         };
+        none_sent = refl;
         pending = ap pending_in runs.last_is ∙ sym (ap pending_in is);
         answered = calls;
         why =
@@ -97,12 +100,12 @@ module _ {D : Type 0} {g : Ghosts D} (hub : Hub D g) (none : NoneRuns hub) (s : 
       → Leads hub hub (λ h k. WritesSome s tells h b answer k a)
   wrote_none (Wrote n) differs here from given taken calls = absurd (differs n refl)
   wrote_none WriteBlocked differs here from given taken calls = leads_none hub none _ (λ h stands. record {
-    moves = record { carried = answered s tells h b a (here h.hub stands.state) (λ t. given t ∙ sym (append-nil b.given)) taken; none_served = refl; status = refl };
+    moves = record { carried = answered s tells h b a (here h.hub stands.state) (λ t. given t ∙ sym (append-nil b.given)) taken; none_served = refl; none_replied = refl; status = refl };
     answered = calls;
     why = refl;
   })
   wrote_none WriteFailed differs here from given taken calls = leads_none hub none _ (λ h stands. record {
-    moves = record { carried = answered s tells h b a (here h.hub stands.state) (λ t. given t ∙ sym (append-nil b.given)) taken; none_served = refl; status = refl };
+    moves = record { carried = answered s tells h b a (here h.hub stands.state) (λ t. given t ∙ sym (append-nil b.given)) taken; none_served = refl; none_replied = refl; status = refl };
     answered = calls;
     why = refl;
   })
@@ -112,19 +115,22 @@ module _ {D : Type 0} {g : Ghosts D} (hub : Hub D g) (none : NoneRuns hub) (s : 
         → Leads hub hub (λ h k. AwaitsMore h.hub s → ReadsSome s tells h b answer k a)
     read_none (Moved n) differs given calls = absurd (differs n refl)
     read_none Blocked differs given calls = leads_none hub none _ (λ h stands. λ awaits. record {
-      moves = record { carried = answered s tells h b a (open_present h.hub s (here h.hub stands.state)) given (λ t. taken t ∙ sym (append-nil b.taken)); none_served = refl; status = refl };
+      moves = record { carried = answered s tells h b a (open_present h.hub s (here h.hub stands.state)) given (λ t. taken t ∙ sym (append-nil b.taken)); none_served = refl; none_replied = refl; status = refl };
+      none_sent = refl;
       pending = refl;
       answered = calls;
       why = refl;
     })
     read_none Failed differs given calls = leads_none hub none _ (λ h stands. λ awaits. record {
-      moves = record { carried = answered s tells h b a (open_present h.hub s (here h.hub stands.state)) given (λ t. taken t ∙ sym (append-nil b.taken)); none_served = refl; status = refl };
+      moves = record { carried = answered s tells h b a (open_present h.hub s (here h.hub stands.state)) given (λ t. taken t ∙ sym (append-nil b.taken)); none_served = refl; none_replied = refl; status = refl };
+      none_sent = refl;
       pending = refl;
       answered = calls;
       why = refl;
     })
     read_none Ended differs given calls = leads_none hub none _ (λ h stands. λ awaits. record {
-      moves = record { carried = answered s tells h b a (open_present h.hub s (here h.hub stands.state)) given (λ t. taken t ∙ sym (append-nil b.taken)); none_served = refl; status = refl };
+      moves = record { carried = answered s tells h b a (open_present h.hub s (here h.hub stands.state)) given (λ t. taken t ∙ sym (append-nil b.taken)); none_served = refl; none_replied = refl; status = refl };
+      none_sent = refl;
       pending = refl;
       answered = calls;
       why = refl;

@@ -1,20 +1,18 @@
 -- The turns of a walk over the table.
-use Rattle.std.proofs.Common.{◌≡◌, ◌≢◌, ◌⊎◌, inl, inr, ℕ, ◌+◌, ◌<◌, ◌≤◌, List, [], ◌∷◌, ◌++◌, length, set, take, drop, get_or, refl, sym, ap, subst, ◌∙◌, arith, Option, Some, None, add-zero}
+use Rattle.std.proofs.Common.{◌≡◌, ◌≢◌, inl, inr, ℕ, ◌+◌, ◌<◌, ◌≤◌, List, [], ◌∷◌, ◌++◌, length, set, take, drop, get_or, refl, sym, ap, subst, ◌∙◌, arith, Option, Some, None, add-zero}
 use Rattle.std.proofs.lemmas.Bool.{cases_lt}
 use Rattle.std.proofs.lemmas.List.{take_all, take_more, take_more_set, get_or-drop, drop-drop, drop-set-lt, length-set}
 use Rattle.sector.specs.declared.device.Sectors.{Ghosts}
 use Rattle.sessions.specs.declared.hub.Hub.{Hub}
-use Rattle.sessions.specs.SessionStreams.{stream_of}
 use Rattle.sessions.specs.Laws.{NoneRuns}
 use Rattle.sessions.specs.StandsFor.{status_in}
 use Rattle.stream_driver.specs.declared.answers.Progress.{Progress}
-use Rattle.stream_driver.specs.declared.answers.Progress.TheVariants.{Waiting, Again, Gone}
 use Rattle.stream_driver.specs.declared.entries.EntryState.{EntryState}
 use Rattle.stream_driver.specs.declared.entries.EntryState.TheVariants.{Idle, Ready, Gone as EntryGone}
 use Rattle.stream_driver.specs.declared.entries.Entry.{Entry}
 use Rattle.stream_driver.specs.Traffic.{Traffic}
 use Rattle.stream_driver.specs.Sessions.{Point, Leads, IsPresent, IsPresentIn}
-use Rattle.stream_driver.specs.Drives.{Drove, EndsAs}
+use Rattle.stream_driver.specs.Drives.{Drove}
 use Rattle.stream_driver.specs.Entries.{HaveSessions, DrivenEntry, DrivenIn, DrivenSlot, DrivenAll, EntriesSoFar, state_after}
 use Rattle.stream_driver.specs.Sends.{DrivesTelling, LeadsTelling}
 use Rattle.stream_driver.proofs.OneEntry.{below, entry_other, entry_present, get_set}

@@ -1,5 +1,6 @@
 -- A stream that holds what it has taken, before another one.
-use Rattle.std.specs.Prelude.{◌≡◌, ◌⊎◌, ◌-◌, ◌<◌, ◌≤◌, ◌++◌, ◌||◌, ◌≢◌, ◌↔◌, ℕ, Bool, true, false, List, [], ◌∷◌, Some, take, drop, length, vec_len}
+use Rattle.std.specs.Prelude.{◌≡◌, ◌⊎◌, ◌-◌, ◌<◌, ◌≤◌, ◌++◌, ◌||◌, ◌≢◌, ◌↔◌, ℕ, Bool, true, false, List, [], ◌∷◌, take, drop, length, vec_len}
+use Rattle.stream_driver.specs.declared.answers.Call.{Call}
 use Rattle.stream_driver.specs.declared.answers.Call.TheVariants.{Read, Write}
 use Rattle.stream_driver.specs.declared.answers.ReadAnswer.{ReadAnswer}
 use Rattle.stream_driver.specs.declared.answers.ReadAnswer.TheVariants.{Moved, Blocked, Failed, Ended}
@@ -10,7 +11,7 @@ use Rattle.stream_driver.specs.declared.buffered.Counts.{Counts}
 use Rattle.stream_driver.specs.declared.buffered.Flushed.{Flushed}
 use Rattle.stream_driver.specs.declared.buffered.Flushed.TheVariants.{All, Blocked as FlushBlocked, Failed as FlushFailed}
 use Rattle.stream_driver.specs.declared.buffered.BufferedStream.{BufferedStream}
-use Rattle.stream_driver.specs.Traffic.{Departure, DepartAt, Traffic, ReadsWithin, WritesWithin, bytes_read, bytes_written, untouched}
+use Rattle.stream_driver.specs.Traffic.{AllMoved, Departure, DepartAt, EndsWith, Traffic, ReadsWithin, WritesWithin, bytes_read, bytes_written, untouched}
 
 -- the bytes that are held
 abbrev pub held_in : Held → List ℕ
@@ -128,41 +129,51 @@ module _ {T : Type 0} where
   ReadFails old Failed new = HasFailed new ⊎ ((held_in new.held ≡ []) × StaysFailed old new)
   ReadFails old Ended new = StaysFailed old new
 
-  -- there is room for more, or the stream behind blocked or failed last
-  abbrev pub WhyRoom : (T → Traffic) → Flushed → BufferedStream T → Type 0
-  WhyRoom traffic All new = 0 < room_in new.held
-  WhyRoom traffic FlushBlocked new = (traffic new.inner).last ≡ Some (Write WriteBlocked)
-  WhyRoom traffic FlushFailed new = (traffic new.inner).last ≡ Some (Write WriteFailed)
+  module _ (traffic : T → Traffic) where
+    -- each call of the stream behind moved bytes, if there was one
+    abbrev pub BehindMoved : BufferedStream T → BufferedStream T → Type 0
+    BehindMoved old new = AllMoved (traffic old.inner) (traffic new.inner)
 
-  -- why bytes were not taken: the stream behind blocked or failed last
-  abbrev pub WhyTook : (T → Traffic) → WriteAnswer → BufferedStream T → Type 0
-  WhyTook traffic (Wrote n) new = Unit {0}
-  WhyTook traffic WriteBlocked new = (traffic new.inner).last ≡ Some (Write WriteBlocked)
-  WhyTook traffic WriteFailed new = (traffic new.inner).last ≡ Some (Write WriteFailed)
+    -- the last call of the stream behind was this one, and each before it moved bytes
+    abbrev pub BehindEnds : Call → BufferedStream T → BufferedStream T → Type 0
+    BehindEnds call old new = EndsWith call (traffic old.inner) (traffic new.inner)
 
-  -- Why a read answers so. The stream behind was read once nothing was held, and nothing else came after; or it blocked or failed as
-  -- what is held was written; or it was not read, since it gave fewer bytes than it was asked for before.
-  abbrev pub WhyGave : (T → Traffic) → BufferedStream T → ReadAnswer → BufferedStream T → Type 0
-  WhyGave traffic old (Moved n) new = (held_in new.held ≡ []) × ((traffic new.inner).last ≡ Some (Read (Moved n)))
-  WhyGave traffic old Ended new = (held_in new.held ≡ []) × ((traffic new.inner).last ≡ Some (Read Ended))
-  WhyGave traffic old Failed new =
-      ((held_in new.held ≡ []) × ((traffic new.inner).last ≡ Some (Read Failed))) ⊎ ((traffic new.inner).last ≡ Some (Write WriteFailed))
-  WhyGave traffic old Blocked new =
-      ((held_in new.held ≡ []) × (((traffic new.inner).last ≡ Some (Read Blocked)) ⊎ (old.is_drained ≡ true)))
-      ⊎ ((traffic new.inner).last ≡ Some (Write WriteBlocked))
+    -- there is room for more, or the stream behind blocked or failed
+    abbrev pub WhyRoom : BufferedStream T → Flushed → BufferedStream T → Type 0
+    WhyRoom old All new = (0 < room_in new.held) × BehindMoved old new
+    WhyRoom old FlushBlocked new = BehindEnds (Write WriteBlocked) old new
+    WhyRoom old FlushFailed new = BehindEnds (Write WriteFailed) old new
 
-  -- One write of what is held: so much has left, or the stream behind blocked or failed, and all is held still. It has failed after
-  -- the stream behind failed, and no more after some has left.
-  abbrev pub WhyWroteHeld : (T → Traffic) → BufferedStream T → WriteAnswer → BufferedStream T → Type 0
-  WhyWroteHeld traffic old (Wrote n) new = (0 < n) × (n ≤ length (held_in old.held)) × (held_in new.held ≡ drop n (held_in old.held)) × (new.has_failed ≡ false)
-  WhyWroteHeld traffic old WriteBlocked new = (held_in new.held ≡ held_in old.held) × ((traffic new.inner).last ≡ Some (Write WriteBlocked)) × (new.has_failed ≡ old.has_failed)
-  WhyWroteHeld traffic old WriteFailed new = (held_in new.held ≡ held_in old.held) × ((traffic new.inner).last ≡ Some (Write WriteFailed)) × (new.has_failed ≡ true)
+    -- why bytes were not taken: the stream behind blocked or failed
+    abbrev pub WhyTook : BufferedStream T → WriteAnswer → BufferedStream T → Type 0
+    WhyTook old (Wrote n) new = BehindMoved old new
+    WhyTook old WriteBlocked new = BehindEnds (Write WriteBlocked) old new
+    WhyTook old WriteFailed new = BehindEnds (Write WriteFailed) old new
 
-  -- why no more of what is held was written: nothing is held, or the stream behind blocked or failed last
-  abbrev pub WhyFlushed : (T → Traffic) → Flushed → BufferedStream T → Type 0
-  WhyFlushed traffic All new = held_in new.held ≡ []
-  WhyFlushed traffic FlushBlocked new = (traffic new.inner).last ≡ Some (Write WriteBlocked)
-  WhyFlushed traffic FlushFailed new = (traffic new.inner).last ≡ Some (Write WriteFailed)
+    -- the stream behind was read once nothing was held, in a drive that hadn't read all that is there
+    abbrev pub WasRead : BufferedStream T → ReadAnswer → BufferedStream T → Type 0
+    WasRead old answer new = (old.is_drained ≡ false) × (held_in new.held ≡ []) × BehindEnds (Read answer) old new
+
+    -- Why a read answers so. The stream behind was read, and answered that; or it blocked or failed as what is held was written; or this
+    -- drive had read all that is there, and it wasn't read.
+    abbrev pub WhyGave : BufferedStream T → ReadAnswer → BufferedStream T → Type 0
+    WhyGave old (Moved n) new = WasRead old (Moved n) new
+    WhyGave old Ended new = WasRead old Ended new
+    WhyGave old Failed new = WasRead old Failed new ⊎ BehindEnds (Write WriteFailed) old new
+    WhyGave old Blocked new = WasRead old Blocked new ⊎ (BehindEnds (Write WriteBlocked) old new ⊎ ((old.is_drained ≡ true) × (held_in new.held ≡ []) × BehindMoved old new))
+
+    -- One write of what is held: so much has left, or the stream behind blocked or failed, and all is held still. It has failed after
+    -- the stream behind failed, and no more after some has left.
+    abbrev pub WhyWroteHeld : BufferedStream T → WriteAnswer → BufferedStream T → Type 0
+    WhyWroteHeld old (Wrote n) new = (0 < n) × (n ≤ length (held_in old.held)) × (held_in new.held ≡ drop n (held_in old.held)) × (new.has_failed ≡ false) × BehindMoved old new
+    WhyWroteHeld old WriteBlocked new = (held_in new.held ≡ held_in old.held) × BehindEnds (Write WriteBlocked) old new × (new.has_failed ≡ old.has_failed)
+    WhyWroteHeld old WriteFailed new = (held_in new.held ≡ held_in old.held) × BehindEnds (Write WriteFailed) old new × (new.has_failed ≡ true)
+
+    -- why no more of what is held was written: nothing is held, or the stream behind blocked or failed
+    abbrev pub WhyFlushed : BufferedStream T → Flushed → BufferedStream T → Type 0
+    WhyFlushed old All new = (held_in new.held ≡ []) × BehindMoved old new
+    WhyFlushed old FlushBlocked new = BehindEnds (Write WriteBlocked) old new
+    WhyFlushed old FlushFailed new = BehindEnds (Write WriteFailed) old new
 
   module _ (tells : Type 0) (traffic : T → Traffic) (moment : ℕ) where
     -- no byte came or went, lost or twice
@@ -181,7 +192,7 @@ module _ {T : Type 0} where
 
     pub record Flushes (old : BufferedStream T) (answer : Flushed) (new : BufferedStream T) : Type 0 where
       pub kept : KeepsBytes old new
-      pub why : WhyFlushed traffic answer new
+      pub why : WhyFlushed traffic old answer new
       pub failed : FlushFails old answer new
 
     -- what is held is written, unless the stream behind failed to take it
@@ -194,7 +205,7 @@ module _ {T : Type 0} where
       pub taken : tells → (traffic new.inner).taken ++ held_in new.held ≡ ((traffic old.inner).taken ++ held_in old.held) ++ take (bytes_written answer) from
       pub departed : tells → DepartAt moment (traffic_through traffic old) (traffic_through traffic new)
       pub counts : new.counts ≡ old.counts
-      pub why : WhyTook traffic answer new
+      pub why : WhyTook traffic old answer new
       pub failed : WriteFails old answer new
       pub short : new.is_short ≡ old.is_short
       pub drained : new.is_drained ≡ old.is_drained

@@ -13,16 +13,17 @@ use Rattle.stream_driver.specs.declared.driving.Exchange.{Exchange}
 use Rattle.stream_driver.specs.declared.driving.Exchange.TheVariants.{Served, Broke, Starved, Blocked as ExchangeBlocked, Failed as ExchangeFailed, Ended as ExchangeEnded}
 use Rattle.stream_driver.specs.Traffic.{Traffic, AllMoved, EndsWith}
 use Rattle.stream_driver.specs.Sessions.{Point, status_at, room_at, pending_at, AwaitsMore}
-use Rattle.stream_driver.specs.Drives.{Carried}
+use Rattle.stream_driver.specs.Drives.{Carried, ComeWithin}
 
 -- how many requests were served
 abbrev pub served_in : {s : ℕ} {tells : Type 0} {old : Point} {before : Traffic} {new : Point} {after : Traffic} → Carried s tells old before new after → ℕ
 served_in c = length c.runs.history.served
 
--- nothing was served, and the session stands as it stood
+-- nothing was served or replied, and the session stands as it stood
 pub record Moves (s : ℕ) (tells : Type 0) (old : Point) (before : Traffic) (new : Point) (after : Traffic) : Type 0 where
   pub carried : Carried s tells old before new after
   pub none_served : served_in carried ≡ 0
+  pub none_replied : carried.runs.history.replies ≡ []
   pub status : status_at new.hub s ≡ status_at old.hub s
 
 -- one write
@@ -55,6 +56,7 @@ WhyRead s old new Ended = new ≡ old
 
 pub record ReadsSome (s : ℕ) (tells : Type 0) (old : Point) (before : Traffic) (answer : ReadAnswer) (new : Point) (after : Traffic) : Type 0 where
   pub moves : Moves s tells old before new after
+  pub none_sent : moves.carried.runs.history.sent ≡ []
   pub pending : pending_at new.hub s ≡ pending_at old.hub s
   pub answered : EndsWith (Read answer) before after
   pub why : WhyRead s old.hub new.hub answer
@@ -71,6 +73,8 @@ WhyExchanged s new before after served ExchangeEnded = EndsWith (Read Ended) bef
 pub record Exchanges (s : ℕ) (tells : Type 0) (old : Point) (before : Traffic) (answer : Exchange) (new : Point) (after : Traffic) : Type 0 where
   pub carried : Carried s tells old before new after
   pub few : served_in carried ≤ 1
+  pub one_reply : length carried.runs.history.replies ≤ 1
+  pub none_sent : carried.runs.history.sent ≡ []
   pub why : WhyExchanged s new.hub before after (served_in carried) answer
 
 -- between two writes: so much is pending
@@ -83,6 +87,7 @@ pub record WrittenSoFar (s : ℕ) (tells : Type 0) (old : Point) (before : Traff
 pub record ReadSoFar (s : ℕ) (tells : Type 0) (old : Point) (before : Traffic) (new : Point) (after : Traffic) (room : ℕ) : Type 0 where
   pub moves : Moves s tells old before new after
   pub moved : AllMoved before after
+  pub none_sent : moves.carried.runs.history.sent ≡ []
   pub is_open : status_at new.hub s ≡ Open
   pub nothing : pending_at new.hub s ≡ []
   pub room_is : room ≡ room_at new.hub s
@@ -93,8 +98,9 @@ pub record DrivenSoFar (s : ℕ) (tells : Type 0) (old : Point) (before : Traffi
   pub moved : AllMoved before after
   pub few : served_in carried ≤ served
   pub served_is : status_at new.hub s ≡ Open → served_in carried ≡ served
+  pub bounded : ComeWithin (length (pending_at old.hub s)) carried.runs.history.replies
 
--- and at least so many bytes were sent
+-- and so many bytes were sent
 pub record DrivenOut (s : ℕ) (tells : Type 0) (old : Point) (before : Traffic) (new : Point) (after : Traffic) (served sent : ℕ) : Type 0 where
   pub driven : DrivenSoFar s tells old before new after served
-  pub out : sent ≤ length driven.carried.runs.history.sent
+  pub out : sent ≡ length driven.carried.runs.history.sent

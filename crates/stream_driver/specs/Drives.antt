@@ -1,5 +1,7 @@
 -- What a drive does to the hub and to the stream.
-use Rattle.std.specs.Prelude.{◌≡◌, ◌≢◌, ◌⊎◌, ℕ, ◌≤◌, [], ◌∷◌, ◌++◌, length}
+use Rattle.std.specs.Prelude.{◌≡◌, ◌≢◌, ◌⊎◌, ℕ, ◌+◌, ◌<◌, ◌≤◌, List, [], ◌∷◌, ◌++◌, length}
+use Rattle.model.specs.Operations.{Response}
+use Rattle.model.specs.ReplyText.{reply_text}
 use Rattle.sessions.specs.declared.events.Status.TheVariants.{Open, Ending, Refused}
 use Rattle.engine.specs.Meaning.{has_risen}
 use Rattle.sessions.specs.SessionStreams.{HubState, Leaves, Choice}
@@ -44,10 +46,16 @@ EndsAs s last new Waiting = new ≡ last
 EndsAs s last new Again = new ≡ last
 EndsAs s last new Gone = Departs s last new
 
--- one drive: at most 64 requests were served
+-- once so many bytes were sent: each of these replies is made while fewer than 262,144 bytes were
+abbrev pub ComeWithin : ℕ → List Response → Type 0
+ComeWithin sent [] = Unit {0}
+ComeWithin sent (r ∷ rs) = (sent < 262144) × ComeWithin (sent + length (reply_text r)) rs
+
+-- one drive: at most 64 requests were served, and none once 262,144 bytes were sent, with what was pending before
 pub record Drove (s : ℕ) (tells : Type 0) (old : Point) (before : Traffic) (answer : Progress) (new : Point) (after : Traffic) : Type 0 where
   pub last : Point
   pub carried : Carried s tells old before last after
   pub few : length carried.runs.history.served ≤ 64
+  pub bounded : ComeWithin (length (pending_at old.hub s)) carried.runs.history.replies
   pub ends : EndsAs s last new answer
   pub why : Why s last.hub before after (length carried.runs.history.served) (length carried.runs.history.sent) answer

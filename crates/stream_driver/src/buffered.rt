@@ -188,7 +188,7 @@ impl<S: Stream> BufferedStream<S> {
     // Writes what is held where there is no room for more. `All` where there is some then.
     fn make_room<D: Sectors>(&mut self, device: &D) -> Flushed
         ensures kept { KeepsBytes S.tells S.traffic (D.moment device.now) self.old self.new }
-        ensures why { WhyRoom S.traffic result self.new }
+        ensures why { WhyRoom S.traffic self.old result self.new }
         ensures failed { RoomFails self.old result self.new }
     {
         if self.held.room() > 0 {
@@ -266,7 +266,7 @@ impl<S: Stream> Stream for BufferedStream<S> {
         ensures taken { S.tells → (traffic_through S.traffic self.new).taken ≡ (traffic_through S.traffic self.old).taken ++ take (bytes_written result) from.now }
         ensures departed { S.tells → DepartAt (D.moment device.now) (traffic_through S.traffic self.old) (traffic_through S.traffic self.new) }
         ensures answered { EndsWith (Call.Write result) (traffic_through S.traffic self.old) (traffic_through S.traffic self.new) }
-        ensures why { WhyTook S.traffic result self.new }
+        ensures why { WhyTook S.traffic self.old result self.new }
         ensures drains { Drains self.old result self.new }
         ensures failed { WriteFails self.old result self.new }
     {

@@ -1,16 +1,16 @@
-use Rattle.std.proofs.Common.{inl, inr, ◌≡◌, ◌+◌, ◌<◌, ◌≤◌, length, arith, sym, ap, ◌∙◌, []}
+use Rattle.std.proofs.Common.{inl, inr, ◌≡◌, ◌+◌, ◌<◌, ◌≤◌, length, arith, refl, sym, ap, ◌∙◌, []}
 use Rattle.sessions.specs.declared.events.Status.TheVariants.{Open}
 use Rattle.stream_driver.specs.Sessions.{status_at, pending_at}
 use Rattle.stream_driver.proofs.States.{present_at, leads_none, leads_then, some_after}
-use Rattle.stream_driver.proofs.Sends.{tells_four, tells_still, tells_then, tells_three, tells_three_at, tells_two_at}
-use Rattle.stream_driver.proofs.Loops.{driven_none, driven_flushed, out_served, out_broke, again_full, waits_to_write, waits_to_read, gone_writing, gone_serving, gone_closed, again}
+use Rattle.stream_driver.proofs.Sends.{tells_map, tells_still, tells_then, tells_three, tells_two_at}
+use Rattle.stream_driver.proofs.Loops.{driven_none, flushes_out, is_below, out_served, out_broke, again_full, waits_to_write, waits_to_read, gone_writing, gone_serving, gone_closed, again}
 use Rattle.stream_driver.proofs.driving.drive.Goals as goal
 
 pub requests-init : goal.requests-init
 requests-init g c =
     tells_still c.args.s g.S.Stream.tells c.args.hub.now c.args.hub.now (g.S.Stream.traffic c.args.stream.now) _
     (leads_none c.args.hub.now c.runs_follow.ensures.none _
-    (λ h stands. record { driven = driven_none c.args.s g.S.Stream.tells h (g.S.Stream.traffic c.args.stream.now) (present_at c.args.hub.now c.args.s h.hub stands.state _ c.requires (λ k p. p)); out = omega arith }))
+    (λ h stands. record { driven = driven_none c.args.s g.S.Stream.tells h (g.S.Stream.traffic c.args.stream.now) (present_at c.args.hub.now c.args.s h.hub stands.state _ c.requires (λ k p. p)); out = refl }))
 
 pub write_out-requires : goal.write_out-requires
 write_out-requires g c = some_after c.args.hub.now c.requests.hub _ _ _ c.requires c.requests.invariant.leads (λ h k before p. p.driven.carried.runs.present)
@@ -56,10 +56,15 @@ returns-in-Blocked-serve_one g c =
     record {
       driven =
           let fewer : c.requests._served < 64 = omega arith in
-          tells_three c.args.s g.S.Stream.tells c.runs_follow.ensures.follow c.args.hub.now c.requests.hub c.write_out.new.hub c.serve_one.new.hub _ _ _ _ _ _ _ _ c.requests.invariant c.in-Empty.ensures.written c.in-Blocked-serve_one.ensures.served (λ h k p. p.driven.carried) (λ k l q. q.moves.carried)
-          (λ h k l m stands p q r.
-          waits_to_read c.args.s g.S.Stream.tells h (g.S.Stream.traffic c.args.stream.now) l (g.S.Stream.traffic c.write_out.new.stream) m (g.S.Stream.traffic c.serve_one.new.stream) c.requests._served
-          (driven_flushed c.args.s g.S.Stream.tells h (g.S.Stream.traffic c.args.stream.now) k (g.S.Stream.traffic c.requests.stream) l (g.S.Stream.traffic c.write_out.new.stream) c.requests._served p.driven q.moves q.why.0) fewer r);
+          let room : c.saturating_add-sent.result < 262144 = omega (arith, c.if-sent-ge-OUTPUT_MAX.false) in
+          let total : c.saturating_add-sent.result ≡ c.requests.sent + length c.pending-owed.result.now = omega (arith, c.saturating_add-sent.ensures) in
+          let flushed =
+          flushes_out c.runs_follow.ensures.follow c.args.hub.now c.requests.hub c.write_out.new.hub c.args.s g.S.Stream.tells (g.S.Stream.traffic c.args.stream.now) (g.S.Stream.traffic c.requests.stream) (g.S.Stream.traffic c.write_out.new.stream)
+          c.requests._served c.requests.sent (length c.pending-owed.result.now) c.saturating_add-sent.result (λ h stands. ap length (c.pending-owed.ensures h stands)) total c.requests.invariant c.in-Empty.ensures.written in
+          tells_then c.args.s g.S.Stream.tells c.runs_follow.ensures.follow c.args.hub.now c.write_out.new.hub c.serve_one.new.hub _ _ _ _ _ _ flushed c.in-Blocked-serve_one.ensures.served (λ h l p. p.driven.carried)
+          (λ h l m stands p r.
+          waits_to_read c.args.s g.S.Stream.tells h (g.S.Stream.traffic c.args.stream.now) l (g.S.Stream.traffic c.write_out.new.stream) m (g.S.Stream.traffic c.serve_one.new.stream) c.requests._served p.driven
+          (is_below c.args.s g.S.Stream.tells h (g.S.Stream.traffic c.args.stream.now) l (g.S.Stream.traffic c.write_out.new.stream) m (g.S.Stream.traffic c.serve_one.new.stream) c.requests._served c.saturating_add-sent.result p room) fewer r);
     }
 
 pub returns-in_default-serve_one : goal.returns-in_default-serve_one
@@ -67,11 +72,17 @@ returns-in_default-serve_one g c =
     record {
       driven =
           let fewer : c.requests._served < 64 = omega arith in
+          let room : c.saturating_add-sent.result < 262144 = omega (arith, c.if-sent-ge-OUTPUT_MAX.false) in
+          let total : c.saturating_add-sent.result ≡ c.requests.sent + length c.pending-owed.result.now = omega (arith, c.saturating_add-sent.ensures) in
+          let flushed =
+          flushes_out c.runs_follow.ensures.follow c.args.hub.now c.requests.hub c.write_out.new.hub c.args.s g.S.Stream.tells (g.S.Stream.traffic c.args.stream.now) (g.S.Stream.traffic c.requests.stream) (g.S.Stream.traffic c.write_out.new.stream)
+          c.requests._served c.requests.sent (length c.pending-owed.result.now) c.saturating_add-sent.result (λ h stands. ap length (c.pending-owed.ensures h stands)) total c.requests.invariant c.in-Empty.ensures.written in
           rw c.depart-in_default-serve_one.ensures.answer
-          (tells_four c.args.s g.S.Stream.tells c.runs_follow.ensures.follow c.args.hub.now c.requests.hub c.write_out.new.hub c.serve_one.new.hub c.depart-in_default-serve_one.new.hub _ _ _ _ _ _ _ _ _ _ c.requests.invariant c.in-Empty.ensures.written c.serve_one.ensures.served (tells_still c.args.s g.S.Stream.tells c.serve_one.new.hub c.depart-in_default-serve_one.new.hub _ _ c.depart-in_default-serve_one.ensures.left) (λ h k p. p.driven.carried) (λ k l q. q.moves.carried) (λ l m r. r.carried)
-          (λ h k l m n p q r t.
-          gone_serving c.args.s g.S.Stream.tells h (g.S.Stream.traffic c.args.stream.now) l (g.S.Stream.traffic c.write_out.new.stream) m (g.S.Stream.traffic c.serve_one.new.stream) c.requests._served
-          (driven_flushed c.args.s g.S.Stream.tells h (g.S.Stream.traffic c.args.stream.now) k (g.S.Stream.traffic c.requests.stream) l (g.S.Stream.traffic c.write_out.new.stream) c.requests._served p.driven q.moves q.why.0) n t fewer c.serve_one.result
+          (tells_three c.args.s g.S.Stream.tells c.runs_follow.ensures.follow c.args.hub.now c.write_out.new.hub c.serve_one.new.hub c.depart-in_default-serve_one.new.hub _ _ _ _ _ _ _ _ flushed c.serve_one.ensures.served
+          (tells_still c.args.s g.S.Stream.tells c.serve_one.new.hub c.depart-in_default-serve_one.new.hub _ _ c.depart-in_default-serve_one.ensures.left) (λ h l p. p.driven.carried) (λ l m r. r.carried)
+          (λ h l m n stands p r t.
+          gone_serving c.args.s g.S.Stream.tells h (g.S.Stream.traffic c.args.stream.now) l (g.S.Stream.traffic c.write_out.new.stream) m (g.S.Stream.traffic c.serve_one.new.stream) c.requests._served p.driven n t
+          (is_below c.args.s g.S.Stream.tells h (g.S.Stream.traffic c.args.stream.now) l (g.S.Stream.traffic c.write_out.new.stream) m (g.S.Stream.traffic c.serve_one.new.stream) c.requests._served c.saturating_add-sent.result p room) fewer c.serve_one.result
           c.in_default-serve_one.not-Served c.in_default-serve_one.not-Broke c.in_default-serve_one.not-Blocked r));
     }
 
@@ -118,28 +129,30 @@ returns-in_default-status g c =
 
 pub requests-preserved : goal.requests-preserved
 requests-preserved g c =
-    let added : c.saturating_add-sent.result ≤ c.requests.sent + length c.pending-owed.result.now = omega (arith, c.saturating_add-sent.ensures) in
+    let room : c.saturating_add-sent.result < 262144 = omega (arith, c.if-sent-ge-OUTPUT_MAX.false) in
+    let total : c.saturating_add-sent.result ≡ c.requests.sent + length c.pending-owed.result.now = omega (arith, c.saturating_add-sent.ensures) in
+    let flushed =
+    flushes_out c.runs_follow.ensures.follow c.args.hub.now c.requests.hub c.write_out.new.hub c.args.s g.S.Stream.tells (g.S.Stream.traffic c.args.stream.now) (g.S.Stream.traffic c.requests.stream) (g.S.Stream.traffic c.write_out.new.stream)
+    c.requests._served c.requests.sent (length c.pending-owed.result.now) c.saturating_add-sent.result (λ h stands. ap length (c.pending-owed.ensures h stands)) total c.requests.invariant c.in-Empty.ensures.written in
     elim c.in-Served.is [
       | inl e ↦
-          tells_three_at c.args.s g.S.Stream.tells c.runs_follow.ensures.follow c.args.hub.now c.requests.hub c.write_out.new.hub c.serve_one.new.hub _ _ _ _ _ _ _ _ c.requests.invariant c.in-Empty.ensures.written (rw e at c.serve_one.ensures.served) (λ h k p. p.driven.carried) (λ k l q. q.moves.carried)
-          (λ h k l m was stands p q r.
-          out_served c.args.s g.S.Stream.tells h (g.S.Stream.traffic c.args.stream.now) k (g.S.Stream.traffic c.requests.stream) l (g.S.Stream.traffic c.write_out.new.stream) m (g.S.Stream.traffic c.serve_one.new.stream) c.requests._served c.requests.sent
-          (length c.pending-owed.result.now) c.saturating_add-sent.result p (ap length (c.pending-owed.ensures k.hub was)) added q (sym (c.in-Open.ensures l.hub stands)) r)
+          tells_two_at c.args.s g.S.Stream.tells c.runs_follow.ensures.follow c.args.hub.now c.write_out.new.hub c.serve_one.new.hub _ _ _ _ _ _ flushed (rw e at c.serve_one.ensures.served) (λ h l p. p.driven.carried)
+          (λ h l m stands last p r.
+          out_served c.args.s g.S.Stream.tells h (g.S.Stream.traffic c.args.stream.now) l (g.S.Stream.traffic c.write_out.new.stream) m (g.S.Stream.traffic c.serve_one.new.stream) c.requests._served c.saturating_add-sent.result p room
+          (sym (c.in-Open.ensures l.hub stands)) r)
       | inr e ↦
-          tells_three_at c.args.s g.S.Stream.tells c.runs_follow.ensures.follow c.args.hub.now c.requests.hub c.write_out.new.hub c.serve_one.new.hub _ _ _ _ _ _ _ _ c.requests.invariant c.in-Empty.ensures.written (rw e at c.serve_one.ensures.served) (λ h k p. p.driven.carried) (λ k l q. q.moves.carried)
-          (λ h k l m was stands p q r.
-          out_broke c.args.s g.S.Stream.tells h (g.S.Stream.traffic c.args.stream.now) k (g.S.Stream.traffic c.requests.stream) l (g.S.Stream.traffic c.write_out.new.stream) m (g.S.Stream.traffic c.serve_one.new.stream) c.requests._served c.requests.sent
-          (length c.pending-owed.result.now) c.saturating_add-sent.result p (ap length (c.pending-owed.ensures k.hub was)) added q r)
+          tells_two_at c.args.s g.S.Stream.tells c.runs_follow.ensures.follow c.args.hub.now c.write_out.new.hub c.serve_one.new.hub _ _ _ _ _ _ flushed (rw e at c.serve_one.ensures.served) (λ h l p. p.driven.carried)
+          (λ h l m stands last p r. out_broke c.args.s g.S.Stream.tells h (g.S.Stream.traffic c.args.stream.now) l (g.S.Stream.traffic c.write_out.new.stream) m (g.S.Stream.traffic c.serve_one.new.stream) c.requests._served c.saturating_add-sent.result p room r)
     ]
 
 pub returns-then-sent-ge-OUTPUT_MAX : goal.returns-then-sent-ge-OUTPUT_MAX
 returns-then-sent-ge-OUTPUT_MAX g c = record {
   driven =
-      let added : c.saturating_add-sent.result ≤ c.requests.sent + length c.pending-owed.result.now = omega (arith, c.saturating_add-sent.ensures) in
       let below : c.requests._served ≤ 64 = omega arith in
-      let enough : 262144 ≤ c.saturating_add-sent.result = omega (arith, c.if-sent-ge-OUTPUT_MAX.true) in
-      tells_two_at c.args.s g.S.Stream.tells c.runs_follow.ensures.follow c.args.hub.now c.requests.hub c.write_out.new.hub _ _ _ _ _ _ c.requests.invariant c.in-Empty.ensures.written (λ h k p. p.driven.carried)
-      (λ h k l was stands p q.
-      again_full c.args.s g.S.Stream.tells h (g.S.Stream.traffic c.args.stream.now) k (g.S.Stream.traffic c.requests.stream) l (g.S.Stream.traffic c.write_out.new.stream) c.requests._served p.driven c.requests.sent (length c.pending-owed.result.now)
-      c.saturating_add-sent.result p.out (ap length (c.pending-owed.ensures k.hub was)) added q below enough (sym (c.in-Open.ensures l.hub stands)));
+      let enough : 262144 ≤ c.requests.sent + length c.pending-owed.result.now = omega (arith, c.saturating_add-sent.ensures, c.if-sent-ge-OUTPUT_MAX.true) in
+      tells_map c.args.s g.S.Stream.tells c.args.hub.now c.write_out.new.hub _ _ _ _
+      (flushes_out c.runs_follow.ensures.follow c.args.hub.now c.requests.hub c.write_out.new.hub c.args.s g.S.Stream.tells (g.S.Stream.traffic c.args.stream.now) (g.S.Stream.traffic c.requests.stream) (g.S.Stream.traffic c.write_out.new.stream)
+      c.requests._served c.requests.sent (length c.pending-owed.result.now) (c.requests.sent + length c.pending-owed.result.now) (λ h stands. ap length (c.pending-owed.ensures h stands)) refl c.requests.invariant c.in-Empty.ensures.written)
+      (λ h l stands p.
+      again_full c.args.s g.S.Stream.tells h (g.S.Stream.traffic c.args.stream.now) l (g.S.Stream.traffic c.write_out.new.stream) l (g.S.Stream.traffic c.write_out.new.stream) c.requests._served _ p below enough (sym (c.in-Open.ensures l.hub stands)));
 }
