@@ -16,3 +16,4 @@ mod Leaving
 pub mod Serving
 mod Waited
 mod Readies
+mod Departing

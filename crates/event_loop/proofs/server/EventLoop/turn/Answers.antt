@@ -7,6 +7,7 @@ use Rattle.event_loop.specs.declared.connections.TheConstants.{LINGERER}
 use Rattle.event_loop.specs.Lingerings.{lingerers_of}
 use Rattle.event_loop.specs.Turns.{accepts_now, is_told_of}
 use Rattle.event_loop.specs.Waits.{nanos_of}
+use Rattle.event_loop.proofs.Departing.{is_served}
 use Rattle.event_loop.proofs.GivenBack.{accepts_keep, rest_keeps, rest_leads, then_accepts}
 use Rattle.event_loop.proofs.OneTurn.{turned_by}
 use Rattle.event_loop.proofs.Waited.{wait_failed, wait_told}
@@ -39,3 +40,9 @@ pub returns-clause-waits : goal.returns-clause-waits
 returns-clause-waits g c =
     wait_told c.args.timeout c.args.self.now c.give_back.new.self c.look.new.self c.look.ensures c.wait.new.self c.wait.ensures.clock (ap nanos_of c.wait.ensures.waited ∙ c.next_wait-wait.ensures)
     tt c.in_ok-wait.ensures.polls c.look-2.new.self c.look-2.ensures (c.give_back.ensures.poller ∙ c.accept_told.ensures.poller ∙ c.drive.ensures.poller)
+
+pub returns-in_err-wait-clause-served : goal.returns-in_err-wait-clause-served
+returns-in_err-wait-clause-served g c = (is_served c.args.self.now.hub c.args.self.now.table.slots c.args.self.now.serving, is_served c.args.self.now.hub c.args.self.now.table.slots c.args.self.now.serving)
+
+pub returns-clause-served : goal.returns-clause-served
+returns-clause-served g c = (is_served c.args.self.now.hub c.args.self.now.table.slots c.args.self.now.serving, is_served c.give_back.new.self.hub c.give_back.new.self.table.slots c.give_back.new.self.serving)
