@@ -17,3 +17,4 @@ pub mod Serving
 mod Waited
 mod Readies
 mod Departing
+mod Drained

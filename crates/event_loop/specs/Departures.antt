@@ -12,7 +12,8 @@ use Rattle.stream_driver.specs.declared.buffered.BufferedStream.{BufferedStream}
 use Rattle.stream_driver.specs.declared.entries.Entry.{Entry}
 use Rattle.stream_driver.specs.Buffers.{traffic_through}
 use Rattle.stream_driver.specs.Sends.{IsAnswered, IsToldBefore}
-use Rattle.stream_driver.specs.Traffic.{Departure}
+use Rattle.stream_driver.specs.Traffic.{Departure, Traffic}
+use Rattle.event_loop.specs.declared.lingering.Lingerer.{Lingerer}
 use Rattle.event_loop.specs.declared.socket.Socket.{Socket}
 use Rattle.event_loop.specs.Sockets.{SocketsTell, traffic_of}
 use Rattle.event_loop.specs.TableBytes.{HaveBytes}
@@ -31,13 +32,18 @@ module _ {D : Type 0} {g : Ghosts D} {hub : Hub D g} (served : Served hub) where
   abbrev pub IsTold : ℕ → Departure → Type 0
   IsTold s d = IsToldBefore s (first_state served) served.first hub served.choices d
 
-  -- So it is of each departure of a connection, gone or not. All that its stream has taken was answered, so what it holds may leave later.
-  pub record EntryTells (entry : Entry (BufferedStream Socket)) : Type 0 where
-    pub told : AllByRecursion (IsTold entry.session) (traffic_through traffic_of entry.stream).departed
-    pub answered : IsAnswered entry.session (first_state served) served.choices (traffic_through traffic_of entry.stream).taken
+  -- So it is of each departure of the session's stream. All that the stream has taken was answered, so what it holds may leave later.
+  pub record Tells (s : ℕ) (t : Traffic) : Type 0 where
+    pub told : AllByRecursion (IsTold s) t.departed
+    pub answered : IsAnswered s (first_state served) served.choices t.taken
 
+  -- so it is of each entry, gone or not
   abbrev pub EntriesTell : List (Option (Entry (BufferedStream Socket))) → Type 0
-  EntriesTell slots = (key : ℕ) (entry : Entry (BufferedStream Socket)) → slot_at slots key ≡ Some entry → EntryTells entry
+  EntriesTell slots = (key : ℕ) (entry : Entry (BufferedStream Socket)) → slot_at slots key ≡ Some entry → Tells entry.session (traffic_through traffic_of entry.stream)
+
+  -- and of each connection that lingers, whose session has left
+  abbrev pub LingerersTell : List Lingerer → Type 0
+  LingerersTell all = AllByRecursion (λ l. (s : ℕ) × Tells s (traffic_of l.socket)) all
 
   -- A crash at the moment of the departure or since leaves no map that is older than the one committed where the bytes had been answered. So
   -- whatever lives follow, the first begins with such a map, and each other with one that the life before it may have left.
@@ -48,16 +54,19 @@ module _ {D : Type 0} {g : Ghosts D} {hub : Hub D g} (served : Served hub) where
 
 -- The hub is on a run from an opening. In the state to which it has come each connection has the bytes of its session; what left over each
 -- is told before.
-pub record Serving {D : Type 0} {g : Ghosts D} (hub : Hub D g) (slots : List (Option (Entry (BufferedStream Socket)))) : Type 0 where
+pub record Serving {D : Type 0} {g : Ghosts D} (hub : Hub D g) (slots : List (Option (Entry (BufferedStream Socket)))) (lingerers : List Lingerer) : Type 0 where
   pub served : Served hub
   pub bytes : HaveBytes SocketsTell (traffic_through traffic_of) (present_state served) slots
   pub tells : SocketsTell → EntriesTell served slots
+  pub lingerers_tell : SocketsTell → LingerersTell served lingerers
 
-abbrev pub IsServing : {D : Type 0} {g : Ghosts D} → Hub D g → List (Option (Entry (BufferedStream Socket))) → Type 0
-IsServing hub slots = ∥ Serving hub slots ∥₁
+abbrev pub IsServing : {D : Type 0} {g : Ghosts D} → Hub D g → List (Option (Entry (BufferedStream Socket))) → List Lingerer → Type 0
+IsServing hub slots lingerers = ∥ Serving hub slots lingerers ∥₁
 
--- There is a run from an opening to this hub in which each departure of each connection is kept.
-abbrev pub KeepsWhatLeft : {D : Type 0} {g : Ghosts D} → Hub D g → List (Option (Entry (BufferedStream Socket))) → Type 0
-KeepsWhatLeft hub slots =
-    ∥ ((served : Served hub) × ((key : ℕ) (entry : Entry (BufferedStream Socket)) → slot_at slots key ≡ Some entry
-    → AllByRecursion (IsKept served entry.session) (traffic_of entry.stream.inner).departed)) ∥₁
+-- There is a run from an opening to this hub in which each departure of each connection is kept: of each in the table, and of each that
+-- lingers, as one of the session that it had.
+abbrev pub KeepsWhatLeft : {D : Type 0} {g : Ghosts D} → Hub D g → List (Option (Entry (BufferedStream Socket))) → List Lingerer → Type 0
+KeepsWhatLeft hub slots lingerers =
+    ∥ ((served : Served hub)
+    × ((key : ℕ) (entry : Entry (BufferedStream Socket)) → slot_at slots key ≡ Some entry → AllByRecursion (IsKept served entry.session) (traffic_of entry.stream.inner).departed)
+    × AllByRecursion (λ l. (s : ℕ) × AllByRecursion (IsKept served s) (traffic_of l.socket).departed) lingerers) ∥₁

@@ -47,7 +47,7 @@ pub struct EventLoop<D: Sectors> {
     table: Slab<Entry<BufferedStream<Socket>>>,
     ghost room: { 128 + 64 + 1 ≤ events_capacity poller.events },
     ghost stands: { Stands hub },
-    ghost serving: { IsServing hub table.slots },
+    ghost serving: { IsServing hub table.slots lingering.queue.items },
     ghost sessions: { HaveSessions hub table.slots },
     ghost entries: { HaveEntries hub table.slots },
     ghost numbers: { AreBelow next table.slots },
@@ -194,12 +194,12 @@ impl<D: Sectors> EventLoop<D> {
     }
 
     /// Does nothing, and takes no memory. Its contract says what is kept of what left, under the premise that sockets tell the bytes that
-    /// they move. There is one run from an opening to this hub. For each connection in the table and each of its departures, that run passes
-    /// a hub whose device stood at the moment of the departure, and by then the session had been answered the bytes that had left. A crash
-    /// at that moment or since leaves no map that is older than the one committed at that hub, and so whatever lives follow begin with such a
-    /// map. So a COMMIT whose number has left over a connection is never lost.
+    /// they move. There is one run from an opening to this hub. For each connection that is in the table or lingers, and each of its
+    /// departures, that run passes a hub whose device stood at the moment of the departure, and by then the session had been answered the
+    /// bytes that had left. A crash at that moment or since leaves no map that is older than the one committed at that hub, and so whatever
+    /// lives follow begin with such a map. So a COMMIT whose number has left over a connection is never lost.
     pub fn keeps_what_left(&self)
-        ensures kept { SocketsTell → KeepsWhatLeft (hub_of self.now) self.now.table.slots }
+        ensures kept { SocketsTell → KeepsWhatLeft (hub_of self.now) self.now.table.slots self.now.lingering.queue.items }
     {
         self.hub.loses_nothing();
     }

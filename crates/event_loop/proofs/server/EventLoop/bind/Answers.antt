@@ -7,7 +7,7 @@ pub invariant_of-result-clause-stands : goal.invariant_of-result-clause-stands
 invariant_of-result-clause-stands g c = opened_stands c.args.hub c.requires
 
 pub invariant_of-result-clause-serving : goal.invariant_of-result-clause-serving
-invariant_of-result-clause-serving g c = begins_serving c.args.hub c.requires c.runs_follow.ensures.none c.new-5.result.slots c.new-5.ensures.empty
+invariant_of-result-clause-serving g c = begins_serving c.args.hub c.requires c.runs_follow.ensures.none c.new-5.result.slots c.new-5.ensures.empty c.in_ok-lingering.lingering.queue.items c.in_ok-lingering.ensures
 
 pub invariant_of-result-clause-sessions : goal.invariant_of-result-clause-sessions
 invariant_of-result-clause-sessions g c = empty_sessions c.args.hub c.new-5.result.slots c.new-5.ensures.empty

@@ -19,7 +19,7 @@ invariant_of-self-clause-serving g c =
     drives_serve c.args.self.now.hub c.drive_ready.new.hub (g.D.Sectors.moment c.device.result.now)
     (ap (λ d. g.D.Sectors.moment d) c.device.ensures) c.args.self.now.table.slots c.make_polled_ready.new.table.slots c.drive_ready.new.table.slots c.end_drives.new.table.slots (items c.events.result.now) c.make_polled_ready.ensures
     (polled_sessions c.args.self.now.table.slots c.make_polled_ready.new.table.slots (items c.events.result.now) c.make_polled_ready.ensures c.args.self.now.hub c.args.self.now.sessions)
-    c.drive_ready.ensures.driven c.drive_ready.ensures.numbers c.end_drives.ensures.ended c.args.self.now.serving
+    c.drive_ready.ensures.driven c.drive_ready.ensures.numbers c.end_drives.ensures.ended c.args.now _ _ c.end_drives.ensures.left c.args.self.now.serving
 
 pub invariant_of-self-clause-sessions : goal.invariant_of-self-clause-sessions
 invariant_of-self-clause-sessions g c = ended_sessions ghosts.tells ghosts.traffic _ c.drive_ready.new.table.slots c.end_drives.new.table.slots c.end_drives.ensures.ended c.drive_ready.new.hub c.drive_ready.ensures.sessions

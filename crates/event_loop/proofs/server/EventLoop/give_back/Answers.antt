@@ -7,7 +7,7 @@ pub invariant_of-self-clause-stands : goal.invariant_of-self-clause-stands
 invariant_of-self-clause-stands g c = in_some c.args.self.now.hub c.reclaim-self.new.self c.reclaim-self.ensures.ran _ c.args.self.now.stands
 
 pub invariant_of-self-clause-serving : goal.invariant_of-self-clause-serving
-invariant_of-self-clause-serving g c = rest_serves c.args.self.now.hub c.reclaim-self.new.self c.reclaim-self.ensures.ran c.args.self.now.table.slots c.args.self.now.serving
+invariant_of-self-clause-serving g c = rest_serves c.args.self.now.hub c.reclaim-self.new.self c.reclaim-self.ensures.ran c.args.self.now.table.slots c.args.self.now.lingering.queue.items c.args.self.now.serving
 
 pub invariant_of-self-clause-sessions : goal.invariant_of-self-clause-sessions
 invariant_of-self-clause-sessions g c = rested_sessions c.args.self.now.hub c.reclaim-self.new.self c.reclaim-self.ensures.ran c.args.self.now.table.slots c.args.self.now.sessions
