@@ -1,5 +1,5 @@
 -- What left over the connections stays told before as the loop goes on, and is kept.
-use Rattle.std.proofs.Common.{◌≡◌, ◌≢◌, ◌⊎◌, inl, inr, ℕ, ◌+◌, ◌-◌, ◌≤◌, ◌==◌, ◌||◌, Bool, true, false, cond, List, [], ◌∷◌, ◌++◌, Option, Some, None, length, take, drop, refl, sym, ap, subst, ◌∙◌, arith}
+use Rattle.std.proofs.Common.{◌≡◌, ◌≢◌, ◌⊎◌, inl, inr, ℕ, ◌+◌, ◌-◌, ◌≤◌, ◌==◌, ◌||◌, Bool, true, false, cond, List, [], ◌∷◌, ◌++◌, Option, Some, None, length, append_assoc, take, drop, refl, sym, ap, subst, ◌∙◌, arith}
 use Rattle.std.proofs.lemmas.Bool.{cases_eq}
 use Rattle.std.proofs.lemmas.List.{append-nil, take-append-drop}
 use Rattle.std.proofs.Math.Logic.{∥∥₁_map}
@@ -9,13 +9,13 @@ use Rattle.mio.specs.declared.event.event.Event.{Event}
 use Rattle.mio.specs.Event.{event_token, is_priority, is_read_closed}
 use Rattle.sector.specs.declared.device.Sectors.{Ghosts}
 use Rattle.sessions.specs.declared.hub.Hub.{Hub}
-use Rattle.sessions.specs.Laws.{IsSound, NoneRuns, Ran}
+use Rattle.sessions.specs.Laws.{IsSessionStream, IsSound, NoneRuns, Ran}
 use Rattle.sessions.specs.Life.{Holds, LosesNothing, MayFind}
 use Rattle.sessions.specs.Lives.{IsOpened, IsServed, Served}
-use Rattle.sessions.specs.SessionStreams.{HubState, HubEvent, Choice, SessionStream, run, stream_of}
+use Rattle.sessions.specs.SessionStreams.{HubState, HubEvent, Choice, SessionStream, replies_text, run, stream_of}
 use Rattle.sessions.specs.StandsFor.{StandsFor, device}
 use Rattle.sessions.proofs.LivesLaws.{lose_nothing}
-use Rattle.sessions.proofs.Runs.{CountsNow, OnlyNow, no_event, ran_stands, ran_then}
+use Rattle.sessions.proofs.Runs.{CountsNow, OnlyNow, no_event, ran_parts, ran_stands, ran_then}
 use Rattle.stream_driver.specs.declared.buffered.BufferedStream.{BufferedStream}
 use Rattle.stream_driver.specs.declared.entries.Entry.{Entry}
 use Rattle.stream_driver.specs.declared.entries.EntryState.{EntryState}
@@ -32,7 +32,7 @@ use Rattle.event_loop.specs.declared.socket.Socket.{Socket}
 use Rattle.event_loop.specs.declared.lingering.Dropped.{Dropped}
 use Rattle.event_loop.specs.declared.lingering.Lingerer.{Lingerer}
 use Rattle.event_loop.specs.declared.lingering.TheConstants.{LINGERING_MAX}
-use Rattle.event_loop.specs.Departures.{EntriesTell, IsKept, IsServing, IsTold, KeepsWhatLeft, LingerersTell, Serving, Tells, first_state, present_state}
+use Rattle.event_loop.specs.Departures.{EntriesTell, IsCommitted, IsKept, IsServing, IsTold, KeepsWhatLeft, LingerersTell, Serving, Tells, first_state, present_state}
 use Rattle.event_loop.specs.Leavings.{EndAll, EndEach, LeavesAs, LeavesIf}
 use Rattle.event_loop.specs.Leavings.EndEach.{NoneEnded, OneMore as OneEnded}
 use Rattle.event_loop.specs.Lingerings.{AllTurned, AreTurned, DropsIf, Leaves, Lingerers}
@@ -43,7 +43,8 @@ use Rattle.event_loop.specs.Tables.{Admits, AdmitsEach, ComeEach, EndsTurn, afte
 use Rattle.event_loop.specs.Tables.AdmitsEach.{Nobody, OneMore}
 use Rattle.event_loop.proofs.Entries.{no_entry, some_inj}
 use Rattle.event_loop.proofs.TableBytes.{drives_bytes, polled_bytes}
-use Rattle.event_loop.proofs.WholeTurns.{sockets_come}
+use Rattle.event_loop.proofs.Committed.{answered_committed}
+use Rattle.event_loop.proofs.WholeTurns.{all_found, sockets_come}
 
 abbrev Connection : Type 0
 Connection = Entry (BufferedStream Socket)
@@ -398,13 +399,27 @@ module _ {D : Type 0} {g : Ghosts D} (hub : Hub D g) (slots : Slots) (lingerers 
   have_their_bytes = ∥∥₁_map some (λ s. (present_state s.served, stands_now s.served, s.bytes))
 
   module _ (crash : LosesNothing hub) (only_now : OnlyNow D g) (counts_now : CountsNow D g) where
+    -- what was answered begins the texts of the machine's replies
+    texts_begin : (served : Served hub) (by since : List (HubEvent × Choice)) → served.choices ≡ by ++ since → (s : ℕ) (st : SessionStream) → stream_of (run (first_state served) by) s ≡ Some st → (bytes : List ℕ)
+        → IsBeginning bytes (st.sent ++ st.now.pending) → IsBeginning bytes (replies_text st)
+    texts_begin served by since is s st there bytes begins =
+        let parts = ran_parts served.first hub by since (subst (λ (es : List (HubEvent × Choice)). Ran served.first hub es) is served.ran) in
+        let stands = ran_stands served.first parts.0 by parts.1 (first_state served) served.start.begins.stands in
+        let lawful = (last_sound served.first parts.0 by parts.1).lawful (run (first_state served) by) stands in
+        let stream : IsSessionStream st = all_found s (run (first_state served) by).present st lawful.present there in
+        subst (λ (all : List ℕ). IsBeginning bytes all) (sym stream.output) begins
+
     is_kept : (served : Served hub) (s : ℕ) (d : Departure) → IsTold served s d → IsKept served s d
     is_kept served s d t =
         let left : g.keeps_model → (c : List (List ℕ)) → g.left_since (device hub) d.moment c → Holds (first_state served) served.choices (length t.before) c =
         λ keeps c l. subst (λ (es : List (HubEvent × Choice)). Holds (first_state served) es (length t.before) c) (sym t.events_are)
         (crash keeps served.first t.hub hub t.before t.since t.came t.goes_on (first_state served) served.start.begins.stands refl c (subst (λ (m : ℕ). g.left_since (device hub) m c) t.moment_is l)) in
+        let events : t.before ≡ t.told.by ++ t.told.since = t.told.events_are in
         record {
           told = t;
+          texts = texts_begin served t.told.by (t.told.since ++ t.since) (t.events_are ∙ ap (λ (es : List (HubEvent × Choice)). es ++ t.since) events ∙ append_assoc t.told.by t.told.since t.since) s t.told.stream t.told.stream_is d.bytes t.told.answered;
+          committed = subst (λ (es : List (HubEvent × Choice)). AllByRecursion (IsCommitted (run (first_state served) es).machine.history) t.told.stream.replies) (sym events)
+              (answered_committed (first_state served) t.told.by t.told.since s t.told.stream tt t.told.stream_is);
           left = left;
           found = λ keeps lives follow. lose_nothing hub only_now counts_now keeps lives (g.left_since (device hub) d.moment) (MayFind (first_state served) served.choices (length t.before))
               (λ c l. (let z = left keeps c l in (z.0, z.2, z.1))) follow;

@@ -109,7 +109,7 @@ module _ {D : Type 0} {g : Ghosts D} (follow : Follow D g) (hub mid later : Hub 
 
 -- ---- what the connections say
 
-all_found : (s : ℕ) (es : List (ℕ × SessionStream)) (st : SessionStream) → AllByRecursion (λ e. IsSessionStream e.1) es → lookup (test s) es ≡ Some st → IsSessionStream st
+pub all_found : (s : ℕ) (es : List (ℕ × SessionStream)) (st : SessionStream) → AllByRecursion (λ e. IsSessionStream e.1) es → lookup (test s) es ≡ Some st → IsSessionStream st
 all_found s [] st all e = absurd (let bad : None ≡ Some st = e in cc)
 all_found s (x ∷ xs) st all e =
     elim (test s x.0) as (λ b. cond b (Some x.1) (lookup (test s) xs) ≡ Some st → IsSessionStream st) [

@@ -1,23 +1,31 @@
 -- What left over the connections was answered before, and no crash since loses it.
-use Rattle.std.specs.Prelude.{◌≡◌, ℕ, List, Option, Some, length}
-use Rattle.std.specs.List.{AllByRecursion}
+use Rattle.std.specs.Prelude.{◌≡◌, ℕ, List, Option, Some, length, map}
+use Rattle.std.specs.List.{AllByRecursion, Contains}
+use Rattle.model.specs.History.{Record}
 use Rattle.model.specs.Machine.{opened}
+use Rattle.model.specs.Operations.{Response}
+use Rattle.model.specs.Operations.Response.{Number}
 use Rattle.sector.specs.declared.device.Sectors.{Ghosts}
 use Rattle.sessions.specs.declared.hub.Hub.{Hub}
 use Rattle.sessions.specs.Life.{Holds, MayFind}
 use Rattle.sessions.specs.Lives.{FollowOn, Life, LoseNothing, Served}
-use Rattle.sessions.specs.SessionStreams.{HubState, hub_over, run}
+use Rattle.sessions.specs.SessionStreams.{HubState, hub_over, replies_text, run}
 use Rattle.sessions.specs.StandsFor.{device}
 use Rattle.stream_driver.specs.declared.buffered.BufferedStream.{BufferedStream}
 use Rattle.stream_driver.specs.declared.entries.Entry.{Entry}
 use Rattle.stream_driver.specs.Buffers.{traffic_through}
 use Rattle.stream_driver.specs.Sends.{IsAnswered, IsToldBefore}
-use Rattle.stream_driver.specs.Traffic.{Departure, Traffic}
+use Rattle.stream_driver.specs.Traffic.{Departure, IsBeginning, Traffic}
 use Rattle.event_loop.specs.declared.lingering.Lingerer.{Lingerer}
 use Rattle.event_loop.specs.declared.socket.Socket.{Socket}
 use Rattle.event_loop.specs.Sockets.{SocketsTell, traffic_of}
 use Rattle.event_loop.specs.TableBytes.{HaveBytes}
 use Rattle.event_loop.specs.Tables.{slot_at}
+
+-- a number, which is answered to a COMMIT alone, is that of a transaction of this history
+abbrev pub IsCommitted : List Record → Response → Type 0
+IsCommitted history (Number n) = Contains (map (λ r. r.commit) history) n
+IsCommitted history other = Unit {0}
 
 -- the state in which the opening left the store
 abbrev pub first_state : {D : Type 0} {g : Ghosts D} {hub : Hub D g} → Served hub → HubState
@@ -45,10 +53,13 @@ module _ {D : Type 0} {g : Ghosts D} {hub : Hub D g} (served : Served hub) where
   abbrev pub LingerersTell : List Lingerer → Type 0
   LingerersTell all = AllByRecursion (λ l. (s : ℕ) × Tells s (traffic_of l.socket)) all
 
-  -- A crash at the moment of the departure or since leaves no map that is older than the one committed where the bytes had been answered. So
-  -- whatever lives follow, the first begins with such a map, and each other with one that the life before it may have left.
+  -- What left begins the texts of the machine's replies, and each number among these is that of a transaction committed by then. A crash at
+  -- the moment of the departure or since leaves no map that is older than the one committed there. So whatever lives follow, the first begins
+  -- with such a map, and each other with one that the life before it may have left.
   pub record IsKept (s : ℕ) (d : Departure) : Type 0 where
     pub told : IsTold s d
+    pub texts : IsBeginning d.bytes (replies_text told.told.stream)
+    pub committed : AllByRecursion (IsCommitted (run (first_state served) told.before).machine.history) told.told.stream.replies
     pub left : g.keeps_model → (c : List (List ℕ)) → g.left_since (device hub) d.moment c → Holds (first_state served) served.choices (length told.before) c
     pub found : g.keeps_model → (lives : List (Life D g)) → FollowOn (g.left_since (device hub) d.moment) lives → LoseNothing (MayFind (first_state served) served.choices (length told.before)) lives
 
