@@ -1,7 +1,6 @@
 -- Each number that a session was answered is that of a transaction in the machine's history.
-use Rattle.std.proofs.Common.{◌≡◌, ◌≤◌, ◌+◌, ℕ, Bool, true, false, cond, List, [], ◌∷◌, ◌++◌, map, Option, Some, None, refl, sym, ap, subst, ◌∙◌, append_assoc}
+use Rattle.std.proofs.Common.{◌≡◌, ◌+◌, ℕ, Bool, true, false, cond, List, [], ◌∷◌, ◌++◌, map, Option, Some, None, refl, sym, ap, subst, ◌∙◌, append_assoc}
 use Rattle.std.specs.Prelude.{◌==◌, ◌^◌, ◌-◌, nat_le, nat_lt, length, take, not, if◌then◌else◌}
-use Rattle.std.specs.declared.cmp.Ordering.{Ordering}
 use Rattle.std.specs.declared.cmp.Ordering.TheVariants.{Less, Equal, Greater}
 use Rattle.std.specs.Ordering.{match_ordering, nat_cmp}
 use Rattle.std.specs.List.{AllByRecursion, Contains, list_any}
@@ -18,9 +17,9 @@ use Rattle.model.specs.Operations.Response.{Done, Pong, Number, Value, Pairs, Re
 use Rattle.model.specs.PrivateCopy.{Mark, PrivateCopy, after_put, after_read, copy_after, copy_of, is_same_mark, is_written, mark_asked, respond}
 use Rattle.model.specs.PrivateCopy.Mark.{OfKey}
 use Rattle.model.specs.Verdict.{verdict}
-use Rattle.model.specs.Machine.{State, Running, body_sectors, commit, join_history, last, leave, own_step, record_to_commit, running_of, snapshot, step, step_of, store, store_unless}
+use Rattle.model.specs.Machine.{State, Running, body_sectors, commit, join_history, last, leave, record_to_commit, running_of, snapshot, step, step_of, store, store_unless}
 use Rattle.sessions.specs.declared.events.Outcome.{Outcome}
-use Rattle.sessions.specs.SessionStreams.{HubState, HubEvent, Choice, Effect, Front, SessionState, SessionStream, Joins, Receives, Serves, Sends, Leaves, Whole, More, Bad, asks, depart, hub_step, is_above, is_open, may_serve, new_stream, no_effect, out_of_memory, receive, room, run, send, serve, serve_front, serve_session, served_with, stream_of}
+use Rattle.sessions.specs.SessionStreams.{HubState, HubEvent, Choice, Effect, Front, SessionState, SessionStream, Joins, Receives, Serves, Sends, Leaves, Whole, More, Bad, asks, depart, hub_step, is_above, is_open, may_serve, new_stream, receive, room, run, send, serve, serve_front, serve_session, stream_of}
 use Rattle.sessions.proofs.LifeLaws.{CommitsBy, commits_in_event}
 use Rattle.sessions.proofs.LifeLaws.CommitsBy.{Fails, NoMore, OneMore}
 use Rattle.stream_driver.proofs.Carry.{run_then}

@@ -23,7 +23,6 @@ use Rattle.stream_driver.specs.declared.entries.EntryState.TheVariants.{Idle, Re
 use Rattle.stream_driver.specs.Buffers.{Finishes, fresh, held_in, traffic_through}
 use Rattle.stream_driver.specs.Entries.{DrivenAll, EndsDrive, EndsIn, HaveSessions, KeepSessions, is_over}
 use Rattle.stream_driver.specs.Sends.{AreToldBefore, DrivesTelling, HaveSent, IsAnswered}
-use Rattle.stream_driver.specs.Sessions.{InSomeState}
 use Rattle.stream_driver.specs.Traffic.{Departure, DepartAt, IsBeginning, Traffic}
 use Rattle.stream_driver.proofs.Carry.{all_then, run_then}
 use Rattle.stream_driver.proofs.Sends.{all_before, all_since, answered_since, answered_then, begins_through}

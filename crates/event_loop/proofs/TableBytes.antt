@@ -3,8 +3,7 @@ use Rattle.std.proofs.Common.{◌≡◌, ◌≢◌, inl, inr, ℕ, zero, suc, �
 use Rattle.mio.specs.declared.event.event.Event.{Event}
 use Rattle.mio.specs.Event.{event_token, is_priority, is_read_closed}
 use Rattle.sessions.specs.SessionStreams.{HubState, SessionStream, stream_of}
-use Rattle.stream_driver.specs.declared.answers.Progress.{Progress}
-use Rattle.stream_driver.specs.declared.answers.Progress.TheVariants.{Waiting, Again, Gone}
+use Rattle.stream_driver.specs.declared.answers.Progress.TheVariants.{Gone}
 use Rattle.stream_driver.specs.declared.buffered.BufferedStream.{BufferedStream}
 use Rattle.stream_driver.specs.declared.entries.Entry.{Entry}
 use Rattle.stream_driver.specs.declared.entries.EntryState.{EntryState}

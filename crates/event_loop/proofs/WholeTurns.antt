@@ -18,10 +18,10 @@ use Rattle.stream_driver.specs.declared.buffered.BufferedStream.{BufferedStream}
 use Rattle.stream_driver.specs.declared.entries.Entry.{Entry}
 use Rattle.stream_driver.specs.Buffers.{traffic_through}
 use Rattle.stream_driver.specs.Entries.{DrivenAll, HaveSessions}
-use Rattle.stream_driver.specs.Sessions.{InSomeState, Leads}
+use Rattle.stream_driver.specs.Sessions.{Leads}
 use Rattle.stream_driver.specs.Traffic.{Traffic}
 use Rattle.stream_driver.proofs.Carry.{run_then}
-use Rattle.stream_driver.proofs.States.{Follow, leads_map, leads_two_at, some_after}
+use Rattle.stream_driver.proofs.States.{Follow, leads_map, leads_two_at}
 use Rattle.event_loop.specs.declared.socket.Socket.{Socket}
 use Rattle.event_loop.specs.Numbers.{AreBelow}
 use Rattle.event_loop.specs.Sockets.{IsNewSocket, SocketsTell, traffic_of}
@@ -29,7 +29,7 @@ use Rattle.event_loop.specs.TableBytes.{ConnectionsSpeak, HaveBytes, KeepBytes, 
 use Rattle.event_loop.specs.Tables.{Admits, AdmitsEach, ComeEach, EndsTurn, LetsIn, after_poll, join_of, join_tried, joins_of, slot_at}
 use Rattle.event_loop.specs.Tables.AdmitsEach.{Nobody, OneMore}
 use Rattle.event_loop.proofs.Admits.{admits_numbers}
-use Rattle.event_loop.proofs.Entries.{no_entry, some_inj}
+use Rattle.event_loop.proofs.Entries.{some_inj}
 use Rattle.event_loop.proofs.Joins.{joins_not, joins_other, joins_same}
 use Rattle.event_loop.proofs.Present.{test}
 use Rattle.event_loop.proofs.TableBytes.{drives_bytes}
