@@ -16,3 +16,6 @@ mod Leaving
 pub mod Serving
 mod Waited
 mod Readies
+mod Committed
+mod Departing
+mod Drained

@@ -3,8 +3,7 @@ use Rattle.std.proofs.Common.{◌≡◌, ◌≢◌, inl, inr, ℕ, zero, suc, �
 use Rattle.mio.specs.declared.event.event.Event.{Event}
 use Rattle.mio.specs.Event.{event_token, is_priority, is_read_closed}
 use Rattle.sessions.specs.SessionStreams.{HubState, SessionStream, stream_of}
-use Rattle.stream_driver.specs.declared.answers.Progress.{Progress}
-use Rattle.stream_driver.specs.declared.answers.Progress.TheVariants.{Waiting, Again, Gone}
+use Rattle.stream_driver.specs.declared.answers.Progress.TheVariants.{Gone}
 use Rattle.stream_driver.specs.declared.buffered.BufferedStream.{BufferedStream}
 use Rattle.stream_driver.specs.declared.entries.Entry.{Entry}
 use Rattle.stream_driver.specs.declared.entries.EntryState.{EntryState}
@@ -192,10 +191,14 @@ module _ {T : Type 0} (tells : Type 0) (traffic : T → Traffic) (moment : ℕ) 
 
   -- ---- the drives of a turn
 
+  pub polled_bytes : (slots ready : List (Option (Entry (BufferedStream T)))) (events : List Event) → ((key : ℕ) → slot_at ready key ≡ after_poll events key (slot_at slots key)) → (h : HubState)
+      → HaveBytes tells (traffic_through traffic) h slots → HaveBytes tells (traffic_through traffic) h ready
+  polled_bytes slots ready events polled h has = kept_bytes tells (traffic_through traffic) h slots ready (λ key entry e. polled_kept events key (slot_at slots key) entry (sym (polled key) ∙ e)) has
+
   module _ (slots ready driven new : List (Option (Entry (BufferedStream T)))) (events : List Event) (polled : (key : ℕ) → slot_at ready key ≡ after_poll events key (slot_at slots key))
       (own : AreOwn ready) (ended : (key : ℕ) → EndsTurn tells traffic moment (slot_at driven key) (slot_at new key)) where
     pub drives_bytes : (h k : Point) → DrivenAll tells (traffic_through traffic) h ready k driven → HaveBytes tells (traffic_through traffic) h.hub slots → HaveBytes tells (traffic_through traffic) k.hub new
     drives_bytes h k d has =
         kept_bytes tells (traffic_through traffic) k.hub driven new (λ key entry e. ended_kept (slot_at driven key) (slot_at new key) entry (ended key) e)
         (driven_bytes tells (traffic_through traffic) h ready k driven d own
-        (kept_bytes tells (traffic_through traffic) h.hub slots ready (λ key entry e. polled_kept events key (slot_at slots key) entry (sym (polled key) ∙ e)) has))
+        (polled_bytes slots ready events polled h.hub has))

@@ -18,10 +18,10 @@ use Rattle.stream_driver.specs.declared.buffered.BufferedStream.{BufferedStream}
 use Rattle.stream_driver.specs.declared.entries.Entry.{Entry}
 use Rattle.stream_driver.specs.Buffers.{traffic_through}
 use Rattle.stream_driver.specs.Entries.{DrivenAll, HaveSessions}
-use Rattle.stream_driver.specs.Sessions.{InSomeState, Leads}
+use Rattle.stream_driver.specs.Sessions.{Leads}
 use Rattle.stream_driver.specs.Traffic.{Traffic}
 use Rattle.stream_driver.proofs.Carry.{run_then}
-use Rattle.stream_driver.proofs.States.{Follow, leads_map, leads_two_at, some_after}
+use Rattle.stream_driver.proofs.States.{Follow, leads_map, leads_two_at}
 use Rattle.event_loop.specs.declared.socket.Socket.{Socket}
 use Rattle.event_loop.specs.Numbers.{AreBelow}
 use Rattle.event_loop.specs.Sockets.{IsNewSocket, SocketsTell, traffic_of}
@@ -29,7 +29,7 @@ use Rattle.event_loop.specs.TableBytes.{ConnectionsSpeak, HaveBytes, KeepBytes, 
 use Rattle.event_loop.specs.Tables.{Admits, AdmitsEach, ComeEach, EndsTurn, LetsIn, after_poll, join_of, join_tried, joins_of, slot_at}
 use Rattle.event_loop.specs.Tables.AdmitsEach.{Nobody, OneMore}
 use Rattle.event_loop.proofs.Admits.{admits_numbers}
-use Rattle.event_loop.proofs.Entries.{no_entry, some_inj}
+use Rattle.event_loop.proofs.Entries.{some_inj}
 use Rattle.event_loop.proofs.Joins.{joins_not, joins_other, joins_same}
 use Rattle.event_loop.proofs.Present.{test}
 use Rattle.event_loop.proofs.TableBytes.{drives_bytes}
@@ -86,23 +86,16 @@ new_begins b n t = (
   ap (λ l. (traffic_of b.inner).taken ++ l) n.2.nothing ∙ append-nil (traffic_of b.inner).taken ∙ ap (λ (s : Socket). (traffic_of s).taken) n.2.inner_is ∙ n.1.taken t,
 )
 
--- nobody has come yet
-pub nobody_has : {D : Type 0} {g : Ghosts D} (hub : Hub D g) (slots : List (Option (Entry (BufferedStream Socket)))) → slots ≡ [] → InSomeState hub (λ h. Unit {0}) → SocketsHaveBytes hub slots
-nobody_has hub slots is some = ∥∥₁_map some (λ w. (w.0, w.1, λ key entry e alive. absurd (no_entry slots is key entry e)))
-
 module _ {D : Type 0} {g : Ghosts D} (hub later : Hub D g) where
   module _ (moment : ℕ) (slots ready driven new : List (Option (Entry (BufferedStream Socket)))) (events : List Event) (polled : (key : ℕ) → slot_at ready key ≡ after_poll events key (slot_at slots key)) (sessions : HaveSessions hub ready)
       (ended : (key : ℕ) → EndsTurn SocketsTell traffic_of moment (slot_at driven key) (slot_at new key)) (leads : Leads hub later (λ h k. DrivenAll SocketsTell (traffic_through traffic_of) h ready k driven)) where
     pub drives_keep : KeepBytes hub slots later new
     drives_keep = leads_map hub later _ _ leads (λ h k stands d has. drives_bytes SocketsTell traffic_of moment slots ready driven new events polled sessions.own ended h k d has)
 
-  -- what keeps the bytes leads on where they are so
-  pub still_has : (slots new : List (Option (Entry (BufferedStream Socket)))) → KeepBytes hub slots later new → SocketsHaveBytes hub slots → SocketsHaveBytes later new
-  still_has slots new keeps some = some_after hub later _ _ _ some keeps (λ h k has kept. kept has)
-
-  module _ (next then count : ℕ) (slots new : List (Option (Entry (BufferedStream Socket)))) (each : AdmitsEach IsNewSocket hub next slots count later then new) (numbers : AreBelow next slots) where
-    pub accepts_have : SocketsHaveBytes hub slots → SocketsHaveBytes later new
-    accepts_have some = ∥∥₁_map some (λ w. (let r = each_bytes SocketsTell (traffic_through traffic_of) IsNewSocket new_begins each w.0 w.1 numbers w.2 in (run w.0 (joins_of each), r.0, r.2)))
+-- and so it is of the connections that come
+pub sockets_come : {D : Type 0} {g : Ghosts D} {hub : Hub D g} {next : ℕ} {slots : List (Option (Entry (BufferedStream Socket)))} {count : ℕ} {later : Hub D g} {then : ℕ} {new : List (Option (Entry (BufferedStream Socket)))}
+    (each : AdmitsEach IsNewSocket hub next slots count later then new) (h : HubState) → StandsFor hub h → AreBelow next slots → HaveBytes SocketsTell (traffic_through traffic_of) h slots → HaveBytes SocketsTell (traffic_through traffic_of) (run h (joins_of each)) new
+sockets_come each h stands numbers has = (each_bytes SocketsTell (traffic_through traffic_of) IsNewSocket new_begins each h stands numbers has).2
 
 -- the drives of a turn, and then its accepts
 module _ {D : Type 0} {g : Ghosts D} (follow : Follow D g) (hub mid later : Hub D g) (next then count refused counted : ℕ) (slots between new : List (Option (Entry (BufferedStream Socket)))) (come : ComeEach IsNewSocket mid next between refused count later then new counted)
@@ -116,7 +109,7 @@ module _ {D : Type 0} {g : Ghosts D} (follow : Follow D g) (hub mid later : Hub 
 
 -- ---- what the connections say
 
-all_found : (s : ℕ) (es : List (ℕ × SessionStream)) (st : SessionStream) → AllByRecursion (λ e. IsSessionStream e.1) es → lookup (test s) es ≡ Some st → IsSessionStream st
+pub all_found : (s : ℕ) (es : List (ℕ × SessionStream)) (st : SessionStream) → AllByRecursion (λ e. IsSessionStream e.1) es → lookup (test s) es ≡ Some st → IsSessionStream st
 all_found s [] st all e = absurd (let bad : None ≡ Some st = e in cc)
 all_found s (x ∷ xs) st all e =
     elim (test s x.0) as (λ b. cond b (Some x.1) (lookup (test s) xs) ≡ Some st → IsSessionStream st) [

@@ -41,4 +41,4 @@ module _ (now : Option Instant) (moment : ℕ) where
   pub record LingerOn (is_told : Bool) (slots : List (Option (Entry (BufferedStream Socket)))) (old : Lingerers) (new : List (Option (Entry (BufferedStream Socket)))) (later : Lingerers) : Type 0 where
     pub begun : Lingerers
     pub left : EndAll slots old new begun
-    pub turned : AreTurned now is_told begun later
+    pub turned : AreTurned now moment is_told begun later

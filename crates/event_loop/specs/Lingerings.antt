@@ -2,7 +2,7 @@
 use Rattle.std.specs.Prelude.{◌≡◌, ◌⊎◌, ℕ, ◌+◌, ◌*◌, ◌<◌, ◌-◌, ◌||◌, min, length, List, [], ◌∷◌, ◌++◌, Bool, true, false, Option, Some, None}
 use Rattle.std.specs.Time.{FitsClock, instant_nanos}
 use Rattle.std.specs.declared.time.Instant.{Instant}
-use Rattle.stream_driver.specs.Traffic.{Traffic, one_more}
+use Rattle.stream_driver.specs.Traffic.{DepartAt, Traffic, one_more}
 use Rattle.event_loop.specs.declared.connections.Backlog.{Backlog}
 use Rattle.event_loop.specs.declared.connections.Backlog.TheVariants.{Empty, Full, Failed}
 use Rattle.event_loop.specs.declared.lingering.Dropped.{Dropped}
@@ -68,18 +68,19 @@ MayLinger (Some now) lingerer = (0 < lingerer.left) × (instant_nanos now < inst
 abbrev pub most_of : Lingerer → ℕ
 most_of lingerer = min lingerer.left LINGERING_BYTES_A_TURN
 
--- what came in was dropped
-pub record DropsInput (old : Lingerer) (dropped : Dropped) (new : Lingerer) : Type 0 where
+-- what came in was dropped, at this moment of the device
+pub record DropsInput (moment : ℕ) (old : Lingerer) (dropped : Dropped) (new : Lingerer) : Type 0 where
   pub given : SocketsTell → GivesAtMost dropped (most_of old) (length (traffic_of old.socket).given) (length (traffic_of new.socket).given)
   pub taken : SocketsTell → (traffic_of new.socket).taken ≡ (traffic_of old.socket).taken
+  pub departed : SocketsTell → DepartAt moment (traffic_of old.socket) (traffic_of new.socket)
   pub why : WhyDropped dropped (most_of old) (traffic_of old.socket) (traffic_of new.socket)
   pub left : new.left ≡ left_after dropped (most_of old) old.left
   pub until : new.until ≡ old.until
 
 -- where it is to be read
-abbrev pub DropsIf : Bool → Lingerer → Dropped → Lingerer → Type 0
-DropsIf true old dropped new = DropsInput old dropped new
-DropsIf false old dropped new = (new ≡ old) × (dropped ≡ Blocked 0)
+abbrev pub DropsIf : ℕ → Bool → Lingerer → Dropped → Lingerer → Type 0
+DropsIf moment true old dropped new = DropsInput moment old dropped new
+DropsIf moment false old dropped new = (new ≡ old) × (dropped ≡ Blocked 0)
 
 -- as much was dropped as was asked for, and there may be more
 abbrev pub is_all : Dropped → Bool
@@ -87,14 +88,14 @@ is_all (Blocked n) = false
 is_all All = true
 is_all Over = false
 
-module _ (now : Option Instant) (reads : Bool) where
+module _ (now : Option Instant) (moment : ℕ) (reads : Bool) where
   -- it came to an end of its bytes or of its time, or its peer ended
   abbrev pub Ends : Lingerer → Type 0
-  Ends old = (dropped : Dropped) × (new : Lingerer) × DropsIf reads old dropped new × (MayLinger now new → ⊥)
+  Ends old = (dropped : Dropped) × (new : Lingerer) × DropsIf moment reads old dropped new × (MayLinger now new → ⊥)
 
   -- it lingers on, within its bounds
   abbrev pub Stays : Lingerer → Dropped → Lingerer → Type 0
-  Stays old dropped new = DropsIf reads old dropped new × MayLinger now new
+  Stays old dropped new = DropsIf moment reads old dropped new × MayLinger now new
 
   -- the first of them ends, or stays and becomes the last
   abbrev pub FirstTurned : List Lingerer → Lingerers → Lingerers → Type 0
@@ -113,8 +114,8 @@ module _ (now : Option Instant) (reads : Bool) where
       × Stays first dropped later × AllTurned others rest of_rest × (new ≡ later ∷ rest) × (more ≡ (is_all dropped || of_rest)))
 
 -- they are read where the poll told of them, or there may be input of which it won't tell
-pub record AreTurned (now : Option Instant) (is_told : Bool) (old new : Lingerers) : Type 0 where
-  pub turned : AllTurned now (is_told || old.has_more) old.all new.all new.has_more
+pub record AreTurned (now : Option Instant) (moment : ℕ) (is_told : Bool) (old new : Lingerers) : Type 0 where
+  pub turned : AllTurned now moment (is_told || old.has_more) old.all new.all new.has_more
   pub refused : new.refused ≡ old.refused
 
 -- ---- how long they linger

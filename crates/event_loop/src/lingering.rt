@@ -6,6 +6,7 @@
 ghost use Rattle.std.specs.Prelude.{◌≡◌, ◌≤◌, length};
 ghost use Rattle.std.specs.VecDeque.{deque_len, deque_capacity};
 ghost use Rattle.event_loop.specs.declared.lingering.TheConstants.{LINGERING_MAX};
+ghost use Rattle.stream_driver.specs.Traffic.{DepartAt};
 ghost use Rattle.event_loop.specs.Drops.{GivesAtMost, WhyDropped};
 
 use crate::socket::Socket;
@@ -57,6 +58,7 @@ impl Dropped {
 pub fn drop_input<D: Sectors, S: Stream>(device: &D, stream: &mut S, most: usize) -> Dropped
     ensures given { S.tells → GivesAtMost result most (length (S.traffic stream.old).given) (length (S.traffic stream.new).given) }
     ensures taken { S.tells → (S.traffic stream.new).taken ≡ (S.traffic stream.old).taken }
+    ensures departed { S.tells → DepartAt (D.moment device.now) (S.traffic stream.old) (S.traffic stream.new) }
     ensures why { WhyDropped result most (S.traffic stream.old) (S.traffic stream.new) }
 {
     let mut buffer = [0u8; READ_MAX];
@@ -86,7 +88,7 @@ impl Lingerer {
 
     // Drops what came in, where it is to be read.
     fn turn<D: Sectors>(&mut self, device: &D, reads: bool) -> Dropped
-        ensures { DropsIf reads self.old result self.new }
+        ensures { DropsIf (D.moment device.now) reads self.old result self.new }
     {
         if reads {
             self.drop_some(device)
@@ -97,7 +99,7 @@ impl Lingerer {
 
     // Drops what came in, as far as one turn goes.
     fn drop_some<D: Sectors>(&mut self, device: &D) -> Dropped
-        ensures { DropsInput self.old result self.new }
+        ensures { DropsInput (D.moment device.now) self.old result self.new }
     {
         let most = self.left.min(LINGERING_BYTES_A_TURN);
         let dropped = drop_input(device, &mut self.socket, most);
@@ -134,12 +136,15 @@ pub(crate) struct Lingering {
 }
 
 impl Lingering {
+    ghost use Rattle.std.specs.Prelude.{[], IfOk};
     ghost use Rattle.event_loop.specs.Drops.{newest};
     ghost use Rattle.event_loop.specs.Lingerings.{AreTurned, FirstTurned, Leaves, closed, lingerers_of, oldest_waits};
     ghost use Rattle.event_loop.specs.Waits.{nanos_of};
 
     /// None lingers. Takes the memory for all.
-    pub(crate) fn new(alloc: Global) -> Result<Lingering, AllocError> {
+    pub(crate) fn new(alloc: Global) -> Result<Lingering, AllocError>
+        ensures { IfOk result (λ l. l.queue.items ≡ []) }
+    {
         Ok(Lingering {
             queue: VecDeque::with_capacity(alloc, LINGERING_MAX)?,
             has_more: false,
@@ -208,7 +213,7 @@ impl Lingering {
 
     /// Drops what came in where the poll told of it or there may be more, and closes those that are over.
     pub(crate) fn turn<D: Sectors>(&mut self, device: &D, is_told: bool, now: Option<Instant>)
-        ensures { AreTurned now is_told (lingerers_of self.old) (lingerers_of self.new) }
+        ensures { AreTurned now (D.moment device.now) is_told (lingerers_of self.old) (lingerers_of self.new) }
     {
         let reads = is_told || self.has_more;
         self.has_more = false;
@@ -219,7 +224,7 @@ impl Lingering {
 
     // The first is closed where it is over, and else becomes the last.
     fn turn_first<D: Sectors>(&mut self, device: &D, reads: bool, now: Option<Instant>)
-        ensures { FirstTurned now reads self.old.queue.items (lingerers_of self.old) (lingerers_of self.new) }
+        ensures { FirstTurned now (D.moment device.now) reads self.old.queue.items (lingerers_of self.old) (lingerers_of self.new) }
     {
         let Some(mut lingerer) = self.queue.pop_front() else {
             return;

@@ -1,11 +1,10 @@
 //! The loop.
 ghost use Rattle.std.specs.Prelude.{◌+◌, ◌≤◌};
 ghost use Rattle.mio.specs.Events.{capacity as events_capacity};
-ghost use Rattle.sessions.specs.Lives.{IsServed};
 ghost use Rattle.stream_driver.specs.Sessions.{Stands};
 ghost use Rattle.stream_driver.specs.Entries.{HaveSessions};
+ghost use Rattle.event_loop.specs.Departures.{IsServing};
 ghost use Rattle.event_loop.specs.Numbers.{AreBelow};
-ghost use Rattle.event_loop.specs.TableBytes.{SocketsHaveBytes};
 ghost use Rattle.event_loop.specs.Tables.{HaveEntries};
 
 use crate::connections::{
@@ -48,19 +47,19 @@ pub struct EventLoop<D: Sectors> {
     table: Slab<Entry<BufferedStream<Socket>>>,
     ghost room: { 128 + 64 + 1 ≤ events_capacity poller.events },
     ghost stands: { Stands hub },
-    ghost served: { IsServed hub },
+    ghost serving: { IsServing hub table.slots lingering.queue.items },
     ghost sessions: { HaveSessions hub table.slots },
     ghost entries: { HaveEntries hub table.slots },
     ghost numbers: { AreBelow next table.slots },
-    ghost bytes: { SocketsHaveBytes hub table.slots },
 }
 
 impl<D: Sectors> EventLoop<D> {
     ghost use Rattle.std.specs.Prelude.{◌≡◌, true, IfOk, OnOk, OnErr};
     ghost use Rattle.mio.specs.Events.{items};
-    ghost use Rattle.sessions.specs.Lives.{IsOpened};
+    ghost use Rattle.sessions.specs.Lives.{IsOpened, IsServed};
     ghost use Rattle.sessions.specs.SessionStreams.{HubState};
     ghost use Rattle.sessions.specs.StandsFor.{StandsFor, device};
+    ghost use Rattle.event_loop.specs.Departures.{KeepsWhatLeft};
     ghost use Rattle.event_loop.specs.Leavings.{EndAll};
     ghost use Rattle.event_loop.specs.Lingerings.{lingerers_of, unless_failed};
     ghost use Rattle.event_loop.specs.Loops.{HasItsSessions, hub_of};
@@ -192,6 +191,17 @@ impl<D: Sectors> EventLoop<D> {
         ensures speak { SocketsTell → ConnectionsSpeak (hub_of self.now) self.now.table.slots }
     {
         self.hub.is_lawful();
+    }
+
+    /// Does nothing, and takes no memory. Its contract says what is kept of what left, under the premise that sockets tell the bytes that
+    /// they move. There is one run from an opening to this hub. For each connection that is in the table or lingers, and each of its
+    /// departures, that run passes a hub whose device stood at the moment of the departure, and by then the session had been answered the
+    /// bytes that had left. A crash at that moment or since leaves no map that is older than the one committed at that hub, and so whatever
+    /// lives follow begin with such a map. So a COMMIT whose number has left over a connection is never lost.
+    pub fn keeps_what_left(&self)
+        ensures kept { SocketsTell → KeepsWhatLeft (hub_of self.now) self.now.table.slots self.now.lingering.queue.items }
+    {
+        self.hub.loses_nothing();
     }
 
     // How long the next poll waits.

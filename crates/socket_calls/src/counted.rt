@@ -1,15 +1,15 @@
 //! The calls of a connection, each counted.
-ghost use Rattle.std.specs.Prelude.{◌≡◌, take};
+ghost use Rattle.std.specs.Prelude.{◌≡◌, ◌≢◌, ◌↔◌, ◌-◌, ◌^◌, IsErr, take};
 ghost use Rattle.std.specs.Io.{ReadsAtMost, WritesAtMost};
 
 use mio::net::TcpStream;
 use mio::{Interest, Poll, Token};
 use sector::Sectors;
-use std::io::{self, Read, Write};
+use std::io::{self, ErrorKind, Read, Write};
 use std::net::Shutdown;
 
-/// A TCP connection, with the number of reads and writes that were made of it. `read` and `write` make one call and count it; the count
-/// stays at 2^64 - 1 once it is there.
+/// A TCP connection, with the number of reads and writes that were made of it. `read` and `write` make one call and count it. Once the count
+/// is 2^64 - 1 it stays, and they fail (`Other`) without a call, so that no two calls are made at one count.
 #[derive(Drop)]
 pub struct CountedSocket {
     stream: TcpStream,
@@ -37,9 +37,10 @@ impl CountedSocket {
     pub fn read(&mut self, into: &mut [u8]) -> io::Result<usize>
         ensures bound { ReadsAtMost result into.new }
         ensures next { self.new ≡ next self.old }
-        ensures happened { WasReceived self.old (take (moved result) into.new) }
+        ensures over { self.old.calls ≡ 2 ^ 64 - 1 → IsErr result }
+        ensures happened { self.old.calls ≢ 2 ^ 64 - 1 → WasReceived self.old (take (moved result) into.new) }
     {
-        self.count_call();
+        self.count_call()?;
         self.stream.read(into)
     }
 
@@ -48,10 +49,11 @@ impl CountedSocket {
     pub fn write<D: Sectors>(&mut self, device: &D, from: &[u8]) -> io::Result<usize>
         ensures bound { WritesAtMost result from.now }
         ensures next { self.new ≡ next self.old }
-        ensures happened { WasSent self.old (take (moved result) from.now) (D.moment device.now) }
+        ensures over { self.old.calls ≡ 2 ^ 64 - 1 → IsErr result }
+        ensures happened { self.old.calls ≢ 2 ^ 64 - 1 → WasSent self.old (take (moved result) from.now) (D.moment device.now) }
     {
         let _ = device;
-        self.count_call();
+        self.count_call()?;
         self.stream.write(from)
     }
 
@@ -64,10 +66,15 @@ impl CountedSocket {
             .reregister(&mut self.stream, token, Interest::READABLE)
     }
 
-    /// Counts a call.
-    fn count_call(&mut self)
-        ensures { self.new ≡ next self.old }
+    /// Counts a call; `Other` where no more can be counted.
+    fn count_call(&mut self) -> io::Result<()>
+        ensures next { self.new ≡ next self.old }
+        ensures over { IsErr result ↔ (self.old.calls ≡ 2 ^ 64 - 1) }
     {
-        self.calls = self.calls.saturating_add(1);
+        if self.calls == u64::MAX {
+            return Err(io::Error::from(ErrorKind::Other));
+        }
+        self.calls += 1;
+        Ok(())
     }
 }

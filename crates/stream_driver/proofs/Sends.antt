@@ -16,6 +16,29 @@ use Rattle.stream_driver.proofs.Carry.{all_then, and_then, grown, one_history, r
 use Rattle.stream_driver.proofs.Events.{Happens, point_after}
 use Rattle.stream_driver.proofs.States.{Follow, at_point, leads_event, leads_map, leads_none, leads_two_at, point_of}
 
+module _ (s : ℕ) (h : HubState) (es fs : List (HubEvent × Choice)) (bytes : List ℕ) where
+  -- what was answered stays so
+  pub answered_since : IsAnswered s h es bytes → IsAnswered s h (es ++ fs) bytes
+  answered_since a = record {
+    by = a.by;
+    since = a.since ++ fs;
+    events_are = ap (λ l. l ++ fs) a.events_are ∙ append_assoc a.by a.since fs;
+    stream = a.stream;
+    stream_is = a.stream_is;
+    answered = a.answered;
+  }
+
+  -- others had come before
+  pub answered_then : IsAnswered s (run h es) fs bytes → IsAnswered s h (es ++ fs) bytes
+  answered_then a = record {
+    by = es ++ a.by;
+    since = a.since;
+    events_are = ap (λ l. es ++ l) a.events_are ∙ sym (append_assoc es a.by a.since);
+    stream = a.stream;
+    stream_is = ap (λ v. stream_of v s) (run_then h es a.by) ∙ a.stream_is;
+    answered = a.answered;
+  }
+
 module _ {D : Type 0} {g : Ghosts D} (s : ℕ) (h : HubState) where
   -- more events came since
   told_since : Follow D g → (a b c : Hub D g) (es fs : List (HubEvent × Choice)) → Ran b c fs → (d : Departure) → IsToldBefore s h a b es d → IsToldBefore s h a c (es ++ fs) d
@@ -40,21 +63,14 @@ module _ {D : Type 0} {g : Ghosts D} (s : ℕ) (h : HubState) where
     came = follow a b t.hub es t.before ran t.came;
     goes_on = t.goes_on;
     moment_is = t.moment_is;
-    told = record {
-      by = es ++ t.told.by;
-      since = t.told.since;
-      events_are = ap (λ l. es ++ l) t.told.events_are ∙ sym (append_assoc es t.told.by t.told.since);
-      stream = t.told.stream;
-      stream_is = ap (λ v. stream_of v s) (run_then h es t.told.by) ∙ t.told.stream_is;
-      answered = t.told.answered;
-    };
+    told = answered_then s h es t.before d.bytes t.told;
   }
 
-  all_since : Follow D g → (a b c : Hub D g) (es fs : List (HubEvent × Choice)) → Ran b c fs → (ds : List Departure) → AllByRecursion (IsToldBefore s h a b es) ds → AllByRecursion (IsToldBefore s h a c (es ++ fs)) ds
+  pub all_since : Follow D g → (a b c : Hub D g) (es fs : List (HubEvent × Choice)) → Ran b c fs → (ds : List Departure) → AllByRecursion (IsToldBefore s h a b es) ds → AllByRecursion (IsToldBefore s h a c (es ++ fs)) ds
   all_since follow a b c es fs ran [] all = all
   all_since follow a b c es fs ran (d ∷ ds) all = (told_since follow a b c es fs ran d all.0, all_since follow a b c es fs ran ds all.1)
 
-  all_before : Follow D g → (a b c : Hub D g) (es fs : List (HubEvent × Choice)) → Ran a b es → (ds : List Departure) → AllByRecursion (IsToldBefore s (run h es) b c fs) ds
+  pub all_before : Follow D g → (a b c : Hub D g) (es fs : List (HubEvent × Choice)) → Ran a b es → (ds : List Departure) → AllByRecursion (IsToldBefore s (run h es) b c fs) ds
       → AllByRecursion (IsToldBefore s h a c (es ++ fs)) ds
   all_before follow a b c es fs ran [] all = all
   all_before follow a b c es fs ran (d ∷ ds) all = (told_then follow a b c es fs ran d all.0, all_before follow a b c es fs ran ds all.1)
@@ -100,13 +116,24 @@ begins_all bytes pending sent taken took b is e = record {
 pub begins_through : (bytes mid all : List ℕ) → IsBeginning bytes mid → IsBeginning mid all → IsBeginning bytes all
 begins_through bytes mid all a b = record { rest = a.rest ++ b.rest; all_is = b.all_is ∙ ap (λ l. l ++ b.rest) a.all_is ∙ append_assoc bytes a.rest b.rest }
 
+-- what was told to be sent was answered
+pub sent_answered : (s : ℕ) (h : HubState) (es : List (HubEvent × Choice)) (t : Traffic) → HasSent s h t → IsAnswered s h es t.taken
+sent_answered s h es t has = record {
+  by = [];
+  since = es;
+  events_are = refl;
+  stream = has.stream;
+  stream_is = has.stream_is;
+  answered = record { rest = has.stream.now.pending; all_is = ap (λ l. l ++ has.stream.now.pending) (sym has.taken) };
+}
+
 module _ {D : Type 0} {g : Ghosts D} (s : ℕ) (tells : Type 0) where
   -- the stream was not called
   pub tells_still : (a b : Hub D g) (t : Traffic) (P : Point → Point → Type 0) → Leads a b P → LeadsTelling s tells a t b t P
-  tells_still a b t P p = record { leads = p; telling = λ _ h stands has. none_left s h a b p.choices t t refl }
+  tells_still a b t P p = record { leads = p; telling = λ _ h stands has. none_left s h a b p.choices t t refl; answered = λ _ h stands has. sent_answered s h p.choices t has }
 
   pub tells_map : (a b : Hub D g) (t u : Traffic) (P Q : Point → Point → Type 0) → LeadsTelling s tells a t b u P → ((h k : Point) → StandsFor b k.hub → P h k → Q h k) → LeadsTelling s tells a t b u Q
-  tells_map a b t u P Q p f = record { leads = leads_map a b P Q p.leads f; telling = p.telling }
+  tells_map a b t u P Q p f = record { leads = leads_map a b P Q p.leads f; telling = p.telling; answered = p.answered }
 
   pub all_answered : (a b : Hub D g) (es : List (HubEvent × Choice)) (h : HubState) (took : List ℕ) → Ran a a [] → Ran a b es → (stream : SessionStream) → stream_of h s ≡ Some stream → IsBeginning took (stream.sent ++ stream.now.pending)
       → (moment : ℕ) → moment ≡ g.moment (device a) → (ds : List Departure) → AllByRecursion (λ d. (d.moment ≡ moment) × IsBeginning d.bytes took) ds → AllByRecursion (IsToldBefore s h a b es) ds
@@ -131,12 +158,15 @@ module _ {D : Type 0} {g : Ghosts D} (s : ℕ) (tells : Type 0) where
   tells_call a b t u P none p moment now departs took = record {
     leads = p;
     telling = λ is h stands has.
-        let w = took h stands is in
         let d = departs is in
-        let begins : IsBeginning u.taken (has.stream.sent ++ has.stream.now.pending) =
-        begins_all w.0 has.stream.now.pending has.stream.sent t.taken u.taken (subst (λ l. IsBeginning w.0 l) (ap pending_in has.stream_is) w.1) has.taken w.2 in
-        record { departures = d.departures; departed_are = d.departed_are; each = all_answered a b p.choices h u.taken none p.ran has.stream has.stream_is begins moment now d.departures d.each };
+        record { departures = d.departures; departed_are = d.departed_are; each = all_answered a b p.choices h u.taken none p.ran has.stream has.stream_is (begins is h stands has) moment now d.departures d.each };
+    answered = λ is h stands has. record { by = []; since = p.choices; events_are = refl; stream = has.stream; stream_is = has.stream_is; answered = begins is h stands has };
   }
+    where
+      begins : tells → (h : HubState) → StandsFor a h → (has : HasSent s h t) → IsBeginning u.taken (has.stream.sent ++ has.stream.now.pending)
+      begins is h stands has =
+          let w = took h stands is in
+          begins_all w.0 has.stream.now.pending has.stream.sent t.taken u.taken (subst (λ l. IsBeginning w.0 l) (ap pending_in has.stream_is) w.1) has.taken w.2
 
   -- with what the hub between stands for
   pub tells_two_at : Follow D g → (a b c : Hub D g) (t u v : Traffic) (P Q R : Point → Point → Type 0) → LeadsTelling s tells a t b u P → LeadsTelling s tells b u c v Q
@@ -144,11 +174,19 @@ module _ {D : Type 0} {g : Ghosts D} (s : ℕ) (tells : Type 0) where
   tells_two_at follow a b c t u v P Q R p q carried f = record {
     leads = leads_two_at follow a b c P Q R p.leads q.leads f;
     telling = λ is h stands has.
-        let to = p.leads.to (point_of a h) (at_point a h stands) in
-        let at : StandsFor b (run h p.leads.choices) = subst (StandsFor b) to.2.0.run_is to.1.state in
-        let sent : HasSent s (run h p.leads.choices) u = subst (λ v. HasSent s v u) to.2.0.run_is (sent_after s tells (point_of a h) t to.0 u (carried (point_of a h) to.0 to.2.1) is has) in
-        all_told_then s h follow a b c p.leads.choices q.leads.choices p.leads.ran q.leads.ran t u v (p.telling is h stands has) (q.telling is (run h p.leads.choices) at sent);
+        let mid = between is h stands has in
+        all_told_then s h follow a b c p.leads.choices q.leads.choices p.leads.ran q.leads.ran t u v (p.telling is h stands has) (q.telling is (run h p.leads.choices) mid.0 mid.1);
+    answered = λ is h stands has.
+        let mid = between is h stands has in
+        answered_then s h p.leads.choices q.leads.choices v.taken (q.answered is (run h p.leads.choices) mid.0 mid.1);
   }
+    where
+      between : tells → (h : HubState) → StandsFor a h → HasSent s h t → StandsFor b (run h p.leads.choices) × HasSent s (run h p.leads.choices) u
+      between is h stands has =
+          let to = p.leads.to (point_of a h) (at_point a h stands) in (
+            subst (StandsFor b) to.2.0.run_is to.1.state,
+            subst (λ v. HasSent s v u) to.2.0.run_is (sent_after s tells (point_of a h) t to.0 u (carried (point_of a h) to.0 to.2.1) is has),
+          )
 
   pub tells_then : Follow D g → (a b c : Hub D g) (t u v : Traffic) (P Q R : Point → Point → Type 0) → LeadsTelling s tells a t b u P → LeadsTelling s tells b u c v Q
       → ((h k : Point) → P h k → Carried s tells h t k u) → ((h k l : Point) → StandsFor c l.hub → P h k → Q k l → R h l) → LeadsTelling s tells a t c v R

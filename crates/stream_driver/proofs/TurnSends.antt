@@ -1,5 +1,5 @@
 -- What left over the streams of a table is told before, entry by entry.
-use Rattle.std.proofs.Common.{◌≡◌, ◌≢◌, inl, inr, ℕ, ◌<◌, List, [], ◌++◌, length, set, get_or, refl, sym, ap, subst, ◌∙◌, Option, Some, None}
+use Rattle.std.proofs.Common.{◌≡◌, ◌≢◌, ◌⊎◌, inl, inr, ℕ, ◌<◌, List, [], ◌++◌, length, set, get_or, refl, sym, ap, subst, ◌∙◌, Option, Some, None}
 use Rattle.sector.specs.declared.device.Sectors.{Ghosts}
 use Rattle.sessions.specs.declared.hub.Hub.{Hub}
 use Rattle.sessions.specs.Laws.{NoneRuns}
@@ -10,12 +10,12 @@ use Rattle.stream_driver.specs.declared.entries.EntryState.{EntryState}
 use Rattle.stream_driver.specs.declared.entries.EntryState.TheVariants.{Idle, Ready, Gone as EntryGone}
 use Rattle.stream_driver.specs.declared.entries.Entry.{Entry}
 use Rattle.stream_driver.specs.Entries.{HaveSessions, KeepSessions, DrivenEntry, DrivenIn, state_after}
-use Rattle.stream_driver.specs.Sends.{AreToldBefore, DrivesTelling, HasSent, HaveSent, LeadsTelling}
+use Rattle.stream_driver.specs.Sends.{AreToldBefore, DrivesTelling, IsAnswered, HasSent, HaveSent, LeadsTelling}
 use Rattle.stream_driver.specs.Sessions.{Point, StandsAt}
 use Rattle.stream_driver.specs.Traffic.{Traffic}
 use Rattle.stream_driver.proofs.Carry.{run_then}
 use Rattle.stream_driver.proofs.OneEntry.{ends_last, entry_other, get_set, some_inj}
-use Rattle.stream_driver.proofs.Sends.{all_told_then, more_since, none_left, sent_after}
+use Rattle.stream_driver.proofs.Sends.{all_told_then, answered_since, answered_then, more_since, none_left, sent_after}
 use Rattle.stream_driver.proofs.States.{Follow, at_point, leads_map, leads_none, leads_two_at, point_of}
 
 module _ {T : Type 0} (tells : Type 0) (traffic : T → Traffic) where
@@ -42,12 +42,13 @@ module _ {T : Type 0} (tells : Type 0) (traffic : T → Traffic) where
     drives_none hub slots none P f = record {
       leads = leads_none hub none P f;
       telling = λ t h stands has key was entry e d. none_left was.session h hub hub [] (traffic was.stream) (traffic entry.stream) (ap (λ (x : Entry T). (traffic x.stream).departed) (some_inj (sym d ∙ e)));
+      answered = λ t h stands has key was entry e d. inl (ap (λ (x : Entry T). (traffic x.stream).taken) (some_inj (sym d ∙ e)));
       keeps = λ t h stands has. has;
     }
 
     pub drives_map : (hub : Hub D g) (slots : List (Option (Entry T))) (later : Hub D g) (new : List (Option (Entry T))) (P Q : Point → Point → Type 0) → DrivesTelling traffic tells hub slots later new P
         → ((h k : Point) → StandsFor later k.hub → P h k → Q h k) → DrivesTelling traffic tells hub slots later new Q
-    drives_map hub slots later new P Q p f = record { leads = leads_map hub later P Q p.leads f; telling = p.telling; keeps = p.keeps }
+    drives_map hub slots later new P Q p f = record { leads = leads_map hub later P Q p.leads f; telling = p.telling; answered = p.answered; keeps = p.keeps }
 
     -- and then one entry more
     module _ (follow : Follow D g) (key : ℕ) (hub : Hub D g) (slots : List (Option (Entry T))) (mid : Hub D g) (new : List (Option (Entry T))) (old : Entry T) (later : Hub D g) (entry : Entry T)
@@ -66,6 +67,24 @@ module _ {T : Type 0} (tells : Type 0) (traffic : T → Traffic) where
           by EntryGone e same = none_left old.session h mid later q.leads.choices (traffic old.stream) (traffic entry.stream) (ap (λ (x : Entry T). (traffic x.stream).departed) (same e))
           by Idle e same = q.telling t h stands (has key old is (λ gone. (let bad : Idle ≡ EntryGone = sym e ∙ gone in cc)))
           by Ready e same = q.telling t h stands (has key old is (λ gone. (let bad : Ready ≡ EntryGone = sym e ∙ gone in cc)))
+
+      entry_answered : tells → (h : HubState) → StandsFor mid h → HaveSent traffic h new → ((traffic entry.stream).taken ≡ (traffic old.stream).taken) ⊎ IsAnswered old.session h q.leads.choices (traffic entry.stream).taken
+      entry_answered t h stands has =
+          let to = q.leads.to (point_of mid h) (at_point mid h stands) in
+          by old.state refl (λ gone. gone_same old entry (point_of mid h) to.0 old.state gone to.2.1)
+        where
+          by : (state : EntryState) → old.state ≡ state → (old.state ≡ EntryGone → entry ≡ old) → ((traffic entry.stream).taken ≡ (traffic old.stream).taken) ⊎ IsAnswered old.session h q.leads.choices (traffic entry.stream).taken
+          by EntryGone e same = inl (ap (λ (x : Entry T). (traffic x.stream).taken) (same e))
+          by Idle e same = inr (q.answered t h stands (has key old is (λ gone. (let bad : Idle ≡ EntryGone = sym e ∙ gone in cc))))
+          by Ready e same = inr (q.answered t h stands (has key old is (λ gone. (let bad : Ready ≡ EntryGone = sym e ∙ gone in cc))))
+
+      -- first the others, then this one
+      answered_both : (s : ℕ) (h : HubState) (before between after : List ℕ) → (between ≡ before) ⊎ IsAnswered s h p.leads.choices between → (after ≡ between) ⊎ IsAnswered s (run h p.leads.choices) q.leads.choices after
+          → (after ≡ before) ⊎ IsAnswered s h (p.leads.choices ++ q.leads.choices) after
+      answered_both s h before between after first second = elim second [
+        | inr then ↦ inr (answered_then s h p.leads.choices q.leads.choices after then)
+        | inl same ↦ elim first [ inl none ↦ inl (same ∙ none) | inr some ↦ inr (subst (λ bytes. IsAnswered s h (p.leads.choices ++ q.leads.choices) bytes) (sym same) (answered_since s h p.leads.choices q.leads.choices between some)) ]
+      ]
 
       all_kept : tells → (h : HubState) → StandsFor mid h → HaveSent traffic h new → HaveSent traffic (run h q.leads.choices) (set new key (Some entry))
       all_kept t h stands has other now e alive =
@@ -100,6 +119,21 @@ module _ {T : Type 0} (tells : Type 0) (traffic : T → Traffic) where
                   (subst (λ s. AreToldBefore s (run h p.leads.choices) mid later q.leads.choices (traffic old.stream) (traffic entry.stream)) session (entry_told t (run h p.leads.choices) at sent)))
               | inr (differs, there) ↦
                   more_since was.session h follow hub mid later p.leads.choices q.leads.choices q.leads.ran (traffic was.stream) (traffic now.stream) (p.telling t h stands has other was now e there)
+            ];
+        answered = λ t h stands has other was now e d.
+            elim (get_set new key other entry now lt d) [
+              | inl (same, which) ↦
+                  let there : get_or new other None ≡ Some old = ap (λ k. get_or new k None) same ∙ is in
+                  let before = numbers other old there in
+                  let session : old.session ≡ was.session = before.2 ∙ ap (λ (x : Entry T). x.session) (some_inj (sym before.1 ∙ e)) in
+                  subst (λ (x : Entry T). ((traffic x.stream).taken ≡ (traffic was.stream).taken) ⊎ IsAnswered was.session h (p.leads.choices ++ q.leads.choices) (traffic x.stream).taken) (sym which)
+                  (answered_both was.session h (traffic was.stream).taken (traffic old.stream).taken (traffic entry.stream).taken (p.answered t h stands has other was old e there)
+                  (subst (λ s. ((traffic entry.stream).taken ≡ (traffic old.stream).taken) ⊎ IsAnswered s (run h p.leads.choices) q.leads.choices (traffic entry.stream).taken) session
+                  (entry_answered t (run h p.leads.choices) (mid_stands h stands) (p.keeps t h stands has))))
+              | inr (differs, there) ↦ elim (p.answered t h stands has other was now e there) [
+                | inl none ↦ inl none
+                | inr some ↦ inr (answered_since was.session h p.leads.choices q.leads.choices (traffic now.stream).taken some)
+              ]
             ];
         keeps = λ t h stands has other now e alive.
             subst (λ v. HasSent now.session v (traffic now.stream)) (sym (run_then h p.leads.choices q.leads.choices)) (all_kept t (run h p.leads.choices) (mid_stands h stands) (p.keeps t h stands has) other now e alive);

@@ -1,5 +1,5 @@
 -- What has left for a peer, and when its session had been answered that.
-use Rattle.std.specs.Prelude.{◌≡◌, ◌≢◌, ℕ, List, ◌++◌, Option, Some, None, slice_index_or}
+use Rattle.std.specs.Prelude.{◌≡◌, ◌≢◌, ◌⊎◌, ℕ, List, ◌++◌, Option, Some, None, slice_index_or}
 use Rattle.std.specs.List.{AllByRecursion}
 use Rattle.sector.specs.declared.device.Sectors.{Ghosts}
 use Rattle.sessions.specs.declared.hub.Hub.{Hub}
@@ -46,10 +46,11 @@ pub record HasSent (s : ℕ) (h : HubState) (t : Traffic) : Type 0 where
   pub taken : t.taken ≡ stream.sent
 
 -- A run leads from one hub to the other, and what left over the session's stream in it is told before, in each state at which the stream had
--- taken what was told to be sent.
+-- taken what was told to be sent. All that the stream has taken was answered, so what it still holds may leave later.
 pub record LeadsTelling {D : Type 0} {g : Ghosts D} (s : ℕ) (tells : Type 0) (old : Hub D g) (before : Traffic) (new : Hub D g) (after : Traffic) (P : Point → Point → Type 0) : Type 0 where
   pub leads : Leads old new P
   pub telling : tells → (h : HubState) → StandsFor old h → HasSent s h before → AreToldBefore s h old new leads.choices before after
+  pub answered : tells → (h : HubState) → StandsFor old h → HasSent s h before → IsAnswered s h leads.choices after.taken
 
 module _ {T : Type 0} (traffic : T → Traffic) where
   -- so it is of each entry that isn't gone
@@ -62,8 +63,15 @@ module _ {T : Type 0} (traffic : T → Traffic) where
       (key : ℕ) (was entry : Entry T) → slice_index_or slots key None ≡ Some was → slice_index_or later key None ≡ Some entry
       → AreToldBefore was.session h old new events (traffic was.stream) (traffic entry.stream)
 
-  -- A run leads from one hub to the other, and what left over the streams of a table in it is told before.
+  -- each of them has taken nothing since, or all that it has taken was answered
+  abbrev pub AllAnswered : HubState → List (HubEvent × Choice) → (slots later : List (Option (Entry T))) → Type 0
+  AllAnswered h events slots later =
+      (key : ℕ) (was entry : Entry T) → slice_index_or slots key None ≡ Some was → slice_index_or later key None ≡ Some entry
+      → ((traffic entry.stream).taken ≡ (traffic was.stream).taken) ⊎ IsAnswered was.session h events (traffic entry.stream).taken
+
+  -- A run leads from one hub to the other, and what left over the streams of a table in it is told before; what they took was answered.
   pub record DrivesTelling {D : Type 0} {g : Ghosts D} (tells : Type 0) (old : Hub D g) (slots : List (Option (Entry T))) (new : Hub D g) (later : List (Option (Entry T))) (P : Point → Point → Type 0) : Type 0 where
     pub leads : Leads old new P
     pub telling : tells → (h : HubState) → StandsFor old h → HaveSent h slots → AllTold h old new leads.choices slots later
+    pub answered : tells → (h : HubState) → StandsFor old h → HaveSent h slots → AllAnswered h leads.choices slots later
     pub keeps : tells → (h : HubState) → StandsFor old h → HaveSent h slots → HaveSent (run h leads.choices) later

@@ -1,13 +1,14 @@
 use Rattle.std.proofs.Common.{◌≡◌, ◌+◌, ◌≤◌, length}
-use Rattle.stream_driver.specs.Traffic.{SameCounts}
+use Rattle.stream_driver.specs.Traffic.{DepartAt, SameCounts}
 use Rattle.event_loop.proofs.lingering.drop_input.Given as goal
 
 abbrev pub invariant-loop-left : goal.invariant-loop-left
 invariant-loop-left g l =
-    (l.left ≤ l.most)
+    ((l.left ≤ l.most)
     × (g.S.Stream.tells → length (g.S.Stream.traffic l.stream).given + l.left ≡ length (g.S.Stream.traffic l.initial.stream).given + l.most)
     × (g.S.Stream.tells → (g.S.Stream.traffic l.stream).taken ≡ (g.S.Stream.traffic l.initial.stream).taken)
-    × SameCounts (g.S.Stream.traffic l.stream) (g.S.Stream.traffic l.initial.stream)
+    × SameCounts (g.S.Stream.traffic l.stream) (g.S.Stream.traffic l.initial.stream))
+    × (g.S.Stream.tells → DepartAt (g.D.Sectors.moment l.device) (g.S.Stream.traffic l.initial.stream) (g.S.Stream.traffic l.stream))
 
 abbrev pub decreases-loop-left : goal.decreases-loop-left
 decreases-loop-left g l = l.left

@@ -5,10 +5,10 @@ use Rattle.event_loop.proofs.lingering.Lingering.turn.Goals as goal
 use Rattle.event_loop.proofs.lingering.Lingering.turn.Goals.{then-is_told, else-is_told}
 
 pub loop-init : goal.loop-init
-loop-init g c = none_turned c.args.now c.if-is_told.reads _ refl
+loop-init g c = none_turned c.args.now (g.D.Sectors.moment c.args.device.now) c.if-is_told.reads _ refl
 
 pub loop-preserved : goal.loop-preserved
-loop-preserved g c = one_turned c.args.now c.if-is_told.reads _ _ _ _ c.loop.counter (search rules) c.loop.invariant c.turn_first.ensures
+loop-preserved g c = one_turned c.args.now (g.D.Sectors.moment c.args.device.now) c.if-is_told.reads _ _ _ _ c.loop.counter (search rules) c.loop.invariant c.turn_first.ensures
 
 pub returns : goal.returns
 returns g c =
@@ -17,6 +17,6 @@ returns g c =
       | else-is_told w ↦ w.reads-is ∙ sym (ap (λ b. b || c.args.self.now.has_more) w.if-is_told.false)
     ] in
     let all = lingerers_of c.loop.self in record {
-      turned = subst (λ b. AllTurned c.args.now b c.args.self.now.queue.items all.all all.has_more) reads (all_turned c.args.now c.if-is_told.reads _ _ all c.loop.counter (search rules) c.loop.invariant);
+      turned = subst (λ b. AllTurned c.args.now (g.D.Sectors.moment c.args.device.now) b c.args.self.now.queue.items all.all all.has_more) reads (all_turned c.args.now (g.D.Sectors.moment c.args.device.now) c.if-is_told.reads _ _ all c.loop.counter (search rules) c.loop.invariant);
       refused = c.loop.invariant.refused_is;
     }

@@ -7,10 +7,16 @@ use Rattle.event_loop.specs.declared.connections.TheConstants.{LINGERER}
 use Rattle.event_loop.specs.Lingerings.{lingerers_of}
 use Rattle.event_loop.specs.Turns.{accepts_now, is_told_of}
 use Rattle.event_loop.specs.Waits.{nanos_of}
+use Rattle.event_loop.proofs.Departing.{is_served, turns_serve}
 use Rattle.event_loop.proofs.GivenBack.{accepts_keep, rest_keeps, rest_leads, then_accepts}
 use Rattle.event_loop.proofs.OneTurn.{turned_by}
 use Rattle.event_loop.proofs.Waited.{wait_failed, wait_told}
 use Rattle.event_loop.proofs.server.EventLoop.turn.Goals as goal
+
+pub invariant_of-self-4-clause-serving : goal.invariant_of-self-4-clause-serving
+invariant_of-self-4-clause-serving g c =
+    turns_serve c.drive.new.self.hub c.drive.new.self.table.slots (g.D.Sectors.moment c.device.result.now) (ap (λ d. g.D.Sectors.moment d) c.device.ensures) c.time-now.result c.is_told-comes_more.result
+    (lingerers_of c.drive.new.self.lingering) (lingerers_of c.turn.new.self) c.turn.ensures c.drive.new.self.serving
 
 pub returns-clause-turned : goal.returns-clause-turned
 returns-clause-turned g c =
@@ -20,7 +26,7 @@ returns-clause-turned g c =
     turned_by ghosts.tells ghosts.traffic c.args.self.now _ c.accept_told.new.self c.give_back.new.self c.drive.ensures.next c.drive.ensures.port c.drive.ensures.backlog
     c.drive.ensures.refused c.accept_told.ensures.lingerers c.give_back.ensures.gives_back c.look-2.new.self (c.give_back.ensures.poller ∙ c.accept_told.ensures.poller ∙ c.drive.ensures.poller) _ due c.time-now.result c.time-now.ensures
     c.is_told-comes_more.result (c.is_told-comes_more.ensures ∙ ap (λ (p : Poller). is_told_of LINGERER (items p.events)) c.drive.ensures.poller) c.drive.ensures.drives.0
-    (record { begun = lingerers_of c.drive.new.self.lingering; left = c.drive.ensures.drives.1; turned = c.turn.ensures }) c.accept_told.ensures.accepts
+    (record { begun = lingerers_of c.drive.new.self.lingering; left = c.drive.ensures.drives.1; turned = rw c.device.ensures at c.turn.ensures }) c.accept_told.ensures.accepts
     (rest_leads c.runs_follow.ensures.follow c.args.self.now.hub c.accept_told.new.self c.give_back.new.self c.give_back.ensures.gives_back _
     (then_accepts c.runs_follow.ensures.follow c.args.self.now.hub _ c.accept_told.new.self _ c.drive.ensures.drives.0.drives.leads _ c.accept_told.ensures.accepts))
 
@@ -39,3 +45,9 @@ pub returns-clause-waits : goal.returns-clause-waits
 returns-clause-waits g c =
     wait_told c.args.timeout c.args.self.now c.give_back.new.self c.look.new.self c.look.ensures c.wait.new.self c.wait.ensures.clock (ap nanos_of c.wait.ensures.waited ∙ c.next_wait-wait.ensures)
     tt c.in_ok-wait.ensures.polls c.look-2.new.self c.look-2.ensures (c.give_back.ensures.poller ∙ c.accept_told.ensures.poller ∙ c.drive.ensures.poller)
+
+pub returns-in_err-wait-clause-served : goal.returns-in_err-wait-clause-served
+returns-in_err-wait-clause-served g c = (is_served c.args.self.now.hub c.args.self.now.table.slots c.args.self.now.lingering.queue.items c.args.self.now.serving, is_served c.args.self.now.hub c.args.self.now.table.slots c.args.self.now.lingering.queue.items c.args.self.now.serving)
+
+pub returns-clause-served : goal.returns-clause-served
+returns-clause-served g c = (is_served c.args.self.now.hub c.args.self.now.table.slots c.args.self.now.lingering.queue.items c.args.self.now.serving, is_served c.give_back.new.self.hub c.give_back.new.self.table.slots c.give_back.new.self.lingering.queue.items c.give_back.new.self.serving)

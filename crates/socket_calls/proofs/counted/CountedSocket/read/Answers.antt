@@ -2,4 +2,4 @@ use Rattle.socket_calls.specs.HappenedCalls.{real_receive}
 use Rattle.socket_calls.proofs.counted.CountedSocket.read.Goals as goal
 
 pub returns-clause-happened : goal.returns-clause-happened
-returns-clause-happened c = real_receive _ _
+returns-clause-happened c = λ fewer. real_receive _ _

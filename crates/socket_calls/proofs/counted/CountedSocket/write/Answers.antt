@@ -2,4 +2,4 @@ use Rattle.socket_calls.specs.HappenedCalls.{real_send}
 use Rattle.socket_calls.proofs.counted.CountedSocket.write.Goals as goal
 
 pub returns-clause-happened : goal.returns-clause-happened
-returns-clause-happened g c = real_send _ _ _
+returns-clause-happened g c = λ fewer. real_send _ _ _

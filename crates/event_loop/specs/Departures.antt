@@ -1,0 +1,83 @@
+-- What left over the connections was answered before, and no crash since loses it.
+use Rattle.std.specs.Prelude.{◌≡◌, ℕ, List, Option, Some, length, map}
+use Rattle.std.specs.List.{AllByRecursion, Contains}
+use Rattle.model.specs.History.{Record}
+use Rattle.model.specs.Machine.{opened}
+use Rattle.model.specs.Operations.{Response}
+use Rattle.model.specs.Operations.Response.{Number}
+use Rattle.sector.specs.declared.device.Sectors.{Ghosts}
+use Rattle.sessions.specs.declared.hub.Hub.{Hub}
+use Rattle.sessions.specs.Life.{Holds, MayFind}
+use Rattle.sessions.specs.Lives.{FollowOn, Life, LoseNothing, Served}
+use Rattle.sessions.specs.SessionStreams.{HubState, hub_over, replies_text, run}
+use Rattle.sessions.specs.StandsFor.{device}
+use Rattle.stream_driver.specs.declared.buffered.BufferedStream.{BufferedStream}
+use Rattle.stream_driver.specs.declared.entries.Entry.{Entry}
+use Rattle.stream_driver.specs.Buffers.{traffic_through}
+use Rattle.stream_driver.specs.Sends.{IsAnswered, IsToldBefore}
+use Rattle.stream_driver.specs.Traffic.{Departure, IsBeginning, Traffic}
+use Rattle.event_loop.specs.declared.lingering.Lingerer.{Lingerer}
+use Rattle.event_loop.specs.declared.socket.Socket.{Socket}
+use Rattle.event_loop.specs.Sockets.{SocketsTell, traffic_of}
+use Rattle.event_loop.specs.TableBytes.{HaveBytes}
+use Rattle.event_loop.specs.Tables.{slot_at}
+
+-- a number, which is answered to a COMMIT alone, is that of a transaction of this history
+abbrev pub IsCommitted : List Record → Response → Type 0
+IsCommitted history (Number n) = Contains (map (λ r. r.commit) history) n
+IsCommitted history other = Unit {0}
+
+-- the state in which the opening left the store
+abbrev pub first_state : {D : Type 0} {g : Ghosts D} {hub : Hub D g} → Served hub → HubState
+first_state {D} {g} served = hub_over (opened served.start.map served.start.begins.used (g.size served.start.dev))
+
+-- the one to which the run has come
+abbrev pub present_state : {D : Type 0} {g : Ghosts D} {hub : Hub D g} → Served hub → HubState
+present_state served = run (first_state served) served.choices
+
+module _ {D : Type 0} {g : Ghosts D} {hub : Hub D g} (served : Served hub) where
+  -- the run passes a hub whose device stands at the moment of the departure, and by then the session had been answered the bytes
+  abbrev pub IsTold : ℕ → Departure → Type 0
+  IsTold s d = IsToldBefore s (first_state served) served.first hub served.choices d
+
+  -- So it is of each departure of the session's stream. All that the stream has taken was answered, so what it holds may leave later.
+  pub record Tells (s : ℕ) (t : Traffic) : Type 0 where
+    pub told : AllByRecursion (IsTold s) t.departed
+    pub answered : IsAnswered s (first_state served) served.choices t.taken
+
+  -- so it is of each entry, gone or not
+  abbrev pub EntriesTell : List (Option (Entry (BufferedStream Socket))) → Type 0
+  EntriesTell slots = (key : ℕ) (entry : Entry (BufferedStream Socket)) → slot_at slots key ≡ Some entry → Tells entry.session (traffic_through traffic_of entry.stream)
+
+  -- and of each connection that lingers, whose session has left
+  abbrev pub LingerersTell : List Lingerer → Type 0
+  LingerersTell all = AllByRecursion (λ l. (s : ℕ) × Tells s (traffic_of l.socket)) all
+
+  -- What left begins the texts of the machine's replies, and each number among these is that of a transaction committed by then. A crash at
+  -- the moment of the departure or since leaves no map that is older than the one committed there. So whatever lives follow, the first begins
+  -- with such a map, and each other with one that the life before it may have left.
+  pub record IsKept (s : ℕ) (d : Departure) : Type 0 where
+    pub told : IsTold s d
+    pub texts : IsBeginning d.bytes (replies_text told.told.stream)
+    pub committed : AllByRecursion (IsCommitted (run (first_state served) told.before).machine.history) told.told.stream.replies
+    pub left : g.keeps_model → (c : List (List ℕ)) → g.left_since (device hub) d.moment c → Holds (first_state served) served.choices (length told.before) c
+    pub found : g.keeps_model → (lives : List (Life D g)) → FollowOn (g.left_since (device hub) d.moment) lives → LoseNothing (MayFind (first_state served) served.choices (length told.before)) lives
+
+-- The hub is on a run from an opening. In the state to which it has come each connection has the bytes of its session; what left over each
+-- is told before.
+pub record Serving {D : Type 0} {g : Ghosts D} (hub : Hub D g) (slots : List (Option (Entry (BufferedStream Socket)))) (lingerers : List Lingerer) : Type 0 where
+  pub served : Served hub
+  pub bytes : HaveBytes SocketsTell (traffic_through traffic_of) (present_state served) slots
+  pub tells : SocketsTell → EntriesTell served slots
+  pub lingerers_tell : SocketsTell → LingerersTell served lingerers
+
+abbrev pub IsServing : {D : Type 0} {g : Ghosts D} → Hub D g → List (Option (Entry (BufferedStream Socket))) → List Lingerer → Type 0
+IsServing hub slots lingerers = ∥ Serving hub slots lingerers ∥₁
+
+-- There is a run from an opening to this hub in which each departure of each connection is kept: of each in the table, and of each that
+-- lingers, as one of the session that it had.
+abbrev pub KeepsWhatLeft : {D : Type 0} {g : Ghosts D} → Hub D g → List (Option (Entry (BufferedStream Socket))) → List Lingerer → Type 0
+KeepsWhatLeft hub slots lingerers =
+    ∥ ((served : Served hub)
+    × ((key : ℕ) (entry : Entry (BufferedStream Socket)) → slot_at slots key ≡ Some entry → AllByRecursion (IsKept served entry.session) (traffic_of entry.stream.inner).departed)
+    × AllByRecursion (λ l. (s : ℕ) × AllByRecursion (IsKept served s) (traffic_of l.socket).departed) lingerers) ∥₁
