@@ -1,19 +1,20 @@
--- Two lists of postings made into one, from their ends.
-use Rattle.std.proofs.Common.{◌≡◌, ◌≤◌, ◌<◌, ◌-◌, ℕ, suc, Bool, true, false, not, cond, ◌&&◌, List, [], ◌∷◌, ◌++◌, Option, Some, None, length, refl, sym, ap, subst, ◌∙◌, arith}
-use Rattle.std.specs.Prelude.{nat_lt, is_some, max, slice_get}
-use Rattle.std.specs.List.{list_all}
-use Rattle.std.specs.Ordering.{is_le, is_gt}
-use Rattle.std.specs.declared.cmp.Ordering.{Ordering}
-use Rattle.std.specs.declared.cmp.Ordering.TheVariants.{Less, Equal, Greater}
+-- Two lists of postings made into one, from their heads, and runs in the place of others.
+use Rattle.std.proofs.Common.{◌≡◌, ◌≤◌, ◌<◌, ◌-◌, ◌+◌, ℕ, zero, suc, Bool, true, false, not, cond, ◌&&◌, List, [], ◌∷◌, ◌++◌, Option, Some, None, length, get_or, refl, sym, ap, ◌∙◌, arith}
+use Rattle.std.specs.Prelude.{nat_lt, is_some, max}
+use Rattle.std.specs.List.{list_all, remove}
+use Rattle.std.specs.Ordering.{is_le}
+use Rattle.std.proofs.Math.ListN.{set}
 use Rattle.std.proofs.lemmas.Bool.{both_ways, and_parts, and_from, le-ltb, ltb-false}
-use Rattle.std.proofs.lemmas.List.{append_assoc, append-nil}
+use Rattle.std.proofs.lemmas.List.{append_assoc, drop_all, set-get_or}
 use Rattle.model.specs.Map.{Bytes, key_cmp}
 use Rattle.pivot_check.specs.declared.run.Run.{Run}
+use Rattle.pivot_check.specs.declared.part.Part.{Part}
 use Rattle.pivot_check.specs.Postings.{Posting, least, lesser, keys_rise, are_upto}
-use Rattle.pivot_check.specs.Inside.{postings_in}
-use Rattle.pivot_check.specs.Merging.{are_keys_upto, EndsAbove, IsMoved, IsMerging}
+use Rattle.pivot_check.specs.Parts.{live, left, live_in}
+use Rattle.pivot_check.specs.Inside.{in_run, postings_in}
+use Rattle.pivot_check.specs.Merging.{are_keys_from, BeginsBelow}
 use Rattle.pivot_check.proofs.Writers.{lesser_none, lesser_comm, lesser_assoc, some_lesser, least-append}
-use Rattle.pivot_check.proofs.Walks.{le_trans, le_from_not, pushed}
+use Rattle.pivot_check.proofs.Walks.{le_trans}
 
 all-append : (p : Posting → Bool) (xs ys : List Posting) → list_all p (xs ++ ys) ≡ (list_all p xs && list_all p ys)
 all-append p [] ys = refl
@@ -29,107 +30,106 @@ rises_left (x ∷ xs) ys h =
     let parts = and_parts _ _ h in
     and_from _ _ (and_parts _ _ (sym (all-append (λ q. is_le (key_cmp x.key q.key)) xs ys) ∙ parts.0)).0 (rises_left xs ys parts.1)
 
-rises_right : (xs ys : List Posting) → keys_rise (xs ++ ys) ≡ true → keys_rise ys ≡ true
-rises_right [] ys h = h
-rises_right (x ∷ xs) ys h = rises_right xs ys (and_parts _ _ h).1
+-- ---- one was moved from the head of xs behind ms
 
--- one more between those that it isn't below and those that it isn't above
-put_between : (ys rest : List Posting) (w : Posting) → keys_rise (ys ++ rest) ≡ true → are_keys_upto w.key ys ≡ true → keys_rise (w ∷ rest) ≡ true → keys_rise (ys ++ w ∷ rest) ≡ true
-put_between [] rest w h upto g = g
-put_between (y ∷ ys) rest w h upto g =
-    let parts = and_parts _ _ h in
-    let low = and_parts _ _ upto in
-    let sides = and_parts _ _ (sym (all-append (λ q. is_le (key_cmp y.key q.key)) ys rest) ∙ parts.0) in
-    and_from _ _ (all-append (λ q. is_le (key_cmp y.key q.key)) ys (w ∷ rest) ∙ and_from _ _ sides.0 (and_from _ _ low.0 sides.1)) (put_between ys rest w parts.1 low.1 g)
-
--- ---- one step
-
-turned_round : (x y w r : Option ℕ) → lesser x (lesser y (lesser w r)) ≡ lesser (lesser x w) (lesser y r)
-turned_round x y w r =
-    ap (lesser x) (sym (lesser_assoc y w r) ∙ ap (λ o. lesser o r) (lesser_comm y w) ∙ lesser_assoc w y r) ∙ sym (lesser_assoc x w (lesser y r))
-
-pub step_first : (a b xs xs' ys r r' : List Posting) → IsMerging a b xs ys r → IsMoved xs xs' r r' → EndsAbove xs ys → IsMerging a b xs' ys r'
-step_first a b xs xs' ys r r' m moved above =
-    let w = moved.0 in
-    let is = moved.1 in
-    let rest : keys_rise (xs' ++ w ∷ r) ≡ true = ap keys_rise (sym (append_assoc xs' (w ∷ []) r)) ∙ ap (λ l. keys_rise (l ++ r)) (sym is) ∙ m.first in
-    record {
-      same = λ c. ap (λ l. lesser (least c xs') (lesser (least c ys) (least c l))) moved.2
-          ∙ turned_round (least c xs') (least c ys) (cond (c w) (Some w.number) None) (least c r)
-          ∙ ap (λ o. lesser (lesser (least c xs') o) (lesser (least c ys) (least c r))) (sym (lesser_none (cond (c w) (Some w.number) None)))
-          ∙ ap (λ o. lesser o (lesser (least c ys) (least c r))) (sym (least-append c xs' (w ∷ [])) ∙ ap (least c) (sym is))
-          ∙ m.same c;
-      first = ap (λ l. keys_rise (xs' ++ l)) moved.2 ∙ rest;
-      second = ap (λ l. keys_rise (ys ++ l)) moved.2 ∙ put_between ys r w m.second (above xs' w is) (rises_right xs' (w ∷ r) rest);
-    }
-
-swapped : (a b xs ys r : List Posting) → IsMerging a b xs ys r → IsMerging b a ys xs r
-swapped a b xs ys r m = record {
-  same = λ c. sym (lesser_assoc (least c ys) (least c xs) (least c r)) ∙ ap (λ o. lesser o (least c r)) (lesser_comm (least c ys) (least c xs)) ∙ lesser_assoc (least c xs) (least c ys) (least c r) ∙ m.same c ∙ lesser_comm (least c a) (least c b);
-  first = m.second;
-  second = m.first;
-}
-
-pub step_second : (a b xs ys ys' r r' : List Posting) → IsMerging a b xs ys r → IsMoved ys ys' r r' → EndsAbove ys xs → IsMerging a b xs ys' r'
-step_second a b xs ys ys' r r' m moved above = swapped b a ys' xs r' (step_first b a ys ys' xs r r' (swapped a b xs ys r m) moved above)
-
-pub begun : (a b r : List Posting) → keys_rise a ≡ true → keys_rise b ≡ true → r ≡ [] → IsMerging a b a b r
-begun a b r h g none = subst (λ l. IsMerging a b a b l) (sym none) (record {
-  same = λ c. ap (lesser (least c a)) (lesser_none (least c b));
-  first = ap keys_rise (append-nil a) ∙ h;
-  second = ap keys_rise (append-nil b) ∙ g;
-})
-
-pub first_rises : (a b xs ys r : List Posting) → IsMerging a b xs ys r → keys_rise xs ≡ true
-first_rises a b xs ys r m = rises_left xs r m.first
-
-pub second_rises : (a b xs ys r : List Posting) → IsMerging a b xs ys r → keys_rise ys ≡ true
-second_rises a b xs ys r m = rises_left ys r m.second
-
-pub end_rises : (a b xs ys r : List Posting) → IsMerging a b xs ys r → keys_rise r ≡ true
-end_rises a b xs ys r m = rises_right xs r m.first
-
-pub end_same : (a b xs ys r : List Posting) → IsMerging a b xs ys r → xs ≡ [] → ys ≡ [] → (c : Posting → Bool) → least c r ≡ lesser (least c a) (least c b)
-end_same a b xs ys r m no_xs no_ys c = (λ i. lesser (least c (sym no_xs i)) (lesser (least c (sym no_ys i)) (least c r))) ∙ m.same c
-
--- ---- the greatest key
-
-no_end : (ys : List Posting) (xs : List Posting) → xs ≡ [] → EndsAbove xs ys
-no_end ys xs none init w is = absurd (by init (sym is ∙ none))
+-- before those that it isn't above
+put_between : (ms rest ys : List Posting) (w : Posting) → keys_rise (ms ++ w ∷ rest) ≡ true → are_keys_from w.key ys ≡ true → keys_rise (ms ++ ys) ≡ true → keys_rise (ms ++ w ∷ ys) ≡ true
+put_between [] rest ys w h from g = and_from _ _ from g
+put_between (m ∷ ms) rest ys w h from g =
+    let whole = and_parts (list_all low (ms ++ w ∷ rest)) (keys_rise (ms ++ w ∷ rest)) h in
+    let others = and_parts (list_all low (ms ++ ys)) (keys_rise (ms ++ ys)) g in
+    let before = and_parts (list_all low ms) (list_all low (w ∷ rest)) (sym (all-append low ms (w ∷ rest)) ∙ whole.0) in
+    let behind = and_parts (list_all low ms) (list_all low ys) (sym (all-append low ms ys) ∙ others.0) in
+    let one = and_parts (low w) (list_all low rest) before.1 in
+    and_from (list_all low (ms ++ w ∷ ys)) (keys_rise (ms ++ w ∷ ys))
+    (all-append low ms (w ∷ ys) ∙ and_from (list_all low ms) (list_all low (w ∷ ys)) before.0 (and_from (low w) (list_all low ys) one.0 behind.1)) (put_between ms rest ys w whole.1 from others.1)
   where
-    by : (init : List Posting) → init ++ w ∷ [] ≡ [] → ⊥
-    by [] e = cc
-    by (x ∷ xs) e = cc
+    low : Posting → Bool
+    low q = is_le (key_cmp m.key q.key)
 
-over_none : (xs ys : List Posting) → ys ≡ [] → EndsAbove xs ys
-over_none xs ys none init w is = ap (are_keys_upto w.key) none
+pub moved_before : (ms xs xs' : List Posting) (w : Posting) → xs ≡ w ∷ xs' → keys_rise (ms ++ xs) ≡ true → keys_rise ((ms ++ w ∷ []) ++ xs') ≡ true
+moved_before ms xs xs' w is h = ap keys_rise (append_assoc ms (w ∷ []) xs') ∙ ap (λ l. keys_rise (ms ++ l)) (sym is) ∙ h
 
--- the last of a longer list
-last_later : (x : Posting) (l : List Posting) → 0 < length l → slice_get (x ∷ l) (length (x ∷ l) - 1) ≡ slice_get l (length l - 1)
-last_later x l some = let e : suc (length l) - 1 ≡ suc (length l - 1) = omega arith in ap (λ n. slice_get (x ∷ l) n) e
+pub moved_end : (ms xs xs' : List Posting) (w : Posting) → xs ≡ w ∷ xs' → keys_rise (ms ++ xs) ≡ true → keys_rise (ms ++ w ∷ []) ≡ true
+moved_end ms xs xs' w is h = rises_left (ms ++ w ∷ []) xs' (moved_before ms xs xs' w is h)
 
-last_at : (init : List Posting) (w : Posting) → slice_get (init ++ w ∷ []) (length (init ++ w ∷ []) - 1) ≡ Some w
-last_at [] w = refl
-last_at (x ∷ []) w = last_later x (w ∷ []) (omega arith) ∙ last_at [] w
-last_at (x ∷ y ∷ init) w = last_later x (y ∷ init ++ w ∷ []) (omega arith) ∙ last_at (y ∷ init) w
+pub moved_other : (ms xs xs' ys : List Posting) (w : Posting) → xs ≡ w ∷ xs' → keys_rise (ms ++ xs) ≡ true → BeginsBelow xs ys → keys_rise (ms ++ ys) ≡ true → keys_rise ((ms ++ w ∷ []) ++ ys) ≡ true
+moved_other ms xs xs' ys w is h below g =
+    ap keys_rise (append_assoc ms (w ∷ []) ys) ∙ put_between ms xs' ys w (ap (λ l. keys_rise (ms ++ l)) (sym is) ∙ h) (below w xs' is) g
 
--- the last of keys that rise is the greatest
-upto_last : (ys : List Posting) (y : Posting) → keys_rise ys ≡ true → slice_get ys (length ys - 1) ≡ Some y → (k : Bytes) → is_le (key_cmp y.key k) ≡ true → are_keys_upto k ys ≡ true
-upto_last [] y h e k le = refl
-upto_last (x ∷ []) y h e k le = let same : x ≡ y = cc in and_from _ _ (ap (λ (p : Posting). is_le (key_cmp p.key k)) same ∙ le) refl
-upto_last (x ∷ z ∷ ys) y h e k le =
-    let rest = upto_last (z ∷ ys) y (and_parts _ _ h).1 (sym (last_later x (z ∷ ys) (omega arith)) ∙ e) k le in
-    and_from _ _ (le_trans x.key z.key k (and_parts _ _ (and_parts _ _ h).0).0 (and_parts _ _ rest).0) rest
+pub moved_same : (c : Posting → Bool) (ms xs xs' : List Posting) (w : Posting) → xs ≡ w ∷ xs' → lesser (least c (ms ++ w ∷ [])) (least c xs') ≡ lesser (least c ms) (least c xs)
+moved_same c ms xs xs' w is =
+    let o = cond (c w) (Some w.number) None in
+    ap (λ u. lesser u (least c xs')) (least-append c ms (w ∷ []) ∙ ap (lesser (least c ms)) (lesser_none o))
+    ∙ lesser_assoc (least c ms) o (least c xs')
+    ∙ ap (λ l. lesser (least c ms) (least c l)) (sym is)
 
-pub ends_above : (xs ys : List Posting) (x y : Posting) → keys_rise ys ≡ true → Some x ≡ slice_get xs (length xs - 1) → Some y ≡ slice_get ys (length ys - 1) → is_le (key_cmp y.key x.key) ≡ true → EndsAbove xs ys
-ends_above xs ys x y h x_is y_is le init w is =
-    let at : ◌≡◌ {A = Option Posting} (Some x) (Some w) = x_is ∙ ap (λ (l : List Posting). slice_get l (length l - 1)) is ∙ last_at init w in
+-- ---- three parts
+
+three : (c : Posting → Bool) (ms xs ys : List Posting) → least c (ms ++ (xs ++ ys)) ≡ lesser (least c ms) (lesser (least c xs) (least c ys))
+three c ms xs ys = least-append c ms (xs ++ ys) ∙ ap (lesser (least c ms)) (least-append c xs ys)
+
+pub of_first : (c : Posting → Bool) (ms ms' xs xs' ys : List Posting) → lesser (least c ms') (least c xs') ≡ lesser (least c ms) (least c xs) → least c (ms' ++ (xs' ++ ys)) ≡ least c (ms ++ (xs ++ ys))
+of_first c ms ms' xs xs' ys same =
+    three c ms' xs' ys ∙ sym (lesser_assoc (least c ms') (least c xs') (least c ys)) ∙ ap (λ o. lesser o (least c ys)) same
+    ∙ lesser_assoc (least c ms) (least c xs) (least c ys) ∙ sym (three c ms xs ys)
+
+pub of_second : (c : Posting → Bool) (ms ms' xs ys ys' : List Posting) → lesser (least c ms') (least c ys') ≡ lesser (least c ms) (least c ys) → least c (ms' ++ (xs ++ ys')) ≡ least c (ms ++ (xs ++ ys))
+of_second c ms ms' xs ys ys' same = turned ms' ys' ∙ of_first c ms ms' ys ys' xs same ∙ sym (turned ms ys)
+  where
+    turned : (ns zs : List Posting) → least c (ns ++ (xs ++ zs)) ≡ least c (ns ++ (zs ++ xs))
+    turned ns zs = three c ns xs zs ∙ ap (lesser (least c ns)) (lesser_comm (least c xs) (least c zs)) ∙ sym (three c ns zs xs)
+
+pub found_in_three : (c : Posting → Bool) (ms xs ys : List Posting) (found a b r : Option ℕ) → a ≡ lesser found (least c ms) → b ≡ lesser a (least c xs) → r ≡ lesser b (least c ys) → r ≡ lesser found (least c (ms ++ (xs ++ ys)))
+found_in_three c ms xs ys found a b r a_is b_is r_is =
+    r_is ∙ ap (λ o. lesser o (least c ys)) (b_is ∙ ap (λ o. lesser o (least c xs)) a_is)
+    ∙ lesser_assoc (lesser found (least c ms)) (least c xs) (least c ys) ∙ lesser_assoc found (least c ms) (lesser (least c xs) (least c ys))
+    ∙ ap (lesser found) (sym (three c ms xs ys))
+
+-- ---- the lesser head
+
+pub before_none : (xs ys : List Posting) → ys ≡ [] → BeginsBelow xs ys
+before_none xs ys none w rest is = ap (are_keys_from w.key) none
+
+from_head : (k : Bytes) (y : Posting) (ys : List Posting) → is_le (key_cmp k y.key) ≡ true → are_keys_from y.key ys ≡ true → are_keys_from k ys ≡ true
+from_head k y [] le h = refl
+from_head k y (z ∷ ys) le h = let parts = and_parts _ _ h in and_from _ _ (le_trans k y.key z.key le parts.0) (from_head k y ys le parts.1)
+
+pub begins_below : (xs xs' ys ys' : List Posting) (x y : Posting) → xs ≡ x ∷ xs' → ys ≡ y ∷ ys' → keys_rise ys ≡ true → is_le (key_cmp x.key y.key) ≡ true → BeginsBelow xs ys
+begins_below xs xs' ys ys' x y xs_is ys_is h le w rest is =
+    let both : ◌≡◌ {A = List Posting} (x ∷ xs') (w ∷ rest) = sym xs_is ∙ is in
     let same : x ≡ w = cc in
-    upto_last ys y h (sym y_is) w.key (ap (λ (p : Posting). is_le (key_cmp y.key p.key)) (sym same) ∙ le)
+    let low : is_le (key_cmp w.key y.key) ≡ true = ap (λ (p : Posting). is_le (key_cmp p.key y.key)) (sym same) ∙ le in
+    let rises : keys_rise (y ∷ ys') ≡ true = ap keys_rise (sym ys_is) ∙ h in
+    ap (are_keys_from w.key) ys_is ∙ and_from _ _ low (from_head w.key y ys' low (and_parts _ _ rises).0)
 
--- ---- runs
+-- ---- parts of which nothing is left
 
-pub upto_more : (last o : ℕ) (ps : List Posting) → last ≤ o → are_upto last ps ≡ true → least (λ p. nat_lt o p.number) ps ≡ None
+pub none_left : (p : Part) → left p ≡ 0 → live p ≡ []
+none_left p none = drop_all p.start p.written.items (omega arith)
+
+pub at_rest : (c : Posting → Bool) (made first second : Part) → left first + left second ≡ 0 → least c (live_in made first second) ≡ least c (live made)
+at_rest c made first second none =
+    three c (live made) (live first) (live second)
+    ∙ (λ i. lesser (least c (live made)) (lesser (least c (none_left first (omega arith) i)) (least c (none_left second (omega arith) i))))
+    ∙ lesser_none (least c (live made))
+
+-- places for postings
+pub none_in : (made places : Part) → made ≡ places → length places.written.items ≡ 0 → length made.written.items ≡ 0
+none_in made places is none = ap (λ (p : Part). length p.written.items) is ∙ none
+
+-- two runs at rest, of which nothing was made yet
+pub joined : (c : Posting → Bool) (was more : Run) (made first : Part) → left was.first + left was.second ≡ 0 → left more.first + left more.second ≡ 0 → left made ≡ 0 → first ≡ was.made
+    → least c (live_in made first more.made) ≡ lesser (least c (in_run was)) (least c (in_run more))
+joined c was more made first rest rests none is =
+    three c (live made) (live first) (live more.made)
+    ∙ ap (λ l. lesser (least c l) (lesser (least c (live first)) (least c (live more.made)))) (none_left made none)
+    ∙ (λ i. lesser (least c (live (is i))) (least c (live more.made)))
+    ∙ (λ i. lesser (sym (at_rest c was.made was.first was.second rest) i) (sym (at_rest c more.made more.first more.second rests) i))
+
+-- ---- numbers
+
+upto_more : (last o : ℕ) (ps : List Posting) → last ≤ o → are_upto last ps ≡ true → least (λ p. nat_lt o p.number) ps ≡ None
 upto_more last o ps le h = by ps (none (least (λ p. nat_lt last p.number) ps) h)
   where
     none : (u : Option ℕ) → not (is_some u) ≡ true → u ≡ None
@@ -148,35 +148,37 @@ upto_more last o ps le h = by ps (none (least (λ p. nat_lt last p.number) ps) h
 pub both_upto : (a b : ℕ) (ps qs rs : List Posting) → are_upto a ps ≡ true → are_upto b qs ≡ true → ((c : Posting → Bool) → least c rs ≡ lesser (least c ps) (least c qs)) → are_upto (max a b) rs ≡ true
 both_upto a b ps qs rs h g same = ap (λ o. not (is_some o)) (same (λ p. nat_lt (max a b) p.number) ∙ (λ i. lesser (upto_more a (max a b) ps (omega arith) h i) (upto_more b (max a b) qs (omega arith) g i)))
 
--- the last run was taken off
-pub popped : (c : Posting → Bool) (rs left : List Run) (r : Run) → rs ≡ left ++ r ∷ [] → least c (postings_in rs) ≡ lesser (least c (postings_in left)) (least c r.written.items)
-popped c rs left r is = ap (λ l. least c (postings_in l)) is ∙ pushed c left r
+pub upto_same : (n : ℕ) (ps qs : List Posting) → ((c : Posting → Bool) → least c qs ≡ least c ps) → are_upto n ps ≡ true → are_upto n qs ≡ true
+upto_same n ps qs same h = ap (λ o. not (is_some o)) (same (λ p. nat_lt n p.number)) ∙ h
 
-le_if_gt : (a b : Bytes) → is_gt (key_cmp a b) ≡ true → is_le (key_cmp b a) ≡ true
-le_if_gt a b h = le_from_not a b (by (key_cmp a b) h)
-  where
-    by : (o : Ordering) → is_gt o ≡ true → is_le o ≡ false
-    by Less g = absurd (both_ways _ refl g)
-    by Equal g = absurd (both_ways _ refl g)
-    by Greater g = refl
+-- ---- runs
 
-le_if_not_gt : (a b : Bytes) → is_gt (key_cmp a b) ≡ false → is_le (key_cmp a b) ≡ true
-le_if_not_gt a b h = by (key_cmp a b) h
-  where
-    by : (o : Ordering) → is_gt o ≡ false → is_le o ≡ true
-    by Less g = refl
-    by Equal g = refl
-    by Greater g = absurd (both_ways _ g refl)
+-- a run and the others
+put_in : (c : Posting → Bool) (rs : List Run) (i : ℕ) (r : Run) → i < length rs → least c (postings_in (set rs i r)) ≡ lesser (least c (in_run r)) (least c (postings_in (remove rs i)))
+put_in c [] i r lt = absurd (omega arith)
+put_in c (q ∷ rs) zero r lt = least-append c (in_run r) (postings_in rs)
+put_in c (q ∷ rs) (suc i) r lt =
+    let n = least c (in_run q) in
+    let m = least c (in_run r) in
+    let rest = least c (postings_in (remove rs i)) in
+    least-append c (in_run q) (postings_in (set rs i r)) ∙ ap (lesser n) (put_in c rs i r (omega arith))
+    ∙ sym (lesser_assoc n m rest) ∙ ap (λ o. lesser o rest) (lesser_comm n m) ∙ lesser_assoc m n rest
+    ∙ ap (lesser m) (sym (least-append c (in_run q) (postings_in (remove rs i))))
 
-pub first_above : (xs ys : List Posting) (x y : Posting) (j k : Bytes) (b : Bool) → keys_rise ys ≡ true → Some x ≡ slice_get xs (length xs - 1) → Some y ≡ slice_get ys (length ys - 1) → j ≡ x.key → k ≡ y.key
-    → b ≡ is_gt (key_cmp j k) → b ≡ true → EndsAbove xs ys
-first_above xs ys x y j k b h x_is y_is j_is k_is b_is e = ends_above xs ys x y h x_is y_is (le_if_gt x.key y.key (sym (b_is ∙ (λ i. is_gt (key_cmp (j_is i) (k_is i)))) ∙ e))
+taken_out : (c : Posting → Bool) (rs : List Run) (i : ℕ) (r : Run) → i < length rs → r ≡ get_or rs i r → least c (postings_in rs) ≡ lesser (least c (in_run r)) (least c (postings_in (remove rs i)))
+taken_out c rs i r lt is = ap (λ (l : List Run). least c (postings_in l)) (sym (ap (set rs i) is ∙ set-get_or rs i r)) ∙ put_in c rs i r lt
 
-pub second_above : (xs ys : List Posting) (x y : Posting) (j k : Bytes) (b : Bool) → keys_rise xs ≡ true → Some x ≡ slice_get xs (length xs - 1) → Some y ≡ slice_get ys (length ys - 1) → j ≡ x.key → k ≡ y.key
-    → b ≡ is_gt (key_cmp j k) → b ≡ false → EndsAbove ys xs
-second_above xs ys x y j k b h x_is y_is j_is k_is b_is e = ends_above ys xs y x h y_is x_is (le_if_not_gt x.key y.key (sym (b_is ∙ (λ i. is_gt (key_cmp (j_is i) (k_is i)))) ∙ e))
+-- another in the place of a run, of which the same is answered
+pub changed : (c : Posting → Bool) (rs : List Run) (i : ℕ) (was is : Run) → i < length rs → was ≡ get_or rs i was → least c (in_run is) ≡ least c (in_run was) → least c (postings_in (set rs i is)) ≡ least c (postings_in rs)
+changed c rs i was is lt at same = put_in c rs i is lt ∙ ap (λ o. lesser o (least c (postings_in (remove rs i)))) same ∙ sym (taken_out c rs i was lt at)
 
--- the last two runs were taken off
-pub two_popped : (c : Posting → Bool) (rs left before : List Run) (first second : Run) → rs ≡ left ++ second ∷ [] → left ≡ before ++ first ∷ [] →
-    lesser (lesser (least c (postings_in before)) (least c first.written.items)) (least c second.written.items) ≡ least c (postings_in rs)
-two_popped c rs left before first second is was = sym (popped c rs left second is ∙ ap (λ o. lesser o (least c second.written.items)) (popped c left before first was))
+-- one run in the place of two
+pub opened : (c : Posting → Bool) (rs others : List Run) (i : ℕ) (first second is : Run) → i < length rs → i - 1 < length others → others ≡ remove rs i → second ≡ get_or rs i second → first ≡ get_or others (i - 1) first
+    → least c (in_run is) ≡ lesser (least c (in_run first)) (least c (in_run second)) → least c (postings_in (set others (i - 1) is)) ≡ least c (postings_in rs)
+opened c rs others i first second is lt within without second_is first_is same =
+    let rest = least c (postings_in (remove others (i - 1))) in
+    let n = least c (in_run first) in
+    let m = least c (in_run second) in
+    put_in c others (i - 1) is within ∙ ap (λ x. lesser x rest) (same ∙ lesser_comm n m) ∙ lesser_assoc m n rest
+    ∙ ap (lesser m) (sym (taken_out c others (i - 1) first within first_is) ∙ ap (λ (l : List Run). least c (postings_in l)) without)
+    ∙ sym (taken_out c rs i second lt second_is)

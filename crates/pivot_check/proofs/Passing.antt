@@ -1,12 +1,13 @@
 -- Postings are passed over where none that is asked for has a number below the one that was found.
-use Rattle.std.proofs.Common.{◌≡◌, ◌≤◌, ◌<◌, ◌+◌, ◌-◌, ◌*◌, ℕ, zero, suc, Bool, true, false, not, cond, List, [], ◌∷◌, ◌++◌, Option, Some, None, length, get_or, take, drop, refl, sym, ap, subst, ◌∙◌, arith, inl, inr}
-use Rattle.std.specs.Prelude.{nat_lt, min, is_some}
+use Rattle.std.proofs.Common.{◌≡◌, ◌≤◌, ◌<◌, ◌+◌, ◌-◌, ◌*◌, ℕ, zero, suc, Bool, true, false, not, cond, ◌&&◌, ◌||◌, List, [], ◌∷◌, ◌++◌, Option, Some, None, length, get_or, take, drop, refl, sym, ap, subst, ◌∙◌, arith, inl, inr}
+use Rattle.std.specs.Prelude.{nat_le, min}
 use Rattle.std.specs.List.{AllByRecursion}
+use Rattle.std.proofs.Math.ListN.{set}
 use Rattle.std.proofs.Math.Seq.{take-add}
 use Rattle.std.proofs.lemmas.List.{drop-drop, take-take, drop-take, append-nil, take_more, take_all, get_or_append_left, get_or_push, length_push}
-use Rattle.std.proofs.lemmas.Bool.{both_ways, and_parts, and_from, ltb-false, cases_lt}
+use Rattle.std.proofs.lemmas.Bool.{and_parts, and_from, leb-true, cases_lt}
 use Rattle.pivot_check.specs.declared.bound.Bound.{Bound}
-use Rattle.pivot_check.specs.Postings.{Posting, least, lesser, is_asked, are_upto, between}
+use Rattle.pivot_check.specs.Postings.{Posting, least, lesser, is_asked, between}
 use Rattle.pivot_check.specs.Bounds.{is_from_bound, are_from_bound, AreBounds, KeepsFound}
 use Rattle.pivot_check.proofs.Writers.{lesser_none, lesser_assoc, least-append}
 
@@ -23,15 +24,9 @@ pushed_from b (q ∷ ps) p h e = let parts = and_parts _ _ h in and_from _ _ par
 
 -- ---- what a bound says
 
-pub upto_each : (last : ℕ) (ps : List Posting) → are_upto last ps ≡ true → AllByRecursion (λ p. p.number ≤ last) ps
-upto_each last [] h = tt
-upto_each last (p ∷ ps) h = by (nat_lt last p.number) refl (least (λ q. nat_lt last q.number) ps) h (upto_each last ps)
-  where
-    by : (x : Bool) → nat_lt last p.number ≡ x → (o : Option ℕ) → not (is_some (lesser (cond x (Some p.number) None) o)) ≡ true
-        → (not (is_some o) ≡ true → AllByRecursion (λ q. q.number ≤ last) ps) → AllByRecursion (λ q. q.number ≤ last) (p ∷ ps)
-    by true e None g rest = absurd (both_ways _ refl g)
-    by true e (Some n) g rest = absurd (both_ways _ refl g)
-    by false e o g rest = (ltb-false last p.number e, rest g)
+pub upto_last : (b : Bound) (ps : List Posting) → are_from_bound b ps ≡ true → AllByRecursion (λ p. p.number ≤ b.last) ps
+upto_last b [] h = tt
+upto_last b (p ∷ ps) h = let parts = and_parts _ _ h in (leb-true p.number b.last (and_parts _ _ (and_parts _ _ parts.0).1).0, upto_last b ps parts.1)
 
 -- numbers above `most` keep what was found, and a posting of the bound that is asked for has such a number
 pub kept : (found : Option ℕ) (last most b : ℕ) (flagged : Bool) (bound : Bound) → ((n : ℕ) → n ≤ last → most < n → lesser found (Some n) ≡ found)
@@ -133,3 +128,42 @@ next_bound bs next ps i b is long own known = subst (λ l. AreBounds l ps) (sym 
       let here : length bs ≡ j = omega arith in
       ap (λ x. are_from_bound x (take 64 (drop (64 * j) ps))) (get_or_push bs b d j here) ∙ ap (λ k. are_from_bound b (take 64 (drop (64 * k) ps))) last ∙ own
 ])
+
+-- ---- one of them was taken: its number and its flag stay
+
+pub same_from : (b : Bound) (p q : Posting) → q.number ≡ p.number → q.has_earlier_target ≡ p.has_earlier_target → is_from_bound b p ≡ true → is_from_bound b q ≡ true
+same_from b p q number flag h = (λ i. nat_le b.number (number i) && (nat_le (number i) b.last && (not (flag i) || nat_le b.flagged (number i)))) ∙ h
+
+-- those from one place on, up to so many
+pub set_from : (b : Bound) (ps : List Posting) (i : ℕ) (q d : Posting) (m n : ℕ) → q.number ≡ (get_or ps i d).number → q.has_earlier_target ≡ (get_or ps i d).has_earlier_target
+    → are_from_bound b (take n (drop m ps)) ≡ true → are_from_bound b (take n (drop m (set ps i q))) ≡ true
+set_from b [] i q d m n number flag h = h
+set_from b (p ∷ ps) zero q d zero zero number flag h = refl
+set_from b (p ∷ ps) zero q d zero (suc n) number flag h = let parts = and_parts _ _ h in and_from _ _ (same_from b p q number flag parts.0) parts.1
+set_from b (p ∷ ps) (suc i) q d zero zero number flag h = refl
+set_from b (p ∷ ps) (suc i) q d zero (suc n) number flag h = let parts = and_parts _ _ h in and_from _ _ parts.0 (set_from b ps i q d zero n number flag parts.1)
+set_from b (p ∷ ps) zero q d (suc m) n number flag h = h
+set_from b (p ∷ ps) (suc i) q d (suc m) n number flag h = set_from b ps i q d m n number flag h
+
+pub set_all : (b : Bound) (ps : List Posting) (i : ℕ) (q d : Posting) → q.number ≡ (get_or ps i d).number → q.has_earlier_target ≡ (get_or ps i d).has_earlier_target → are_from_bound b ps ≡ true → are_from_bound b (set ps i q) ≡ true
+set_all b [] i q d number flag h = h
+set_all b (p ∷ ps) zero q d number flag h = let parts = and_parts _ _ h in and_from _ _ (same_from b p q number flag parts.0) parts.1
+set_all b (p ∷ ps) (suc i) q d number flag h = let parts = and_parts _ _ h in and_from _ _ parts.0 (set_all b ps i q d number flag parts.1)
+
+-- ---- one more behind them
+
+-- a whole block stays as it is
+pub block_stays : (ps : List Posting) (q : Posting) (m n : ℕ) → m + n ≤ length ps → take n (drop m (ps ++ q ∷ [])) ≡ take n (drop m ps)
+block_stays ps q m zero le = refl
+block_stays [] q zero (suc n) le = absurd (omega arith)
+block_stays [] q (suc m) (suc n) le = absurd (omega arith)
+block_stays (p ∷ ps) q zero (suc n) le = ap (λ l. p ∷ l) (block_stays ps q zero n (omega arith))
+block_stays (p ∷ ps) q (suc m) (suc n) le = block_stays ps q m (suc n) (omega arith)
+
+pub bounds_stay : (bs : List Bound) (ps : List Posting) (q : Posting) → 64 * length bs ≤ length ps → AreBounds bs ps → AreBounds bs (ps ++ q ∷ [])
+bounds_stay bs ps q whole h i b lt = ap (are_from_bound (get_or bs i b)) (block_stays ps q (64 * i) 64 (omega arith)) ∙ h i b lt
+
+pub drop-push : (ps : List Posting) (n : ℕ) (q : Posting) → n ≤ length ps → drop n (ps ++ q ∷ []) ≡ drop n ps ++ q ∷ []
+drop-push ps zero q le = refl
+drop-push [] (suc n) q le = absurd (omega arith)
+drop-push (p ∷ ps) (suc n) q le = drop-push ps n q (omega arith)

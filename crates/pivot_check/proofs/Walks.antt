@@ -18,7 +18,7 @@ use Rattle.pivot_check.specs.Postings.{Posting, keys_rise, are_from, least, less
 use Rattle.pivot_check.proofs.Intervals.{covers_below, covers_above}
 use Rattle.pivot_check.proofs.Order.{lt_trans, above_both, from_lo}
 use Rattle.pivot_check.specs.declared.run.Run.{Run}
-use Rattle.pivot_check.specs.Inside.{postings_in}
+use Rattle.pivot_check.specs.Inside.{in_run, postings_in}
 use Rattle.pivot_check.proofs.Writers.{lesser_none, lesser_assoc, some_lesser, least-append, placed}
 
 less : (o : Ordering) → is_lt o ≡ true → o ≡ Less
@@ -254,11 +254,11 @@ pub split_run : (c : Posting → Bool) (ps qs : List Posting) (found next : Opti
 split_run c ps qs found next whole more known =
     ap (λ o. lesser o (least c qs)) more ∙ lesser_assoc found (least c ps) (least c qs) ∙ ap (lesser found) (sym (least-append c ps qs)) ∙ known
 
-pub next_run : (c : Posting → Bool) (rs : List Run) (i : ℕ) (r : Run) (found next whole : Option ℕ) → i < length rs → r ≡ get_or rs i r → next ≡ lesser found (least c r.written.items) →
+pub next_run : (c : Posting → Bool) (rs : List Run) (i : ℕ) (r : Run) (found next whole : Option ℕ) → i < length rs → r ≡ get_or rs i r → next ≡ lesser found (least c (in_run r)) →
     lesser found (least c (postings_in (drop i rs))) ≡ whole → lesser next (least c (postings_in (drop (suc i) rs))) ≡ whole
 next_run c [] i r found next whole lt is more known = absurd (omega arith)
 next_run c (q ∷ rs) zero r found next whole lt is more known =
-    split_run c q.written.items (postings_in rs) found next whole (more ∙ ap (λ (x : Run). lesser found (least c x.written.items)) is) known
+    split_run c (in_run q) (postings_in rs) found next whole (more ∙ ap (λ (x : Run). lesser found (least c (in_run x))) is) known
 next_run c (q ∷ rs) (suc i) r found next whole lt is more known = next_run c rs i r found next whole (omega arith) is more known
 
 pub no_run_left : (c : Posting → Bool) (rs : List Run) (i : ℕ) (found whole : Option ℕ) → length rs ≤ i → lesser found (least c (postings_in (drop i rs))) ≡ whole → found ≡ whole
@@ -283,21 +283,21 @@ none_above o last c le (p ∷ ps) e = by_number (nat_lt last p.number) refl e (n
     by_number false f g rest = ap (λ y. lesser (cond y (Some p.number) None) (least (λ p. nat_lt o p.number && c p) ps)) (later f) ∙ rest g
 
 -- one more run
-pub pushed : (c : Posting → Bool) (rs : List Run) (r : Run) → least c (postings_in (rs ++ r ∷ [])) ≡ lesser (least c (postings_in rs)) (least c r.written.items)
-pushed c [] r = least-append c r.written.items [] ∙ lesser_none (least c r.written.items)
+pub pushed : (c : Posting → Bool) (rs : List Run) (r : Run) → least c (postings_in (rs ++ r ∷ [])) ≡ lesser (least c (postings_in rs)) (least c (in_run r))
+pushed c [] r = least-append c (in_run r) [] ∙ lesser_none (least c (in_run r))
 pushed c (q ∷ rs) r =
-    least-append c q.written.items (postings_in (rs ++ r ∷ []))
-    ∙ ap (lesser (least c q.written.items)) (pushed c rs r)
-    ∙ sym (lesser_assoc (least c q.written.items) (least c (postings_in rs)) (least c r.written.items))
-    ∙ ap (λ o. lesser o (least c r.written.items)) (sym (least-append c q.written.items (postings_in rs)))
+    least-append c (in_run q) (postings_in (rs ++ r ∷ []))
+    ∙ ap (lesser (least c (in_run q))) (pushed c rs r)
+    ∙ sym (lesser_assoc (least c (in_run q)) (least c (postings_in rs)) (least c (in_run r)))
+    ∙ ap (λ o. lesser o (least c (in_run r))) (sym (least-append c (in_run q) (postings_in rs)))
 
 -- a run is left out, where it has no later number
 pub without_old : (o : ℕ) (c : Posting → Bool) (rs : List Run) (i : ℕ) (r : Run) → i < length rs → r ≡ get_or rs i r → r.last ≤ o
     → least (λ p. nat_lt o p.number && c p) (postings_in (remove rs i)) ≡ least (λ p. nat_lt o p.number && c p) (postings_in rs)
 without_old o c [] i r lt is le = absurd (omega arith)
 without_old o c (q ∷ rs) zero r lt is le =
-    sym (ap (λ u. lesser u (least test (postings_in rs))) (none_above o q.last c (subst (λ (x : Run). x.last ≤ o) is le) q.written.items (none (least (λ p. nat_lt q.last p.number) q.written.items) q.upto)))
-    ∙ sym (least-append test q.written.items (postings_in rs))
+    sym (ap (λ u. lesser u (least test (postings_in rs))) (none_above o q.last c (subst (λ (x : Run). x.last ≤ o) is le) (in_run q) (none (least (λ p. nat_lt q.last p.number) (in_run q)) q.upto)))
+    ∙ sym (least-append test (in_run q) (postings_in rs))
   where
     test : Posting → Bool
     test p = nat_lt o p.number && c p
@@ -306,8 +306,8 @@ without_old o c (q ∷ rs) zero r lt is le =
     none None e = refl
     none (Some n) e = absurd (both_ways _ refl e)
 without_old o c (q ∷ rs) (suc i) r lt is le =
-    least-append test q.written.items (postings_in (remove rs i)) ∙ ap (lesser (least test q.written.items)) (without_old o c rs i r (omega arith) is le)
-    ∙ sym (least-append test q.written.items (postings_in rs))
+    least-append test (in_run q) (postings_in (remove rs i)) ∙ ap (lesser (least test (in_run q))) (without_old o c rs i r (omega arith) is le)
+    ∙ sym (least-append test (in_run q) (postings_in rs))
   where
     test : Posting → Bool
     test p = nat_lt o p.number && c p

@@ -2,7 +2,7 @@
 use Rattle.std.specs.Prelude.{◌≡◌, ◌<◌, ◌≤◌, ℕ, ◌*◌, Bool, true, not, ◌&&◌, ◌||◌, List, Option, Some, nat_le, length, take, drop, slice_index_or}
 use Rattle.std.specs.List.{list_all, AllByRecursion}
 use Rattle.pivot_check.specs.declared.bound.Bound.{Bound}
-use Rattle.pivot_check.specs.declared.run.Looked.{Looked}
+use Rattle.pivot_check.specs.declared.part.Looked.{Looked}
 use Rattle.pivot_check.specs.Postings.{Posting, lesser, is_asked, between}
 
 -- whether the posting's number isn't below the bound nor above its last, nor below that of flagged ones where it has the flag

@@ -7,18 +7,23 @@ use Rattle.pivot_check.specs.declared.run.Run.{Run}
 use Rattle.pivot_check.specs.declared.stale.Stale.{Stale}
 use Rattle.model.specs.Map.{Bytes}
 use Rattle.pivot_check.specs.Postings.{Posting}
+use Rattle.pivot_check.specs.Parts.{live_in}
+
+-- the postings of a run
+abbrev pub in_run : Run → List Posting
+in_run r = live_in r.made r.first r.second
 
 -- the postings of all runs, one run after another
 abbrev pub postings_in : List Run → List Posting
 postings_in [] = []
-postings_in (r ∷ rs) = r.written.items ++ postings_in rs
+postings_in (r ∷ rs) = in_run r ++ postings_in rs
 
 abbrev pub ready_of : Option Ready → Option (List Bytes)
 ready_of ready = option_map (λ r. r.keys.items) ready
 
 -- how much there is to give back of a run
 abbrev pub held_of : Run → HeldRun
-held_of r = record { last = r.last; size = vec_len r.written + 1 }
+held_of r = record { last = r.last; size = vec_len r.first.written + vec_len r.second.written + vec_len r.made.written + 1 }
 
 abbrev pub held_in : List Run → List HeldRun
 held_in rs = map held_of rs
@@ -30,4 +35,4 @@ size_of (Some r) = (held_of r).size
 -- how much there is still to give back of a run that was taken out
 abbrev pub taken_of : Option Stale → ℕ
 taken_of None = 0
-taken_of (Some s) = vec_len s.written + 1
+taken_of (Some s) = vec_len s.first + vec_len s.second + vec_len s.made + 1

@@ -1,11 +1,9 @@
 //! Bounds of the numbers of written keys.
-ghost use Rattle.std.specs.Prelude.{◌≡◌, ◌<◌, IsTrue, IfOk, ℕ, true, false};
+ghost use Rattle.std.specs.Prelude.{◌≡◌, ◌<◌, IsTrue, ℕ, true, false};
 ghost use Rattle.pivot_check.specs.Postings.{Posting, is_asked};
-ghost use Rattle.pivot_check.specs.Bounds.{is_from_bound, are_from_bound, AreBounds};
+ghost use Rattle.pivot_check.specs.Bounds.{is_from_bound, are_from_bound};
 
 use crate::written::Written;
-use model::Memory;
-use std::alloc::Global;
 
 /// How many postings have one bound.
 pub(crate) const BLOCK: usize = 64;
@@ -20,7 +18,7 @@ pub(crate) struct Bound {
 
 impl Bound {
     // A bound of one posting more.
-    fn with(self, posting: &Written) -> Bound
+    pub(crate) fn with(self, posting: &Written) -> Bound
         ensures posting { IsTrue (is_from_bound result posting.now) }
         ensures others { (p : Posting) → IsTrue (is_from_bound self p) → IsTrue (is_from_bound result p) }
     {
@@ -60,16 +58,4 @@ impl Bound {
         let least = if flagged { self.flagged } else { self.number };
         begin < most && begin < self.last && least <= most
     }
-}
-
-// The bounds of the whole blocks of these postings.
-pub(crate) fn bounds_of(alloc: Global, postings: &[Written]) -> Result<Vec<Bound>, Memory>
-    ensures { IfOk result (λ bounds. AreBounds bounds.items postings.now) }
-{
-    let count = postings.len() / BLOCK;
-    let mut bounds = Vec::with_capacity(alloc, count)?;
-    for block in 0..count {
-        bounds.push(Bound::of(&postings[64 * block..64 * block + 64]))?;
-    }
-    Ok(bounds)
 }

@@ -8,7 +8,7 @@ ghost use Rattle.pivot_check.specs.Index.{FindsTarget, answer_found, target};
 ghost use Rattle.pivot_check.specs.StandsFor.{StandsFor, IsRecordOf, IsVerdict, IsPlaced, IsClear};
 
 use crate::by_start::ByStart;
-use crate::merges::merge_runs;
+use crate::merges::{move_runs, open_last};
 use crate::ready::Ready;
 use crate::run::Run;
 use crate::runs::{add_run, first_overwritten, is_one_old, least_covered, take_old};
@@ -22,6 +22,12 @@ use snapshot::Transaction;
 use std::alloc::Global;
 use std::marker::Model;
 
+/// How many postings of the merges are moved for each key that is noted: more than there are lengths of runs that are merged into one another.
+const MOVES_EACH: usize = 16;
+
+/// How many more are moved for a commit.
+const MOVES_MORE: usize = 64;
+
 /// The most written keys that are dropped in one call, where a run counts as one more.
 const GIVEN_BACK_MAX: usize = 1_024;
 
@@ -30,7 +36,8 @@ const GIVEN_BACK_MAX: usize = 1_024;
 /// of the definition, which looks at the whole history.
 ///
 /// Kept are the last reader of each key, and the keys that they wrote, each with the number and the flag of its transaction. The keys stand
-/// in runs, each sorted by key, of transactions that committed one after another; runs of a like size are merged, so that few are left.
+/// in runs, each sorted by key, of transactions that committed one after another; runs of a like size are merged, so that few are left. A
+/// merge goes on some keys with each commit, so that no commit is long; it takes the places of both runs until it has ended.
 #[derive(Drop)]
 pub struct Committed {
     readers: LastReaders,
@@ -130,7 +137,7 @@ impl Committed {
     /// commit, and neither it nor a committed transaction would be a dangerous pivot (Cahill, Röhm, Fekete 2008; Ports, Grittner 2012). Of
     /// several reasons it names the least overwritten key, else the transaction itself, else the pivot of least commit number.
     ///
-    /// It takes a binary search in each run for each written key, two for each mark, and a look at a bound for each 64 keys written under a
+    /// It takes a binary search in each run for each written key, two for each mark, three times as many in a run that is being made of two, and a look at a bound for each 64 keys written under a
     /// mark; the numbers of these keys are looked at where the bound lets one be less than what was found. The marks are sorted by start, and
     /// a key under several of them is looked at once. Where the transaction has read what a concurrent one wrote, it takes also a look-up of
     /// the last reader of each written key. Takes no memory.
@@ -179,20 +186,21 @@ impl Committed {
         self.last = n;
     }
 
-    // Merges the last runs where they are of a like size.
-    fn merge(&mut self)
+    // Begins one merge at most of two runs of a like size, and moves so many postings at most of those that are under way.
+    fn merge(&mut self, most: usize)
         ensures stands_for { (h : List Record) → StandsFor self.old.facts h → StandsFor self.new.facts h }
         ensures readers { self.new.facts.readers ≡ self.old.facts.readers }
         ensures oldest { self.new.facts.oldest ≡ self.old.facts.oldest }
         ensures last { self.new.facts.last ≡ self.old.facts.last }
     {
-        merge_runs(&mut self.runs);
+        open_last(&mut self.runs);
+        move_runs(&mut self.runs, most);
     }
 
     /// Keeps what the check needs of the transaction, which commits as number `n`, the next one; what `Verdict::Clear` said of its
     /// dependencies comes along, so that they aren't looked for again. From each history that is stood for it leads to that history with the
-    /// new record. It can't fail: `reserve` made room. Then it merges the last runs, also those of the last readers, where they are of a
-    /// like size and there is memory for that; where it is refused they stay.
+    /// new record. It can't fail: `reserve` made room. Then it begins to merge two runs of a like size, also two of the last readers, where
+    /// there are such and there is memory for that, and moves the merges that are under way on by 16 postings for each written key, and 64.
     pub fn note(&mut self, tx: &Transaction, n: u64, has_earlier_target: bool)
         requires next { n ≡ self.old.facts.last + 1 }
         requires target { has_earlier_target ≡ is_some (target self.old.facts tx.now) }
@@ -202,7 +210,8 @@ impl Committed {
         ensures oldest { self.new.facts.oldest ≡ self.old.facts.oldest }
     {
         self.add_record(tx, n, has_earlier_target);
-        self.merge();
+        let count = tx.entries().len();
+        self.merge(count.saturating_mul(MOVES_EACH).saturating_add(MOVES_MORE));
     }
 
     // From now on none may ask that began before number `oldest`: readers that committed at or before it are dropped. Are more of their runs

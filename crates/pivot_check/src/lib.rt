@@ -11,6 +11,7 @@ mod by_start;
 mod committed;
 mod merges;
 mod merging;
+mod part;
 mod ready;
 mod run;
 mod runs;

@@ -1,12 +1,11 @@
-//! Runs of a like size made into one.
-ghost use Rattle.std.specs.Prelude.{◌≡◌, ◌≤◌, ◌<◌, ◌+◌, Bool, length, IfSome};
-ghost use Rattle.std.specs.Vec.{vec_len, vec_capacity};
-ghost use Rattle.pivot_check.specs.Postings.{Posting, least, lesser};
-ghost use Rattle.pivot_check.specs.Bounds.{AreBounds};
+//! Runs of a like size made into one, some postings at a time.
+ghost use Rattle.std.specs.Prelude.{◌≡◌, ◌≤◌, ◌<◌, ◌+◌, Bool, true, length, IfSome};
+ghost use Rattle.pivot_check.specs.Postings.{Posting, least};
+ghost use Rattle.pivot_check.specs.Parts.{left};
+ghost use Rattle.std.specs.Vec.{vec_capacity};
 ghost use Rattle.pivot_check.specs.Inside.{postings_in};
 
-use crate::bound::{Bound, bounds_of};
-use crate::merging::merge;
+use crate::bound::{BLOCK, Bound};
 use crate::run::Run;
 use crate::written::Written;
 use std::alloc::Global;
@@ -14,97 +13,86 @@ use std::alloc::Global;
 /// The most postings of a run that is made of two.
 const MERGED_MAX: usize = 131_072;
 
-/// The most merges of one call.
-const MERGES_MAX: u64 = 32;
-
-// The bounds of the blocks; none of them where there is no memory.
-fn blocks(alloc: Global, written: &[Written]) -> Vec<Bound>
-    ensures { AreBounds result.items written.now }
+// Are both at rest, of a like size, and not too long for one?
+fn are_alike(first: &Run, second: &Run) -> bool
+    ensures first { result ≡ true → left first.now.first + left first.now.second ≡ 0 }
+    ensures second { result ≡ true → left second.now.first + left second.now.second ≡ 0 }
 {
-    match bounds_of(alloc, written) {
-        Ok(bounds) => bounds,
-        Err(_) => Vec::new(alloc),
-    }
+    first.is_at_rest()
+        && second.is_at_rest()
+        && first.made.len() / 2 <= second.made.len()
+        && first.made.len().saturating_add(second.made.len()) <= MERGED_MAX
 }
 
-// The run of both, in the places that were made for it.
-fn merged(first: Run, second: Run, places: Vec<Written>) -> Run
-    requires none { length places.items ≡ 0 }
-    requires room { length first.written.items + length second.written.items ≤ vec_capacity places }
-    ensures { (c : Posting → Bool) → least c result.written.items ≡ lesser (least c first.written.items) (least c second.written.items) }
-{
-    let last = first.last.max(second.last);
-    let written = merge(first.written, second.written, places);
-    let bound = Bound::of(&written);
-    let bounds = blocks(*written.allocator(), &written);
-    Run {
-        last,
-        bound,
-        written,
-        bounds,
-    }
-}
-
-// Places for the postings of both runs, where they are of a like size and there is memory for them.
+// Places for the postings of both runs.
 fn places_for(alloc: Global, first: &Run, second: &Run) -> Option<Vec<Written>>
     ensures none { IfSome result (λ v. length v.items ≡ 0) }
-    ensures room { IfSome result (λ v. length first.now.written.items + length second.now.written.items ≤ vec_capacity v) }
+    ensures room { IfSome result (λ v. left first.now.made + left second.now.made ≤ vec_capacity v) }
 {
-    let count = first.written.len().saturating_add(second.written.len());
-    if count > MERGED_MAX || first.written.len() / 2 > second.written.len() {
-        return None;
-    }
-    match Vec::with_capacity(alloc, count) {
+    match Vec::with_capacity(alloc, first.made.len().saturating_add(second.made.len())) {
         Ok(places) => Some(places),
         Err(_) => None,
     }
 }
 
-// Adds a run in the room that is there.
-fn put(runs: &mut Vec<Run>, run: Run)
-    requires { vec_len runs.old < vec_capacity runs.old }
-    ensures same { (c : Posting → Bool) → least c (postings_in runs.new.items) ≡ lesser (least c (postings_in runs.old.items)) (least c run.written.items) }
-    ensures len { vec_len runs.new ≡ vec_len runs.old + 1 }
-    ensures capacity { vec_capacity runs.old ≤ vec_capacity runs.new }
+// Room for the bounds of so many postings; none where there is no memory.
+fn bounds_for(alloc: Global, count: usize) -> Vec<Bound>
+    ensures { length result.items ≡ 0 }
 {
-    match runs.push(run) {
-        Ok(()) => {}
-        Err(_) => unreachable!(),
+    match Vec::with_capacity(alloc, count / BLOCK) {
+        Ok(bounds) => bounds,
+        Err(_) => Vec::new(alloc),
     }
 }
 
-// Makes the last two runs one where they are of a like size: whether it did.
-fn merge_last(runs: &mut Vec<Run>) -> bool
+// Begins to make one run of that at the place and the one before it, where both are at rest and of a like size and there is memory for it:
+// whether it did.
+fn open_at(runs: &mut Vec<Run>, place: usize) -> bool
     ensures { (c : Posting → Bool) → least c (postings_in runs.new.items) ≡ least c (postings_in runs.old.items) }
 {
+    if place == 0 || place >= runs.len() || !are_alike(&runs[place - 1], &runs[place]) {
+        return false;
+    }
     let alloc = *runs.allocator();
-    let Some(second) = runs.pop() else {
+    let Some(places) = places_for(alloc, &runs[place - 1], &runs[place]) else {
         return false;
     };
-    let Some(first) = runs.pop() else {
-        put(runs, second);
-        return false;
-    };
-    match places_for(alloc, &first, &second) {
-        Some(places) => {
-            put(runs, merged(first, second, places));
-            true
-        }
-        None => {
-            put(runs, first);
-            put(runs, second);
-            false
-        }
-    }
+    let bounds = bounds_for(alloc, places.capacity());
+    let second = runs.remove(place);
+    runs[place - 1].join(second, places, bounds);
+    true
 }
 
-// Merges the last runs while the last two are of a like size. It takes memory where it gets it; else the runs stay.
-pub(crate) fn merge_runs(runs: &mut Vec<Run>)
+// Begins to make one run of the last two beside one another that are of a like size. It takes memory where it gets it; else the runs stay.
+pub(crate) fn open_last(runs: &mut Vec<Run>)
     ensures { (c : Posting → Bool) → least c (postings_in runs.new.items) ≡ least c (postings_in runs.old.items) }
 {
-    for _merge in 0..MERGES_MAX {
-        if !merge_last(runs) {
+    for after in 1..runs.len() {
+        let place = runs.len().saturating_sub(after);
+        if open_at(runs, place) {
             return;
         }
+    }
+}
+
+// Moves so many postings at most of the run at the place, where there is one: how many moves are left.
+fn move_at(runs: &mut Vec<Run>, place: usize, most: usize) -> usize
+    ensures same { (c : Posting → Bool) → least c (postings_in runs.new.items) ≡ least c (postings_in runs.old.items) }
+    ensures most { result ≤ most }
+{
+    if place >= runs.len() {
+        return most;
+    }
+    runs[place].move_on(most)
+}
+
+// Moves so many postings at most of the runs that are being made of two, of the last runs first: these are the shortest.
+pub(crate) fn move_runs(runs: &mut Vec<Run>, most: usize)
+    ensures { (c : Posting → Bool) → least c (postings_in runs.new.items) ≡ least c (postings_in runs.old.items) }
+{
+    let mut rest = most;
+    for after in 0..runs.len() {
+        let place = runs.len().saturating_sub(after).saturating_sub(1);
+        rest = move_at(runs, place, rest);
     }
 }

@@ -1,113 +1,62 @@
 //! A run of written keys.
-ghost use Rattle.std.specs.Prelude.{◌≡◌, ◌≤◌, ◌<◌, ◌+◌, ◌*◌, ℕ, IsTrue, false, length, take, drop, Some, [], ◌∷◌};
+ghost use Rattle.std.specs.Prelude.{◌≡◌, ◌≤◌, ◌<◌, ◌+◌, ◌-◌, ◌++◌, IsTrue, Bool, true, false, length};
+ghost use Rattle.std.specs.Vec.{vec_len, vec_capacity};
 ghost use Rattle.marks.specs.Lent.{lent_mark};
 ghost use Rattle.marks.specs.Marked.{marks_of};
-ghost use Rattle.pivot_check.specs.Postings.{keys_rise, are_upto, least, lesser, is_asked, asked_of, covered_of, between};
-ghost use Rattle.pivot_check.specs.Bounds.{are_from_bound, AreBounds, KeepsFound, IsLooked};
-ghost use Rattle.pivot_check.specs.Places.{covered_at};
+ghost use Rattle.pivot_check.specs.Postings.{Posting, keys_rise, are_upto, least, lesser, asked_of, covered_of};
+ghost use Rattle.pivot_check.specs.Parts.{live, left, live_in};
 
-use crate::bound::{BLOCK, Bound};
+use crate::bound::Bound;
 use crate::by_start::ByStart;
-use crate::written::{Span, Written, covered, least_number};
-use marks::{Held, MarkRef};
+use crate::merging::move_least;
+use crate::part::Part;
+use crate::written::Written;
+use marks::MarkRef;
+use std::alloc::Global;
+use std::mem;
 
-/// What transactions that committed one after another have written, by rising key: one run for several commits. The bounds of its blocks
-/// may be missing.
+/// What transactions that committed one after another have written, by rising key, and a number that none of their numbers is above: one
+/// run for several commits. It is at rest, with all of it in `made`, or is being made of two runs. Then it has places for what is left of
+/// them.
 #[derive(Drop)]
 pub(crate) struct Run {
     pub(crate) last: u64,
-    pub(crate) bound: Bound,
-    pub(crate) written: Vec<Written>,
-    pub(crate) bounds: Vec<Bound>,
-    ghost rising: { IsTrue (keys_rise written.items) },
-    ghost upto: { IsTrue (are_upto last written.items) },
-    ghost bounded: { IsTrue (are_from_bound bound written.items) },
-    ghost blocks: { AreBounds bounds.items written.items },
+    // what is left of the two runs that it is made of
+    pub(crate) first: Part,
+    pub(crate) second: Part,
+    // what was made of their least keys
+    pub(crate) made: Part,
+    ghost first_rises: { IsTrue (keys_rise (live made ++ live first)) },
+    ghost second_rises: { IsTrue (keys_rise (live made ++ live second)) },
+    ghost room: { left first + left second ≤ vec_capacity made.written - length made.written.items },
+    ghost upto: { IsTrue (are_upto last (live_in made first second)) },
 }
 
-// The greatest number that is at most `last` and below the one that was found.
-fn most_below(found: Option<u64>, last: u64) -> u64
-    ensures { (n : ℕ) → n ≤ last → result < n → lesser found (Some n) ≡ found }
+// No postings.
+fn nothing(alloc: Global) -> Part
+    ensures none { length result.written.items ≡ 0 }
 {
-    match found {
-        None => last,
-        Some(number) => last.min(number.saturating_sub(1)),
-    }
-}
-
-/// The number that was found, and the places that were looked at last.
-#[derive(Clone, Copy)]
-pub(crate) struct Looked {
-    pub(crate) found: Option<u64>,
-    pub(crate) seen: Span,
+    Part::of(Vec::new(alloc), Vec::new(alloc))
 }
 
 impl Run {
-    // May some posting of the run that is asked for have a number below the one that was found?
-    fn may_lower(&self, found: Option<u64>, begin: u64, flagged: bool) -> bool
-        ensures { result ≡ false → KeepsFound found begin flagged self.now.written.items }
+    // These postings, none of which has a number above `last`.
+    pub(crate) fn of(written: Vec<Written>, last: u64) -> Run
+        requires rising { IsTrue (keys_rise written.items) }
+        requires upto { IsTrue (are_upto last written.items) }
+        ensures { (c : Posting → Bool) → least c (live_in result.made result.first result.second) ≡ least c written.items }
     {
-        self.bound
-            .allows(most_below(found, self.last), begin, flagged)
-    }
-
-    // The same for a block of it.
-    fn may_lower_in(&self, block: usize, found: Option<u64>, begin: u64, flagged: bool) -> bool
-        ensures { result ≡ false → KeepsFound found begin flagged (take 64 (drop (64 * block) self.now.written.items)) }
-    {
-        match self.bounds.get(block) {
-            None => true,
-            Some(bound) => bound.allows(most_below(found, self.last), begin, flagged),
+        let alloc = *written.allocator();
+        Run {
+            last,
+            first: nothing(alloc),
+            second: nothing(alloc),
+            made: Part::of(written, Vec::new(alloc)),
         }
-    }
-
-    // The number that was found, or the least that is asked for of these postings, which stand in one block, where that is lesser.
-    fn least_in(
-        &self,
-        block: usize,
-        span: Span,
-        found: Option<u64>,
-        begin: u64,
-        flagged: bool,
-    ) -> Option<u64>
-        requires block { 64 * block ≤ span.first }
-        requires order { span.first ≤ span.end }
-        requires block_end { span.end ≤ 64 * block + 64 }
-        requires within { span.end ≤ length self.now.written.items }
-        ensures { result ≡ lesser found (least (is_asked begin flagged) (between span.first span.end self.now.written.items)) }
-    {
-        if !self.may_lower_in(block, found, begin, flagged) {
-            return found;
-        }
-        least_number(&self.written[span.first..span.end], found, begin, flagged)
-    }
-
-    // The same for postings that stand in several blocks. One that has no number for it is passed over.
-    fn least_between(
-        &self,
-        span: Span,
-        found: Option<u64>,
-        begin: u64,
-        flagged: bool,
-    ) -> Option<u64>
-        requires order { span.first ≤ span.end }
-        requires within { span.end ≤ length self.now.written.items }
-        ensures { result ≡ lesser found (least (is_asked begin flagged) (between span.first span.end self.now.written.items)) }
-    {
-        let mut found = found;
-        for block in span.first / BLOCK..span.end / BLOCK + 1 {
-            let part = Span {
-                first: span.first.max(64 * block),
-                end: span.end.min(64 * block + 64),
-            };
-            found = self.least_in(block, part, found, begin, flagged);
-        }
-        found
     }
 
     // The number that was found, or the least commit number above `begin` that has written a key that the mark covers, of those with
-    // the flag where these alone are asked for, where that is lesser. Two binary searches, and a look at a bound for each 64 postings
-    // under the mark, where the bound of the run doesn't tell.
+    // the flag where these alone are asked for, where that is lesser. Two binary searches, six while it is being made of two.
     pub(crate) fn least(
         &self,
         mark: MarkRef<'_>,
@@ -115,74 +64,14 @@ impl Run {
         begin: u64,
         flagged: bool,
     ) -> Option<u64>
-        ensures { result ≡ lesser found (least (asked_of (lent_mark mark.entry) begin flagged) self.now.written.items) }
+        ensures { result ≡ lesser found (least (asked_of (lent_mark mark.entry) begin flagged) (live_in self.now.made self.now.first self.now.second)) }
     {
-        if !self.may_lower(found, begin, flagged) {
-            return found;
-        }
-        self.least_between(covered(&self.written, mark), found, begin, flagged)
+        let in_made = self.made.least(mark, found, begin, flagged);
+        let in_first = self.first.least(mark, in_made, begin, flagged);
+        self.second.least(mark, in_first, begin, flagged)
     }
 
-    // Looks at the postings of a span, but for those that were looked at just before.
-    fn look_on(&self, span: Span, looked: Looked, begin: u64, flagged: bool) -> Looked
-        requires order { span.first ≤ span.end }
-        requires within { span.end ≤ length self.now.written.items }
-        requires looked { IsLooked looked begin flagged self.now.written.items }
-        ensures found { result.found ≡ lesser looked.found (least (is_asked begin flagged) (between span.first span.end self.now.written.items)) }
-        ensures looked { IsLooked result begin flagged self.now.written.items }
-    {
-        let seen = looked.seen;
-        if span.first < seen.first || seen.end < span.first {
-            let found = self.least_between(span, looked.found, begin, flagged);
-            return Looked { found, seen: span };
-        }
-        if span.end <= seen.end {
-            return looked;
-        }
-        let rest = Span {
-            first: seen.end,
-            end: span.end,
-        };
-        let found = self.least_between(rest, looked.found, begin, flagged);
-        let seen = Span {
-            first: seen.first,
-            end: span.end,
-        };
-        Looked { found, seen }
-    }
-
-    // Looks at the postings that the mark covers.
-    fn look(&self, mark: MarkRef<'_>, looked: Looked, begin: u64, flagged: bool) -> Looked
-        requires { IsLooked looked begin flagged self.now.written.items }
-        ensures found { result.found ≡ lesser looked.found (least (asked_of (lent_mark mark.entry) begin flagged) self.now.written.items) }
-        ensures looked { IsLooked result begin flagged self.now.written.items }
-    {
-        if !self.may_lower(looked.found, begin, flagged) {
-            return looked;
-        }
-        self.look_on(covered(&self.written, mark), looked, begin, flagged)
-    }
-
-    // Looks at the postings that the mark at a place covers, if there is one.
-    fn look_at(
-        &self,
-        marks: &[Held],
-        place: u8,
-        looked: Looked,
-        begin: u64,
-        flagged: bool,
-    ) -> Looked
-        requires { IsLooked looked begin flagged self.now.written.items }
-        ensures found { result.found ≡ lesser looked.found (least (covered_at (marks_of marks.now) (place ∷ []) begin flagged) self.now.written.items) }
-        ensures looked { IsLooked result begin flagged self.now.written.items }
-    {
-        match marks.get(place as usize) {
-            Some(mark) => self.look(mark.lend(), looked, begin, flagged),
-            None => looked,
-        }
-    }
-
-    // The same for several marks. Each posting is looked at once, whatever the number of marks that cover it.
+    // The same for several marks.
     pub(crate) fn least_covered(
         &self,
         order: &ByStart<'_>,
@@ -190,16 +79,84 @@ impl Run {
         begin: u64,
         flagged: bool,
     ) -> Option<u64>
-        ensures { result ≡ lesser found (least (covered_of (marks_of order.now.marks.now) begin flagged) self.now.written.items) }
+        ensures { result ≡ lesser found (least (covered_of (marks_of order.now.marks.now) begin flagged) (live_in self.now.made self.now.first self.now.second)) }
     {
-        let mut looked = Looked {
-            found,
-            seen: Span { first: 0, end: 0 },
-        };
-        let places = order.places.as_slice();
-        for place in places {
-            looked = self.look_at(order.marks, *place, looked, begin, flagged);
+        let in_made = self.made.least_covered(order, found, begin, flagged);
+        let in_first = self.first.least_covered(order, in_made, begin, flagged);
+        self.second.least_covered(order, in_first, begin, flagged)
+    }
+
+    // Is it not being made of two?
+    pub(crate) fn is_at_rest(&self) -> bool
+        ensures rest { result ≡ true → left self.now.first + left self.now.second ≡ 0 }
+        ensures under_way { result ≡ false → 0 < left self.now.first + left self.now.second }
+    {
+        self.first.len() == 0 && self.second.len() == 0
+    }
+
+    // Begins to make one run of this and a later one, both at rest, in the places that were made for it.
+    pub(crate) fn join(&mut self, second: Run, places: Vec<Written>, bounds: Vec<Bound>)
+        requires first { left self.old.first + left self.old.second ≡ 0 }
+        requires second { left second.first + left second.second ≡ 0 }
+        requires none { length places.items ≡ 0 }
+        requires no_bounds { length bounds.items ≡ 0 }
+        requires room { left self.old.made + left second.made ≤ vec_capacity places }
+        ensures { (c : Posting → Bool) → least c (live_in self.new.made self.new.first self.new.second) ≡ lesser (least c (live_in self.old.made self.old.first self.old.second)) (least c (live_in second.made second.first second.second)) }
+    {
+        let Run { last, made, .. } = second;
+        self.last = self.last.max(last);
+        self.second = made;
+        self.first = mem::replace(&mut self.made, Part::of(places, bounds));
+    }
+
+    // Moves one posting of the two.
+    fn move_one(&mut self)
+        requires { 0 < left self.old.first + left self.old.second }
+        ensures same { (c : Posting → Bool) → least c (live_in self.new.made self.new.first self.new.second) ≡ least c (live_in self.old.made self.old.first self.old.second) }
+        ensures moved { left self.new.first + left self.new.second + 1 ≡ left self.old.first + left self.old.second }
+    {
+        move_least(&mut self.first, &mut self.second, &mut self.made);
+    }
+
+    // Moves so many postings of the two at most: how many moves are left, which are none while there is something to move.
+    fn move_postings(&mut self, most: usize) -> usize
+        ensures same { (c : Posting → Bool) → least c (live_in self.new.made self.new.first self.new.second) ≡ least c (live_in self.old.made self.old.first self.old.second) }
+        ensures ended { 0 < result → left self.new.first + left self.new.second ≡ 0 }
+        ensures moved { left self.new.first + left self.new.second + (most - result) ≡ left self.old.first + left self.old.second }
+        ensures most { result ≤ most }
+    {
+        for moved in 0..most {
+            if self.is_at_rest() {
+                return most - moved;
+            }
+            self.move_one();
         }
-        looked.found
+        0
+    }
+
+    // Gives back the places of the two runs, of which nothing is left.
+    fn give_back(&mut self)
+        requires { left self.old.first + left self.old.second ≡ 0 }
+        ensures same { (c : Posting → Bool) → least c (live_in self.new.made self.new.first self.new.second) ≡ least c (live_in self.old.made self.old.first self.old.second) }
+        ensures rest { left self.new.first + left self.new.second ≡ 0 }
+    {
+        let alloc = *self.made.written.allocator();
+        self.first = nothing(alloc);
+        self.second = nothing(alloc);
+    }
+
+    // Moves so many postings of the two at most: how many moves are left, which are none while there is something to move. Once nothing is
+    // left of the two runs it gives back their places.
+    pub(crate) fn move_on(&mut self, most: usize) -> usize
+        ensures same { (c : Posting → Bool) → least c (live_in self.new.made self.new.first self.new.second) ≡ least c (live_in self.old.made self.old.first self.old.second) }
+        ensures ended { 0 < result → left self.new.first + left self.new.second ≡ 0 }
+        ensures moved { left self.new.first + left self.new.second + (most - result) ≡ left self.old.first + left self.old.second }
+        ensures most { result ≤ most }
+    {
+        let rest = self.move_postings(most);
+        if rest > 0 {
+            self.give_back();
+        }
+        rest
     }
 }

@@ -10,7 +10,6 @@ ghost use Rattle.last_readers.specs.Held.{size_upto};
 ghost use Rattle.pivot_check.specs.Inside.{postings_in, held_in, size_of};
 ghost use Rattle.pivot_check.specs.Index.{is_written_since};
 
-use crate::bound::Bound;
 use crate::by_start::ByStart;
 use crate::run::Run;
 use crate::written::Written;
@@ -67,14 +66,7 @@ pub(crate) fn add_run(runs: &mut Vec<Run>, written: Vec<Written>, last: u64)
     if written.is_empty() {
         return;
     }
-    let bound = Bound::of(&written);
-    let bounds = Vec::new(*runs.allocator());
-    match runs.push(Run {
-        last,
-        bound,
-        written,
-        bounds,
-    }) {
+    match runs.push(Run::of(written, last)) {
         Ok(()) => {}
         Err(_) => unreachable!(),
     }

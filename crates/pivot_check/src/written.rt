@@ -9,7 +9,9 @@ ghost use Rattle.pivot_check.specs.Postings.{Posting, postings_by, keys_rise, ar
 
 use marks::MarkRef;
 use model::{Key, KeyRef};
+use std::alloc::Global;
 use std::marker::Model;
+use std::mem;
 
 /// A written key, with the commit number and the flag of the transaction that wrote it.
 #[derive(Drop)]
@@ -44,6 +46,30 @@ impl Written {
         ensures { result.bytes.now ≡ self.now.key }
     {
         self.key.lend()
+    }
+
+    // Takes it: in its place stays a key that takes no memory, with the same number and flag.
+    pub(crate) fn take(&mut self, alloc: Global) -> Written
+        ensures taken { result ≡ self.old }
+        ensures number { self.new.number ≡ self.old.number }
+        ensures flag { self.new.has_earlier_target ≡ self.old.has_earlier_target }
+    {
+        Written {
+            key: mem::replace(&mut self.key, no_memory(alloc)),
+            number: self.number,
+            has_earlier_target: self.has_earlier_target,
+        }
+    }
+}
+
+// A key that takes no memory.
+fn no_memory(alloc: Global) -> Key {
+    let Some(key) = KeyRef::new(b"-") else {
+        unreachable!()
+    };
+    match Key::from_ref(alloc, key) {
+        Ok(key) => key,
+        Err(_) => unreachable!(),
     }
 }
 

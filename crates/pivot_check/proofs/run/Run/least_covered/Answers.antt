@@ -1,23 +1,11 @@
-use Rattle.std.proofs.Common.{◌<◌, length, add-one, arith, ◌∙◌, ap}
 use Rattle.marks.specs.Marked.{marks_of}
-use Rattle.pivot_check.specs.Postings.{least, lesser}
-use Rattle.pivot_check.specs.Places.{covered_at}
-use Rattle.pivot_check.proofs.PlacedMarks.{next_place, no_place_left, all_places}
+use Rattle.pivot_check.specs.Postings.{covered_of}
+use Rattle.pivot_check.specs.Parts.{live}
+use Rattle.pivot_check.proofs.Joined.{found_in_three}
 use Rattle.pivot_check.proofs.run.Run.least_covered.Goals as goal
-
-pub loop-place-preserved : goal.loop-place-preserved
-loop-place-preserved c =
-    let places = c.as_slice-places.result.now in
-    let i = c.loop-place.place-index in
-    let within : i < length places = omega (arith, c.loop-place-test.true) in (
-      rw add-one (next_place (marks_of c.args.order.now.marks.now) places i c.args.begin c.args.flagged c.args.self.now.written.items c.loop-place.looked.found c.look_at-looked.result.found _ within c.look_at-looked.ensures.found c.loop-place.invariant.0),
-      c.look_at-looked.ensures.looked,
-    )
 
 pub returns : goal.returns
 returns c =
-    let hs = c.args.order.now.marks.now in
-    let ps = c.args.self.now.written.items in
-    no_place_left (marks_of hs) c.as_slice-places.result.now c.loop-place.place-index c.args.begin c.args.flagged ps c.loop-place.looked.found _ (omega (arith, c.loop-place-test.false)) c.loop-place.invariant.0
-    ∙ ap (λ l. lesser c.args.found (least (covered_at (marks_of hs) l c.args.begin c.args.flagged) ps)) c.as_slice-places.ensures.value
-    ∙ ap (lesser c.args.found) (all_places (marks_of hs) c.args.order.now.places.items c.args.order.now.all c.args.begin c.args.flagged ps)
+    let r = c.args.self.now in
+    found_in_three (covered_of (marks_of c.args.order.now.marks.now) c.args.begin c.args.flagged) (live r.made) (live r.first) (live r.second) c.args.found c.least_covered-in_made.result c.least_covered-in_first.result c.least_covered.result
+    c.least_covered-in_made.ensures c.least_covered-in_first.ensures c.least_covered.ensures

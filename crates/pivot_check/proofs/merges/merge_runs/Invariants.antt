@@ -1,7 +1,0 @@
-use Rattle.std.proofs.Common.{◌≡◌, Bool}
-use Rattle.pivot_check.specs.Postings.{Posting, least}
-use Rattle.pivot_check.specs.Inside.{postings_in}
-use Rattle.pivot_check.proofs.merges.merge_runs.Given as goal
-
-abbrev pub invariant-loop-merge : goal.invariant-loop-merge
-invariant-loop-merge l = (c : Posting → Bool) → least c (postings_in l.runs.items) ≡ least c (postings_in l.fn.runs.items)

@@ -1,0 +1,30 @@
+use Rattle.std.proofs.Common.{◌≡◌, ◌≤◌, ◌-◌, ◌*◌, length, take, drop, length-drop, ap, sym, ◌∙◌, arith}
+use Rattle.std.proofs.lemmas.List.{take_all}
+use Rattle.pivot_check.specs.Bounds.{are_from_bound}
+use Rattle.pivot_check.proofs.Lists.{to_the_end}
+use Rattle.pivot_check.proofs.Passing.{next_bound}
+use Rattle.pivot_check.proofs.part.Part.add_bound.Goals as goal
+
+pub invariant_of-self : goal.invariant_of-self
+invariant_of-self c =
+    let part = c.args.self.now in
+    let ps = part.written.items in
+    let n = c.len-first.result in
+    let at = 64 * n in
+    let len = part.written.ok.0 in
+    let count = part.bounds.ok.0 in
+    let is = c.len-first.ensures in
+    let there = c.len.ensures in
+    let ends = c.if-len-first-eq-BLOCK.true in
+    let long : length part.bounds.items ≡ n = omega (arith, count, is) in
+    let rest : length (drop at ps) ≤ 64 = omega (arith, length-drop at ps, len, there, ends) in
+    let more = c.push_reserved.ensures.len in
+    let after = c.push_reserved.new.self.ok.0 in
+    record {
+      within = part.within;
+      rising = part.rising;
+      bounded = part.bounded;
+      blocks = next_bound part.bounds.items c.push_reserved.new.self.items ps n c.of.result c.push_reserved.ensures.items long
+          (ap (are_from_bound c.of.result) (take_all 64 (drop at ps) rest ∙ sym (to_the_end at ps) ∙ ap (λ l. take (length l - at) (drop at l)) (sym c.deref.ensures.value)) ∙ c.of.ensures) part.blocks;
+      whole = omega (arith, len, count, is, there, ends, more, after);
+    }

@@ -1,0 +1,10 @@
+use Rattle.std.proofs.Common.{◌≡◌, ◌+◌, Bool}
+use Rattle.pivot_check.specs.Postings.{Posting, least}
+use Rattle.pivot_check.specs.Parts.{left, live_in}
+use Rattle.pivot_check.proofs.run.Run.move_postings.Given as goal
+
+abbrev pub invariant-loop-moved : goal.invariant-loop-moved
+invariant-loop-moved l = record {
+  same : (c : Posting → Bool) → least c (live_in l.self.made l.self.first l.self.second) ≡ least c (live_in l.fn.self.made l.fn.self.first l.fn.self.second);
+  moved : left l.self.first + left l.self.second + l.moved ≡ left l.fn.self.first + left l.fn.self.second;
+}

@@ -1,0 +1,16 @@
+-- The parts of a run.
+use Rattle.std.specs.Prelude.{ℕ, ◌-◌, List, ◌++◌, length, drop}
+use Rattle.pivot_check.specs.declared.part.Part.{Part}
+use Rattle.pivot_check.specs.Postings.{Posting}
+
+-- what wasn't taken of a part
+abbrev pub live : Part → List Posting
+live p = drop p.start p.written.items
+
+-- how much that is
+abbrev pub left : Part → ℕ
+left p = length p.written.items - p.start
+
+-- the postings of a run: what was made, and what is left of the two that it is made of
+abbrev pub live_in : Part → Part → Part → List Posting
+live_in made first second = live made ++ (live first ++ live second)
