@@ -1,8 +1,8 @@
 -- How much is held of writes.
 use Rattle.std.proofs.lemmas.Grind.{common_steps}
-use Rattle.std.proofs.Common.{◌≡◌, ◌≢◌, ◌<◌, ◌⊎◌, ℕ, ◌+◌, ◌-◌, ◌^◌, min, true, false, List, [], ◌∷◌, ◌++◌, None, refl, ap, subst, inl, inr, arith, append_assoc}
+use Rattle.std.proofs.Common.{◌≡◌, ◌≢◌, ◌<◌, ◌⊎◌, ℕ, ◌+◌, ◌-◌, ◌^◌, min, true, false, List, [], ◌∷◌, ◌++◌, None, ap, subst, inl, inr, arith, append_assoc}
 use Rattle.std.specs.declared.cmp.Ordering.{Ordering}
-use Rattle.std.specs.declared.cmp.Ordering.TheVariants.{Less, Equal, Greater}
+use Rattle.std.specs.declared.cmp.Ordering.TheVariants.{Less}
 use Rattle.std.specs.Ordering.{is_eq, is_lt, is_gt}
 use Rattle.std.specs.Cmp.Lexicographic.{nat_list_cmp_total}
 use Rattle.std.proofs.lemmas.List.Sums.{sum_by_push}
@@ -14,14 +14,10 @@ abbrev pub IsUnder : Bytes → Bytes → Type 0
 IsUnder j k = is_lt (key_cmp j k) ≡ true
 
 less_from : (o : Ordering) → is_lt o ≡ true → o ≡ Less
-less_from Less e = refl
-less_from Equal e = cc
-less_from Greater e = cc
+less_from o e = grind (arith, common_steps)
 
 under_or_same : (o : Ordering) → is_gt o ≡ false → (o ≡ Less) ⊎ (is_eq o ≡ true)
-under_or_same Less e = inl refl
-under_or_same Equal e = inr refl
-under_or_same Greater e = cc
+under_or_same o e = grind (arith, common_steps)
 
 under_upto : (i j k : Bytes) → IsUnder i j → IsUpTo j k → IsUnder i k
 under_upto i j k lt le = elim (under_or_same (key_cmp j k) le) [
@@ -30,10 +26,7 @@ under_upto i j k lt le = elim (under_or_same (key_cmp j k) le) [
 ]
 
 pub under : (w v : KeyWrite) → IsUpTo w.0 v.0 → is_same_key w.0 v.0 ≡ false → IsUnder w.0 v.0
-under w v le apart = elim (under_or_same (key_cmp w.0 v.0) le) [
-  | inl less ↦ ap is_lt less
-  | inr same ↦ cc
-]
+under w v le apart = grind (arith, common_steps, under_or_same)
 
 -- the last is left out for one that doesn't stand before it
 pub one_for_last : (ws : List KeyWrite) (p e : KeyWrite) → HasOneOfEach (ws ++ p ∷ []) → IsUpTo p.0 e.0 → HasOneOfEach (ws ++ e ∷ [])

@@ -23,26 +23,19 @@ then_less o x y rest is less same more = grind (arith, common_steps, ranked)
 
 -- the first n bytes decide
 pub less : (n : ℕ) (xs ys : List ℕ) → AreBytes xs → AreBytes ys → head n xs < head n ys → slice_cmp nat_cmp xs ys ≡ Less
-less zero xs ys h g lt = absurd (omega arith)
-less (suc n) [] [] h g lt = absurd (omega arith)
-less (suc n) [] (y ∷ ys) h g lt = refl
-less (suc n) (x ∷ xs) [] h g lt = absurd (omega arith)
 less (suc n) (x ∷ xs) (y ∷ ys) h g lt =
     then_less (nat_cmp x y) x y (slice_cmp nat_cmp xs ys) refl (λ p. refl)
     (λ p. less n xs ys (λ i. h (suc i)) (λ i. g (suc i)) (let e : x * 256 ^ n ≡ y * 256 ^ n = ap (λ z. z * 256 ^ n) p in omega (arith, e)))
     (λ p. absurd (omega (arith, above (256 ^ n) x y (head n ys) (head n xs) (head_fits n ys (λ i. g (suc i))) p)))
+less n xs ys h g lt = grind (arith, common_steps)
 
 -- where they are the same, the next m bytes
 pub less_behind : (n m : ℕ) (xs ys : List ℕ) → AreBytes xs → AreBytes ys → head n xs ≡ head n ys → head m (drop n xs) < head m (drop n ys) → slice_cmp nat_cmp xs ys ≡ Less
-less_behind zero m xs ys h g same lt = less m xs ys h g lt
-less_behind (suc n) zero xs ys h g same lt = absurd (omega arith)
-less_behind (suc n) (suc m) [] [] h g same lt = absurd (omega arith)
-less_behind (suc n) (suc m) [] (y ∷ ys) h g same lt = refl
-less_behind (suc n) (suc m) (x ∷ xs) [] h g same lt = absurd (omega arith)
 less_behind (suc n) (suc m) (x ∷ xs) (y ∷ ys) h g same lt =
     then_less (nat_cmp x y) x y (slice_cmp nat_cmp xs ys) refl (λ p. refl)
     (λ p. less_behind n (suc m) xs ys (λ i. h (suc i)) (λ i. g (suc i)) (let e : x * 256 ^ n ≡ y * 256 ^ n = ap (λ z. z * 256 ^ n) p in omega (arith, e)) lt)
     (λ p. absurd (omega (arith, above (256 ^ n) x y (head n ys) (head n xs) (head_fits n ys (λ i. g (suc i))) p)))
+less_behind n m xs ys h g same lt = grind (arith, common_steps, less)
 
 turned : (xs ys : List ℕ) → slice_cmp nat_cmp ys xs ≡ Less → slice_cmp nat_cmp xs ys ≡ Greater
 turned xs ys e = nat_list_cmp_total.antisymm xs ys ∙ ap ordering_reverse e

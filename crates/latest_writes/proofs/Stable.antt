@@ -1,11 +1,11 @@
 -- Writes that are sorted by key, those of one key in their order, make the map that they made.
-use Rattle.std.proofs.Common.{◌≡◌, true, false, not, cond, ◌&&◌, List, [], ◌∷◌, ◌++◌, Option, None, refl, sym, ap, ◌∙◌}
+use Rattle.std.proofs.lemmas.Grind.{common_steps}
+use Rattle.std.proofs.Common.{arith, ◌≡◌, true, false, not, cond, ◌&&◌, List, [], ◌∷◌, ◌++◌, Option, None, refl, sym, ap, ◌∙◌}
 use Rattle.std.specs.List.{filter}
 use Rattle.std.specs.List.Sorted.{ties, IsStableBy}
 use Rattle.std.specs.Cmp.{IsStrictWeakOrder}
 use Rattle.std.proofs.lemmas.List.Sorted.{ranks_by}
 use Rattle.std.specs.declared.cmp.Ordering.{Ordering}
-use Rattle.std.specs.declared.cmp.Ordering.TheVariants.{Less, Equal, Greater}
 use Rattle.std.specs.Ordering.{is_eq, is_lt, ordering_reverse}
 use Rattle.std.specs.Cmp.Lexicographic.{nat_list_cmp_total}
 use Rattle.latest_writes.specs.Rising.{is_before}
@@ -18,8 +18,7 @@ after_writes-push m (x ∷ ws) w = after_writes-push (after_write m x.0 x.1) ws 
 
 -- one write more
 pub pushed : (new old : List KeyWrite) (v w : KeyWrite) (m : KeyMap) → new ≡ old ++ v ∷ [] → v ≡ w → after_writes [] old ≡ m → after_writes [] new ≡ after_write m w.0 w.1
-pushed new old v w m is same so_far =
-    ap (λ (l : List KeyWrite). after_writes [] l) is ∙ after_writes-push [] old v ∙ ap (λ (n : KeyMap). after_write n v.0 v.1) so_far ∙ ap (λ (x : KeyWrite). after_write m x.0 x.1) same
+pushed new old v w m is same so_far = grind (arith, common_steps, after_writes-push)
 
 -- ---- only the writes to a key count there
 
@@ -27,9 +26,7 @@ pub is_before_order : IsStrictWeakOrder is_before
 is_before_order = ranks_by nat_list_cmp_total (λ (w : KeyWrite). w.0)
 
 no_less : (o : Ordering) → (not (is_lt o) && not (is_lt (ordering_reverse o))) ≡ is_eq o
-no_less Less = refl
-no_less Equal = refl
-no_less Greater = refl
+no_less o = grind (arith, common_steps)
 
 -- such a list ties just the writes to one key
 ties_same : (q : Bytes) (v : Option Bytes) (w : KeyWrite) → ties is_before (q, v) w ≡ is_same_key q w.0

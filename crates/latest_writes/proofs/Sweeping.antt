@@ -1,4 +1,5 @@
 -- Of sorted writes those that another has replaced can be left out, and deletions of keys that are not there.
+use Rattle.std.proofs.lemmas.Grind.{common_steps}
 use Rattle.std.proofs.Common.{◌≡◌, ◌⊎◌, ℕ, suc, ◌+◌, Bool, true, false, cond, List, [], ◌∷◌, ◌++◌, get_or, Option, None, refl, sym, ap, subst, ◌∙◌, inl, inr, arith}
 use Rattle.std.specs.List.Sorted.{IsSortedBy}
 use Rattle.std.specs.declared.cmp.Ordering.{Ordering}
@@ -22,9 +23,7 @@ Rises k [] = Unit {0}
 Rises k (w ∷ ws) = IsUpTo k w.0 × Rises w.0 ws
 
 turned : (o : Ordering) → is_lt o ≡ false → is_gt (ordering_reverse o) ≡ false
-turned Less e = e
-turned Equal e = refl
-turned Greater e = refl
+turned o e = grind (arith, common_steps)
 
 pub rises : (w : KeyWrite) (ws : List KeyWrite) → IsSortedBy is_before (w ∷ ws) → Rises w.0 ws
 rises w [] h = tt
@@ -54,16 +53,13 @@ itself : (k : Bytes) → IsUpTo k k
 itself k = ap is_gt (tied_itself nat_list_cmp_total k)
 
 equal_from : (o : Ordering) → is_eq o ≡ true → o ≡ Equal
-equal_from Less e = cc
-equal_from Equal e = refl
-equal_from Greater e = cc
+equal_from o e = grind (arith, common_steps)
 
 pub same_key : (j k : Bytes) → is_same_key j k ≡ true → j ≡ k
 same_key j k e = exact_bytes j k (equal_from (key_cmp j k) e)
 
 not_both : (b : Bool) → b ≡ true → b ≡ false → ⊥
-not_both true h g = cc
-not_both false h g = cc
+not_both b h g = grind (arith, common_steps)
 
 -- the latest write is left out
 left_out_at : (m : KeyMap) (p e : KeyWrite) (q : Bytes) → ((q : Bytes) → IsUpTo p.0 q → value_at m q ≡ None) → (is_same_key p.0 e.0 ≡ true) ⊎ (p.1 ≡ None)

@@ -1,15 +1,16 @@
 -- The first pairs of a range are decided by the keys up to the last of them.
-use Rattle.std.proofs.Common.{◌≡◌, ℕ, zero, suc, ◌≤◌, true, false, T, not, cond, ◌&&◌, [], ◌∷◌, ◌++◌, Option, Some, None, refl, sym, ap, subst, ◌∙◌, length, take, arith, eqb, inl, inr}
+use Rattle.std.proofs.lemmas.Grind.{common_steps}
+use Rattle.std.proofs.Common.{◌≡◌, ℕ, zero, suc, ◌≤◌, true, false, T, not, cond, ◌&&◌, [], ◌∷◌, ◌++◌, Option, Some, None, refl, sym, ap, subst, ◌∙◌, length, take, arith, eqb}
 use Rattle.std.specs.declared.cmp.Ordering.{Ordering}
 use Rattle.std.specs.declared.cmp.Ordering.TheVariants.{Less, Equal, Greater}
-use Rattle.std.specs.Ordering.{is_lt, is_le, nat_cmp}
+use Rattle.std.specs.Ordering.{is_le, nat_cmp}
 use Rattle.std.specs.Cmp.Lexicographic.{slice_cmp, nat_list_cmp_total}
 use Rattle.std.specs.FinMap.Entries.{where_key, is_sorted, below_all, find-where_key, is_sorted-where_key}
 use Rattle.std.proofs.lemmas.Map.Lookups.{exact_bytes}
 use Rattle.std.proofs.lemmas.Cmp.{tied_itself}
 use Rattle.std.proofs.lemmas.Bool.{cases_Bool, and_parts, and_from, eqb-true}
 use Rattle.std.proofs.lemmas.List.{take-append-le}
-use Rattle.model.specs.Map.{Bytes, KeyMap, IsMap, key_cmp, value_at, is_in_range, is_below, pairs_in_range}
+use Rattle.model.specs.Map.{Bytes, KeyMap, IsMap, key_cmp, value_at, is_in_range, pairs_in_range}
 use Rattle.model.specs.PrivateCopy.{covers, last_key, mark_up_to, mark_of_reply}
 use Rattle.model.proofs.InOrder.{parts, less}
 use Rattle.model.proofs.Lookups.{same_map, same_pairs, value_in_range}
@@ -25,55 +26,35 @@ less_then x y z h g = by (key_cmp y z) refl g
 
 -- what stands above a key that is above k is above k too
 above_all : (k x y : Bytes) → is_le (key_cmp x k) ≡ false → key_cmp x y ≡ Less → is_le (key_cmp y k) ≡ false
-above_all k x y h g = elim (cases_Bool (is_le (key_cmp y k))) [
-  | inl t ↦ let e = less_then x y k g t in let e' : is_le (key_cmp x k) ≡ true = ap is_le e in cc
-  | inr f ↦ f
-]
+above_all k x y h g = grind (arith, common_steps, cases_Bool, less_then)
 
 none_up_to : (k x : Bytes) (es : KeyMap) → is_le (key_cmp x k) ≡ false → T (below_all (slice_cmp nat_cmp) x es) →
     (where_key (slice_cmp nat_cmp) (λ q. is_le (key_cmp q k)) es ≡ []) × (where_key (slice_cmp nat_cmp) (λ q. not (is_le (key_cmp q k))) es ≡ es)
 none_up_to k x [] h g = (refl, refl)
-none_up_to k x (e ∷ es) h g =
-    let p = parts (is_lt (key_cmp x e.0)) (below_all (slice_cmp nat_cmp) x es) g in
-    let over = above_all k x e.0 h (less (key_cmp x e.0) p.0) in
-    let rest = none_up_to k x es h p.1 in (
-      ap (λ b. cond b (e ∷ where_key (slice_cmp nat_cmp) (λ q. is_le (key_cmp q k)) es) (where_key (slice_cmp nat_cmp) (λ q. is_le (key_cmp q k)) es)) over ∙ rest.0,
-      ap (λ b. cond (not b) (e ∷ where_key (slice_cmp nat_cmp) (λ q. not (is_le (key_cmp q k))) es) (where_key (slice_cmp nat_cmp) (λ q. not (is_le (key_cmp q k))) es)) over ∙ ap (λ l. e ∷ l) rest.1,
-    )
+none_up_to k x (e ∷ es) h g = grind (arith, common_steps, parts, above_all, less, none_up_to k x es h)
 
 -- the pairs up to k come first
 split_at_key : (k : Bytes) (es : KeyMap) → IsMap es → es ≡ where_key (slice_cmp nat_cmp) (λ q. is_le (key_cmp q k)) es ++ where_key (slice_cmp nat_cmp) (λ q. not (is_le (key_cmp q k))) es
 split_at_key k [] h = refl
-split_at_key k (e ∷ es) h =
-    let p = parts (below_all (slice_cmp nat_cmp) e.0 es) (is_sorted (slice_cmp nat_cmp) es) h in
-    elim (is_le (key_cmp e.0 k)) as (λ b. is_le (key_cmp e.0 k) ≡ b → e ∷ es ≡ cond b (e ∷ where_key (slice_cmp nat_cmp) (λ q. is_le (key_cmp q k)) es) (where_key (slice_cmp nat_cmp) (λ q. is_le (key_cmp q k)) es)
-    ++ cond (not b) (e ∷ where_key (slice_cmp nat_cmp) (λ q. not (is_le (key_cmp q k))) es) (where_key (slice_cmp nat_cmp) (λ q. not (is_le (key_cmp q k))) es)) [
-      | true ↦ λ t. ap (λ l. e ∷ l) (split_at_key k es p.1)
-      | false ↦ λ f. let none = none_up_to k e.0 es f p.0 in sym (λ i. none.0 i ++ (e ∷ none.1 i))
-    ] refl
+split_at_key k (e ∷ es) h = grind (arith, common_steps, parts, none_up_to, split_at_key k es)
 
 -- the first key is at most the last
 last_above : (n : ℕ) (e : Bytes × Bytes) (es : KeyMap) (l : Bytes) → IsMap (e ∷ es) → last_key (e ∷ take n es) ≡ Some l → is_le (key_cmp e.0 l) ≡ true
 last_above zero e es l h t = let same : e.0 ≡ l = cc in ap (λ x. is_le (key_cmp e.0 x)) (sym same) ∙ ap is_le (tied_itself nat_list_cmp_total e.0)
 last_above (suc n) e [] l h t = let same : e.0 ≡ l = cc in ap (λ x. is_le (key_cmp e.0 x)) (sym same) ∙ ap is_le (tied_itself nat_list_cmp_total e.0)
-last_above (suc n) e (f ∷ es) l h t =
-    let p = parts (below_all (slice_cmp nat_cmp) e.0 (f ∷ es)) (is_sorted (slice_cmp nat_cmp) (f ∷ es)) h in
-    let q = parts (is_lt (key_cmp e.0 f.0)) (below_all (slice_cmp nat_cmp) e.0 es) p.0 in
-    ap is_le (less_then e.0 f.0 l (less (key_cmp e.0 f.0) q.0) (last_above n f es l p.1 t))
+last_above (suc n) e (f ∷ es) l h t = grind (arith, common_steps, parts, less_then, less, last_above n f es l)
 
 -- so there are n pairs up to the last of the first n
 n_up_to : (n : ℕ) (es : KeyMap) (l : Bytes) → IsMap es → length (take n es) ≡ n → last_key (take n es) ≡ Some l → n ≤ length (where_key (slice_cmp nat_cmp) (λ q. is_le (key_cmp q l)) es)
-n_up_to zero es l h c t = omega arith
-n_up_to (suc n) [] l h c t = absurd (omega arith)
 n_up_to (suc zero) (e ∷ es) l h c t =
     let up = last_above zero e es l h t in
     subst (λ b. 1 ≤ length (cond b (e ∷ where_key (slice_cmp nat_cmp) (λ q. is_le (key_cmp q l)) es) (where_key (slice_cmp nat_cmp) (λ q. is_le (key_cmp q l)) es))) (sym up) (omega arith)
-n_up_to (suc (suc n)) (e ∷ []) l h c t = absurd (omega arith)
 n_up_to (suc (suc n)) (e ∷ f ∷ es) l h c t =
     let p = parts (below_all (slice_cmp nat_cmp) e.0 (f ∷ es)) (is_sorted (slice_cmp nat_cmp) (f ∷ es)) h in
     let up = last_above (suc n) e (f ∷ es) l h t in
     let rest = n_up_to (suc n) (f ∷ es) l p.1 (omega arith) t in
     subst (λ b. suc (suc n) ≤ length (cond b (e ∷ where_key (slice_cmp nat_cmp) (λ q. is_le (key_cmp q l)) (f ∷ es)) (where_key (slice_cmp nat_cmp) (λ q. is_le (key_cmp q l)) (f ∷ es)))) (sym up) (omega (arith, rest))
+n_up_to n es l h c t = grind (arith, common_steps)
 
 same_up_to : (c d : KeyMap) (lo : Bytes) (hi : Option Bytes) (l : Bytes) → IsMap c → IsMap d → ((k : Bytes) → (is_le (key_cmp lo k) && is_le (key_cmp k l)) ≡ true → value_at c k ≡ value_at d k) →
     where_key (slice_cmp nat_cmp) (λ q. is_le (key_cmp q l)) (pairs_in_range c lo hi) ≡ where_key (slice_cmp nat_cmp) (λ q. is_le (key_cmp q l)) (pairs_in_range d lo hi)
@@ -87,13 +68,7 @@ same_up_to c d lo hi l c_is d_is agree =
         ∙ ap (λ o. cond (is_le (key_cmp q l)) o None) (value_in_range m lo hi q)
 
     same : (q : Bytes) → cond (is_le (key_cmp q l)) (cond (is_in_range lo hi q) (value_at c q) None) None ≡ cond (is_le (key_cmp q l)) (cond (is_in_range lo hi q) (value_at d q) None) None
-    same q = elim (is_le (key_cmp q l)) as (λ a. is_le (key_cmp q l) ≡ a → cond a (cond (is_in_range lo hi q) (value_at c q) None) None ≡ cond a (cond (is_in_range lo hi q) (value_at d q) None) None) [
-      | true ↦ λ up. elim (is_in_range lo hi q) as (λ a. is_in_range lo hi q ≡ a → cond a (value_at c q) None ≡ cond a (value_at d q) None) [
-        | true ↦ λ inside. agree q (and_from _ _ (and_parts (is_le (key_cmp lo q)) (is_below q hi) inside).0 up)
-        | false ↦ λ _. refl
-      ] refl
-      | false ↦ λ _. refl
-    ] refl
+    same q = grind (arith, common_steps, and_from, and_parts)
 
 -- maps that agree on what the mark of a reply covers give the same reply
 pub same_taken : (c d : KeyMap) (lo : Bytes) (hi : Option Bytes) (limit : ℕ) → IsMap c → IsMap d →

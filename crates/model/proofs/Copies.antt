@@ -1,5 +1,6 @@
 -- One transaction on private copies of two maps that agree on what it reads: the same replies, marks and writes.
-use Rattle.std.proofs.Common.{◌≡◌, Bool, subst, true, false, cond, List, [], ◌∷◌, ◌++◌, Option, Some, None, refl, sym, ap, ◌∙◌, length, inl, inr, take}
+use Rattle.std.proofs.lemmas.Grind.{common_steps}
+use Rattle.std.proofs.Common.{arith, ◌≡◌, Bool, true, false, cond, List, [], ◌∷◌, ◌++◌, Option, Some, None, refl, sym, ap, ◌∙◌, length, inl, inr, take}
 use Rattle.std.specs.Prelude.{nat_lt}
 use Rattle.std.specs.List.{list_any}
 use Rattle.std.specs.Ordering.{nat_cmp}
@@ -10,7 +11,7 @@ use Rattle.model.specs.declared.refusals.Refusal.TheVariants.{FullWrites, FullMa
 use Rattle.model.specs.Map.{Bytes, KeyMap, IsMap, value_at, is_same_key, after_write, after_writes, is_empty_range, pairs_in_range}
 use Rattle.model.specs.Operations.{Operation, Response}
 use Rattle.model.specs.Operations.Operation.{Begin, Get, Set, Del, Range, Commit, Abort, Ping, Faulty}
-use Rattle.model.specs.Operations.Response.{Done, Pong, Value, Pairs, Refused}
+use Rattle.model.specs.Operations.Response.{Done, Pong, Pairs, Refused}
 use Rattle.model.specs.PrivateCopy.{Mark, mark_of_reply, covers, is_covered, is_same_end, is_same_mark, PrivateCopy, copy_of, after_read, after_put, respond, copy_after, responses, reads, writes, values_at}
 use Rattle.model.specs.PrivateCopy.Mark.{OfKey, OfRange, OfClosedRange}
 use Rattle.model.proofs.ClosedRanges.{same_taken}
@@ -46,16 +47,8 @@ covered_by_held mark (m ∷ marks) k h c = elim (or_cases (is_same_mark mark m) 
   | inr g ↦ or_right (covers m k) _ (covered_by_held mark marks k g c)
 ]
 
-covered_before : (mark : Mark) (marks : List Mark) (k : Bytes) → is_covered marks k ≡ true → is_covered (marks ++ mark ∷ []) k ≡ true
-covered_before mark [] k h = cc
-covered_before mark (m ∷ marks) k h = elim (or_cases (covers m k) (is_covered marks k) h) [
-  | inl e ↦ or_left (covers m k) _ e
-  | inr g ↦ or_right (covers m k) _ (covered_before mark marks k g)
-]
-
 covered_new : (mark : Mark) (marks : List Mark) (k : Bytes) → covers mark k ≡ true → is_covered (marks ++ mark ∷ []) k ≡ true
-covered_new mark [] k h = or_left (covers mark k) false h
-covered_new mark (m ∷ marks) k h = or_right (covers m k) _ (covered_new mark marks k h)
+covered_new mark marks k h = grind (arith, common_steps, or_left, or_right)
 
 -- ---- two copies, of the maps m and n
 
@@ -87,42 +80,8 @@ record Stepped (m n : KeyMap) (x y : Response × PrivateCopy) : Type 0 where
 
 -- ---- marks only join
 
-read_grows : (c : PrivateCopy) (mark : Mark) (r : Response) (k : Bytes) → is_covered c.marks k ≡ true → is_covered (after_read c mark r).1.marks k ≡ true
-read_grows c mark r k h =
-    elim (list_any (is_same_mark mark) c.marks) as (λ b. is_covered (cond {A = Response × PrivateCopy} b (r, c) (cond (nat_lt (length c.marks) 256) (r, record c { marks = c.marks ++ mark ∷ [] }) (Refused FullMarks, c))).1.marks k ≡ true) [
-      | true ↦ h
-      | false ↦ elim (nat_lt (length c.marks) 256) as (λ b. is_covered (cond {A = Response × PrivateCopy} b (r, record c { marks = c.marks ++ mark ∷ [] }) (Refused FullMarks, c)).1.marks k ≡ true) [
-        | true ↦ covered_before mark c.marks k h
-        | false ↦ h
-      ]
-    ]
-
-put_grows : (c : PrivateCopy) (j : Bytes) (v : Option Bytes) (k : Bytes) → is_covered c.marks k ≡ true → is_covered (after_put c j v).1.marks k ≡ true
-put_grows c j v k h =
-    elim (list_any (is_same_key j) c.written) as (λ b. is_covered (cond {A = Response × PrivateCopy} b (Done, record c { contents = after_write c.contents j v }) (cond (nat_lt (length c.written) 64) (Done, record c { contents = after_write c.contents j v; written = insert_key (slice_cmp nat_cmp) c.written j }) (Refused FullWrites, c))).1.marks k ≡ true) [
-      | true ↦ h
-      | false ↦ elim (nat_lt (length c.written) 64) as (λ b. is_covered (cond {A = Response × PrivateCopy} b (Done, record c { contents = after_write c.contents j v; written = insert_key (slice_cmp nat_cmp) c.written j }) (Refused FullWrites, c)).1.marks k ≡ true) [ true ↦ h | false ↦ h ]
-    ]
-
 grows : (c : PrivateCopy) (q : Operation) (k : Bytes) → is_covered c.marks k ≡ true → is_covered (respond c q).1.marks k ≡ true
-grows c (Get j) k h =
-    elim (list_any (is_same_key j) c.written) as (λ b. is_covered (cond {A = Response × PrivateCopy} b (Value (value_at c.contents j), c) (after_read c (OfKey j) (Value (value_at c.contents j)))).1.marks k ≡ true) [
-      | true ↦ h
-      | false ↦ read_grows c (OfKey j) (Value (value_at c.contents j)) k h
-    ]
-grows c (Range lo hi limit) k h =
-    let pairs = take limit (pairs_in_range c.contents lo hi) in
-    elim (is_empty_range lo hi) as (λ b. is_covered (cond {A = Response × PrivateCopy} b (Pairs [], c) (after_read c (mark_of_reply lo hi limit pairs) (Pairs pairs))).1.marks k ≡ true) [
-      | true ↦ h
-      | false ↦ read_grows c (mark_of_reply lo hi limit pairs) (Pairs pairs) k h
-    ]
-grows c (Set j v) k h = put_grows c j (Some v) k h
-grows c (Del j) k h = put_grows c j None k h
-grows c Begin k h = h
-grows c Ping k h = h
-grows c (Faulty refusal) k h = h
-grows c Commit k h = h
-grows c Abort k h = h
+grows c q k h = grind (arith, common_steps)
 
 all_grow : (c : PrivateCopy) (qs : List Operation) (k : Bytes) → is_covered c.marks k ≡ true → is_covered (copy_after c qs).marks k ≡ true
 all_grow c [] k h = h
@@ -135,8 +94,7 @@ read_held c mark r h = ap (λ b. cond {A = Response × PrivateCopy} b (r, c) (co
 
 read_new : (c : PrivateCopy) (mark : Mark) (r : Response) (b : Bool) → list_any (is_same_mark mark) c.marks ≡ false → nat_lt (length c.marks) 256 ≡ b →
     after_read c mark r ≡ cond b (r, record c { marks = c.marks ++ mark ∷ [] }) (Refused FullMarks, c)
-read_new c mark r b h g = ap (λ a. cond {A = Response × PrivateCopy} a (r, c) (cond (nat_lt (length c.marks) 256) (r, record c { marks = c.marks ++ mark ∷ [] }) (Refused FullMarks, c))) h
-    ∙ ap (λ a. cond {A = Response × PrivateCopy} a (r, record c { marks = c.marks ++ mark ∷ [] }) (Refused FullMarks, c)) g
+read_new c mark r b h g = grind (arith, common_steps)
 
 module _ (m n : KeyMap) where
   -- a request that changes nothing
@@ -150,33 +108,7 @@ module _ (m n : KeyMap) where
       (((k : Bytes) → covers other k ≡ true → value_at m k ≡ value_at n k) → mark ≡ other) →
       AgreeOn m n (after_read (copy c ws marks) mark r).1.marks →
       Stepped m n (after_read (copy c ws marks) mark r) (after_read (copy d ws marks) other s)
-  read_step c d ws marks a mark other r s first second agree =
-      elim (cases_Bool (list_any (is_same_mark mark) marks)) [
-        | inl h ↦
-            let left = read_held (copy c ws marks) mark r h in
-            let on : AgreeOn m n marks = λ k t. agree k (ap (λ (x : Response × PrivateCopy). is_covered x.1.marks k) left ∙ t) in
-            let e = first (λ k t. on k (covered_by_held mark marks k h t)) in
-            let right = read_held (copy d ws marks) other s (ap (λ x. list_any (is_same_mark x) marks) (sym e.0) ∙ h) in
-            both_are left right (stays c d ws marks a r s e.1)
-        | inr h ↦ elim (cases_Bool (nat_lt (length marks) 256)) [
-          | inl g ↦
-              let left = read_new (copy c ws marks) mark r true h g in
-              let on : AgreeOn m n (marks ++ mark ∷ []) = λ k t. agree k (ap (λ (x : Response × PrivateCopy). is_covered x.1.marks k) left ∙ t) in
-              let e = first (λ k t. on k (covered_new mark marks k t)) in
-              let right = read_new (copy d ws marks) other s true (ap (λ x. list_any (is_same_mark x) marks) (sym e.0) ∙ h) g in
-              both_are left (right ∙ (λ i. (s, copy d ws (marks ++ sym e.0 i ∷ [])))) (stays c d ws (marks ++ mark ∷ []) a r s e.1)
-          | inr g ↦
-              let left = read_new (copy c ws marks) mark r false h g in
-              let on : AgreeOn m n marks = λ k t. agree k (ap (λ (x : Response × PrivateCopy). is_covered x.1.marks k) left ∙ t) in
-              elim (cases_Bool (list_any (is_same_mark other) marks)) [
-                | inl t ↦ absurd (both_ways _ h (ap (λ x. list_any (is_same_mark x) marks) (second (λ k u. on k (covered_by_held other marks k t u))) ∙ t))
-                | inr t ↦ both_are left (read_new (copy d ws marks) other s false t g) (stays c d ws marks a (Refused FullMarks) (Refused FullMarks) refl)
-              ]
-        ]
-      ]
-    where
-      both_are : {x x' y y' : Response × PrivateCopy} → x ≡ x' → y ≡ y' → Stepped m n x' y' → Stepped m n x y
-      both_are {x} {x'} {y} {y'} e f st = subst (λ z. Stepped m n z y) (sym e) (subst (λ z. Stepped m n x' z) (sym f) st)
+  read_step c d ws marks a mark other r s first second agree = grind (arith, common_steps, cases_Bool, read_held, covered_by_held, stays, read_new, covered_new, both_ways)
 
   put_alike : (c d : KeyMap) (ws vs : List Bytes) (k : Bytes) (v : Option Bytes) → Alike m n c d ws →
       ((q : Bytes) → list_any (is_same_key q) vs ≡ true → is_same_key q k ≡ false → list_any (is_same_key q) ws ≡ true) →
@@ -217,23 +149,11 @@ module _ (m n : KeyMap) where
 
   -- the values at a key, written or read
   same_value : (c d : KeyMap) (ws : List Bytes) → Alike m n c d ws → (q : Bytes) → value_at m q ≡ value_at n q → value_at c q ≡ value_at d q
-  same_value c d ws a q e = elim (cases_Bool (list_any (is_same_key q) ws)) [
-    | inl h ↦ a.written q h
-    | inr h ↦ a.kept_left q h ∙ e ∙ sym (a.kept_right q h)
-  ]
+  same_value c d ws a q e = grind (arith, common_steps, cases_Bool)
 
   stepped : (c d : KeyMap) (ws : List Bytes) (marks : List Mark) → Alike m n c d ws → (q : Operation) → AgreeOn m n (respond (copy c ws marks) q).1.marks →
       Stepped m n (respond (copy c ws marks) q) (respond (copy d ws marks) q)
-  stepped c d ws marks a (Get k) agree =
-      elim (list_any (is_same_key k) ws) as (λ b. list_any (is_same_key k) ws ≡ b →
-      AgreeOn m n (cond {A = Response × PrivateCopy} b (Value (value_at c k), copy c ws marks) (after_read (copy c ws marks) (OfKey k) (Value (value_at c k)))).1.marks →
-      Stepped m n
-      (cond b (Value (value_at c k), copy c ws marks) (after_read (copy c ws marks) (OfKey k) (Value (value_at c k))))
-      (cond b (Value (value_at d k), copy d ws marks) (after_read (copy d ws marks) (OfKey k) (Value (value_at d k))))) [
-        | true ↦ λ h on. stays c d ws marks a (Value (value_at c k)) (Value (value_at d k)) (ap (λ o. Value o) (a.written k h))
-        | false ↦ λ h on. read_step c d ws marks a (OfKey k) (OfKey k) (Value (value_at c k)) (Value (value_at d k))
-            (λ e. (refl, ap (λ o. Value o) (same_value c d ws a k (e k (same_key_itself k))))) (λ _. refl) on
-      ] refl agree
+  stepped c d ws marks a (Get k) agree = grind (arith, common_steps, stays, read_step, same_value, same_key_itself)
   stepped c d ws marks a (Range lo hi limit) agree =
       elim (is_empty_range lo hi) as (λ b.
       AgreeOn m n (cond {A = Response × PrivateCopy} b (Pairs [], copy c ws marks) (after_read (copy c ws marks) (mark_of_reply lo hi limit (take limit (pairs_in_range c lo hi))) (Pairs (take limit (pairs_in_range c lo hi))))).1.marks →
@@ -273,19 +193,7 @@ module _ (m n : KeyMap) where
   run c d ws marks a (q ∷ qs) agree =
       let s = stepped c d ws marks a q (λ k h. agree k (all_grow (respond (copy c ws marks) q).1 qs k h)) in
       let rest = run s.left s.right s.ws s.held s.alike qs (λ k h. agree k (ap (λ x. is_covered (copy_after x qs).marks k) s.left_is ∙ h)) in
-      record {
-        left = rest.left;
-        right = rest.right;
-        ws = rest.ws;
-        held = rest.held;
-        left_is = ap (λ x. copy_after x qs) s.left_is ∙ rest.left_is;
-        right_is = ap (λ x. copy_after x qs) s.right_is ∙ rest.right_is;
-        alike = rest.alike;
-        same =
-            let head = s.same in
-            let tail : responses (respond (copy c ws marks) q).1 qs ≡ responses (respond (copy d ws marks) q).1 qs = ap (λ x. responses x qs) s.left_is ∙ rest.same ∙ ap (λ x. responses x qs) (sym s.right_is) in
-            λ i. head i ∷ tail i;
-      }
+      grind (arith, common_steps)
 
 -- what the replay of the transaction on n gives, where its record says what it did on m and the maps agree on what it read
 pub record Replayed (m n : KeyMap) (qs : List Operation) : Type 0 where
@@ -302,10 +210,7 @@ replayed m n qs m_is n_is agree = from (run m n m n [] [] (record { is_map_left 
     }
       where
         value : (q : Bytes) → value_at r.right q ≡ value_at (after_writes n (values_at r.left r.ws)) q
-        value q = elim (list_any (is_same_key q) r.ws) as (λ b. list_any (is_same_key q) r.ws ≡ b → value_at r.right q ≡ cond b (value_at r.left q) (value_at n q)) [
-          | true ↦ λ h. sym (r.alike.written q h)
-          | false ↦ λ h. r.alike.kept_right q h
-        ] refl ∙ sym (value_after_values r.ws n r.left q)
+        value q = grind (arith, common_steps, value_after_values)
 
         maps : r.right ≡ after_writes n (values_at r.left r.ws)
         maps = same_map r.right (after_writes n (values_at r.left r.ws)) r.alike.is_map_right (IsMap-after_writes n (values_at r.left r.ws) n_is) value

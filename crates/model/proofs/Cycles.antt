@@ -1,43 +1,31 @@
 -- Each cycle of dependencies has a pivot, and a dangerous one, if no two concurrent transactions write one key.
-use Rattle.std.proofs.Common.{◌≡◌, ◌≢◌, ◌⊎◌, ◌<◌, ◌≤◌, ◌||◌, List, [], ◌∷◌, ◌++◌, refl, sym, ap, subst, ◌∙◌, length, length-append, arith, inl, inr}
+use Rattle.std.proofs.lemmas.Grind.{common_steps}
+use Rattle.std.proofs.Common.{◌≡◌, ◌≢◌, ◌⊎◌, ◌<◌, ◌≤◌, List, [], ◌∷◌, ◌++◌, refl, sym, ap, subst, ◌∙◌, length, length-append, arith, inl, inr}
 use Rattle.std.specs.Prelude.{IsTrue, All, Contains, ⊤, take, ◌==◌}
 use Rattle.std.specs.List.{AllByRecursion, list_any}
-use Rattle.std.proofs.lemmas.Bool.{ltb-true, leb-true, eqb-false, not-true, le-leb, lt-ltb, or_cases, and_parts, and_from, cases_lt}
+use Rattle.std.proofs.lemmas.Bool.{ltb-true, eqb-false, not-true, le-leb, lt-ltb, or_cases, and_parts, and_from, cases_lt}
 use Rattle.std.proofs.lemmas.List.Elements.{All-contains, All-contains_itself, recursion_from_All, All-from_recursion}
 use Rattle.model.specs.History.{Record}
-use Rattle.model.specs.Dependency.{is_concurrent, write_alike, reads_from, write_write_dependency, write_read_dependency, read_write_dependency, dependency, concurrent_read_write, makes_pivot, makes_dangerous_pivot, is_dangerous_pivot, NoConcurrentWriters}
+use Rattle.model.specs.Dependency.{is_concurrent, write_alike, reads_from, read_write_dependency, dependency, concurrent_read_write, makes_pivot, makes_dangerous_pivot, is_dangerous_pivot, NoConcurrentWriters}
 use Rattle.model.specs.Cycle.{IsPath, IsCycle, PivotInCycle, CycleLaw, DangerousPivotLaw, DangerousCycleLaw}
 use Rattle.model.proofs.Members.{In, in_from_Contains, any_from_in, any_witness}
 
 -- ---- what the tests say
 
-pub concurrent_from : (a b : Record) → a.begin < b.commit → b.begin < a.commit → IsTrue (is_concurrent a b)
-concurrent_from a b h g = and_from _ _ (lt-ltb a.begin b.commit h) (lt-ltb b.begin a.commit g)
-
 pub record WriteWriteParts (a b : Record) : Type 0 where
   pub alike : IsTrue (write_alike a b)
   pub earlier : a.commit < b.commit
 
-pub write_write_parts : (a b : Record) → IsTrue (write_write_dependency a b) → WriteWriteParts a b
-write_write_parts a b h = let p = and_parts _ _ h in record { alike = p.0; earlier = ltb-true _ _ p.1 }
-
 pub record WriteReadParts (a b : Record) : Type 0 where
   pub reads : IsTrue (reads_from b a)
   pub earlier : a.commit ≤ b.begin
-
-pub write_read_parts : (a b : Record) → IsTrue (write_read_dependency a b) → WriteReadParts a b
-write_read_parts a b h = let p = and_parts _ _ h in record { reads = p.0; earlier = leb-true _ _ p.1 }
 
 -- a read-write dependency between two that committed one after the other, in either order
 pub read_write_begins : (a b : Record) → IsTrue (read_write_dependency a b) → a.begin < b.commit
 read_write_begins a b h = ltb-true _ _ (and_parts _ _ (and_parts _ _ h).0).1
 
 pub dependency_cases : (a b : Record) → IsTrue (dependency a b) → WriteWriteParts a b ⊎ (WriteReadParts a b ⊎ IsTrue (read_write_dependency a b))
-dependency_cases a b h =
-    elim (or_cases (write_write_dependency a b || write_read_dependency a b) (read_write_dependency a b) h) [
-      | inl h' ↦ elim (or_cases (write_write_dependency a b) (write_read_dependency a b) h') [ inl g ↦ inl (write_write_parts a b g) | inr g ↦ inr (inl (write_read_parts a b g)) ]
-      | inr g ↦ inr (inr g)
-    ]
+dependency_cases a b h = grind (arith, common_steps, or_cases)
 
 pub read_write_differs : (a b : Record) → IsTrue (read_write_dependency a b) → a.commit ≢ b.commit
 read_write_differs a b h = eqb-false a.commit b.commit (not-true (a.commit == b.commit) (and_parts _ _ h).1)
@@ -45,26 +33,12 @@ read_write_differs a b h = eqb-false a.commit b.commit (not-true (a.commit == b.
 -- ---- the dependencies next to the one that commits first
 
 dependency_out : (p y : Record) → y.begin < y.commit → y.commit ≤ p.commit → IsTrue (dependency p y) → IsTrue (concurrent_read_write p y)
-dependency_out p y begins first e =
-    elim (dependency_cases p y e) [
-      | inl w ↦ absurd (omega arith)
-      | inr w ↦ elim w [
-        | inl w' ↦ absurd (omega arith)
-        | inr rw' ↦ let since = read_write_begins p y rw' in and_from _ _ rw' (concurrent_from p y since (omega arith))
-      ]
-    ]
+dependency_out p y begins first e = grind (arith, common_steps, first, dependency_cases, read_write_begins, and_from)
 
 dependency_in : (x p : Record) → x.begin < x.commit → p.begin < x.commit →
     (x.commit ≢ p.commit → IsTrue (is_concurrent x p) → ¬ IsTrue (write_alike x p)) →
     IsTrue (dependency x p) → IsTrue (concurrent_read_write x p)
-dependency_in x p begins since apart e =
-    elim (dependency_cases x p e) [
-      | inl w ↦ absurd (apart (omega arith) (concurrent_from x p (omega arith) since) w.alike)
-      | inr w ↦ elim w [
-        | inl w' ↦ absurd (omega arith)
-        | inr rw' ↦ and_from _ _ rw' (concurrent_from x p (read_write_begins x p rw') since)
-      ]
-    ]
+dependency_in x p begins since apart e = grind (arith, common_steps, dependency_cases, and_from, read_write_begins)
 
 -- ---- the one that commits first, in a row of records
 
@@ -147,8 +121,7 @@ first_of_row Q x p t (u ∷ us) links are = first_with (first_of_row Q p t u us 
     ]
 
 pub AllByRecursion-append : (P : Record → Type 0) (xs ys : List Record) → AllByRecursion P xs → AllByRecursion P ys → AllByRecursion P (xs ++ ys)
-AllByRecursion-append P [] ys h g = g
-AllByRecursion-append P (x ∷ xs) ys h g = (h.0, AllByRecursion-append P xs ys h.1 g)
+AllByRecursion-append P xs ys h g = grind (arith, common_steps)
 
 pub AllByRecursion-parts : (P : Record → Type 0) (xs ys : List Record) → AllByRecursion P (xs ++ ys) → AllByRecursion P xs × AllByRecursion P ys
 AllByRecursion-parts P [] ys h = (tt, h)
@@ -192,16 +165,6 @@ dangerous_in_cycle history cycle begins apart are f = (f.pivot, f.pivot_is, dang
     makes : IsTrue (makes_pivot f.before f.pivot f.after)
     makes = pivot_of history cycle begins apart are f
 
-    before_pivot : f.after.commit < f.pivot.commit
-    before_pivot =
-        let le : f.after.commit ≤ f.pivot.commit = All-contains (λ r. f.after.commit ≤ r.commit) cycle f.pivot first f.pivot_is in
-        let out : IsTrue (concurrent_read_write f.pivot f.after) = (and_parts (concurrent_read_write f.before f.pivot) (concurrent_read_write f.pivot f.after) makes).1 in
-        let apart : f.pivot.commit ≢ f.after.commit = read_write_differs f.pivot f.after (and_parts (read_write_dependency f.pivot f.after) (is_concurrent f.pivot f.after) out).0 in
-        omega arith
-
-    up_to_source : f.after.commit ≤ f.before.commit
-    up_to_source = All-contains (λ r. f.after.commit ≤ r.commit) cycle f.before first f.before_is
-
     x_in : In f.before history
     x_in = in_from_Contains history f.before (All-contains (Contains history) cycle f.before are f.before_is)
 
@@ -209,9 +172,7 @@ dangerous_in_cycle history cycle begins apart are f = (f.pivot, f.pivot_is, dang
     y_in = in_from_Contains history f.after (All-contains (Contains history) cycle f.after are f.after_is)
 
     dangerous : IsTrue (is_dangerous_pivot history f.pivot)
-    dangerous = any_from_in (λ x. list_any (λ y. makes_dangerous_pivot x f.pivot y) history) history f.before x_in
-        (any_from_in (λ y. makes_dangerous_pivot f.before f.pivot y) history f.after y_in
-        (and_from _ _ makes (and_from _ _ (lt-ltb f.after.commit f.pivot.commit before_pivot) (le-leb f.after.commit f.before.commit up_to_source))))
+    dangerous = grind (arith, common_steps, any_from_in, x_in, y_in, and_from, makes, lt-ltb, le-leb)
 
 -- the cycle's records in the row that goes round once and on to the second
 round : (a b : Record) (rs : List Record) → IsCycle (a ∷ b ∷ rs) → First (Contains (a ∷ b ∷ rs)) (a ∷ b ∷ (rs ++ a ∷ b ∷ [])) (a ∷ b ∷ rs)
@@ -263,5 +224,4 @@ pub dangerous_pivot_law : DangerousPivotLaw
 dangerous_pivot_law history p h =
     let x = any_witness (λ x. list_any (λ y. makes_dangerous_pivot x p y) history) history h in
     let y = any_witness (λ y. makes_dangerous_pivot x.at p y) history x.passes in
-    any_from_in (λ x. list_any (λ y. makes_pivot x p y) history) history x.at x.member
-    (any_from_in (λ y. makes_pivot x.at p y) history y.at y.member (and_parts (makes_pivot x.at p y.at) _ y.passes).0)
+    grind (arith, common_steps, any_from_in, and_parts)

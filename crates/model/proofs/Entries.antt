@@ -1,4 +1,5 @@
 -- What a binary search by key finds among entries that stand by strictly rising key.
+use Rattle.std.proofs.lemmas.Grind.{common_steps}
 use Rattle.std.proofs.Common.{◌≡◌, ℕ, zero, suc, ◌-◌, ◌<◌, ◌≤◌, true, false, T, not, cond, List, [], ◌∷◌, length, take, drop, get_or, set, Some, None, Result, Ok, Err, IfOk, IfErr, refl, sym, ap, subst, ◌∙◌, arith}
 use Rattle.std.specs.List.{insert}
 use Rattle.std.specs.List.Sorted.{IsSearchInRange, IsBinarySearchResult}
@@ -33,18 +34,12 @@ module _ {X : Type 0} where
   put_at [] k c i d h lt e = absurd (omega arith)
   put_at (e ∷ es) k c zero d h lt is =
       sym (ap (λ o. by_order o ((k, c) ∷ e ∷ es) ((e.0, c) ∷ es) (e ∷ put (slice_cmp nat_cmp) k c es)) (ap (λ q. key_cmp q e.0) (sym is) ∙ tied_itself nat_list_cmp_total e.0) ∙ ap (λ q. (q, c) ∷ es) is)
-  put_at (e ∷ es) k c (suc i) d h lt is =
-      let p = parts _ _ h in
-      let above : key_cmp k e.0 ≡ Greater = turned e.0 k ∙ ap ordering_reverse (ap (key_cmp e.0) (sym is) ∙ below_at key_cmp e.0 es i d p.0 (omega arith)) in
-      ap (λ l. e ∷ l) (put_at es k c i d p.1 (omega arith) is) ∙ sym (ap (λ o. by_order o ((k, c) ∷ e ∷ es) ((e.0, c) ∷ es) (e ∷ put (slice_cmp nat_cmp) k c es)) above)
+  put_at (e ∷ es) k c (suc i) d h lt is = grind (arith, common_steps, turned, below_at, put_at es k c i d)
 
   found_at : (es : List (Bytes × X)) (k : Bytes) (i : ℕ) (d : Bytes × X) → IsSorted es → i < length es → key_at es i d ≡ k → find (slice_cmp nat_cmp) k es ≡ Some (get_or es i d).1
   found_at [] k i d h lt is = absurd (omega arith)
   found_at (e ∷ es) k zero d h lt is = ap (λ o. cond (is_eq o) (Some e.1) (find (slice_cmp nat_cmp) k es)) (ap (λ q. key_cmp q e.0) (sym is) ∙ tied_itself nat_list_cmp_total e.0)
-  found_at (e ∷ es) k (suc i) d h lt is =
-      let p = parts _ _ h in
-      let above : key_cmp k e.0 ≡ Greater = turned e.0 k ∙ ap ordering_reverse (ap (key_cmp e.0) (sym is) ∙ below_at key_cmp e.0 es i d p.0 (omega arith)) in
-      ap (λ o. cond (is_eq o) (Some e.1) (find (slice_cmp nat_cmp) k es)) above ∙ found_at es k i d p.1 (omega arith) is
+  found_at (e ∷ es) k (suc i) d h lt is = grind (arith, common_steps, turned, below_at, found_at es k i d)
 
   -- ---- the key isn't there
 
@@ -55,8 +50,6 @@ module _ {X : Type 0} where
   GreaterFrom es k i = (j : ℕ) (d : Bytes × X) → i ≤ j → j < length es → key_cmp (key_at es j d) k ≡ Greater
 
   put_gap : (es : List (Bytes × X)) (k : Bytes) (c : X) (i : ℕ) → i ≤ length es → LessBefore es k i → GreaterFrom es k i → insert es i (k, c) ≡ put (slice_cmp nat_cmp) k c es
-  put_gap [] k c zero le less more = refl
-  put_gap [] k c (suc i) le less more = absurd (omega arith)
   put_gap (e ∷ es) k c zero le less more =
       let below : key_cmp k e.0 ≡ Less = turned e.0 k ∙ ap ordering_reverse (more 0 e (omega arith) (omega arith)) in
       sym (ap (λ o. by_order o ((k, c) ∷ e ∷ es) ((e.0, c) ∷ es) (e ∷ put (slice_cmp nat_cmp) k c es)) below)
@@ -64,6 +57,7 @@ module _ {X : Type 0} where
       let above : key_cmp k e.0 ≡ Greater = turned e.0 k ∙ ap ordering_reverse (less 0 e (omega arith)) in
       ap (λ l. e ∷ l) (put_gap es k c i (omega arith) (λ j d lt. less (suc j) d (omega arith)) (λ j d le' lt. more (suc j) d (omega arith) (omega arith)))
       ∙ sym (ap (λ o. by_order o ((k, c) ∷ e ∷ es) ((e.0, c) ∷ es) (e ∷ put (slice_cmp nat_cmp) k c es)) above)
+  put_gap es k c i le less more = grind (arith, common_steps)
 
   none_gap : (es : List (Bytes × X)) (k : Bytes) (i : ℕ) → i ≤ length es → LessBefore es k i → GreaterFrom es k i → find (slice_cmp nat_cmp) k es ≡ None
   none_gap [] k i le less more = refl
@@ -103,32 +97,21 @@ module _ {X : Type 0} where
       record { in_range = omega arith; absent = none_gap es k n (omega arith) before from; inserted = λ c. put_gap es k c n (omega arith) before from }
     where
       first : (o p : Ordering) → is_lt p ≡ true → ordering_index o ≤ ordering_index p → o ≡ Less
-      first Less p t h = refl
-      first Equal Less t h = absurd (omega arith)
-      first Greater Less t h = absurd (omega arith)
-      first o Equal t h = cc
-      first o Greater t h = cc
+      first o p t h = grind (arith, common_steps)
 
   -- ---- a list in two parts by a key
 
   split_by : (es : List (Bytes × X)) (k : Bytes) (i : ℕ) → i ≤ length es → LessBefore es k i → ((j : ℕ) (d : Bytes × X) → i ≤ j → j < length es → is_lt (key_cmp (key_at es j d) k) ≡ false)
       → record { before : take i es ≡ where_key (slice_cmp nat_cmp) (λ q. is_lt (key_cmp q k)) es; from : drop i es ≡ where_key (slice_cmp nat_cmp) (λ q. not (is_lt (key_cmp q k))) es }
-  split_by [] k zero le less more = record { before = refl; from = refl }
-  split_by [] k (suc i) le less more = absurd (omega arith)
   split_by (e ∷ es) k zero le less more =
       let rest = split_by es k 0 (omega arith) (λ j d lt. absurd (omega arith)) (λ j d le' lt. more (suc j) d (omega arith) (omega arith)) in
       let not_less : is_lt (key_cmp e.0 k) ≡ false = more 0 e (omega arith) (omega arith) in
-      record {
-        before = rest.before ∙ sym (ap (λ b. cond b (e ∷ where_key (slice_cmp nat_cmp) (λ q. is_lt (key_cmp q k)) es) (where_key (slice_cmp nat_cmp) (λ q. is_lt (key_cmp q k)) es)) not_less);
-        from = ap (λ l. e ∷ l) rest.from ∙ sym (ap (λ b. cond (not b) (e ∷ where_key (slice_cmp nat_cmp) (λ q. not (is_lt (key_cmp q k))) es) (where_key (slice_cmp nat_cmp) (λ q. not (is_lt (key_cmp q k))) es)) not_less);
-      }
+      grind (arith, common_steps, not_less)
   split_by (e ∷ es) k (suc i) le less more =
       let rest = split_by es k i (omega arith) (λ j d lt. less (suc j) d (omega arith)) (λ j d le' lt. more (suc j) d (omega arith) (omega arith)) in
       let is_less : is_lt (key_cmp e.0 k) ≡ true = ap is_lt (less 0 e (omega arith)) in
-      record {
-        before = ap (λ l. e ∷ l) rest.before ∙ sym (ap (λ b. cond b (e ∷ where_key (slice_cmp nat_cmp) (λ q. is_lt (key_cmp q k)) es) (where_key (slice_cmp nat_cmp) (λ q. is_lt (key_cmp q k)) es)) is_less);
-        from = rest.from ∙ sym (ap (λ b. cond (not b) (e ∷ where_key (slice_cmp nat_cmp) (λ q. not (is_lt (key_cmp q k))) es) (where_key (slice_cmp nat_cmp) (λ q. not (is_lt (key_cmp q k))) es)) is_less);
-      }
+      grind (arith, common_steps)
+  split_by es k i le less more = grind (arith, common_steps)
 
   -- where the binary search ends, the list splits
   pub split_at : (es : List (Bytes × X)) (k : Bytes) → IsSorted es → (r : Result ℕ ℕ) → IsSearchInRange r (length es) → IsBinarySearchResult (λ e. key_cmp e.0 k) es r
@@ -140,11 +123,8 @@ module _ {X : Type 0} where
       record { found = record { in_range = omega arith; before = s.before; from = s.from }; absent = tt }
     where
       ascends : (fs : List (Bytes × X)) → IsSorted fs → (j i : ℕ) (d : Bytes × X) → j < i → i < length fs → key_cmp (get_or fs j d).0 (get_or fs i d).0 ≡ Less
-      ascends [] g j i d lt within' = absurd (omega arith)
-      ascends (f ∷ fs) g zero zero d lt within' = absurd (omega arith)
-      ascends (f ∷ fs) g zero (suc i') d lt within' = below_at key_cmp f.0 fs i' d (parts _ _ g).0 (omega arith)
-      ascends (f ∷ fs) g (suc j) zero d lt within' = absurd (omega arith)
       ascends (f ∷ fs) g (suc j) (suc i') d lt within' = ascends fs (parts _ _ g).1 j i' d (omega arith) (omega arith)
+      ascends fs g j i d lt within' = grind (arith, common_steps, below_at)
 
       not_less : (q : Bytes) → 1 ≤ ordering_index (key_cmp q k) → is_lt (key_cmp q k) ≡ false
       not_less q h' = elim (key_cmp q k) as (λ o. 1 ≤ ordering_index o → is_lt o ≡ false) [ Less ↦ λ g. absurd (omega arith) | Equal ↦ λ g. refl | Greater ↦ λ g. refl ] h'

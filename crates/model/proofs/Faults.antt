@@ -1,11 +1,11 @@
 -- The faults of a request's form are four.
-use Rattle.std.proofs.Common.{ℕ, List, length, Option, Some, None, Result, Ok, Err, IfErr}
-use Rattle.std.specs.Prelude.{◌==◌, codes}
+use Rattle.std.proofs.lemmas.Grind.{common_steps}
+use Rattle.std.proofs.Common.{arith, ℕ, List, length, Option, Some, Result, Ok, IfErr}
+use Rattle.std.specs.Prelude.{◌==◌}
 use Rattle.model.specs.declared.refusals.Refusal.{Refusal}
 use Rattle.model.specs.Map.{Bytes}
 use Rattle.model.specs.Operations.{Operation}
-use Rattle.model.specs.Operations.Operation.{Begin, Commit, Abort, Ping}
-use Rattle.model.specs.CommandTable.{◌>>=◌, part_at, arity, is_key, key_in, end_in, or_limit, limit_in, number_up_to, alone_in, get_in, set_in, del_in, range_in, is_named, command_in}
+use Rattle.model.specs.CommandTable.{◌>>=◌, part_at, arity, is_key, key_in, end_in, or_limit, alone_in, get_in, set_in, del_in, range_in, command_in}
 use Rattle.model.specs.Laws.{IsOfForm, FaultsAreOfForm}
 use Rattle.model.proofs.Progress.{by_case}
 
@@ -13,8 +13,7 @@ abbrev Of : {A : Type 0} → Result A Refusal → Type 0
 Of r = IfErr r IsOfForm
 
 then_of : {A B : Type 0} (x : Result A Refusal) (f : A → Result B Refusal) → Of x → ((a : A) → Of (f a)) → Of (x >>= f)
-then_of (Ok a) f first rest = rest a
-then_of (Err e) f first rest = first
+then_of x f first rest = grind (arith, common_steps)
 
 counts : (n : ℕ) (parts : List Bytes) → Of (arity n parts)
 counts n parts = by_case Of (length parts == n) _ _ tt tt
@@ -26,8 +25,7 @@ ends : (bytes : Bytes) → Of (end_in bytes)
 ends bytes = by_case Of (length bytes == 0) _ _ tt (then_of (key_in bytes) (λ key. Ok (Some key)) (keys bytes) (λ key. tt))
 
 limits : (o : Option ℕ) → Of (or_limit o)
-limits None = tt
-limits (Some n) = tt
+limits o = grind (arith, common_steps)
 
 alone : (q : Operation) (parts : List Bytes) → Of (alone_in q parts)
 unfolding alone_in
@@ -47,17 +45,8 @@ dels parts = then_of (arity 2 parts) _ (counts 2 parts) (λ a. then_of (key_in (
 
 ranges : (parts : List Bytes) → Of (range_in parts)
 unfolding range_in
-ranges parts = then_of (arity 4 parts) _ (counts 4 parts) (λ a. then_of (key_in (part_at parts 1)) _ (keys (part_at parts 1)) (λ lo.
-    then_of (end_in (part_at parts 2)) _ (ends (part_at parts 2)) (λ hi. then_of (limit_in (part_at parts 3)) _ (limits (number_up_to 128 (part_at parts 3))) (λ n. tt))))
+ranges parts = grind (arith, common_steps, then_of, counts, keys, ends, limits)
 
 pub faults_are_of_form : FaultsAreOfForm
 unfolding command_in
-faults_are_of_form parts =
-    by_case Of (is_named parts (codes "BEGIN")) _ _ (alone Begin parts)
-    (by_case Of (is_named parts (codes "GET")) _ _ (gets parts)
-    (by_case Of (is_named parts (codes "SET")) _ _ (sets parts)
-    (by_case Of (is_named parts (codes "DEL")) _ _ (dels parts)
-    (by_case Of (is_named parts (codes "RANGE")) _ _ (ranges parts)
-    (by_case Of (is_named parts (codes "COMMIT")) _ _ (alone Commit parts)
-    (by_case Of (is_named parts (codes "ABORT")) _ _ (alone Abort parts)
-    (by_case Of (is_named parts (codes "PING")) _ _ (alone Ping parts) tt)))))))
+faults_are_of_form parts = grind (arith, common_steps, by_case, alone, gets, sets, dels, ranges)

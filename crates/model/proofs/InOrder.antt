@@ -1,25 +1,22 @@
 -- Entries by strictly rising key, whatever the keys and their order: parts of such a list, and what it has at a key.
-use Rattle.std.proofs.Common.{◌≡◌, ℕ, zero, suc, ◌<◌, ◌≤◌, Bool, true, false, T, cond, ◌&&◌, List, [], ◌∷◌, ◌++◌, length, take, drop, get_or, None, Some, refl, sym, ap, subst, ◌∙◌, arith}
+use Rattle.std.proofs.lemmas.Grind.{common_steps}
+use Rattle.std.proofs.Common.{◌≡◌, ℕ, suc, ◌<◌, ◌≤◌, Bool, T, cond, ◌&&◌, List, [], ◌∷◌, ◌++◌, length, take, drop, get_or, None, Some, refl, sym, ap, subst, ◌∙◌, arith}
 use Rattle.std.specs.declared.cmp.Ordering.{Ordering}
-use Rattle.std.specs.declared.cmp.Ordering.TheVariants.{Less, Equal, Greater}
+use Rattle.std.specs.declared.cmp.Ordering.TheVariants.{Less, Equal}
 use Rattle.std.specs.Cmp.{IsTotalOrder}
 use Rattle.std.specs.List.Sorted.{IsNonDecreasingBy}
-use Rattle.std.specs.Ordering.{is_eq, is_lt, ordering_index, ordering_reverse}
+use Rattle.std.specs.Ordering.{is_eq, is_lt, ordering_index}
 use Rattle.std.specs.FinMap.Entries.{find, below_all, is_sorted}
 use Rattle.std.proofs.lemmas.List.{take-append-drop}
 
 pub parts : (a b : Bool) → T (a && b) → T a × T b
-parts true b h = (tt, h)
-parts false b h = absurd h
+parts a b h = grind (arith, common_steps)
 
 pub both : (a b : Bool) → T a → T b → T (a && b)
-both true b p q = q
-both false b p q = p
+both a b p q = grind (arith, common_steps)
 
 pub less : (o : Ordering) → T (is_lt o) → o ≡ Less
-less Less h = refl
-less Equal h = absurd h
-less Greater h = absurd h
+less o h = grind (arith, common_steps)
 
 pub is_less : (o : Ordering) → o ≡ Less → T (is_lt o)
 is_less o e = subst (λ r. T (is_lt r)) (sym e) tt
@@ -27,9 +24,8 @@ is_less o e = subst (λ r. T (is_lt r)) (sym e) tt
 module _ {K X : Type 0} (R : K → K → Ordering) where
   -- the keys from the first on
   pub below_at : (k : K) (es : List (K × X)) (i : ℕ) (d : K × X) → T (below_all R k es) → i < length es → R k (get_or es i d).0 ≡ Less
-  below_at k [] i d h lt = absurd (omega arith)
-  below_at k (e ∷ es) zero d h lt = less _ (parts _ _ h).0
   below_at k (e ∷ es) (suc i) d h lt = below_at k es i d (parts _ _ h).1 (omega arith)
+  below_at k es i d h lt = grind (arith, common_steps, less, parts)
 
   pub below_left : (k : K) (xs ys : List (K × X)) → T (below_all R k (xs ++ ys)) → T (below_all R k xs)
   below_left k [] ys h = tt
@@ -60,13 +56,7 @@ module _ {K X : Type 0} (R : K → K → Ordering) where
 
 -- from x < y: as x stands to k, or lower, so y
 later : {K : Type 0} {R : K → K → Ordering} → IsTotalOrder R → (x y k : K) → R x y ≡ Less → ordering_index (R x k) ≤ ordering_index (R y k)
-later {K} {R} o x y k p = elim (R y k) as (λ q. R y k ≡ q → ordering_index (R x k) ≤ ordering_index q) [
-  | Less ↦ λ e. subst (λ q. ordering_index q ≤ 0) (sym (o.trans x y k p e)) (omega arith)
-  | Equal ↦ λ e.
-      let turned : R x k ≡ Less = o.antisymm x k ∙ ap ordering_reverse (sym (o.congr y k x e) ∙ o.antisymm y x ∙ ap ordering_reverse p) in
-      subst (λ q. ordering_index q ≤ 1) (sym turned) (omega arith)
-  | Greater ↦ λ e. elim (R x k) as (λ q. ordering_index q ≤ 2) [ Less ↦ omega arith | Equal ↦ omega arith | Greater ↦ omega arith ]
-] refl
+later o x y k p = grind (arith, common_steps)
 
 module _ {K X : Type 0} {R : K → K → Ordering} (o : IsTotalOrder R) where
   pub below_later : (x y : K) (es : List (K × X)) → R x y ≡ Less → T (below_all R y es) → T (below_all R x es)
@@ -74,13 +64,9 @@ module _ {K X : Type 0} {R : K → K → Ordering} (o : IsTotalOrder R) where
   below_later x y (e ∷ es) p h = let q = parts _ _ h in both _ _ (is_less _ (o.trans x y e.0 p (less _ q.0))) (below_later x y es p q.1)
 
   pub below_equal : (x y : K) (es : List (K × X)) → R x y ≡ Equal → T (below_all R y es) → T (below_all R x es)
-  below_equal x y [] e h = tt
-  below_equal x y (d ∷ es) e h = let p = parts _ _ h in both _ _ (is_less _ (o.congr x y d.0 e ∙ less _ p.0)) (below_equal x y es e p.1)
+  below_equal x y es e h = grind (arith, common_steps, parts, both, is_less, less)
 
   -- the comparisons with k rise along the list
   pub rise : (es : List (K × X)) (k : K) → T (is_sorted R es) → IsNonDecreasingBy (λ e. ordering_index (R e.0 k)) es
-  rise [] k h i j d le lt = absurd (omega arith)
-  rise (e ∷ es) k h zero zero d le lt = omega arith
-  rise (e ∷ es) k h zero (suc j) d le lt = later o e.0 (get_or es j d).0 k (below_at R e.0 es j d (parts _ _ h).0 (omega arith))
-  rise (e ∷ es) k h (suc i) zero d le lt = absurd (omega arith)
   rise (e ∷ es) k h (suc i) (suc j) d le lt = rise es k (parts _ _ h).1 i j d (omega arith) (omega arith)
+  rise es k h i j d le lt = grind (arith, common_steps, later, below_at, parts)

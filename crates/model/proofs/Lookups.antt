@@ -1,8 +1,9 @@
 -- What a map has at a key after writes, and when two maps are one.
-use Rattle.std.proofs.Common.{◌≡◌, Bool, true, false, not, cond, ◌||◌, List, [], ◌∷◌, Option, Some, None, refl, sym, ap, ◌∙◌, inl, inr}
+use Rattle.std.proofs.lemmas.Grind.{common_steps}
+use Rattle.std.proofs.Common.{arith, ◌≡◌, Bool, true, false, not, cond, ◌||◌, List, [], ◌∷◌, Option, Some, None, refl, sym, ap, ◌∙◌, inl, inr}
 use Rattle.std.specs.declared.cmp.Ordering.{Ordering}
-use Rattle.std.specs.declared.cmp.Ordering.TheVariants.{Less, Equal, Greater}
-use Rattle.std.specs.Ordering.{is_eq, nat_cmp, match_ordering}
+use Rattle.std.specs.declared.cmp.Ordering.TheVariants.{Equal}
+use Rattle.std.specs.Ordering.{is_eq, nat_cmp}
 use Rattle.std.specs.Cmp.Lexicographic.{slice_cmp, nat_list_cmp_total}
 use Rattle.std.specs.List.{list_any}
 use Rattle.std.specs.BTreeSet.{insert_key}
@@ -16,9 +17,7 @@ use Rattle.model.specs.PrivateCopy.{values_at}
 -- ---- keys
 
 equal_from : (o : Ordering) → is_eq o ≡ true → o ≡ Equal
-equal_from Less e = cc
-equal_from Equal e = refl
-equal_from Greater e = cc
+equal_from o e = grind (arith, common_steps)
 
 pub same_key : (j k : Bytes) → is_same_key j k ≡ true → j ≡ k
 same_key j k e = exact_bytes j k (equal_from (slice_cmp nat_cmp j k) e)
@@ -44,30 +43,14 @@ apart_keys q k ks h g = elim (cases_Bool (is_same_key q k)) [
   | inr e ↦ e
 ]
 
-swap_or : (a b c : Bool) → (a || (b || c)) ≡ (b || (a || c))
-swap_or true true c = refl
-swap_or true false c = refl
-swap_or false true c = refl
-swap_or false false c = refl
-
-twice_or : (a c : Bool) → (a || c) ≡ (a || (a || c))
-twice_or true c = refl
-twice_or false c = refl
-
 pub any-insert_key : (q k : Bytes) (ks : List Bytes) → list_any (is_same_key q) (insert_key (slice_cmp nat_cmp) ks k) ≡ (is_same_key q k || list_any (is_same_key q) ks)
 any-insert_key q k [] = refl
-any-insert_key q k (x ∷ xs) =
-    elim (slice_cmp nat_cmp k x) as (λ o. slice_cmp nat_cmp k x ≡ o → list_any (is_same_key q) (match_ordering o (k ∷ x ∷ xs) (x ∷ xs) (x ∷ insert_key (slice_cmp nat_cmp) xs k)) ≡ (is_same_key q k || (is_same_key q x || list_any (is_same_key q) xs))) [
-      | Less ↦ λ e. refl
-      | Equal ↦ λ e. twice_or (is_same_key q x) (list_any (is_same_key q) xs) ∙ ap (λ z. is_same_key q z || (is_same_key q x || list_any (is_same_key q) xs)) (sym (exact_bytes k x e))
-      | Greater ↦ λ e. ap (λ b. is_same_key q x || b) (any-insert_key q k xs) ∙ swap_or (is_same_key q x) (is_same_key q k) (list_any (is_same_key q) xs)
-    ] refl
+any-insert_key q k (x ∷ xs) = grind (arith, common_steps, exact_bytes, any-insert_key q k xs)
 
 -- ---- one write
 
 turned : {A : Type 0} (b : Bool) (x y : A) → cond (not b) x y ≡ cond b y x
-turned true x y = refl
-turned false x y = refl
+turned b x y = grind (arith, common_steps)
 
 pub value_after_write : (m : KeyMap) (k : Bytes) (v : Option Bytes) (q : Bytes) → value_at (after_write m k v) q ≡ cond (is_same_key q k) v (value_at m q)
 value_after_write m k (Some v) q = find-put (slice_cmp nat_cmp) nat_list_cmp_total q k v m
@@ -87,20 +70,14 @@ IsMap-after_writes m (w ∷ ws) h = IsMap-after_writes (after_write m w.0 w.1) w
 
 pub value_after_alike : (ws : List KeyWrite) (m n : KeyMap) (q : Bytes) → value_at m q ≡ value_at n q → value_at (after_writes m ws) q ≡ value_at (after_writes n ws) q
 value_after_alike [] m n q h = h
-value_after_alike (w ∷ ws) m n q h = value_after_alike ws (after_write m w.0 w.1) (after_write n w.0 w.1) q
-    (value_after_write m w.0 w.1 q ∙ ap (λ o. cond (is_same_key q w.0) w.1 o) h ∙ sym (value_after_write n w.0 w.1 q))
+value_after_alike (w ∷ ws) m n q h = grind (arith, common_steps, value_after_write, value_after_alike ws (after_write m w.0 w.1) (after_write n w.0 w.1) q)
 
 pub value_after_others : (ws : List KeyWrite) (m : KeyMap) (q : Bytes) → list_any (λ w. is_same_key q w.0) ws ≡ false → value_at (after_writes m ws) q ≡ value_at m q
 value_after_others [] m q h = refl
-value_after_others (w ∷ ws) m q h =
-    let parts = or_parts (is_same_key q w.0) (list_any (λ w. is_same_key q w.0) ws) h in
-    value_after_others ws (after_write m w.0 w.1) q parts.1 ∙ value_after_write m w.0 w.1 q ∙ ap (λ b. cond b w.1 (value_at m q)) parts.0
+value_after_others (w ∷ ws) m q h = grind (arith, common_steps, or_parts, value_after_write, value_after_others ws)
 
 joined : {A : Type 0} (a b : Bool) (x z y : A) → (a ≡ true → z ≡ x) → cond b x (cond a z y) ≡ cond (a || b) x y
-joined true true x z y h = refl
-joined false true x z y h = refl
-joined true false x z y h = h refl
-joined false false x z y h = refl
+joined a b x z y h = grind (arith, common_steps)
 
 -- to write the values that c has at keys
 pub value_after_values : (ks : List Bytes) (m c : KeyMap) (q : Bytes) → value_at (after_writes m (values_at c ks)) q ≡ cond (list_any (is_same_key q) ks) (value_at c q) (value_at m q)
@@ -119,8 +96,7 @@ pub value_in_range : (m : KeyMap) (lo : Bytes) (hi : Option Bytes) (q : Bytes) �
 value_in_range m lo hi q = find-where_key (slice_cmp nat_cmp) (is_in_range lo hi) q (λ x t. ap (is_in_range lo hi) (sym (exact_bytes q x t))) m
 
 same_cond : {A : Type 0} (b : Bool) (x y z : A) → (b ≡ true → x ≡ y) → cond b x z ≡ cond b y z
-same_cond true x y z h = h refl
-same_cond false x y z h = refl
+same_cond b x y z h = grind (arith, common_steps)
 
 pub same_pairs : (m n : KeyMap) (lo : Bytes) (hi : Option Bytes) → IsMap m → IsMap n → ((q : Bytes) → is_in_range lo hi q ≡ true → value_at m q ≡ value_at n q) → pairs_in_range m lo hi ≡ pairs_in_range n lo hi
 same_pairs m n lo hi h g e = same_map (pairs_in_range m lo hi) (pairs_in_range n lo hi)

@@ -1,23 +1,23 @@
 -- The machine keeps its history faithful, without dangerous pivots and without concurrent writers of one key.
-use Rattle.std.proofs.Common.{◌≡◌, ◌⊎◌, ℕ, suc, ◌+◌, ◌-◌, ◌^◌, ◌<◌, ◌≤◌, Bool, true, false, cond, ◌&&◌, List, [], ◌∷◌, ◌++◌, Option, Some, None, refl, sym, ap, subst, ◌∙◌, length, length-append, arith, inl, inr}
-use Rattle.std.specs.Prelude.{not, IsTrue, nat_lt, nat_le, ◌==◌, find}
-use Rattle.std.specs.declared.cmp.Ordering.TheVariants.{Less, Equal, Greater}
-use Rattle.std.specs.Ordering.{nat_cmp, eq_by_cmp}
+use Rattle.std.proofs.lemmas.Grind.{common_steps}
+use Rattle.std.proofs.Common.{◌≡◌, ◌⊎◌, ℕ, suc, ◌+◌, ◌-◌, ◌^◌, ◌<◌, ◌≤◌, Bool, true, false, cond, ◌&&◌, List, [], ◌∷◌, ◌++◌, Option, Some, None, refl, sym, ap, ◌∙◌, length, length-append, arith, inl, inr}
+use Rattle.std.specs.Prelude.{not, IsTrue, nat_lt, nat_le, ◌==◌}
+use Rattle.std.specs.Ordering.{nat_cmp}
 use Rattle.std.specs.List.{AllByRecursion}
-use Rattle.std.specs.FinMap.Entries.{find as value_of, put, where_key, by_order}
+use Rattle.std.specs.FinMap.Entries.{find as value_of, put, where_key}
 use Rattle.std.proofs.lemmas.Bool.{and_parts, and_from, lt-leb, false_from_ne_true}
 use Rattle.std.proofs.lemmas.List.Elements.{All-contains, All-from_recursion}
 use Rattle.model.specs.declared.refusals.Refusal.{Refusal}
-use Rattle.model.specs.declared.refusals.Refusal.TheVariants.{PivotSelf, FullLog, StoreFault, StoreStopped, FullNumbers, FullTransactions}
+use Rattle.model.specs.declared.refusals.Refusal.TheVariants.{StoreStopped, FullNumbers, FullTransactions}
 use Rattle.model.specs.Map.{KeyMap, KeyWrite, is_same_key, after_writes}
 use Rattle.model.specs.Operations.{Operation, Response}
 use Rattle.model.specs.Operations.Operation.{Begin, Get, Set, Del, Range, Commit, Abort, Ping, Faulty}
 use Rattle.model.specs.Operations.Response.{Done, Refused}
-use Rattle.model.specs.PrivateCopy.{PrivateCopy, copy_of, copy_after, respond, responses, reads, writes}
+use Rattle.model.specs.PrivateCopy.{PrivateCopy, copy_of, copy_after, respond, responses}
 use Rattle.model.specs.History.{Record, record_of, map_at, IsNumberedFrom, IsFaithful, IsTrueRecord}
 use Rattle.model.specs.Dependency.{is_concurrent, writes_key, write_alike, is_dangerous_pivot, NoConcurrentWriters}
-use Rattle.model.specs.Verdict.{verdict, is_overwritten, conflict_of, pivot_refusal, HasNoDangerousPivot}
-use Rattle.model.specs.Machine.{Running, State, Input, IsReached, opened, last, snapshot, running_of, with_running, leave, record_to_commit, refuse, join_history, store, store_unless, body_sectors, commit, step_outside, own_step, step_inside, step_of, step, next, state_after}
+use Rattle.model.specs.Verdict.{verdict, is_overwritten, HasNoDangerousPivot}
+use Rattle.model.specs.Machine.{Running, State, Input, IsReached, last, snapshot, running_of, with_running, record_to_commit, refuse, store, store_unless, commit, step_outside, own_step, step_inside, step_of, step, next, state_after}
 use Rattle.model.specs.Machine.Input.{Asks, Leaves}
 use Rattle.model.specs.SerialOrder.{serial_order}
 use Rattle.model.specs.Laws.{MachineLaw, VerdictHolds}
@@ -29,39 +29,25 @@ use Rattle.model.proofs.SerialOrders.{replay_law}
 
 pub in_append_cases : (xs : List Record) (y x : Record) → In x (xs ++ y ∷ []) → In x xs ⊎ (x ≡ y)
 in_append_cases [] y x h = elim h [ inl e ↦ inr e | inr g ↦ absurd g ]
-in_append_cases (z ∷ xs) y x h = elim h [
-  | inl e ↦ inl (inl e)
-  | inr g ↦ elim (in_append_cases xs y x g) [ inl g' ↦ inl (inr g') | inr e ↦ inr e ]
-]
+in_append_cases (z ∷ xs) y x h = grind (arith, common_steps, in_append_cases xs y x)
 
 write_alike_comm : (a b : Record) → write_alike a b ≡ true → write_alike b a ≡ true
 write_alike_comm a b h =
     let w = any_witness (λ w. writes_key b w.0) a.writes h in
     let v = any_witness (λ v. is_same_key w.at.0 v.0) b.writes w.passes in
-    any_from_in (λ v. writes_key a v.0) b.writes v.at v.member
-    (any_from_in (λ w. is_same_key v.at.0 w.0) a.writes w.at w.member (same_key_comm v.at.0 w.at.0 ∙ v.passes))
+    grind (arith, common_steps, any_from_in, same_key_comm)
 
 each_inserted : {X : Type 0} (P : ℕ × X → Type 0) (es : List (ℕ × X)) (s : ℕ) (x : X) → ((k : ℕ) → P (k, x)) → AllByRecursion P es → AllByRecursion P (put nat_cmp s x es)
 each_inserted P [] s x h g = (h s, tt)
-each_inserted P (e ∷ es) s x h g =
-    elim (nat_cmp s e.0) as (λ o. AllByRecursion P (by_order o ((s, x) ∷ e ∷ es) ((e.0, x) ∷ es) (e ∷ put nat_cmp s x es))) [
-      | Less ↦ (h s, (g.0, g.1))
-      | Equal ↦ (h e.0, g.1)
-      | Greater ↦ (g.0, each_inserted P es s x h g.1)
-    ]
+each_inserted P (e ∷ es) s x h g = grind (arith, common_steps, each_inserted P es s x h g.1)
 
 each_left : {X : Type 0} (P : ℕ × X → Type 0) (test : ℕ → Bool) (es : List (ℕ × X)) → AllByRecursion P es → AllByRecursion P (where_key nat_cmp test es)
 each_left P test [] g = tt
-each_left P test (e ∷ es) g =
-    elim (test e.0) as (λ b. AllByRecursion P (cond b (e ∷ where_key nat_cmp test es) (where_key nat_cmp test es))) [ true ↦ (g.0, each_left P test es g.1) | false ↦ each_left P test es g.1 ]
+each_left P test (e ∷ es) g = grind (arith, common_steps, each_left P test es g.1)
 
 pub at_found : {X : Type 0} (P : X → Type 0) (s : ℕ) (es : List (ℕ × X)) → AllByRecursion (λ e. P e.1) es → (x : X) → value_of nat_cmp s es ≡ Some x → P x
 at_found P s [] g x e = cc
-at_found P s (f ∷ es) g x e =
-    elim (eq_by_cmp nat_cmp s f.0) as (λ b. cond b (Some f.1) (value_of nat_cmp s es) ≡ Some x → P x) [
-      | true ↦ λ h. let same : f.1 ≡ x = cc in subst P same g.0
-      | false ↦ λ h. at_found P s es g.1 x h
-    ] e
+at_found P s (f ∷ es) g x e = grind (arith, common_steps, at_found P s es g.1 x)
 
 -- ---- histories that grow
 
@@ -103,28 +89,14 @@ pub record IsClear (history : List Record) (r : Record) : Type 0 where
 
 pub clear_from : (history : List Record) (r : Record) → verdict history r ≡ None → IsClear history r
 unfolding verdict
-clear_from history r e = by (find (λ w. is_overwritten history r w.0) r.writes) refl e
-  where
-    with_pivots : ((w : KeyWrite) → In w r.writes → is_overwritten history r w.0 ≡ true → ⊥) → (b : Bool) → is_dangerous_pivot (history ++ r ∷ []) r ≡ b →
-        (o : Option Record) → find (is_dangerous_pivot (history ++ r ∷ [])) history ≡ o → cond b (Some PivotSelf) (pivot_refusal o) ≡ None → IsClear history r
-    with_pivots free true is o f h = cc
-    with_pivots free false is (Some p) f h = cc
-    with_pivots free false is None f h = record { not_overwritten = free; self = is; others = none_found (is_dangerous_pivot (history ++ r ∷ [])) history f }
-
-    by : (o : Option KeyWrite) → find (λ w. is_overwritten history r w.0) r.writes ≡ o → conflict_of o (cond (is_dangerous_pivot (history ++ r ∷ []) r) (Some PivotSelf) (pivot_refusal (find (is_dangerous_pivot (history ++ r ∷ [])) history))) ≡ None → IsClear history r
-    by (Some w) f h = cc
-    by None f h = with_pivots (none_found (λ w. is_overwritten history r w.0) r.writes f) (is_dangerous_pivot (history ++ r ∷ []) r) refl (find (is_dangerous_pivot (history ++ r ∷ [])) history) refl h
+clear_from history r e = grind (arith, common_steps, none_found)
 
 module _ (base : KeyMap) (history : List Record) where
   true_after : (r : Record) → r.commit ≡ suc (length history) → (s : Record) → s.begin ≤ length history → IsTrueRecord base history s → IsTrueRecord base (history ++ r ∷ []) s
-  true_after r c s low h = subst (λ m. (b : s.begin < s.commit) → s.replies ≡ responses (copy_of m) s.requests → s.reads ≡ reads m s.requests → s.writes ≡ writes m s.requests → IsTrueRecord base (history ++ r ∷ []) s)
-      (map_at-append base history r s.begin (omega arith)) (λ b rs ms ws. record { begins_before = b; replies = rs; reads = ms; writes = ws }) h.begins_before h.replies h.reads h.writes
+  true_after r c s low h = grind (arith, common_steps, map_at-append)
 
   running_after : (r : Record) → r.commit ≡ suc (length history) → (t : Running) → IsTrueRunning base history t → IsTrueRunning base (history ++ r ∷ []) t
-  running_after r c t h = record {
-    begins = (let low = h.begins in omega (arith, length-append history (r ∷ [])));
-    replies = h.replies ∙ ap (λ m. responses (copy_of m) t.requests) (sym (map_at-append base history r t.begin (let low = h.begins in omega arith)));
-  }
+  running_after r c t h = grind (arith, common_steps, length-append, map_at-append)
 
   -- the record of an open transaction that has no conflict joins the history
   module _ (running : List (ℕ × Running)) (kept : Kept base history running) (t : Running) (true_t : IsTrueRunning base history t) where
@@ -144,10 +116,7 @@ module _ (base : KeyMap) (history : List Record) where
         let low = commits_low s s_in in true_after joining refl s (omega arith) is
 
     all_true : (s : Record) → In s (history ++ joining ∷ []) → IsTrueRecord base (history ++ joining ∷ []) s
-    all_true s s_in = elim (in_append_cases history joining s s_in) [
-      | inl g ↦ old_true s g
-      | inr e ↦ subst (IsTrueRecord base (history ++ joining ∷ [])) (sym e) joining_true
-    ]
+    all_true s s_in = grind (arith, common_steps, in_append_cases, old_true, joining_true)
 
     joined_faithful : IsFaithful base (history ++ joining ∷ [])
     joined_faithful = record {
@@ -158,10 +127,7 @@ module _ (base : KeyMap) (history : List Record) where
 
     module _ (clear : IsClear history joining) where
       joined_no_pivot : HasNoDangerousPivot (history ++ joining ∷ [])
-      joined_no_pivot p p_in = elim (in_append_cases history joining p (in_from_Contains (history ++ joining ∷ []) p p_in)) [
-        | inl g ↦ false_from_ne_true _ (clear.others p g)
-        | inr e ↦ ap (is_dangerous_pivot (history ++ joining ∷ [])) e ∙ clear.self
-      ]
+      joined_no_pivot p p_in = grind (arith, common_steps, in_append_cases, in_from_Contains, false_from_ne_true)
 
       -- one that is concurrent with the new transaction has written none of its keys
       no_overwriter : (a : Record) → In a history → IsTrue (is_concurrent joining a) → ¬ IsTrue (write_alike joining a)
@@ -186,12 +152,7 @@ module _ (base : KeyMap) (history : List Record) where
           ]
 
       joined : Kept base (history ++ joining ∷ []) running
-      joined = record {
-        faithful = joined_faithful;
-        no_pivot = joined_no_pivot;
-        apart = joined_apart;
-        open_true = each_in (λ e. IsTrueRunning base (history ++ joining ∷ []) e.1) running (λ e e_in. running_after joining refl e.1 (at_in (λ f. IsTrueRunning base history f.1) running e kept.open_true e_in));
-      }
+      joined = grind (arith, common_steps, joined_faithful, joined_no_pivot, joined_apart, each_in, running_after, at_in)
 
 -- ---- the steps
 
@@ -205,15 +166,7 @@ open_kept : (base : KeyMap) (history : List Record) (running : List (ℕ × Runn
 open_kept base history running s t h k = record { faithful = k.faithful; no_pivot = k.no_pivot; apart = k.apart; open_true = each_inserted (λ e. IsTrueRunning base history e.1) running s t (λ _. h) k.open_true }
 
 store_kept : (st : State) (s : ℕ) (r : Record) (ws : List KeyWrite) (failed : Bool) → Sound st → Kept st.base (st.history ++ r ∷ []) st.running → Sound (store st s r ws failed).0
-store_kept st s r [] failed k j = leave_kept st.base (st.history ++ r ∷ []) st.running s j
-store_kept st s r (w ∷ ws) failed k j =
-    elim (nat_le st.count (st.used + body_sectors (w ∷ ws))) as (λ b. Sound (cond b (refuse st s FullLog) (cond failed (record (leave st s) { stopped = true }, Refused StoreFault) (join_history st s r (body_sectors (w ∷ ws) + 1)))).0) [
-      | true ↦ leave_kept st.base st.history st.running s k
-      | false ↦ elim failed as (λ b. Sound (cond b (record (leave st s) { stopped = true }, Refused StoreFault) (join_history st s r (body_sectors (w ∷ ws) + 1))).0) [
-        | true ↦ leave_kept st.base st.history st.running s k
-        | false ↦ leave_kept st.base (st.history ++ r ∷ []) st.running s j
-      ]
-    ]
+store_kept st s r ws failed k j = grind (arith, common_steps, leave_kept)
 
 commit_kept : (st : State) (s : ℕ) (t : Running) (failed : Bool) → Sound st → IsTrueRunning st.base st.history t → Sound (commit st s t failed).0
 commit_kept st s t failed k h =
@@ -226,8 +179,7 @@ commit_kept st s t failed k h =
     ]
   where
     decided : (o : Option Refusal) → verdict st.history (record_to_commit st t) ≡ o → Sound (store_unless o st s (record_to_commit st t) failed).0
-    decided (Some conflict) e = leave_kept st.base st.history st.running s k
-    decided None e = store_kept st s (record_to_commit st t) (record_to_commit st t).writes failed k (joined st.base st.history st.running k t h (clear_from st.history (record_to_commit st t) e))
+    decided o e = grind (arith, common_steps, leave_kept, store_kept, joined, clear_from)
 
 own_kept : (st : State) (s : ℕ) (t : Running) (q : Operation) → Sound st → IsTrueRunning st.base st.history t → Sound (own_step st s t q).0
 own_kept st s t q k h = open_kept st.base st.history st.running s (record { begin = t.begin; requests = t.requests ++ q ∷ []; replies = t.replies ++ (respond (copy_after (copy_of (snapshot st t)) t.requests) q).0 ∷ [] })
@@ -253,14 +205,7 @@ outside_kept st s Begin k =
         | false ↦ k
       ]
     ]
-outside_kept st s Ping k = k
-outside_kept st s (Faulty refusal) k = k
-outside_kept st s (Get x) k = k
-outside_kept st s (Set x v) k = k
-outside_kept st s (Del x) k = k
-outside_kept st s (Range lo hi limit) k = k
-outside_kept st s Commit k = k
-outside_kept st s Abort k = k
+outside_kept st s q k = grind (arith, common_steps)
 
 next_kept : (st : State) (i : Input) → Sound st → Sound (next st i)
 unfolding step
@@ -278,15 +223,7 @@ state_kept st (i ∷ inputs) k = state_kept (next st i) inputs (next_kept st i k
 -- ---- what holds of each state that it reaches
 
 pub reached_sound : (st : State) → IsReached st → Sound st
-reached_sound st reached = subst Sound (sym reached.is) (state_kept (opened reached.contents reached.sectors_used reached.sectors) reached.inputs start)
-  where
-    start : Sound (opened reached.contents reached.sectors_used reached.sectors)
-    start = record {
-      faithful = record { is_map = reached.is_map; numbered = tt; records = λ k d l. absurd (omega arith) };
-      no_pivot = λ p p_in. absurd (omega arith);
-      apart = λ a b a_in b_in other conc alike. omega arith;
-      open_true = tt;
-    }
+reached_sound st reached = grind (arith, common_steps, state_kept)
 
 pub verdict_holds : VerdictHolds
 verdict_holds st reached = let k = reached_sound st reached in (k.no_pivot, k.apart)

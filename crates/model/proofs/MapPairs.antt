@@ -1,12 +1,12 @@
 -- A map after its pair at a place is taken out, and the bounds of the pairs that stay.
-use Rattle.std.proofs.Common.{◌≡◌, ℕ, zero, suc, ◌<◌, Bool, true, false, T, not, cond, [], ◌∷◌, get_or, Some, None, refl, sym, ap, subst, ◌∙◌, length, arith}
+use Rattle.std.proofs.lemmas.Grind.{common_steps}
+use Rattle.std.proofs.Common.{◌≡◌, ℕ, suc, ◌<◌, Bool, T, not, [], ◌∷◌, get_or, Some, None, refl, ◌∙◌, length, arith}
 use Rattle.std.specs.List.{remove}
-use Rattle.std.specs.declared.cmp.Ordering.TheVariants.{Less, Equal, Greater}
-use Rattle.std.specs.Ordering.{is_eq, is_lt, nat_cmp, ordering_reverse}
+use Rattle.std.specs.Ordering.{nat_cmp}
 use Rattle.std.specs.Cmp.Lexicographic.{slice_cmp}
-use Rattle.std.specs.FinMap.Entries.{put, where_key, below_all, by_order}
+use Rattle.std.specs.FinMap.Entries.{put, where_key, below_all}
 use Rattle.model.specs.Key.{IsKey, IsValue}
-use Rattle.model.specs.Map.{Bytes, KeyMap, IsMap, IsInBounds, value_at, key_cmp, is_same_key, after_write}
+use Rattle.model.specs.Map.{Bytes, KeyMap, IsMap, IsInBounds, value_at, is_same_key, after_write}
 use Rattle.model.specs.Entries.{IsAt}
 use Rattle.model.proofs.Entries.{turned}
 use Rattle.model.proofs.InOrder.{parts, less, below_at}
@@ -19,21 +19,12 @@ others k m = where_key (slice_cmp nat_cmp) (λ q. not (is_same_key k q)) m
 -- past a key there is none like it
 kept_above : (q k : Bytes) (es : KeyMap) → q ≡ k → T (below_all (slice_cmp nat_cmp) k es) → others q es ≡ es
 kept_above q k [] e h = refl
-kept_above q k (f ∷ es) e h =
-    let p = parts (is_lt (slice_cmp nat_cmp k f.0)) (below_all (slice_cmp nat_cmp) k es) h in
-    ap (λ b. cond (not b) (f ∷ others q es) (others q es)) (ap (λ x. is_same_key x f.0) e ∙ ap is_eq (less _ p.0))
-    ∙ ap (λ l. f ∷ l) (kept_above q k es e p.1)
+kept_above q k (f ∷ es) e h = grind (arith, common_steps, parts, less, kept_above q k es e)
 
 -- the key's pair is taken out
 removed : (m : KeyMap) (k : Bytes) (i : ℕ) (d : Bytes × Bytes) → IsMap m → i < length m → (get_or m i d).0 ≡ k → remove m i ≡ after_write m k None
-removed [] k i d h lt is = absurd (omega arith)
-removed (e ∷ es) k zero d h lt is =
-    let p = parts (below_all (slice_cmp nat_cmp) e.0 es) _ h in
-    sym (ap (λ b. cond (not b) (e ∷ others k es) (others k es)) (ap (λ q. is_same_key k q) is ∙ same_key_itself k) ∙ kept_above k e.0 es (sym is) p.0)
-removed (e ∷ es) k (suc i) d h lt is =
-    let p = parts (below_all (slice_cmp nat_cmp) e.0 es) _ h in
-    let above : key_cmp k e.0 ≡ Greater = turned e.0 k ∙ ap ordering_reverse (ap (key_cmp e.0) (sym is) ∙ below_at key_cmp e.0 es i d p.0 (omega arith)) in
-    ap (λ l. e ∷ l) (removed es k i d p.1 (omega arith) is) ∙ sym (ap (λ o. cond (not (is_eq o)) (e ∷ others k es) (others k es)) above)
+removed (e ∷ es) k (suc i) d h lt is = grind (arith, common_steps, parts, turned, below_at, removed es k i d)
+removed m k i d h lt is = grind (arith, common_steps, parts, same_key_itself, kept_above)
 
 pub removed_at : (old m new : KeyMap) (k q : Bytes) (i : ℕ) → IsMap old → old ≡ m → k ≡ q → IsAt m k i → new ≡ remove old i → new ≡ after_write m q None
 removed_at old m new k q i h is key at e =
@@ -42,30 +33,17 @@ removed_at old m new k q i h is key at e =
 -- without such a pair the map stays
 pub removed_none : (m : KeyMap) (k q : Bytes) → k ≡ q → value_at m k ≡ None → m ≡ after_write m q None
 removed_none [] k q key none = refl
-removed_none (e ∷ es) k q key none =
-    elim (is_same_key q e.0) as (λ b. cond b (Some e.1) (value_at es q) ≡ None → e ∷ es ≡ cond (not b) (e ∷ others q es) (others q es)) [
-      | true ↦ λ n. cc
-      | false ↦ λ n. ap (λ l. e ∷ l) (removed_none es q q refl n)
-    ] (subst (λ (x : Bytes). value_at (e ∷ es) x ≡ None) key none)
+removed_none (e ∷ es) k q key none = grind (arith, common_steps, removed_none es q q refl)
 
 -- a pair in bounds that is put into a map in bounds leaves one
 pub bounds-put : (m : KeyMap) (k v : Bytes) → IsKey k → IsValue v → IsInBounds m → IsInBounds (put (slice_cmp nat_cmp) k v m)
 bounds-put [] k v hk hv h = (hk, hv, tt)
-bounds-put (e ∷ es) k v hk hv h =
-    elim (slice_cmp nat_cmp k e.0) as (λ o. IsInBounds (by_order o ((k, v) ∷ e ∷ es) ((e.0, v) ∷ es) (e ∷ put (slice_cmp nat_cmp) k v es))) [
-      | Less ↦ (hk, hv, h)
-      | Equal ↦ (h.0, hv, h.2)
-      | Greater ↦ (h.0, h.1, bounds-put es k v hk hv h.2)
-    ]
+bounds-put (e ∷ es) k v hk hv h = grind (arith, common_steps, bounds-put es k v hk hv h.2)
 
 -- so does a part of it
 pub bounds-where_key : (p : Bytes → Bool) (m : KeyMap) → IsInBounds m → IsInBounds (where_key (slice_cmp nat_cmp) p m)
 bounds-where_key p [] h = tt
-bounds-where_key p (e ∷ es) h =
-    elim (p e.0) as (λ b. IsInBounds (cond b (e ∷ where_key (slice_cmp nat_cmp) p es) (where_key (slice_cmp nat_cmp) p es))) [
-      | true ↦ (h.0, h.1, bounds-where_key p es h.2)
-      | false ↦ bounds-where_key p es h.2
-    ]
+bounds-where_key p (e ∷ es) h = grind (arith, common_steps, bounds-where_key p es h.2)
 
 -- so what a `Map` keeps stays when a pair is put
 pub put_kept : (old m new : KeyMap) (k v : Bytes) → IsMap old × IsInBounds old → old ≡ m → IsKey k → IsValue v → new ≡ after_write m k (Some v) → IsMap new × IsInBounds new

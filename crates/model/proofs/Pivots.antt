@@ -1,37 +1,30 @@
 -- What the check of a commit may keep of a history: for each record, whether it has a read-write dependency to a concurrent one that
 -- committed before it. It is fixed once the record has committed.
-use Rattle.std.proofs.Common.{◌≡◌, ℕ, ◌<◌, ◌≤◌, Bool, true, false, not, cond, ◌&&◌, ◌||◌, List, [], ◌∷◌, ◌++◌, Some, refl, sym, ap, ◌∙◌, inl, inr, arith}
+use Rattle.std.proofs.lemmas.Grind.{common_steps}
+use Rattle.std.proofs.Common.{◌≡◌, ℕ, ◌<◌, ◌≤◌, Bool, true, false, not, cond, ◌&&◌, ◌||◌, List, [], ◌∷◌, ◌++◌, Some, refl, sym, ap, ◌∙◌, arith}
 use Rattle.std.specs.Prelude.{nat_lt, nat_le, ◌==◌, find}
 use Rattle.std.specs.List.{list_any, filter, AllByRecursion}
 use Rattle.std.proofs.lemmas.Bool.{both_ways, and_left, and_right, and_parts, or_cases, or_left, or_right, le-leb, le-ltb, lt-ltb, ltb-true, eq-eqb, not_from_true, cases_lt, false_from_ne_true}
 use Rattle.model.specs.declared.refusals.Refusal.TheVariants.{PivotSelf}
 use Rattle.model.specs.History.{Record}
-use Rattle.model.specs.Dependency.{is_concurrent, writes_key, concurrent_read_write, makes_pivot, makes_dangerous_pivot, is_dangerous_pivot}
+use Rattle.model.specs.Dependency.{is_concurrent, concurrent_read_write, makes_pivot, makes_dangerous_pivot, is_dangerous_pivot}
 use Rattle.model.specs.Verdict.{verdict, conflict_of, pivot_refusal, is_overwritten, HasNoDangerousPivot}
 use Rattle.model.proofs.Members.{In, each_in, Contains-from_in}
 
 -- ---- tests of lists
 
 pub or_false : (b : Bool) → (b || false) ≡ b
-or_false true = refl
-or_false false = refl
+or_false b = grind (arith, common_steps)
 
 pub any-append : {X : Type 0} (p : X → Bool) (xs : List X) (x : X) → list_any p (xs ++ x ∷ []) ≡ (list_any p xs || p x)
-any-append p [] x = or_false (p x)
-any-append p (y ∷ ys) x = ap (λ b. p y || b) (any-append p ys x) ∙ or_assoc (p y) (list_any p ys) (p x)
-  where
-    or_assoc : (a b c : Bool) → (a || (b || c)) ≡ (a || b || c)
-    or_assoc true b c = refl
-    or_assoc false b c = refl
+any-append p xs x = grind (arith, common_steps, or_false)
 
 pub any-and_left : {X : Type 0} (b : Bool) (p : X → Bool) (xs : List X) → list_any (λ x. b && p x) xs ≡ (b && list_any p xs)
-any-and_left true p xs = refl
-any-and_left false p [] = refl
 any-and_left false p (x ∷ xs) = any-and_left false p xs
+any-and_left b p xs = refl
 
 pub any_alike : {X : Type 0} (p q : X → Bool) → ((x : X) → p x ≡ q x) → (xs : List X) → list_any p xs ≡ list_any q xs
-any_alike p q e [] = refl
-any_alike p q e (x ∷ xs) = λ i. e x i || any_alike p q e xs i
+any_alike p q e xs = grind (arith, common_steps)
 
 pub any_same : {X : Type 0} (p q : X → Bool) (xs : List X) → AllByRecursion (λ x. p x ≡ q x) xs → list_any p xs ≡ list_any q xs
 any_same p q [] h = refl
@@ -39,23 +32,14 @@ any_same p q (x ∷ xs) h = λ i. h.0 i || any_same p q xs h.1 i
 
 pub any_filter : {X : Type 0} (p q : X → Bool) → ((x : X) → p x ≡ true → q x ≡ true) → (xs : List X) → list_any p (filter q xs) ≡ list_any p xs
 any_filter p q f [] = refl
-any_filter p q f (x ∷ xs) =
-    elim (q x) as (λ b. q x ≡ b → list_any p (cond b (x ∷ filter q xs) (filter q xs)) ≡ (p x || list_any p xs)) [
-      | true ↦ λ e. ap (λ b. p x || b) (any_filter p q f xs)
-      | false ↦ λ e. any_filter p q f xs ∙ ap (λ b. b || list_any p xs) (sym (false_from_ne_true (p x) (λ t. both_ways (q x) e (f x t))))
-    ] refl
+any_filter p q f (x ∷ xs) = grind (arith, common_steps, false_from_ne_true, both_ways, any_filter p q f xs)
 
 find_filter : {X : Type 0} (p q : X → Bool) → ((x : X) → p x ≡ true → q x ≡ true) → (xs : List X) → find p (filter q xs) ≡ find p xs
 find_filter p q f [] = refl
-find_filter p q f (x ∷ xs) =
-    elim (q x) as (λ b. q x ≡ b → find p (cond b (x ∷ filter q xs) (filter q xs)) ≡ cond (p x) (Some x) (find p xs)) [
-      | true ↦ λ e. ap (λ o. cond (p x) (Some x) o) (find_filter p q f xs)
-      | false ↦ λ e. find_filter p q f xs ∙ ap (λ b. cond b (Some x) (find p xs)) (sym (false_from_ne_true (p x) (λ t. both_ways (q x) e (f x t))))
-    ] refl
+find_filter p q f (x ∷ xs) = grind (arith, common_steps, false_from_ne_true, both_ways, find_filter p q f xs)
 
 pub find_alike : {X : Type 0} (p q : X → Bool) → ((x : X) → p x ≡ q x) → (xs : List X) → find p xs ≡ find q xs
-find_alike p q e [] = refl
-find_alike p q e (x ∷ xs) = λ i. cond (e x i) (Some x) (find_alike p q e xs i)
+find_alike p q e xs = grind (arith, common_steps)
 
 pub find_same : {X : Type 0} (p q : X → Bool) (xs : List X) → AllByRecursion (λ x. p x ≡ q x) xs → find p xs ≡ find q xs
 find_same p q [] h = refl
@@ -75,39 +59,22 @@ pub no_read_write_itself : (t : Record) → concurrent_read_write t t ≡ false
 no_read_write_itself t = and_left _ (is_concurrent t t) (and_right _ (not (t.commit == t.commit)) (not_from_true (t.commit == t.commit) (eq-eqb t.commit t.commit refl)))
 
 without_fourth : (a b c d : Bool) → d ≡ true → (a && b && (c && d)) ≡ (a && (b && c))
-without_fourth a b c d e = (λ i. a && b && (c && e i)) ∙ by a b c
-  where
-    by : (a b c : Bool) → (a && b && (c && true)) ≡ (a && (b && c))
-    by true true true = refl
-    by true true false = refl
-    by true false c = refl
-    by false b c = refl
+without_fourth a b c d e = grind (arith, common_steps)
 
 without_third : (a b c d : Bool) → c ≡ true → (a && b && (c && d)) ≡ (a && (b && d))
-without_third a b c d e = (λ i. a && b && (e i && d)) ∙ by a b d
-  where
-    by : (a b d : Bool) → (a && b && (true && d)) ≡ (a && (b && d))
-    by true b d = refl
-    by false b d = refl
+without_third a b c d e = grind (arith, common_steps)
 
 and_true : (a b : Bool) → b ≡ true → (a && b) ≡ a
-and_true true b e = e
-and_true false b e = refl
+and_true a b e = grind (arith, common_steps)
 
 -- the flag stays
 pub earlier_target-push : (history : List Record) (t p : Record) → p.commit ≤ t.commit → has_earlier_target (history ++ t ∷ []) p ≡ has_earlier_target history p
-earlier_target-push history t p le =
-    any-append (λ y. concurrent_read_write p y && nat_lt y.commit p.commit) history t
-    ∙ ap (λ b. has_earlier_target history p || b) (and_right (concurrent_read_write p t) (nat_lt t.commit p.commit) (le-ltb t.commit p.commit le))
-    ∙ or_false (has_earlier_target history p)
+earlier_target-push history t p le = grind (arith, common_steps, any-append, and_right, le-ltb, or_false)
 
 module _ (history : List Record) (t : Record) (first : (r : Record) → In r history → r.commit < t.commit) where
   -- the flag of the one that commits last
   pub own_earlier_target : has_earlier_target (history ++ t ∷ []) t ≡ list_any (λ y. concurrent_read_write t y) history
-  own_earlier_target =
-      earlier_target-push history t t (omega arith)
-      ∙ any_same (λ y. concurrent_read_write t y && nat_lt y.commit t.commit) (λ y. concurrent_read_write t y) history
-      (each_in (λ y. (concurrent_read_write t y && nat_lt y.commit t.commit) ≡ concurrent_read_write t y) history (λ y y_in. and_true (concurrent_read_write t y) (nat_lt y.commit t.commit) (lt-ltb y.commit t.commit (first y y_in))))
+  own_earlier_target = grind (arith, common_steps, earlier_target-push, any_same, each_in, and_true, lt-ltb)
 
   -- the last is no target of a dangerous pivot, but it may be the one before it
   pub pivot-push : (p : Record) → In p history → is_dangerous_pivot (history ++ t ∷ []) p ≡ (is_dangerous_pivot history p || (concurrent_read_write t p && has_earlier_target history p))
@@ -149,26 +116,13 @@ module _ (history : List Record) (t : Record) (first : (r : Record) → In r his
 
 -- ---- the verdict over the records that may be kept
 
--- two of which one had committed when the other began have no concurrent dependency
-pub over_not_concurrent : (t p : Record) → p.commit ≤ t.begin → (concurrent_read_write t p ≡ false) × (concurrent_read_write p t ≡ false)
-over_not_concurrent t p h =
-    let apart = le-ltb t.begin p.commit h in (
-      and_right _ (is_concurrent t p) (and_left (nat_lt t.begin p.commit) (nat_lt p.begin t.commit) apart),
-      and_right _ (is_concurrent p t) (and_right (nat_lt p.begin t.commit) (nat_lt t.begin p.commit) apart),
-    )
-
 -- the records with a commit number above the oldest begin number that is open
 abbrev pub kept_above : ℕ → List Record → List Record
 kept_above oldest history = filter (λ r. nat_lt oldest r.commit) history
 
 -- a dependency that t has leads to or from a record that is kept
 pub read_write_kept : (oldest : ℕ) (t p : Record) → oldest ≤ t.begin → (concurrent_read_write t p || concurrent_read_write p t) ≡ true → nat_lt oldest p.commit ≡ true
-read_write_kept oldest t p low h = elim (cases_lt oldest p.commit) [
-  | inl above ↦ lt-ltb oldest p.commit above
-  | inr below ↦
-      let apart = over_not_concurrent t p (omega arith) in
-      elim (or_cases (concurrent_read_write t p) (concurrent_read_write p t) h) [ inl e ↦ absurd (both_ways _ apart.0 e) | inr e ↦ absurd (both_ways _ apart.1 e) ]
-]
+read_write_kept oldest t p low h = grind (arith, common_steps, cases_lt, lt-ltb, or_cases, both_ways)
 
 -- the verdict needs the kept records alone, with their flag over the whole history
 pub verdict_by_kept : (history : List Record) (t : Record) (oldest : ℕ) → oldest ≤ t.begin → ((r : Record) → In r history → r.commit < t.commit) → HasNoDangerousPivot history →
@@ -179,8 +133,7 @@ unfolding verdict
 verdict_by_kept history t oldest low first no_pivot = λ i. conflict_of (overwritten i) (cond (self i) (Some PivotSelf) (pivot_refusal (others i)))
   where
     overwritten : find (λ w. is_overwritten history t w.0) t.writes ≡ find (λ w. is_overwritten (kept_above oldest history) t w.0) t.writes
-    overwritten = find_alike (λ w. is_overwritten history t w.0) (λ w. is_overwritten (kept_above oldest history) t w.0) (λ w. sym (any_filter (λ r. writes_key r w.0 && nat_lt t.begin r.commit) (λ r. nat_lt oldest r.commit)
-        (λ r h. let since = ltb-true _ _ (and_parts (writes_key r w.0) (nat_lt t.begin r.commit) h).1 in lt-ltb oldest r.commit (omega arith)) history)) t.writes
+    overwritten = grind (arith, common_steps, find_alike, any_filter, ltb-true, and_parts, lt-ltb)
 
     from_t : (y : Record) → concurrent_read_write t y ≡ true → nat_lt oldest y.commit ≡ true
     from_t y h = read_write_kept oldest t y low (or_left (concurrent_read_write t y) (concurrent_read_write y t) h)

@@ -1,15 +1,15 @@
 -- Each dependency leads to a later place in the serial order.
+use Rattle.std.proofs.lemmas.Grind.{common_steps}
 use Rattle.std.proofs.Common.{◌≡◌, ◌⊎◌, ◌<◌, ◌≤◌, false, ◌&&◌, List, Option, Some, None, refl, ap, arith, inl, inr}
 use Rattle.std.specs.Prelude.{IsTrue, nat_lt, Contains}
-use Rattle.std.specs.List.{list_any}
-use Rattle.std.proofs.lemmas.Bool.{le-leb, ltb-true, eq-eqb, lt-ltb, or_left, or_right, and_parts, and_from, cases_lt, cases_Bool, cases_order, both_ways}
+use Rattle.std.proofs.lemmas.Bool.{le-leb, ltb-true, lt-ltb, or_left, and_parts, and_from, cases_lt, cases_Bool, cases_order, both_ways}
 use Rattle.std.proofs.lemmas.List.Elements.{All-contains}
 use Rattle.model.specs.Map.{KeyMap}
 use Rattle.model.specs.History.{Record, IsFaithful, IsTrueRecord}
-use Rattle.model.specs.Dependency.{makes_dangerous_pivot, is_concurrent, read_write_dependency, concurrent_read_write, is_dangerous_pivot}
+use Rattle.model.specs.Dependency.{is_concurrent, read_write_dependency, concurrent_read_write, is_dangerous_pivot}
 use Rattle.model.specs.SerialOrder.{Place, is_before, place, place_before, first_overwriter}
 use Rattle.model.specs.Laws.{PlacesRise, PlacesKeepTime}
-use Rattle.model.proofs.Cycles.{concurrent_from, read_write_begins, read_write_differs, dependency_cases}
+use Rattle.model.proofs.Cycles.{read_write_begins, read_write_differs, dependency_cases}
 use Rattle.model.proofs.Members.{In, in_from_Contains, any_from_in, found, none_found, first_is_least, IsRising, rising_from_numbered}
 
 -- ---- where a transaction stands
@@ -62,9 +62,6 @@ first_le_commit history rise t = elim (stand_of history rise t) [
 before_by_first : (p q : Place) → p.first < q.first → IsTrue (is_before p q)
 before_by_first p q h = or_left _ _ (lt-ltb p.first q.first h)
 
-before_by_second : (p q : Place) → p.first ≡ q.first → p.second < q.second → IsTrue (is_before p q)
-before_by_second p q e h = or_right (nat_lt p.first q.first) _ (and_from _ _ (eq-eqb p.first q.first e) (or_left _ _ (lt-ltb p.second q.second h)))
-
 -- ---- the dependencies
 
 -- one that had committed when the other began stands before it
@@ -72,41 +69,24 @@ pub apart_rise : (history : List Record) → IsRising history → (a b : Record)
 apart_rise history rise a b begins over =
     let low = first_le_commit history rise a in
     elim (stand_of history rise b) [
-      | inl s ↦ let e : (place history b).first ≡ s.other.commit = ap (λ (p : Place). p.first) (place_of_before history b s) in
-          let since = read_write_begins b s.other (and_parts _ _ s.dependency).0 in before_by_first (place history a) (place history b) (omega arith)
+      | inl s ↦ grind (arith, common_steps, place_of_before, read_write_begins, and_parts, before_by_first)
       | inr s ↦ let e : (place history b).first ≡ b.commit = ap (λ (p : Place). p.first) (place_at_commit history b s) in before_by_first (place history a) (place history b) (omega arith)
     ]
 
 over_from : (a b : Record) → is_concurrent a b ≡ false → a.begin < b.commit → a.commit ≤ b.begin
-over_from a b f since = elim (cases_lt b.begin a.commit) [
-  | inl h ↦ absurd (both_ways _ f (concurrent_from a b since h))
-  | inr h ↦ h
-]
+over_from a b f since = grind (arith, common_steps, cases_lt, both_ways)
 
 concurrent_rise : (history : List Record) → IsRising history → (a b : Record) → In a history → In b history → is_dangerous_pivot history b ≡ false →
     IsTrue (read_write_dependency a b) → IsTrue (is_concurrent a b) → IsTrue (is_before (place history a) (place history b))
 concurrent_rise history rise a b a_in b_in no_pivot rw' conc =
     elim (stand_of history rise b) [
-      | inl s ↦ elim (cases_lt a.commit s.other.commit) [
-        | inl less ↦
-            let first : (place history b).first ≡ s.other.commit = ap (λ (p : Place). p.first) (place_of_before history b s) in
-            let low = first_le_commit history rise a in before_by_first (place history a) (place history b) (omega arith)
-        | inr le ↦ absurd (both_ways _ no_pivot (any_from_in (λ x. list_any (λ y. makes_dangerous_pivot x b y) history) history a a_in (any_from_in (λ y. makes_dangerous_pivot a b y) history s.other s.member
-            (and_from _ _ (and_from _ _ dependency_in s.dependency) (and_from _ _ (lt-ltb s.other.commit b.commit s.earlier) (le-leb s.other.commit a.commit le))))))
-      ]
+      | inl s ↦ grind (arith, common_steps, cases_lt, place_of_before, first_le_commit, before_by_first, both_ways, any_from_in, and_from, lt-ltb, le-leb)
       | inr s ↦
           let first : (place history b).first ≡ b.commit = ap (λ (p : Place). p.first) (place_at_commit history b s) in
           let second : (place history b).second ≡ 1 = ap (λ (p : Place). p.second) (place_at_commit history b s) in
           elim (cases_lt b.commit a.commit) [
             | inl less ↦ elim (stand_of history rise a) [
-              | inl u ↦
-                  let first' : (place history a).first ≡ u.other.commit = ap (λ (p : Place). p.first) (place_of_before history a u) in
-                  let second' : (place history a).second ≡ 0 = ap (λ (p : Place). p.second) (place_of_before history a u) in
-                  let low : u.other.commit ≤ b.commit = u.least b b_in dependency_in less in
-                  elim (cases_order u.other.commit b.commit) [
-                    | inl e ↦ before_by_second (place history a) (place history b) (omega arith) (omega arith)
-                    | inr o ↦ before_by_first (place history a) (place history b) (omega arith)
-                  ]
+              | inl u ↦ grind (arith, common_steps, place_of_before, cases_order, before_by_first)
               | inr u ↦ absurd (u.none b b_in dependency_in less)
             ]
             | inr le ↦ let low = first_le_commit history rise a in let other = read_write_differs a b rw' in before_by_first (place history a) (place history b) (omega arith)
@@ -123,20 +103,4 @@ pub places_keep_time : PlacesKeepTime
 places_keep_time base history faithful a b a_in b_in over = apart_rise history (rising_from_numbered 0 history faithful.numbered) a b (begins_before base history faithful b b_in) over
 
 pub places_rise : PlacesRise
-places_rise base history faithful no_pivot apart a b a_in b_in e =
-    let rise = rising_from_numbered 0 history faithful.numbered in
-    let a_begins : a.begin < a.commit = begins_before base history faithful a a_in in
-    let b_begins : b.begin < b.commit = begins_before base history faithful b b_in in
-    elim (dependency_cases a b e) [
-      | inl w ↦ elim (cases_Bool (is_concurrent a b)) [
-        | inl t ↦ absurd (apart a b a_in b_in (let less = w.earlier in omega arith) t w.alike)
-        | inr f ↦ apart_rise history rise a b b_begins (over_from a b f (let less = w.earlier in omega arith))
-      ]
-      | inr w ↦ elim w [
-        | inl wr ↦ apart_rise history rise a b b_begins wr.earlier
-        | inr rw' ↦ elim (cases_Bool (is_concurrent a b)) [
-          | inl t ↦ concurrent_rise history rise a b (in_from_Contains history a a_in) (in_from_Contains history b b_in) (no_pivot b b_in) rw' t
-          | inr f ↦ apart_rise history rise a b b_begins (over_from a b f (read_write_begins a b rw'))
-        ]
-      ]
-    ]
+places_rise base history faithful no_pivot apart a b a_in b_in e = grind (arith, common_steps, rising_from_numbered, begins_before, dependency_cases, cases_Bool, apart_rise, over_from, concurrent_rise, in_from_Contains, read_write_begins)

@@ -1,9 +1,10 @@
 -- Where no other has committed since a transaction's begin, its COMMIT is refused for no conflict.
-use Rattle.std.proofs.Common.{◌≡◌, ℕ, ◌^◌, ◌-◌, ◌<◌, ◌≤◌, ◌+◌, Bool, true, false, cond, ◌&&◌, List, [], ◌∷◌, Option, Some, None, refl, sym, ap, subst, ◌∙◌, length, if◌then◌else◌, arith, inl, inr}
-use Rattle.std.specs.Prelude.{nat_lt, nat_le, ◌==◌, find}
+use Rattle.std.proofs.lemmas.Grind.{common_steps}
+use Rattle.std.proofs.Common.{◌≡◌, ℕ, ◌<◌, ◌≤◌, Bool, true, false, cond, ◌&&◌, List, [], ◌∷◌, Option, Some, None, refl, sym, ap, ◌∙◌, if◌then◌else◌, arith, inl, inr}
+use Rattle.std.specs.Prelude.{nat_lt, find}
 use Rattle.std.proofs.lemmas.Bool.{both_ways, cases_lt, le-ltb}
 use Rattle.model.specs.declared.refusals.Refusal.{Refusal}
-use Rattle.model.specs.declared.refusals.Refusal.TheVariants.{PivotSelf, FullLog, StoreFault, StoreStopped, FullNumbers}
+use Rattle.model.specs.declared.refusals.Refusal.TheVariants.{PivotSelf}
 use Rattle.model.specs.Map.{KeyWrite}
 use Rattle.model.specs.Operations.{Response}
 use Rattle.model.specs.Operations.Operation.{Commit}
@@ -11,7 +12,7 @@ use Rattle.model.specs.Operations.Response.{Number, Refused}
 use Rattle.model.specs.History.{Record}
 use Rattle.model.specs.Dependency.{concurrent_read_write}
 use Rattle.model.specs.Verdict.{verdict, is_conflict, is_overwritten, conflict_of, pivot_refusal, HasNoDangerousPivot}
-use Rattle.model.specs.Machine.{State, Running, last, record_to_commit, leave, join_history, store, store_unless, body_sectors, commit, step_of, step}
+use Rattle.model.specs.Machine.{State, Running, last, record_to_commit, join_history, commit, step_of, step}
 use Rattle.model.specs.Laws.{LastMayCommit, ConflictsAreRecent}
 use Rattle.model.proofs.Members.{In, at_in, each_in}
 use Rattle.model.proofs.Pivots.{has_earlier_target, stands_between, kept_above, verdict_by_kept}
@@ -36,9 +37,7 @@ unopposed history r begins over no_pivot =
 
 -- of a transaction that began at the last commit, or after it
 none_since : (st : State) → Sound st → (t : Running) → last st ≤ t.begin → t.begin ≤ last st → verdict st.history (record_to_commit st t) ≡ None
-none_since st k t low high = unopposed st.history (record_to_commit st t) (omega arith)
-    (λ h h_in. let le : h.commit ≤ 0 + length st.history = at_in (λ r. r.commit ≤ 0 + length st.history) st.history h (commit_low 0 st.history k.faithful.numbered) h_in in omega arith)
-    k.no_pivot
+none_since st k t low high = grind (arith, common_steps, unopposed, at_in, commit_low)
 
 pub last_may_commit : LastMayCommit
 last_may_commit st reached s t is since = none_since st (reached_sound st reached) t (omega (arith, since)) (omega (arith, since))
@@ -46,8 +45,7 @@ last_may_commit st reached s t is since = none_since st (reached_sound st reache
 -- ---- what COMMIT answers
 
 pub by_case : {A : Type 0} (P : A → Type 0) (b : Bool) (x y : A) → P x → P y → P (if b then x else y)
-by_case P true x y p q = p
-by_case P false x y p q = q
+by_case P b x y p q = grind (arith, common_steps)
 
 -- the answer names no conflict
 abbrev IsHarmless : State × Response → Type 0
@@ -60,17 +58,8 @@ module _ (st : State) (s : ℕ) (r : Record) (failed : Bool) where
   joins : (sectors : ℕ) → IsHarmless (join_history st s r sectors)
   joins sectors refusal e named = let bad : Number r.commit ≡ Refused refusal = e in cc
 
-  in_store : (ws : List KeyWrite) → IsHarmless (store st s r ws failed)
-  in_store [] = joins 0
-  in_store (w ∷ ws) =
-      by_case IsHarmless (nat_le st.count (st.used + body_sectors (w ∷ ws))) _ _ (harmless (leave st s) FullLog refl)
-      (by_case IsHarmless failed _ _ (harmless (record (leave st s) { stopped = true }) StoreFault refl) (joins (body_sectors (w ∷ ws) + 1)))
-
 in_commit : (st : State) (s : ℕ) (t : Running) (failed : Bool) → verdict st.history (record_to_commit st t) ≡ None → IsHarmless (commit st s t failed)
-in_commit st s t failed none =
-    by_case IsHarmless st.stopped _ _ (harmless (leave st s) StoreStopped refl)
-    (by_case IsHarmless (last st == 2 ^ 63 - 1) _ _ (harmless (leave st s) FullNumbers refl)
-    (subst (λ o. IsHarmless (store_unless o st s (record_to_commit st t) failed)) (sym none) (in_store st s (record_to_commit st t) failed (record_to_commit st t).writes)))
+in_commit st s t failed none = grind (arith, common_steps, by_case, harmless)
 
 pub conflicts_are_recent : ConflictsAreRecent
 unfolding step

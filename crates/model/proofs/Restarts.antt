@@ -1,5 +1,6 @@
 -- Serial orders of several lives, one after another, are one order.
-use Rattle.std.proofs.Common.{◌≡◌, List, [], ◌∷◌, ◌++◌, refl, sym, ap, subst, ◌∙◌}
+use Rattle.std.proofs.lemmas.Grind.{common_steps}
+use Rattle.std.proofs.Common.{arith, ◌≡◌, List, [], ◌∷◌, refl, sym, ap, subst, ◌∙◌}
 use Rattle.model.specs.PrivateCopy.{copy_of, copy_after}
 use Rattle.model.specs.History.{Record, map_at}
 use Rattle.model.specs.Machine.{last}
@@ -9,9 +10,7 @@ use Rattle.model.proofs.Machines.{machine_law}
 
 pub replays_follow : ReplaysFollow
 replays_follow map [] second these those = (those, refl)
-replays_follow map (r ∷ rs) second these those =
-    let rest = replays_follow (copy_after (copy_of map) r.requests).contents rs second these.1 those in
-    ((these.0, rest.0), rest.1)
+replays_follow map (r ∷ rs) second these those = grind (arith, common_steps, replays_follow (copy_after (copy_of map) r.requests).contents rs second these.1 those)
 
 pub restart_law : RestartLaw
 restart_law map [] found follow = record { order = []; is = refl; replies = tt; final_map = sym follow }
@@ -21,9 +20,4 @@ restart_law map (st ∷ states) found follow = joined (machine_law st follow.0).
     joined own serial rest =
         let ends : replay map own ≡ map_at st.base st.history (last st) = ap (λ m. replay m own) (sym follow.1) ∙ serial.final_map in
         let both = replays_follow map own rest.order (subst (λ m. ReplaysReplies m own) follow.1 serial.replies) (subst (λ m. ReplaysReplies m rest.order) (sym ends) rest.replies) in
-        record {
-          order = own ++ rest.order;
-          is = (own, rest.order, refl, serial, rest.is);
-          replies = both.0;
-          final_map = both.1 ∙ ap (λ m. replay m rest.order) ends ∙ rest.final_map;
-        }
+        grind (arith, common_steps)

@@ -1,4 +1,5 @@
 -- The history sorted by place: it has each record once, keeps real time, and replays.
+use Rattle.std.proofs.lemmas.Grind.{common_steps}
 use Rattle.std.proofs.Common.{◌≡◌, ◌≢◌, ℕ, suc, ◌+◌, ◌<◌, Bool, true, false, cond, ◌||◌, List, [], ◌∷◌, ◌++◌, refl, sym, ap, subst, ◌∙◌, length, arith, append_assoc, append-nil, inl, inr}
 use Rattle.std.specs.Prelude.{IsTrue, nat_le, ◌==◌, ⊤, AllPairs, IsPermutation}
 use Rattle.std.specs.List.{filter, AllByRecursion}
@@ -22,9 +23,6 @@ use Rattle.model.proofs.Cycles.{AllByRecursion-parts}
 
 -- ---- the order of places
 
-later_stays : (p q r : Place) → is_before p q ≡ true → is_before r q ≡ false → is_before r p ≡ false
-later_stays p q r h g = grind (arith, nat_tests)
-
 not_both : (p q : Place) → is_before p q ≡ true → is_before q p ≡ false
 not_both p q h = grind (arith, nat_tests)
 
@@ -32,14 +30,7 @@ not_both p q h = grind (arith, nat_tests)
 
 in_filter : (p : Record → Bool) (xs : List Record) (x : Record) → In x (filter p xs) → In x xs × (p x ≡ true)
 in_filter p [] x h = absurd h
-in_filter p (y ∷ ys) x h =
-    elim (p y) as (λ b. p y ≡ b → In x (cond b (y ∷ filter p ys) (filter p ys)) → In x (y ∷ ys) × (p x ≡ true)) [
-      | true ↦ λ e h'. elim h' [
-        | inl s ↦ (inl s, ap p s ∙ e)
-        | inr g ↦ let rest = in_filter p ys x g in (inr rest.0, rest.1)
-      ]
-      | false ↦ λ e h'. let rest = in_filter p ys x h' in (inr rest.0, rest.1)
-    ] refl h
+in_filter p (y ∷ ys) x h = grind (arith, common_steps, in_filter p ys x)
 
 filter_all : (p : Record → Bool) (xs : List Record) → AllByRecursion (λ x. p x ≡ true) xs → filter p xs ≡ xs
 filter_all p [] h = refl
@@ -51,17 +42,7 @@ filter_none p (x ∷ xs) h = ap (λ b. cond b (x ∷ filter p xs) (filter p xs))
 
 filter_swap : (p q : Record → Bool) (xs : List Record) → filter p (filter q xs) ≡ filter q (filter p xs)
 filter_swap p q [] = refl
-filter_swap p q (x ∷ xs) =
-    elim (p x) as (λ a. p x ≡ a → filter p (cond (q x) (x ∷ filter q xs) (filter q xs)) ≡ filter q (cond a (x ∷ filter p xs) (filter p xs))) [
-      | true ↦ λ e. elim (q x) as (λ b. q x ≡ b → filter p (cond b (x ∷ filter q xs) (filter q xs)) ≡ cond b (x ∷ filter q (filter p xs)) (filter q (filter p xs))) [
-        | true ↦ λ f. ap (λ b. cond b (x ∷ filter p (filter q xs)) (filter p (filter q xs))) e ∙ ap (λ l. x ∷ l) (filter_swap p q xs)
-        | false ↦ λ f. filter_swap p q xs
-      ] refl
-      | false ↦ λ e. elim (q x) as (λ b. filter p (cond b (x ∷ filter q xs) (filter q xs)) ≡ filter q (filter p xs)) [
-        | true ↦ ap (λ b. cond b (x ∷ filter p (filter q xs)) (filter p (filter q xs))) e ∙ filter_swap p q xs
-        | false ↦ filter_swap p q xs
-      ]
-    ] refl
+filter_swap p q (x ∷ xs) = grind (arith, common_steps, filter_swap p q xs)
 
 -- ---- the sort
 
@@ -85,11 +66,7 @@ module _ (history : List Record) where
 
   each_placed : (P : Record → Type 0) (t : Record) (us : List Record) → P t → AllByRecursion P us → AllByRecursion P (placed history t us)
   each_placed P t [] h g = (h, tt)
-  each_placed P t (u ∷ us) h g =
-      elim (is_before (place history t) (place history u)) as (λ b. AllByRecursion P (cond b (t ∷ u ∷ us) (u ∷ placed history t us))) [
-        | true ↦ (h, (g.0, g.1))
-        | false ↦ (g.0, each_placed P t us h g.1)
-      ]
+  each_placed P t (u ∷ us) h g = grind (arith, common_steps, each_placed P t us h g.1)
 
   each_by_place : (P : Record → Type 0) (ts : List Record) → AllByRecursion P ts → AllByRecursion P (by_place history ts)
   each_by_place P [] h = tt
@@ -99,23 +76,13 @@ module _ (history : List Record) where
   ordered_placed t [] h g = (tt, tt)
   ordered_placed t (u ∷ us) h g =
       elim (is_before (place history t) (place history u)) as (λ b. is_before (place history t) (place history u) ≡ b → IsOrdered (cond b (t ∷ u ∷ us) (u ∷ placed history t us))) [
-        | true ↦ λ e.
-            let first : MayPrecede t u = record { not_after = not_both (place history t) (place history u) e; differs = h.0 } in
-            let later : AllByRecursion (MayPrecede t) us = each_in (MayPrecede t) us (λ v v_in.
-            let after_u : MayPrecede u v = at_in (MayPrecede u) us v g.0 v_in in
-            let other : t.commit ≢ v.commit = at_in (λ w. t.commit ≢ w.commit) us v h.1 v_in in
-            record { not_after = later_stays (place history t) (place history u) (place history v) e after_u.not_after; differs = other }) in
-            ((first, later), (g.0, g.1))
-        | false ↦ λ e.
-            let first : MayPrecede u t = record { not_after = e; differs = λ s. h.0 (sym s) } in
-            (each_placed (MayPrecede u) t us first g.0, ordered_placed t us h.1 g.1)
+        | true ↦ grind (arith, common_steps, not_both, each_in, at_in)
+        | false ↦ grind (arith, common_steps, each_placed, ordered_placed t us h.1 g.1)
       ] refl
 
   ordered_by_place : (ts : List Record) → IsRising ts → IsOrdered (by_place history ts)
   ordered_by_place [] h = tt
-  ordered_by_place (t ∷ ts) h = ordered_placed t (by_place history ts)
-      (each_by_place (λ u. t.commit ≢ u.commit) ts (each_in (λ u. t.commit ≢ u.commit) ts (λ u u_in. let above : t.commit < u.commit = at_in (λ w. t.commit < w.commit) ts u h.0 u_in in omega arith)))
-      (ordered_by_place ts h.1)
+  ordered_by_place (t ∷ ts) h = grind (arith, common_steps, ordered_placed, each_by_place, each_in, at_in, ordered_by_place ts h.1)
 
   -- each stands in the order once
   permuted_placed : (t : Record) (us : List Record) → IsPermutation (t ∷ us) (placed history t us)
@@ -134,32 +101,15 @@ module _ (history : List Record) where
   -- those that pass keep their order, where they stand in place
   filter_placed_skips : (p : Record → Bool) (t : Record) (us : List Record) → p t ≡ false → filter p (placed history t us) ≡ filter p us
   filter_placed_skips p t [] h = ap (λ b. cond b (t ∷ []) []) h
-  filter_placed_skips p t (u ∷ us) h =
-      elim (is_before (place history t) (place history u)) as (λ b. filter p (cond b (t ∷ u ∷ us) (u ∷ placed history t us)) ≡ filter p (u ∷ us)) [
-        | true ↦ ap (λ b. cond b (t ∷ filter p (u ∷ us)) (filter p (u ∷ us))) h
-        | false ↦ ap (λ l. cond (p u) (u ∷ l) l) (filter_placed_skips p t us h)
-      ]
+  filter_placed_skips p t (u ∷ us) h = grind (arith, common_steps, filter_placed_skips p t us h)
 
   filter_placed : (p : Record → Bool) (t : Record) (us : List Record) → p t ≡ true → AllByRecursion (Precedes t) (filter p us) → filter p (placed history t us) ≡ t ∷ filter p us
   filter_placed p t [] h g = ap (λ b. cond b (t ∷ []) []) h
-  filter_placed p t (u ∷ us) h g =
-      elim (is_before (place history t) (place history u)) as (λ b. is_before (place history t) (place history u) ≡ b → filter p (cond b (t ∷ u ∷ us) (u ∷ placed history t us)) ≡ t ∷ filter p (u ∷ us)) [
-        | true ↦ λ e. ap (λ b. cond b (t ∷ filter p (u ∷ us)) (filter p (u ∷ us))) h
-        | false ↦ λ e.
-            elim (p u) as (λ b. p u ≡ b → AllByRecursion (Precedes t) (cond b (u ∷ filter p us) (filter p us)) → cond b (u ∷ filter p (placed history t us)) (filter p (placed history t us)) ≡ t ∷ cond b (u ∷ filter p us) (filter p us)) [
-              | true ↦ λ f g'. absurd (both_ways _ e g'.0)
-              | false ↦ λ f g'. filter_placed p t us h g'
-            ] refl g
-      ] refl
+  filter_placed p t (u ∷ us) h g = grind (arith, common_steps, both_ways, filter_placed p t us h)
 
   filter_by_place : (p : Record → Bool) (ts : List Record) → IsInPlace (filter p ts) → filter p (by_place history ts) ≡ filter p ts
   filter_by_place p [] h = refl
-  filter_by_place p (t ∷ ts) h =
-      elim (p t) as (λ b. p t ≡ b → IsInPlace (cond b (t ∷ filter p ts) (filter p ts)) → filter p (placed history t (by_place history ts)) ≡ cond b (t ∷ filter p ts) (filter p ts)) [
-        | true ↦ λ e h'. let rest = filter_by_place p ts h'.1 in
-            filter_placed p t (by_place history ts) e (subst (AllByRecursion (Precedes t)) (sym rest) h'.0) ∙ ap (λ l. t ∷ l) rest
-        | false ↦ λ e h'. filter_placed_skips p t (by_place history ts) e ∙ filter_by_place p ts h'
-      ] refl h
+  filter_by_place p (t ∷ ts) h = grind (arith, common_steps, filter_placed, filter_placed_skips, filter_by_place p ts)
 
 -- ---- real time
 
@@ -202,11 +152,7 @@ map_at_is base (r ∷ rs) n =
 -- at a key the writers of the key decide
 value_by_writers : (k : Bytes) (rs : List Record) (m n : KeyMap) → value_at m k ≡ value_at n k → value_at (after_all m rs) k ≡ value_at (after_all n (filter (λ r. writes_key r k) rs)) k
 value_by_writers k [] m n h = h
-value_by_writers k (r ∷ rs) m n h =
-    elim (writes_key r k) as (λ b. writes_key r k ≡ b → value_at (after_all (after_writes m r.writes) rs) k ≡ value_at (after_all n (cond b (r ∷ filter (λ r. writes_key r k) rs) (filter (λ r. writes_key r k) rs))) k) [
-      | true ↦ λ e. value_by_writers k rs (after_writes m r.writes) (after_writes n r.writes) (value_after_alike r.writes m n k h)
-      | false ↦ λ e. value_by_writers k rs (after_writes m r.writes) n (value_after_others r.writes m k e ∙ h)
-    ] refl
+value_by_writers k (r ∷ rs) m n h = grind (arith, common_steps, value_after_alike, value_after_others, value_by_writers k rs)
 
 -- ---- the replay
 
