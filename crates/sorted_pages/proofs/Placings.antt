@@ -1,6 +1,6 @@
 -- Pages: where a key stands among them, and what a changed page does to all entries and to the rooms.
-use Rattle.std.proofs.Common.{◌≡◌, ℕ, zero, suc, ◌+◌, ◌-◌, ◌<◌, ◌≤◌, Bool, true, false, List, [], ◌∷◌, ◌++◌, length, get_or, set, take, drop, min, refl, sym, ap, subst, ◌∙◌, arith}
-use Rattle.std.specs.Prelude.{if◌then◌else◌}
+use Rattle.std.proofs.Common.{◌≡◌, ℕ, zero, suc, ◌+◌, ◌-◌, ◌*◌, ◌<◌, ◌≤◌, Bool, true, false, List, [], ◌∷◌, ◌++◌, length, get_or, set, take, drop, min, refl, sym, ap, subst, ◌∙◌, arith, inl, inr}
+use Rattle.std.specs.Prelude.{if◌then◌else◌, ◌⊎◌}
 use Rattle.std.specs.List.{AllByRecursion, insert}
 use Rattle.std.specs.List.Sorted.{IsPartitionedBy, IsPartitionPoint}
 use Rattle.std.specs.Ordering.{is_le, nat_cmp}
@@ -12,7 +12,7 @@ use Rattle.std.proofs.lemmas.List.{append_assoc, append-nil, length-append, leng
 use Rattle.model.specs.Map.{Bytes, key_cmp}
 use Rattle.model.proofs.Entries.{IsSorted, IsBelowAll}
 use Rattle.model.proofs.InOrder.{below_left, below_right, sorted_left, sorted_right, parts}
-use Rattle.sorted_pages.specs.Pages.{AreAllFull, AreFull, Page, entries, starts_by, last_room, room_at, last_page, count_at, IsLoose, AreLoose, IsFilled, AreRestFilled, IsInOrder, AreBelow, IsPlace, IsRoomier}
+use Rattle.sorted_pages.specs.Pages.{AreAllFull, AreFull, Page, entries, starts_by, last_room, room_at, last_page, count_at, page_entries, stands_behind, IsHalved, IsLoose, AreLoose, IsFilled, AreRestFilled, IsInOrder, AreBelow, IsPlace, IsRoomier}
 use Rattle.sorted_pages.proofs.Keys.{below_of, above_of, first_of, starts_lower, starts-append, starts-put, filled-put, find_middle, put_middle}
 
 -- ---- lists
@@ -223,6 +223,17 @@ module _ {X : Type 0} where
   count_of ps k i p w is =
       ap (count_at k) w.is ∙ count_here k w.before w.page w.after (λ lt. w.starts (let e = w.index in omega arith)) w.later ∙ sym (ap (λ (q : Page X). length q.0) (page_is ps k i p w is))
 
+  entries_here : (k : Bytes) (before : List (Page X)) (page : Page X) (after : List (Page X)) → (0 < length before → starts_by k page.0 ≡ true) → AllByRecursion (λ (p : Page X). starts_by k p.0 ≡ false) after → page_entries k (before ++ page ∷ after) ≡ page.0
+  entries_here k [] page after s n = ap (λ (p : Page X). p.0) (last_page-none page k after n)
+  entries_here k (b ∷ before) page after s n =
+      ap (λ (p : Page X). p.0) (last_page-append b k before (page ∷ after)
+      ∙ ap (λ t. last_page (if t then page else last_page b k before) k after) (s (omega arith))
+      ∙ last_page-none page k after n)
+
+  pub entries_of : (ps : List (Page X)) (k : Bytes) (i : ℕ) (p : Page X) (w : IsPlace ps k i) → p ≡ get_or ps i p → page_entries k ps ≡ p.0
+  entries_of ps k i p w is =
+      ap (page_entries k) w.is ∙ entries_here k w.before w.page w.after (λ lt. w.starts (let e = w.index in omega arith)) w.later ∙ sym (ap (λ (q : Page X). q.0) (page_is ps k i p w is))
+
   -- another page in its place, with d less room at most
   pub room-replaced : (d : ℕ) (q : Bytes) (before : List (Page X)) (p r : Page X) (after : List (Page X)) → p.1 ≤ r.1 + d → (0 < length before → starts_by q r.0 ≡ starts_by q p.0)
       → room_at q (before ++ p ∷ after) ≤ room_at q (before ++ r ∷ after) + d
@@ -329,6 +340,12 @@ module _ {X : Type 0} where
       ap (room_at k) (set_is ps k i r w)
       ∙ room_here k w.before r w.after (λ lt. ap (starts_by k) (same ∙ ap (λ (q : Page X). q.0) (page_is ps k i p w is)) ∙ w.starts (let e = w.index in omega arith)) w.later
 
+  pub count_grown : (ps : List (Page X)) (k : Bytes) (i : ℕ) (p r : Page X) → IsPlace ps k i → p ≡ get_or ps i p → r.0 ≡ p.0 → count_at k (set ps i r) ≡ count_at k ps
+  count_grown ps k i p r w is same =
+      ap (count_at k) (set_is ps k i r w)
+      ∙ count_here k w.before r w.after (λ lt. ap (starts_by k) (same ∙ ap (λ (q : Page X). q.0) (page_is ps k i p w is)) ∙ w.starts (let e = w.index in omega arith)) w.later
+      ∙ ap length same ∙ sym (count_of ps k i p w is)
+
   pub inserted : (ps : List (Page X)) (k : Bytes) (v : X) (i : ℕ) (p r : Page X) → IsPlace ps k i → p ≡ get_or ps i p → IsInOrder ps → r.0 ≡ put (slice_cmp nat_cmp) k v p.0 → p.1 ≤ r.1 + 1 → Inserted k v ps (set ps i r)
   inserted ps k v i p r w is h same le =
       let e = page_is ps k i p w is in
@@ -349,6 +366,37 @@ module _ {X : Type 0} where
       let e = page_is ps k i p w is in
       subst (λ (l : List (Page X)). Grown l (insert (set ps i lo) n up)) (sym w.is) (subst (λ (l : List (Page X)). Grown (w.before ++ w.page ∷ w.after) l) (sym (split_is ps k i n lo up w at))
       (split_parts w.before w.page lo up w.after (order_parts ps k i w h) (sym (ap (λ (q : Page X). q.0) e) ∙ same) f g (subst (λ (q : Page X). q.1 ≤ lo.1) e l) (subst (λ (q : Page X). q.1 ≤ up.1) e u)))
+
+  -- the key stands in one part or the other
+  pub split_count : (ps : List (Page X)) (k : Bytes) (i n : ℕ) (p lo up : Page X) → IsPlace ps k i → p ≡ get_or ps i p → n ≡ i + 1 → p.0 ≡ lo.0 ++ up.0 → IsFilled lo
+      → (count_at k (insert (set ps i lo) n up) ≡ length lo.0) ⊎ (count_at k (insert (set ps i lo) n up) ≡ length up.0)
+  split_count ps k i n p lo up w is at same f = by (starts_by k up.0) refl
+    where
+      is_split : insert (set ps i lo) n up ≡ w.before ++ lo ∷ up ∷ w.after
+      is_split = split_is ps k i n lo up w at
+
+      starts_lo : 0 < length w.before → starts_by k lo.0 ≡ true
+      starts_lo lt =
+          sym (starts-append k lo.0 up.0 f) ∙ ap (starts_by k) (sym same) ∙ ap (λ (q : Page X). starts_by k q.0) (page_is ps k i p w is) ∙ w.starts (let e = w.index in omega arith)
+
+      by : (b : Bool) → starts_by k up.0 ≡ b → (count_at k (insert (set ps i lo) n up) ≡ length lo.0) ⊎ (count_at k (insert (set ps i lo) n up) ≡ length up.0)
+      by true t = inr (ap (count_at k) (is_split ∙ sym (append_assoc w.before (lo ∷ []) (up ∷ w.after))) ∙ count_here k (w.before ++ lo ∷ []) up w.after (λ lt. t) w.later)
+      by false t = inl (ap (count_at k) is_split ∙ count_here k w.before lo (up ∷ w.after) starts_lo (t, w.later))
+
+  -- a page that is cut in the middle
+  pub halved : (ps old new : List (Page X)) (k : Bytes) (i n cut : ℕ) (p lo up : Page X) → old ≡ ps → new ≡ insert (set ps i lo) n up → IsPlace ps k i → p ≡ get_or ps i p → n ≡ i + 1 → p.0 ≡ lo.0 ++ up.0 → IsFilled lo
+      → lo.0 ≡ take cut p.0 → cut ≤ length p.0 → (stands_behind k p.0 ≡ false → 2 * cut ≤ length p.0) → (stands_behind k p.0 ≡ false → length p.0 ≤ 2 * cut + 1) → IsHalved k old new
+  halved ps old new k i n cut p lo up was now w is at same f lower within under over =
+      let a : length lo.0 ≡ min cut (length p.0) = ap length lower ∙ length-take cut p.0 in
+      let b : length p.0 ≡ length lo.0 + length up.0 = ap length same ∙ length-append lo.0 up.0 in
+      let before : count_at k old ≡ length p.0 = ap (count_at k) was ∙ count_of ps k i p w is in
+      let after = ap (count_at k) now in
+      let here : stands_behind k (page_entries k old) ≡ stands_behind k p.0 = ap (stands_behind k) (ap (page_entries k) was ∙ entries_of ps k i p w is) in
+      let parts = split_count ps k i n p lo up w is at same f in
+      record {
+        low = λ g. (let u = under (sym here ∙ g) in let o = over (sym here ∙ g) in elim parts [ inl e ↦ omega (arith, a, b, before, after, e, u, o) | inr e ↦ omega (arith, a, b, before, after, e, u, o) ]);
+        high = λ g. (let u = under (sym here ∙ g) in let o = over (sym here ∙ g) in elim parts [ inl e ↦ omega (arith, a, b, before, after, e, u, o) | inr e ↦ omega (arith, a, b, before, after, e, u, o) ]);
+      }
 
   -- ---- an entry at the end
 

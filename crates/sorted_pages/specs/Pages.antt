@@ -1,5 +1,5 @@
 -- Pages of entries, all by rising key.
-use Rattle.std.specs.Prelude.{◌≡◌, ℕ, T, ◌+◌, ◌-◌, ◌<◌, ◌≤◌, Bool, true, false, List, [], ◌∷◌, ◌++◌, length, slice_get, Option, Some, None, if◌then◌else◌, ⊤, ◌⊎◌}
+use Rattle.std.specs.Prelude.{◌≡◌, ℕ, T, ◌+◌, ◌-◌, ◌*◌, ◌<◌, ◌≤◌, Bool, true, false, List, [], ◌∷◌, ◌++◌, length, slice_get, Option, Some, None, if◌then◌else◌, ⊤, ◌⊎◌}
 use Rattle.std.specs.List.{AllByRecursion}
 use Rattle.std.specs.Ordering.{nat_cmp, is_le, is_lt}
 use Rattle.std.specs.declared.cmp.Ordering.TheVariants.{Less}
@@ -49,6 +49,16 @@ last_page r k (p ∷ ps) = last_page (if starts_by k p.0 then p else r) k ps
 abbrev pub count_at : {X : Type 0} → Bytes → List (Page X) → ℕ
 count_at k [] = 0
 count_at k (p ∷ ps) = length (last_page p k ps).0
+
+-- the entries of the page where k stands or would stand
+abbrev pub page_entries : {X : Type 0} → Bytes → List (Page X) → List (Bytes × X)
+page_entries k [] = []
+page_entries k (p ∷ ps) = (last_page p k ps).0
+
+-- where k doesn't stand behind all entries of its page, its page has half as many entries as before, one more or less
+pub record IsHalved {X : Type 0} (k : Bytes) (old new : List (Page X)) : Type 0 where
+  pub low : stands_behind k (page_entries k old) ≡ false → count_at k old ≤ 2 * count_at k new + 1
+  pub high : stands_behind k (page_entries k old) ≡ false → 2 * count_at k new ≤ count_at k old + 1
 
 -- n more entries don't fit in the page where k stands or would stand, and are too many for it: it has 256, and would get more than 512
 pub record IsCrowded {X : Type 0} (k : Bytes) (n : ℕ) (ps : List (Page X)) : Type 0 where

@@ -5,7 +5,7 @@ ghost use Rattle.std.specs.Cmp.Lexicographic.{slice_cmp};
 ghost use Rattle.std.specs.FinMap.Entries.{find, put, is_sorted};
 ghost use Rattle.std.specs.Vec.{vec_len};
 ghost use Rattle.model.specs.Map.{Bytes};
-ghost use Rattle.sorted_pages.specs.Pages.{AreAllFull, AreFull, AreLoose, IsCrowded, IsPageWanted, IsInOrder, IsRoomier, entries, room_at};
+ghost use Rattle.sorted_pages.specs.Pages.{AreAllFull, AreFull, AreLoose, IsCrowded, IsHalved, IsPageWanted, IsInOrder, IsRoomier, count_at, entries, room_at};
 
 use crate::aging::Aging;
 use crate::page::{PAGE_MAX, Page};
@@ -50,6 +50,7 @@ fn grow<V: Aging>(pages: &mut Vec<Page<V>>, key: &[u8], n: usize) -> Result<(), 
     ensures roomier { IsRoomier pages.old.items pages.new.items }
     ensures made { OnOk result (n ≤ room_at key.now pages.new.items) }
     ensures pages { length pages.new.items ≡ length pages.old.items }
+    ensures count { count_at key.now pages.new.items ≡ count_at key.now pages.old.items }
 {
     let i = place(pages, key);
     pages[i].reserve(n)
@@ -64,6 +65,7 @@ fn split<V: Aging + Drop>(pages: &mut Vec<Page<V>>, key: &[u8], n: usize) -> Res
     ensures some { 0 < vec_len pages.new }
     ensures one { length pages.new.items ≤ length pages.old.items + 1 }
     ensures more { OnOk result (IsCrowded key.now n pages.old.items → length pages.old.items < length pages.new.items) }
+    ensures halved { OnOk result (IsCrowded key.now n pages.old.items → IsHalved key.now pages.old.items pages.new.items) }
 {
     pages.reserve(1)?;
     let i = place(pages, key);
@@ -90,6 +92,7 @@ fn divide<V: Aging + Drop>(pages: &mut Vec<Page<V>>, key: &[u8], n: usize) -> Re
     ensures made { OnOk result (n ≤ room_at key.now pages.new.items) }
     ensures more { OnOk result (IsCrowded key.now n pages.old.items → length pages.old.items < length pages.new.items) }
     ensures one { length pages.new.items ≤ length pages.old.items + 1 }
+    ensures halved { OnOk result (IsCrowded key.now n pages.old.items → IsHalved key.now pages.old.items pages.new.items) }
 {
     split(pages, key, n)?;
     grow(pages, key, n)
@@ -131,6 +134,7 @@ pub(crate) fn reserve<V: Aging + Drop>(
     ensures split { OnOk result (IsCrowded key.now n pages.old.items → length pages.old.items < length pages.new.items) }
     ensures one { length pages.new.items ≤ length pages.old.items + 1 }
     ensures wanted { length pages.old.items < length pages.new.items → IsPageWanted key.now n pages.old.items }
+    ensures halved { OnOk result (IsCrowded key.now n pages.old.items → IsHalved key.now pages.old.items pages.new.items) }
 {
     if n <= room(pages, key) {
         return Ok(());

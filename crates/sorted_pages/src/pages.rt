@@ -4,7 +4,7 @@ ghost use Rattle.std.specs.Ordering.{nat_cmp};
 ghost use Rattle.std.specs.Cmp.Lexicographic.{slice_cmp};
 ghost use Rattle.std.specs.FinMap.Entries.{find, put, is_sorted};
 ghost use Rattle.model.specs.Map.{Bytes};
-ghost use Rattle.sorted_pages.specs.Pages.{AreFull, AreLoose, IsCrowded, IsPageWanted, entries, room_at};
+ghost use Rattle.sorted_pages.specs.Pages.{AreFull, AreLoose, IsCrowded, IsHalved, IsPageWanted, entries, room_at};
 
 use crate::aging::Aging;
 use crate::changing::{self, look_again};
@@ -151,6 +151,7 @@ impl<V: Aging + Drop> SortedPages<V> {
         ensures made { OnOk result (n ≤ room_at key.entry.bytes.now self.new) }
         ensures known { n ≤ room_at key.entry.bytes.now self.old → IsOk result }
         ensures split { OnOk result (IsCrowded key.entry.bytes.now n self.old → length self.old < length self.new) }
+        ensures halved { OnOk result (IsCrowded key.entry.bytes.now n self.old → IsHalved key.entry.bytes.now self.old self.new) }
         ensures one { length self.new ≤ length self.old + 1 }
         ensures wanted { length self.old < length self.new → IsPageWanted key.entry.bytes.now n self.old }
     {

@@ -7,3 +7,9 @@ on_ok (Err e) P p = tt
 
 pub returns-clause-more : goal.returns-clause-more
 returns-clause-more g c = on_ok c.grow.result _ (λ h. let a = c.in_ok-split.ensures.more h in let b = c.grow.ensures.pages in omega arith)
+
+pub returns-clause-halved : goal.returns-clause-halved
+returns-clause-halved g c = on_ok c.grow.result _ (λ h.
+    let half = c.in_ok-split.ensures.halved h in
+    let same = c.grow.ensures.count in
+    record { low = λ f. (let l = half.low f in omega arith); high = λ f. (let l = half.high f in omega arith) })

@@ -15,3 +15,11 @@ returns-clause-split g c = on_ok c.grow.result _ (λ h.
     let over = h.over in
     let short = h.short in
     absurd (both_ways c.is_crowded.result c.if-is_crowded.false (c.is_crowded.ensures.crowded (omega arith) (omega arith) (omega arith))))
+
+pub returns-clause-halved : goal.returns-clause-halved
+returns-clause-halved g c = on_ok c.grow.result _ (λ h.
+    let count : c.count-len.result ≡ count_at c.args.key.now c.args.pages.now.items = c.count-len.ensures ∙ ap (λ (l : List (Page g.row.V.Denot)). count_at c.args.key.now l) c.deref-2.ensures.value in
+    let many = h.many in
+    let over = h.over in
+    let short = h.short in
+    absurd (both_ways c.is_crowded.result c.if-is_crowded.false (c.is_crowded.ensures.crowded (omega arith) (omega arith) (omega arith))))

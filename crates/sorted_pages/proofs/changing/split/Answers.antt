@@ -1,7 +1,7 @@
 use Rattle.std.proofs.Common.{◌≤◌, ◌+◌, List, length, set, refl, ap, sym, subst, arith, rules}
 use Rattle.std.proofs.lemmas.List.{length-set}
 use Rattle.sorted_pages.specs.Pages.{Page, IsPlace, IsInOrder, IsRoomier, count_at}
-use Rattle.sorted_pages.proofs.Placings.{count_of, grown, halves, one_longer, place_within, split}
+use Rattle.sorted_pages.proofs.Placings.{count_of, grown, halved, halves, one_longer, place_within, split}
 use Rattle.sorted_pages.proofs.changing.split.Goals as goal
 
 pub returns-in_err-upper : goal.returns-in_err-upper
@@ -17,6 +17,7 @@ returns-in_err-upper g c =
       some = search rules;
       one = (let a = ap length c.reserve.ensures.items in let b = length-set ps i c.split_off.new.self in omega arith);
       more = search rules;
+      halved = search rules;
     }
 
 pub returns : goal.returns
@@ -38,11 +39,26 @@ returns g c =
       some = search rules;
       one = (let l = lengthened in omega arith);
       more = λ h. (let l = lengthened in omega arith);
+      halved = λ h. halved ps c.args.pages.now.items c.insert.new.self.items c.args.key.now i (i + 1) c.cut_for-cut.result p lo up (sym c.reserve.ensures.items) c.in-Ok.ensures.items at c.index_mut-page.ensures.value refl two.same two.lower
+          c.in_ok-upper.ensures.lower (let l = c.cut_for-cut.ensures.within in omega arith) c.cut_for-cut.ensures.low c.cut_for-cut.ensures.high;
     }
 
 -- a page with one entry at most isn't crowded
 pub returns-then-cut-eq0-clause-more : goal.returns-then-cut-eq0-clause-more
 returns-then-cut-eq0-clause-more g c = λ h.
+    let ps = c.reserve.new.self.items in
+    let i = c.place-i.result in
+    let p = c.index_mut-page.result.now in
+    let at = subst (λ (l : List (Page g.row.V.Denot)). IsPlace l c.args.key.now i) c.deref.ensures.value c.place-i.ensures in
+    let count = count_of ps c.args.key.now i p at c.index_mut-page.ensures.value in
+    let same = ap (λ (l : List (Page g.row.V.Denot)). count_at c.args.key.now l) c.reserve.ensures.items in
+    let many = h.many in
+    let some = c.cut_for-cut.ensures.some (omega arith) in
+    let none = c.if-cut-eq0.true in
+    absurd (omega arith)
+
+pub returns-then-cut-eq0-clause-halved : goal.returns-then-cut-eq0-clause-halved
+returns-then-cut-eq0-clause-halved g c = λ h.
     let ps = c.reserve.new.self.items in
     let i = c.place-i.result in
     let p = c.index_mut-page.result.now in
