@@ -101,8 +101,7 @@ first_is [] a some = absurd (omega arith)
 first_is (old ∷ rest) a some = refl
 
 pub log_if_head : (lists : List (List KeyWrite)) (c : List (List ℕ)) → IsCopyOrNoLog lists c → slice_get c 0 ≡ Some (head_sector current) → IsLogImage current lists c
-log_if_head lists c (inl holds) head = holds
-log_if_head lists c (inr none) head = absurd (none head)
+log_if_head lists c h head = grind (arith, common_steps)
 
 pub zeros_are_no_log : (lists : List (List KeyWrite)) (c : List (List ℕ)) → slice_get c 0 ≡ Some zero_sector → IsCopyOrNoLog lists c
 unfolding zero_sector head_sector

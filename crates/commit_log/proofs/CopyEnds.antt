@@ -78,8 +78,7 @@ module _ {D : Type 0} (S : Ghosts D) (lists : List (List KeyWrite)) where
     pub after_sync : (now next : D) → LeavesOnly S.moment S.left_since start now (IsCopyStep lists (S.may_leave start)) → Within S 1 (1 + span lists) start now
         → ((c : List (List ℕ)) → S.may_leave next c → S.may_leave now c) → Elapses (S.moment now) (S.moment next) (S.left_since now) (S.left_since next) (S.may_leave next)
         → LeavesOnly S.moment S.left_since start next (IsCopyStep lists (S.may_leave start))
-    after_sync now next so_far alone fewer time =
-        goes_on S.moment S.left_since start now next (IsCopyStep lists (S.may_leave start)) (S.may_leave next) so_far time (λ c left. inl (same_before c (alone.left c (fewer c left))))
+    after_sync now next so_far alone fewer time = grind (arith, common_steps, goes_on, same_before)
 
     pub not_begun : ((c : List (List ℕ)) → S.left_since start (S.moment start) c → S.may_leave start c) → LeavesOnly S.moment S.left_since start start (IsCopyStep lists (S.may_leave start))
     not_begun only_now = started S.moment S.left_since start (IsCopyStep lists (S.may_leave start)) (λ c left. inl (c, only_now c left, refl))
@@ -89,9 +88,7 @@ module _ {D : Type 0} (S : Ghosts D) (lists : List (List KeyWrite)) where
 
     pub after_reads : (now next : D) → LeavesOnly S.moment S.left_since start now (S.may_leave start) → ((c : List (List ℕ)) → S.may_leave now c → S.may_leave start c)
         → LeavesOnly S.moment S.left_since now next (IsCopyStep lists (S.may_leave now)) → LeavesOnly S.moment S.left_since start next (IsCopyStep lists (S.may_leave start))
-    after_reads now next first fewer second =
-        joined S.moment S.left_since start now next (S.may_leave start) (IsCopyStep lists (S.may_leave now)) (IsCopyStep lists (S.may_leave start)) first second (λ c here. inl (c, here, refl))
-        (λ c step. ⊎_elim (λ same. inl (same.0, fewer same.0 same.1, same.2)) (λ log. inr log) step)
+    after_reads now next first fewer second = grind (arith, common_steps, joined)
 
     -- where zeros were there, no log is there before the finished one
     pub no_log : (now : D) → LeavesZeros (S.may_leave start) → LeavesOnly S.moment S.left_since start now (IsCopyStep lists (S.may_leave start)) → LeavesOnly S.moment S.left_since start now (IsCopyOrNoLog lists)

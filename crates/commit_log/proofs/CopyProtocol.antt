@@ -1,6 +1,6 @@
 -- What a device reads and a crash leaves while some of its sectors alone are written.
 use Rattle.std.proofs.lemmas.Grind.{common_steps}
-use Rattle.std.proofs.Common.{⊎_elim, inl, inr, ℕ, ◌≤◌, ◌<◌, ◌≢◌, ◌≡◌, ◌+◌, ◌-◌, List, take, drop, refl, sym, ◌∙◌, ap, arith}
+use Rattle.std.proofs.Common.{⊎_elim, ℕ, ◌≤◌, ◌<◌, ◌≢◌, ◌≡◌, ◌+◌, ◌-◌, List, take, drop, refl, sym, ◌∙◌, ap, arith}
 use Rattle.std.proofs.lemmas.List.{take-take, drop-drop}
 use Rattle.sector.specs.declared.device.Sectors.{Ghosts}
 use Rattle.sector.specs.SectorModel.{FollowsWrite, FollowsWrites, IsOutside, Settles, Elapses}
@@ -55,11 +55,7 @@ module _ {D : Type 0} (S : Ghosts D) where
     pub many_writes : (i m : ℕ) → at ≤ i → i + m ≤ at + n → Within i m now next → Within at n start next
     many_writes i m le end more =
         let kept = runs_on at n i m (S.may_leave start) (S.may_leave now) le end so_far.left in
-        record {
-          others = λ j s outside read. so_far.others j s outside (more.others j s (⊎_elim (λ below. inl (omega arith)) (λ behind. inr (omega arith)) outside) read);
-          left = λ c left. kept c (more.left c left);
-          time = joined S.moment S.left_since start now next (FollowsWrites at n (S.may_leave start)) (FollowsWrites i m (S.may_leave now)) (FollowsWrites at n (S.may_leave start)) so_far.time more.time (λ c same. same) kept;
-        }
+        grind (arith, common_steps, joined)
 
     -- a call that writes nothing
     pub no_write : ((j : ℕ) (s : List ℕ) → S.may_read next j s → S.may_read now j s) → ((c : List (List ℕ)) → S.may_leave next c → S.may_leave now c)

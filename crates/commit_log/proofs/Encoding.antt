@@ -35,9 +35,7 @@ payload_size_is ws = omega (arith, entries_size ws, length-append (big_bytes 4 (
 pub payload_size-more : (ws : List KeyWrite) (i : ℕ) (w : KeyWrite) → w ≡ get_or ws i w → i < length ws → payload_size (take (i + 1) ws) ≡ payload_size (take i ws) + write_size w.0 w.1
 payload_size-more [] i w is lt = absurd (omega arith)
 payload_size-more (x ∷ ws) zero w is lt = let same : x ≡ w = sym is in ap (λ (y : KeyWrite). write_size y.0 y.1 + 4) same ∙ omega arith
-payload_size-more (x ∷ ws) (suc i) w is lt =
-    let next : suc i + 1 ≡ suc (i + 1) = omega arith in
-    ap (λ (n : ℕ). payload_size (take n (x ∷ ws))) next ∙ omega (arith, payload_size-more ws i w is (omega arith))
+payload_size-more (x ∷ ws) (suc i) w is lt = grind (arith, common_steps, payload_size-more ws i w is (omega arith))
 
 pub payload_size_whole : (ws : List KeyWrite) (i len : ℕ) → length ws ≤ i → len ≡ payload_size (take i ws) → len ≡ payload_size ws
 payload_size_whole ws i len le is = is ∙ ap payload_size (take_all i ws le)

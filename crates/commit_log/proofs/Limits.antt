@@ -1,6 +1,6 @@
 -- How long a record is, and what its first bytes say.
 use Rattle.std.proofs.lemmas.Grind.{common_steps}
-use Rattle.std.proofs.Common.{◌≡◌, ℕ, suc, ◌<◌, ◌≤◌, ◌+◌, ◌-◌, ◌*◌, ◌^◌, List, [], ◌∷◌, ◌++◌, length, replicate, All, Some, None, ◌∙◌, ap, arith, lit<, lit≤, append_assoc, length-append}
+use Rattle.std.proofs.Common.{◌≡◌, ℕ, suc, ◌<◌, ◌≤◌, ◌+◌, ◌-◌, ◌*◌, ◌^◌, List, [], ◌∷◌, ◌++◌, length, replicate, All, ◌∙◌, ap, arith, lit<, lit≤, append_assoc, length-append}
 use Rattle.std.proofs.lemmas.List.{length-replicate}
 use Rattle.std.proofs.lemmas.Nat.{mul-le}
 use Rattle.std.specs.List.{flat_map}
@@ -12,25 +12,20 @@ use Rattle.commit_log.specs.RecordFormat.{IsWithinLimits, IsWriteSet, entry_byte
 use Rattle.commit_log.specs.declared.formats.LogFormat.{LogFormat}
 use Rattle.commit_log.specs.Format.{value_bound}
 use Rattle.model.specs.Bounds.{value_max, entry_bound, payload_bound, body_bound}
-use Rattle.commit_log.specs.declared.formats.LogFormat.TheVariants.{One, Two}
 
 -- a value's length takes four bytes, and a payload's as well
 pub value_small : (f : LogFormat) → value_bound f < 2 ^ 16
-value_small One = lit< tt
-value_small Two = lit< tt
+value_small f = grind (arith, common_steps, lit<)
 
 -- a map takes the values of every format
 pub value_known : (f : LogFormat) → value_bound f ≤ value_max
-value_known One = lit≤ tt
-value_known Two = lit≤ tt
+value_known f = grind (arith, common_steps, lit≤)
 
 length-value_le : (f : LogFormat) (write : KeyWrite) → IsWithinLimits f write → length (value_bytes write.1) ≤ 5 + value_bound f
-length-value_le f (key, None) limits = omega arith
-length-value_le f (key, Some value) limits = omega (arith, limits.value)
+length-value_le f write limits = grind (arith, common_steps)
 
 length-entry_le : (f : LogFormat) (write : KeyWrite) → IsWithinLimits f write → length (entry_bytes write) ≤ entry_bound (value_bound f)
-length-entry_le f write limits =
-    omega (arith, limits.key.1, length-value_le f write limits, length-append (big_bytes 2 (length write.0) ++ write.0) (value_bytes write.1), length-append (big_bytes 2 (length write.0)) write.0)
+length-entry_le f write limits = grind (arith, common_steps, length-value_le, length-append)
 
 -- a sum of so many numbers of this size
 times_more : (e n : ℕ) → e * suc n ≡ e + e * n
@@ -59,9 +54,7 @@ length-body before index writes = grind (arith, common_steps, length-sha256, len
 
 pub length-padded_body : (before : List ℕ) (index : ℕ) (writes : List KeyWrite) → length (padded_body before index writes) ≡ 512 * sectors_of writes
 unfolding padded_body sectors_of
-length-padded_body before index writes =
-    let bytes = body_bytes before index writes in
-    omega (arith, length-body before index writes, length-append bytes (replicate (512 * sectors_of writes - length bytes) 0), length-replicate {A = ℕ} (512 * sectors_of writes - length bytes) 0)
+length-padded_body before index writes = grind (arith, common_steps, length-body, length-append, length-replicate)
 
 -- the first four bytes give the payload's length
 pub number-padded_body : (f : LogFormat) (before : List ℕ) (index : ℕ) (writes : List KeyWrite) → IsWriteSet f writes → big_number 4 (padded_body before index writes) ≡ length (payload_bytes writes)

@@ -46,11 +46,7 @@ module _ {D : Type 0} (S : Ghosts D) (start : D) where
       let closed : there.0 ≡ closed_gate = written there.0 (settles.was_read 1 there.0 there.1) in
       let gate : from.2.0 ≡ there.0 = set_there from.0 1 from.2.0 there.0 (ap (λ (l : List (List ℕ)). slice_get l 1) (sym from.2.1) ∙ there.1) in
       let is : image ≡ set from.0 1 closed_gate = from.2.1 ∙ ap (λ (s : List ℕ). set from.0 1 s) (gate ∙ closed) in
-      record {
-        left = λ c left. (from.0, from.1, settles.settled.left c left ∙ is);
-        time = goes_on S.moment S.left_since start now next (IsBeingMade (S.may_leave start)) (S.may_leave next) so_far.time time
-            (λ c left. (from.0, from.1, inl (from.2.0, settles.settled.left c left ∙ from.2.1)));
-      }
+      grind (arith, common_steps, goes_on)
 
   pub head_written : (now next : D) → Making now (λ d c. c ≡ set d 1 closed_gate) → FollowsWrite 0 (S.may_leave now) (S.may_leave next)
       → Elapses (S.moment now) (S.moment next) (S.left_since now) (S.left_since next) (S.may_leave next) → Making next (λ d c. IsSameElsewhere 0 (set d 1 closed_gate) c)

@@ -1,6 +1,6 @@
 -- When the sectors that were read are a record, and when they are none.
 use Rattle.std.proofs.lemmas.Grind.{common_steps}
-use Rattle.std.proofs.Common.{◌≡◌, ℕ, zero, suc, ◌<◌, ◌≤◌, ◌+◌, ◌-◌, ◌*◌, List, [], ◌∷◌, ◌++◌, length, take, drop, slice_get, Some, refl, sym, ◌∙◌, ap, arith, length-drop, take-append-drop}
+use Rattle.std.proofs.Common.{◌≡◌, ℕ, zero, suc, ◌<◌, ◌≤◌, ◌+◌, ◌-◌, ◌*◌, List, [], ◌∷◌, ◌++◌, length, take, drop, slice_get, Some, sym, ◌∙◌, ap, arith, length-drop, take-append-drop}
 use Rattle.std.proofs.lemmas.List.{take_all}
 use Rattle.std.specs.List.{concat}
 use Rattle.byteorder.specs.Endian.{big_number}
@@ -16,11 +16,10 @@ use Rattle.model.specs.Bounds.{body_bound}
 
 -- whole sectors joined are their bytes
 concat-sectors_in : (n : ℕ) (bytes : List ℕ) → length bytes ≡ 512 * n → concat (sectors_in n bytes) ≡ bytes
-concat-sectors_in zero [] len = refl
-concat-sectors_in zero (b ∷ bytes) len = absurd (omega arith)
 concat-sectors_in (suc n) bytes len =
     let rest : concat (sectors_in n (drop 512 bytes)) ≡ drop 512 bytes = concat-sectors_in n (drop 512 bytes) (omega (arith, length-drop 512 bytes)) in
     ap (λ (l : List ℕ). take 512 bytes ++ l) rest ∙ take-append-drop 512 bytes
+concat-sectors_in n bytes len = grind (arith, common_steps)
 
 pub same_bytes : (n : ℕ) (xs ys : List ℕ) → length xs ≡ 512 * n → length ys ≡ 512 * n → sectors_in n xs ≡ sectors_in n ys → xs ≡ ys
 same_bytes n xs ys x_len y_len same = sym (concat-sectors_in n xs x_len) ∙ ap concat same ∙ concat-sectors_in n ys y_len
@@ -48,9 +47,7 @@ length_read f index before rest writes first right at =
 
 module _ (f : LogFormat) (image : List (List ℕ)) (at count n : ℕ) (first bytes : List ℕ) (index : ℕ) (before : List ℕ) (size : length image ≡ count) (there : slice_get image at ≡ Some first) where
   first_there : slice_get (drop at image) 0 ≡ Some first
-  first_there =
-      let e : at + 0 ≡ at = omega arith in
-      slice_get-drop at image 0 ∙ ap (λ (i : ℕ). slice_get image i) e ∙ there
+  first_there = grind (arith, common_steps, slice_get-drop)
 
   -- the length leads past a record's limit or past the image
   pub no_room : sectors_for (big_number 4 first) ≡ n → (n ≤ body_bound (value_bound f) → count ≤ at + n) → (writes : List KeyWrite) → IsRecordAt f index before (drop at image) writes → ⊥

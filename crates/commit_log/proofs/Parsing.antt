@@ -33,8 +33,7 @@ pub same_value : (f : LogFormat) (v w : Option (List ℕ)) (r s : List ℕ) → 
 same_value a0 a1 a2 a3 a4 a5 a6 a7 = grind (arith, common_steps, append_assoc, same_number, value_small, same_front, nat_tests)
 
 entry_split : (w : KeyWrite) (r : List ℕ) → entry_bytes w ++ r ≡ big_bytes 2 (length w.0) ++ (w.0 ++ (value_bytes w.1 ++ r))
-entry_split w r =
-    append_assoc (big_bytes 2 (length w.0) ++ w.0) (value_bytes w.1) r ∙ append_assoc (big_bytes 2 (length w.0)) w.0 (value_bytes w.1 ++ r)
+entry_split w r = grind (arith, common_steps, append_assoc)
 
 pub same_entry : (f : LogFormat) (w x : KeyWrite) (r s : List ℕ) → IsWithinLimits f w → IsWithinLimits f x → entry_bytes w ++ r ≡ entry_bytes x ++ s → (w ≡ x) × (r ≡ s)
 same_entry f w x r s w_is x_is same = grind (arith, common_steps, entry_split, same_number, same_front, same_value, nat_tests)
@@ -50,14 +49,13 @@ limits_after f w writes limits k d lt = limits (suc k) d (omega arith)
 -- what was read first is the front of each reading
 pub same_entries : (f : LogFormat) (done writes : List KeyWrite) (rest : List ℕ) → All (IsWithinLimits f) done → All (IsWithinLimits f) writes → length done ≤ length writes
     → flat_map entry_bytes writes ≡ flat_map entry_bytes done ++ rest → (take (length done) writes ≡ done) × (flat_map entry_bytes (drop (length done) writes) ≡ rest)
-same_entries f [] writes rest done_is writes_is le same = (refl, same)
-same_entries f (w ∷ done) [] rest done_is writes_is le same = absurd (omega arith)
 same_entries f (w ∷ done) (x ∷ writes) rest done_is writes_is le same =
     let regrouped : entry_bytes x ++ flat_map entry_bytes writes ≡ entry_bytes w ++ (flat_map entry_bytes done ++ rest) =
     same ∙ append_assoc (entry_bytes w) (flat_map entry_bytes done) rest in
     let first = same_entry f x w (flat_map entry_bytes writes) (flat_map entry_bytes done ++ rest) (writes_is 0 x (omega arith)) (done_is 0 w (omega arith)) regrouped in
     let others = same_entries f done writes rest (limits_after f w done done_is) (limits_after f x writes writes_is) (omega arith) first.1 in
     ((λ i. first.0 i ∷ others.0 i), others.1)
+same_entries f done writes rest done_is writes_is le same = grind (arith, common_steps)
 
 drop_there : (n : ℕ) (writes : List KeyWrite) → n < length writes → (w : KeyWrite) × (rest : List KeyWrite) × (drop n writes ≡ w ∷ rest) × ((d : KeyWrite) → get_or writes n d ≡ w)
 drop_there n [] lt = absurd (omega arith)
@@ -111,9 +109,7 @@ module _ (f : LogFormat) (bytes rest : List ℕ) (count : ℕ) (done : List KeyW
 -- a count that no write set has
 pub no_count : (f : LogFormat) (bytes rest : List ℕ) (count : ℕ) → bytes ≡ big_bytes 4 count ++ rest → count < 256 ^ 4 → (1 ≤ count → count ≤ 64 → ⊥) → (writes : List KeyWrite) → IsWriteSet f writes → payload_bytes writes ≡ bytes → ⊥
 unfolding payload_bytes
-no_count f bytes rest count is fits out writes proper same =
-    let number = same_number 4 (length writes) count (flat_map entry_bytes writes) rest (omega (arith, proper.at_most)) fits (same ∙ is) in
-    out (omega (arith, number.0, proper.some)) (omega (arith, number.0, proper.at_most))
+no_count f bytes rest count is fits out writes proper same = grind (arith, common_steps, same_number)
 
 pub too_few : (f : LogFormat) (bytes : List ℕ) → length bytes < 4 → (writes : List KeyWrite) → IsWriteSet f writes → payload_bytes writes ≡ bytes → ⊥
 unfolding payload_bytes

@@ -78,8 +78,7 @@ module _ {D : Type 0} (S : Ghosts D) (lists : List (List KeyWrite)) (writes : Li
       closed in
       record {
         left = λ c left. let only : c ≡ image = settles.settled.left c left in rw only staged;
-        time = goes_on S.moment S.left_since start now next (IsBeforeOrAfter lists writes) (S.may_leave next) so_far.time time
-            (λ c left. let only : c ≡ image = settles.settled.left c left in inl (rw only (so_far.left image settles.was_left)));
+        time = grind (arith, common_steps, goes_on);
       }
 
   pub after_open : (gate : ℕ) → gate ≡ 1 + span lists → IsWriteSet current writes → Opening S lists writes start now → FollowsWrite gate (S.may_leave now) (S.may_leave next)

@@ -13,7 +13,7 @@ use Rattle.model.specs.Key.{IsKey, IsValue}
 use Rattle.model.specs.Map.{Bytes, KeyMap, KeyWrite, IsMap, IsInBounds, after_writes}
 use Rattle.model.specs.Machine.{payload_size, write_size}
 use Rattle.commit_log.specs.Format.{current}
-use Rattle.commit_log.specs.RecordFormat.{IsWithinLimits, IsWriteSet, entry_bytes, value_bytes, payload_bytes}
+use Rattle.commit_log.specs.RecordFormat.{IsWithinLimits, IsWriteSet, entry_bytes, payload_bytes}
 use Rattle.commit_log.specs.Recovery.{map_after}
 use Rattle.commit_log.specs.Copying.{puts, first_sets, set_count, write_sets_of}
 
@@ -63,15 +63,12 @@ pub next_pair : (m : KeyMap) (i : ℕ) (now next : KeyMap) (p : Bytes × Bytes) 
 next_pair m i now next p at is h = grind (arith, common_steps, pair_more, bounds_drop, puts-push, payload_size-push, flat_map-append, append-nil)
 
 pub length-put_bytes : (p : Bytes × Bytes) → length (entry_bytes (put_of p)) ≡ 7 + length p.0 + length p.1
-length-put_bytes p =
-    omega (arith, length-append (big_bytes 2 (length p.0) ++ p.0) (value_bytes (Some p.1)), length-append (big_bytes 2 (length p.0)) p.0, length-append (big_bytes 4 (length p.1)) p.1)
+length-put_bytes p = grind (arith, common_steps, length-append)
 
 -- a payload is its count and its entries
 pub payload_of_pairs : (m : KeyMap) (i count : ℕ) → i ≡ count → count ≤ length m → big_bytes 4 count ++ flat_map entry_bytes (puts (take i m)) ≡ payload_bytes (puts (take count m))
 unfolding payload_bytes
-payload_of_pairs m i count is le =
-    let n : count ≡ length (puts (take count m)) = omega (arith, length-puts (take count m), length-take count m) in
-    ap (λ (k : ℕ). big_bytes 4 count ++ flat_map entry_bytes (puts (take k m))) is ∙ ap (λ (k : ℕ). big_bytes 4 k ++ flat_map entry_bytes (puts (take count m))) n
+payload_of_pairs m i count is le = grind (arith, common_steps, length-puts, length-take)
 
 -- there are more pairs
 pub not_none : (m now : KeyMap) (i n : ℕ) → now ≡ drop i m → now ≡ [] → i < n → n ≤ length m → ⊥

@@ -1,6 +1,6 @@
 -- Images of records, and what a changed sector makes of them.
 use Rattle.std.proofs.lemmas.Grind.{common_steps}
-use Rattle.std.proofs.Common.{◌≡◌, ◌⊎◌, inl, inr, ⊎_elim, ℕ, zero, suc, ◌<◌, ◌+◌, ◌*◌, true, false, List, [], ◌∷◌, ◌++◌, length, take, drop, set, get_or, slice_get, Some, None, refl, sym, ◌∙◌, ap, subst, arith}
+use Rattle.std.proofs.Common.{◌≡◌, ◌⊎◌, ⊎_elim, ℕ, zero, suc, ◌<◌, ◌+◌, ◌*◌, true, false, List, [], ◌∷◌, ◌++◌, length, take, drop, set, get_or, slice_get, Some, None, refl, sym, ◌∙◌, ap, subst, arith}
 use Rattle.std.proofs.lemmas.List.{take-take, drop-take, drop-drop, take-set-le, drop-set-add}
 use Rattle.std.proofs.lemmas.Bool.{cases_Bool}
 use Rattle.model.specs.Map.{KeyWrite}
@@ -11,11 +11,9 @@ use Rattle.commit_log.specs.declared.formats.LogFormat.{LogFormat}
 
 -- the sectors up to the closed gate decide
 pub same_records : (f : LogFormat) (lists : List (List KeyWrite)) (index : ℕ) (before : List ℕ) (c d : List (List ℕ)) → take (suc (span lists)) c ≡ take (suc (span lists)) d → HoldsRecords f lists index before d → HoldsRecords f lists index before c
-same_records f [] index before [] (gate ∷ d) same holds = absurd (cc same)
 same_records f [] index before (x ∷ c) (gate ∷ d) same holds =
     let is : x ≡ gate = cc same in
     rw is holds
-same_records f (writes ∷ lists) index before [] (gate ∷ d) same holds = absurd (cc same)
 same_records f (writes ∷ lists) index before (x ∷ c) (gate ∷ d) same holds =
     let b = sectors_of writes in
     let is : x ≡ gate = cc same in
@@ -27,7 +25,7 @@ same_records f (writes ∷ lists) index before (x ∷ c) (gate ∷ d) same holds
     sym (drop-take b (suc (span lists)) c) ∙ ap (λ (k : ℕ). drop b (take k c)) (sym n) ∙ ap (λ (l : List (List ℕ)). drop b l) rest
     ∙ ap (λ (k : ℕ). drop b (take k d)) n ∙ drop-take b (suc (span lists)) d in
     (ap is_open is ∙ holds.0, holds.1, body ∙ holds.2, same_records f lists (index + 1) (record_digest before index writes) (drop b c) (drop b d) behind holds.3)
-same_records f b1 index before c [] same holds = absurd holds
+same_records f b1 index before c d same holds = grind (arith, common_steps)
 
 pub same_log : (f : LogFormat) (lists : List (List KeyWrite)) (n : ℕ) (c d : List (List ℕ)) → n ≡ suc (suc (span lists)) → take n c ≡ take n d → IsLogImage f lists d → IsLogImage f lists c
 same_log a0 a1 a2 a3 a4 a5 a6 a7 = grind (arith, common_steps, same_records)
@@ -35,9 +33,7 @@ same_log a0 a1 a2 a3 a4 a5 a6 a7 = grind (arith, common_steps, same_records)
 pub slice_get-drop : {X : Type 0} (n : ℕ) (xs : List X) (i : ℕ) → slice_get (drop n xs) i ≡ slice_get xs (n + i)
 slice_get-drop zero xs i = let e : 0 + i ≡ i = omega arith in ap (λ (k : ℕ). slice_get xs k) (sym e)
 slice_get-drop (suc n) [] i = refl
-slice_get-drop (suc n) (x ∷ xs) i =
-    let e : suc n + i ≡ suc (n + i) = omega arith in
-    slice_get-drop n xs i ∙ ap (λ (k : ℕ). slice_get (x ∷ xs) k) (sym e)
+slice_get-drop (suc n) (x ∷ xs) i = grind (arith, common_steps, slice_get-drop n xs i)
 
 -- a list whose elements are those of another begins with it
 pub begins : (xs ys : List (List ℕ)) → ((k : ℕ) → k < length ys → slice_get xs k ≡ Some (get_or ys k [])) → take (length ys) xs ≡ ys
@@ -50,9 +46,8 @@ begins (x ∷ xs) (y ∷ ys) each =
     cc
 
 closed_at : (f : LogFormat) (rest : List (List ℕ)) (n : ℕ) (s : List ℕ) (index : ℕ) (before : List ℕ) → slice_get rest n ≡ Some s → is_open s ≡ false → HoldsRecords f [] index before (drop n rest)
-closed_at f (x ∷ rest) zero s index before is shut = let e : x ≡ s = cc is in ap is_open e ∙ shut
 closed_at f (x ∷ rest) (suc n) s index before is shut = closed_at f rest n s index before is shut
-closed_at f [] b2 s index before is shut = absurd (cc is)
+closed_at f rest b2 s index before is shut = grind (arith, common_steps)
 
 pub staged_from : (f : LogFormat) (lists : List (List KeyWrite)) (writes : List KeyWrite) (index : ℕ) (before : List ℕ) (rest : List (List ℕ)) (shut : List ℕ) → length (record_body (last_digest lists index before) (next_index lists index) writes) ≡ sectors_of writes → HoldsRecords f lists index before rest
     → ((k i : ℕ) → k < sectors_of writes → i ≡ suc (span lists + k) → slice_get rest i ≡ Some (get_or (record_body (last_digest lists index before) (next_index lists index) writes) k []))
@@ -77,30 +72,19 @@ staged_from f (x ∷ lists) writes index before (gate ∷ rest) shut size holds 
 pub staged-set : (f : LogFormat) (lists : List (List KeyWrite)) (writes : List KeyWrite) (index : ℕ) (before : List ℕ) (rest : List (List ℕ)) (n : ℕ) (s : List ℕ) → n ≡ span lists → Staged f lists writes index before rest → Staged f lists writes index before (set rest n s)
 staged-set f lists writes index before [] n s is staged = absurd staged
 staged-set f [] writes index before (gate ∷ rest) zero s is staged = staged
-staged-set f (x ∷ lists) writes index before (gate ∷ rest) (suc n) s is staged =
-    let b = sectors_of x in
-    let split : n ≡ b + span lists = omega arith in
-    let front : take b (set rest n s) ≡ take b rest = take-set-le b rest n s (omega arith) in
-    let back : drop b (set rest n s) ≡ set (drop b rest) (span lists) s =
-    ap (λ (k : ℕ). drop b (set rest k s)) split ∙ drop-set-add b rest (span lists) s in
-    (staged.0, staged.1, front ∙ staged.2, rw back (staged-set f lists writes (index + 1) (record_digest before index x) (drop b rest) (span lists) s refl staged.3))
+staged-set f (x ∷ lists) writes index before (gate ∷ rest) (suc n) s is staged = grind (arith, common_steps, take-set-le, drop-set-add, staged-set f lists writes (index + 1) (record_digest before index x))
 staged-set f b1 writes index before (gate ∷ rest) b6 s is staged = absurd (omega arith)
 
 -- a staged record counts where its gate is open
 pub staged_gate : (f : LogFormat) (lists : List (List KeyWrite)) (writes : List KeyWrite) (index : ℕ) (before : List ℕ) (rest : List (List ℕ)) → IsWriteSet f writes → Staged f lists writes index before rest → HoldsRecords f lists index before rest ⊎ HoldsRecords f (lists ++ writes ∷ []) index before rest
 staged_gate f lists writes index before [] proper staged = absurd staged
 staged_gate f [] writes index before (gate ∷ rest) proper staged = grind (arith, common_steps, cases_Bool)
-staged_gate f (x ∷ lists) writes index before (gate ∷ rest) proper staged =
-    ⊎_elim (λ holds. inl (staged.0, staged.1, staged.2, holds)) (λ holds. inr (staged.0, staged.1, staged.2, holds))
-    (staged_gate f lists writes (index + 1) (record_digest before index x) (drop (sectors_of x) rest) proper staged.3)
+staged_gate f (x ∷ lists) writes index before (gate ∷ rest) proper staged = grind (arith, common_steps, staged_gate f lists writes (index + 1) (record_digest before index x) (drop (sectors_of x) rest) proper staged.3)
 
 pub staged_open : (f : LogFormat) (lists : List (List KeyWrite)) (writes : List KeyWrite) (index : ℕ) (before : List ℕ) (rest : List (List ℕ)) (gate : List ℕ) → IsWriteSet f writes → Staged f lists writes index before rest → slice_get rest (span lists) ≡ Some gate → is_open gate ≡ true → HoldsRecords f (lists ++ writes ∷ []) index before rest
 staged_open f lists writes index before [] gate proper staged at opened = absurd staged
-staged_open f [] writes index before (g ∷ rest) gate proper staged at opened =
-    let same : g ≡ gate = cc at in
-    (ap is_open same ∙ opened, proper, staged.0, staged.1)
-staged_open f (x ∷ lists) writes index before (g ∷ rest) gate proper staged at opened =
-    (staged.0, staged.1, staged.2, staged_open f lists writes (index + 1) (record_digest before index x) (drop (sectors_of x) rest) gate proper staged.3 (slice_get-drop (sectors_of x) rest (span lists) ∙ at) opened)
+staged_open f [] writes index before (g ∷ rest) gate proper staged at opened = grind (arith, common_steps)
+staged_open f (x ∷ lists) writes index before (g ∷ rest) gate proper staged at opened = grind (arith, common_steps, slice_get-drop, staged_open f lists writes (index + 1) (record_digest before index x) (drop (sectors_of x) rest) gate proper staged.3 (slice_get-drop (sectors_of x) rest (span lists) ∙ at) opened)
 
 pub image_staged-set : (f : LogFormat) (lists : List (List KeyWrite)) (writes : List KeyWrite) (c : List (List ℕ)) (n : ℕ) (s : List ℕ) → n ≡ 1 + span lists → IsStaged f lists writes c → IsStaged f lists writes (set c n s)
 image_staged-set a0 a1 a2 a3 a4 a5 a6 a7 = grind (arith, common_steps, staged-set)
@@ -116,11 +100,10 @@ length-sectors_in zero bytes = refl
 length-sectors_in (suc n) bytes = ap suc (length-sectors_in n (drop 512 bytes))
 
 pub get_or-sectors_in : (n : ℕ) (bytes : List ℕ) (k : ℕ) → k < n → get_or (sectors_in n bytes) k [] ≡ take 512 (drop (512 * k) bytes)
-get_or-sectors_in zero bytes k lt = absurd (omega arith)
-get_or-sectors_in (suc n) bytes zero lt = refl
 get_or-sectors_in (suc n) bytes (suc k) lt =
     let e : 512 + 512 * k ≡ 512 * suc k = omega arith in
     get_or-sectors_in n (drop 512 bytes) k (omega arith) ∙ ap (λ (l : List ℕ). take 512 l) (drop-drop (512 * k) 512 bytes ∙ ap (λ (m : ℕ). drop m bytes) e)
+get_or-sectors_in n bytes k lt = grind (arith, common_steps)
 
 pub image_staged_from : (f : LogFormat) (lists : List (List KeyWrite)) (writes : List KeyWrite) (c : List (List ℕ)) (bytes shut : List ℕ) → bytes ≡ padded_body (last_digest lists 0 first_digest) (next_index lists 0) writes → IsLogImage f lists c
     → ((k : ℕ) → k < sectors_of writes → slice_get c (1 + span lists + 1 + k) ≡ Some (take 512 (drop (512 * k) bytes)))

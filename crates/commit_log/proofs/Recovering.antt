@@ -1,4 +1,5 @@
 -- Records that were read one after the other.
+use Rattle.std.proofs.lemmas.Grind.{common_steps}
 use Rattle.std.proofs.Common.{◌≡◌, ℕ, suc, ◌+◌, true, false, List, [], ◌∷◌, ◌++◌, length, take, drop, get_or, slice_get, Some, replicate, refl, sym, ◌∙◌, ap, arith, length-append}
 use Rattle.std.proofs.lemmas.Bool.Decides.{nat_tests}
 use Rattle.std.proofs.lemmas.List.{drop-drop}
@@ -32,17 +33,12 @@ behind b n gate rest =
     ap (λ (k : ℕ). drop k rest) e ∙ sym (drop-drop (suc n) b rest)
 
 pub front_end : (f : LogFormat) (lists : List (List KeyWrite)) (index : ℕ) (before : List ℕ) (rest : List (List ℕ)) (gate : List ℕ) → Front f lists index before rest → slice_get rest (span lists) ≡ Some gate → is_open gate ≡ false → HoldsRecords f lists index before rest
-front_end f [] index before [] gate front at shut = absurd (cc at)
-front_end f [] index before (g ∷ rest) gate front at shut = let same : g ≡ gate = cc at in ap is_open same ∙ shut
-front_end f (w ∷ lists) index before [] gate front at shut = absurd front
 front_end f (w ∷ lists) index before (g ∷ rest) gate front at shut =
     (front.0, front.1, front.2, front_end f lists (index + 1) (record_digest before index w) (drop (sectors_of w) rest) gate front.3 (slice_get-drop (sectors_of w) rest (span lists) ∙ at) shut)
+front_end f lists index before rest gate front at shut = grind (arith, common_steps)
 
 pub front_damage : (f : LogFormat) (lists : List (List KeyWrite)) (index : ℕ) (before : List ℕ) (rest : List (List ℕ)) (gate : List ℕ) → Front f lists index before rest → slice_get rest (span lists) ≡ Some gate → is_open gate ≡ true
     → ((w : List KeyWrite) → IsRecordAt f (next_index lists index) (last_digest lists index before) (drop (suc (span lists)) rest) w → ⊥) → HoldsDamage f lists index before rest
-front_damage f [] index before [] gate front at opened none = absurd (cc at)
-front_damage f [] index before (g ∷ rest) gate front at opened none = let same : g ≡ gate = cc at in (ap is_open same ∙ opened, none)
-front_damage f (w ∷ lists) index before [] gate front at opened none = absurd front
 front_damage f (w ∷ lists) index before (g ∷ rest) gate front at opened none = (
   front.0,
   front.1,
@@ -50,19 +46,14 @@ front_damage f (w ∷ lists) index before (g ∷ rest) gate front at opened none
   front_damage f lists (index + 1) (record_digest before index w) (drop (sectors_of w) rest) gate front.3 (slice_get-drop (sectors_of w) rest (span lists) ∙ at) opened
       (λ x right. none x (rw (behind (sectors_of w) (span lists) g rest) right)),
 )
+front_damage f lists index before rest gate front at opened none = grind (arith, common_steps)
 
 pub front_more : (f : LogFormat) (lists : List (List KeyWrite)) (writes : List KeyWrite) (index : ℕ) (before : List ℕ) (rest : List (List ℕ)) (gate : List ℕ) → Front f lists index before rest → slice_get rest (span lists) ≡ Some gate → is_open gate ≡ true
     → IsRecordAt f (next_index lists index) (last_digest lists index before) (drop (suc (span lists)) rest) writes → Front f (lists ++ writes ∷ []) index before rest
 front_more f [] writes index before [] gate front at opened right = absurd (cc at)
 front_more f [] writes index before (g ∷ rest) gate front at opened right = let same : g ≡ gate = cc at in (ap is_open same ∙ opened, right.proper, right.body, tt)
 front_more f (w ∷ lists) writes index before [] gate front at opened right = absurd front
-front_more f (w ∷ lists) writes index before (g ∷ rest) gate front at opened right = (
-  front.0,
-  front.1,
-  front.2,
-  front_more f lists writes (index + 1) (record_digest before index w) (drop (sectors_of w) rest) gate front.3 (slice_get-drop (sectors_of w) rest (span lists) ∙ at) opened
-      (rw (behind (sectors_of w) (span lists) g rest) at right),
-)
+front_more f (w ∷ lists) writes index before (g ∷ rest) gate front at opened right = grind (arith, common_steps, slice_get-drop, behind, front_more f lists writes (index + 1) (record_digest before index w) (drop (sectors_of w) rest) gate front.3 (slice_get-drop (sectors_of w) rest (span lists) ∙ at) opened (rw (behind (sectors_of w) (span lists) g rest) at right))
 
 -- what has been read so far
 pub record HasRead (f : LogFormat) (rest : List (List ℕ)) (gate : ℕ) (records : ℕ) (digest : List ℕ) (contents : KeyMap) : Type 0 where
@@ -78,17 +69,13 @@ nothing_read f rest digest contents is empty = record { lists = []; front = tt; 
 
 module _ (f : LogFormat) (image : List (List ℕ)) (gate index : ℕ) (digest : List ℕ) (contents : KeyMap) (sector : List ℕ) (read : HasRead f (drop 1 image) gate index digest contents) (there : slice_get image gate ≡ Some sector) where
   gate_there : slice_get (drop 1 image) (span read.lists) ≡ Some sector
-  gate_there =
-      let e : 1 + span read.lists ≡ gate = sym read.gate_is in
-      slice_get-drop 1 image (span read.lists) ∙ ap (λ (i : ℕ). slice_get image i) e ∙ there
+  gate_there = grind (arith, common_steps, slice_get-drop)
 
   index_is : index ≡ next_index read.lists 0
   index_is = omega (arith, read.records_are, next_index-is read.lists 0)
 
   place : drop (gate + 1) image ≡ drop (suc (span read.lists)) (drop 1 image)
-  place =
-      let e : gate + 1 ≡ 1 + suc (span read.lists) = omega (arith, read.gate_is) in
-      ap (λ (n : ℕ). drop n image) e ∙ sym (drop-drop (suc (span read.lists)) 1 image)
+  place = grind (arith, common_steps, drop-drop)
 
   pub ended : (get_or sector 0 0 ≡ 1 → ⊥) → HoldsRecords f read.lists 0 first_digest (drop 1 image)
   ended shut = front_end f read.lists 0 first_digest (drop 1 image) sector read.front gate_there (is_shut_if sector shut)
@@ -109,9 +96,7 @@ module _ (f : LogFormat) (image : List (List ℕ)) (gate index : ℕ) (digest : 
     front = front_more f read.lists w 0 first_digest (drop 1 image) sector read.front gate_there (is_open_if sector opened) (rw (place, index_is, read.digest_is) at right);
     gate_is = omega (arith, read.gate_is, sectors_are, span-push read.lists w);
     records_are = omega (arith, read.records_are, length-append read.lists (w ∷ []));
-    digest_is =
-        next_is ∙ ap (λ (d : List ℕ). record_digest d index w) read.digest_is ∙ ap (λ (n : ℕ). record_digest (last_digest read.lists 0 first_digest) n w) index_is
-        ∙ sym (last_digest-push read.lists w 0 first_digest);
+    digest_is = grind (arith, common_steps, index_is, last_digest-push);
     map_is = after_is ∙ ap (λ (m : KeyMap). after_writes m w) read.map_is ∙ sym (map_after-push [] read.lists w);
   }
 

@@ -16,9 +16,8 @@ pub less_unless : (o : Ordering) → (ordering_index o == 0) ≡ false → o ≡
 less_unless a0 a1 a2 = grind (arith, common_steps, less)
 
 pub last_write : (ws : List KeyWrite) (n : ℕ) (w : KeyWrite) → Some w ≡ slice_get ws n → (d : KeyWrite) → get_or ws n d ≡ w
-last_write [] n w is d = absurd (cc is)
-last_write (x ∷ ws) zero w is d = cc is
 last_write (x ∷ ws) (suc n) w is d = last_write ws n w is d
+last_write ws n w is d = grind (arith, common_steps)
 
 -- a write above the last is above all
 pub rising_push : (ws : List KeyWrite) (w : KeyWrite) → ((d : KeyWrite) → key_cmp (get_or ws (length ws - 1) d).0 w.0 ≡ Less) → IsRising ws → IsRising (ws ++ w ∷ [])
@@ -36,11 +35,6 @@ rising_push (x ∷ y ∷ rest) w above rising =
 
 -- each key is below the next
 pub adjacent : (ws : List KeyWrite) → IsRising ws → (k : ℕ) (d : KeyWrite) → k + 1 < length ws → key_cmp (get_or ws k d).0 (get_or ws (k + 1) d).0 ≡ Less
-adjacent (x ∷ y ∷ rest) rising zero d lt =
-    let p = parts (below_all (slice_cmp nat_cmp) x.0 (y ∷ rest)) (is_sorted (slice_cmp nat_cmp) (y ∷ rest)) rising in
-    less _ (parts (is_lt (key_cmp x.0 y.0)) (below_all (slice_cmp nat_cmp) x.0 rest) p.0).0
-adjacent (x ∷ y ∷ rest) rising (suc k) d lt =
-    let p = parts (below_all (slice_cmp nat_cmp) x.0 (y ∷ rest)) (is_sorted (slice_cmp nat_cmp) (y ∷ rest)) rising in
-    let next : suc (k + 1) ≡ suc k + 1 = omega arith in
-    subst (λ (n : ℕ). key_cmp (get_or (y ∷ rest) k d).0 (get_or (x ∷ y ∷ rest) n d).0 ≡ Less) next (adjacent (y ∷ rest) p.1 k d (omega arith))
+adjacent (x ∷ y ∷ rest) rising zero d lt = grind (arith, common_steps, parts, less)
+adjacent (x ∷ y ∷ rest) rising (suc k) d lt = grind (arith, common_steps, parts, adjacent (y ∷ rest))
 adjacent b0 rising k d lt = absurd (omega arith)

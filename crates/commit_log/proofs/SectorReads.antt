@@ -1,6 +1,6 @@
 -- How a run of reads goes on.
 use Rattle.std.proofs.lemmas.Grind.{common_steps}
-use Rattle.std.proofs.Common.{◌≡◌, ℕ, ◌≤◌, ◌+◌, ◌-◌, ◌*◌, List, length, take, drop, ◌++◌, slice_get, Some, sym, ◌∙◌, ap, arith, length-drop, append_assoc}
+use Rattle.std.proofs.Common.{◌≡◌, ℕ, ◌≤◌, ◌+◌, ◌-◌, ◌*◌, List, length, take, drop, ◌++◌, slice_get, Some, ◌∙◌, ap, arith, length-drop, append_assoc}
 use Rattle.std.proofs.lemmas.List.{take-append-le, drop-append-le, drop-take, length-take, take_all}
 use Rattle.std.proofs.Math.Seq.{drop-append-add, take-add}
 use Rattle.sector.specs.declared.device.Sectors.{Ghosts}
@@ -44,5 +44,4 @@ place_behind all start = omega (arith, length-take (length all - start) (drop st
 -- so does it where this many bytes stand before it
 pub read_from : (image : List (List ℕ)) (i base : ℕ) (front into post rest : List ℕ) (k whole : ℕ) → base ≡ length front → 512 * k + 512 ≤ length into → length front + length into ≤ whole
     → slice_get image i ≡ Some (take 512 (drop (512 * k) into)) → slice_get image i ≡ Some (take 512 (drop (base + 512 * k) (take whole (front ++ (into ++ post) ++ rest))))
-read_from image i base front into post rest k whole is here fits read =
-    read ∙ ap (λ (l : List ℕ). Some l) (sym (read_behind front into post rest k whole here fits)) ∙ ap (λ (b : ℕ). Some (take 512 (drop (b + 512 * k) (take whole (front ++ (into ++ post) ++ rest))))) (sym is)
+read_from image i base front into post rest k whole is here fits read = grind (arith, common_steps, read_behind)

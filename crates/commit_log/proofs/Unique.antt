@@ -47,12 +47,10 @@ record_unique f index before rest w x w_at x_at =
     payload_unique f w x w_at.proper x_at.proper found.2
 
 some_records : (f : LogFormat) (lists : List (List KeyWrite)) (index : ℕ) (before : List ℕ) (rest : List (List ℕ)) → HoldsRecords f lists index before rest → 1 ≤ length rest
-some_records f lists index before [] holds = absurd holds
-some_records f lists index before (g ∷ rest) holds = omega arith
+some_records f lists index before rest holds = grind (arith, common_steps)
 
 some_damage : (f : LogFormat) (lists : List (List KeyWrite)) (index : ℕ) (before : List ℕ) (rest : List (List ℕ)) → HoldsDamage f lists index before rest → 1 ≤ length rest
-some_damage f lists index before [] holds = absurd holds
-some_damage f lists index before (g ∷ rest) holds = omega arith
+some_damage f lists index before rest holds = grind (arith, common_steps)
 
 record_at : (f : LogFormat) (index : ℕ) (before : List ℕ) (rest : List (List ℕ)) (w : List KeyWrite) → IsWriteSet f w → take (sectors_of w) rest ≡ record_body before index w → 1 ≤ length (drop (sectors_of w) rest) → IsRecordAt f index before rest w
 record_at f index before rest w proper body some = record { proper = proper; room = omega (arith, some, length-drop (sectors_of w) rest); body = body }
@@ -69,37 +67,29 @@ records_unique f (w ∷ lists) (x ∷ others) index before (g ∷ rest) one two 
     ap (λ (l : List (List KeyWrite)). w ∷ l) tails ∙ ap (λ (y : List KeyWrite). y ∷ others) (sym same)
 
 not_both : (f : LogFormat) (lists others : List (List KeyWrite)) (index : ℕ) (before : List ℕ) (rest : List (List ℕ)) → HoldsRecords f lists index before rest → HoldsDamage f others index before rest → ⊥
-not_both f lists others index before [] one two = absurd one
-not_both f [] [] index before (g ∷ rest) one two = absurd (cc (one, two.0))
-not_both f [] (x ∷ others) index before (g ∷ rest) one two = absurd (cc (one, two.0))
-not_both f (w ∷ lists) [] index before (g ∷ rest) one two = two.1 w (record_at f index before rest w one.1 one.2 (some_records f _ _ _ _ one.3))
 not_both f (w ∷ lists) (x ∷ others) index before (g ∷ rest) one two =
     let same : x ≡ w = record_unique f index before rest x w (record_at f index before rest x two.1 two.2 (some_damage f _ _ _ _ two.3)) (record_at f index before rest w one.1 one.2 (some_records f _ _ _ _ one.3)) in
     let moved : HoldsDamage f others (index + 1) (record_digest before index w) (drop (sectors_of w) rest) = subst (λ (y : List KeyWrite). HoldsDamage f others (index + 1) (record_digest before index y) (drop (sectors_of y) rest)) same two.3 in
     not_both f lists others (index + 1) (record_digest before index w) (drop (sectors_of w) rest) one.3 moved
+not_both f lists others index before rest one two = grind (arith, common_steps, some_records)
 
 damage_unique : (f : LogFormat) (lists others : List (List KeyWrite)) (index : ℕ) (before : List ℕ) (rest : List (List ℕ)) → HoldsDamage f lists index before rest → HoldsDamage f others index before rest → lists ≡ others
-damage_unique f lists others index before [] one two = absurd one
-damage_unique f [] [] index before (g ∷ rest) one two = refl
-damage_unique f [] (x ∷ others) index before (g ∷ rest) one two = absurd (one.1 x (record_at f index before rest x two.1 two.2 (some_damage f _ _ _ _ two.3)))
-damage_unique f (w ∷ lists) [] index before (g ∷ rest) one two = absurd (two.1 w (record_at f index before rest w one.1 one.2 (some_damage f _ _ _ _ one.3)))
 damage_unique f (w ∷ lists) (x ∷ others) index before (g ∷ rest) one two =
     let same : x ≡ w = record_unique f index before rest x w (record_at f index before rest x two.1 two.2 (some_damage f _ _ _ _ two.3)) (record_at f index before rest w one.1 one.2 (some_damage f _ _ _ _ one.3)) in
     let moved : HoldsDamage f others (index + 1) (record_digest before index w) (drop (sectors_of w) rest) = subst (λ (y : List KeyWrite). HoldsDamage f others (index + 1) (record_digest before index y) (drop (sectors_of y) rest)) same two.3 in
     let tails : lists ≡ others = damage_unique f lists others (index + 1) (record_digest before index w) (drop (sectors_of w) rest) one.3 moved in
     ap (λ (l : List (List KeyWrite)). w ∷ l) tails ∙ ap (λ (y : List KeyWrite). y ∷ others) (sym same)
+damage_unique f lists others index before rest one two = grind (arith, common_steps, some_damage)
 
 pub log_unique : (f : LogFormat) (lists others : List (List KeyWrite)) (image : List (List ℕ)) → IsLogImage f lists image → IsLogImage f others image → lists ≡ others
 log_unique f lists others [] one two = absurd one
 log_unique f lists others (head ∷ rest) one two = records_unique f lists others 0 first_digest rest one.1 two.1
 
 pub log_not_damaged : (f : LogFormat) (lists others : List (List KeyWrite)) (image : List (List ℕ)) → IsLogImage f lists image → IsDamaged f others image → ⊥
-log_not_damaged f lists others [] one two = absurd one
-log_not_damaged f lists others (head ∷ rest) one two = not_both f lists others 0 first_digest rest one.1 two.1
+log_not_damaged f lists others image one two = grind (arith, common_steps, not_both)
 
 pub damaged_unique : (f : LogFormat) (lists others : List (List KeyWrite)) (image : List (List ℕ)) → IsDamaged f lists image → IsDamaged f others image → lists ≡ others
-damaged_unique f lists others [] one two = absurd one
-damaged_unique f lists others (head ∷ rest) one two = damage_unique f lists others 0 first_digest rest one.1 two.1
+damaged_unique f lists others image one two = grind (arith, common_steps, damage_unique)
 
 pub log_is_log : (f : LogFormat) (lists : List (List KeyWrite)) (image : List (List ℕ)) → IsLogImage f lists image → IsNoLog f image → ⊥
 log_is_log a0 a1 a2 a3 a4 = grind (arith, common_steps)
@@ -108,13 +98,12 @@ pub damaged_is_log : (f : LogFormat) (lists : List (List KeyWrite)) (image : Lis
 damaged_is_log a0 a1 a2 a3 a4 = grind (arith, common_steps)
 
 same_by_get : (xs ys : List (List ℕ)) → length xs ≡ length ys → ((i : ℕ) (s : List ℕ) → slice_get xs i ≡ Some s → slice_get ys i ≡ Some s) → xs ≡ ys
-same_by_get [] [] len each = refl
 same_by_get (x ∷ xs) (y ∷ ys) len each =
     let here : Some y ≡ Some x = each 0 x refl in
     let first : y ≡ x = cc here in
     let rest : xs ≡ ys = same_by_get xs ys (omega arith) (λ i s at. each (suc i) s at) in
     cc
-same_by_get b0 b1 len each = absurd (omega arith)
+same_by_get b0 b1 len each = grind (arith, common_steps)
 
 -- a device that reads as an image settles as it
 pub settles_as : (size : ℕ) (may_read : ℕ → List ℕ → Type 0) (may_leave : List (List ℕ) → Type 0) (image disk : List (List ℕ)) → CanSettle size may_read may_leave image → length disk ≡ size → ReadsAs may_read disk → image ≡ disk
@@ -136,8 +125,7 @@ damage_has_head a0 a1 a2 a3 = grind (arith, common_steps)
 
 -- what has the head of a format is no image without it
 head_is_log : (f : LogFormat) (image : List (List ℕ)) → HasHead f image → IsNoLog f image → ⊥
-head_is_log f image has (inl short) = omega (arith, has.0)
-head_is_log f image has (inr other) = other has.1
+head_is_log f image has h = grind (arith, common_steps)
 
 not_old : (image : List (List ℕ)) → HasHead current image → HasHead One image → ⊥
 not_old image now then = absurd (cc (one_head current One image now then))

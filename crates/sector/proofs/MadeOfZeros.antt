@@ -1,5 +1,6 @@
 -- Under the premise on files a file that was made of zeros holds zeros, and a crash leaves them.
-use Rattle.std.proofs.Common.{◌≡◌, ℕ, zero, suc, ◌+◌, ◌-◌, ◌*◌, ◌<◌, true, List, [], ◌∷◌, length, Some, take, replicate, slice_get, refl, sym, ap, subst, ◌∙◌, arith}
+use Rattle.std.proofs.lemmas.Grind.{common_steps}
+use Rattle.std.proofs.Common.{◌≡◌, ℕ, suc, ◌+◌, ◌-◌, ◌*◌, ◌<◌, true, List, ◌∷◌, length, Some, take, replicate, slice_get, refl, sym, ap, subst, ◌∙◌, arith}
 use Rattle.std.proofs.lemmas.List.{take-replicate, drop-replicate, length-replicate}
 use Rattle.std.proofs.lemmas.Option.{slice_get_within}
 use Rattle.file_calls.specs.OpenFacts.{may_read, may_leave, next}
@@ -9,13 +10,11 @@ use Rattle.sector.specs.FileOpening.{WasMadeOfZeros}
 use Rattle.sector.specs.SectorModel.{IsSettled, sector_in}
 
 all_same : (image : List (List ℕ)) (n : ℕ) (s : List ℕ) → length image ≡ n → ((i : ℕ) (x : List ℕ) → slice_get image i ≡ Some x → x ≡ s) → image ≡ replicate n s
-all_same [] zero s size each = refl
-all_same [] (suc n) s size each = absurd (omega arith)
-all_same (x ∷ image) zero s size each = absurd (omega arith)
 all_same (x ∷ image) (suc n) s size each =
     let here : x ≡ s = each 0 x refl in
     let rest : image ≡ replicate n s = all_same image n s (omega arith) (λ i y found. each (suc i) y found) in
     cc
+all_same image n s size each = grind (arith, common_steps)
 
 zeros_in : (count k : ℕ) → k < count → sector_in (replicate (count * 512) 0) k ≡ replicate 512 0
 zeros_in count k lt = ap (λ (l : List ℕ). take 512 l) (drop-replicate (512 * k) (count * 512) 0) ∙ take-replicate 512 (count * 512 - 512 * k) 0 (omega arith)

@@ -1,28 +1,18 @@
 -- How a run of device calls goes on.
-use Rattle.std.proofs.Common.{◌⊎◌, inl, inr, ⊎_elim, ℕ, ◌≤◌, List, arith}
+use Rattle.std.proofs.lemmas.Grind.{common_steps}
+use Rattle.std.proofs.Common.{◌⊎◌, ℕ, ◌≤◌, List, arith}
 use Rattle.sector.specs.SectorModel.{Elapses, LeavesOnly}
 
 -- nothing is called yet
 pub started : {D : Type 0} (moment : D → ℕ) (left_since : D → ℕ → List (List ℕ) → Type 0) (old : D) (P : List (List ℕ) → Type 0)
     → ((c : List (List ℕ)) → left_since old (moment old) c → P c) → LeavesOnly moment left_since old old P
-started moment left_since old P at_first = record {
-  later = omega arith;
-  each = at_first;
-  before = λ t c le left. inl left;
-}
+started moment left_since old P at_first = grind (arith, common_steps)
 
 -- a run with P, and behind it what adds only images with Q
 followed : {D : Type 0} (moment : D → ℕ) (left_since : D → ℕ → List (List ℕ) → Type 0) (old mid new : D) (P Q R : List (List ℕ) → Type 0)
     → LeavesOnly moment left_since old mid P → moment mid ≤ moment new → ((t : ℕ) (c : List (List ℕ)) → t ≤ moment mid → left_since new t c → left_since mid t c ⊎ Q c)
     → ((c : List (List ℕ)) → P c → R c) → ((c : List (List ℕ)) → Q c → R c) → LeavesOnly moment left_since old new R
-followed moment left_since old mid new P Q R run later adds p q = record {
-  later = omega (arith, run.later, later);
-  each = λ c left. ⊎_elim (λ was. p c (run.each c was)) (q c) (adds (moment old) c run.later left);
-  before = λ t c le left. elim (adds t c (omega (arith, le, run.later)) left) [
-    | inl was ↦ ⊎_elim (λ earlier. inl earlier) (λ within. inr (p c within)) (run.before t c le was)
-    | inr added ↦ inr (q c added)
-  ];
-}
+followed moment left_since old mid new P Q R run later adds p q = grind (arith, common_steps)
 
 -- one call more
 pub goes_on : {D : Type 0} (moment : D → ℕ) (left_since : D → ℕ → List (List ℕ) → Type 0) (old mid new : D) (P may_leave : List (List ℕ) → Type 0)

@@ -1,4 +1,5 @@
 -- A call of several sectors, where there is one.
+use Rattle.std.proofs.lemmas.Grind.{common_steps}
 use Rattle.std.proofs.Common.{◌≡◌, ℕ, zero, suc, ◌+◌, List, [], ◌∷◌, length, take, drop, set, refl, ap, arith}
 use Rattle.std.proofs.lemmas.List.{take_all}
 use Rattle.sector.specs.SectorModel.{FollowsWrite, FollowsWrites, sector_in}
@@ -11,12 +12,7 @@ differs_once at [] [] size before behind = ([], refl)
 differs_once at [] (y ∷ c) size before behind = absurd (omega arith)
 differs_once at (x ∷ d) [] size before behind = absurd (omega arith)
 differs_once zero (x ∷ d) (y ∷ c) size before behind = (y, ap (λ (l : List (List ℕ)). y ∷ l) behind)
-differs_once (suc at) (x ∷ d) (y ∷ c) size before behind =
-    let first : y ≡ x = cc before in
-    let further : take at c ≡ take at d = cc before in
-    let rest = differs_once at d c (omega arith) further behind in
-    let same : c ≡ set d at rest.0 = rest.1 in
-    (rest.0, cc)
+differs_once (suc at) (x ∷ d) (y ∷ c) size before behind = grind (arith, common_steps, differs_once at d c (omega arith))
 
 pub one_write : (at n : ℕ) (old new : List (List ℕ) → Type 0) → n ≡ 1 → ((c : List (List ℕ)) → new c → FollowsWrites at n old c) → FollowsWrite at old new
 one_write at n old new one follows c left =

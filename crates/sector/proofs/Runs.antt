@@ -1,5 +1,6 @@
 -- How calls of single sectors go on to a call of several.
-use Rattle.std.proofs.Common.{◌≡◌, ◌≢◌, ⊎_elim, inl, inr, ℕ, ◌<◌, ◌≤◌, ◌+◌, ◌-◌, ◌*◌, List, length, take, drop, sym, ◌∙◌, ap, subst, arith, length-set}
+use Rattle.std.proofs.lemmas.Grind.{common_steps}
+use Rattle.std.proofs.Common.{◌≡◌, ◌≢◌, inl, inr, ℕ, ◌<◌, ◌≤◌, ◌+◌, ◌-◌, ◌*◌, List, length, take, drop, sym, ◌∙◌, ap, subst, arith, length-set}
 use Rattle.std.proofs.lemmas.Bool.{cases_lt}
 use Rattle.std.proofs.lemmas.List.{take-set-le, drop-set-lt}
 use Rattle.std.proofs.lemmas.Slice.{between_is, take-put_mid_below, between-put_mid}
@@ -8,36 +9,15 @@ use Rattle.sector.specs.SectorModel.{Elapses, FollowsWrite, FollowsWrites, secto
 
 -- time goes on, and after the second run a crash leaves nothing that one after the first might not
 pub elapses_on : (m0 m1 m2 : ℕ) (s0 s1 s2 : ℕ → List (List ℕ) → Type 0) (P Q : List (List ℕ) → Type 0) → Elapses m0 m1 s0 s1 P → Elapses m1 m2 s1 s2 Q → ((c : List (List ℕ)) → Q c → P c) → Elapses m0 m2 s0 s2 P
-elapses_on m0 m1 m2 s0 s1 s2 P Q first second within = record {
-  later = omega (arith, first.later, second.later);
-  nothing_else = λ t c le left. ⊎_elim (first.nothing_else t c le) (λ now. inr (within c now)) (second.nothing_else t c (omega (arith, le, first.later)) left);
-}
+elapses_on m0 m1 m2 s0 s1 s2 P Q first second within = grind (arith, common_steps)
 
 -- one write more within these n sectors
 pub writes_on : (at n i : ℕ) (base old new : List (List ℕ) → Type 0) → at ≤ i → i < at + n → ((c : List (List ℕ)) → old c → FollowsWrites at n base c) → FollowsWrite i old new → (c : List (List ℕ)) → new c → FollowsWrites at n base c
-writes_on at n i base old new le lt so_far follows c left =
-    let from = follows c left in
-    let was = so_far from.0 from.1 in (
-      was.0,
-      was.1,
-      record {
-        size = ap (λ (l : List (List ℕ)). length l) from.2.1 ∙ length-set from.0 i from.2.0 ∙ was.2.size;
-        before = ap (λ (l : List (List ℕ)). take at l) from.2.1 ∙ take-set-le at from.0 i from.2.0 le ∙ was.2.before;
-        behind = ap (λ (l : List (List ℕ)). drop (at + n) l) from.2.1 ∙ drop-set-lt (at + n) from.0 i from.2.0 lt ∙ was.2.behind;
-      },
-    )
+writes_on at n i base old new le lt so_far follows c left = grind (arith, common_steps, length-set, take-set-le, drop-set-lt)
 
 -- one sector more reads as what was written
 pub written_more : (at k : ℕ) (old_read new_read : ℕ → List ℕ → Type 0) (want : ℕ → List ℕ) → ((j : ℕ) (s : List ℕ) → j < k → old_read (at + j) s → s ≡ want j) → ((i : ℕ) (s : List ℕ) → i ≢ at + k → new_read i s → old_read i s) → ((s : List ℕ) → new_read (at + k) s → s ≡ want k) → (j : ℕ) (s : List ℕ) → j < k + 1 → new_read (at + j) s → s ≡ want j
-written_more at k old_read new_read want so_far others here j s lt read = elim (cases_lt j k) [
-  | inl below ↦
-      let other : at + j ≢ at + k = omega arith in
-      so_far j s below (others (at + j) s other read)
-  | inr same ↦
-      let is : j ≡ k = omega arith in
-      let read_here : new_read (at + k) s = subst (λ (i : ℕ). new_read (at + i) s) is read in
-      here s read_here ∙ ap want (sym is)
-]
+written_more at k old_read new_read want so_far others here j s lt read = grind (arith, common_steps, cases_lt)
 
 -- the bytes of one sector more
 pub read_more : (may_read : ℕ → List ℕ → Type 0) (at k m : ℕ) (bytes sector : List ℕ) → m ≡ 512 → length sector ≡ 512 → 512 * k + 512 ≤ length bytes → ((j : ℕ) → j < k → may_read (at + j) (sector_in bytes j)) → may_read (at + k) sector → (j : ℕ) → j < k + 1 → may_read (at + j) (sector_in (put_mid (512 * k) m bytes sector) j)

@@ -5,8 +5,7 @@ use Rattle.std.proofs.Math.Seq.{map-set_same}
 use Rattle.std.proofs.lemmas.Grind.{common_steps}
 use Rattle.std.specs.List.{concat}
 use Rattle.sector.specs.declared.memory.Slot.{Slot}
-use Rattle.sector.specs.declared.memory.MemSectors.{MemSectors}
-use Rattle.sector.specs.Slots.{written, settled_slot, MayLeave, IsLeft, IsSettledSlot, settled_content, is_settled, HasSameSectors}
+use Rattle.sector.specs.Slots.{written, settled_slot, MayLeave, IsLeft, IsSettledSlot, settled_content, is_settled}
 use Rattle.sector.specs.SectorModel.{Settles, FollowsWrite}
 use Rattle.sector.specs.Settled.{AreSettledBefore, AreSettledFrom}
 
@@ -15,16 +14,12 @@ written-settled [] = refl
 written-settled (slot ∷ slots) = ap (λ (l : List (List ℕ)). slot.written ∷ l) (written-settled slots)
 
 pub written_at : (slots : List Slot) (at : ℕ) (slot : Slot) (s : List ℕ) → slice_get (written (set slots at slot)) at ≡ Some s → s ≡ slot.written
-written_at [] at slot s found = cc
-written_at (x ∷ slots) zero slot s found = cc
 written_at (x ∷ slots) (suc at) slot s found = written_at slots at slot s found
+written_at slots at slot s found = cc
 
 pub written_elsewhere : (slots : List Slot) (at : ℕ) (slot : Slot) (i : ℕ) → i ≢ at → slice_get (written (set slots at slot)) i ≡ slice_get (written slots) i
-written_elsewhere [] at slot i other = refl
-written_elsewhere (x ∷ slots) zero slot zero other = absurd (other refl)
-written_elsewhere (x ∷ slots) zero slot (suc i) other = refl
-written_elsewhere (x ∷ slots) (suc at) slot zero other = refl
 written_elsewhere (x ∷ slots) (suc at) slot (suc i) other = written_elsewhere slots at slot i (λ same. other (ap suc same))
+written_elsewhere slots at slot i other = grind (arith, common_steps)
 
 pub unsettled : (slots : List Slot) (at : ℕ) (slot : Slot) → FollowsWrite at (MayLeave slots) (MayLeave (set slots at slot))
 unsettled [] at slot [] left = ([], left, ([], refl))
@@ -46,14 +41,10 @@ pub only_written : (slots : List Slot) (c : List (List ℕ)) → MayLeave (map s
 only_written [] [] left = refl
 only_written [] (s ∷ c) left = absurd left
 only_written (slot ∷ slots) [] left = absurd left
-only_written (slot ∷ slots) (s ∷ c) left =
-    let here : s ≡ slot.written = left.0 refl in
-    let rest : c ≡ written slots = only_written slots c left.1 in
-    cc
+only_written (slot ∷ slots) (s ∷ c) left = grind (arith, common_steps, only_written slots c left.1)
 
 pub length-written : (slots : List Slot) → length (written slots) ≡ length slots
-length-written [] = refl
-length-written (slot ∷ slots) = ap suc (length-written slots)
+length-written slots = grind (arith, common_steps)
 
 -- a sync of these slots
 pub settles : (old new : List Slot) → new ≡ map settled_slot old → Settles (length new) (λ i s. slice_get (written old) i ≡ Some s) (λ i s. slice_get (written new) i ≡ Some s) (MayLeave old) (MayLeave new)
@@ -73,26 +64,20 @@ settles old new is = record {
 
 -- leaves no more than before
 pub fewer : (old : List Slot) (c : List (List ℕ)) → MayLeave (map settled_slot old) c → MayLeave old c
-fewer old c left =
-    let is : c ≡ written old = only_written old c left in
-    rw is (was_left old)
+fewer old c left = grind (arith, common_steps, only_written, was_left)
 
 -- a crash makes of each sector what it may
 pub crashed : (old new : List Slot) → length new ≡ length old → ((k : ℕ) (d : Slot) → k < length old → IsLeft (get_or old k d) (get_or new k d)) → MayLeave old (written new)
-crashed [] [] same each = tt
-crashed [] (y ∷ new) same each = absurd (omega arith)
-crashed (x ∷ old) [] same each = absurd (omega arith)
 crashed (x ∷ old) (y ∷ new) same each =
     ((each 0 x (omega arith)).1, crashed old new (omega arith) (λ k d lt. each (suc k) d (omega arith)))
+crashed old new same each = grind (arith, common_steps)
 
 pub written-push : (slots : List Slot) (slot : Slot) → written (slots ++ slot ∷ []) ≡ written slots ++ slot.written ∷ []
-written-push [] slot = refl
-written-push (x ∷ slots) slot = ap (λ (l : List (List ℕ)). x.written ∷ l) (written-push slots slot)
+written-push slots slot = grind (arith, common_steps)
 
 pub concat-push : (xss : List (List ℕ)) (xs rest : List ℕ) → concat (xss ++ xs ∷ []) ++ rest ≡ concat xss ++ (xs ++ rest)
 concat-push [] xs rest = rw append-nil
-concat-push (x ∷ xss) xs rest =
-    append_assoc x (concat (xss ++ xs ∷ [])) rest ∙ ap (λ (l : List ℕ). x ++ l) (concat-push xss xs rest) ∙ sym (append_assoc x (concat xss) (xs ++ rest))
+concat-push (x ∷ xss) xs rest = grind (arith, common_steps, append_assoc, concat-push xss xs rest)
 
 pub taken_in : (slots : List Slot) (slot : Slot) (rest image : List ℕ) → slot.written ≡ take 512 rest → concat (written slots) ++ rest ≡ image → concat (written (slots ++ slot ∷ [])) ++ drop 512 rest ≡ image
 taken_in slots slot rest image is so_far =
@@ -106,15 +91,11 @@ pub all_settled-push : (slots : List Slot) (slot : Slot) → All IsSettledSlot s
 all_settled-push slots slot settled is = grind (arith, common_steps)
 
 pub blank-push : (slots : List Slot) (slot : Slot) (n : ℕ) → written slots ≡ replicate n (replicate 512 0) → slot.written ≡ replicate 512 0 → written (slots ++ slot ∷ []) ≡ replicate (n + 1) (replicate 512 0)
-blank-push slots slot n so_far is =
-    written-push slots slot ∙ ap (λ (l : List (List ℕ)). l ++ slot.written ∷ []) so_far
-    ∙ ap (λ (s : List ℕ). replicate n (replicate 512 0) ++ s ∷ []) is
-    ∙ replicate-append-replicate n 1 (replicate 512 0)
+blank-push slots slot n so_far is = grind (arith, common_steps, written-push, replicate-append-replicate)
 
 pub all_settled : (slots : List Slot) → All IsSettledSlot (map settled_slot slots)
-all_settled [] k d lt = absurd (omega (arith, lt))
-all_settled (slot ∷ slots) zero d lt = refl
 all_settled (slot ∷ slots) (suc k) d lt = all_settled slots k d (omega (arith, lt))
+all_settled slots k d lt = grind (arith, common_steps)
 
 -- what a write leaves
 pub content_after : (old slots : List Slot) (at : ℕ) (slot : Slot) → slots ≡ old → written (set slots at slot) ≡ set (written old) at slot.written
@@ -132,12 +113,11 @@ settled-same : (slot : Slot) → slot.settled ≡ None → settled_slot slot ≡
 settled-same slot e = λ i. record slot { settled = sym e i }
 
 pub settled-front : (n : ℕ) (slots : List Slot) → AreSettledBefore n slots → map settled_slot (take n slots) ++ drop n slots ≡ slots
-settled-front zero slots h = refl
-settled-front (suc n) [] h = refl
 settled-front (suc n) (slot ∷ slots) h =
     let rest = settled-front n slots (λ k d lt before. h (suc k) d (omega arith) (omega arith)) in
     let here = settled-same slot (h 0 slot (omega arith) (omega arith)) in
     λ i. here i ∷ rest i
+settled-front n slots h = refl
 
 settled-all : (slots : List Slot) → AreSettledFrom 0 slots → slots ≡ map settled_slot slots
 settled-all [] h = refl
@@ -147,8 +127,7 @@ settled-all (slot ∷ slots) h =
     λ i. sym here i ∷ rest i
 
 pub settled-back : (n : ℕ) (slots : List Slot) → AreSettledFrom n slots → map settled_slot (take n slots) ++ drop n slots ≡ map settled_slot slots
-settled-back zero slots h = settled-all slots h
-settled-back (suc n) [] h = refl
 settled-back (suc n) (slot ∷ slots) h =
     let rest = settled-back n slots (λ k d lt from. h (suc k) d (omega arith) (omega arith)) in
     ap (λ (l : List Slot). settled_slot slot ∷ l) rest
+settled-back n slots h = grind (arith, common_steps, settled-all)
