@@ -193,8 +193,8 @@ impl Committed {
         ensures oldest { self.new.facts.oldest ≡ self.old.facts.oldest }
         ensures last { self.new.facts.last ≡ self.old.facts.last }
     {
-        open_last(&mut self.runs);
-        move_runs(&mut self.runs, most);
+        open_last(&mut self.runs, self.oldest);
+        move_runs(&mut self.runs, self.oldest, most);
     }
 
     /// Keeps what the check needs of the transaction, which commits as number `n`, the next one; what `Verdict::Clear` said of its
