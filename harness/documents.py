@@ -347,7 +347,7 @@ def sealed(tally):
         ("file_calls", "sector", "error|read|write|sync|make|open|open_to_read|length|settle_name|drop_copies",
             [f"counted/CountedFile/{name}" for name in ("read", "write", "write_zeros", "sync", "sync_all")]
             + [f"opened/OpenedFile/{name}" for name in ("make", "open", "open_to_read", "length", "settle_name", "drop_copies")]),
-        ("socket_calls", "event_loop", "receive|send", [f"counted/CountedSocket/{name}" for name in ("read", "write")]),
+        ("socket_calls", "event_loop", "receive|send|send_at_once", [f"counted/CountedSocket/{name}" for name in ("read", "write", "send_at_once")]),
     ):
         with tally.run(f"the lemmas of HappenedCalls in {crate}"):
             users = [line.partition(":")[0] for line in text_of("crates.txt").splitlines() if re.search(rf":.*\b{crate}\b", line)]

@@ -1,10 +1,10 @@
 -- One call of a socket, under the premise that sockets tell the bytes that they move.
-use Rattle.std.proofs.Common.{◌≡◌, ◌≢◌, inl, inr, ℕ, ◌-◌, ◌^◌, List, [], ◌∷◌, ◌++◌, map, take, refl, Option, Result, Ok, Err, IfOk, IfSome, IsErr, sym, ap, subst, ◌∙◌}
+use Rattle.std.proofs.Common.{◌≡◌, ◌≢◌, inl, inr, ℕ, ◌-◌, ◌^◌, List, [], ◌∷◌, ◌++◌, map, take, refl, Option, Some, None, Result, Ok, Err, IfOk, IfSome, IsErr, OnOk, sym, ap, subst, ◌∙◌}
 use Rattle.std.proofs.lemmas.Bool.{cases_eq}
 use Rattle.std.proofs.lemmas.List.{append-nil, map-append}
 use Rattle.std.specs.Result.{result_ok}
 use Rattle.socket_calls.specs.OpenFacts.{departed, given, latest, moved, next, taken}
-use Rattle.socket_calls.specs.HappenedCalls.{WasReceived, WasSent}
+use Rattle.socket_calls.specs.HappenedCalls.{SendsAtOnce, WasReceived, WasSent}
 use Rattle.socket_calls.specs.declared.counted.CountedSocket.{CountedSocket}
 use Rattle.stream_driver.specs.declared.answers.ReadAnswer.{ReadAnswer}
 use Rattle.stream_driver.specs.declared.answers.WriteAnswer.{WriteAnswer}
@@ -89,6 +89,11 @@ module _ {E : Type 0} (old mid new : CountedSocket) (bytes : List ℕ) (outcome 
 
 -- a stream that was made for a new connection
 pub prepared : {E : Type 0} (inner : Socket) (made : Result (BufferedStream Socket) E) (result : Option (BufferedStream Socket)) → result ≡ result_ok made → IfOk made (λ b. IsNew inner b) → IsUncalled SocketsTell (traffic_of inner)
-    → IfSome result IsNewSocket
-prepared inner (Ok b) result is new uncalled = subst (λ o. IfSome o IsNewSocket) (sym is) (inner, uncalled, new)
-prepared inner (Err e) result is new uncalled = subst (λ o. IfSome o IsNewSocket) (sym is) tt
+    → SendsAtOnce inner.socket → IfSome result IsNewSocket
+prepared inner (Ok b) result is new uncalled at_once = subst (λ o. IfSome o IsNewSocket) (sym is) (inner, uncalled, new, at_once)
+prepared inner (Err e) result is new uncalled at_once = subst (λ o. IfSome o IsNewSocket) (sym is) tt
+
+-- a call agreed
+pub agreed : {A E : Type 0} (answer : Result A E) (a : A) (P : Type 0) → Some a ≡ result_ok answer → OnOk answer P → P
+agreed (Ok x) a P is agrees = agrees
+agreed (Err e) a P is agrees = absurd (let bad : Some a ≡ None = is in cc)

@@ -1,7 +1,7 @@
 -- The premise that sockets tell the bytes that they move, over the open facts of a connection and the calls that were really made of it.
 use Rattle.std.specs.Prelude.{◌≡◌, ℕ, List, [], ◌∷◌, ◌++◌, map}
 use Rattle.socket_calls.specs.OpenFacts.{departed, given, taken, next}
-use Rattle.socket_calls.specs.HappenedCalls.{WasReceived, WasSent}
+use Rattle.socket_calls.specs.HappenedCalls.{SendsAtOnce, WasReceived, WasSent}
 use Rattle.socket_calls.specs.declared.counted.CountedSocket.{CountedSocket}
 use Rattle.stream_driver.specs.declared.buffered.BufferedStream.{BufferedStream}
 use Rattle.stream_driver.specs.Buffers.{IsNew}
@@ -33,6 +33,6 @@ traffic_of s = record {
   last = s.last;
 }
 
--- the stream of a connection of which no call was made, and of which nothing is held
+-- the stream of a connection of which no call was made, of which nothing is held, and which sends what it takes at once
 abbrev pub IsNewSocket : BufferedStream Socket → Type 0
-IsNewSocket b = (inner : Socket) × IsUncalled SocketsTell (traffic_of inner) × IsNew inner b
+IsNewSocket b = (inner : Socket) × IsUncalled SocketsTell (traffic_of inner) × IsNew inner b × SendsAtOnce inner.socket

@@ -164,8 +164,8 @@ pub fn accept_some<D: Sectors, L: Listener>(
     Backlog::Full
 }
 
-// The stream of a connection under this number, of which the poll tells under this key. No call was made of it. None where memory,
-// registration or a socket's option is refused.
+// The stream of a connection under this number, of which the poll tells under this key. It wasn't read or written, and sends what it takes
+// at once. None where memory, registration or a socket's option is refused.
 fn prepare(
     alloc: Global,
     poll: &Poll,
@@ -176,11 +176,12 @@ fn prepare(
     ensures { IfSome result IsNewSocket }
 {
     let interest = Interest::READABLE | Interest::WRITABLE | Interest::PRIORITY;
-    stream.set_nodelay(true).ok()?;
     poll.registry()
         .register(&mut stream, Token(key), interest)
         .ok()?;
-    BufferedStream::new(alloc, Socket::new(stream, number)).ok()
+    let socket = Socket::new(stream, number);
+    socket.send_at_once().ok()?;
+    BufferedStream::new(alloc, socket).ok()
 }
 
 // A place in the table for the stream of a connection under this number. None where memory, registration or a socket's option is refused.

@@ -29,6 +29,8 @@ pub struct Socket {
 
 impl Socket {
     ghost use Rattle.stream_driver.specs.Traffic.{EndsWith, IsUncalled};
+    ghost use Rattle.std.specs.Prelude.{OnOk};
+    ghost use Rattle.socket_calls.specs.HappenedCalls.{SendsAtOnce};
     ghost use Rattle.event_loop.specs.Lingerings.{IsInOrder};
     ghost use Rattle.event_loop.specs.Sockets.{SocketsTell, traffic_of};
 
@@ -45,6 +47,13 @@ impl Socket {
             write_failed: 0,
             last: None,
         }
+    }
+
+    /// Has the system send what a write takes at once. Answers the system's error.
+    pub(crate) fn send_at_once(&self) -> io::Result<()>
+        ensures { OnOk result (SendsAtOnce self.now.socket) }
+    {
+        self.socket.send_at_once()
     }
 
     /// Has no call failed, and no read ended?

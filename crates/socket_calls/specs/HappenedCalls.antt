@@ -11,6 +11,10 @@ WasReceived socket bytes = Unit {0}
 pub WasSent : CountedSocket → List ℕ → ℕ → Type 0
 WasSent socket bytes moment = Unit {0}
 
+-- the system was asked to send what a write takes at once, whatever is still to be acknowledged (TCP_NODELAY), and agreed
+pub SendsAtOnce : CountedSocket → Type 0
+SendsAtOnce socket = Unit {0}
+
 pub real_receive : (socket : CountedSocket) (bytes : List ℕ) → WasReceived socket bytes
 unfolding WasReceived
 real_receive socket bytes = tt
@@ -18,3 +22,7 @@ real_receive socket bytes = tt
 pub real_send : (socket : CountedSocket) (bytes : List ℕ) (moment : ℕ) → WasSent socket bytes moment
 unfolding WasSent
 real_send socket bytes moment = tt
+
+pub real_send_at_once : (socket : CountedSocket) → SendsAtOnce socket
+unfolding SendsAtOnce
+real_send_at_once socket = tt

@@ -19,6 +19,8 @@ pub struct CountedSocket {
 }
 
 impl CountedSocket {
+    ghost use Rattle.std.specs.Prelude.{OnOk};
+    ghost use Rattle.socket_calls.specs.HappenedCalls.{SendsAtOnce};
     ghost use Rattle.socket_calls.specs.HappenedCalls.{WasReceived, WasSent};
     ghost use Rattle.socket_calls.specs.OpenFacts.{moved, next};
 
@@ -31,6 +33,14 @@ impl CountedSocket {
             connection,
             calls: 0,
         }
+    }
+
+    /// Has the system send what a write takes at once, also where something is still to be acknowledged (TCP_NODELAY). Answers the system's
+    /// error. It is no counted call.
+    pub fn send_at_once(&self) -> io::Result<()>
+        ensures { OnOk result (SendsAtOnce self.now) }
+    {
+        self.stream.set_nodelay(true)
     }
 
     /// Reads some bytes, and says how many. Answers the system's error. Takes no memory.
