@@ -12,9 +12,6 @@ use std::test::Fail;
 /// How many keys of one byte the plain list has.
 const KEYS: u8 = 48;
 
-/// More runs than a thousand commits of one key each leave at any time.
-const RUNS_MAX: usize = 16;
-
 // The last readers after some commits, and the number of the last of these.
 #[derive(Drop)]
 struct Commits {
@@ -131,20 +128,6 @@ fn many_commits_beside_a_plain_list(rt: HostRuntime) -> Result<(), Fail> {
             "commit {number}"
         );
     }
-    Ok(())
-}
-
-/// Runs stay few, and no memory for a merge was refused. No clause says so: a body that counts a refusal where it asked for no memory is proved.
-#[test]
-fn runs_stay_few(rt: HostRuntime) -> Result<(), Fail> {
-    let mut commits = Commits::new(rt.alloc());
-    for i in 0..1_000_u16 {
-        let mut marks = Marks::new(rt.alloc());
-        mark(&mut marks, 5, &i.to_be_bytes(), b"z")?;
-        let number = commits.commit(&marks)?;
-        assert!(rt; commits.readers.runs() <= RUNS_MAX, "commit {number}");
-    }
-    assert!(rt; commits.readers.runs() > 0 && commits.readers.refused() == 0);
     Ok(())
 }
 
