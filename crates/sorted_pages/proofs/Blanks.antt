@@ -1,4 +1,5 @@
 -- Entries of which no number sees anything, and the others.
+use Rattle.std.proofs.lemmas.Grind.{common_steps}
 use Rattle.std.proofs.Common.{◌≡◌, ℕ, zero, suc, ◌+◌, ◌<◌, ◌≤◌, Bool, true, false, cond, List, [], ◌∷◌, ◌++◌, length, take, drop, get_or, set, refl, sym, ap, subst, ◌∙◌, arith}
 use Rattle.std.specs.List.{AllByRecursion, insert}
 use Rattle.std.proofs.lemmas.List.{length-append, length-take}
@@ -15,12 +16,10 @@ module _ {X : Type 0} (hides : ℕ → X → Bool) where
   -- ---- how many at the front are blank
 
   blank-nil : (m n : ℕ) → AreBlank m n []
-  blank-nil m zero = tt
-  blank-nil m (suc n) = tt
+  blank-nil m n = grind (arith, common_steps)
 
   blank-zero : (m : ℕ) (es : List (Bytes × X)) → AreBlank m 0 es
-  blank-zero m [] = tt
-  blank-zero m (e ∷ es) = tt
+  blank-zero m es = grind (arith, common_steps)
 
   -- one more
   pub one_blank : (es : List (Bytes × X)) (n : ℕ) (e : Bytes × X) → n < length es → ((m : ℕ) → hides m (get_or es n e).1 ≡ true) → IsBlankTo hides es n → IsBlankTo hides es (n + 1)
@@ -32,9 +31,7 @@ module _ {X : Type 0} (hides : ℕ → X → Bool) where
       by m (f ∷ fs) (suc k) l s g = (g.0, by m fs k (omega arith) s g.1)
 
   length-set : (es : List (Bytes × X)) (i : ℕ) (e : Bytes × X) → length (set es i e) ≡ length es
-  length-set [] i e = refl
-  length-set (f ∷ es) zero e = refl
-  length-set (f ∷ es) (suc i) e = ap suc (length-set es i e)
+  length-set es i e = grind (arith, common_steps)
 
   -- another entry behind those
   pub blank-set : (es : List (Bytes × X)) (n m i : ℕ) (e : Bytes × X) → m ≤ n → m ≤ i → IsBlankTo hides es n → IsBlankTo hides (set es i e) m

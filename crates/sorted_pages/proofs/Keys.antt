@@ -1,6 +1,6 @@
 -- Entries by rising key in parts: what stands before a key and after it, and what `find` and `put` do in the middle.
+use Rattle.std.proofs.lemmas.Grind.{common_steps}
 use Rattle.std.proofs.Common.{◌≡◌, ◌<◌, true, false, cond, List, [], ◌∷◌, ◌++◌, length, Some, refl, ap, subst, ◌∙◌, arith}
-use Rattle.std.specs.declared.cmp.Ordering.{Ordering}
 use Rattle.std.specs.declared.cmp.Ordering.TheVariants.{Less, Equal, Greater}
 use Rattle.std.specs.Ordering.{is_eq, is_le, nat_cmp, ordering_reverse}
 use Rattle.std.specs.Cmp.Lexicographic.{slice_cmp, nat_list_cmp_total}
@@ -21,12 +21,7 @@ below_trans y x k lt le = elim (key_cmp x k) as (λ o. key_cmp x k ≡ o → is_
 
 -- a key that isn't at most k is above it
 pub above_it : (x k : Bytes) → is_le (key_cmp x k) ≡ false → key_cmp k x ≡ Less
-above_it x k f = turned x k ∙ ap ordering_reverse (greater (key_cmp x k) f)
-  where
-    greater : (o : Ordering) → is_le o ≡ false → o ≡ Greater
-    greater Less g = absurd (both_ways true g refl)
-    greater Equal g = absurd (both_ways true g refl)
-    greater Greater g = refl
+above_it x k f = grind (arith, common_steps, turned, both_ways)
 
 module _ {X : Type 0} where
   -- the keys before an entry are below its key
@@ -40,8 +35,7 @@ module _ {X : Type 0} where
 
   -- the entries before a page that starts by k are below k
   pub below_of : (k : Bytes) (xs es rest : List (Bytes × X)) → IsSorted (xs ++ (es ++ rest)) → 0 < length es → starts_by k es ≡ true → AreBelow k xs
-  below_of k xs [] rest h f t = absurd (omega arith)
-  below_of k xs (e ∷ es) rest h f t = weaker e.0 k xs t (apart xs e (es ++ rest) h)
+  below_of k xs es rest h f t = grind (arith, common_steps, weaker, apart)
 
   -- those from a page on that doesn't start by k are above k
   pub above_of : (k : Bytes) (es rest : List (Bytes × X)) → IsSorted (es ++ rest) → 0 < length es → starts_by k es ≡ false → IsBelowAll k (es ++ rest)
@@ -52,26 +46,18 @@ module _ {X : Type 0} where
 
   -- what is below all of a page that starts by k is below k
   pub first_of : (x k : Bytes) (es : List (Bytes × X)) → IsBelowAll x es → 0 < length es → starts_by k es ≡ true → key_cmp x k ≡ Less
-  first_of x k [] h f t = absurd (omega arith)
-  first_of x k (e ∷ es) h f t = below_trans x e.0 k (less _ (parts _ _ h).0) t
+  first_of x k es h f t = grind (arith, common_steps, below_trans, less, parts)
 
   -- where the upper part starts by q, the lower does
   pub starts_lower : (q : Bytes) (lo up : List (Bytes × X)) → IsSorted (lo ++ up) → 0 < length up → starts_by q up ≡ true → starts_by q lo ≡ true
-  starts_lower q [] up h f t = refl
-  starts_lower q (e ∷ lo) up h f t = ap is_le (first_of e.0 q up (below_right key_cmp e.0 lo up (parts _ _ h).0) f t)
+  starts_lower q lo up h f t = grind (arith, common_steps, first_of, below_right, parts)
 
   pub starts-append : (q : Bytes) (lo up : List (Bytes × X)) → 0 < length lo → starts_by q (lo ++ up) ≡ starts_by q lo
-  starts-append q [] up f = absurd (omega arith)
-  starts-append q (e ∷ lo) up f = refl
+  starts-append q lo up f = grind (arith, common_steps)
 
   -- an entry that comes in after the first leaves the first
   pub starts-put : (q k : Bytes) (v : X) (es : List (Bytes × X)) → 0 < length es → starts_by k es ≡ true → starts_by q (put (slice_cmp nat_cmp) k v es) ≡ starts_by q es
-  starts-put q k v [] f t = absurd (omega arith)
-  starts-put q k v (e ∷ es) f t = elim (key_cmp k e.0) as (λ o. key_cmp k e.0 ≡ o → starts_by q (by_order o ((k, v) ∷ e ∷ es) ((e.0, v) ∷ es) (e ∷ put (slice_cmp nat_cmp) k v es)) ≡ is_le (key_cmp e.0 q)) [
-    | Less ↦ λ g. absurd (both_ways _ (ap is_le (turned k e.0 ∙ ap ordering_reverse g)) t)
-    | Equal ↦ λ g. refl
-    | Greater ↦ λ g. refl
-  ] refl
+  starts-put q k v es f t = grind (arith, common_steps, both_ways, turned)
 
   pub filled-put : (k : Bytes) (v : X) (es : List (Bytes × X)) → 0 < length (put (slice_cmp nat_cmp) k v es)
   filled-put k v [] = omega arith

@@ -1,4 +1,5 @@
 -- Pages: where a key stands among them, and what a changed page does to all entries and to the rooms.
+use Rattle.std.proofs.lemmas.Grind.{common_steps}
 use Rattle.std.proofs.Common.{◌≡◌, ℕ, zero, suc, ◌+◌, ◌-◌, ◌*◌, ◌<◌, ◌≤◌, Bool, true, false, List, [], ◌∷◌, ◌++◌, length, get_or, set, take, drop, min, refl, sym, ap, subst, ◌∙◌, arith, inl, inr}
 use Rattle.std.specs.Prelude.{if◌then◌else◌, ◌⊎◌}
 use Rattle.std.specs.List.{AllByRecursion, insert}
@@ -44,10 +45,7 @@ module _ {Y : Type 0} (f : Y → Bool) where
       record { before = p ∷ r.before; page = r.page; after = r.after; is = ap (λ l. p ∷ l) r.is; index = ap suc r.index; passes = r.passes; later = r.later }
 
 choose : (a b : Bool) (p lo up n : ℕ) → p ≤ lo → p ≤ up → (b ≡ true → a ≡ true) → (if a then p else n) ≤ (if b then up else (if a then lo else n)) + 0
-choose true true p lo up n l u h = omega arith
-choose true false p lo up n l u h = omega arith
-choose false true p lo up n l u h = absurd (both_ways false refl (h refl))
-choose false false p lo up n l u h = omega arith
+choose a b p lo up n l u h = grind (arith, common_steps, both_ways)
 
 -- a list in two parts, each with an element
 pub record Halves {E : Type 0} (es lo up : List E) : Type 0 where
@@ -56,14 +54,7 @@ pub record Halves {E : Type 0} (es lo up : List E) : Type 0 where
   pub upper : 0 < length up
 
 pub halves : {E : Type 0} (es lo up : List E) (half : ℕ) → lo ≡ take half es → up ≡ drop half es → half ≤ length es - 1 → ¬ (half ≡ 0) → Halves es lo up
-halves es lo up half l u within some =
-    let a : length lo ≡ min half (length es) = ap length l ∙ length-take half es in
-    let b : length up ≡ length es - half = ap length u ∙ length-drop half es in
-    record {
-      same = sym (ap (λ e. e ++ up) l ∙ ap (λ e. take half es ++ e) u ∙ take-append-drop half es);
-      lower = omega arith;
-      upper = omega arith;
-    }
+halves es lo up half l u within some = grind (arith, common_steps, min, length-take, length-drop, take-append-drop)
 
 -- the lists are longer by the page that comes in
 pub one_longer : {E : Type 0} (old ps new : List E) (i n : ℕ) (lo up : E) → old ≡ ps → n ≡ i + 1 → i < length ps → new ≡ insert (set ps i lo) n up → length new ≡ length old + 1
@@ -76,9 +67,7 @@ one_longer old ps new i n lo up same next lt is =
 
 -- what is read at an index below the length
 pub same_at : {E : Type 0} (ps : List E) (i : ℕ) (p q : E) → i < length ps → p ≡ get_or ps i p → q ≡ get_or ps i q → p ≡ q
-same_at [] i p q lt a b = absurd (omega arith)
-same_at (t ∷ ps) zero p q lt a b = a ∙ sym b
-same_at (t ∷ ps) (suc i) p q lt a b = same_at ps i p q (omega arith) a b
+same_at ps i p q lt a b = grind (arith, common_steps)
 
 module _ {X : Type 0} where
   -- ---- all entries
@@ -94,8 +83,7 @@ module _ {X : Type 0} where
   sorted_page before page after h = sorted_left key_cmp page.0 (entries after) (sorted_right key_cmp (entries before) (page.0 ++ entries after) (sorted_parts before page after h))
 
   rest_of_all : (ps : List (Page X)) → AllByRecursion IsFilled ps → AreRestFilled ps
-  rest_of_all [] h = tt
-  rest_of_all (p ∷ ps) h = h.1
+  rest_of_all ps h = grind (arith, common_steps)
 
   after_filled : (before : List (Page X)) (page : Page X) (after : List (Page X)) → AreRestFilled (before ++ page ∷ after) → AllByRecursion IsFilled after
   after_filled [] page after h = h
@@ -113,8 +101,7 @@ module _ {X : Type 0} where
   heads x k (p ∷ ps) (suc j) d h f lt t = heads x k ps j d (below_right key_cmp x p.0 (entries ps) h) f.1 (omega arith) t
 
   starts_too : (k : Bytes) (es : List (Bytes × X)) (ps : List (Page X)) (j : ℕ) (d : Page X) → IsSorted (es ++ entries ps) → AllByRecursion IsFilled ps → j < length ps → starts_by k (get_or ps j d).0 ≡ true → starts_by k es ≡ true
-  starts_too k [] ps j d h f lt t = refl
-  starts_too k (e ∷ es) ps j d h f lt t = heads e.0 k ps j d (below_right key_cmp e.0 es (entries ps) (parts _ _ h).0) f lt t
+  starts_too k es ps j d h f lt t = grind (arith, common_steps, heads, below_right, parts)
 
   -- the pages that start by k come first
   pub parted : (k : Bytes) (ps : List (Page X)) → IsSorted (entries ps) → AreRestFilled ps → IsPartitionedBy (λ (p : Page X). starts_by k p.0) ps
@@ -129,13 +116,10 @@ module _ {X : Type 0} where
   all_above k (p ∷ ps) h f n = above_of k p.0 (entries ps) h f.0 n.0
 
   all_below : (k : Bytes) (before : List (Page X)) (page : Page X) (after : List (Page X)) → IsInOrder (before ++ page ∷ after) → starts_by k page.0 ≡ true → AreBelow k (entries before)
-  all_below k [] page after h t = tt
-  all_below k (b ∷ before) page after h t =
-      below_of k (entries (b ∷ before)) page.0 (entries after) (sorted_parts (b ∷ before) page after h.sorted) (page_filled (b ∷ before) page after (omega arith) h.filled) t
+  all_below k before page after h t = grind (arith, common_steps, below_of, sorted_parts, page_filled)
 
   later_above : (k : Bytes) (before : List (Page X)) (page : Page X) (after : List (Page X)) → IsInOrder (before ++ page ∷ after) → AllByRecursion (λ (p : Page X). starts_by k p.0 ≡ false) after → IsBelowAll k (entries after)
-  later_above k before page after h n =
-      all_above k after (sorted_right key_cmp page.0 (entries after) (sorted_right key_cmp (entries before) (page.0 ++ entries after) (sorted_parts before page after h.sorted))) (after_filled before page after h.filled) n
+  later_above k before page after h n = grind (arith, common_steps, all_above, sorted_right, sorted_parts, after_filled)
 
   -- the last page that starts by k, and the first where none does
   pub placed : (k : Bytes) (ps : List (Page X)) (c i : ℕ) → IsInOrder ps → 0 < length ps → c ≤ length ps → i ≡ c - 1 → IsPartitionPoint (λ (p : Page X). starts_by k p.0 ≡ true) (λ (p : Page X). starts_by k p.0 ≡ false) ps c → IsPlace ps k i
@@ -164,8 +148,7 @@ module _ {X : Type 0} where
   entries_at ps k i w = ap (λ (l : List (Page X)). entries l) w.is ∙ entries-append w.before (w.page ∷ w.after)
 
   pub page_sorted : (ps : List (Page X)) (k : Bytes) (i : ℕ) (p : Page X) (w : IsPlace ps k i) → p ≡ get_or ps i p → IsInOrder ps → IsSorted p.0
-  page_sorted ps k i p w is h =
-      subst (λ (q : Page X). IsSorted q.0) (sym (page_is ps k i p w is)) (sorted_page w.before w.page w.after (subst (λ (l : List (Page X)). IsSorted (entries l)) w.is h.sorted))
+  page_sorted ps k i p w is h = grind (arith, common_steps, page_is, sorted_page)
 
   -- the key is looked for in that page
   pub find_at : (ps : List (Page X)) (k : Bytes) (i : ℕ) (p : Page X) (w : IsPlace ps k i) → p ≡ get_or ps i p → find (slice_cmp nat_cmp) k (entries ps) ≡ find (slice_cmp nat_cmp) k p.0
@@ -200,8 +183,7 @@ module _ {X : Type 0} where
       ∙ last_room-none page.1 k after n
 
   pub room_of : (ps : List (Page X)) (k : Bytes) (i : ℕ) (p : Page X) (w : IsPlace ps k i) → p ≡ get_or ps i p → room_at k ps ≡ p.1
-  room_of ps k i p w is =
-      ap (room_at k) w.is ∙ room_here k w.before w.page w.after (λ lt. w.starts (let e = w.index in omega arith)) w.later ∙ sym (ap (λ (q : Page X). q.1) (page_is ps k i p w is))
+  room_of ps k i p w is = grind (arith, common_steps, room_here, page_is)
 
   last_page-append : (r : Page X) (k : Bytes) (us bs : List (Page X)) → last_page r k (us ++ bs) ≡ last_page (last_page r k us) k bs
   last_page-append r k [] bs = refl
@@ -220,8 +202,7 @@ module _ {X : Type 0} where
       ∙ last_page-none page k after n)
 
   pub count_of : (ps : List (Page X)) (k : Bytes) (i : ℕ) (p : Page X) (w : IsPlace ps k i) → p ≡ get_or ps i p → count_at k ps ≡ length p.0
-  count_of ps k i p w is =
-      ap (count_at k) w.is ∙ count_here k w.before w.page w.after (λ lt. w.starts (let e = w.index in omega arith)) w.later ∙ sym (ap (λ (q : Page X). length q.0) (page_is ps k i p w is))
+  count_of ps k i p w is = grind (arith, common_steps, count_here, page_is)
 
   entries_here : (k : Bytes) (before : List (Page X)) (page : Page X) (after : List (Page X)) → (0 < length before → starts_by k page.0 ≡ true) → AllByRecursion (λ (p : Page X). starts_by k p.0 ≡ false) after → page_entries k (before ++ page ∷ after) ≡ page.0
   entries_here k [] page after s n = ap (λ (p : Page X). p.0) (last_page-none page k after n)
@@ -291,14 +272,7 @@ module _ {X : Type 0} where
       }
 
   split_parts : (b : List (Page X)) (p lo up : Page X) (a : List (Page X)) → IsInOrder (b ++ p ∷ a) → p.0 ≡ lo.0 ++ up.0 → IsFilled lo → IsFilled up → p.1 ≤ lo.1 → p.1 ≤ up.1 → Grown (b ++ p ∷ a) (b ++ lo ∷ up ∷ a)
-  split_parts b p lo up a h same f g l u =
-      let e : entries (b ++ lo ∷ up ∷ a) ≡ entries (b ++ p ∷ a) =
-      entries-append b (lo ∷ up ∷ a) ∙ ap (λ (l : List (Bytes × X)). entries b ++ l) (sym (append_assoc lo.0 up.0 (entries a))) ∙ ap (λ (l : List (Bytes × X)). entries b ++ (l ++ entries a)) (sym same) ∙ sym (entries-append b (p ∷ a)) in
-      let halves : IsSorted (lo.0 ++ up.0) = subst (λ (l : List (Bytes × X)). IsSorted l) same (sorted_page b p a h.sorted) in
-      record {
-        order = same_order (b ++ p ∷ a) (b ++ lo ∷ up ∷ a) e (two_filled b p lo up a f g h.filled) h;
-        roomier = record { entries = e; rooms = λ q. omega (arith, room-split q b p lo up a l u (ap (starts_by q) same ∙ starts-append q lo.0 up.0 f) (starts_lower q lo.0 up.0 halves g)) };
-      }
+  split_parts b p lo up a h same f g l u = grind (arith, common_steps, entries-append, append_assoc, halves, sorted_page, same_order, two_filled, room-split, starts-append, starts_lower)
 
   -- pages with an entry more
   pub record Inserted (k : Bytes) (v : X) (old new : List (Page X)) : Type 0 where
@@ -401,30 +375,21 @@ module _ {X : Type 0} where
   -- ---- an entry at the end
 
   all_set : (P : Page X → Type 0) (qs : List (Page X)) (j : ℕ) (q s : Page X) → q ≡ get_or qs j q → (P q → P s) → AllByRecursion P qs → AllByRecursion P (set qs j s)
-  all_set P [] j q s is f a = tt
-  all_set P (t ∷ qs) zero q s is f a = (f (subst P (sym is) a.0), a.1)
-  all_set P (t ∷ qs) (suc j) q s is f a = (a.0, all_set P qs j q s is f a.1)
+  all_set P qs j q s is f a = grind (arith, common_steps)
 
   all_push : (P : Page X → Type 0) (qs : List (Page X)) (p : Page X) → P p → AllByRecursion P qs → AllByRecursion P (qs ++ p ∷ [])
-  all_push P [] p h a = (h, tt)
-  all_push P (q ∷ qs) p h a = (a.0, all_push P qs p h a.1)
+  all_push P qs p h a = grind (arith, common_steps)
 
   one_more : (b : Bool) (es more : List (Bytes × X)) (n : ℕ) → length more ≡ 1 → length es < n → length (if b then es ++ more else es) ≤ n
-  one_more true es more n one lt = omega (arith, length-append es more)
-  one_more false es more n one lt = omega arith
+  one_more b es more n one lt = grind (arith, common_steps, length-append)
 
   -- an entry more in a page with fewer than 384
   pub loose-set : (ps : List (Page X)) (e : Bytes × X) (i : ℕ) (p r : Page X) (ok : Bool) → p ≡ get_or ps i p → r.0 ≡ (if ok then p.0 ++ e ∷ [] else p.0) → length p.0 + p.1 ≤ length r.0 + r.1 → length p.0 < 384 → AreLoose ps → AreLoose (set ps i r)
-  loose-set ps e i p r ok is same places lt h =
-      let few : length r.0 ≤ 384 = (let l = ap length same in let m = one_more ok p.0 (e ∷ []) 384 refl lt in omega arith) in
-      all_set IsLoose ps i p r is (λ l. record { few = few; places = (let w = l.places in omega arith) }) h
+  loose-set ps e i p r ok is same places lt h = grind (arith, common_steps, one_more, all_set)
 
   -- a page of one entry, with 512 places
   pub loose-push : (ps : List (Page X)) (e : Bytes × X) (p q : Page X) → q ≡ ([], 512) → p.0 ≡ q.0 ++ e ∷ [] → length q.0 + q.1 ≤ length p.0 + p.1 → AreLoose ps → AreLoose (ps ++ p ∷ [])
-  loose-push ps e p q new same places h =
-      let one : length p.0 ≡ 1 = ap length (same ∙ ap (λ (r : Page X). r.0 ++ e ∷ []) new) in
-      let all : length q.0 + q.1 ≡ 512 = ap (λ (r : Page X). length r.0 + r.1) new in
-      all_push IsLoose ps p (record { few = omega arith; places = omega arith }) h
+  loose-push ps e p q new same places h = grind (arith, common_steps, all_push)
 
   -- ---- full pages
 
@@ -451,30 +416,13 @@ module _ {X : Type 0} where
   full-set (q ∷ r ∷ ps) (suc (suc i)) p at h = (h.0, full-set (r ∷ ps) (suc i) p (omega arith) h.1)
 
   pub pushed_page : (ps : List (Page X)) (e : Bytes × X) → IsInOrder ps → IsSorted (entries ps ++ e ∷ []) → (p : Page X) → p.0 ≡ e ∷ [] → record { order : IsInOrder (ps ++ p ∷ []); entries : entries (ps ++ p ∷ []) ≡ entries ps ++ e ∷ [] }
-  pushed_page ps e h g p is =
-      let same : entries (ps ++ p ∷ []) ≡ entries ps ++ e ∷ [] = entries-append ps (p ∷ []) ∙ ap (λ (l : List (Bytes × X)). entries ps ++ (l ++ [])) is in
-      record { order = record { sorted = subst (λ (l : List (Bytes × X)). IsSorted l) (sym same) g; filled = push_filled ps h.filled }; entries = same }
-    where
-      one : IsFilled p
-      one = subst (λ (l : List (Bytes × X)). 0 < length l) (sym is) (omega arith)
-
-      push_all : (qs : List (Page X)) → AllByRecursion IsFilled qs → AllByRecursion IsFilled (qs ++ p ∷ [])
-      push_all [] f = (one, tt)
-      push_all (q ∷ qs) f = (f.0, push_all qs f.1)
-
-      push_filled : (qs : List (Page X)) → AreRestFilled qs → AreRestFilled (qs ++ p ∷ [])
-      push_filled [] f = tt
-      push_filled (q ∷ qs) f = push_all qs f
+  pushed_page ps e h g p is = grind (arith, common_steps, entries-append)
 
   set_all : (qs : List (Page X)) (j : ℕ) (q s : Page X) → q ≡ get_or qs j q → (IsFilled q → IsFilled s) → AllByRecursion IsFilled qs → AllByRecursion IsFilled (set qs j s)
-  set_all [] j q s is f a = tt
-  set_all (t ∷ qs) zero q s is f a = (f (subst (λ (u : Page X). IsFilled u) (sym is) a.0), a.1)
-  set_all (t ∷ qs) (suc j) q s is f a = (a.0, set_all qs j q s is f a.1)
+  set_all qs j q s is f a = grind (arith, common_steps)
 
   set_filled : (qs : List (Page X)) (j : ℕ) (q s : Page X) → q ≡ get_or qs j q → (IsFilled q → IsFilled s) → AreRestFilled qs → AreRestFilled (set qs j s)
-  set_filled [] j q s is f a = tt
-  set_filled (t ∷ qs) zero q s is f a = a
-  set_filled (t ∷ qs) (suc j) q s is f a = set_all qs j q s is f a
+  set_filled qs j q s is f a = grind (arith, common_steps, set_all)
 
   same_list : (qs : List (Page X)) (j : ℕ) (q s : Page X) (more : List (Bytes × X)) → j + 1 ≡ length qs → q ≡ get_or qs j q → s.0 ≡ q.0 ++ more → entries (set qs j s) ≡ entries qs ++ more
   same_list [] j q s more n is e = absurd (omega arith)
@@ -483,8 +431,7 @@ module _ {X : Type 0} where
   same_list (t ∷ qs) (suc j) q s more n is e = ap (λ (l : List (Bytes × X)). t.0 ++ l) (same_list qs j q s more (omega arith) is e) ∙ sym (append_assoc t.0 (entries qs) more)
 
   longer_filled : (es more : List (Bytes × X)) → 0 < length es → 0 < length (es ++ more)
-  longer_filled [] more f = absurd (omega arith)
-  longer_filled (e ∷ es) more f = omega arith
+  longer_filled es more f = grind (arith, common_steps)
 
   pub record Pushed (ps new : List (Page X)) (more : List (Bytes × X)) : Type 0 where
     pub order : IsInOrder new
@@ -492,12 +439,7 @@ module _ {X : Type 0} where
 
   -- entries at the end of the last page
   pub pushed_more : (ps : List (Page X)) (more : List (Bytes × X)) (i : ℕ) (p r : Page X) → i + 1 ≡ length ps → p ≡ get_or ps i p → IsInOrder ps → IsSorted (entries ps ++ more) → r.0 ≡ p.0 ++ more → Pushed ps (set ps i r) more
-  pushed_more ps more i p r at is h g same =
-      let s = same_list ps i p r more at is same in
-      record {
-        order = record { sorted = subst (λ (l : List (Bytes × X)). IsSorted l) (sym s) g; filled = set_filled ps i p r is (λ f. subst (λ (l : List (Bytes × X)). 0 < length l) (sym same) (longer_filled p.0 more f)) h.filled };
-        entries = s;
-      }
+  pushed_more ps more i p r at is h g same = grind (arith, common_steps, same_list, set_filled, longer_filled)
 
   pub pushed_last : (ps : List (Page X)) (e : Bytes × X) (i : ℕ) (p r : Page X) (ok : Bool) → i + 1 ≡ length ps → p ≡ get_or ps i p → IsInOrder ps → IsSorted (entries ps ++ e ∷ []) → r.0 ≡ (if ok then p.0 ++ e ∷ [] else p.0)
       → record { order : IsInOrder (set ps i r); entries : entries (set ps i r) ≡ (if ok then entries ps ++ e ∷ [] else entries ps) }

@@ -1,5 +1,6 @@
 -- Summaries of entries: with an entry more, with an entry less, and what they say of each entry.
-use Rattle.std.proofs.Common.{◌≡◌, ℕ, zero, suc, ◌+◌, ◌-◌, ◌<◌, ◌≤◌, Bool, true, false, cond, ◌||◌, min, max, List, [], ◌∷◌, ◌++◌, length, take, get_or, set, Option, Some, None, refl, sym, ap, subst, ◌∙◌, arith, inl, inr}
+use Rattle.std.proofs.lemmas.Grind.{common_steps}
+use Rattle.std.proofs.Common.{◌≡◌, ℕ, zero, suc, ◌+◌, ◌-◌, ◌<◌, ◌≤◌, Bool, true, false, cond, ◌||◌, min, max, List, [], ◌∷◌, ◌++◌, length, take, get_or, set, Option, Some, None, refl, sym, ap, subst, ◌∙◌, arith}
 use Rattle.std.specs.Prelude.{◌⊎◌, count_by, remove}
 use Rattle.std.specs.List.{AllByRecursion, insert}
 use Rattle.std.proofs.lemmas.Bool.{both_ways}
@@ -14,10 +15,7 @@ use Rattle.sorted_pages.specs.Summaries.{AreHidden, AreOver, IsSummary, IsSummar
 
 module _ {Y : Type 0} where
   all-removed : (P : Y → Type 0) (xs : List Y) (i : ℕ) → AllByRecursion P xs → AllByRecursion P (remove xs i)
-  all-removed P [] zero h = tt
-  all-removed P [] (suc i) h = tt
-  all-removed P (x ∷ xs) zero h = h.1
-  all-removed P (x ∷ xs) (suc i) h = (h.0, all-removed P xs i h.1)
+  all-removed P xs i h = grind (arith, common_steps)
 
   all-restored : (P : Y → Type 0) (xs : List Y) (i : ℕ) (x : Y) → i < length xs → x ≡ get_or xs i x → P x → AllByRecursion P (remove xs i) → AllByRecursion P xs
   all-restored P [] i x lt is p h = absurd (omega arith)
@@ -25,10 +23,7 @@ module _ {Y : Type 0} where
   all-restored P (y ∷ xs) (suc i) x lt is p h = (h.0, all-restored P xs i x (omega arith) is p h.1)
 
   remove-set : (xs : List Y) (i : ℕ) (x : Y) → remove (set xs i x) i ≡ remove xs i
-  remove-set [] zero x = refl
-  remove-set [] (suc i) x = refl
-  remove-set (y ∷ xs) zero x = refl
-  remove-set (y ∷ xs) (suc i) x = ap (λ l. y ∷ l) (remove-set xs i x)
+  remove-set xs i x = grind (arith, common_steps)
 
   remove-insert : (xs : List Y) (i : ℕ) (x : Y) → i ≤ length xs → remove (insert xs i x) i ≡ xs
   remove-insert [] zero x le = refl
@@ -37,33 +32,22 @@ module _ {Y : Type 0} where
   remove-insert (y ∷ xs) (suc i) x le = ap (λ l. y ∷ l) (remove-insert xs i x (omega arith))
 
   remove-last : (xs : List Y) (x : Y) → remove (xs ++ x ∷ []) (length xs) ≡ xs
-  remove-last [] x = refl
-  remove-last (y ∷ xs) x = ap (λ l. y ∷ l) (remove-last xs x)
+  remove-last xs x = grind (arith, common_steps)
 
   remove-taken : (xs : List Y) (i : ℕ) → i < length xs → remove (take (suc i) xs) i ≡ take i xs
-  remove-taken [] i lt = absurd (omega arith)
-  remove-taken (y ∷ []) zero lt = refl
-  remove-taken (y ∷ z ∷ xs) zero lt = refl
-  remove-taken (y ∷ xs) (suc i) lt = ap (λ l. y ∷ l) (remove-taken xs i (omega arith))
+  remove-taken xs i lt = grind (arith, common_steps)
 
   longer-insert : (xs : List Y) (i : ℕ) (x : Y) → i ≤ length xs → i < length (insert xs i x)
-  longer-insert [] zero x le = omega arith
-  longer-insert [] (suc i) x le = absurd (omega arith)
-  longer-insert (y ∷ xs) zero x le = omega arith
-  longer-insert (y ∷ xs) (suc i) x le = omega (arith, longer-insert xs i x (omega arith))
+  longer-insert xs i x le = grind (arith, common_steps)
 
   longer-set : (xs : List Y) (i : ℕ) (x : Y) → i < length xs → i < length (set xs i x)
-  longer-set [] i x lt = absurd (omega arith)
-  longer-set (y ∷ xs) zero x lt = omega arith
-  longer-set (y ∷ xs) (suc i) x lt = omega (arith, longer-set xs i x (omega arith))
+  longer-set xs i x lt = grind (arith, common_steps)
 
 over : (a b : Bool) → (a ≡ false → b ≡ true) → (a || b) ≡ true
-over true b h = refl
-over false b h = h refl
+over a b h = grind (arith, common_steps)
 
 hidden_too : (a b : Bool) → a ≡ false → (a || b) ≡ true → b ≡ true
-hidden_too true b n h = absurd (both_ways true n refl)
-hidden_too false b n h = h
+hidden_too a b n h = grind (arith, common_steps, both_ways)
 
 module _ {X : Type 0} (hides : ℕ → X → Bool) (shows : X → Bool) where
   abbrev one : X → ℕ
@@ -77,16 +61,10 @@ module _ {X : Type 0} (hides : ℕ → X → Bool) (shows : X → Bool) where
   -- ---- an entry that is left out, or none
 
   pub but_none : (es : List (Bytes × X)) (s : Summary) → s.left_out ≡ None → IsSummary hides shows es s → IsSummaryBut hides shows es s
-  but_none es s e h = record {
-    within = subst (λ (o : Option ℕ). IsIndexOf o es) (sym e) tt;
-    rest = subst (λ (o : Option ℕ). IsSummary hides shows (all_but o es) s) (sym e) h;
-  }
+  but_none es s e h = grind (arith, common_steps)
 
   pub but_some : (es : List (Bytes × X)) (s : Summary) (i : ℕ) → s.left_out ≡ Some i → i < length es → IsSummary hides shows (remove es i) s → IsSummaryBut hides shows es s
-  but_some es s i e lt h = record {
-    within = subst (λ (o : Option ℕ). IsIndexOf o es) (sym e) lt;
-    rest = subst (λ (o : Option ℕ). IsSummary hides shows (all_but o es) s) (sym e) h;
-  }
+  but_some es s i e lt h = grind (arith, common_steps)
 
   pub is_whole : (es : List (Bytes × X)) (s : Summary) → s.left_out ≡ None → IsSummaryBut hides shows es s → IsSummary hides shows es s
   is_whole es s e h = subst (λ (o : Option ℕ). IsSummary hides shows (all_but o es) s) e h.rest
@@ -99,11 +77,7 @@ module _ {X : Type 0} (hides : ℕ → X → Bool) (shows : X → Bool) where
 
   -- the same fields but for the entry that is left out
   same_summary : (es : List (Bytes × X)) (s t : Summary) → t.first ≡ s.first → t.last ≡ s.last → t.live ≡ s.live → IsSummary hides shows es s → IsSummary hides shows es t
-  same_summary es s t f l v h = record {
-    before = λ n lt. h.before n (omega arith);
-    after = λ n le. h.after n (omega arith);
-    live = h.live ∙ sym v;
-  }
+  same_summary es s t f l v h = grind (arith, common_steps)
 
   -- ---- an entry more
 
@@ -127,12 +101,10 @@ module _ {X : Type 0} (hides : ℕ → X → Bool) (shows : X → Bool) where
 
   -- an entry that has come in is left out yet
   pub inserted_but : (es ds : List (Bytes × X)) (i : ℕ) (e : Bytes × X) (s t : Summary) → ds ≡ insert es i e → i ≤ length es → t.first ≡ s.first → t.last ≡ s.last → t.live ≡ s.live → t.left_out ≡ Some i → IsSummary hides shows es s → IsSummaryBut hides shows ds t
-  inserted_but es ds i e s t is le f l v o h = subst (λ (k : List (Bytes × X)). IsSummaryBut hides shows k t) (sym is)
-      (but_some (insert es i e) t i o (longer-insert es i e le) (subst (λ (k : List (Bytes × X)). IsSummary hides shows k t) (sym (remove-insert es i e le)) (same_summary es s t f l v h)))
+  inserted_but es ds i e s t is le f l v o h = grind (arith, common_steps, but_some, longer-insert, remove-insert, same_summary)
 
   pub pushed_but : (es ds : List (Bytes × X)) (n : ℕ) (e : Bytes × X) (s t : Summary) → ds ≡ es ++ e ∷ [] → n ≡ length es → t.first ≡ s.first → t.last ≡ s.last → t.live ≡ s.live → t.left_out ≡ Some n → IsSummary hides shows es s → IsSummaryBut hides shows ds t
-  pushed_but es ds n e s t is at f l v o h = subst (λ (k : List (Bytes × X)). IsSummaryBut hides shows k t) (sym is)
-      (but_some (es ++ e ∷ []) t n o (omega (arith, length-append es (e ∷ []))) (subst (λ (k : List (Bytes × X)). IsSummary hides shows k t) (sym (ap (remove (es ++ e ∷ [])) at ∙ remove-last es e)) (same_summary es s t f l v h)))
+  pushed_but es ds n e s t is at f l v o h = grind (arith, common_steps, but_some, length-append, remove-last, same_summary)
 
   -- ---- an entry less
 
@@ -167,10 +139,7 @@ module _ {X : Type 0} (hides : ℕ → X → Bool) (shows : X → Bool) where
       no_one false z = refl
 
   pub rest_hidden : (n : ℕ) (es : List (Bytes × X)) (s : Summary) → IsSummary hides shows es s → (n < s.first) ⊎ ((s.last ≤ n) × (s.live ≡ 0)) → AreHidden (hides n) es
-  rest_hidden n es s h c = elim c [
-    | inl lt ↦ h.before n lt
-    | inr p ↦ none_shows n es (h.live ∙ p.1) (h.after n p.0)
-  ]
+  rest_hidden n es s h c = grind (arith, common_steps, none_shows)
 
   pub all_hidden : (n : ℕ) (es : List (Bytes × X)) (s : Summary) (i : ℕ) (e : Bytes × X) → s.left_out ≡ Some i → e ≡ get_or es i e → IsSummaryBut hides shows es s → (n < s.first) ⊎ ((s.last ≤ n) × (s.live ≡ 0)) → hides n e.1 ≡ true → AreHidden (hides n) es
   all_hidden n es s i e o is h c t = all-restored (λ (d : Bytes × X). hides n d.1 ≡ true) es i e (index_in es s i o h) is t (rest_hidden n (remove es i) s (is_rest es s i o h) c)

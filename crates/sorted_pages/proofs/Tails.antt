@@ -1,4 +1,5 @@
 -- The entries of a range: the tail of all entries from its lower bound on, up to its upper bound.
+use Rattle.std.proofs.lemmas.Grind.{common_steps}
 use Rattle.std.proofs.Common.{◌≡◌, ℕ, Bool, true, false, T, not, cond, ◌&&◌, List, [], ◌∷◌, ◌++◌, length, take, drop, get_or, suc, ◌+◌, Option, Some, None, refl, sym, ap, subst, ◌∙◌, arith}
 use Rattle.std.specs.List.{AllByRecursion}
 use Rattle.std.specs.declared.cmp.Ordering.{Ordering}
@@ -21,9 +22,7 @@ use Rattle.sorted_pages.proofs.Keys.{below_trans, above_it}
 use Rattle.sorted_pages.proofs.Placings.{entries_at, page_is}
 
 turned_le : (o : Ordering) → not (is_lt o) ≡ true → is_le (ordering_reverse o) ≡ true
-turned_le Less h = absurd (both_ways false refl h)
-turned_le Equal h = refl
-turned_le Greater h = refl
+turned_le o h = grind (arith, common_steps, both_ways)
 
 -- what is above a key that isn't below hi isn't
 not_below : (q p : Bytes) (hi : Option Bytes) → key_cmp q p ≡ Less → is_below q hi ≡ false → is_below p hi ≡ false
@@ -92,12 +91,10 @@ module _ {X : Type 0} where
   from_above k (e ∷ es) h = let p = parts _ _ h in (ap is_le (less _ p.0), from_above k es p.1)
 
   from_both : (k : Bytes) (xs ys : List (Bytes × X)) → AreFrom k xs → AreFrom k ys → AreFrom k (xs ++ ys)
-  from_both k [] ys h g = g
-  from_both k (x ∷ xs) ys h g = (h.0, from_both k xs ys h.1 g)
+  from_both k xs ys h g = grind (arith, common_steps)
 
   all_both : (k : Bytes) (xs ys : List (Bytes × X)) → AreBelow k xs → AreBelow k ys → AreBelow k (xs ++ ys)
-  all_both k [] ys h g = g
-  all_both k (x ∷ xs) ys h g = (h.0, all_both k xs ys h.1 g)
+  all_both k xs ys h g = grind (arith, common_steps)
 
   -- what isn't hidden of what a page has from lo on, and of the pages after it
   pub range_from : (hides : X → Bool) (ps : List (Page X)) (lo : Bytes) (hi : Option Bytes) (i : ℕ) (p : Page X) (front : List (Bytes × X)) (after : List (Page X)) (w : IsPlace ps lo i) → p ≡ get_or ps i p → IsInOrder ps → IsTail p.0 lo front → after ≡ w.after
@@ -130,20 +127,14 @@ module _ {X : Type 0} where
 -- ---- an upper bound that is a key of the map
 
 le_not_lt : (hi q : Bytes) → is_le (key_cmp hi q) ≡ true → is_lt (key_cmp q hi) ≡ false
-le_not_lt hi q h = ap is_lt (turned hi q) ∙ by (key_cmp hi q) h
-  where
-    by : (o : Ordering) → is_le o ≡ true → is_lt (ordering_reverse o) ≡ false
-    by Less t = refl
-    by Equal t = refl
-    by Greater t = absurd (both_ways false refl t)
+le_not_lt hi q h = grind (arith, common_steps, turned, both_ways)
 
 module _ {X : Type 0} where
   not_in : (lo : Bytes) (hi : Option Bytes) (e : Bytes × X) (es : List (Bytes × X)) → IsBelowAll e.0 es → is_below e.0 hi ≡ false → In lo hi (e ∷ es) ≡ []
   not_in lo hi e es h f = ap (λ b. cond b (e ∷ In lo hi es) (In lo hi es)) (and_right (is_le (key_cmp lo e.0)) (is_below e.0 hi) f) ∙ none_above lo e.0 hi es h f
 
   below_first : (q hi : Bytes) (fs : List (Bytes × X)) → AllByRecursion (λ (f : Bytes × X). is_in_range hi None f.0 ≡ true) fs → key_cmp q hi ≡ Less → is_below q (first_key fs) ≡ true
-  below_first q hi [] h lt = refl
-  below_first q hi (f ∷ fs) h lt = ap is_lt (below_trans q hi f.0 lt (and_parts _ _ h.0).0)
+  below_first q hi fs h lt = grind (arith, common_steps, below_trans, and_parts)
 
   -- the least key that is at least hi bounds as hi does
   pub same_range : (lo hi : Bytes) (es : List (Bytes × X)) → IsSorted es → In lo (first_key (In hi None es)) es ≡ In lo (Some hi) es
@@ -165,8 +156,4 @@ module _ {X : Type 0} where
 -- a page is taken, without some of its entries that are hidden
 pub next_page : {X : Type 0} (hides : X → Bool) (hi : Option Bytes) (front from : List (Bytes × X)) (page : Page X) (ps rest : List (Page X)) → front ≡ [] → ps ≡ page ∷ rest → shown hides from ≡ shown hides page.0
     → up_to hi (shown hides (from ++ entries rest)) ≡ up_to hi (shown hides (front ++ entries ps))
-next_page {X} hides hi front from page ps rest none next same = ap (up_to hi)
-    (shown-append hides from (entries rest)
-    ∙ ap (λ l. l ++ shown hides (entries rest)) same
-    ∙ sym (shown-append hides page.0 (entries rest))
-    ∙ sym (ap (λ (l : List (Bytes × X)). shown hides (l ++ entries ps)) none ∙ ap (λ (l : List (Page X)). shown hides (entries l)) next))
+next_page hides hi front from page ps rest none next same = grind (arith, common_steps, shown-append)

@@ -1,9 +1,10 @@
 -- What trimming a value does to entries and to pages.
+use Rattle.std.proofs.lemmas.Grind.{common_steps}
 use Rattle.std.proofs.Common.{◌≡◌, ℕ, cond, List, get_or, set, Option, Some, None, refl, sym, ap, ◌∙◌, arith}
 use Rattle.std.specs.Prelude.{option_map}
 use Rattle.std.specs.Ordering.{is_eq, nat_cmp}
 use Rattle.std.specs.Cmp.Lexicographic.{slice_cmp, nat_list_cmp_total}
-use Rattle.std.specs.FinMap.Entries.{find, put, find-put}
+use Rattle.std.specs.FinMap.Entries.{find, find-put}
 use Rattle.std.proofs.lemmas.Cmp.{tied_itself}
 use Rattle.model.specs.Map.{Bytes}
 use Rattle.model.specs.Entries.{IsAt}
@@ -28,11 +29,7 @@ module _ {X : Type 0} (f : X → X) where
 
   -- f of its value is written at the key's place
   pub written_changed : (k : Bytes) (es : List (Bytes × X)) (i : ℕ) (e : Bytes × X) (v : X) → IsAt es k i → e ≡ get_or es i e → v ≡ f e.1 → set es i (e.0, v) ≡ changed_at f k es
-  written_changed k es i e v at is new =
-      ap (λ (q : Bytes). set es i (q, v)) (ap (λ (d : Bytes × X). d.0) is ∙ at.key e)
-      ∙ at.written v
-      ∙ ap (λ w. put (slice_cmp nat_cmp) k w es) new
-      ∙ sym (ap (λ o. put_some k (option_map f o) es) (at.found e ∙ ap (λ (d : Bytes × X). Some d.1) (sym is)))
+  written_changed k es i e v at is new = grind (arith, common_steps)
 
   pub record ChangedAt (k : Bytes) (old new : List (Page X)) : Type 0 where
     pub order : IsInOrder new

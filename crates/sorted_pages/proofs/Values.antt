@@ -1,8 +1,9 @@
 -- Another value at a key that the pages have: the entries are those with that value put in, and no room changes.
-use Rattle.std.proofs.Common.{◌≡◌, ℕ, true, false, cond, List, [], ◌∷◌, ◌++◌, get_or, set, Some, None, IsSome, refl, sym, ap, subst, ◌∙◌}
+use Rattle.std.proofs.lemmas.Grind.{common_steps}
+use Rattle.std.proofs.Common.{arith, ◌≡◌, ℕ, true, false, cond, List, [], ◌∷◌, ◌++◌, get_or, set, Some, None, IsSome, refl, sym, ap, subst, ◌∙◌}
 use Rattle.std.specs.Prelude.{is_some, if◌then◌else◌}
 use Rattle.std.specs.declared.cmp.Ordering.TheVariants.{Less, Equal, Greater}
-use Rattle.std.specs.Ordering.{is_eq, is_lt, is_le, nat_cmp, ordering_reverse}
+use Rattle.std.specs.Ordering.{is_eq, nat_cmp, ordering_reverse}
 use Rattle.std.specs.Cmp.Lexicographic.{slice_cmp}
 use Rattle.std.specs.FinMap.Entries.{find, put, by_order}
 use Rattle.std.proofs.lemmas.Bool.{both_ways}
@@ -93,13 +94,7 @@ module _ {X : Type 0} where
       ] refl
 
   starts_found : (q k : Bytes) (v : X) (es : List (Bytes × X)) → IsSorted es → IsSome (find (slice_cmp nat_cmp) k es) → starts_by q (put (slice_cmp nat_cmp) k v es) ≡ starts_by q es
-  starts_found q k v [] h s = absurd (both_ways false refl s)
-  starts_found q k v (e ∷ es) h s =
-      elim (key_cmp k e.0) as (λ o. key_cmp k e.0 ≡ o → is_some (cond (is_eq o) (Some e.1) (find (slice_cmp nat_cmp) k es)) ≡ true → starts_by q (by_order o ((k, v) ∷ e ∷ es) ((e.0, v) ∷ es) (e ∷ put (slice_cmp nat_cmp) k v es)) ≡ is_le (key_cmp e.0 q)) [
-        | Less ↦ λ g t. absurd (both_ways true (ap is_lt (sym g ∙ turned e.0 k ∙ ap ordering_reverse (found_above e.0 k es (parts _ _ h).0 t))) refl)
-        | Equal ↦ λ g t. refl
-        | Greater ↦ λ g t. refl
-      ] refl s
+  starts_found q k v es h s = grind (arith, common_steps, both_ways, turned, found_above, parts)
 
   last_room-with_value : (r : ℕ) (q : Bytes) (ps : List (Page X)) (k : Bytes) (v : X) → IsSorted (entries ps) → last_room r q (with_value ps k v) ≡ last_room r q ps
   last_room-with_value r q [] k v h = refl
@@ -111,9 +106,4 @@ module _ {X : Type 0} where
 
   -- no room changes
   pub room-with_value : (q : Bytes) (ps : List (Page X)) (k : Bytes) (v : X) → IsSorted (entries ps) → room_at q (with_value ps k v) ≡ room_at q ps
-  room-with_value q [] k v h = refl
-  room-with_value q (p ∷ ps) k v h =
-      elim (is_some (find (slice_cmp nat_cmp) k p.0)) as (λ b. room_at q (cond b (with_value_in p k v ∷ ps) (p ∷ with_value ps k v)) ≡ last_room p.1 q ps) [
-        | true ↦ refl
-        | false ↦ last_room-with_value p.1 q ps k v (sorted_right key_cmp p.0 (entries ps) h)
-      ]
+  room-with_value q ps k v h = grind (arith, common_steps, last_room-with_value, sorted_right)
