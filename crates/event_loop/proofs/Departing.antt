@@ -31,7 +31,7 @@ use Rattle.event_loop.specs.declared.socket.Socket.{Socket}
 use Rattle.event_loop.specs.declared.lingering.Dropped.{Dropped}
 use Rattle.event_loop.specs.declared.lingering.Lingerer.{Lingerer}
 use Rattle.event_loop.specs.declared.lingering.TheConstants.{LINGERING_MAX}
-use Rattle.event_loop.specs.Departures.{EntriesTell, IsCommitted, IsKept, IsServing, IsTold, KeepsWhatLeft, LingerersTell, Serving, Tells, first_state, present_state}
+use Rattle.event_loop.specs.Departures.{EntriesTell, HoldsAtEnds, IsCommitted, IsKept, IsServing, IsTold, KeepsWhatLeft, LingerersTell, Serving, Tells, first_state, present_state}
 use Rattle.event_loop.specs.Leavings.{EndAll, EndEach, LeavesAs, LeavesIf}
 use Rattle.event_loop.specs.Leavings.EndEach.{NoneEnded, OneMore as OneEnded}
 use Rattle.event_loop.specs.Lingerings.{AllTurned, AreTurned, DropsIf, Leaves, Lingerers}
@@ -71,23 +71,23 @@ each_rest (OneEnded key between new mid later each at) other le = at.others othe
 
 -- ---- the run goes on
 
-last_sound : {D : Type 0} {g : Ghosts D} (old new : Hub D g) (es : List (HubEvent × Choice)) → Ran old new es → IsSound new
+pub last_sound : {D : Type 0} {g : Ghosts D} (old new : Hub D g) (es : List (HubEvent × Choice)) → Ran old new es → IsSound new
 last_sound old new [] r = r.1
 last_sound old new (e ∷ es) r = last_sound r.1 new es r.3
 
 module _ {D : Type 0} {g : Ghosts D} {hub : Hub D g} (served : Served hub) where
-  stands_now : StandsFor hub (present_state served)
+  pub stands_now : StandsFor hub (present_state served)
   stands_now = ran_stands served.first hub served.choices served.ran (first_state served) served.start.begins.stands
 
   module _ (later : Hub D g) (fs : List (HubEvent × Choice)) (ran : Ran hub later fs) where
-    abbrev served_on : Served later
+    abbrev pub served_on : Served later
     served_on = record { first = served.first; start = served.start; choices = served.choices ++ fs; ran = ran_then served.first hub later served.choices fs served.ran ran }
 
     bytes_on : (slots : Slots) → HaveTheirBytes (run (present_state served) fs) slots → HaveTheirBytes (present_state served_on) slots
     bytes_on slots has = subst (λ (h : HubState). HaveTheirBytes h slots) (sym (run_then (first_state served) served.choices fs)) has
 
     -- what was told is told still
-    tells_on : (s : ℕ) (t : Traffic) → Tells served s t → Tells served_on s t
+    pub tells_on : (s : ℕ) (t : Traffic) → Tells served s t → Tells served_on s t
     tells_on s t e = record {
       told = all_since s (first_state served) ran_then served.first hub later served.choices fs ran t.departed e.told;
       answered = answered_since s (first_state served) served.choices fs t.taken e.answered;
@@ -212,6 +212,10 @@ module _ {D : Type 0} {g : Ghosts D} {hub : Hub D g} (served : Served hub) where
     each_lingers t time {slots} {old} (OneEnded key between new mid later each at) entries tells =
         leaves_as t time (slot_at between key) (slot_at new key) at.ended mid later at.leaves (λ was e. entries key was (sym (each_rest each key (omega arith)) ∙ e)) (each_lingers t time each entries tells)
 
+    drops_tells : SocketsTell → (reads : Bool) (old : Lingerer) (dropped : Dropped) (new : Lingerer) → DropsIf moment reads old dropped new → (s : ℕ) → Tells served s (traffic_of old.socket) → Tells served s (traffic_of new.socket)
+    drops_tells t true old dropped new drops s e = departs_tells s (traffic_of old.socket) (traffic_of new.socket) (drops.taken t) (drops.departed t) e
+    drops_tells t false old dropped new drops s e = subst (λ (l : Lingerer). Tells served s (traffic_of l.socket)) (sym drops.0) e
+
     turned_lingers : SocketsTell → (time : Option Instant) (reads : Bool) (old new : List Lingerer) (more : Bool) → AllTurned time moment reads old new more → LingerersTell served old → LingerersTell served new
     turned_lingers t time reads [] new more turned tells = subst (λ (l : List Lingerer). LingerersTell served l) (sym turned.0) tells
     turned_lingers t time reads (first ∷ others) new more turned tells = elim turned [
@@ -219,10 +223,12 @@ module _ {D : Type 0} {g : Ghosts D} {hub : Hub D g} (served : Served hub) where
       | inr (dropped, later, rest, of_rest, stays, all, is, more_is) ↦
           subst (λ (l : List Lingerer). LingerersTell served l) (sym is) ((tells.0.0, drops_tells t reads first dropped later stays.0 tells.0.0 tells.0.1), turned_lingers t time reads others rest of_rest all tells.1)
     ]
-      where
-        drops_tells : SocketsTell → (reads : Bool) (old : Lingerer) (dropped : Dropped) (new : Lingerer) → DropsIf moment reads old dropped new → (s : ℕ) → Tells served s (traffic_of old.socket) → Tells served s (traffic_of new.socket)
-        drops_tells t true old dropped new drops s e = departs_tells s (traffic_of old.socket) (traffic_of new.socket) (drops.taken t) (drops.departed t) e
-        drops_tells t false old dropped new drops s e = subst (λ (l : Lingerer). Tells served s (traffic_of l.socket)) (sym drops.0) e
+
+    -- as they end
+    all_end : SocketsTell → (reads : Bool) (all : List Lingerer) → LingerersTell served all
+        → AllByRecursion (λ l. (s : ℕ) × ((dropped : Dropped) (later : Lingerer) → DropsIf moment reads l dropped later → Tells served s (traffic_of later.socket))) all
+    all_end t reads [] tells = tells
+    all_end t reads (l ∷ all) tells = ((tells.0.0, λ dropped later drops. drops_tells t reads l dropped later drops tells.0.0 tells.0.1), all_end t reads all tells.1)
 
 -- ---- the poll tells of entries
 
@@ -254,28 +260,42 @@ have_sent h slots t has key entry e alive = let b = has key entry e alive in rec
 module _ {D : Type 0} {g : Ghosts D} (hub later : Hub D g) (moment : ℕ) (now : moment ≡ g.moment (device later)) (slots ready driven new : Slots) (events : List Event) (polled : (key : ℕ) → slot_at ready key ≡ after_poll events key (slot_at slots key))
     (sessions : HaveSessions hub ready) (drives : DrivesTelling through SocketsTell hub ready later driven (λ h k. DrivenAll SocketsTell through h ready k driven)) (numbers : KeepSessions ready driven)
     (ended : (key : ℕ) → EndsTurn SocketsTell traffic_of moment (slot_at driven key) (slot_at new key)) (time : Option Instant) (old later_all : Lingerers) (left : EndAll time moment driven old new later_all) where
+  -- what the drives told is told still
+  driven_tell : (s : Serving hub slots old.all) → SocketsTell → EntriesTell (served_on s.served later drives.leads.choices drives.leads.ran) driven
+  driven_tell s t key mid e =
+      let h = present_state s.served in
+      let stands = stands_now s.served in
+      let was = numbers key mid e in
+      let before = polled_still events key (slot_at slots key) was.0 (sym (polled key) ∙ was.1) in
+      let sent = have_sent h ready t (polled_bytes SocketsTell traffic_of moment slots ready events polled h s.bytes) in
+      subst (λ (n : ℕ). Tells (served_on s.served later drives.leads.choices drives.leads.ran) n (through mid.stream)) (sym was.2)
+      (driven_tells s.served later drives.leads.choices drives.leads.ran was.0.session (through was.0.stream) (through mid.stream) (drives.telling t h stands sent key was.0 mid was.1 e) (drives.answered t h stands sent key was.0 mid was.1 e)
+      (still_tells s.served before.0 was.0 before.2 before.3 (s.tells t key before.0 before.1)))
+
   driven_serves : Serving hub slots old.all → Serving later new later_all.all
   driven_serves s =
       let h = present_state s.served in
-      let stands = stands_now s.served in
-      let to = drives.leads.to (point_of hub h) (at_point hub h stands) in
+      let to = drives.leads.to (point_of hub h) (at_point hub h (stands_now s.served)) in
       let none : NoneRuns later = no_event later (last_sound hub later drives.leads.choices drives.leads.ran) in
-      let ready_bytes : HaveTheirBytes h ready = polled_bytes SocketsTell traffic_of moment slots ready events polled h s.bytes in
       let on : Served later = served_on s.served later drives.leads.choices drives.leads.ran in
-      let driven_tell : SocketsTell → EntriesTell on driven = λ t key mid e. (
-      let was = numbers key mid e in
-      let before = polled_still events key (slot_at slots key) was.0 (sym (polled key) ∙ was.1) in
-      let sent = have_sent h ready t ready_bytes in
-      subst (λ (n : ℕ). Tells on n (through mid.stream)) (sym was.2)
-      (driven_tells s.served later drives.leads.choices drives.leads.ran was.0.session (through was.0.stream) (through mid.stream) (drives.telling t h stands sent key was.0 mid was.1 e) (drives.answered t h stands sent key was.0 mid was.1 e)
-      (still_tells s.served before.0 was.0 before.2 before.3 (s.tells t key before.0 before.1)))
-      ) in
       record {
         served = on;
         bytes = bytes_on s.served later drives.leads.choices drives.leads.ran new
             (subst (λ (x : HubState). HaveTheirBytes x new) to.2.0.run_is (drives_bytes SocketsTell traffic_of moment slots ready driven new events polled sessions.own ended (point_of hub h) to.0 to.2.1 s.bytes));
-        tells = λ t key. slot_tells on none moment now t (slot_at driven key) (slot_at new key) (ended key) (driven_tell t key);
-        lingerers_tell = λ t. each_lingers on none moment now t time left.each (driven_tell t) (lingerers_on s.served later drives.leads.choices drives.leads.ran old.all (s.lingerers_tell t));
+        tells = λ t key. slot_tells on none moment now t (slot_at driven key) (slot_at new key) (ended key) (driven_tell s t key);
+        lingerers_tell = λ t. each_lingers on none moment now t time left.each (driven_tell s t) (lingerers_on s.served later drives.leads.choices drives.leads.ran old.all (s.lingerers_tell t));
+      }
+
+  -- so it is of each connection as the turn leaves it
+  pub ends_tell : (reads : Bool) (s : Serving hub slots old.all) → SocketsTell → HoldsAtEnds (Tells (served_on s.served later drives.leads.choices drives.leads.ran)) moment reads driven old.all later_all.all
+  ends_tell reads s t =
+      let none : NoneRuns later = no_event later (last_sound hub later drives.leads.choices drives.leads.ran) in
+      let on : Served later = served_on s.served later drives.leads.choices drives.leads.ran in
+      let lingered : LingerersTell on old.all = lingerers_on s.served later drives.leads.choices drives.leads.ran old.all (s.lingerers_tell t) in
+      record {
+        entries = λ key was entry e ends. inner_tells on entry.session entry.stream (end_tells on none moment now t was entry ends (driven_tell s t key was e));
+        linger = lingered;
+        ends = all_end on none moment now t reads later_all.all (each_lingers on none moment now t time left.each (driven_tell s t) lingered);
       }
 
   pub drives_serve : IsServing hub slots old.all → IsServing later new later_all.all
@@ -424,7 +444,7 @@ module _ {D : Type 0} {g : Ghosts D} (hub : Hub D g) (slots : Slots) (lingerers 
               (λ c l. (let z = left keeps c l in (z.0, z.2, z.1))) follow;
         }
 
-    all_kept : (served : Served hub) (s : ℕ) (ds : List Departure) → AllByRecursion (IsTold served s) ds → AllByRecursion (IsKept served s) ds
+    pub all_kept : (served : Served hub) (s : ℕ) (ds : List Departure) → AllByRecursion (IsTold served s) ds → AllByRecursion (IsKept served s) ds
     all_kept served s [] all = all
     all_kept served s (d ∷ ds) all = (is_kept served s d all.0, all_kept served s ds all.1)
 

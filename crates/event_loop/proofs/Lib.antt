@@ -19,3 +19,4 @@ mod Readies
 mod Committed
 mod Departing
 mod Drained
+mod Ending

@@ -9,7 +9,7 @@ use Rattle.stream_driver.specs.declared.entries.Entry.{Entry}
 use Rattle.stream_driver.specs.declared.entries.EntryState.{EntryState}
 use Rattle.stream_driver.specs.declared.entries.EntryState.TheVariants.{Idle, Ready, Gone as EntryGone}
 use Rattle.stream_driver.specs.Buffers.{Finishes, fresh, traffic_through}
-use Rattle.stream_driver.specs.Entries.{DrivenAll, DrivenIn, DrivenOnce, DrivenSlot, EndsDrive, EndsIn, is_over, state_after}
+use Rattle.stream_driver.specs.Entries.{DrivenAll, DrivenIn, DrivenOnce, DrivenSlot, EndsDrive, EndsIn, KeepSessions, is_over, state_after}
 use Rattle.stream_driver.specs.Sessions.{Point}
 use Rattle.stream_driver.specs.Traffic.{Traffic}
 use Rattle.stream_driver.proofs.Carry.{one_history}
@@ -81,6 +81,22 @@ module _ {T : Type 0} (tells : Type 0) (traffic : T → Traffic) where
   same_session EntryGone earlier old later new d = ap (λ (x : Entry T). x.session) d.0
 
   -- ---- all are driven
+
+  -- each entry keeps its session
+  slot_number : (earlier : Point) (slot : Option (Entry T)) (later : Point) (new : Option (Entry T)) → DrivenSlot tells traffic earlier slot later new → (entry : Entry T) → new ≡ Some entry
+      → (was : Entry T) × (slot ≡ Some was) × (entry.session ≡ was.session)
+  slot_number earlier None later new d entry e = absurd (let bad : None ≡ Some entry = sym d.0 ∙ e in cc)
+  slot_number earlier (Some old) later new d entry e = (old, refl, ap (λ (x : Entry T). x.session) (sym (some_inj (sym d.1 ∙ e))) ∙ same_session old.state earlier old later d.0 d.2)
+
+  numbers-cons : (slot first : Option (Entry T)) (slots others : List (Option (Entry T))) → ((entry : Entry T) → first ≡ Some entry → (was : Entry T) × (slot ≡ Some was) × (entry.session ≡ was.session)) → KeepSessions slots others
+      → KeepSessions (slot ∷ slots) (first ∷ others)
+  numbers-cons slot first slots others head rest zero entry e = head entry e
+  numbers-cons slot first slots others head rest (suc key) entry e = rest key entry e
+
+  pub driven_numbers : (earlier : Point) (slots : List (Option (Entry T))) (later : Point) (new : List (Option (Entry T))) → DrivenAll tells traffic earlier slots later new → KeepSessions slots new
+  driven_numbers earlier [] later new d = λ key entry e. absurd (no_entry new d.0 key entry e)
+  driven_numbers earlier (slot ∷ slots) later new (first, mid, others, is, d, rest) =
+      subst (λ l. KeepSessions (slot ∷ slots) l) (sym is) (numbers-cons slot first slots others (slot_number earlier slot mid first d) (driven_numbers mid slots later others rest))
 
   bytes-cons : (h : HubState) (slot : Option (Entry T)) (slots : List (Option (Entry T))) → ((entry : Entry T) → slot ≡ Some entry → entry.state ≢ EntryGone → HasItsBytes tells traffic h entry) → HaveBytes tells traffic h slots
       → HaveBytes tells traffic h (slot ∷ slots)

@@ -1,5 +1,5 @@
 -- What left over the connections was answered before, and no crash since loses it.
-use Rattle.std.specs.Prelude.{◌≡◌, ℕ, List, Option, Some, length, map}
+use Rattle.std.specs.Prelude.{◌≡◌, ℕ, Bool, List, Option, Some, length, map}
 use Rattle.std.specs.List.{AllByRecursion, Contains}
 use Rattle.model.specs.History.{Record}
 use Rattle.model.specs.Machine.{opened}
@@ -14,10 +14,13 @@ use Rattle.sessions.specs.StandsFor.{device}
 use Rattle.stream_driver.specs.declared.buffered.BufferedStream.{BufferedStream}
 use Rattle.stream_driver.specs.declared.entries.Entry.{Entry}
 use Rattle.stream_driver.specs.Buffers.{traffic_through}
+use Rattle.stream_driver.specs.Entries.{EndsDrive}
 use Rattle.stream_driver.specs.Sends.{IsAnswered, IsToldBefore}
 use Rattle.stream_driver.specs.Traffic.{Departure, IsBeginning, Traffic}
+use Rattle.event_loop.specs.declared.lingering.Dropped.{Dropped}
 use Rattle.event_loop.specs.declared.lingering.Lingerer.{Lingerer}
 use Rattle.event_loop.specs.declared.socket.Socket.{Socket}
+use Rattle.event_loop.specs.Lingerings.{DropsIf}
 use Rattle.event_loop.specs.Sockets.{SocketsTell, traffic_of}
 use Rattle.event_loop.specs.TableBytes.{HaveBytes}
 use Rattle.event_loop.specs.Tables.{slot_at}
@@ -81,3 +84,14 @@ KeepsWhatLeft hub slots lingerers =
     ∥ ((served : Served hub)
     × ((key : ℕ) (entry : Entry (BufferedStream Socket)) → slot_at slots key ≡ Some entry → AllByRecursion (IsKept served entry.session) (traffic_of entry.stream.inner).departed)
     × AllByRecursion (λ l. (s : ℕ) × AllByRecursion (IsKept served s) (traffic_of l.socket).departed) lingerers) ∥₁
+
+-- This holds of each session and of what its connection has moved, as a turn leaves it: of each entry after its drive, whether it stays or is
+-- taken out; of each connection that lingered before the turn; and of each that was turned, whether it stays or is closed.
+pub record HoldsAtEnds (P : ℕ → Traffic → Type 0) (moment : ℕ) (reads : Bool) (driven : List (Option (Entry (BufferedStream Socket)))) (lingered turned : List Lingerer) : Type 0 where
+  pub entries : (key : ℕ) (was entry : Entry (BufferedStream Socket)) → slot_at driven key ≡ Some was → EndsDrive SocketsTell traffic_of moment was entry → P entry.session (traffic_of entry.stream.inner)
+  pub linger : AllByRecursion (λ l. (s : ℕ) × P s (traffic_of l.socket)) lingered
+  pub ends : AllByRecursion (λ l. (s : ℕ) × ((dropped : Dropped) (later : Lingerer) → DropsIf moment reads l dropped later → P s (traffic_of later.socket))) turned
+
+-- each departure is kept
+abbrev pub AreKept : {D : Type 0} {g : Ghosts D} {hub : Hub D g} → Served hub → ℕ → Traffic → Type 0
+AreKept served s t = AllByRecursion (IsKept served s) t.departed

@@ -10,6 +10,7 @@ use Rattle.mio.specs.Events.{items, capacity as events_capacity}
 use Rattle.sector.specs.declared.device.Sectors.{Ghosts}
 use Rattle.sessions.specs.declared.hub.Hub.{Hub}
 use Rattle.sessions.specs.Laws.{GivesBack, HasRun}
+use Rattle.sessions.specs.Lives.{Served}
 use Rattle.sessions.specs.SessionStreams.{HubEvent, Choice}
 use Rattle.stream_driver.specs.declared.buffered.BufferedStream.{BufferedStream}
 use Rattle.stream_driver.specs.declared.entries.Entry.{Entry}
@@ -32,7 +33,8 @@ use Rattle.stream_driver.specs.Sends.{DrivesTelling}
 use Rattle.event_loop.specs.Lingerings.{lingerers_of, oldest_waits, unless_failed}
 use Rattle.event_loop.specs.Polls.{Looked, NothingRead, ReadAgain, after_wait, polls_of}
 use Rattle.event_loop.specs.Waits.{nanos_of, own_limit, shorter}
-use Rattle.event_loop.specs.Sockets.{IsNewSocket}
+use Rattle.event_loop.specs.Departures.{AreKept, HoldsAtEnds}
+use Rattle.event_loop.specs.Sockets.{IsNewSocket, SocketsTell, traffic_of}
 use Rattle.event_loop.specs.Tables.{ComeEach, EndsTurn, after_poll, is_any_ready, joins_of, slot_at}
 
 -- The drives of a turn in which the poll told of these events. The entries that waited and that it told of became ready. Each that is
@@ -110,6 +112,13 @@ pub record IsTurn {D : Type 0} {g : Ghosts D} (tells : Type 0) (traffic : Socket
   pub gives_back : IsGivenBack accepted new
   pub run : Leads old.hub new.hub (λ h l. (k : Point) × DrivenAll tells (traffic_through traffic) h drives.ready k drives.driven
       × Adds k (accepted_joins (accepts_now old.backlog (items new.poller.events)) driven accepted accepts) l)
+
+-- There is a run from an opening to the hub after this turn in which each departure over each connection is kept, also where the turn took
+-- the connection out or closed it: as its drive ended, or as it was turned.
+abbrev pub KeepsWhatLeaves : {D : Type 0} {g : Ghosts D} (old new : EventLoop D g) → IsTurn SocketsTell traffic_of old new → Type 0
+KeepsWhatLeaves {D} {g} old new turn =
+    ∥ ((served : Served new.hub)
+    × HoldsAtEnds (AreKept served) (g.moment (device turn.driven.hub)) (is_told_of LINGERER (items new.poller.events) || turn.linger.begun.has_more) turn.drives.driven old.lingering.queue.items turn.linger.begun.all) ∥₁
 
 -- what a turn does to its hub is a run of the hub
 abbrev pub TurnsAreRuns : {D : Type 0} {g : Ghosts D} → Type 0 → (Socket → Traffic) → EventLoop D g → Type 0

@@ -64,9 +64,9 @@ impl<D: Sectors> EventLoop<D> {
     ghost use Rattle.event_loop.specs.Lingerings.{lingerers_of, unless_failed};
     ghost use Rattle.event_loop.specs.Loops.{HasItsSessions, hub_of};
     ghost use Rattle.event_loop.specs.Polls.{after_wait, polls_of};
-    ghost use Rattle.event_loop.specs.Sockets.{SocketsTell};
+    ghost use Rattle.event_loop.specs.Sockets.{SocketsTell, traffic_of};
     ghost use Rattle.event_loop.specs.TableBytes.{ConnectionsSpeak, KeepBytes};
-    ghost use Rattle.event_loop.specs.Turns.{Accepted, DrivesReady, IsGivenBack, IsTurn, IsUntouched, TurnsAreRuns, Waits, accepts_now, is_told_of, turn_waits};
+    ghost use Rattle.event_loop.specs.Turns.{Accepted, DrivesReady, IsGivenBack, IsTurn, IsUntouched, KeepsWhatLeaves, TurnsAreRuns, Waits, accepts_now, is_told_of, turn_waits};
     ghost use Rattle.event_loop.specs.Waits.{nanos_of};
 
     /// Listens at an address for the sessions of a hub that was opened. Port 0 stands for one that the system picks.
@@ -154,6 +154,9 @@ impl<D: Sectors> EventLoop<D> {
     /// answers to its own requests alone, and the committed transactions, run one at a time in one order, give the same replies and the
     /// same final map. (Serializable snapshot isolation as in Cahill, Röhm and Fekete, SIGMOD 2008.) All turns since the opening are one
     /// run, in which the hub after each event is known: a crash at any later moment leaves no map that is older than the one committed there.
+    ///
+    /// What left over a connection by the end of its part in the turn is kept as `keeps_what_left` has it, also where the turn took the
+    /// connection out or closed it.
     pub fn turn<C: Clock>(&mut self, clock: &C, timeout: Option<Duration>) -> io::Result<()>
         ensures turned { OnOk result (IsTurn ⟦<Socket as Stream>⟧.tells ⟦<Socket as Stream>⟧.traffic self.old self.new) }
         ensures fault { OnErr result (IsUntouched self.old self.new) }
@@ -162,8 +165,10 @@ impl<D: Sectors> EventLoop<D> {
         ensures waits { Waits timeout self.old result self.new }
         ensures sessions { HasItsSessions self.old × HasItsSessions self.new }
         ensures served { IsServed (hub_of self.old) × IsServed (hub_of self.new) }
+        ensures left { OnOk result ((turn : IsTurn SocketsTell traffic_of self.old self.new) → SocketsTell → KeepsWhatLeaves self.old self.new turn) }
     {
         self.hub.runs_follow();
+        self.hub.loses_nothing();
         self.poller.look(clock);
         let wait = self.next_wait(timeout);
         self.poller.wait(wait)?;

@@ -8,6 +8,7 @@ use Rattle.event_loop.specs.Lingerings.{lingerers_of}
 use Rattle.event_loop.specs.Turns.{accepts_now, is_told_of}
 use Rattle.event_loop.specs.Waits.{nanos_of}
 use Rattle.event_loop.proofs.Departing.{is_served, turns_serve}
+use Rattle.event_loop.proofs.Ending.{keeps_what_leaves}
 use Rattle.event_loop.proofs.GivenBack.{accepts_keep, rest_keeps, rest_leads, then_accepts}
 use Rattle.event_loop.proofs.OneTurn.{turned_by}
 use Rattle.event_loop.proofs.Waited.{wait_failed, wait_told}
@@ -51,3 +52,6 @@ returns-in_err-wait-clause-served g c = (is_served c.args.self.now.hub c.args.se
 
 pub returns-clause-served : goal.returns-clause-served
 returns-clause-served g c = (is_served c.args.self.now.hub c.args.self.now.table.slots c.args.self.now.lingering.queue.items c.args.self.now.serving, is_served c.give_back.new.self.hub c.give_back.new.self.table.slots c.give_back.new.self.lingering.queue.items c.give_back.new.self.serving)
+
+pub returns-clause-left : goal.returns-clause-left
+returns-clause-left g c turn t = keeps_what_leaves c.args.self.now c.give_back.new.self turn c.loses_nothing.ensures.crash g.met.D.Sectors.only_now g.met.D.Sectors.counts_now t
