@@ -283,28 +283,27 @@ fn old_runs_go_in_steps(rt: HostRuntime) -> Result<(), Fail> {
     Ok(())
 }
 
-// A transaction that has read the keys of a letter, from one on, and then written one key of another letter.
-fn mixed(alloc: Global, begin: u64, n: u8) -> Result<Transaction, Memory> {
+// A transaction that has read what a `writer` wrote, some of its keys, and then written a key that no other one writes.
+fn reader_of(alloc: Global, begin: u64, writer: u8, n: u8) -> Result<Transaction, Memory> {
     let versions = Versions::from_map(alloc, Map::new(alloc))?;
     let mut tx = Transaction::new(alloc, begin);
-    read_range(&mut tx, &versions, &[n % 33, n], &[n % 33 + 1])?;
-    read_range(&mut tx, &versions, &[n % 5, 7], &[n % 5, 9])?;
-    write(&mut tx, &[n % 33, n])?;
+    read_range(&mut tx, &versions, &[writer, n % 64], &[writer, 64])?;
+    write(&mut tx, &[64, n])?;
     Ok(tx)
 }
 
-// Two thousand written keys, and then commits that move the merges of their runs on by few steps each.
+// Two thousand written keys, and beside them commits that move the merges of their runs on by few steps each, so that large ones are half
+// done again and again. Each of these has read what one of the others wrote, which committed after its begin.
 #[test]
 fn while_large_runs_are_merged(rt: HostRuntime) -> Result<(), Fail> {
     let mut both = Both::new(rt.alloc());
     for n in 0..33u8 {
         let tx = writer(rt.alloc(), both.committed.last(), n)?;
         assert!(rt; both.commit(&tx)? == Some(Verdict::Clear(false)));
-    }
-    for n in 0..60u8 {
-        let begin = both.committed.last().saturating_sub(n as u64);
-        let tx = mixed(rt.alloc(), begin, n)?;
-        assert!(rt; both.commit(&tx)?.is_some());
+        for k in 0..3u8 {
+            let tx = reader_of(rt.alloc(), 0, n - n / 4 * k, 3 * n + k)?;
+            assert!(rt; both.commit(&tx)? == Some(Verdict::Clear(true)));
+        }
     }
     Ok(())
 }
