@@ -282,3 +282,28 @@ fn old_runs_go_in_steps(rt: HostRuntime) -> Result<(), Fail> {
     assert!(rt; !committed.forget(last) && !committed.forget(last));
     Ok(())
 }
+
+// A transaction that has read what a `writer` wrote, some of its keys, and then written a key that no other one writes.
+fn reader_of(alloc: Global, begin: u64, writer: u8, n: u8) -> Result<Transaction, Memory> {
+    let versions = Versions::from_map(alloc, Map::new(alloc))?;
+    let mut tx = Transaction::new(alloc, begin);
+    read_range(&mut tx, &versions, &[writer, n % 64], &[writer, 64])?;
+    write(&mut tx, &[64, n])?;
+    Ok(tx)
+}
+
+// Two thousand written keys, and beside them commits that move the merges of their runs on by few steps each, so that large ones are half
+// done again and again. Each of these has read what one of the others wrote, which committed after its begin.
+#[test]
+fn while_large_runs_are_merged(rt: HostRuntime) -> Result<(), Fail> {
+    let mut both = Both::new(rt.alloc());
+    for n in 0..33u8 {
+        let tx = writer(rt.alloc(), both.committed.last(), n)?;
+        assert!(rt; both.commit(&tx)? == Some(Verdict::Clear(false)));
+        for k in 0..3u8 {
+            let tx = reader_of(rt.alloc(), 0, n - n / 4 * k, 3 * n + k)?;
+            assert!(rt; both.commit(&tx)? == Some(Verdict::Clear(true)));
+        }
+    }
+    Ok(())
+}
