@@ -292,18 +292,24 @@ fn reader_of(alloc: Global, begin: u64, writer: u8, n: u8) -> Result<Transaction
     Ok(tx)
 }
 
+// Commits one that has read what a `writer` wrote, which is found to have committed since its begin.
+fn finds(both: &mut Both, alloc: Global, writer: u8, n: u8) -> Result<bool, Memory> {
+    let tx = reader_of(alloc, 0, writer, n)?;
+    Ok(both.commit(&tx)? == Some(Verdict::Clear(true)))
+}
+
 // Two thousand written keys, and beside them commits that move the merges of their runs on by few steps each, so that large ones are half
-// done again and again. Each of these has read what one of the others wrote, which committed after its begin.
+// done again and again. Each of these has read what one of the others wrote.
 #[test]
 fn while_large_runs_are_merged(rt: HostRuntime) -> Result<(), Fail> {
-    let mut both = Both::new(rt.alloc());
+    let alloc = rt.alloc();
+    let mut both = Both::new(alloc);
     for n in 0..33u8 {
-        let tx = writer(rt.alloc(), both.committed.last(), n)?;
+        let tx = writer(alloc, both.committed.last(), n)?;
         assert!(rt; both.commit(&tx)? == Some(Verdict::Clear(false)));
-        for k in 0..3u8 {
-            let tx = reader_of(rt.alloc(), 0, n - n / 4 * k, 3 * n + k)?;
-            assert!(rt; both.commit(&tx)? == Some(Verdict::Clear(true)));
-        }
+        assert!(rt; finds(&mut both, alloc, n, 3 * n)?);
+        assert!(rt; finds(&mut both, alloc, n - n / 4, 3 * n + 1)?);
+        assert!(rt; finds(&mut both, alloc, n / 2, 3 * n + 2)?);
     }
     Ok(())
 }
