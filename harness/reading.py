@@ -260,9 +260,9 @@ def follow_unknown(reading):
 STATES = "One state: isolated, and serializable"
 BEHIND = "Behind the refinement relation"
 BEHIND_INTRO = (
-    " None of them need be read. The clauses say of this relation of an engine and a state of the machine only that some state is represented"
-    " at an opening, that each call leads from each represented state to one that is so related, and, by equations, what is seen meanwhile:"
-    " replies, faults, images. That is refinement for any relation, also one that nobody knows.")
+    " None of them need be read. The clauses say little of this relation of an engine and a state of the machine. Some state is represented at an"
+    " opening. Each call leads from each represented state to one that is so related. And equations say what is seen meanwhile: replies, faults,"
+    " images. That is refinement for any relation, also one that nobody knows.")
 
 HEAD = """# Definitions
 
