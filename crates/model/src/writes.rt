@@ -1,5 +1,6 @@
 //! What transactions write.
-ghost use Rattle.std.specs.Prelude.{◌≡◌, option_map, option_copied};
+ghost use Rattle.std.specs.Prelude.{◌≡◌, option_map, option_copied, IfSome};
+ghost use Rattle.model.specs.Key.{IsValue};
 ghost use Rattle.model.specs.Map.{key_cmp};
 
 use crate::keys::{Key, KeyRef};
@@ -9,21 +10,25 @@ use std::marker::Model;
 /// A written key with its last value, of at most `VALUE_MAX` bytes, or `None` where it was deleted. A clause sees the pair.
 #[derive(Drop)]
 pub struct Write {
-    pub key: Key,
-    pub value: Option<Vec<u8>>,
+    key: Key,
+    value: Option<Vec<u8>>,
 }
 
 impl Model for Write {
-    ghost use Rattle.std.specs.Prelude.{ℕ, List, Option, option_map};
+    ghost use Rattle.std.specs.Prelude.{ℕ, List, Option, option_map, IfSome};
+    ghost use Rattle.model.specs.Key.{IsValue};
 
     ghost Value = { List ℕ × Option (List ℕ) };
 
     ghost view = { λ w. (w.key, option_map (λ v. v.items) w.value) };
+
+    ghost invariant = { λ w. IfSome (option_map (λ v. v.items) w.value) IsValue };
 }
 
 impl Write {
     /// A write of this value, or a deletion. Takes no memory.
     pub fn new(key: Key, value: Option<Vec<u8>>) -> Write
+        requires { IfSome (option_map (λ v. v.items) value) IsValue }
         ensures { result ≡ (key, option_map (λ v. v.items) value) }
     {
         Write { key, value }
@@ -45,7 +50,8 @@ impl Write {
 
     /// Lends the value, or answers `None` where the key was deleted. Takes no memory.
     pub fn value(&self) -> Option<&[u8]>
-        ensures { option_copied result ≡ self.now.1 }
+        ensures value { option_copied result ≡ self.now.1 }
+        ensures bound { IfSome self.now.1 IsValue }
     {
         match &self.value {
             None => None,
@@ -55,6 +61,7 @@ impl Write {
 
     /// Puts another value, or a deletion, in the place of the one that is there. Takes no memory.
     pub fn set_value(&mut self, value: Option<Vec<u8>>)
+        requires { IfSome (option_map (λ v. v.items) value) IsValue }
         ensures { self.new ≡ (self.old.0, option_map (λ v. v.items) value) }
     {
         self.value = value;
@@ -62,7 +69,8 @@ impl Write {
 
     /// The key and the value. Takes no memory.
     pub fn into_parts(self) -> (Key, Option<Vec<u8>>)
-        ensures { (result.0, option_map (λ v. v.items) result.1) ≡ self }
+        ensures parts { (result.0, option_map (λ v. v.items) result.1) ≡ self }
+        ensures bound { IfSome self.1 IsValue }
     {
         (self.key, self.value)
     }
