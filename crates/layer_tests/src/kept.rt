@@ -1,5 +1,6 @@
 //! The versions that are kept.
-ghost use Rattle.std.specs.Prelude.{◌≡◌, ◌^◌, ◌<◌, OnOk};
+ghost use Rattle.std.specs.Prelude.{◌≡◌, ◌^◌, ◌<◌, OnOk, IfSome, option_map};
+ghost use Rattle.model.specs.Key.{IsValue};
 
 use crate::helpers::{is_pair, key, put};
 use model::{Key, KeyRef, Map, Memory, RangeRef, Write};
@@ -15,6 +16,7 @@ fn commit(
     key: KeyRef<'_>,
     value: Option<Vec<u8>>,
 ) -> Result<(), Memory>
+    requires bound { IfSome (option_map (λ v. v.items) value) IsValue }
     requires above { versions.old.last < n }
     requires fits { n < 2 ^ 63 }
     ensures { OnOk result (versions.new.last ≡ n) }

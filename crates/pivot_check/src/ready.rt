@@ -23,7 +23,7 @@ fn copy_keys(alloc: Global, writes: &[Write]) -> Result<Vec<Key>, Memory>
 {
     let mut keys = Vec::with_capacity(alloc, writes.len())?;
     for write in writes {
-        keys.push(write.key.copy()?)?;
+        keys.push(Key::from_ref(alloc, write.lend_key())?)?;
     }
     Ok(keys)
 }

@@ -1,4 +1,5 @@
 //! A transaction's private copy.
+ghost use Rattle.model.specs.Key.{IsValue};
 
 use crate::commits::Commit;
 use crate::faults::EngineFault;
@@ -89,7 +90,9 @@ impl PrivateCopy {
         }
     }
 
-    pub fn set(&mut self, alloc: Global, key: KeyRef<'_>, value: &[u8]) -> Result<(), EngineFault> {
+    pub fn set(&mut self, alloc: Global, key: KeyRef<'_>, value: &[u8]) -> Result<(), EngineFault>
+        requires { IsValue value.now }
+    {
         if self.is_written(key) {
             self.contents = with_value(alloc, &self.contents, key, value)?;
             return Ok(());

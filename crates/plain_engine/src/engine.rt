@@ -1,4 +1,5 @@
 //! The engine.
+ghost use Rattle.model.specs.Key.{IsValue};
 
 use crate::commits::{Commit, body_sectors, conflict_of, with_writes};
 use crate::copies::PrivateCopy;
@@ -108,7 +109,9 @@ impl Engine {
         s: u64,
         key: KeyRef<'_>,
         value: &[u8],
-    ) -> Result<(), EngineFault> {
+    ) -> Result<(), EngineFault>
+        requires { IsValue value.now }
+    {
         match self.running.get_mut(&s) {
             Some(transaction) => transaction.copy.set(alloc, key, value),
             None => Err(EngineFault::Refused(Refusal::NotOpen)),

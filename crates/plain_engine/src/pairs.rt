@@ -1,11 +1,12 @@
 //! Maps and sets of keys as plain lists.
+ghost use Rattle.model.specs.Key.{IsValue};
 
 use model::{Key, KeyRef, Memory, RangeRef, Write};
 use std::alloc::Global;
 use std::cmp::Ordering;
 use std::marker::Model;
 
-/// A value. A clause sees its bytes.
+/// A value of at most `VALUE_MAX` bytes. A clause sees its bytes.
 #[derive(Drop)]
 pub struct Value {
     bytes: Vec<u8>,
@@ -13,22 +14,28 @@ pub struct Value {
 
 impl Model for Value {
     ghost use Rattle.std.specs.Prelude.{ℕ, List};
+    ghost use Rattle.model.specs.Key.{IsValue};
 
     ghost Value = { List ℕ };
 
     ghost view = { λ v. v.bytes.items };
+
+    ghost invariant = { λ v. IsValue v.bytes.items };
 }
 
 impl Value {
     ghost use Rattle.std.specs.Prelude.{◌≡◌};
 
-    pub fn copied(alloc: Global, bytes: &[u8]) -> Result<Value, Memory> {
+    pub fn copied(alloc: Global, bytes: &[u8]) -> Result<Value, Memory>
+        requires { IsValue bytes.now }
+    {
         let bytes = bytes.to_vec(alloc)?;
         Ok(Value { bytes })
     }
 
     pub fn lend(&self) -> &[u8]
-        ensures { result.now ≡ self.now }
+        ensures bytes { result.now ≡ self.now }
+        ensures bound { IsValue result.now }
     {
         &self.bytes
     }
@@ -75,7 +82,9 @@ pub fn with_value(
     contents: &[(Key, Value)],
     key: KeyRef<'_>,
     value: &[u8],
-) -> Result<Vec<(Key, Value)>, Memory> {
+) -> Result<Vec<(Key, Value)>, Memory>
+    requires { IsValue value.now }
+{
     let mut out = Vec::new(alloc);
     let mut placed = false;
     for pair in contents {

@@ -18,7 +18,7 @@ impl Record {
     fn new(alloc: Global, tx: &Transaction, commit: u64) -> Result<Record, Memory> {
         let mut writes = Vec::new(alloc);
         for write in tx.entries() {
-            writes.push(write.key.copy()?)?;
+            writes.push(Key::from_ref(alloc, write.lend_key())?)?;
         }
         Ok(Record {
             begin: tx.begin(),
