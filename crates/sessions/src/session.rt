@@ -13,12 +13,15 @@ use std::marker::Model;
 pub(crate) struct Session {
     inbox: Buffer,
     output: Buffer,
+    /// Memory was refused where an emptied output was to give its room back.
+    has_surplus: bool,
     status: Status,
 }
 
 impl Model for Session {
-    ghost use Rattle.std.specs.Prelude.{◌≤◌, vec_len, vec_capacity};
+    ghost use Rattle.std.specs.Prelude.{◌≡◌, ◌≤◌, false, vec_len, vec_capacity};
     ghost use Rattle.model.specs.Bounds.{inbox_max};
+    ghost use Rattle.sessions.specs.Calls.{output_kept};
     ghost use Rattle.sessions.specs.Calls.{rest};
     ghost use Rattle.sessions.specs.SessionStreams.{SessionState};
 
@@ -27,7 +30,8 @@ impl Model for Session {
     ghost view = { λ t. record { inbox = rest t.inbox; pending = rest t.output; status = t.status } };
 
     ghost invariant = { λ t. (t.inbox.start ≤ vec_len t.inbox.bytes) × (vec_len t.inbox.bytes ≤ inbox_max) × (inbox_max ≤ vec_capacity t.inbox.bytes)
-        × (t.output.start ≤ vec_len t.output.bytes) × (536 ≤ vec_capacity t.output.bytes) };
+        × (t.output.start ≤ vec_len t.output.bytes) × (536 ≤ vec_capacity t.output.bytes)
+        × (t.has_surplus ≡ false → vec_len t.output.bytes ≡ 0 → vec_capacity t.output.bytes ≤ output_kept) };
 }
 
 impl Session {
@@ -56,6 +60,7 @@ impl Session {
                 bytes: output,
                 start: 0,
             },
+            has_surplus: false,
             status: Status::Open,
         })
     }
@@ -109,7 +114,8 @@ impl Session {
         ensures { self.new ≡ record { inbox = self.old.inbox; pending = drop n self.old.pending; status = self.old.status } }
     {
         self.output.consume(n);
-        self.output.give_back(OUTPUT_ROOM, OUTPUT_KEPT);
+        let given = self.output.give_back(OUTPUT_ROOM, OUTPUT_KEPT);
+        self.has_surplus = given.is_err();
     }
 
     /// Executes the request at the front of the inbox, if a reply is not pending and a whole request stands there.
@@ -123,7 +129,10 @@ impl Session {
             return Outcome::Idle;
         }
         self.output.clear();
-        match serve_request(engine, s, self.inbox.as_slice(), &mut self.output.bytes) {
+        let served = serve_request(engine, s, self.inbox.as_slice(), &mut self.output.bytes);
+        let given = self.output.give_back(OUTPUT_ROOM, OUTPUT_KEPT);
+        self.has_surplus = given.is_err();
+        match served {
             Served::Answered(used) => {
                 self.inbox.consume(used);
                 Outcome::Done
