@@ -1,4 +1,7 @@
 //! One session that is present.
+ghost use Rattle.std.specs.Prelude.{◌≡◌, [], IfOk, vec_capacity};
+ghost use Rattle.model.specs.Bounds.{inbox_max};
+
 use crate::buffer::Buffer;
 use crate::events::{INBOX_MAX, OUTPUT_KEPT, OUTPUT_ROOM, Outcome, Status};
 use crate::requests::{Served, serve_request};
@@ -7,6 +10,28 @@ use model::Memory;
 use sector::Sectors;
 use std::alloc::Global;
 use std::marker::Model;
+
+/// An inbox that asked for `INBOX_MAX` bytes and no more.
+fn empty_inbox(alloc: Global) -> Result<Buffer, Memory>
+    ensures empty { IfOk result (λ b. (b.bytes.items ≡ []) × (b.start ≡ 0)) }
+    ensures exact { IfOk result (λ b. vec_capacity b.bytes ≡ inbox_max) }
+{
+    match Vec::with_capacity(alloc, INBOX_MAX) {
+        Ok(bytes) => Ok(Buffer { bytes, start: 0 }),
+        Err(_refused) => Err(Memory),
+    }
+}
+
+/// An output that asked for `OUTPUT_ROOM` bytes and no more.
+fn empty_output(alloc: Global) -> Result<Buffer, Memory>
+    ensures empty { IfOk result (λ b. (b.bytes.items ≡ []) × (b.start ≡ 0)) }
+    ensures exact { IfOk result (λ b. vec_capacity b.bytes ≡ 536) }
+{
+    match Vec::with_capacity(alloc, OUTPUT_ROOM) {
+        Ok(bytes) => Ok(Buffer { bytes, start: 0 }),
+        Err(_refused) => Err(Memory),
+    }
+}
 
 /// What came in and was not read yet, what is to be sent, and how the session stands.
 #[derive(Drop)]
@@ -45,21 +70,11 @@ impl Session {
     pub(crate) fn new(alloc: Global) -> Result<Session, Memory>
         ensures { IfOk result (λ t. t ≡ new_session) }
     {
-        let Ok(inbox) = Vec::with_capacity(alloc, INBOX_MAX) else {
-            return Err(Memory);
-        };
-        let Ok(output) = Vec::with_capacity(alloc, OUTPUT_ROOM) else {
-            return Err(Memory);
-        };
+        let inbox = empty_inbox(alloc)?;
+        let output = empty_output(alloc)?;
         Ok(Session {
-            inbox: Buffer {
-                bytes: inbox,
-                start: 0,
-            },
-            output: Buffer {
-                bytes: output,
-                start: 0,
-            },
+            inbox,
+            output,
             has_surplus: false,
             status: Status::Open,
         })
