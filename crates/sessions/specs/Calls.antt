@@ -23,6 +23,10 @@ use Rattle.sessions.specs.SessionStreams.{SessionState, Front, Whole, More, Bad,
 abbrev pub rest : Buffer → Bytes
 rest b = drop b.start b.bytes.items
 
+-- the most bytes of room that an emptied output keeps
+abbrev pub output_kept : ℕ
+output_kept = 65536
+
 -- whether the device failed between the two
 abbrev pub has_failed : {D : Type 0} {g : Ghosts D} → Engine D g → Engine D g → Bool
 has_failed old new = has_risen (failures_of old) (failures_of new)

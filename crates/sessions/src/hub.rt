@@ -70,7 +70,8 @@ impl<D: Sectors> Hub<D> {
         }
     }
 
-    /// How many bytes the session's inbox still takes, from 0 to `INBOX_MAX`; 0 for an absent session. Takes no memory.
+    /// How many bytes the session's inbox has room for, from 0 to `INBOX_MAX`; 0 for an absent session. One that is not `Open` takes none of
+    /// them, whatever its room. Takes no memory.
     pub fn room(&self, s: u64) -> usize
         ensures { (h : HubState) → StandsFor self.now h → result ≡ room_in (stream_of h s) }
     {

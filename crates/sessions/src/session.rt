@@ -1,4 +1,7 @@
 //! One session that is present.
+ghost use Rattle.std.specs.Prelude.{◌≡◌, [], IfOk, vec_capacity};
+ghost use Rattle.model.specs.Bounds.{inbox_max};
+
 use crate::buffer::Buffer;
 use crate::events::{INBOX_MAX, OUTPUT_KEPT, OUTPUT_ROOM, Outcome, Status};
 use crate::requests::{Served, serve_request};
@@ -8,17 +11,42 @@ use sector::Sectors;
 use std::alloc::Global;
 use std::marker::Model;
 
+/// An inbox that asked for `INBOX_MAX` bytes and no more.
+fn empty_inbox(alloc: Global) -> Result<Buffer, Memory>
+    ensures empty { IfOk result (λ b. (b.bytes.items ≡ []) × (b.start ≡ 0)) }
+    ensures exact { IfOk result (λ b. vec_capacity b.bytes ≡ inbox_max) }
+{
+    match Vec::with_capacity(alloc, INBOX_MAX) {
+        Ok(bytes) => Ok(Buffer { bytes, start: 0 }),
+        Err(_refused) => Err(Memory),
+    }
+}
+
+/// An output that asked for `OUTPUT_ROOM` bytes and no more.
+fn empty_output(alloc: Global) -> Result<Buffer, Memory>
+    ensures empty { IfOk result (λ b. (b.bytes.items ≡ []) × (b.start ≡ 0)) }
+    ensures exact { IfOk result (λ b. vec_capacity b.bytes ≡ 536) }
+{
+    match Vec::with_capacity(alloc, OUTPUT_ROOM) {
+        Ok(bytes) => Ok(Buffer { bytes, start: 0 }),
+        Err(_refused) => Err(Memory),
+    }
+}
+
 /// What came in and was not read yet, what is to be sent, and how the session stands.
 #[derive(Drop)]
 pub(crate) struct Session {
     inbox: Buffer,
     output: Buffer,
+    /// Memory was refused where an emptied output was to give its room back.
+    has_surplus: bool,
     status: Status,
 }
 
 impl Model for Session {
-    ghost use Rattle.std.specs.Prelude.{◌≤◌, vec_len, vec_capacity};
+    ghost use Rattle.std.specs.Prelude.{◌≡◌, ◌≤◌, false, vec_len, vec_capacity};
     ghost use Rattle.model.specs.Bounds.{inbox_max};
+    ghost use Rattle.sessions.specs.Calls.{output_kept};
     ghost use Rattle.sessions.specs.Calls.{rest};
     ghost use Rattle.sessions.specs.SessionStreams.{SessionState};
 
@@ -27,7 +55,8 @@ impl Model for Session {
     ghost view = { λ t. record { inbox = rest t.inbox; pending = rest t.output; status = t.status } };
 
     ghost invariant = { λ t. (t.inbox.start ≤ vec_len t.inbox.bytes) × (vec_len t.inbox.bytes ≤ inbox_max) × (inbox_max ≤ vec_capacity t.inbox.bytes)
-        × (t.output.start ≤ vec_len t.output.bytes) × (536 ≤ vec_capacity t.output.bytes) };
+        × (t.output.start ≤ vec_len t.output.bytes) × (536 ≤ vec_capacity t.output.bytes)
+        × (t.has_surplus ≡ false → vec_len t.output.bytes ≡ 0 → vec_capacity t.output.bytes ≤ output_kept) };
 }
 
 impl Session {
@@ -41,21 +70,12 @@ impl Session {
     pub(crate) fn new(alloc: Global) -> Result<Session, Memory>
         ensures { IfOk result (λ t. t ≡ new_session) }
     {
-        let Ok(inbox) = Vec::with_capacity(alloc, INBOX_MAX) else {
-            return Err(Memory);
-        };
-        let Ok(output) = Vec::with_capacity(alloc, OUTPUT_ROOM) else {
-            return Err(Memory);
-        };
+        let inbox = empty_inbox(alloc)?;
+        let output = empty_output(alloc)?;
         Ok(Session {
-            inbox: Buffer {
-                bytes: inbox,
-                start: 0,
-            },
-            output: Buffer {
-                bytes: output,
-                start: 0,
-            },
+            inbox,
+            output,
+            has_surplus: false,
             status: Status::Open,
         })
     }
@@ -109,7 +129,8 @@ impl Session {
         ensures { self.new ≡ record { inbox = self.old.inbox; pending = drop n self.old.pending; status = self.old.status } }
     {
         self.output.consume(n);
-        self.output.give_back(OUTPUT_ROOM, OUTPUT_KEPT);
+        let given = self.output.give_back(OUTPUT_ROOM, OUTPUT_KEPT);
+        self.has_surplus = given.is_err();
     }
 
     /// Executes the request at the front of the inbox, if a reply is not pending and a whole request stands there.
@@ -123,7 +144,10 @@ impl Session {
             return Outcome::Idle;
         }
         self.output.clear();
-        match serve_request(engine, s, self.inbox.as_slice(), &mut self.output.bytes) {
+        let served = serve_request(engine, s, self.inbox.as_slice(), &mut self.output.bytes);
+        let given = self.output.give_back(OUTPUT_ROOM, OUTPUT_KEPT);
+        self.has_surplus = given.is_err();
+        match served {
             Served::Answered(used) => {
                 self.inbox.consume(used);
                 Outcome::Done
