@@ -10,12 +10,9 @@ use Rattle.model.specs.Grammar.{crlf, bulk}
 use Rattle.model.specs.KeyBytes.{pair_bytes}
 use Rattle.model.specs.Operations.Response.{Pairs}
 use Rattle.model.specs.ReplyText.{pair_text, reply_text}
+use Rattle.resp.proofs.Appending.{not_ok}
 use Rattle.resp.proofs.GivenPairs.{given_front, same_given, pairs_text, pairs_more, pairs_front}
 use Rattle.resp.proofs.writing.write_pairs.Goals as goal
-
-not_ok : {T E : Type 0} (r : Result T E) → is_err r ≡ true → is_ok r ≡ false
-not_ok (Ok x) e = absurd cc
-not_ok (Err x) e = refl
 
 pub returns-then-is_err-clause-room : goal.returns-then-is_err-clause-room
 returns-then-is_err-clause-room g c all given fits =
