@@ -1,5 +1,5 @@
-use Rattle.std.proofs.Common.{◌≡◌, ◌++◌, ◌+◌, ℕ, List, Bool, true, false, [], length, take, get_or, arith, vec_len, length-append, ap, sym, ◌∙◌, Result, Ok, Err, refl, cond}
-use Rattle.std.specs.Prelude.{is_ok, is_err}
+use Rattle.std.proofs.Common.{◌≡◌, ◌++◌, ◌+◌, ℕ, List, Bool, true, false, [], length, take, get_or, arith, vec_len, length-append, ap, sym, ◌∙◌, cond}
+use Rattle.std.specs.Prelude.{is_ok}
 use Rattle.std.specs.Borrow.{Bor}
 use Rattle.resp.specs.Writing.{joined}
 use Rattle.resp.proofs.Appending.{joined_more, joined_front, kept, not_ok}

@@ -1,5 +1,5 @@
-use Rattle.std.proofs.Common.{◌≡◌, ◌++◌, ◌∷◌, ◌+◌, ◌*◌, ◌≤◌, ℕ, List, true, false, [], length, arith, vec_len, length-append, ap, sym, subst, ◌∙◌, Result, Ok, Err, refl}
-use Rattle.std.specs.Prelude.{is_ok, is_err, codes}
+use Rattle.std.proofs.Common.{◌≡◌, ◌++◌, ◌∷◌, ◌+◌, ◌*◌, ◌≤◌, ℕ, List, true, false, [], length, arith, vec_len, length-append, ap, sym, subst, ◌∙◌, refl}
+use Rattle.std.specs.Prelude.{is_ok, codes}
 use Rattle.std.specs.List.{flat_map}
 use Rattle.std.specs.Fmt.{decimal}
 use Rattle.std.specs.Iterator.{AlwaysYields}

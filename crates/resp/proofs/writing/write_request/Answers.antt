@@ -1,4 +1,4 @@
-use Rattle.std.proofs.Common.{◌≡◌, ◌+◌, ℕ, List, true, false, [], length, take, get_or, arith, vec_len, length-append, ap, sym, ◌∙◌, Result, Ok, Err, refl}
+use Rattle.std.proofs.Common.{◌≡◌, ◌+◌, ℕ, List, true, false, [], length, take, get_or, arith, vec_len, length-append, ap, sym, ◌∙◌, Result, Ok, Err}
 use Rattle.std.specs.Prelude.{is_ok, is_err, OnErr}
 use Rattle.std.specs.Borrow.{Bor}
 use Rattle.std.proofs.lemmas.List.{length-map}
