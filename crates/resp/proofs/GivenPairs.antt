@@ -1,6 +1,6 @@
 -- The pairs that an iterator gives, written one after the other.
 use Rattle.std.proofs.lemmas.Grind.{common_steps}
-use Rattle.std.proofs.Common.{◌≡◌, ℕ, ◌*◌, ◌≤◌, List, [], ◌∷◌, ◌++◌, length, map, Option, None, refl, sym, ap, subst, ◌∙◌, append_assoc, arith, length-append}
+use Rattle.std.proofs.Common.{◌≡◌, ℕ, ◌*◌, ◌≤◌, List, [], ◌∷◌, ◌++◌, length, map, Option, None, refl, sym, subst, append_assoc, arith, length-append}
 use Rattle.std.specs.Prelude.{codes}
 use Rattle.std.specs.List.{flat_map}
 use Rattle.std.specs.Borrow.{Bor}
@@ -30,9 +30,7 @@ abbrev pub pairs_text : ℕ → List (KeyRef × Bor (List ℕ)) → List ℕ
 pairs_text n pairs = (codes "*" ++ decimal (2 * n) ++ crlf) ++ flat_map pair_text (map pair_bytes pairs)
 
 pub pairs_more : (n : ℕ) (pairs : List (KeyRef × Bor (List ℕ))) (pair : KeyRef × Bor (List ℕ)) → pairs_text n pairs ++ pair_text (pair_bytes pair) ≡ pairs_text n (pairs ++ pair ∷ [])
-pairs_more n pairs pair =
-    append_assoc (codes "*" ++ decimal (2 * n) ++ crlf) (flat_map pair_text (map pair_bytes pairs)) (pair_text (pair_bytes pair))
-    ∙ ap (λ (xs : List ℕ). (codes "*" ++ decimal (2 * n) ++ crlf) ++ xs) (sym (ap (flat_map pair_text) (map-append pair_bytes pairs (pair ∷ [])) ∙ flat_map-append pair_text (map pair_bytes pairs) (pair_bytes pair ∷ []) ∙ ap (λ (xs : List ℕ). flat_map pair_text (map pair_bytes pairs) ++ xs) (append-nil (pair_text (pair_bytes pair)))))
+pairs_more n pairs pair = grind (arith, common_steps, append_assoc, map-append, flat_map-append, append-nil)
 
 -- a front of the pairs has no longer text than all
 pub pairs_front : (n : ℕ) (pairs : List (KeyRef × Bor (List ℕ))) (rest all : List (List ℕ × List ℕ)) → map pair_bytes pairs ++ rest ≡ all → length all ≡ n → length (pairs_text n pairs) ≤ length (reply_text (Pairs all))

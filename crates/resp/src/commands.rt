@@ -47,6 +47,7 @@ fn end_of(bytes: &[u8]) -> Result<Option<KeyRef<'_>>, Refusal>
     Ok(Some(key))
 }
 
+#[tactic(auto, using(crate::proofs::Limits::limit_found, crate::proofs::Limits::limit_absent, crate::proofs::Limits::zero_alone))]
 fn limit_of(digits: &[u8]) -> Result<u8, Refusal>
     ensures meant { Means (λ n. n) result (limit_in digits.now) }
     ensures range { IfOk result (λ n. (1 ≤ n) × (n ≤ 128)) }

@@ -51,6 +51,7 @@ pub fn read_decimal(digits: &[u8], max: usize) -> Option<usize>
 }
 
 // What follows this byte.
+#[tactic(auto, using(crate::proofs::Behind::nothing_of_word))]
 fn after(mark: u8, bytes: &[u8]) -> Result<&[u8], Stop>
     ensures { Passes (mark ∷ []) bytes.now result }
 {
@@ -168,6 +169,7 @@ pub fn decode(input: &[u8]) -> Decoded<'_>
 }
 
 /// No request's spelling begins another's, and each spells one request alone.
+#[tactic(auto, using(crate::proofs::Requests::array_one_form))]
 pub fn one_spelling()
     ensures { OneSpelling }
 {}

@@ -1,13 +1,9 @@
-use Rattle.std.proofs.Common.{◌≡◌, ◌++◌, ◌+◌, ℕ, List, Bool, true, false, [], length, take, get_or, arith, vec_len, length-append, ap, sym, ◌∙◌, Result, Ok, Err, refl, cond}
-use Rattle.std.specs.Prelude.{is_ok, is_err}
+use Rattle.std.proofs.Common.{◌≡◌, ◌++◌, ◌+◌, ℕ, List, Bool, true, false, [], length, take, get_or, arith, vec_len, length-append, ap, sym, ◌∙◌, cond}
+use Rattle.std.specs.Prelude.{is_ok}
 use Rattle.std.specs.Borrow.{Bor}
 use Rattle.resp.specs.Writing.{joined}
-use Rattle.resp.proofs.Appending.{joined_more, joined_front, kept}
+use Rattle.resp.proofs.Appending.{joined_more, joined_front, kept, not_ok}
 use Rattle.resp.proofs.writing.append.Goals as goal
-
-not_ok : {T E : Type 0} (r : Result T E) → is_err r ≡ true → is_ok r ≡ false
-not_ok (Ok x) e = absurd cc
-not_ok (Err x) e = refl
 
 pub returns-then-is_err : goal.returns-then-is_err
 returns-then-is_err c =

@@ -1,5 +1,5 @@
-use Rattle.std.proofs.Common.{◌≡◌, ◌++◌, ◌∷◌, ◌+◌, ◌*◌, ◌≤◌, ℕ, List, true, false, [], length, arith, vec_len, length-append, ap, sym, subst, ◌∙◌, Result, Ok, Err, refl}
-use Rattle.std.specs.Prelude.{is_ok, is_err, codes}
+use Rattle.std.proofs.Common.{◌≡◌, ◌++◌, ◌∷◌, ◌+◌, ◌*◌, ◌≤◌, ℕ, List, true, false, [], length, arith, vec_len, length-append, ap, sym, subst, ◌∙◌, refl}
+use Rattle.std.specs.Prelude.{is_ok, codes}
 use Rattle.std.specs.List.{flat_map}
 use Rattle.std.specs.Fmt.{decimal}
 use Rattle.std.specs.Iterator.{AlwaysYields}
@@ -10,12 +10,9 @@ use Rattle.model.specs.Grammar.{crlf, bulk}
 use Rattle.model.specs.KeyBytes.{pair_bytes}
 use Rattle.model.specs.Operations.Response.{Pairs}
 use Rattle.model.specs.ReplyText.{pair_text, reply_text}
+use Rattle.resp.proofs.Appending.{not_ok}
 use Rattle.resp.proofs.GivenPairs.{given_front, same_given, pairs_text, pairs_more, pairs_front}
 use Rattle.resp.proofs.writing.write_pairs.Goals as goal
-
-not_ok : {T E : Type 0} (r : Result T E) → is_err r ≡ true → is_ok r ≡ false
-not_ok (Ok x) e = absurd cc
-not_ok (Err x) e = refl
 
 pub returns-then-is_err-clause-room : goal.returns-then-is_err-clause-room
 returns-then-is_err-clause-room g c all given fits =

@@ -1,15 +1,11 @@
-use Rattle.std.proofs.Common.{◌≡◌, ◌+◌, ℕ, List, true, false, [], length, take, get_or, arith, vec_len, length-append, ap, sym, ◌∙◌, Result, Ok, Err, refl}
+use Rattle.std.proofs.Common.{◌≡◌, ◌+◌, ℕ, List, true, false, [], length, take, get_or, arith, vec_len, length-append, ap, sym, ◌∙◌, Result, Ok, Err}
 use Rattle.std.specs.Prelude.{is_ok, is_err, OnErr}
 use Rattle.std.specs.Borrow.{Bor}
 use Rattle.std.proofs.lemmas.List.{length-map}
 use Rattle.model.specs.Grammar.{bulk, array_of_bulks}
-use Rattle.resp.proofs.Appending.{kept}
+use Rattle.resp.proofs.Appending.{kept, not_ok}
 use Rattle.resp.proofs.GivenParts.{bytes_of, parts_text, parts_more, parts_all, parts_front}
 use Rattle.resp.proofs.writing.write_request.Goals as goal
-
-not_ok : {T E : Type 0} (r : Result T E) → is_err r ≡ true → is_ok r ≡ false
-not_ok (Ok x) e = absurd cc
-not_ok (Err x) e = refl
 
 at_err : {T E : Type 0} (P : Type 0) (r : Result T E) → is_err r ≡ true → OnErr r P → P
 at_err P (Ok x) e h = absurd cc
