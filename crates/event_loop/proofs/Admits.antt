@@ -22,7 +22,7 @@ module _ {T D : Type 0} {g : Ghosts D} (hub later : Hub D g) (next then : ℕ) (
   abbrev slab_of : List (Option (Entry T)) → Slab (Entry T)
   slab_of l = record { slots = l; vacant_key = 0; capacity = 0 }
 
-  module _ (IsNew : T → Type 0) (l : LetsIn IsNew hub next slots later then new) where
+  module _ (IsNew : ℕ → T → Type 0) (l : LetsIn IsNew hub next slots later then new) where
     in_leads : HubLeads hub later (Joins l.entry.session) Done
     in_leads = subst (λ s. HubLeads hub later (Joins s) Done) (sym l.session) l.joined
 
@@ -72,7 +72,7 @@ module _ {T D : Type 0} {g : Ghosts D} (hub later : Hub D g) (next then : ℕ) (
     away_stands : Stands hub → Stands later
     away_stands some = elim a.hub_is [ inl same ↦ subst (λ h. Stands h) (sym same) some | inr j ↦ joined_stands hub later next j.0 j.2 some ]
 
-  module _ (IsNew : T → Type 0) (admits : Admits IsNew hub next slots later then new) where
+  module _ (IsNew : ℕ → T → Type 0) (admits : Admits IsNew hub next slots later then new) where
     pub admits_stands : Stands hub → Stands later
     admits_stands some = elim admits [ inl a ↦ away_stands a some | inr l ↦ joined_stands hub later next Done l.joined some ]
 

@@ -24,6 +24,7 @@ use Rattle.stream_driver.specs.Buffers.{Finishes, fresh, held_in, traffic_throug
 use Rattle.stream_driver.specs.Entries.{DrivenAll, EndsDrive, EndsIn, HaveSessions, KeepSessions, is_over}
 use Rattle.stream_driver.specs.Sends.{AreToldBefore, DrivesTelling, HaveSent, IsAnswered}
 use Rattle.stream_driver.specs.Traffic.{Departure, DepartAt, IsBeginning, Traffic}
+use Rattle.stream_driver.proofs.Buffering.{flushed_same}
 use Rattle.stream_driver.proofs.Carry.{all_then, run_then}
 use Rattle.stream_driver.proofs.Sends.{all_before, all_since, answered_since, answered_then, begins_through}
 use Rattle.stream_driver.proofs.States.{at_point, point_of}
@@ -36,10 +37,11 @@ use Rattle.event_loop.specs.Leavings.{EndAll, EndEach, LeavesAs, LeavesIf}
 use Rattle.event_loop.specs.Leavings.EndEach.{NoneEnded, OneMore as OneEnded}
 use Rattle.event_loop.specs.Lingerings.{AllTurned, AreTurned, DropsIf, Leaves, Lingerers}
 use Rattle.event_loop.specs.Numbers.{AreBelow}
-use Rattle.event_loop.specs.Sockets.{IsNewSocket, SocketsTell, traffic_of}
+use Rattle.event_loop.specs.Sockets.{IsNewSocket, SocketsTell, session_of, traffic_of}
 use Rattle.event_loop.specs.TableBytes.{HaveBytes, SocketsHaveBytes}
 use Rattle.event_loop.specs.Tables.{Admits, AdmitsEach, ComeEach, EndsTurn, after_event, after_poll, joins_of, slot_at, told, told_slot}
 use Rattle.event_loop.specs.Tables.AdmitsEach.{Nobody, OneMore}
+use Rattle.event_loop.proofs.SameNumbers.{driven_same}
 use Rattle.event_loop.proofs.Entries.{no_entry, some_inj}
 use Rattle.event_loop.proofs.TableBytes.{drives_bytes, polled_bytes}
 use Rattle.event_loop.proofs.Committed.{answered_committed}
@@ -89,17 +91,18 @@ module _ {D : Type 0} {g : Ghosts D} {hub : Hub D g} (served : Served hub) where
     -- what was told is told still
     pub tells_on : (s : ℕ) (t : Traffic) → Tells served s t → Tells served_on s t
     tells_on s t e = record {
+      number = e.number;
       told = all_since s (first_state served) ran_then served.first hub later served.choices fs ran t.departed e.told;
       answered = answered_since s (first_state served) served.choices fs t.taken e.answered;
     }
 
     lingerers_on : (all : List Lingerer) → LingerersTell served all → LingerersTell served_on all
     lingerers_on [] tells = tells
-    lingerers_on (l ∷ all) tells = ((tells.0.0, tells_on tells.0.0 (traffic_of l.socket) tells.0.1), lingerers_on all tells.1)
+    lingerers_on (l ∷ all) tells = (tells_on (session_of l.socket) (traffic_of l.socket) tells.0, lingerers_on all tells.1)
 
     -- a stream was called in a drive, or left alone
-    driven_tells : (s : ℕ) (t u : Traffic) → AreToldBefore s (present_state served) hub later fs t u → (u.taken ≡ t.taken) ⊎ IsAnswered s (present_state served) fs u.taken → Tells served s t → Tells served_on s u
-    driven_tells s t u left took e =
+    driven_tells : (s : ℕ) (t u : Traffic) → u.connection ≡ t.connection → AreToldBefore s (present_state served) hub later fs t u → (u.taken ≡ t.taken) ⊎ IsAnswered s (present_state served) fs u.taken → Tells served s t → Tells served_on s u
+    driven_tells s t u same_number left took e =
         let on = tells_on s t e in
         let told : AllByRecursion (IsTold served_on s) (t.departed ++ left.departures) =
         all_then (IsTold served_on s) t.departed left.departures on.told (all_before s (first_state served) ran_then served.first hub later served.choices fs served.ran left.departures left.each) in
@@ -107,7 +110,7 @@ module _ {D : Type 0} {g : Ghosts D} {hub : Hub D g} (served : Served hub) where
           | inl same ↦ subst (λ (bytes : List ℕ). IsAnswered s (first_state served) (served.choices ++ fs) bytes) (sym same) on.answered
           | inr since ↦ answered_then s (first_state served) served.choices fs u.taken since
         ] in
-        record { told = subst (λ (ds : List Departure). AllByRecursion (IsTold served_on s) ds) (sym left.departed_are) told; answered = answered }
+        record { number = same_number ∙ e.number; told = subst (λ (ds : List Departure). AllByRecursion (IsTold served_on s) ds) (sym left.departed_are) told; answered = answered }
 
 -- ---- what a stream holds leaves
 
@@ -115,6 +118,7 @@ module _ {D : Type 0} {g : Ghosts D} {hub : Hub D g} (served : Served hub) where
   -- no more has left than the connection took
   inner_tells : (s : ℕ) (b : BufferedStream Socket) → Tells served s (through b) → Tells served s (traffic_of b.inner)
   inner_tells s b e = record {
+    number = e.number;
     told = e.told;
     answered = record {
       by = e.answered.by;
@@ -125,6 +129,10 @@ module _ {D : Type 0} {g : Ghosts D} {hub : Hub D g} (served : Served hub) where
       answered = begins_through (traffic_of b.inner).taken (through b).taken (e.answered.stream.sent ++ e.answered.stream.now.pending) (record { rest = held_in b.held; all_is = refl }) e.answered.answered;
     };
   }
+
+  -- the session is that of the number
+  own_tells : (s : ℕ) (socket : Socket) → Tells served s (traffic_of socket) → Tells served (session_of socket) (traffic_of socket)
+  own_tells s socket e = subst (λ (n : ℕ). Tells served n (traffic_of socket)) (sym e.number) e
 
   module _ (none : NoneRuns hub) (moment : ℕ) (now : moment ≡ g.moment (device hub)) where
     leaves_now : (s : ℕ) (took : List ℕ) → IsAnswered s (first_state served) served.choices took → (ds : List Departure) → AllByRecursion (λ d. (d.moment ≡ moment) × IsBeginning d.bytes took) ds → AllByRecursion (IsTold served s) ds
@@ -151,16 +159,16 @@ module _ {D : Type 0} {g : Ghosts D} {hub : Hub D g} (served : Served hub) where
     )
 
     -- it took nothing, and what left leaves now
-    departs_tells : (s : ℕ) (t u : Traffic) → u.taken ≡ t.taken → DepartAt moment t u → Tells served s t → Tells served s u
-    departs_tells s t u same departs e =
+    departs_tells : (s : ℕ) (t u : Traffic) → u.connection ≡ t.connection → u.taken ≡ t.taken → DepartAt moment t u → Tells served s t → Tells served s u
+    departs_tells s t u same_number same departs e =
         let answered : IsAnswered s (first_state served) served.choices u.taken = subst (λ (bytes : List ℕ). IsAnswered s (first_state served) served.choices bytes) (sym same) e.answered in
         let told : AllByRecursion (IsTold served s) (t.departed ++ departs.departures) = all_then (IsTold served s) t.departed departs.departures e.told (leaves_now s u.taken answered departs.departures departs.each) in
-        record { told = subst (λ (ds : List Departure). AllByRecursion (IsTold served s) ds) (sym departs.departed_are) told; answered = answered }
+        record { number = same_number ∙ e.number; told = subst (λ (ds : List Departure). AllByRecursion (IsTold served s) ds) (sym departs.departed_are) told; answered = answered }
 
     finished_tells : SocketsTell → (s : ℕ) (old new : BufferedStream Socket) → Finishes SocketsTell traffic_of moment (fresh old) new → Tells served s (through old) → Tells served s (through new)
     finished_tells t s old new f e = elim f [
       | inl x ↦ subst (λ (b : BufferedStream Socket). Tells served s (through b)) (sym x.1) e
-      | inr y ↦ departs_tells s (through old) (through new) (y.2.kept.taken t) (y.2.kept.departed t) e
+      | inr y ↦ departs_tells s (through old) (through new) (flushed_same traffic_of (fresh old) new y.1 y.2.why) (y.2.kept.taken t) (y.2.kept.departed t) e
     ]
 
     ended_tells : SocketsTell → (s : ℕ) (state : EntryState) (old new : BufferedStream Socket) → EndsIn SocketsTell traffic_of moment state old new → Tells served s (through old) → Tells served s (through new)
@@ -191,8 +199,8 @@ module _ {D : Type 0} {g : Ghosts D} {hub : Hub D g} (served : Served hub) where
         | inl refused ↦ subst (λ (l : Lingerers). LingerersTell served l.all) (sym refused) tells
         | inr begun ↦
             subst (λ (l : Lingerers). LingerersTell served l.all) (sym begun.2)
-            (all_drop (λ (l : Lingerer). (s : ℕ) × Tells served s (traffic_of l.socket)) (length old.all + 1 - LINGERING_MAX) (old.all ++ begun.0 ∷ [])
-            (all_then (λ (l : Lingerer). (s : ℕ) × Tells served s (traffic_of l.socket)) old.all (begun.0 ∷ []) tells ((s, subst (λ (x : Socket). Tells served s (traffic_of x)) (sym begun.1.socket_is) e), tt)))
+            (all_drop (λ (l : Lingerer). Tells served (session_of l.socket) (traffic_of l.socket)) (length old.all + 1 - LINGERING_MAX) (old.all ++ begun.0 ∷ [])
+            (all_then (λ (l : Lingerer). Tells served (session_of l.socket) (traffic_of l.socket)) old.all (begun.0 ∷ []) tells (subst (λ (x : Socket). Tells served (session_of x) (traffic_of x)) (sym begun.1.socket_is) (own_tells s socket e), tt)))
       ]
     ]
 
@@ -213,7 +221,7 @@ module _ {D : Type 0} {g : Ghosts D} {hub : Hub D g} (served : Served hub) where
         leaves_as t time (slot_at between key) (slot_at new key) at.ended mid later at.leaves (λ was e. entries key was (sym (each_rest each key (omega arith)) ∙ e)) (each_lingers t time each entries tells)
 
     drops_tells : SocketsTell → (reads : Bool) (old : Lingerer) (dropped : Dropped) (new : Lingerer) → DropsIf moment reads old dropped new → (s : ℕ) → Tells served s (traffic_of old.socket) → Tells served s (traffic_of new.socket)
-    drops_tells t true old dropped new drops s e = departs_tells s (traffic_of old.socket) (traffic_of new.socket) (drops.taken t) (drops.departed t) e
+    drops_tells t true old dropped new drops s e = departs_tells s (traffic_of old.socket) (traffic_of new.socket) drops.connection (drops.taken t) (drops.departed t) e
     drops_tells t false old dropped new drops s e = subst (λ (l : Lingerer). Tells served s (traffic_of l.socket)) (sym drops.0) e
 
     turned_lingers : SocketsTell → (time : Option Instant) (reads : Bool) (old new : List Lingerer) (more : Bool) → AllTurned time moment reads old new more → LingerersTell served old → LingerersTell served new
@@ -221,14 +229,14 @@ module _ {D : Type 0} {g : Ghosts D} {hub : Hub D g} (served : Served hub) where
     turned_lingers t time reads (first ∷ others) new more turned tells = elim turned [
       | inl x ↦ turned_lingers t time reads others new more x.1 tells.1
       | inr (dropped, later, rest, of_rest, stays, all, is, more_is) ↦
-          subst (λ (l : List Lingerer). LingerersTell served l) (sym is) ((tells.0.0, drops_tells t reads first dropped later stays.0 tells.0.0 tells.0.1), turned_lingers t time reads others rest of_rest all tells.1)
+          subst (λ (l : List Lingerer). LingerersTell served l) (sym is) (own_tells (session_of first.socket) later.socket (drops_tells t reads first dropped later stays.0 (session_of first.socket) tells.0), turned_lingers t time reads others rest of_rest all tells.1)
     ]
 
     -- as they end
     all_end : SocketsTell → (reads : Bool) (all : List Lingerer) → LingerersTell served all
-        → AllByRecursion (λ l. (s : ℕ) × ((dropped : Dropped) (later : Lingerer) → DropsIf moment reads l dropped later → Tells served s (traffic_of later.socket))) all
+        → AllByRecursion (λ l. (dropped : Dropped) (later : Lingerer) → DropsIf moment reads l dropped later → Tells served (session_of l.socket) (traffic_of later.socket)) all
     all_end t reads [] tells = tells
-    all_end t reads (l ∷ all) tells = ((tells.0.0, λ dropped later drops. drops_tells t reads l dropped later drops tells.0.0 tells.0.1), all_end t reads all tells.1)
+    all_end t reads (l ∷ all) tells = (λ dropped later drops. drops_tells t reads l dropped later drops (session_of l.socket) tells.0, all_end t reads all tells.1)
 
 -- ---- the poll tells of entries
 
@@ -265,11 +273,12 @@ module _ {D : Type 0} {g : Ghosts D} (hub later : Hub D g) (moment : ℕ) (now :
   driven_tell s t key mid e =
       let h = present_state s.served in
       let stands = stands_now s.served in
+      let to = drives.leads.to (point_of hub h) (at_point hub h stands) in
       let was = numbers key mid e in
       let before = polled_still events key (slot_at slots key) was.0 (sym (polled key) ∙ was.1) in
       let sent = have_sent h ready t (polled_bytes SocketsTell traffic_of moment slots ready events polled h s.bytes) in
       subst (λ (n : ℕ). Tells (served_on s.served later drives.leads.choices drives.leads.ran) n (through mid.stream)) (sym was.2)
-      (driven_tells s.served later drives.leads.choices drives.leads.ran was.0.session (through was.0.stream) (through mid.stream) (drives.telling t h stands sent key was.0 mid was.1 e) (drives.answered t h stands sent key was.0 mid was.1 e)
+      (driven_tells s.served later drives.leads.choices drives.leads.ran was.0.session (through was.0.stream) (through mid.stream) (driven_same SocketsTell through (point_of hub h) ready to.0 driven to.2.1 key was.0 mid was.1 e) (drives.telling t h stands sent key was.0 mid was.1 e) (drives.answered t h stands sent key was.0 mid was.1 e)
       (still_tells s.served before.0 was.0 before.2 before.3 (s.tells t key before.0 before.1)))
 
   driven_serves : Serving hub slots old.all → Serving later new later_all.all
@@ -327,7 +336,7 @@ module _ {D : Type 0} {g : Ghosts D} (hub : Hub D g) (slots : Slots) where
 
 -- an entry was there, or it is new
 abbrev IsOldOrNew : Slots → ℕ → Connection → Type 0
-IsOldOrNew slots key entry = (slot_at slots key ≡ Some entry) ⊎ (IsNewSocket entry.stream × (entry.state ≢ Gone))
+IsOldOrNew slots key entry = (slot_at slots key ≡ Some entry) ⊎ (IsNewSocket entry.session entry.stream × (entry.state ≢ Gone))
 
 module _ {D : Type 0} {g : Ghosts D} where
   admits_from : (hub : Hub D g) (next : ℕ) (slots : Slots) (later : Hub D g) (then : ℕ) (new : Slots) → Admits IsNewSocket hub next slots later then new → (key : ℕ) (entry : Connection) → slot_at new key ≡ Some entry → IsOldOrNew slots key entry
@@ -336,7 +345,7 @@ module _ {D : Type 0} {g : Ghosts D} where
     | inr within ↦ elim (cases_eq key within.key) [
       | inl at ↦
           let which : within.entry ≡ entry = some_inj (sym within.changed ∙ ap (slot_at new) (sym at) ∙ e) in
-          inr (subst (λ (x : Connection). IsNewSocket x.stream) which within.fresh, λ gone. (let bad : Ready ≡ Gone = sym within.state ∙ ap (λ (x : Connection). x.state) which ∙ gone in cc))
+          inr (subst (λ (x : Connection). IsNewSocket x.session x.stream) which within.fresh, λ gone. (let bad : Ready ≡ Gone = sym within.state ∙ ap (λ (x : Connection). x.state) which ∙ gone in cc))
       | inr differs ↦ inl (sym (within.others key differs) ∙ e)
     ]
   ]
@@ -350,12 +359,13 @@ module _ {D : Type 0} {g : Ghosts D} where
   ]
 
 -- nothing left over a new connection
-new_tells : {D : Type 0} {g : Ghosts D} {hub : Hub D g} (served : Served hub) (slots : Slots) → SocketsTell → HaveTheirBytes (present_state served) slots → (key : ℕ) (entry : Connection) → slot_at slots key ≡ Some entry → IsNewSocket entry.stream → entry.state ≢ Gone
+new_tells : {D : Type 0} {g : Ghosts D} {hub : Hub D g} (served : Served hub) (slots : Slots) → SocketsTell → HaveTheirBytes (present_state served) slots → (key : ℕ) (entry : Connection) → slot_at slots key ≡ Some entry → IsNewSocket entry.session entry.stream → entry.state ≢ Gone
     → Tells served entry.session (through entry.stream)
 new_tells served slots t has key entry e fresh alive =
     let b = has key entry e alive in
     let none : (through entry.stream).departed ≡ [] = ap (λ (x : Socket). (traffic_of x).departed) fresh.2.inner_is ∙ fresh.1.departed t in
     record {
+      number = ap (λ (x : Socket). session_of x) fresh.2.inner_is ∙ fresh.1.counts.5;
       told = subst (λ (ds : List Departure). AllByRecursion (IsTold served entry.session) ds) (sym none) tt;
       answered = record {
         by = served.choices;
@@ -448,9 +458,9 @@ module _ {D : Type 0} {g : Ghosts D} (hub : Hub D g) (slots : Slots) (lingerers 
     all_kept served s [] all = all
     all_kept served s (d ∷ ds) all = (is_kept served s d all.0, all_kept served s ds all.1)
 
-    lingerers_kept : (served : Served hub) (all : List Lingerer) → LingerersTell served all → AllByRecursion (λ l. (s : ℕ) × AllByRecursion (IsKept served s) (traffic_of l.socket).departed) all
+    lingerers_kept : (served : Served hub) (all : List Lingerer) → LingerersTell served all → AllByRecursion (λ l. AllByRecursion (IsKept served (session_of l.socket)) (traffic_of l.socket).departed) all
     lingerers_kept served [] tells = tells
-    lingerers_kept served (l ∷ all) tells = ((tells.0.0, all_kept served tells.0.0 (traffic_of l.socket).departed tells.0.1.told), lingerers_kept served all tells.1)
+    lingerers_kept served (l ∷ all) tells = (all_kept served (session_of l.socket) (traffic_of l.socket).departed tells.0.told, lingerers_kept served all tells.1)
 
     pub keeps_what_left : SocketsTell → KeepsWhatLeft hub slots lingerers
-    keeps_what_left t = ∥∥₁_map some (λ s. (s.served, λ key entry e. all_kept s.served entry.session (through entry.stream).departed (s.tells t key entry e).told, lingerers_kept s.served lingerers (s.lingerers_tell t)))
+    keeps_what_left t = ∥∥₁_map some (λ s. (s.served, λ key entry e. (let told = s.tells t key entry e in (told.number, all_kept s.served entry.session (through entry.stream).departed told.told)), lingerers_kept s.served lingerers (s.lingerers_tell t)))

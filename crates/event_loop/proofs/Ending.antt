@@ -23,7 +23,7 @@ use Rattle.event_loop.specs.declared.server.EventLoop.{EventLoop}
 use Rattle.event_loop.specs.declared.socket.Socket.{Socket}
 use Rattle.event_loop.specs.Departures.{AreKept, HoldsAtEnds, Serving, Tells, present_state}
 use Rattle.event_loop.specs.Lingerings.{DropsIf, lingerers_of}
-use Rattle.event_loop.specs.Sockets.{SocketsTell, traffic_of}
+use Rattle.event_loop.specs.Sockets.{SocketsTell, session_of, traffic_of}
 use Rattle.event_loop.specs.Turns.{Accepted, IsTurn, KeepsWhatLeaves, accepts_now, is_told_of}
 use Rattle.event_loop.proofs.Departing.{all_kept, ends_tell, last_sound, served_on, stands_now, tells_on}
 use Rattle.event_loop.proofs.Entries.{polled_sessions}
@@ -37,10 +37,10 @@ holds_map : (P Q : ℕ → Traffic → Type 0) → ((s : ℕ) (t : Traffic) → 
     → HoldsAtEnds Q moment reads driven lingered turned
 holds_map P Q f moment reads driven lingered turned x = record {
   entries = λ key was entry e ends. f entry.session (traffic_of entry.stream.inner) (x.entries key was entry e ends);
-  linger = all_map (λ (l : Lingerer). (s : ℕ) × P s (traffic_of l.socket)) (λ (l : Lingerer). (s : ℕ) × Q s (traffic_of l.socket)) (λ l p. (p.0, f p.0 (traffic_of l.socket) p.1)) lingered x.linger;
-  ends = all_map (λ (l : Lingerer). (s : ℕ) × ((dropped : Dropped) (later : Lingerer) → DropsIf moment reads l dropped later → P s (traffic_of later.socket)))
-      (λ (l : Lingerer). (s : ℕ) × ((dropped : Dropped) (later : Lingerer) → DropsIf moment reads l dropped later → Q s (traffic_of later.socket)))
-      (λ l p. (p.0, λ dropped later drops. f p.0 (traffic_of later.socket) (p.1 dropped later drops))) turned x.ends;
+  linger = all_map (λ (l : Lingerer). P (session_of l.socket) (traffic_of l.socket)) (λ (l : Lingerer). Q (session_of l.socket) (traffic_of l.socket)) (λ l p. f (session_of l.socket) (traffic_of l.socket) p) lingered x.linger;
+  ends = all_map (λ (l : Lingerer). (dropped : Dropped) (later : Lingerer) → DropsIf moment reads l dropped later → P (session_of l.socket) (traffic_of later.socket))
+      (λ (l : Lingerer). (dropped : Dropped) (later : Lingerer) → DropsIf moment reads l dropped later → Q (session_of l.socket) (traffic_of later.socket))
+      (λ l p dropped later drops. f (session_of l.socket) (traffic_of later.socket) (p dropped later drops)) turned x.ends;
 }
 
 module _ {D : Type 0} {g : Ghosts D} where

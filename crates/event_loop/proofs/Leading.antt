@@ -25,7 +25,7 @@ leads_one old new e outcome q alone counted = leads_event old new _ e outcome q 
 
 -- ---- connections that come
 
-module _ {T D : Type 0} {g : Ghosts D} (IsNew : T → Type 0) (hub : Hub D g) (next : ℕ) (slots : List (Option (Entry T))) (refused : ℕ) where
+module _ {T D : Type 0} {g : Ghosts D} (IsNew : ℕ → T → Type 0) (hub : Hub D g) (next : ℕ) (slots : List (Option (Entry T))) (refused : ℕ) where
   pub none_come : NoneRuns hub → ComeEach IsNew hub next slots refused 0 hub next slots refused
   none_come none = (Nobody, leads_none hub none _ (λ h stands. adds_none h), more_none refused)
 
@@ -40,7 +40,7 @@ module _ {T D : Type 0} {g : Ghosts D} (IsNew : T → Type 0) (hub : Hub D g) (n
 
 -- ---- one that comes
 
-module _ {T D : Type 0} {g : Ghosts D} (IsNew : T → Type 0) (hub : Hub D g) (next : ℕ) (slots new : List (Option (Entry T))) (same : new ≡ slots) (refused : ℕ) where
+module _ {T D : Type 0} {g : Ghosts D} (IsNew : ℕ → T → Type 0) (hub : Hub D g) (next : ℕ) (slots new : List (Option (Entry T))) (same : new ≡ slots) (refused : ℕ) where
   -- it is turned away before its session is to join
   away : NoneRuns hub → (is_refused : Bool) → (is_refused ≡ false → (128 ≤ count_by is_some slots) ⊎ ((next ≡ 2 ^ 64 - 1) ⊎ IsTried hub hub next)) → Comes IsNew hub next slots refused hub next new (more (cond is_refused 1 0) refused)
   away none is_refused why = (inl (record { slots_are = same; next_is = refl; hub_is = inl refl; is_refused = is_refused; why = why }), leads_none hub none _ (λ h stands. adds_none h), refl)
@@ -60,6 +60,6 @@ module _ {T D : Type 0} {g : Ghosts D} (IsNew : T → Type 0) (hub : Hub D g) (n
     more_none refused,
   )
 
-module _ {T D : Type 0} {g : Ghosts D} (IsNew : T → Type 0) (hub : Hub D g) (next : ℕ) (slots : List (Option (Entry T))) (refused : ℕ) (later : Hub D g) (alone : RunsAlone hub later (Joins next)) (counted : failures hub ≤ failures later) where
+module _ {T D : Type 0} {g : Ghosts D} (IsNew : ℕ → T → Type 0) (hub : Hub D g) (next : ℕ) (slots : List (Option (Entry T))) (refused : ℕ) (later : Hub D g) (alone : RunsAlone hub later (Joins next)) (counted : failures hub ≤ failures later) where
   pub let_in : (then : ℕ) (new : List (Option (Entry T))) → LetsIn IsNew hub next slots later then new → Comes IsNew hub next slots refused later then new refused
   let_in then new l = (inr l, leads_one hub later (Joins next) Done l.joined alone counted, more_none refused)

@@ -17,6 +17,7 @@ pub mod Serving
 mod Waited
 mod Readies
 mod Committed
+mod SameNumbers
 mod Departing
 mod Drained
 mod Ending

@@ -88,10 +88,10 @@ module _ {E : Type 0} (old mid new : CountedSocket) (bytes : List ℕ) (outcome 
     taken_written answer count tells = all_taken tells ∙ ap (λ n. taken old ++ take n bytes) (sym count)
 
 -- a stream that was made for a new connection
-pub prepared : {E : Type 0} (inner : Socket) (made : Result (BufferedStream Socket) E) (result : Option (BufferedStream Socket)) → result ≡ result_ok made → IfOk made (λ b. IsNew inner b) → IsUncalled SocketsTell (traffic_of inner)
-    → SendsAtOnce inner.socket → IfSome result IsNewSocket
-prepared inner (Ok b) result is new uncalled at_once = subst (λ o. IfSome o IsNewSocket) (sym is) (inner, uncalled, new, at_once)
-prepared inner (Err e) result is new uncalled at_once = subst (λ o. IfSome o IsNewSocket) (sym is) tt
+pub prepared : {E : Type 0} (session : ℕ) (inner : Socket) (made : Result (BufferedStream Socket) E) (result : Option (BufferedStream Socket)) → result ≡ result_ok made → IfOk made (λ b. IsNew inner b) → IsUncalled SocketsTell session (traffic_of inner)
+    → SendsAtOnce inner.socket → IfSome result (IsNewSocket session)
+prepared session inner (Ok b) result is new uncalled at_once = subst (λ o. IfSome o (IsNewSocket session)) (sym is) (inner, uncalled, new, at_once)
+prepared session inner (Err e) result is new uncalled at_once = subst (λ o. IfSome o (IsNewSocket session)) (sym is) tt
 
 -- a call agreed
 pub agreed : {A E : Type 0} (answer : Result A E) (a : A) (P : Type 0) → Some a ≡ result_ok answer → OnOk answer P → P

@@ -36,17 +36,17 @@ use Rattle.event_loop.proofs.TableBytes.{drives_bytes}
 
 -- ---- a connection that comes
 
-module _ {T D : Type 0} {g : Ghosts D} (tells : Type 0) (traffic : T → Traffic) (IsNew : T → Type 0) (begins : (stream : T) → IsNew stream → tells → ((traffic stream).given ≡ []) × ((traffic stream).taken ≡ [])) where
+module _ {T D : Type 0} {g : Ghosts D} (tells : Type 0) (traffic : T → Traffic) (IsNew : ℕ → T → Type 0) (begins : (s : ℕ) (stream : T) → IsNew s stream → tells → ((traffic stream).given ≡ []) × ((traffic stream).taken ≡ [])) where
   module _ (hub later : Hub D g) (next then : ℕ) (slots new : List (Option (Entry T))) (h : HubState) (stands : StandsFor hub h) (numbers : AreBelow next slots) (has : HaveBytes tells traffic h slots) where
     in_bytes : (l : LetsIn IsNew hub next slots later then new) → HaveBytes tells traffic (hub_step h (Joins next) l.joined.0).0 new
     in_bytes l key entry e alive = elim (cases_eq key l.key) [
       | inl at ↦
           let which : l.entry ≡ entry = some_inj (sym l.changed ∙ ap (slot_at new) (sym at) ∙ e) in
           let session : entry.session ≡ next = ap (λ (x : Entry T). x.session) (sym which) ∙ l.session in
-          let fresh : IsNew entry.stream = subst (λ (x : Entry T). IsNew x.stream) which l.fresh in (
+          let fresh : IsNew entry.session entry.stream = subst (λ (x : Entry T). IsNew x.session x.stream) which l.fresh in (
             new_stream,
             ap (stream_of (hub_step h (Joins next) l.joined.0).0) session ∙ joins_same h next l.joined.0 (reached hub later (Joins next) Done l.joined h stands).outcome_is,
-            λ t. begins entry.stream fresh t,
+            λ t. begins entry.session entry.stream fresh t,
           )
       | inr differs ↦
           let was : slot_at slots key ≡ Some entry = sym (l.others key differs) ∙ e in
@@ -80,8 +80,8 @@ module _ {T D : Type 0} {g : Ghosts D} (tells : Type 0) (traffic : T → Traffic
 -- ---- sockets
 
 -- nothing has moved through a new connection
-new_begins : (b : BufferedStream Socket) → IsNewSocket b → SocketsTell → ((traffic_through traffic_of b).given ≡ []) × ((traffic_through traffic_of b).taken ≡ [])
-new_begins b n t = (
+new_begins : (s : ℕ) (b : BufferedStream Socket) → IsNewSocket s b → SocketsTell → ((traffic_through traffic_of b).given ≡ []) × ((traffic_through traffic_of b).taken ≡ [])
+new_begins s b n t = (
   ap (λ (s : Socket). (traffic_of s).given) n.2.inner_is ∙ n.1.given t,
   ap (λ l. (traffic_of b.inner).taken ++ l) n.2.nothing ∙ append-nil (traffic_of b.inner).taken ∙ ap (λ (s : Socket). (traffic_of s).taken) n.2.inner_is ∙ n.1.taken t,
 )

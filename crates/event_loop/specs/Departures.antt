@@ -21,7 +21,7 @@ use Rattle.event_loop.specs.declared.lingering.Dropped.{Dropped}
 use Rattle.event_loop.specs.declared.lingering.Lingerer.{Lingerer}
 use Rattle.event_loop.specs.declared.socket.Socket.{Socket}
 use Rattle.event_loop.specs.Lingerings.{DropsIf}
-use Rattle.event_loop.specs.Sockets.{SocketsTell, traffic_of}
+use Rattle.event_loop.specs.Sockets.{SocketsTell, session_of, traffic_of}
 use Rattle.event_loop.specs.TableBytes.{HaveBytes}
 use Rattle.event_loop.specs.Tables.{slot_at}
 
@@ -43,8 +43,10 @@ module _ {D : Type 0} {g : Ghosts D} {hub : Hub D g} (served : Served hub) where
   abbrev pub IsTold : ℕ → Departure → Type 0
   IsTold s d = IsToldBefore s (first_state served) served.first hub served.choices d
 
-  -- So it is of each departure of the session's stream. All that the stream has taken was answered, so what it holds may leave later.
+  -- So it is of each departure of the session's stream, which has its number. All that the stream has taken was answered, so what it holds
+  -- may leave later.
   pub record Tells (s : ℕ) (t : Traffic) : Type 0 where
+    pub number : t.connection ≡ s
     pub told : AllByRecursion (IsTold s) t.departed
     pub answered : IsAnswered s (first_state served) served.choices t.taken
 
@@ -52,9 +54,9 @@ module _ {D : Type 0} {g : Ghosts D} {hub : Hub D g} (served : Served hub) where
   abbrev pub EntriesTell : List (Option (Entry (BufferedStream Socket))) → Type 0
   EntriesTell slots = (key : ℕ) (entry : Entry (BufferedStream Socket)) → slot_at slots key ≡ Some entry → Tells entry.session (traffic_through traffic_of entry.stream)
 
-  -- and of each connection that lingers, whose session has left
+  -- and of each connection that lingers, of the session that it had
   abbrev pub LingerersTell : List Lingerer → Type 0
-  LingerersTell all = AllByRecursion (λ l. (s : ℕ) × Tells s (traffic_of l.socket)) all
+  LingerersTell all = AllByRecursion (λ l. Tells (session_of l.socket) (traffic_of l.socket)) all
 
   -- What left begins the texts of the machine's replies, and each number among these is that of a transaction committed by then. A crash at
   -- the moment of the departure or since leaves no map that is older than the one committed there. So whatever lives follow, the first begins
@@ -77,20 +79,20 @@ pub record Serving {D : Type 0} {g : Ghosts D} (hub : Hub D g) (slots : List (Op
 abbrev pub IsServing : {D : Type 0} {g : Ghosts D} → Hub D g → List (Option (Entry (BufferedStream Socket))) → List Lingerer → Type 0
 IsServing hub slots lingerers = ∥ Serving hub slots lingerers ∥₁
 
--- There is a run from an opening to this hub in which each departure of each connection is kept: of each in the table, and of each that
--- lingers, as one of the session that it had.
+-- There is a run from an opening to this hub in which each departure of each connection is kept: of each in the table, which is that of its
+-- session, and of each that lingers, as one of the session that it had.
 abbrev pub KeepsWhatLeft : {D : Type 0} {g : Ghosts D} → Hub D g → List (Option (Entry (BufferedStream Socket))) → List Lingerer → Type 0
 KeepsWhatLeft hub slots lingerers =
     ∥ ((served : Served hub)
-    × ((key : ℕ) (entry : Entry (BufferedStream Socket)) → slot_at slots key ≡ Some entry → AllByRecursion (IsKept served entry.session) (traffic_of entry.stream.inner).departed)
-    × AllByRecursion (λ l. (s : ℕ) × AllByRecursion (IsKept served s) (traffic_of l.socket).departed) lingerers) ∥₁
+    × ((key : ℕ) (entry : Entry (BufferedStream Socket)) → slot_at slots key ≡ Some entry → (session_of entry.stream.inner ≡ entry.session) × AllByRecursion (IsKept served entry.session) (traffic_of entry.stream.inner).departed)
+    × AllByRecursion (λ l. AllByRecursion (IsKept served (session_of l.socket)) (traffic_of l.socket).departed) lingerers) ∥₁
 
 -- This holds of each session and of what its connection has moved, as a turn leaves it: of each entry after its drive, whether it stays or is
 -- taken out; of each connection that lingered before the turn; and of each that was turned, whether it stays or is closed.
 pub record HoldsAtEnds (P : ℕ → Traffic → Type 0) (moment : ℕ) (reads : Bool) (driven : List (Option (Entry (BufferedStream Socket)))) (lingered turned : List Lingerer) : Type 0 where
   pub entries : (key : ℕ) (was entry : Entry (BufferedStream Socket)) → slot_at driven key ≡ Some was → EndsDrive SocketsTell traffic_of moment was entry → P entry.session (traffic_of entry.stream.inner)
-  pub linger : AllByRecursion (λ l. (s : ℕ) × P s (traffic_of l.socket)) lingered
-  pub ends : AllByRecursion (λ l. (s : ℕ) × ((dropped : Dropped) (later : Lingerer) → DropsIf moment reads l dropped later → P s (traffic_of later.socket))) turned
+  pub linger : AllByRecursion (λ l. P (session_of l.socket) (traffic_of l.socket)) lingered
+  pub ends : AllByRecursion (λ l. (dropped : Dropped) (later : Lingerer) → DropsIf moment reads l dropped later → P (session_of l.socket) (traffic_of later.socket)) turned
 
 -- each departure is kept
 abbrev pub AreKept : {D : Type 0} {g : Ghosts D} {hub : Hub D g} → Served hub → ℕ → Traffic → Type 0

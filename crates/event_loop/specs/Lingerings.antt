@@ -73,6 +73,7 @@ pub record DropsInput (moment : ℕ) (old : Lingerer) (dropped : Dropped) (new :
   pub given : SocketsTell → GivesAtMost dropped (most_of old) (length (traffic_of old.socket).given) (length (traffic_of new.socket).given)
   pub taken : SocketsTell → (traffic_of new.socket).taken ≡ (traffic_of old.socket).taken
   pub departed : SocketsTell → DepartAt moment (traffic_of old.socket) (traffic_of new.socket)
+  pub connection : (traffic_of new.socket).connection ≡ (traffic_of old.socket).connection
   pub why : WhyDropped dropped (most_of old) (traffic_of old.socket) (traffic_of new.socket)
   pub left : new.left ≡ left_after dropped (most_of old) old.left
   pub until : new.until ≡ old.until

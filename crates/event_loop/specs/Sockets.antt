@@ -19,7 +19,11 @@ pub record SocketsTell : Type 0 where
 abbrev pub departure_of : List ℕ × ℕ → Departure
 departure_of d = record { bytes = d.0; moment = d.1 }
 
--- the bytes of a socket's connection, what left at which moment, its counts, and its last call
+-- the session that a connection was made for, whose number it has
+abbrev pub session_of : Socket → ℕ
+session_of s = s.socket.connection
+
+-- the bytes of a socket's connection, what left at which moment, its counts, its last call, and its number
 abbrev pub traffic_of : Socket → Traffic
 traffic_of s = record {
   given = given s.socket;
@@ -31,8 +35,9 @@ traffic_of s = record {
   write_blocked = s.write_blocked;
   write_failed = s.write_failed;
   last = s.last;
+  connection = s.socket.connection;
 }
 
--- the stream of a connection of which no call was made, of which nothing is held, and which sends what it takes at once
-abbrev pub IsNewSocket : BufferedStream Socket → Type 0
-IsNewSocket b = (inner : Socket) × IsUncalled SocketsTell (traffic_of inner) × IsNew inner b × SendsAtOnce inner.socket
+-- the stream of a connection for this session, of which no call was made, of which nothing is held, and which sends what it takes at once
+abbrev pub IsNewSocket : ℕ → BufferedStream Socket → Type 0
+IsNewSocket session b = (inner : Socket) × IsUncalled SocketsTell session (traffic_of inner) × IsNew inner b × SendsAtOnce inner.socket

@@ -74,8 +74,9 @@ module _ {T : Type 0} where
       pub is_refused : Bool
       pub why : is_refused ≡ false → (128 ≤ count_by is_some slots) ⊎ ((next ≡ 2 ^ 64 - 1) ⊎ IsTried hub later next)
 
-    module _ (IsNew : T → Type 0) where
+    module _ (IsNew : ℕ → T → Type 0) where
       -- a connection that was let in: its session, the next number, has joined, and has an entry of its own that is ready, whose stream is new
+      -- and made for that session
       pub record LetsIn (hub : Hub D g) (next : ℕ) (slots : List (Option (Entry T))) (later : Hub D g) (then : ℕ) (new : List (Option (Entry T))) : Type 0 where
         pub key : ℕ
         pub entry : Entry T
@@ -85,7 +86,7 @@ module _ {T : Type 0} where
         pub others : (other : ℕ) → other ≢ key → slot_at new other ≡ slot_at slots other
         pub session : entry.session ≡ next
         pub state : entry.state ≡ Ready
-        pub fresh : IsNew entry.stream
+        pub fresh : IsNew entry.session entry.stream
         pub next_is : then ≡ next + 1
         pub joined : HubLeads hub later (Joins next) Done
 
@@ -108,26 +109,26 @@ module _ {T : Type 0} where
           (admits : Admits hub next slots later then new) × Leads hub later (λ h k. Adds h (join_of hub next slots later then new admits) k) × (counted ≡ more (refusals_in hub next slots later then new admits) refused)
 
 -- so many connections came one after another, and each was let in or turned away
-pub data AdmitsEach {T D : Type 0} {g : Ghosts D} (IsNew : T → Type 0) (hub : Hub D g) (next : ℕ) (slots : List (Option (Entry T))) : ℕ → Hub D g → ℕ → List (Option (Entry T)) → Type 0 where
+pub data AdmitsEach {T D : Type 0} {g : Ghosts D} (IsNew : ℕ → T → Type 0) (hub : Hub D g) (next : ℕ) (slots : List (Option (Entry T))) : ℕ → Hub D g → ℕ → List (Option (Entry T)) → Type 0 where
   Nobody : AdmitsEach IsNew hub next slots 0 hub next slots
   OneMore : (count : ℕ) (mid later : Hub D g) (number then : ℕ) (between new : List (Option (Entry T))) → AdmitsEach IsNew hub next slots count mid number between
       → Admits IsNew mid number between later then new → AdmitsEach IsNew hub next slots (count + 1) later then new
 
 module _ {T D : Type 0} {g : Ghosts D} where
   -- what happened to the hub as they came
-  abbrev pub joins_of : {IsNew : T → Type 0} {hub : Hub D g} {next : ℕ} {slots : List (Option (Entry T))} {count : ℕ} {later : Hub D g} {then : ℕ} {new : List (Option (Entry T))}
+  abbrev pub joins_of : {IsNew : ℕ → T → Type 0} {hub : Hub D g} {next : ℕ} {slots : List (Option (Entry T))} {count : ℕ} {later : Hub D g} {then : ℕ} {new : List (Option (Entry T))}
       → AdmitsEach IsNew hub next slots count later then new → List (HubEvent × Choice)
   joins_of Nobody = []
   joins_of {IsNew} (OneMore count mid later number then between new each admits) = joins_of each ++ join_of IsNew mid number between later then new admits
 
   -- how many of them were refused
-  abbrev pub refusals_of : {IsNew : T → Type 0} {hub : Hub D g} {next : ℕ} {slots : List (Option (Entry T))} {count : ℕ} {later : Hub D g} {then : ℕ} {new : List (Option (Entry T))}
+  abbrev pub refusals_of : {IsNew : ℕ → T → Type 0} {hub : Hub D g} {next : ℕ} {slots : List (Option (Entry T))} {count : ℕ} {later : Hub D g} {then : ℕ} {new : List (Option (Entry T))}
       → AdmitsEach IsNew hub next slots count later then new → ℕ
   refusals_of Nobody = 0
   refusals_of {IsNew} (OneMore count mid later number then between new each admits) = refusals_of each + refusals_in IsNew mid number between later then new admits
 
   -- so many connections came, and nothing else happened to the hub; the refusals were counted
-  abbrev pub ComeEach : (T → Type 0) → Hub D g → ℕ → List (Option (Entry T)) → ℕ → ℕ → Hub D g → ℕ → List (Option (Entry T)) → ℕ → Type 0
+  abbrev pub ComeEach : (ℕ → T → Type 0) → Hub D g → ℕ → List (Option (Entry T)) → ℕ → ℕ → Hub D g → ℕ → List (Option (Entry T)) → ℕ → Type 0
   ComeEach IsNew hub next slots refused count later then new counted =
       (each : AdmitsEach IsNew hub next slots count later then new) × Leads hub later (λ h k. Adds h (joins_of each) k) × (counted ≡ more (refusals_of each) refused)
 

@@ -173,7 +173,7 @@ fn prepare(
     number: u64,
     key: usize,
 ) -> Option<BufferedStream<Socket>>
-    ensures { IfSome result IsNewSocket }
+    ensures { IfSome result (IsNewSocket number) }
 {
     let interest = Interest::READABLE | Interest::WRITABLE | Interest::PRIORITY;
     poll.registry()
@@ -192,7 +192,7 @@ fn make_place(
     number: u64,
     table: &mut Slab<Entry<BufferedStream<Socket>>>,
 ) -> Option<BufferedStream<Socket>>
-    ensures fresh { IfSome result IsNewSocket }
+    ensures fresh { IfSome result (IsNewSocket number) }
     ensures place { OnSome result (HasRoomFor table.new 1 × (table.new.vacant_key < 128)) }
     ensures slots { table.new.slots ≡ table.old.slots }
 {

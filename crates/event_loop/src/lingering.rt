@@ -59,6 +59,7 @@ pub fn drop_input<D: Sectors, S: Stream>(device: &D, stream: &mut S, most: usize
     ensures given { S.tells → GivesAtMost result most (length (S.traffic stream.old).given) (length (S.traffic stream.new).given) }
     ensures taken { S.tells → (S.traffic stream.new).taken ≡ (S.traffic stream.old).taken }
     ensures departed { S.tells → DepartAt (D.moment device.now) (S.traffic stream.old) (S.traffic stream.new) }
+    ensures connection { (S.traffic stream.new).connection ≡ (S.traffic stream.old).connection }
     ensures why { WhyDropped result most (S.traffic stream.old) (S.traffic stream.new) }
 {
     let mut buffer = [0u8; READ_MAX];

@@ -36,7 +36,7 @@ impl Socket {
 
     /// The connection under this number, of which nothing has been counted. Takes no memory.
     pub fn new(stream: TcpStream, connection: u64) -> Socket
-        ensures { IsUncalled SocketsTell (traffic_of result) }
+        ensures { IsUncalled SocketsTell connection (traffic_of result) }
     {
         Socket {
             socket: CountedSocket::new(stream, connection),

@@ -94,6 +94,7 @@ impl Stream for Script {
       write_blocked = s.write_blocked;
       write_failed = s.write_failed;
       last = s.last;
+      connection = 0;
     } };
 
     fn read<D: Sectors>(&mut self, device: &D, into: &mut [u8]) -> ReadAnswer {

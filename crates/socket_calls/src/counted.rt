@@ -26,7 +26,8 @@ impl CountedSocket {
 
     /// The connection under this number, of which no call was made. Takes no memory.
     pub fn new(stream: TcpStream, connection: u64) -> CountedSocket
-        ensures { result.calls ≡ 0 }
+        ensures calls { result.calls ≡ 0 }
+        ensures connection { result.connection ≡ connection }
     {
         CountedSocket {
             stream,

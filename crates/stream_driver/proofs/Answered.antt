@@ -1,26 +1,52 @@
 -- Calls of a stream follow one another.
-use Rattle.std.proofs.Common.{ap, refl, ◌∙◌}
+use Rattle.std.proofs.Common.{◌≡◌, ℕ, List, ap, refl, ◌∙◌}
 use Rattle.stream_driver.specs.declared.answers.Call.{Call}
 use Rattle.stream_driver.specs.declared.answers.Call.TheVariants.{Read, Write}
 use Rattle.stream_driver.specs.declared.answers.ReadAnswer.TheVariants.{Moved, Blocked, Failed, Ended}
 use Rattle.stream_driver.specs.declared.answers.WriteAnswer.TheVariants.{Moved as Wrote, Blocked as WriteBlocked, Failed as WriteFailed}
-use Rattle.stream_driver.specs.Traffic.{Traffic, SameCounts, one_more, after_call, AllMoved, EndsWith}
+use Rattle.stream_driver.specs.declared.buffered.Counts.{Counts}
+use Rattle.stream_driver.specs.Buffers.{counted, counted_with}
+use Rattle.stream_driver.specs.Traffic.{Departure, Traffic, SameCounts, one_more, after_call, AllMoved, EndsWith}
 
 pub none_called : (t : Traffic) → AllMoved t t
-none_called t = (refl, refl, refl, refl, refl)
+none_called t = (refl, refl, refl, refl, refl, refl)
 
 pub moved_then : (a b c : Traffic) → AllMoved a b → AllMoved b c → AllMoved a c
-moved_then a b c (p, q, r, t, u) (p', q', r', t', u') = (p' ∙ p, q' ∙ q, r' ∙ r, t' ∙ t, u' ∙ u)
+moved_then a b c (p, q, r, t, u, v) (p', q', r', t', u', v') = (p' ∙ p, q' ∙ q, r' ∙ r, t' ∙ t, u' ∙ u, v' ∙ v)
 
 -- all moved, and then a call was answered
 same_after : (call : Call) (a b : Traffic) → SameCounts b a → SameCounts (after_call call b) (after_call call a)
 same_after (Read (Moved n)) a b s = s
-same_after (Read Blocked) a b (p, q, r, t, u) = (ap one_more p, q, r, t, u)
-same_after (Read Failed) a b (p, q, r, t, u) = (p, ap one_more q, r, t, u)
-same_after (Read Ended) a b (p, q, r, t, u) = (p, q, ap one_more r, t, u)
+same_after (Read Blocked) a b (p, q, r, t, u, v) = (ap one_more p, q, r, t, u, v)
+same_after (Read Failed) a b (p, q, r, t, u, v) = (p, ap one_more q, r, t, u, v)
+same_after (Read Ended) a b (p, q, r, t, u, v) = (p, q, ap one_more r, t, u, v)
 same_after (Write (Wrote n)) a b s = s
-same_after (Write WriteBlocked) a b (p, q, r, t, u) = (p, q, r, ap one_more t, u)
-same_after (Write WriteFailed) a b (p, q, r, t, u) = (p, q, r, t, ap one_more u)
+same_after (Write WriteBlocked) a b (p, q, r, t, u, v) = (p, q, r, ap one_more t, u, v)
+same_after (Write WriteFailed) a b (p, q, r, t, u, v) = (p, q, r, t, ap one_more u, v)
 
 pub ends_then : (call : Call) (a b c : Traffic) → AllMoved a b → EndsWith call b c → EndsWith call a c
 ends_then call a b c p (counts, last) = (moved_then (after_call call a) (after_call call b) c (same_after call a b p) counts, last)
+
+-- a call is of the connection of which those before it were
+pub ends_same : (call : Call) (a b : Traffic) → EndsWith call a b → b.connection ≡ a.connection
+ends_same call a b ends = ends.0.5 ∙ by call
+  where
+    by : (call : Call) → (after_call call a).connection ≡ a.connection
+    by (Read (Moved n)) = refl
+    by (Read Blocked) = refl
+    by (Read Failed) = refl
+    by (Read Ended) = refl
+    by (Write (Wrote n)) = refl
+    by (Write WriteBlocked) = refl
+    by (Write WriteFailed) = refl
+
+-- counts of a call, with what a stream moved
+module _ (given taken : List ℕ) (departed : List Departure) (connection : ℕ) (later_given later_taken : List ℕ) (later_departed : List Departure) (later : ℕ) (same : later ≡ connection) (old new : Counts) where
+  pub ends_counted : (call : Call) → EndsWith call (counted old) (counted new) → EndsWith call (counted_with old given taken departed connection) (counted_with new later_given later_taken later_departed later)
+  ends_counted (Read (Moved n)) ((p, q, r, t, u, v), last) = ((p, q, r, t, u, same), last)
+  ends_counted (Read Blocked) ((p, q, r, t, u, v), last) = ((p, q, r, t, u, same), last)
+  ends_counted (Read Failed) ((p, q, r, t, u, v), last) = ((p, q, r, t, u, same), last)
+  ends_counted (Read Ended) ((p, q, r, t, u, v), last) = ((p, q, r, t, u, same), last)
+  ends_counted (Write (Wrote n)) ((p, q, r, t, u, v), last) = ((p, q, r, t, u, same), last)
+  ends_counted (Write WriteBlocked) ((p, q, r, t, u, v), last) = ((p, q, r, t, u, same), last)
+  ends_counted (Write WriteFailed) ((p, q, r, t, u, v), last) = ((p, q, r, t, u, same), last)

@@ -13,8 +13,9 @@ use Rattle.stream_driver.specs.declared.buffered.Flushed.TheVariants.{All, Block
 use Rattle.stream_driver.specs.declared.buffered.BufferedStream.{BufferedStream}
 use Rattle.stream_driver.specs.Buffers.{held_in, room_in, BehindEnds, BehindMoved, FlushFails, Flushes, GivesSome, KeepsBytes, ShortAfter, TakesSome, WasRead, WhyGave, WhyTook, traffic_through, ReadFails, RoomFails, StaysFailed, StaysWithRoom, WhyFlushed, WhyRoom, WriteFails, WritesHeld}
 use Rattle.stream_driver.specs.Traffic.{AllMoved, Departure, DepartAt, EndsWith, IsBeginning, ReadsWithin, Traffic, WritesWithin, bytes_read, bytes_written}
+use Rattle.stream_driver.specs.declared.answers.Call.{Call}
 use Rattle.stream_driver.specs.declared.answers.Call.TheVariants.{Read, Write}
-use Rattle.stream_driver.proofs.Answered.{ends_then, moved_then, none_called}
+use Rattle.stream_driver.proofs.Answered.{ends_same, ends_then, moved_then, none_called}
 use Rattle.stream_driver.proofs.Carry.{all_then, grown}
 
 empty_room : (h : Held) → held_in h ≡ [] → 0 < room_in h
@@ -142,6 +143,27 @@ module _ {T : Type 0} where
   short_still old new len ReadBlocked differs same = same
   short_still old new len ReadFailed differs same = same
   short_still old new len Ended differs same = same
+
+  -- a call of a buffered stream is of the connection of the stream behind
+  module _ (traffic : T → Traffic) (old new : BufferedStream T) where
+    ends_behind : (call : Call) → BehindEnds traffic call old new → (traffic new.inner).connection ≡ (traffic old.inner).connection
+    ends_behind call ends = ends_same call (traffic old.inner) (traffic new.inner) ends
+
+    pub gave_same : (answer : ReadAnswer) → WhyGave traffic old answer new → (traffic new.inner).connection ≡ (traffic old.inner).connection
+    gave_same (Moved n) why = ends_behind (Read (Moved n)) why.2
+    gave_same Ended why = ends_behind (Read Ended) why.2
+    gave_same ReadFailed why = elim why [ inl read ↦ ends_behind (Read ReadFailed) read.2 | inr ends ↦ ends_behind (Write WriteFailed) ends ]
+    gave_same ReadBlocked why = elim why [ inl read ↦ ends_behind (Read ReadBlocked) read.2 | inr other ↦ elim other [ inl ends ↦ ends_behind (Write WriteBlocked) ends | inr none ↦ none.2.5 ] ]
+
+    pub took_same : (answer : WriteAnswer) → WhyTook traffic old answer new → (traffic new.inner).connection ≡ (traffic old.inner).connection
+    took_same (Wrote n) why = why.5
+    took_same WriteBlocked why = ends_behind (Write WriteBlocked) why
+    took_same WriteFailed why = ends_behind (Write WriteFailed) why
+
+    pub flushed_same : (answer : Flushed) → WhyFlushed traffic old answer new → (traffic new.inner).connection ≡ (traffic old.inner).connection
+    flushed_same All why = why.1.5
+    flushed_same Blocked why = ends_behind (Write WriteBlocked) why
+    flushed_same Failed why = ends_behind (Write WriteFailed) why
 
   module _ (tells : Type 0) (traffic : T → Traffic) (moment : ℕ) where
     kept_then : (a b c : BufferedStream T) → KeepsBytes tells traffic moment a b → KeepsBytes tells traffic moment b c → KeepsBytes tells traffic moment a c

@@ -21,9 +21,9 @@ held_in h = drop h.left h.bytes.items
 abbrev pub room_in : Held → ℕ
 room_in h = 16384 - vec_len h.bytes
 
--- counts and the last call, with the bytes that went each way and what has left
-abbrev pub counted_with : Counts → List ℕ → List ℕ → List Departure → Traffic
-counted_with c given taken departed = record {
+-- counts and the last call, with the bytes that went each way, what has left, and the number of the connection
+abbrev pub counted_with : Counts → List ℕ → List ℕ → List Departure → ℕ → Traffic
+counted_with c given taken departed connection = record {
   given = given;
   taken = taken;
   departed = departed;
@@ -33,10 +33,11 @@ counted_with c given taken departed = record {
   write_blocked = c.write_blocked;
   write_failed = c.write_failed;
   last = c.last;
+  connection = connection;
 }
 
 abbrev pub counted : Counts → Traffic
-counted c = counted_with c [] [] []
+counted c = counted_with c [] [] [] 0
 
 -- nothing is held
 abbrev pub is_none : List ℕ → Bool
@@ -63,9 +64,9 @@ module _ {T : Type 0} where
   fresh b = record b { is_short = false; is_drained = false }
 
   -- The traffic of a buffered stream: what it gave is what the stream behind gave, and what it took is what the stream behind took, followed
-  -- by what it holds. What has left, left from the stream behind. The answers are its own.
+  -- by what it holds. What has left, left from the stream behind, whose number it has. The answers are its own.
   abbrev pub traffic_through : (T → Traffic) → BufferedStream T → Traffic
-  traffic_through traffic b = counted_with b.counts (traffic b.inner).given ((traffic b.inner).taken ++ held_in b.held) (traffic b.inner).departed
+  traffic_through traffic b = counted_with b.counts (traffic b.inner).given ((traffic b.inner).taken ++ held_in b.held) (traffic b.inner).departed (traffic b.inner).connection
 
   -- A read that gave fewer bytes than it was asked for is short, unless such a read means nothing; where it gave none, it is as the last
   -- one was. Nothing was taken since then.

@@ -14,7 +14,8 @@ pub record Departure : Type 0 where
   pub moment : ℕ
 
 -- The bytes that reads gave and writes took, how often each call gave each answer but `Moved`, and the last call with its answer. And what
--- had left for the peer by each moment of the device at which some bytes left: a stream may hold for a while what it has taken.
+-- had left for the peer by each moment of the device at which some bytes left: a stream may hold for a while what it has taken. And the number
+-- of the connection, which tells it from others.
 pub record Traffic : Type 0 where
   pub given : List ℕ
   pub taken : List ℕ
@@ -25,10 +26,11 @@ pub record Traffic : Type 0 where
   pub write_blocked : ℕ
   pub write_failed : ℕ
   pub last : Option Call
+  pub connection : ℕ
 
--- of a stream that was never called
+-- of a stream that was never called, under the number 0
 abbrev pub untouched : Traffic
-untouched = record { given = []; taken = []; departed = []; read_blocked = 0; read_failed = 0; read_ended = 0; write_blocked = 0; write_failed = 0; last = None }
+untouched = record { given = []; taken = []; departed = []; read_blocked = 0; read_failed = 0; read_ended = 0; write_blocked = 0; write_failed = 0; last = None; connection = 0 }
 
 -- a u64 count after one more: the highest stays
 abbrev pub one_more : ℕ → ℕ
@@ -63,18 +65,19 @@ after_write (Wrote n) t = t
 after_write WriteBlocked t = record t { write_blocked = one_more t.write_blocked }
 after_write WriteFailed t = record t { write_failed = one_more t.write_failed }
 
--- the counts alone
+-- of the same connection, the same counts
 abbrev pub SameCounts : Traffic → Traffic → Type 0
 SameCounts a b =
     (a.read_blocked ≡ b.read_blocked) × (a.read_failed ≡ b.read_failed) × (a.read_ended ≡ b.read_ended)
     × (a.write_blocked ≡ b.write_blocked) × (a.write_failed ≡ b.write_failed)
+    × (a.connection ≡ b.connection)
 
--- nothing has moved, and no call was made
-pub record IsUncalled (tells : Type 0) (t : Traffic) : Type 0 where
+-- of the connection under this number: nothing has moved, and no call was made
+pub record IsUncalled (tells : Type 0) (connection : ℕ) (t : Traffic) : Type 0 where
   pub given : tells → t.given ≡ []
   pub taken : tells → t.taken ≡ []
   pub departed : tells → t.departed ≡ []
-  pub counts : SameCounts t untouched
+  pub counts : SameCounts t (record untouched { connection = connection })
   pub last : t.last ≡ None
 
 abbrev pub after_call : Call → Traffic → Traffic
