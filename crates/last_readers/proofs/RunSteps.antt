@@ -113,16 +113,14 @@ left_changed {R} size o rs i was is lt at above same =
         let rest = by rs i (omega arith) at in
         omega (arith, rest)
 
--- a number of each run that stays
-pub number_kept : {R : Type 0} (number : R → ℕ) (rs : List R) (i : ℕ) (was is : R) → i < length rs → was ≡ get_or rs i was → number is ≡ number was → map number (set rs i is) ≡ map number rs
-number_kept number [] i was is lt at same = refl
-number_kept number (q ∷ rs) zero was is lt at same = ap (λ n. n ∷ map number rs) (same ∙ ap number at)
-number_kept number (q ∷ rs) (suc i) was is lt at same = ap (λ l. number q ∷ l) (number_kept number rs i was is (omega arith) at same)
+-- a number of the run's size that stays
+pub number_kept : {R : Type 0} (size : R → RunSize) (number : RunSize → ℕ) (rs : List R) (i : ℕ) (was is : R) → i < length rs → was ≡ get_or rs i was → number (size is) ≡ number (size was) → map number (map size (set rs i is)) ≡ map number (map size rs)
+number_kept size number [] i was is lt at same = refl
+number_kept size number (q ∷ rs) zero was is lt at same = ap (λ n. n ∷ map number (map size rs)) (same ∙ ap (λ r. number (size r)) at)
+number_kept size number (q ∷ rs) (suc i) was is lt at same = ap (λ l. number (size q) ∷ l) (number_kept size number rs i was is (omega arith) at same)
 
 pub lasts_changed : {R : Type 0} (size : R → RunSize) (rs : List R) (i : ℕ) (was is : R) → i < length rs → was ≡ get_or rs i was → (size is).last ≡ (size was).last → lasts_of (map size (set rs i is)) ≡ lasts_of (map size rs)
-lasts_changed size [] i was is lt at same = refl
-lasts_changed size (q ∷ rs) zero was is lt at same = ap (λ n. n ∷ lasts_of (map size rs)) (same ∙ ap (λ r. (size r).last) at)
-lasts_changed size (q ∷ rs) (suc i) was is lt at same = ap (λ l. (size q).last ∷ l) (lasts_changed size rs i was is (omega arith) at same)
+lasts_changed size rs i was is lt at same = number_kept size (λ r. r.last) rs i was is lt at same
 
 -- nothing is left in a run, nor in those behind it
 pub none_left : {R : Type 0} (size : R → RunSize) (o : ℕ) (rs : List R) (i j : ℕ) (is : R) → j ≡ suc i → (size is).left ≡ 0 → left_above o (drop j (map size rs)) ≡ 0 → left_above o (drop i (map size (set rs i is))) ≡ 0
