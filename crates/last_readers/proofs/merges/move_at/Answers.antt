@@ -1,4 +1,4 @@
-use Rattle.std.proofs.Common.{◌≡◌, ◌<◌, ◌+◌, suc, length, ap, ◌∙◌, subst, arith}
+use Rattle.std.proofs.Common.{◌<◌, ◌+◌, length, subst, arith}
 use Rattle.last_readers.specs.declared.run.Run.{Run}
 use Rattle.last_readers.proofs.RunLaws.{changed}
 use Rattle.last_readers.proofs.RunSteps.{left_changed, lasts_changed, none_left, passed_left, same_run}

@@ -1,4 +1,4 @@
-use Rattle.std.proofs.Common.{◌≡◌, ◌-◌, suc, refl, inl, sym, ◌∙◌, arith}
+use Rattle.std.proofs.Common.{◌≡◌, ◌-◌, refl, inl, sym, ◌∙◌, arith}
 use Rattle.last_readers.specs.Inside.{sizes_of}
 use Rattle.last_readers.specs.RunSizes.{are_alike, joined}
 use Rattle.last_readers.proofs.RunLaws.{opened}

@@ -1,4 +1,4 @@
-use Rattle.std.proofs.Common.{◌≡◌, ◌+◌, ◌-◌, suc, refl, sym, ap, ◌∙◌, take, drop, arith}
+use Rattle.std.proofs.Common.{◌≡◌, ◌+◌, ◌-◌, refl, sym, ◌∙◌, take, drop, arith}
 use Rattle.std.specs.Vec.{vec_len}
 use Rattle.last_readers.specs.RunSizes.{are_alike, has_alike}
 use Rattle.last_readers.specs.Inside.{sizes_of, sizes_in}

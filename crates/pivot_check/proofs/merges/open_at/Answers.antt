@@ -1,4 +1,4 @@
-use Rattle.std.proofs.Common.{◌≡◌, ◌-◌, suc, refl, inl, sym, ◌∙◌, arith}
+use Rattle.std.proofs.Common.{◌≡◌, ◌-◌, refl, inl, sym, ◌∙◌, arith}
 use Rattle.last_readers.specs.RunSizes.{joined}
 use Rattle.last_readers.proofs.RunSteps.{begun_at, unlike_at}
 use Rattle.pivot_check.specs.Inside.{sizes_of}

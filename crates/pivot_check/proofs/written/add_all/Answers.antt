@@ -10,5 +10,8 @@ loop-key-preserved c =
     let next = ap length c.in-Some.ensures.steps.0 in
     let more = c.add_written.ensures.len in
     let was = c.loop-key.invariant.len in
-    record { len = omega (arith, next, more, was); adding = adding-step c.args.number c.args.has_earlier_target c.args.postings.now.items c.loop-key.postings.items c.add_written.new.postings.items _ _ _ _ _ c.in-Some.key c.in-Some.ensures.steps.0 c.loop-key.invariant.adding
-    c.add_written.ensures.rising c.add_written.ensures.added c.add_written.ensures.spare }
+    record {
+      len = omega (arith, next, more, was);
+      adding = adding-step c.args.number c.args.has_earlier_target c.args.postings.now.items c.loop-key.postings.items c.add_written.new.postings.items _ _ _ _ _ c.in-Some.key c.in-Some.ensures.steps.0 c.loop-key.invariant.adding
+          c.add_written.ensures.rising c.add_written.ensures.added c.add_written.ensures.spare;
+    }

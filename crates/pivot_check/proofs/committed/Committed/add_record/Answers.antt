@@ -1,6 +1,6 @@
 use Rattle.std.proofs.Common.{◌≡◌, ◌<◌, ◌+◌, Bool, List, length, Some, Option, sym, ap, subst, ◌∙◌, arith}
 use Rattle.std.proofs.lemmas.List.{length-map}
-use Rattle.model.specs.Map.{Bytes, KeyWrite}
+use Rattle.model.specs.Map.{Bytes}
 use Rattle.snapshot.specs.View.{View}
 use Rattle.last_readers.specs.Readers.{last_reader, IsNoted, HasRoom as HasReadersRoom, ReadersRoom}
 use Rattle.pivot_check.specs.declared.ready.Ready.{Ready}
