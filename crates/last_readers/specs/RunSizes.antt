@@ -17,26 +17,26 @@ left_above o (r ∷ rs) = (if nat_lt o r.last then r.left else 0) + left_above o
 abbrev pub are_alike : ℕ → RunSize → RunSize → Bool
 are_alike o r s = nat_lt o r.last && (r.left == 0 && (s.left == 0 && nat_le r.made (2 * s.made + 1)))
 
-abbrev pub starts_alike : ℕ → RunSize → List RunSize → Bool
-starts_alike o r [] = false
-starts_alike o r (s ∷ ss) = are_alike o r s
+abbrev pub starts_alike : (RunSize → RunSize → Bool) → RunSize → List RunSize → Bool
+starts_alike alike r [] = false
+starts_alike alike r (s ∷ ss) = alike r s
 
 -- whether two runs beside one another are alike
-abbrev pub has_alike : ℕ → List RunSize → Bool
-has_alike o [] = false
-has_alike o (r ∷ rs) = starts_alike o r rs || has_alike o rs
+abbrev pub has_alike : (RunSize → RunSize → Bool) → List RunSize → Bool
+has_alike alike [] = false
+has_alike alike (r ∷ rs) = starts_alike alike r rs || has_alike alike rs
 
 -- the run that is to be made of both
 abbrev pub joined : RunSize → RunSize → RunSize
 joined r s = record { last = max r.last s.last; left = r.made + s.made; made = 0 }
 
 -- of two runs beside one another that are alike one is being made
-pub record IsBegun (o : ℕ) (old new : List RunSize) : Type 0 where
+pub record IsBegun (alike : RunSize → RunSize → Bool) (old new : List RunSize) : Type 0 where
   pub earlier : List RunSize
   pub first : RunSize
   pub second : RunSize
   pub later : List RunSize
-  pub alike : are_alike o first second ≡ true
+  pub are : alike first second ≡ true
   pub was : old ≡ earlier ++ first ∷ second ∷ later
   pub is : new ≡ earlier ++ joined first second ∷ later
 
@@ -45,12 +45,12 @@ abbrev pub one_more : ℕ → ℕ
 one_more refused = min (refused + 1) (2 ^ 64 - 1)
 
 -- a merge was begun, or memory for it was refused, which is counted
-abbrev pub IsEnded : ℕ → List RunSize → List RunSize → ℕ → ℕ → Type 0
-IsEnded o old new was is = (IsBegun o old new × (is ≡ was)) ⊎ ((new ≡ old) × (is ≡ one_more was))
+abbrev pub IsEnded : (RunSize → RunSize → Bool) → List RunSize → List RunSize → ℕ → ℕ → Type 0
+IsEnded alike old new was is = (IsBegun alike old new × (is ≡ was)) ⊎ ((new ≡ old) × (is ≡ one_more was))
 
 -- the same, or no two runs beside one another are alike
-abbrev pub IsTried : ℕ → List RunSize → List RunSize → ℕ → ℕ → Type 0
-IsTried o old new was is = IsEnded o old new was is ⊎ ((has_alike o old ≡ false) × (new ≡ old) × (is ≡ was))
+abbrev pub IsTried : (RunSize → RunSize → Bool) → List RunSize → List RunSize → ℕ → ℕ → Type 0
+IsTried alike old new was is = IsEnded alike old new was is ⊎ ((has_alike alike old ≡ false) × (new ≡ old) × (is ≡ was))
 
 -- the runs, and one of so many steps with that number, where it has any
 abbrev pub with_run : ℕ → ℕ → List RunSize → List RunSize
@@ -72,5 +72,5 @@ pub record IsMoved (o most : ℕ) (old new : List RunSize) : Type 0 where
 -- one merge at most was begun, and those under way were moved on
 pub record IsMergedFor (o most : ℕ) (old new : List RunSize) (was is : ℕ) : Type 0 where
   pub begun : List RunSize
-  pub tried : IsTried o old begun was is
+  pub tried : IsTried (are_alike o) old begun was is
   pub moved : IsMoved o most begun new

@@ -174,6 +174,7 @@ impl LastReaders {
         ensures oldest { self.new.readers.oldest ≡ self.old.readers.oldest }
         ensures due { due_of self.new ≡ due_of self.old }
         ensures left { left_above self.new.readers.oldest self.new.runs ≡ left_above self.new.readers.oldest self.old.runs }
+        ensures refused { self.new.refused ≡ self.old.refused }
         ensures some { result ≡ true → 0 < self.new.held.taken }
         ensures none { result ≡ false → due_of self.new ≡ 0 }
     {
@@ -191,6 +192,7 @@ impl LastReaders {
         ensures readers { self.new.readers ≡ self.old.readers }
         ensures held { self.new.held.runs ≡ self.old.held.runs }
         ensures runs { self.new.runs ≡ self.old.runs }
+        ensures refused { self.new.refused ≡ self.old.refused }
         ensures taken { self.old.held.taken + result ≡ self.new.held.taken + most }
         ensures fewer { result < most }
     {
@@ -211,6 +213,7 @@ impl LastReaders {
         ensures oldest { self.new.readers.oldest ≡ self.old.readers.oldest }
         ensures due { due_of self.new ≡ due_of self.old - given_a_forget }
         ensures left { left_above self.new.readers.oldest self.new.runs ≡ left_above self.new.readers.oldest self.old.runs }
+        ensures refused { self.new.refused ≡ self.old.refused }
     {
         let mut left = GIVEN_BACK_MAX;
         'runs: while left > 0 && self.take_stale() {
@@ -228,6 +231,7 @@ impl LastReaders {
         ensures due { due_of self.new ≡ due_upto self.new.readers.oldest self.old.held - given_a_forget }
         ensures still { result ≡ nat_lt 0 (due_of self.new) }
         ensures left { left_above self.new.readers.oldest self.new.runs ≡ left_above self.new.readers.oldest self.old.runs }
+        ensures refused { self.new.refused ≡ self.old.refused }
     {
         self.oldest = self.oldest.max(oldest);
         self.give_back_old();

@@ -84,8 +84,8 @@ fn open_at(runs: &mut Vec<Run>, place: usize, oldest: u64, refused: &mut u64) ->
     requires some { 0 < place }
     requires within { place < vec_len runs.old }
     ensures numbers { (k : Bytes) → greatest_at (runs_in runs.new.items) k ≡ greatest_at (runs_in runs.old.items) k }
-    ensures alike { result ≡ true → IsEnded oldest (sizes_in runs.old.items) (sizes_in runs.new.items) refused.old refused.new }
-    ensures none { result ≡ false → has_alike oldest (take 2 (drop (place - 1) (sizes_in runs.old.items))) ≡ false }
+    ensures alike { result ≡ true → IsEnded (are_alike oldest) (sizes_in runs.old.items) (sizes_in runs.new.items) refused.old refused.new }
+    ensures none { result ≡ false → has_alike (are_alike oldest) (take 2 (drop (place - 1) (sizes_in runs.old.items))) ≡ false }
     ensures same { result ≡ false → runs.new ≡ runs.old }
     ensures refused { result ≡ false → refused.new ≡ refused.old }
 {
@@ -109,7 +109,7 @@ fn open_at(runs: &mut Vec<Run>, place: usize, oldest: u64, refused: &mut u64) ->
 // the runs stay.
 pub(crate) fn open_last(runs: &mut Vec<Run>, oldest: u64, refused: &mut u64)
     ensures numbers { (k : Bytes) → greatest_at (runs_in runs.new.items) k ≡ greatest_at (runs_in runs.old.items) k }
-    ensures tried { IsTried oldest (sizes_in runs.old.items) (sizes_in runs.new.items) refused.old refused.new }
+    ensures tried { IsTried (are_alike oldest) (sizes_in runs.old.items) (sizes_in runs.new.items) refused.old refused.new }
 {
     for after in 1..runs.len() {
         let place = runs.len() - after;

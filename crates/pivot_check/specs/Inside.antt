@@ -2,12 +2,13 @@
 use Rattle.std.specs.Prelude.{ℕ, ◌+◌, List, [], ◌∷◌, ◌++◌, Option, Some, None, map, option_map}
 use Rattle.std.specs.Vec.{vec_len}
 use Rattle.last_readers.specs.Held.{HeldRun}
+use Rattle.last_readers.specs.RunSizes.{RunSize}
 use Rattle.pivot_check.specs.declared.ready.Ready.{Ready}
 use Rattle.pivot_check.specs.declared.run.Run.{Run}
 use Rattle.pivot_check.specs.declared.stale.Stale.{Stale}
 use Rattle.model.specs.Map.{Bytes}
 use Rattle.pivot_check.specs.Postings.{Posting}
-use Rattle.pivot_check.specs.Parts.{live_in}
+use Rattle.pivot_check.specs.Parts.{left, live_in}
 
 -- the postings of a run
 abbrev pub in_run : Run → List Posting
@@ -27,6 +28,13 @@ held_of r = record { last = r.last; size = vec_len r.first.written + vec_len r.s
 
 abbrev pub held_in : List Run → List HeldRun
 held_in rs = map held_of rs
+
+-- how far a run is merged
+abbrev pub sizes_of : Run → RunSize
+sizes_of r = record { last = r.last; left = left r.first + left r.second; made = left r.made }
+
+abbrev pub sizes_in : List Run → List RunSize
+sizes_in rs = map sizes_of rs
 
 abbrev pub size_of : Option Run → ℕ
 size_of None = 0

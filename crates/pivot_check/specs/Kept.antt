@@ -6,6 +6,7 @@ use Rattle.model.specs.PrivateCopy.{Mark, is_covered}
 use Rattle.snapshot.specs.View.{View}
 use Rattle.last_readers.specs.Readers.{Readers, ReadersRoom, last_reader, after, HasRoom as HasReadersRoom}
 use Rattle.last_readers.specs.Held.{Held, due_upto, given_a_forget}
+use Rattle.last_readers.specs.RunSizes.{RunSize}
 use Rattle.pivot_check.specs.Postings.{Posting}
 
 -- what the check needs of a committed transaction: the marks of what it read, the keys that it wrote by rising key, and whether it has a
@@ -141,10 +142,13 @@ pub record Room : Type 0 where
 abbrev pub HasRoom : Room → View → Type 0
 HasRoom room t = HasReadersRoom t.marks room.readers × (0 < room.runs) × (room.ready ≡ Some (keys_of t.writes))
 
--- how much the runs of the last readers hold, and those of written keys
+-- how much the runs of the last readers hold, and those of written keys; how far the latter are merged, and how often memory for that was
+-- refused
 pub record HeldParts : Type 0 where
   pub readers : Held
   pub written : Held
+  pub sizes : List RunSize
+  pub refused : ℕ
 
 pub record CommittedValue : Type 0 where
   pub facts : Facts

@@ -1,8 +1,10 @@
 //! The committed transactions.
-ghost use Rattle.std.specs.Prelude.{◌≡◌, ◌+◌, ◌≤◌, ◌<◌, List, [], ◌∷◌, ◌++◌, true, false, is_some, max, nat_lt, OnOk, ◌-◌};
+ghost use Rattle.std.specs.Prelude.{◌≡◌, ◌+◌, ◌≤◌, ◌<◌, List, [], ◌∷◌, ◌++◌, true, false, is_some, length, max, nat_lt, OnOk, ◌-◌};
 ghost use Rattle.model.specs.History.{Record};
 ghost use Rattle.last_readers.specs.Readers.{IsForgotten};
 ghost use Rattle.last_readers.specs.Held.{due_upto, given_a_forget};
+ghost use Rattle.last_readers.specs.RunSizes.{left_above, with_run};
+ghost use Rattle.pivot_check.specs.Merged.{IsMerged, IsMergedBy};
 ghost use Rattle.pivot_check.specs.Kept.{HasForgotten, IsEmpty, IsInReach, HasRoom, IsGivenBack, runs_due};
 ghost use Rattle.pivot_check.specs.Index.{FindsTarget, answer_found, target};
 ghost use Rattle.pivot_check.specs.StandsFor.{StandsFor, IsRecordOf, IsVerdict, IsPlaced, IsClear};
@@ -48,6 +50,8 @@ pub struct Committed {
     ready: Option<Ready>,
     // a run that has no number for which one may ask
     stale: Option<Stale>,
+    // how often memory for a merge of written keys was refused. It stays at 2^64 - 1
+    refused: u64,
 }
 
 impl Model for Committed {
@@ -55,14 +59,14 @@ impl Model for Committed {
     ghost use Rattle.std.specs.Vec.{vec_len, vec_capacity};
     ghost use Rattle.last_readers.specs.Readers.{last_reader, AreUpto};
     ghost use Rattle.pivot_check.specs.Kept.{CommittedValue, AreAbove};
-    ghost use Rattle.pivot_check.specs.Inside.{postings_in, ready_of, held_in, taken_of};
+    ghost use Rattle.pivot_check.specs.Inside.{postings_in, ready_of, held_in, taken_of, sizes_in};
 
     ghost Value = { CommittedValue };
 
     ghost view = { λ c. record {
       facts = record { readers = c.readers.readers; postings = postings_in c.runs.items; oldest = c.oldest; last = c.last };
       room = record { readers = c.readers.room; runs = vec_capacity c.runs - vec_len c.runs; ready = ready_of c.ready };
-      held = record { readers = c.readers.held; written = record { runs = held_in c.runs.items; taken = taken_of c.stale } };
+      held = record { readers = c.readers.held; written = record { runs = held_in c.runs.items; taken = taken_of c.stale }; sizes = sizes_in c.runs.items; refused = c.refused };
     } };
 
     ghost invariant = { λ c. record {
@@ -86,6 +90,7 @@ impl Committed {
             last: 0,
             ready: None,
             stale: None,
+            refused: 0,
         }
     }
 
@@ -110,6 +115,20 @@ impl Committed {
         ensures forgotten { HasForgotten result self.now.facts }
     {
         self.oldest
+    }
+
+    /// How many runs of written keys are kept. Takes no memory.
+    pub fn runs(&self) -> usize
+        ensures { result ≡ length self.now.held.sizes }
+    {
+        self.runs.len()
+    }
+
+    /// How often memory for a merge of written keys was refused, 2^64 - 1 at most: each time two runs of a like size stayed. Takes no memory.
+    pub fn refused(&self) -> u64
+        ensures { result ≡ self.now.held.refused }
+    {
+        self.refused
     }
 
     // The answer where the transaction overwrites no concurrent commit. A transaction is a dangerous pivot where its first target committed
@@ -157,6 +176,8 @@ impl Committed {
     /// it was in either case.
     pub fn reserve(&mut self, tx: &Transaction) -> Result<(), Memory>
         ensures facts { self.new.facts ≡ self.old.facts }
+        ensures sizes { self.new.held.sizes ≡ self.old.held.sizes }
+        ensures refused { self.new.held.refused ≡ self.old.held.refused }
         ensures room { OnOk result (HasRoom self.new.room tx.now) }
     {
         let alloc = *self.runs.allocator();
@@ -175,6 +196,8 @@ impl Committed {
         ensures stands_for { IsInReach self.old.facts tx.now → IsClear self.old.facts tx.now → (h : List Record) → StandsFor self.old.facts h → (r : Record) → IsRecordOf tx.now n r → StandsFor self.new.facts (h ++ r ∷ []) }
         ensures last { self.new.facts.last ≡ n }
         ensures oldest { self.new.facts.oldest ≡ self.old.facts.oldest }
+        ensures sizes { self.new.held.sizes ≡ with_run n (length tx.now.writes) self.old.held.sizes }
+        ensures refused { self.new.held.refused ≡ self.old.held.refused }
     {
         let Some(ready) = self.ready.take() else {
             unreachable!()
@@ -186,21 +209,23 @@ impl Committed {
         self.last = n;
     }
 
-    // Begins one merge at most of two runs of a like size, and moves so many postings at most of those that are under way.
+    // Begins one merge at most of two runs of a like size, and moves so many postings of those that are under way.
     fn merge(&mut self, most: usize)
         ensures stands_for { (h : List Record) → StandsFor self.old.facts h → StandsFor self.new.facts h }
         ensures readers { self.new.facts.readers ≡ self.old.facts.readers }
         ensures oldest { self.new.facts.oldest ≡ self.old.facts.oldest }
         ensures last { self.new.facts.last ≡ self.old.facts.last }
+        ensures merged { IsMergedBy self.new.facts.oldest most self.old.held.sizes self.new.held.sizes self.old.held.refused self.new.held.refused }
     {
-        open_last(&mut self.runs, self.oldest);
+        open_last(&mut self.runs, self.oldest, &mut self.refused);
         move_runs(&mut self.runs, self.oldest, most);
     }
 
     /// Keeps what the check needs of the transaction, which commits as number `n`, the next one; what `Verdict::Clear` said of its
     /// dependencies comes along, so that they aren't looked for again. From each history that is stood for it leads to that history with the
-    /// new record. It can't fail: `reserve` made room. Then it begins to merge two runs of a like size, also two of the last readers, where
-    /// there are such and there is memory for that, and moves the merges that are under way on by 16 postings for each written key, and 64.
+    /// new record. It can't fail: `reserve` made room. Then it begins to merge two runs beside one another that are of a like size, where
+    /// there are such; where memory for that is refused, it counts the refusal. The merges that are under way go on by 16 postings for each
+    /// written key, and 64, until nothing is left to move. The last readers are merged in the same way, by a count of their own.
     pub fn note(&mut self, tx: &Transaction, n: u64, has_earlier_target: bool)
         requires next { n ≡ self.old.facts.last + 1 }
         requires target { has_earlier_target ≡ is_some (target self.old.facts tx.now) }
@@ -208,6 +233,7 @@ impl Committed {
         ensures stands_for { IsInReach self.old.facts tx.now → IsClear self.old.facts tx.now → (h : List Record) → StandsFor self.old.facts h → (r : Record) → IsRecordOf tx.now n r → StandsFor self.new.facts (h ++ r ∷ []) }
         ensures last { self.new.facts.last ≡ n }
         ensures oldest { self.new.facts.oldest ≡ self.old.facts.oldest }
+        ensures merged { IsMerged tx.now n self.old self.new }
     {
         self.add_record(tx, n, has_earlier_target);
         let count = tx.entries().len();
@@ -226,6 +252,8 @@ impl Committed {
         ensures written { self.new.held.written ≡ self.old.held.written }
         ensures due { due_upto self.new.facts.readers.oldest self.new.held.readers ≡ due_upto self.new.facts.readers.oldest self.old.held.readers - given_a_forget }
         ensures still { result ≡ nat_lt 0 (due_upto self.new.facts.readers.oldest self.new.held.readers) }
+        ensures sizes { self.new.held.sizes ≡ self.old.held.sizes }
+        ensures refused { self.new.held.refused ≡ self.old.held.refused }
     {
         let due = self.readers.forget(oldest);
         self.oldest = self.oldest.max(oldest);
@@ -243,6 +271,8 @@ impl Committed {
         ensures due { due_upto self.new.facts.oldest self.new.held.written ≡ due_upto self.new.facts.oldest self.old.held.written }
         ensures some { result ≡ true → 0 < self.new.held.written.taken }
         ensures none { result ≡ false → due_upto self.new.facts.oldest self.new.held.written ≡ 0 }
+        ensures left { left_above self.new.facts.oldest self.new.held.sizes ≡ left_above self.new.facts.oldest self.old.held.sizes }
+        ensures refused { self.new.held.refused ≡ self.old.held.refused }
     {
         if self.stale.is_some() {
             return true;
@@ -261,6 +291,8 @@ impl Committed {
         ensures runs { self.new.held.written.runs ≡ self.old.held.written.runs }
         ensures taken { self.old.held.written.taken + result ≡ self.new.held.written.taken + most }
         ensures fewer { result < most }
+        ensures sizes { self.new.held.sizes ≡ self.old.held.sizes }
+        ensures refused { self.new.held.refused ≡ self.old.held.refused }
     {
         let Some(stale) = &mut self.stale else {
             unreachable!()
@@ -281,6 +313,8 @@ impl Committed {
         ensures last { self.new.facts.last ≡ self.old.facts.last }
         ensures held { self.new.held.readers ≡ self.old.held.readers }
         ensures due { due_upto self.new.facts.oldest self.new.held.written ≡ due_upto self.old.facts.oldest self.old.held.written - given_a_forget }
+        ensures left { left_above self.new.facts.oldest self.new.held.sizes ≡ left_above self.new.facts.oldest self.old.held.sizes }
+        ensures refused { self.new.held.refused ≡ self.old.held.refused }
     {
         let mut left = GIVEN_BACK_MAX;
         'runs: while left > 0 && self.take_stale() {
@@ -302,6 +336,8 @@ impl Committed {
         ensures last { self.new.facts.last ≡ self.old.facts.last }
         ensures given_back { IsGivenBack self.old self.new }
         ensures still { result ≡ nat_lt 0 (runs_due self.new) }
+        ensures left { left_above self.new.facts.oldest self.new.held.sizes ≡ left_above self.new.facts.oldest self.old.held.sizes }
+        ensures refused { self.new.held.refused ≡ self.old.held.refused }
     {
         let due = self.raise(oldest);
         self.give_back_old();

@@ -1,9 +1,11 @@
 //! Runs of a like size made into one, some postings at a time.
-ghost use Rattle.std.specs.Prelude.{◌≡◌, ◌≤◌, ◌<◌, ◌+◌, Bool, true, length, IfSome};
+ghost use Rattle.std.specs.Prelude.{◌≡◌, ◌≤◌, ◌<◌, ◌+◌, ◌-◌, Bool, true, false, length, take, drop, IfSome};
 ghost use Rattle.pivot_check.specs.Postings.{Posting, least};
 ghost use Rattle.pivot_check.specs.Parts.{left};
-ghost use Rattle.std.specs.Vec.{vec_capacity};
-ghost use Rattle.pivot_check.specs.Inside.{postings_in};
+ghost use Rattle.std.specs.Vec.{vec_len, vec_capacity};
+ghost use Rattle.last_readers.specs.RunSizes.{IsEnded, IsTried, has_alike, lasts_of, left_above};
+ghost use Rattle.pivot_check.specs.Inside.{postings_in, sizes_of, sizes_in};
+ghost use Rattle.pivot_check.specs.Merged.{IsMovedBy, fit_one, wholes_of};
 
 use crate::bound::{BLOCK, Bound};
 use crate::run::Run;
@@ -15,6 +17,7 @@ const MERGED_MAX: usize = 131_072;
 
 // Are both at rest, of a like size, with numbers above `oldest`, and not too long for one?
 fn are_alike(first: &Run, second: &Run, oldest: u64) -> bool
+    ensures alike { result ≡ fit_one oldest (sizes_of first.now) (sizes_of second.now) }
     ensures first { result ≡ true → left first.now.first + left first.now.second ≡ 0 }
     ensures second { result ≡ true → left second.now.first + left second.now.second ≡ 0 }
 {
@@ -46,17 +49,24 @@ fn bounds_for(alloc: Global, count: usize) -> Vec<Bound>
     }
 }
 
-// Begins to make one run of that at the place and the one before it, where both are at rest and of a like size and there is memory for it:
-// whether it did.
-fn open_at(runs: &mut Vec<Run>, place: usize, oldest: u64) -> bool
-    ensures { (c : Posting → Bool) → least c (postings_in runs.new.items) ≡ least c (postings_in runs.old.items) }
+// Begins to make one run of that at the place and the one before it, where they are alike. It takes memory; where that is refused, it counts
+// the refusal, and the runs stay. Are they alike?
+fn open_at(runs: &mut Vec<Run>, place: usize, oldest: u64, refused: &mut u64) -> bool
+    requires some { 0 < place }
+    requires within { place < vec_len runs.old }
+    ensures same { (c : Posting → Bool) → least c (postings_in runs.new.items) ≡ least c (postings_in runs.old.items) }
+    ensures alike { result ≡ true → IsEnded (fit_one oldest) (sizes_in runs.old.items) (sizes_in runs.new.items) refused.old refused.new }
+    ensures none { result ≡ false → has_alike (fit_one oldest) (take 2 (drop (place - 1) (sizes_in runs.old.items))) ≡ false }
+    ensures stays { result ≡ false → runs.new ≡ runs.old }
+    ensures refused { result ≡ false → refused.new ≡ refused.old }
 {
-    if place == 0 || place >= runs.len() || !are_alike(&runs[place - 1], &runs[place], oldest) {
+    if !are_alike(&runs[place - 1], &runs[place], oldest) {
         return false;
     }
     let alloc = *runs.allocator();
     let Some(places) = places_for(alloc, &runs[place - 1], &runs[place]) else {
-        return false;
+        *refused = refused.saturating_add(1);
+        return true;
     };
     let bounds = bounds_for(alloc, places.capacity());
     let second = runs.remove(place);
@@ -64,13 +74,15 @@ fn open_at(runs: &mut Vec<Run>, place: usize, oldest: u64) -> bool
     true
 }
 
-// Begins to make one run of the last two beside one another that are of a like size. It takes memory where it gets it; else the runs stay.
-pub(crate) fn open_last(runs: &mut Vec<Run>, oldest: u64)
-    ensures { (c : Posting → Bool) → least c (postings_in runs.new.items) ≡ least c (postings_in runs.old.items) }
+// Begins to make one run of the last two beside one another that are alike. It takes memory; where that is refused, it counts the refusal, and
+// the runs stay.
+pub(crate) fn open_last(runs: &mut Vec<Run>, oldest: u64, refused: &mut u64)
+    ensures same { (c : Posting → Bool) → least c (postings_in runs.new.items) ≡ least c (postings_in runs.old.items) }
+    ensures tried { IsTried (fit_one oldest) (sizes_in runs.old.items) (sizes_in runs.new.items) refused.old refused.new }
 {
     for after in 1..runs.len() {
-        let place = runs.len().saturating_sub(after);
-        if open_at(runs, place, oldest) {
+        let place = runs.len() - after;
+        if open_at(runs, place, oldest, refused) {
             return;
         }
     }
@@ -80,8 +92,16 @@ pub(crate) fn open_last(runs: &mut Vec<Run>, oldest: u64)
 fn move_at(runs: &mut Vec<Run>, place: usize, oldest: u64, most: usize) -> usize
     ensures same { (c : Posting → Bool) → least c (postings_in runs.new.items) ≡ least c (postings_in runs.old.items) }
     ensures most { result ≤ most }
+    ensures lasts { lasts_of (sizes_in runs.new.items) ≡ lasts_of (sizes_in runs.old.items) }
+    ensures wholes { wholes_of (sizes_in runs.new.items) ≡ wholes_of (sizes_in runs.old.items) }
+    ensures len { vec_len runs.new ≡ vec_len runs.old }
+    ensures moved { left_above oldest (sizes_in runs.new.items) + (most - result) ≡ left_above oldest (sizes_in runs.old.items) }
+    ensures ended { 0 < result → left_above oldest (drop (place + 1) (sizes_in runs.old.items)) ≡ 0 → left_above oldest (drop place (sizes_in runs.new.items)) ≡ 0 }
 {
-    if place >= runs.len() || runs[place].last <= oldest {
+    if place >= runs.len() {
+        return most;
+    }
+    if runs[place].last <= oldest {
         return most;
     }
     runs[place].move_on(most)
@@ -89,11 +109,12 @@ fn move_at(runs: &mut Vec<Run>, place: usize, oldest: u64, most: usize) -> usize
 
 // Moves so many postings at most of the runs that are being made of two, of the last runs first: these are the shortest.
 pub(crate) fn move_runs(runs: &mut Vec<Run>, oldest: u64, most: usize)
-    ensures { (c : Posting → Bool) → least c (postings_in runs.new.items) ≡ least c (postings_in runs.old.items) }
+    ensures same { (c : Posting → Bool) → least c (postings_in runs.new.items) ≡ least c (postings_in runs.old.items) }
+    ensures moved { IsMovedBy oldest most (sizes_in runs.old.items) (sizes_in runs.new.items) }
 {
     let mut rest = most;
     for after in 0..runs.len() {
-        let place = runs.len().saturating_sub(after).saturating_sub(1);
+        let place = runs.len() - after - 1;
         rest = move_at(runs, place, oldest, rest);
     }
 }

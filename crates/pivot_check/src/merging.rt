@@ -32,6 +32,7 @@ fn move_first(from: &mut Part, to: &mut Part)
     ensures rising { IsTrue (keys_rise (live to.new ++ live from.new)) }
     ensures other { (ys : List Posting) → BeginsBelow (live from.old) ys → IsTrue (keys_rise (live to.old ++ ys)) → IsTrue (keys_rise (live to.new ++ ys)) }
     ensures left { left from.new + 1 ≡ left from.old }
+    ensures made { left to.new ≡ left to.old + 1 }
     ensures to_len { length to.new.written.items ≡ length to.old.written.items + 1 }
     ensures capacity { vec_capacity to.old.written ≤ vec_capacity to.new.written }
 {
@@ -49,6 +50,7 @@ pub(crate) fn move_least(first: &mut Part, second: &mut Part, to: &mut Part)
     ensures first { IsTrue (keys_rise (live to.new ++ live first.new)) }
     ensures second { IsTrue (keys_rise (live to.new ++ live second.new)) }
     ensures left { left first.new + left second.new + 1 ≡ left first.old + left second.old }
+    ensures made { left to.new ≡ left to.old + 1 }
     ensures to_len { length to.new.written.items ≡ length to.old.written.items + 1 }
     ensures capacity { vec_capacity to.old.written ≤ vec_capacity to.new.written }
 {

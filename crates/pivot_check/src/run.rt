@@ -1,5 +1,5 @@
 //! A run of written keys.
-ghost use Rattle.std.specs.Prelude.{◌≡◌, ◌≤◌, ◌<◌, ◌+◌, ◌-◌, ◌++◌, IsTrue, Bool, true, false, length};
+ghost use Rattle.std.specs.Prelude.{◌≡◌, ◌≤◌, ◌<◌, ◌+◌, ◌-◌, ◌++◌, IsTrue, Bool, true, false, length, max};
 ghost use Rattle.std.specs.Vec.{vec_len, vec_capacity};
 ghost use Rattle.marks.specs.Lent.{lent_mark};
 ghost use Rattle.marks.specs.Marked.{marks_of};
@@ -44,7 +44,10 @@ impl Run {
     pub(crate) fn of(written: Vec<Written>, last: u64) -> Run
         requires rising { IsTrue (keys_rise written.items) }
         requires upto { IsTrue (are_upto last written.items) }
-        ensures { (c : Posting → Bool) → least c (live_in result.made result.first result.second) ≡ least c written.items }
+        ensures same { (c : Posting → Bool) → least c (live_in result.made result.first result.second) ≡ least c written.items }
+        ensures last { result.last ≡ last }
+        ensures left { left result.first + left result.second ≡ 0 }
+        ensures made { left result.made ≡ length written.items }
     {
         let alloc = *written.allocator();
         Run {
@@ -101,7 +104,10 @@ impl Run {
         requires none { length places.items ≡ 0 }
         requires no_bounds { length bounds.items ≡ 0 }
         requires room { left self.old.made + left second.made ≤ vec_capacity places }
-        ensures { (c : Posting → Bool) → least c (live_in self.new.made self.new.first self.new.second) ≡ lesser (least c (live_in self.old.made self.old.first self.old.second)) (least c (live_in second.made second.first second.second)) }
+        ensures last { self.new.last ≡ max self.old.last second.last }
+        ensures left { left self.new.first + left self.new.second ≡ left self.old.made + left second.made }
+        ensures made { left self.new.made ≡ 0 }
+        ensures same { (c : Posting → Bool) → least c (live_in self.new.made self.new.first self.new.second) ≡ lesser (least c (live_in self.old.made self.old.first self.old.second)) (least c (live_in second.made second.first second.second)) }
     {
         let Run { last, made, .. } = second;
         self.last = self.last.max(last);
@@ -114,6 +120,8 @@ impl Run {
         requires { 0 < left self.old.first + left self.old.second }
         ensures same { (c : Posting → Bool) → least c (live_in self.new.made self.new.first self.new.second) ≡ least c (live_in self.old.made self.old.first self.old.second) }
         ensures moved { left self.new.first + left self.new.second + 1 ≡ left self.old.first + left self.old.second }
+        ensures last { self.new.last ≡ self.old.last }
+        ensures whole { left self.new.first + left self.new.second + left self.new.made ≡ left self.old.first + left self.old.second + left self.old.made }
     {
         move_least(&mut self.first, &mut self.second, &mut self.made);
     }
@@ -123,6 +131,8 @@ impl Run {
         ensures same { (c : Posting → Bool) → least c (live_in self.new.made self.new.first self.new.second) ≡ least c (live_in self.old.made self.old.first self.old.second) }
         ensures ended { 0 < result → left self.new.first + left self.new.second ≡ 0 }
         ensures moved { left self.new.first + left self.new.second + (most - result) ≡ left self.old.first + left self.old.second }
+        ensures last { self.new.last ≡ self.old.last }
+        ensures whole { left self.new.first + left self.new.second + left self.new.made ≡ left self.old.first + left self.old.second + left self.old.made }
         ensures most { result ≤ most }
     {
         for moved in 0..most {
@@ -139,6 +149,8 @@ impl Run {
         requires { left self.old.first + left self.old.second ≡ 0 }
         ensures same { (c : Posting → Bool) → least c (live_in self.new.made self.new.first self.new.second) ≡ least c (live_in self.old.made self.old.first self.old.second) }
         ensures rest { left self.new.first + left self.new.second ≡ 0 }
+        ensures last { self.new.last ≡ self.old.last }
+        ensures made { left self.new.made ≡ left self.old.made }
     {
         let alloc = *self.made.written.allocator();
         self.first = nothing(alloc);
@@ -151,6 +163,8 @@ impl Run {
         ensures same { (c : Posting → Bool) → least c (live_in self.new.made self.new.first self.new.second) ≡ least c (live_in self.old.made self.old.first self.old.second) }
         ensures ended { 0 < result → left self.new.first + left self.new.second ≡ 0 }
         ensures moved { left self.new.first + left self.new.second + (most - result) ≡ left self.old.first + left self.old.second }
+        ensures last { self.new.last ≡ self.old.last }
+        ensures whole { left self.new.first + left self.new.second + left self.new.made ≡ left self.old.first + left self.old.second + left self.old.made }
         ensures most { result ≤ most }
     {
         let rest = self.move_postings(most);

@@ -1,5 +1,5 @@
 //! Runs of written keys.
-ghost use Rattle.std.specs.Prelude.{◌≡◌, ◌<◌, ◌+◌, ◌-◌, ◌&&◌, nat_lt, nat_le, IsTrue, Bool, List, None, map, position, is_some};
+ghost use Rattle.std.specs.Prelude.{◌≡◌, ◌<◌, ◌+◌, ◌-◌, ◌&&◌, nat_lt, nat_le, IsTrue, Bool, List, None, map, position, is_some, length};
 ghost use Rattle.std.specs.List.{filter};
 ghost use Rattle.std.specs.Vec.{vec_len, vec_capacity};
 ghost use Rattle.model.specs.Map.{KeyWrite};
@@ -7,7 +7,8 @@ ghost use Rattle.marks.specs.Lent.{lent_mark};
 ghost use Rattle.marks.specs.Marked.{marks_of};
 ghost use Rattle.pivot_check.specs.Postings.{Posting, keys_rise, are_upto, least, lesser, asked_of, covered_of};
 ghost use Rattle.last_readers.specs.Held.{size_upto};
-ghost use Rattle.pivot_check.specs.Inside.{postings_in, held_in, size_of};
+ghost use Rattle.last_readers.specs.RunSizes.{left_above, with_run};
+ghost use Rattle.pivot_check.specs.Inside.{postings_in, held_in, size_of, sizes_in};
 ghost use Rattle.pivot_check.specs.Index.{is_written_since};
 
 use crate::by_start::ByStart;
@@ -61,7 +62,8 @@ pub(crate) fn add_run(runs: &mut Vec<Run>, written: Vec<Written>, last: u64)
     requires rising { IsTrue (keys_rise written.items) }
     requires upto { IsTrue (are_upto last written.items) }
     requires room { vec_len runs.old < vec_capacity runs.old }
-    ensures { (c : Posting → Bool) → least c (postings_in runs.new.items) ≡ lesser (least c (postings_in runs.old.items)) (least c written.items) }
+    ensures same { (c : Posting → Bool) → least c (postings_in runs.new.items) ≡ lesser (least c (postings_in runs.old.items)) (least c written.items) }
+    ensures sizes { sizes_in runs.new.items ≡ with_run last (length written.items) (sizes_in runs.old.items) }
 {
     if written.is_empty() {
         return;
@@ -91,6 +93,7 @@ pub(crate) fn take_old(runs: &mut Vec<Run>, oldest: u64) -> Option<Run>
     ensures same { (c : Posting → Bool) → least (λ p. nat_lt oldest p.number && c p) (postings_in runs.new.items) ≡ least (λ p. nat_lt oldest p.number && c p) (postings_in runs.old.items) }
     ensures none { result ≡ None → size_upto oldest (held_in runs.new.items) ≡ 0 }
     ensures size { size_upto oldest (held_in runs.old.items) ≡ size_of result + size_upto oldest (held_in runs.new.items) }
+    ensures left { left_above oldest (sizes_in runs.new.items) ≡ left_above oldest (sizes_in runs.old.items) }
 {
     match first_old(runs, oldest) {
         Some(place) => Some(runs.remove(place)),

@@ -159,6 +159,7 @@ fn end_of(postings: &[Written], key: KeyRef<'_>) -> usize
 fn add_written(postings: &mut Vec<Written>, key: Key, number: u64, has_earlier_target: bool)
     requires rising { IsTrue (keys_rise postings.old.items) }
     requires spare { vec_len postings.old < vec_capacity postings.old }
+    ensures len { vec_len postings.new ≡ vec_len postings.old + 1 }
     ensures rising { IsTrue (keys_rise postings.new.items) }
     ensures added { (c : Posting → Bool) → least c postings.new.items ≡ lesser (least c postings.old.items) (least c (record { key = key; number = number; has_earlier_target = has_earlier_target } ∷ [])) }
     ensures spare { vec_capacity postings.old - vec_len postings.old ≤ vec_capacity postings.new - vec_len postings.new + 1 }
@@ -184,6 +185,7 @@ pub(crate) fn add_all(
 )
     requires rising { IsTrue (keys_rise postings.old.items) }
     requires spare { length keys.items ≤ vec_capacity postings.old - vec_len postings.old }
+    ensures len { vec_len postings.new ≡ vec_len postings.old + length keys.items }
     ensures rising { IsTrue (keys_rise postings.new.items) }
     ensures added { (c : Posting → Bool) → least c postings.new.items ≡ lesser (least c postings.old.items) (least c (postings_by number has_earlier_target keys.items)) }
 {

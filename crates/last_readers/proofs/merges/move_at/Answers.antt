@@ -1,7 +1,8 @@
-use Rattle.std.proofs.Common.{◌≡◌, ◌<◌, ◌+◌, suc, length, ap, ◌∙◌, subst, arith}
+use Rattle.std.proofs.Common.{◌<◌, ◌+◌, length, subst, arith}
 use Rattle.last_readers.specs.declared.run.Run.{Run}
 use Rattle.last_readers.proofs.RunLaws.{changed}
 use Rattle.last_readers.proofs.RunSteps.{left_changed, lasts_changed, none_left, passed_left, same_run}
+use Rattle.last_readers.specs.Inside.{sizes_of}
 use Rattle.last_readers.proofs.merges.move_at.Goals as goal
 
 -- a run stands at the place, and has a number above `oldest`
@@ -23,24 +24,24 @@ pub returns-clause-same : goal.returns-clause-same
 returns-clause-same c = λ k. changed c.args.oldest c.args.runs.now.items c.args.place c.index_mut.result.now c.move_on.new.self k (is_late c).within c.index_mut.ensures.value (c.move_on.ensures.same k)
 
 pub returns-clause-lasts : goal.returns-clause-lasts
-returns-clause-lasts c = lasts_changed c.args.runs.now.items c.args.place c.index_mut.result.now c.move_on.new.self (is_late c).within c.index_mut.ensures.value c.move_on.ensures.last
+returns-clause-lasts c = lasts_changed sizes_of c.args.runs.now.items c.args.place c.index_mut.result.now c.move_on.new.self (is_late c).within c.index_mut.ensures.value c.move_on.ensures.last
 
 pub returns-clause-fewer : goal.returns-clause-fewer
 returns-clause-fewer c =
     let is = is_late c in
-    let left = left_changed c.args.oldest c.args.runs.now.items c.args.place c.index_mut.result.now c.move_on.new.self is.within c.index_mut.ensures.value is.late c.move_on.ensures.last in
+    let left = left_changed sizes_of c.args.oldest c.args.runs.now.items c.args.place c.index_mut.result.now c.move_on.new.self is.within c.index_mut.ensures.value is.late c.move_on.ensures.last in
     let fewer = c.move_on.ensures.fewer in
     omega (arith, left, fewer)
 
 pub returns-clause-two : goal.returns-clause-two
 returns-clause-two c =
     let is = is_late c in
-    let left = left_changed c.args.oldest c.args.runs.now.items c.args.place c.index_mut.result.now c.move_on.new.self is.within c.index_mut.ensures.value is.late c.move_on.ensures.last in
+    let left = left_changed sizes_of c.args.oldest c.args.runs.now.items c.args.place c.index_mut.result.now c.move_on.new.self is.within c.index_mut.ensures.value is.late c.move_on.ensures.last in
     let two = c.move_on.ensures.two in
     omega (arith, left, two)
 
 pub returns-clause-ended : goal.returns-clause-ended
-returns-clause-ended c = λ some behind. none_left c.args.oldest c.args.runs.now.items c.args.place (c.args.place + 1) c.move_on.new.self (omega arith) (c.move_on.ensures.ended some) behind
+returns-clause-ended c = λ some behind. none_left sizes_of c.args.oldest c.args.runs.now.items c.args.place (c.args.place + 1) c.move_on.new.self (omega arith) (c.move_on.ensures.ended some) behind
 
 pub returns-then-index-oldest-clause-ended : goal.returns-then-index-oldest-clause-ended
-returns-then-index-oldest-clause-ended c = λ some behind. passed_left c.args.oldest c.args.runs.now.items c.args.place (c.args.place + 1) c.index.result.now (omega arith) c.index.ensures c.if-index-oldest.true behind
+returns-then-index-oldest-clause-ended c = λ some behind. passed_left sizes_of c.args.oldest c.args.runs.now.items c.args.place (c.args.place + 1) c.index.result.now (omega arith) c.index.ensures c.if-index-oldest.true behind

@@ -1,9 +1,9 @@
-use Rattle.std.proofs.Common.{◌≡◌, ◌≤◌, ◌<◌, ◌+◌, ◌-◌, refl, ap, ◌∙◌, drop, arith, inl, inr}
+use Rattle.std.proofs.Common.{◌≡◌, ◌≤◌, ◌+◌, ◌-◌, refl, ap, ◌∙◌, drop, arith, inl, inr}
 use Rattle.std.specs.Prelude.{min}
 use Rattle.std.specs.Vec.{vec_len}
 use Rattle.std.proofs.lemmas.Bool.{cases_lt}
 use Rattle.last_readers.specs.RunSizes.{left_above}
-use Rattle.last_readers.specs.Inside.{sizes_in}
+use Rattle.last_readers.specs.Inside.{sizes_of, sizes_in}
 use Rattle.last_readers.proofs.RunSteps.{past_left}
 use Rattle.last_readers.proofs.merges.move_runs.Goals as goal
 
@@ -17,7 +17,7 @@ loop-after-init c =
       lasts = refl;
       fewer = omega arith;
       two = omega arith;
-      ended = λ some. past_left c.args.oldest c.args.runs.now.items (vec_len c.args.runs.now - 0) (omega (arith, len));
+      ended = λ some. past_left sizes_of c.args.oldest c.args.runs.now.items (vec_len c.args.runs.now - 0) (omega (arith, len));
     }
 
 pub loop-after-preserved : goal.loop-after-preserved

@@ -7,7 +7,7 @@ use Rattle.last_readers.specs.declared.run.Run.{Run}
 use Rattle.last_readers.specs.Readers.{cut, greatest_at}
 use Rattle.last_readers.specs.Held.{size_upto}
 use Rattle.last_readers.specs.RunSizes.{left_above}
-use Rattle.last_readers.specs.Inside.{held_of, held_in, runs_in, sizes_in}
+use Rattle.last_readers.specs.Inside.{held_of, held_in, runs_in, sizes_of, sizes_in}
 use Rattle.last_readers.proofs.OldRuns.{part_of, none_old}
 use Rattle.last_readers.proofs.RunLaws.{old_out}
 use Rattle.last_readers.proofs.RunSteps.{left_without}
@@ -47,4 +47,4 @@ returns-in-None-clause-size c = omega arith
 pub returns-in-Some-clause-left : goal.returns-in-Some-clause-left
 returns-in-Some-clause-left c =
     let is = is_old c in
-    ap (λ l. left_above c.args.oldest (sizes_in l)) c.remove.ensures.items ∙ left_without c.args.oldest c.args.runs.now.items c.in-Some.place c.remove.result is.within c.remove.ensures.value is.old
+    ap (λ l. left_above c.args.oldest (sizes_in l)) c.remove.ensures.items ∙ left_without sizes_of c.args.oldest c.args.runs.now.items c.in-Some.place c.remove.result is.within c.remove.ensures.value is.old

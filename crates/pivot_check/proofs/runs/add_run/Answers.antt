@@ -4,5 +4,5 @@ use Rattle.pivot_check.specs.Inside.{postings_in}
 use Rattle.pivot_check.proofs.Walks.{pushed}
 use Rattle.pivot_check.proofs.runs.add_run.Goals as goal
 
-pub returns : goal.returns
-returns c = λ t. ap (λ rs. least t (postings_in rs)) c.in-Ok.ensures.items ∙ pushed t c.args.runs.now.items _ ∙ ap (lesser (least t (postings_in c.args.runs.now.items))) (c.of.ensures t)
+pub returns-clause-same : goal.returns-clause-same
+returns-clause-same c = λ t. ap (λ rs. least t (postings_in rs)) c.in-Ok.ensures.items ∙ pushed t c.args.runs.now.items _ ∙ ap (lesser (least t (postings_in c.args.runs.now.items))) (c.of.ensures.same t)

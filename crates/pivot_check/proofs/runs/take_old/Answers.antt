@@ -6,8 +6,10 @@ use Rattle.std.proofs.lemmas.List.Quantifiers.{position-Some}
 use Rattle.pivot_check.specs.declared.run.Run.{Run}
 use Rattle.pivot_check.specs.Postings.{least}
 use Rattle.last_readers.specs.Held.{size_upto}
-use Rattle.pivot_check.specs.Inside.{held_of, held_in, postings_in}
+use Rattle.pivot_check.specs.Inside.{held_of, held_in, postings_in, sizes_of, sizes_in}
+use Rattle.last_readers.specs.RunSizes.{left_above}
 use Rattle.last_readers.proofs.OldRuns.{part_of, none_old}
+use Rattle.last_readers.proofs.RunSteps.{left_without}
 use Rattle.pivot_check.proofs.Walks.{without_old}
 use Rattle.pivot_check.proofs.runs.take_old.Goals as goal
 
@@ -42,3 +44,8 @@ returns-in-None-clause-none c = λ none. none_old held_of c.args.oldest c.args.r
 
 pub returns-in-None-clause-size : goal.returns-in-None-clause-size
 returns-in-None-clause-size c = omega arith
+
+pub returns-in-Some-clause-left : goal.returns-in-Some-clause-left
+returns-in-Some-clause-left c =
+    let is = is_old c in
+    ap (λ l. left_above c.args.oldest (sizes_in l)) c.remove.ensures.items ∙ left_without sizes_of c.args.oldest c.args.runs.now.items c.in-Some.place c.remove.result is.within c.remove.ensures.value is.old

@@ -10,6 +10,7 @@ invariant-runs l = record {
   oldest : l.self.readers.oldest ≡ l.fn.self.readers.oldest;
   due : due_of l.fn.self + l.left ≡ due_of l.self + 1024;
   left : left_above l.self.readers.oldest l.self.runs ≡ left_above l.self.readers.oldest l.fn.self.runs;
+  refused : l.self.refused ≡ l.fn.self.refused;
   most : l.left ≤ 1024;
 }
 

@@ -1,9 +1,11 @@
-use Rattle.std.proofs.Common.{◌≡◌, ◌<◌, ◌+◌, Bool, List, Some, Option, sym, ap, subst, ◌∙◌, arith}
+use Rattle.std.proofs.Common.{◌≡◌, ◌<◌, ◌+◌, Bool, List, length, Some, Option, sym, ap, subst, ◌∙◌, arith}
+use Rattle.std.proofs.lemmas.List.{length-map}
 use Rattle.model.specs.Map.{Bytes}
 use Rattle.snapshot.specs.View.{View}
 use Rattle.last_readers.specs.Readers.{last_reader, IsNoted, HasRoom as HasReadersRoom, ReadersRoom}
 use Rattle.pivot_check.specs.declared.ready.Ready.{Ready}
-use Rattle.pivot_check.specs.Kept.{CommittedValue, keys_of}
+use Rattle.last_readers.specs.RunSizes.{with_run}
+use Rattle.pivot_check.specs.Kept.{CommittedValue, key_of, keys_of}
 use Rattle.pivot_check.specs.Postings.{Posting, postings_by, least, lesser}
 use Rattle.pivot_check.specs.Inside.{postings_in, ready_of}
 use Rattle.pivot_check.proofs.Judging.{notes, nothing, upto_own}
@@ -25,7 +27,7 @@ read c = subst (λ (v : CommittedValue). IsNoted c.args.tx.now.marks c.args.n v.
 
 added : (c : goal.After-self-1) (t : Posting → Bool) → least t (postings_in c.add_run.new.runs.items) ≡ lesser (least t c.args.self.now.facts.postings) (least t (postings_by c.args.n c.args.has_earlier_target c.in-Some.ready.keys.items))
 added c t =
-    c.add_run.ensures t
+    c.add_run.ensures.same t
     ∙ ap (lesser (least t (postings_in c.self.inside.runs.items))) (c.add_all.ensures.added t ∙ ap (λ ps. lesser (least t ps) (least t (postings_by c.args.n c.args.has_earlier_target c.in-Some.ready.keys.items))) (nothing c.in-Some.ready.places.items c.in-Some.ready.none))
     ∙ ap (λ (v : CommittedValue). lesser (least t v.facts.postings) (least t (postings_by c.args.n c.args.has_earlier_target c.in-Some.ready.keys.items))) c.self.view_is
 
@@ -54,3 +56,17 @@ invariant_of-self c =
       upto = noted_upto (last_reader c.self.inside.readers.readers) (last_reader c.note.new.self.readers) c.args.tx.now.marks c.self.inside.last c.args.n n_is c.self.invariant.upto (noted c);
       above = noted_above (last_reader c.self.inside.readers.readers) (last_reader c.note.new.self.readers) c.args.tx.now.marks c.self.inside.oldest c.args.n later c.self.invariant.above (noted c);
     }
+
+-- as many places as the transaction has written keys
+count : (c : goal.After-self-1) → length c.add_all.new.postings.items ≡ length c.args.tx.now.writes
+count c =
+    let len = c.add_all.ensures.len in
+    let none = c.in-Some.ready.none in
+    let was = c.in-Some.ready.places.ok.0 in
+    let is = c.add_all.new.postings.ok.0 in
+    let copied : length c.in-Some.ready.keys.items ≡ length c.args.tx.now.writes = ap length (keys c) ∙ length-map c.args.tx.now.writes key_of in
+    omega (arith, len, none, was, is, copied)
+
+pub returns-clause-sizes : goal.returns-clause-sizes
+returns-clause-sizes c =
+    c.add_run.ensures.sizes ∙ (λ i. with_run c.args.n (count c i) ((ap (λ (v : CommittedValue). v.held.sizes) c.self.view_is) i))

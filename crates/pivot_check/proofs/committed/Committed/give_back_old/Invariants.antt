@@ -1,6 +1,7 @@
 use Rattle.std.proofs.Common.{◌≡◌, ◌≤◌, ◌+◌, List}
 use Rattle.model.specs.History.{Record}
 use Rattle.last_readers.specs.Held.{due_upto}
+use Rattle.last_readers.specs.RunSizes.{left_above}
 use Rattle.pivot_check.specs.StandsFor.{StandsFor}
 use Rattle.pivot_check.proofs.committed.Committed.give_back_old.Given as goal
 
@@ -12,6 +13,8 @@ invariant-runs l = record {
   last : l.self.facts.last ≡ l.fn.self.facts.last;
   held : l.self.held.readers ≡ l.fn.self.held.readers;
   due : due_upto l.fn.self.facts.oldest l.fn.self.held.written + l.left ≡ due_upto l.self.facts.oldest l.self.held.written + 1024;
+  left : left_above l.fn.self.facts.oldest l.self.held.sizes ≡ left_above l.fn.self.facts.oldest l.fn.self.held.sizes;
+  refused : l.self.held.refused ≡ l.fn.self.held.refused;
   most : l.left ≤ 1024;
 }
 

@@ -29,8 +29,8 @@ invariant_of-self c =
           (both_upto was.last more.last (in_run was) (in_run more) (live_in made first more.made) was.upto more.upto (λ t. joined t was more made first c.requires.first c.requires.second none value));
     }
 
-pub returns : goal.returns
-returns c = λ t.
+pub returns-clause-same : goal.returns-clause-same
+returns-clause-same c = λ t.
     let made = c.replace.new.dest in
     let empty = none_in made c.of.result c.replace.ensures.after ((λ i. length (c.of.ensures.written i).items) ∙ c.requires.none) in
     let none : left made ≡ 0 = omega (arith, empty) in

@@ -1,0 +1,70 @@
+use Rattle.std.proofs.Common.{◌≡◌, ◌+◌, ◌-◌, refl, ap, ◌∙◌, drop, arith, inl, inr}
+use Rattle.std.specs.Vec.{vec_len}
+use Rattle.std.proofs.lemmas.Bool.{cases_lt}
+use Rattle.last_readers.specs.RunSizes.{left_above}
+use Rattle.last_readers.proofs.RunSteps.{past_left}
+use Rattle.pivot_check.specs.Inside.{sizes_of, sizes_in}
+use Rattle.pivot_check.proofs.merges.move_runs.Goals as goal
+
+pub loop-after-init : goal.loop-after-init
+loop-after-init c =
+    let len = c.args.runs.now.ok.0 in
+    record {
+      same = λ t. refl;
+      len = refl;
+      most = omega arith;
+      lasts = refl;
+      wholes = refl;
+      moved = omega arith;
+      ended = λ some. past_left sizes_of c.args.oldest c.args.runs.now.items (vec_len c.args.runs.now - 0) (omega (arith, len));
+    }
+
+pub loop-after-preserved : goal.loop-after-preserved
+loop-after-preserved c =
+    let runs = c.args.runs.now in
+    let o = c.args.oldest in
+    let after = c.loop-after.after in
+    let is = c.loop-after.invariant in
+    let moved = c.move_at-rest.ensures in
+    let len = c.len.ensures in
+    let same = is.len in
+    let test = c.loop-after-test.true in
+    let end = c.len-after-end.ensures in
+    let was = left_above o (sizes_in runs.items) in
+    let before = left_above o (sizes_in c.loop-after.runs.items) in
+    let now = left_above o (sizes_in c.move_at-rest.new.runs.items) in
+    let a = is.moved in
+    let b = moved.moved in
+    let f = is.most in
+    let g = moved.most in
+    let at : vec_len runs - (after + 1) ≡ c.len.result - after - 1 = omega (arith, len, same) in
+    let behind : c.len.result - after - 1 + 1 ≡ vec_len runs - after = omega (arith, len, same, test, end) in
+    record {
+      same = λ t. moved.same t ∙ is.same t;
+      len = moved.len ∙ is.len;
+      most = omega (arith, f, g);
+      lasts = moved.lasts ∙ is.lasts;
+      wholes = moved.wholes ∙ is.wholes;
+      moved = omega (arith, a, b, f, g);
+      ended = λ some.
+          ap (λ n. left_above o (drop n (sizes_in c.move_at-rest.new.runs.items))) at
+          ∙ moved.ended some (ap (λ n. left_above o (drop n (sizes_in c.loop-after.runs.items))) behind ∙ is.ended (omega (arith, some, g)));
+    }
+
+pub returns-clause-moved : goal.returns-clause-moved
+returns-clause-moved c =
+    let o = c.args.oldest in
+    let is = c.loop-after.invariant in
+    let rest = c.loop-after.rest in
+    let a = is.moved in
+    let f = is.most in
+    let test = c.loop-after-test.false in
+    let end = c.len-after-end.ensures in
+    let none : vec_len c.args.runs.now - c.loop-after.after ≡ 0 = omega (arith, test, end) in
+    let now = left_above o (sizes_in c.loop-after.runs.items) in
+    let was = left_above o (sizes_in c.args.runs.now.items) in
+    let moved : now ≡ was - c.args.most = elim (cases_lt 0 rest) [
+      | inl some ↦ let z = is.ended some in let all = ap (λ n. left_above o (drop n (sizes_in c.loop-after.runs.items))) none in omega (arith, z, all, a, f)
+      | inr none_left ↦ omega (arith, none_left, a)
+    ] in
+    record { lasts = is.lasts; wholes = is.wholes; moved = moved }
