@@ -142,7 +142,7 @@ impl<D: Sectors> Engine<D> {
     /// all of that is gone.
     ///
     /// What each commit replaced is a list. One is due once no open transaction began with the number under which it stands, and a call
-    /// looks at 16 of those that are due. What was kept to check later commits stands in runs, and a call gives back 1,024 written keys and
+    /// looks at 4 of those that are due. What was kept to check later commits stands in runs, and a call gives back 1,024 written keys and
     /// as many steps of last readers of those that are wholly old. Takes no memory.
     pub fn reclaim(&mut self) -> bool
         ensures keeps { (m : State) → StandsFor self.old m → StandsFor self.new m }

@@ -23,16 +23,16 @@ fn commits(alloc: Global, store: &mut Pieces, lines: &[&str], n: usize) -> Resul
     Ok(last.as_str() == due.as_str())
 }
 
-/// A reader keeps an old version of each of 40 keys, of as many commits. Its end looks at 16 lists of them, and a step at 16 more.
+/// A reader keeps an old version of each of 10 keys, of as many commits. Its end looks at 4 lists of them, and a step at 4 more.
 #[test]
 fn steps_finish(rt: HostRuntime) -> Result<(), Fail> {
     let mut store = Pieces::new(new_hub(rt.alloc(), 4096)?, FRAME_MAX);
     assert!(rt; !store.hub.reclaim());
-    for n in 0..80usize {
-        if n == 40 {
+    for n in 0..20usize {
+        if n == 10 {
             reply_to(rt.alloc(), &mut store, "1 BEGIN")?;
         }
-        let set = format!(in rt.alloc(); "2 SET k{} {n}", n % 40)?;
+        let set = format!(in rt.alloc(); "2 SET k{} {n}", n % 10)?;
         let lines = ["2 BEGIN", set.as_str(), "2 COMMIT"];
         assert!(rt; commits(rt.alloc(), &mut store, &lines, n + 1)?);
         assert!(rt; !store.hub.reclaim());
@@ -41,7 +41,7 @@ fn steps_finish(rt: HostRuntime) -> Result<(), Fail> {
     assert!(rt; store.hub.reclaim());
     assert!(rt; !store.hub.reclaim());
     let engine = store.hub.into_engine();
-    for name in [b"k0".as_slice(), b"k39"] {
+    for name in [b"k0".as_slice(), b"k9"] {
         let Some(key) = KeyRef::new(name) else {
             return Err("no key".into());
         };
@@ -84,7 +84,7 @@ fn idle_turns_finish(rt: HostRuntime) -> Result<(), Fail> {
     events.turn(&rt, Some(Duration::from_secs(20)))?;
     let between = Instant::now(&rt)?;
     assert!(rt; between.duration_since(before) < Duration::from_secs(10));
-    for _ in 0..5u32 {
+    for _ in 0..30u32 {
         events.turn(&rt, Some(Duration::ZERO))?;
     }
     let last = Instant::now(&rt)?;
