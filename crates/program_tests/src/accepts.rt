@@ -92,17 +92,30 @@ fn two_turns(rt: HostRuntime) -> Result<(), Fail> {
     );
     assert_eq!(rt; (second, waiting.counts()), (Backlog::Empty, (130, 1, 0)));
     assert_eq!(rt; (next, table.len()), (128, 128));
-    waiting.fails = true;
-    let third = accept_some(
+    assert_eq!(rt; refused, 0);
+    Ok(())
+}
+
+/// An accept that fails ends a turn, and lets nobody in.
+#[test]
+fn a_failed_accept(rt: HostRuntime) -> Result<(), Fail> {
+    let alloc = rt.alloc();
+    let mut hub = new_hub(alloc, 4096)?;
+    let poll = Poll::new(&rt)?;
+    let mut failing = Waiting::new(Vec::new(alloc), true);
+    let mut table = Slab::<Entry<BufferedStream<Socket>>>::new(alloc);
+    let mut next = 0u64;
+    let mut refused = 0u64;
+    let backlog = accept_some(
         alloc,
         &poll,
-        &mut waiting,
+        &mut failing,
         &mut hub,
         &mut next,
         &mut refused,
         &mut table,
     );
-    assert_eq!(rt; (third, waiting.counts()), (Backlog::Failed, (130, 1, 1)));
-    assert_eq!(rt; refused, 0);
+    assert_eq!(rt; (backlog, failing.counts()), (Backlog::Failed, (0, 0, 1)));
+    assert_eq!(rt; (next, table.len(), refused), (0, 0, 0));
     Ok(())
 }
