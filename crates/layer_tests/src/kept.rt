@@ -100,13 +100,14 @@ fn after_five_commits(alloc: Global) -> Result<Versions, Memory> {
     Ok(versions)
 }
 
-/// Where no number before the last is held, four older versions go in one call, since a call looks at sixteen lists, and the deleted key
-/// before the other isn't shown.
+/// Where no number before the last is held, older versions go in two calls, since a call looks at four lists, and the deleted key before the
+/// other isn't shown.
 #[test]
-fn few_lists_go_at_once(rt: HostRuntime) -> Result<(), Fail> {
+fn few_lists_go_in_two_calls(rt: HostRuntime) -> Result<(), Fail> {
     let (a, b) = (key(b"a"), key(b"b"));
     let mut versions = after_five_commits(rt.alloc())?;
     assert!(rt; versions.kept(a) == 5);
+    assert!(rt; versions.reclaim(&[6]));
     assert!(rt; !versions.reclaim(&[6]));
     assert!(rt; versions.kept(a) == 1 && versions.kept(b) == 1);
     assert!(rt; versions.newest(a) == Some(5));
@@ -117,14 +118,14 @@ fn few_lists_go_at_once(rt: HostRuntime) -> Result<(), Fail> {
     Ok(())
 }
 
-// The versions of a map with forty keys, after forty commits that write one of them each: forty lists of an older version.
-fn after_forty_commits(alloc: Global) -> Result<Versions, Memory> {
+// The versions of a map with ten keys, after ten commits that write one of them each: ten lists of an older version.
+fn after_ten_commits(alloc: Global) -> Result<Versions, Memory> {
     let mut map = Map::new(alloc);
-    for n in 0..40u8 {
+    for n in 0..10u8 {
         put(alloc, &mut map, &[n], b"old")?;
     }
     let mut versions = Versions::from_map(alloc, map)?;
-    for commits in 0..40 {
+    for commits in 0..10 {
         let value = Vec::from_slice(alloc, b"new")?;
         let bytes = [commits as u8];
         commit(alloc, &mut versions, commits + 1, key(&bytes), Some(value))?;
@@ -132,10 +133,10 @@ fn after_forty_commits(alloc: Global) -> Result<Versions, Memory> {
     Ok(versions)
 }
 
-// How many of the forty keys have an older version.
+// How many of the ten keys have an older version.
 fn older_versions(versions: &Versions) -> u64 {
     let mut count = 0u64;
-    for n in 0..40u8 {
+    for n in 0..10u8 {
         let bytes = [n];
         if versions.kept(key(&bytes)) > 1 {
             count += 1;
@@ -144,14 +145,14 @@ fn older_versions(versions: &Versions) -> u64 {
     count
 }
 
-/// Forty lists go in three calls, sixteen at most in each, and each call but the last asks for another.
+/// Ten lists go in three calls, four at most in each, and each call but the last asks for another.
 #[test]
 fn lists_go_in_instalments(rt: HostRuntime) -> Result<(), Fail> {
-    let mut versions = after_forty_commits(rt.alloc())?;
-    assert!(rt; older_versions(&versions) == 40);
-    assert!(rt; versions.reclaim(&[40]) && older_versions(&versions) == 24);
-    assert!(rt; versions.reclaim(&[40]) && older_versions(&versions) == 8);
-    assert!(rt; !versions.reclaim(&[40]) && older_versions(&versions) == 0);
-    assert!(rt; versions.at(40, key(&[7])) == Some(b"new".as_slice()));
+    let mut versions = after_ten_commits(rt.alloc())?;
+    assert!(rt; older_versions(&versions) == 10);
+    assert!(rt; versions.reclaim(&[10]) && older_versions(&versions) == 6);
+    assert!(rt; versions.reclaim(&[10]) && older_versions(&versions) == 2);
+    assert!(rt; !versions.reclaim(&[10]) && older_versions(&versions) == 0);
+    assert!(rt; versions.at(10, key(&[7])) == Some(b"new".as_slice()));
     Ok(())
 }
