@@ -7,7 +7,7 @@ use Rattle.std.specs.declared.io.ErrorKind.TheVariants.{OutOfMemory}
 use Rattle.commands.specs.declared.faults.Fault.{Fault}
 use Rattle.commands.specs.declared.faults.Fault.TheVariants.{File, Memory}
 
--- an error of the system is told as this fault, or as a want of memory, which its kind tells
+-- an error of the system is reported as this fault, or as out of memory where its kind says so
 abbrev pub IsToldAs : Error → Fault → Fault → Type 0
 IsToldAs error fault told = ((error_kind error ≡ OutOfMemory) × (told ≡ Memory)) ⊎ ((error_kind error ≢ OutOfMemory) × (told ≡ fault))
 

@@ -22,10 +22,10 @@ use std::{io, mem};
 
 /// Copies the map of the log in the file `from`, of either format, into the file `to`, and prints the line of `to` as `check` does. It
 /// makes `to`, whose name must be free, with as many sectors as `copy_count` says, and never writes `from`. Where `err` is a terminal
-/// and reading took a second or more, it tells there that the copy is being written; that this can't be told is no fault. It calls nothing
+/// and reading took a second or more, it reports there that the copy is being written; if this can't be reported, that is no fault. It calls nothing
 /// else: its contract names each call of the files and the outputs.
 ///
-/// The first fault met is told: one of opening or reading `from`; `LogFull` where the map needs more sectors than `to` may have, and then
+/// The first fault is reported: one of opening or reading `from`; `LogFull` where the map needs more sectors than `to` may have, and then
 /// `to` isn't made; `File` or `Memory` where `to` can't be made, after which no file is there that it made; one of `copy_device`, after
 /// which `to` stays: it is no log, or the whole copy. It takes the memory of the map and of one record. That of the map is left to the end
 /// of the process: to give a million values back one by one takes a twentieth of the whole.

@@ -1,4 +1,4 @@
-//! How a command line ends, and what is told of it. Each line leaves in one write.
+//! How a command line ends, and what is reported of it. Each line leaves in one write.
 ghost use Rattle.std.specs.Prelude.{◌≡◌, ◌++◌, ◌≤◌, length};
 ghost use Rattle.commands.specs.Faults.{line_of, status_of};
 ghost use Rattle.commands.specs.Endings.{Tells, TellsFault};
@@ -23,12 +23,12 @@ pub enum Ending {
     Failed(Fault),
 }
 
-/// What was told of an ending.
+/// What was reported of an ending.
 #[derive(Clone, Copy, PartialEq, Eq, Debug)]
 pub struct Told {
     /// The exit status.
     pub status: u8,
-    /// Was all that was to be told written?
+    /// Was all that was to be reported written?
     pub is_written: bool,
 }
 

@@ -83,7 +83,7 @@ impl From<ScriptFault> for Fault {
     }
 }
 
-/// An error of a file, the input or the output, among which a want of memory is told by its kind.
+/// An error of a file, the input or the output. Its kind says whether it is out of memory.
 impl From<io::Error> for Fault {
     ghost use Rattle.std.specs.Prelude.{◌≡◌, ◌≢◌, ◌⊎◌};
     ghost use Rattle.std.specs.IoError.{error_kind};
@@ -97,7 +97,7 @@ impl From<io::Error> for Fault {
     }
 }
 
-/// The fault, unless the error is a want of memory.
+/// The fault, unless the error is out of memory.
 pub(crate) fn or_memory(error: &io::Error, fault: Fault) -> Fault
     ensures { ((error_kind error.now ≡ ErrorKind.OutOfMemory) × (result ≡ Fault.Memory)) ⊎ ((error_kind error.now ≢ ErrorKind.OutOfMemory) × (result ≡ fault)) }
 {

@@ -4,7 +4,7 @@ ghost use Rattle.std.specs.Prelude.{◌≡◌, ◌≤◌, ◌+◌, ◌++◌, len
 use arrayvec::ArrayVec;
 use itoa::Buffer;
 
-/// The bytes of a line that is told: the longest has four numbers of twenty digits.
+/// The bytes of a line that is printed: the longest has four numbers of twenty digits.
 pub(crate) type Line = ArrayVec<u8, 128>;
 
 /// Adds a text to a line.

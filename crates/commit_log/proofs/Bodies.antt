@@ -8,7 +8,8 @@ use Rattle.sha2.proofs.Facts256.{length-sha256}
 use Rattle.model.specs.Map.{KeyWrite}
 use Rattle.commit_log.specs.RecordFormat.{IsWriteSet, payload_bytes, record_digest, body_bytes, sectors_of, sectors_for, padded_body}
 use Rattle.commit_log.proofs.Limits.{length-payload_le, length-body}
-use Rattle.commit_log.proofs.Parsing.{same_front, same_number}
+use Rattle.model.proofs.Fronts.{same_front}
+use Rattle.commit_log.proofs.Parsing.{same_number}
 use Rattle.commit_log.proofs.Appending.{sectors_of_is}
 use Rattle.commit_log.specs.declared.formats.LogFormat.{LogFormat}
 use Rattle.commit_log.proofs.Limits.{value_small}

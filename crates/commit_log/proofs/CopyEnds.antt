@@ -3,7 +3,7 @@ use Rattle.std.proofs.lemmas.Grind.{common_steps}
 use Rattle.std.proofs.Common.{◌≡◌, inl, inr, ⊎_elim, ℕ, ◌<◌, ◌≤◌, ◌+◌, List, [], ◌∷◌, length, set, slice_get, Some, refl, sym, ◌∙◌, ap, subst, arith}
 use Rattle.sector.specs.declared.device.Sectors.{Ghosts}
 use Rattle.sector.specs.SectorModel.{IsSettled, FollowsWrite, FollowsWrites, Settles, Elapses, LeavesOnly}
-use Rattle.sector.proofs.Moments.{started, goes_on, joined}
+use Rattle.sector.proofs.Crashes.{of_none, of_one_more, of_more}
 use Rattle.model.specs.Map.{KeyWrite}
 use Rattle.commit_log.specs.Format.{current, head_sector}
 use Rattle.commit_log.specs.RecordFormat.{closed_gate, first_digest}
@@ -78,17 +78,17 @@ module _ {D : Type 0} (S : Ghosts D) (lists : List (List KeyWrite)) where
     pub after_sync : (now next : D) → LeavesOnly S.moment S.left_since start now (IsCopyStep lists (S.may_leave start)) → Within S 1 (1 + span lists) start now
         → ((c : List (List ℕ)) → S.may_leave next c → S.may_leave now c) → Elapses (S.moment now) (S.moment next) (S.left_since now) (S.left_since next) (S.may_leave next)
         → LeavesOnly S.moment S.left_since start next (IsCopyStep lists (S.may_leave start))
-    after_sync now next so_far alone fewer time = grind (arith, common_steps, goes_on, same_before)
+    after_sync now next so_far alone fewer time = grind (arith, common_steps, of_one_more, same_before)
 
     pub not_begun : ((c : List (List ℕ)) → S.left_since start (S.moment start) c → S.may_leave start c) → LeavesOnly S.moment S.left_since start start (IsCopyStep lists (S.may_leave start))
-    not_begun only_now = started S.moment S.left_since start (IsCopyStep lists (S.may_leave start)) (λ c left. inl (c, only_now c left, refl))
+    not_begun only_now = of_none (λ c left. inl (c, only_now c left, refl))
 
     pub still_first : (now : D) → LeavesOnly S.moment S.left_since start now (S.may_leave start) → LeavesOnly S.moment S.left_since start now (IsCopyStep lists (S.may_leave start))
     still_first now time = grind (arith, common_steps, ⊎_elim)
 
     pub after_reads : (now next : D) → LeavesOnly S.moment S.left_since start now (S.may_leave start) → ((c : List (List ℕ)) → S.may_leave now c → S.may_leave start c)
         → LeavesOnly S.moment S.left_since now next (IsCopyStep lists (S.may_leave now)) → LeavesOnly S.moment S.left_since start next (IsCopyStep lists (S.may_leave start))
-    after_reads now next first fewer second = grind (arith, common_steps, joined)
+    after_reads now next first fewer second = grind (arith, common_steps, of_more)
 
     -- where zeros were there, no log is there before the finished one
     pub no_log : (now : D) → LeavesZeros (S.may_leave start) → LeavesOnly S.moment S.left_since start now (IsCopyStep lists (S.may_leave start)) → LeavesOnly S.moment S.left_since start now (IsCopyOrNoLog lists)

@@ -4,7 +4,7 @@ use Rattle.std.proofs.Common.{⊎_elim, ℕ, ◌≤◌, ◌<◌, ◌≢◌, ◌�
 use Rattle.std.proofs.lemmas.List.{take-take, drop-drop}
 use Rattle.sector.specs.declared.device.Sectors.{Ghosts}
 use Rattle.sector.specs.SectorModel.{FollowsWrite, FollowsWrites, IsOutside, Settles, Elapses}
-use Rattle.sector.proofs.Moments.{started, goes_on, joined}
+use Rattle.sector.proofs.Crashes.{of_none, of_one_more, of_more}
 use Rattle.sector.proofs.Runs.{writes_on}
 use Rattle.commit_log.specs.Reading.{OnlyReads}
 use Rattle.commit_log.specs.Copying.{OnlyWrites}
@@ -38,29 +38,29 @@ module _ {D : Type 0} (S : Ghosts D) where
 
   module _ (only_now : (d : D) (c : List (List ℕ)) → S.left_since d (S.moment d) c → S.may_leave d c) (at n : ℕ) (start : D) where
     pub nothing_yet : Within at n start start
-    nothing_yet = grind (arith, common_steps, as_before, started)
+    nothing_yet = grind (arith, common_steps, as_before, of_none)
 
     -- one call of many writes
     pub sectors_written : (new : D) → ((i : ℕ) (s : List ℕ) → IsOutside at n i → S.may_read new i s → S.may_read start i s) → ((c : List (List ℕ)) → S.may_leave new c → FollowsWrites at n (S.may_leave start) c)
         → Elapses (S.moment start) (S.moment new) (S.left_since start) (S.left_since new) (FollowsWrites at n (S.may_leave start)) → Within at n start new
-    sectors_written new others follows time = grind (arith, common_steps, goes_on, nothing_yet)
+    sectors_written new others follows time = grind (arith, common_steps, of_one_more, nothing_yet)
 
   module _ (at n : ℕ) (start now next : D) (so_far : Within at n start now) where
     -- one sector more
     pub one_write : (i : ℕ) → at ≤ i → i < at + n → ((j : ℕ) (s : List ℕ) → j ≢ i → S.may_read next j s → S.may_read now j s) → FollowsWrite i (S.may_leave now) (S.may_leave next)
         → Elapses (S.moment now) (S.moment next) (S.left_since now) (S.left_since next) (S.may_leave next) → Within at n start next
-    one_write i le lt others follows time = grind (arith, common_steps, writes_on, goes_on)
+    one_write i le lt others follows time = grind (arith, common_steps, writes_on, of_one_more)
 
     -- many sectors more
     pub many_writes : (i m : ℕ) → at ≤ i → i + m ≤ at + n → Within i m now next → Within at n start next
     many_writes i m le end more =
         let kept = runs_on at n i m (S.may_leave start) (S.may_leave now) le end so_far.left in
-        grind (arith, common_steps, joined)
+        grind (arith, common_steps, of_more)
 
     -- a call that writes nothing
     pub no_write : ((j : ℕ) (s : List ℕ) → S.may_read next j s → S.may_read now j s) → ((c : List (List ℕ)) → S.may_leave next c → S.may_leave now c)
         → Elapses (S.moment now) (S.moment next) (S.left_since now) (S.left_since next) (S.may_leave next) → Within at n start next
-    no_write reads fewer time = grind (arith, common_steps, goes_on)
+    no_write reads fewer time = grind (arith, common_steps, of_one_more)
 
     -- a sync that succeeded
     pub settled_reads : (size : ℕ) → Settles size (S.may_read now) (S.may_read next) (S.may_leave now) (S.may_leave next) → (j : ℕ) (s : List ℕ) → S.may_read next j s → S.may_read now j s

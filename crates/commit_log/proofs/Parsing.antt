@@ -11,17 +11,12 @@ use Rattle.byteorder.specs.Endian.{big_bytes, big_number}
 use Rattle.byteorder.specs.Numbers.{big_number-reads_back, length-bytes_high_first}
 use Rattle.model.specs.Key.{IsKey}
 use Rattle.model.specs.Map.{KeyWrite}
+use Rattle.model.proofs.Fronts.{same_front}
 use Rattle.commit_log.specs.RecordFormat.{IsWithinLimits, IsWriteSet, entry_bytes, value_bytes, payload_bytes}
 use Rattle.commit_log.proofs.Rising.{adjacent}
 use Rattle.commit_log.specs.declared.formats.LogFormat.{LogFormat}
 use Rattle.commit_log.specs.RecordFormat.{IsValueIn}
 use Rattle.commit_log.proofs.Limits.{value_small}
-
-pub same_front : (xs ys r s : List ℕ) → length xs ≡ length ys → xs ++ r ≡ ys ++ s → (xs ≡ ys) × (r ≡ s)
-same_front xs ys r s len same = (
-  sym (take_at xs r (length ys) len) ∙ ap (λ (l : List ℕ). take (length ys) l) same ∙ take_at ys s (length ys) refl,
-  sym (drop_at xs r (length ys) len) ∙ ap (λ (l : List ℕ). drop (length ys) l) same ∙ drop_at ys s (length ys) refl,
-)
 
 pub same_number : (n x y : ℕ) (r s : List ℕ) → x < 256 ^ n → y < 256 ^ n → big_bytes n x ++ r ≡ big_bytes n y ++ s → (x ≡ y) × (r ≡ s)
 same_number n x y r s x_fits y_fits same = (

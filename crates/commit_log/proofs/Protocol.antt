@@ -4,7 +4,7 @@ use Rattle.std.proofs.lemmas.Grind.{common_steps}
 use Rattle.std.proofs.Common.{◌≡◌, ◌≢◌, inl, ⊎_elim, ℕ, ◌<◌, ◌≤◌, ◌+◌, ◌*◌, ◌/◌, true, false, List, [], ◌∷◌, ◌++◌, length, take, drop, slice_get, Some, sym, ◌∙◌, ap, subst, arith}
 use Rattle.sector.specs.declared.device.Sectors.{Ghosts}
 use Rattle.sector.specs.SectorModel.{FollowsWrite, Settles, Elapses, LeavesOnly, IsSettled}
-use Rattle.sector.proofs.Moments.{started, goes_on}
+use Rattle.sector.proofs.Crashes.{of_none, of_one_more}
 use Rattle.model.specs.Map.{KeyWrite}
 use Rattle.commit_log.specs.RecordFormat.{IsWriteSet, is_open, first_digest, sectors_of, padded_body}
 use Rattle.commit_log.specs.LogImage.{IsLogImage, span, last_digest, next_index}
@@ -28,7 +28,7 @@ module _ {D : Type 0} (S : Ghosts D) (lists : List (List KeyWrite)) (writes : Li
 module _ {D : Type 0} (S : Ghosts D) (lists : List (List KeyWrite)) (writes : List KeyWrite) (start : D) where
   -- before the gate is written
   pub not_opened : IsWriteSet current writes → ((c : List (List ℕ)) → S.may_leave start c → IsStaged current lists writes c) → ((c : List (List ℕ)) → S.left_since start (S.moment start) c → S.may_leave start c) → Opening S lists writes start start
-  not_opened proper here only_now = grind (arith, common_steps, started, image_staged_gate)
+  not_opened proper here only_now = grind (arith, common_steps, of_none, image_staged_gate)
 
 module _ {D : Type 0} (S : Ghosts D) (lists : List (List KeyWrite)) (writes : List KeyWrite) (start now next : D) where
   pub after_body : (at : ℕ) → at ≡ 2 + span lists → ((c : List (List ℕ)) → S.may_leave start c → IsLogImage current lists c)
@@ -45,13 +45,13 @@ module _ {D : Type 0} (S : Ghosts D) (lists : List (List KeyWrite)) (writes : Li
       (ap (λ (l : List (List ℕ)). take (2 + span lists) l) from.2.1 ∙ take-set-le (2 + span lists) from.0 at from.2.0 le) (so_far.left from.0 from.1) in
       record {
         left = kept;
-        time = goes_on S.moment S.left_since start now next (IsBeforeOrAfter lists writes) (S.may_leave next) so_far.time time (λ c left. inl (kept c left));
+        time = of_one_more so_far.time time (λ c left. inl (kept c left));
       }
 
   -- a sync that failed
   pub after_sync : Writing S lists writes start now → ((c : List (List ℕ)) → S.may_leave next c → S.may_leave now c)
       → Elapses (S.moment now) (S.moment next) (S.left_since now) (S.left_since next) (S.may_leave next) → Writing S lists writes start next
-  after_sync so_far fewer time = grind (arith, common_steps, goes_on)
+  after_sync so_far fewer time = grind (arith, common_steps, of_one_more)
 
   -- the sync that settles the body
   pub settled : (gate size : ℕ) (bytes shut : List ℕ) → gate ≡ 1 + span lists → bytes ≡ padded_body (last_digest lists 0 first_digest) (next_index lists 0) writes
@@ -78,16 +78,16 @@ module _ {D : Type 0} (S : Ghosts D) (lists : List (List KeyWrite)) (writes : Li
       closed in
       record {
         left = λ c left. let only : c ≡ image = settles.settled.left c left in rw only staged;
-        time = grind (arith, common_steps, goes_on);
+        time = grind (arith, common_steps, of_one_more);
       }
 
   pub after_open : (gate : ℕ) → gate ≡ 1 + span lists → IsWriteSet current writes → Opening S lists writes start now → FollowsWrite gate (S.may_leave now) (S.may_leave next)
       → Elapses (S.moment now) (S.moment next) (S.left_since now) (S.left_since next) (S.may_leave next) → Opening S lists writes start next
-  after_open gate at proper so_far follows time = grind (arith, common_steps, image_staged-set, goes_on, image_staged_gate)
+  after_open gate at proper so_far follows time = grind (arith, common_steps, image_staged-set, of_one_more, image_staged_gate)
 
   pub after_last_sync : IsWriteSet current writes → Opening S lists writes start now → ((c : List (List ℕ)) → S.may_leave next c → S.may_leave now c)
       → Elapses (S.moment now) (S.moment next) (S.left_since now) (S.left_since next) (S.may_leave next) → Opening S lists writes start next
-  after_last_sync proper so_far fewer time = grind (arith, common_steps, goes_on, image_staged_gate)
+  after_last_sync proper so_far fewer time = grind (arith, common_steps, of_one_more, image_staged_gate)
 
   -- the sync that settles the gate
   pub acknowledged : (gate size : ℕ) (opened : List ℕ) → gate ≡ 1 + span lists → IsWriteSet current writes → gate < size → ((s : List ℕ) → S.may_read now gate s → s ≡ opened) → is_open opened ≡ true

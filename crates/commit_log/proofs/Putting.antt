@@ -65,11 +65,6 @@ next_pair m i now next p at is h = grind (arith, common_steps, pair_more, bounds
 pub length-put_bytes : (p : Bytes × Bytes) → length (entry_bytes (put_of p)) ≡ 7 + length p.0 + length p.1
 length-put_bytes p = grind (arith, common_steps, length-append)
 
--- a payload is its count and its entries
-pub payload_of_pairs : (m : KeyMap) (i count : ℕ) → i ≡ count → count ≤ length m → big_bytes 4 count ++ flat_map entry_bytes (puts (take i m)) ≡ payload_bytes (puts (take count m))
-unfolding payload_bytes
-payload_of_pairs m i count is le = grind (arith, common_steps, length-puts, length-take)
-
 -- there are more pairs
 pub not_none : (m now : KeyMap) (i n : ℕ) → now ≡ drop i m → now ≡ [] → i < n → n ≤ length m → ⊥
 not_none m now i n at is lt le =

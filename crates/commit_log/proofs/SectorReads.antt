@@ -5,22 +5,22 @@ use Rattle.std.proofs.lemmas.List.{take-append-le, drop-append-le, drop-take, le
 use Rattle.std.proofs.Math.Seq.{drop-append-add, take-add}
 use Rattle.sector.specs.declared.device.Sectors.{Ghosts}
 use Rattle.sector.specs.SectorModel.{Elapses}
-use Rattle.sector.proofs.Moments.{started, goes_on, joined}
+use Rattle.sector.proofs.Crashes.{of_none, of_one_more, of_more}
 use Rattle.commit_log.specs.Reading.{OnlyReads}
 
 -- one read more
 pub read_on : {D : Type 0} (S : Ghosts D) (old mid new : D) → OnlyReads S.may_read S.may_leave S.moment S.left_since old mid
     → ((i : ℕ) (s : List ℕ) → S.may_read new i s → S.may_read mid i s) → ((c : List (List ℕ)) → S.may_leave new c → S.may_leave mid c)
     → Elapses (S.moment mid) (S.moment new) (S.left_since mid) (S.left_since new) (S.may_leave new) → OnlyReads S.may_read S.may_leave S.moment S.left_since old new
-read_on S old mid new so_far reads crash time = grind (arith, common_steps, goes_on)
+read_on S old mid new so_far reads crash time = grind (arith, common_steps, of_one_more)
 
 -- before the first read
 pub no_reads : {D : Type 0} (S : Ghosts D) (old : D) → ((c : List (List ℕ)) → S.left_since old (S.moment old) c → S.may_leave old c) → OnlyReads S.may_read S.may_leave S.moment S.left_since old old
-no_reads S old only_now = grind (arith, common_steps, started)
+no_reads S old only_now = grind (arith, common_steps, of_none)
 
 -- one run of reads after the other
 pub reads_joined : {D : Type 0} (S : Ghosts D) (old mid new : D) → OnlyReads S.may_read S.may_leave S.moment S.left_since old mid → OnlyReads S.may_read S.may_leave S.moment S.left_since mid new → OnlyReads S.may_read S.may_leave S.moment S.left_since old new
-reads_joined S old mid new first second = grind (arith, common_steps, joined)
+reads_joined S old mid new first second = grind (arith, common_steps, of_more)
 
 -- a sector of what was read into the end of a buffer
 pub read_behind : (front into post rest : List ℕ) (k whole : ℕ) → 512 * k + 512 ≤ length into → length front + length into ≤ whole

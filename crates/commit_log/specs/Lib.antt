@@ -1,6 +1,7 @@
 -- The log: its format, what an image holds, what a log stands for, and what opening finds.
 pub mod Format
 pub mod RecordFormat
+pub mod Encoding
 pub mod LogImage
 pub mod Staging
 pub mod Recovery

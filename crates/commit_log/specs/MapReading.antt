@@ -17,7 +17,7 @@ pub record IsMapOf (image : List (List ℕ)) (m : KeyMap) (number : ℕ) : Type 
   pub holds : IsLogImage format lists image
   pub gives : m ≡ map_after [] lists
 
--- reading the map fails by the device, for want of memory, or for what this image is
+-- reading the map fails by the device, out of memory, or for what this image is
 abbrev pub IsMapRefusal : List (List ℕ) → LogFault → Type 0
 IsMapRefusal image NotALog = (f : LogFormat) → IsNoLog f image
 IsMapRefusal image (Damaged index) = (f : LogFormat) × IsDamagedImage f image index

@@ -31,7 +31,7 @@ pub record IsDamagedAt (f : LogFormat) (rest : List (List ℕ)) (index : ℕ) : 
   pub count : length lists ≡ index
   pub holds : HoldsDamage f lists 0 first_digest rest
 
--- reading records fails by the device, for want of memory, or where they are damaged
+-- reading records fails by the device, out of memory, or where they are damaged
 abbrev pub IsReadFault : LogFormat → List (List ℕ) → LogFault → Type 0
 IsReadFault f rest (Damaged index) = IsDamagedAt f rest index
 IsReadFault f rest Device = Unit {0}
@@ -42,7 +42,7 @@ IsReadFault f rest other = ⊥
 abbrev pub IsDamagedImage : LogFormat → List (List ℕ) → ℕ → Type 0
 IsDamagedImage f image index = (lists : List (List KeyWrite)) × (length lists ≡ index) × IsDamaged f lists image
 
--- opening fails by the device, for want of memory, or for what this image is
+-- opening fails by the device, out of memory, or for what this image is
 abbrev pub IsRefusal : List (List ℕ) → LogFault → Type 0
 IsRefusal image NotALog = (f : LogFormat) → IsNoLog f image
 IsRefusal image (Damaged index) = IsDamagedImage current image index

@@ -1,14 +1,18 @@
 //! The bytes of a record.
-ghost use Rattle.std.specs.Prelude.{◌≡◌, ◌<◌, ◌≤◌, ◌+◌, ◌*◌, ◌/◌, ◌%◌, ◌^◌, ℕ, [], ◌∷◌, ◌++◌, List, length, vec_capacity, OnOk, OnErr, IfOk, map, take, drop};
+ghost use Rattle.std.specs.Prelude.{◌≡◌, ◌<◌, ◌≤◌, ◌+◌, ◌-◌, ◌*◌, ◌/◌, ◌%◌, ◌^◌, ℕ, [], ◌∷◌, ◌++◌, List, length, vec_len, vec_capacity, option_copied, IfOk, IfSome, map, take, drop, replicate, All};
+ghost use Rattle.std.specs.List.{flat_map};
 ghost use Rattle.byteorder.specs.Endian.{big_bytes};
 ghost use Rattle.sha2.specs.Sha256.{sha256};
 ghost use Rattle.model.specs.Bounds.{value_max, entry_bound, payload_bound};
+ghost use Rattle.model.specs.Key.{IsValue};
+ghost use Rattle.model.specs.Map.{KeyWrite};
 ghost use Rattle.model.specs.Machine.{payload_size, write_size};
+ghost use Rattle.commit_log.specs.Encoding.{begun, IsUnsealed};
 ghost use Rattle.commit_log.specs.Format.{current};
-ghost use Rattle.commit_log.specs.RecordFormat.{IsWithinLimits, IsWriteSet, entry_bytes, payload_bytes, record_digest, padded_body, sectors_for, sectors_of};
+ghost use Rattle.commit_log.specs.RecordFormat.{IsWriteSet, entry_bytes, record_digest, padded_body, sectors_for, sectors_of};
 
 use byteorder::{BigEndian, ByteOrder};
-use model::Write;
+use model::{KeyRef, Write};
 use sector::SECTOR_SIZE;
 use sha2::{Digest, Sha256};
 use std::alloc::{AllocError, Global};
@@ -20,16 +24,17 @@ pub fn sectors_for(len: u32) -> u64
     (44 + len as u64 + 511) / 512
 }
 
-fn entry_len(write: &Write) -> u32
-    requires { IsWithinLimits current write.now }
-    ensures len { result ≡ write_size write.now.0 write.now.1 }
+/// How many bytes the entry of a key has, with a value or with none.
+pub fn entry_len(key: KeyRef<'_>, value: Option<&[u8]>) -> u32
+    requires { IfSome (option_copied value) IsValue }
+    ensures len { result ≡ write_size key.entry.bytes.now (option_copied value.entry) }
     ensures bound { result ≤ entry_bound value_max }
 {
-    let value = match write.value() {
+    let more = match value {
         Some(value) => 4 + value.len(),
         None => 0,
     };
-    (3 + write.lend_key().bytes().len() + value) as u32
+    (3 + key.bytes().len() + more) as u32
 }
 
 /// How many bytes the payload of a record of these writes has, as `Log::room` takes them. Takes no memory.
@@ -40,62 +45,83 @@ pub fn payload_len(writes: &[Write]) -> u32
 {
     let mut len = 4;
     for write in writes {
-        len += entry_len(write);
+        len += entry_len(write.lend_key(), write.value());
     }
     len
 }
 
-fn push_u16(out: &mut Vec<u8>, n: u16) -> Result<(), AllocError>
-    ensures { OnOk result (out.new.items ≡ out.old.items ++ big_bytes 2 n) }
+/// Adds bytes for which there is room.
+fn add(out: &mut Vec<u8>, bytes: &[u8])
+    requires { vec_len out.old + length bytes.now ≤ vec_capacity out.old }
+    ensures items { out.new.items ≡ out.old.items ++ bytes.now }
+    ensures capacity { vec_capacity out.old ≤ vec_capacity out.new }
+{
+    if out.extend_from_slice(bytes).is_err() {
+        unreachable!()
+    }
+}
+
+fn add_u16(out: &mut Vec<u8>, n: u16)
+    requires { vec_len out.old + 2 ≤ vec_capacity out.old }
+    ensures items { out.new.items ≡ out.old.items ++ big_bytes 2 n }
+    ensures capacity { vec_capacity out.old ≤ vec_capacity out.new }
 {
     let mut bytes = [0; 2];
     BigEndian::write_u16(&mut bytes, n);
-    out.extend_from_slice(&bytes)
+    add(out, &bytes);
 }
 
-fn push_u32(out: &mut Vec<u8>, n: u32) -> Result<(), AllocError>
-    ensures { OnOk result (out.new.items ≡ out.old.items ++ big_bytes 4 n) }
+fn add_u32(out: &mut Vec<u8>, n: u32)
+    requires { vec_len out.old + 4 ≤ vec_capacity out.old }
+    ensures items { out.new.items ≡ out.old.items ++ big_bytes 4 n }
+    ensures capacity { vec_capacity out.old ≤ vec_capacity out.new }
 {
     let mut bytes = [0; 4];
     BigEndian::write_u32(&mut bytes, n);
-    out.extend_from_slice(&bytes)
+    add(out, &bytes);
 }
 
-fn push_u64(out: &mut Vec<u8>, n: u64) -> Result<(), AllocError>
-    ensures { OnOk result (out.new.items ≡ out.old.items ++ big_bytes 8 n) }
+fn add_u64(out: &mut Vec<u8>, n: u64)
+    requires { vec_len out.old + 8 ≤ vec_capacity out.old }
+    ensures items { out.new.items ≡ out.old.items ++ big_bytes 8 n }
+    ensures capacity { vec_capacity out.old ≤ vec_capacity out.new }
 {
     let mut bytes = [0; 8];
     BigEndian::write_u64(&mut bytes, n);
-    out.extend_from_slice(&bytes)
+    add(out, &bytes);
 }
 
-fn push_entry(out: &mut Vec<u8>, write: &Write) -> Result<(), AllocError>
-    requires { IsWithinLimits current write.now }
-    ensures { OnOk result (out.new.items ≡ out.old.items ++ entry_bytes write.now) }
+/// Makes a buffer the front of a body: the length of its payload, its index, a place for its digest, and how many entries it has.
+pub fn begin(body: &mut Vec<u8>, len: u32, index: u64, count: u32)
+    requires { 48 ≤ vec_capacity body.old }
+    ensures items { body.new.items ≡ begun len index count }
+    ensures capacity { vec_capacity body.old ≤ vec_capacity body.new }
 {
-    let key = write.lend_key().bytes();
-    push_u16(out, key.len() as u16)?;
-    out.extend_from_slice(key)?;
-    match write.value() {
+    body.clear();
+    add_u32(body, len);
+    add_u64(body, index);
+    add(body, &[0; 32]);
+    add_u32(body, count);
+}
+
+/// Adds the entry of a key, with a value or with none.
+pub fn add_entry(body: &mut Vec<u8>, key: KeyRef<'_>, value: Option<&[u8]>)
+    requires value { IfSome (option_copied value) IsValue }
+    requires room { vec_len body.old + write_size key.bytes.now (option_copied value) ≤ vec_capacity body.old }
+    ensures items { body.new.items ≡ body.old.items ++ entry_bytes (key.entry.bytes.now, option_copied value.entry) }
+    ensures capacity { vec_capacity body.old ≤ vec_capacity body.new }
+{
+    let bytes = key.bytes();
+    add_u16(body, bytes.len() as u16);
+    add(body, bytes);
+    match value {
         Some(value) => {
-            out.push(1)?;
-            push_u32(out, value.len() as u32)?;
-            out.extend_from_slice(value)?;
+            add(body, &[1]);
+            add_u32(body, value.len() as u32);
+            add(body, value);
         }
-        None => out.push(0)?,
+        None => add(body, &[0]),
     }
-    Ok(())
-}
-
-fn push_payload(out: &mut Vec<u8>, writes: &[Write]) -> Result<(), AllocError>
-    requires { IsWriteSet current writes.now }
-    ensures { OnOk result (out.new.items ≡ out.old.items ++ payload_bytes writes.now) }
-{
-    push_u32(out, writes.len() as u32)?;
-    for write in writes {
-        push_entry(out, write)?;
-    }
-    Ok(())
 }
 
 /// The digest of a record, from that of the record before it.
@@ -112,7 +138,7 @@ pub fn digest_of(before: &[u8; 32], index: u64, payload: &[u8]) -> [u8; 32]
 }
 
 /// Puts the digest of the payload that the body ends with into its place, and answers it.
-pub fn seal(body: &mut Vec<u8>, before: &[u8; 32], index: u64) -> [u8; 32]
+fn seal(body: &mut Vec<u8>, before: &[u8; 32], index: u64) -> [u8; 32]
     requires { 44 ≤ length body.old.items }
     ensures digest { result ≡ sha256 ((before.now ++ big_bytes 8 index) ++ drop 44 body.old.items) }
     ensures body { body.new.items ≡ (take 12 body.old.items ++ result) ++ drop 44 body.old.items }
@@ -121,6 +147,45 @@ pub fn seal(body: &mut Vec<u8>, before: &[u8; 32], index: u64) -> [u8; 32]
     let digest = digest_of(before, index, &body[44..]);
     body[12..44].copy_from_slice(&digest);
     digest
+}
+
+/// Adds zeros up to `n` bytes, for which there is room.
+fn pad(body: &mut Vec<u8>, n: usize)
+    requires { n ≤ vec_capacity body.old }
+    ensures items { body.new.items ≡ take n body.old.items ++ replicate (n - vec_len body.old) 0 }
+    ensures len { vec_len body.new ≡ n }
+    ensures capacity { vec_capacity body.old ≤ vec_capacity body.new }
+{
+    if body.resize(n, 0).is_err() {
+        unreachable!()
+    }
+}
+
+/// Ends a body that has all its entries: its digest, which is the answer, comes into its place, and zeros behind the payload up to the
+/// end of the last sector.
+pub fn end(body: &mut Vec<u8>, before: &[u8; 32], index: u64, len: u32) -> [u8; 32]
+    requires begun { 44 ≤ length body.old.items }
+    requires bound { len ≤ payload_bound value_max }
+    requires room { 512 * sectors_for len ≤ vec_capacity body.old }
+    ensures body { (writes : List KeyWrite) → IsUnsealed body.old.items index len writes → body.new.items ≡ padded_body before.now index writes }
+    ensures sectors { (writes : List KeyWrite) → IsUnsealed body.old.items index len writes → length body.new.items ≡ 512 * sectors_of writes }
+    ensures digest { (writes : List KeyWrite) → IsUnsealed body.old.items index len writes → result ≡ record_digest before.now index writes }
+    ensures capacity { vec_capacity body.old ≤ vec_capacity body.new }
+{
+    let digest = seal(body, before, index);
+    pad(body, sectors_for(len) as usize * SECTOR_SIZE);
+    digest
+}
+
+/// Adds the entries of writes.
+fn add_writes(body: &mut Vec<u8>, writes: &[Write])
+    requires { vec_len body.old + payload_size writes.now ≤ vec_capacity body.old + 4 }
+    ensures items { body.new.items ≡ body.old.items ++ flat_map entry_bytes writes.now }
+    ensures capacity { vec_capacity body.old ≤ vec_capacity body.new }
+{
+    for write in writes {
+        add_entry(body, write.lend_key(), write.value());
+    }
 }
 
 /// A record's body, and its digest. Takes memory for the body alone.
@@ -138,13 +203,9 @@ pub fn encode(
     ensures sectors { IfOk result (λ r. length r.0.items ≡ 512 * sectors_of writes.now) }
     ensures digest { IfOk result (λ r. r.1 ≡ record_digest before.now index writes.now) }
 {
-    let size = sectors_for(len) as usize * SECTOR_SIZE;
-    let mut body = Vec::with_capacity(alloc, size)?;
-    push_u32(&mut body, len)?;
-    push_u64(&mut body, index)?;
-    body.extend_from_slice(&[0; 32])?;
-    push_payload(&mut body, writes)?;
-    let digest = seal(&mut body, before, index);
-    body.resize(size, 0)?;
+    let mut body = Vec::with_capacity(alloc, sectors_for(len) as usize * SECTOR_SIZE)?;
+    begin(&mut body, len, index, writes.len() as u32);
+    add_writes(&mut body, writes);
+    let digest = end(&mut body, before, index, len);
     Ok((body, digest))
 }

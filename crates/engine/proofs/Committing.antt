@@ -17,6 +17,7 @@ use Rattle.model.specs.Operations.Response.{Number, Refused}
 use Rattle.model.specs.History.{Record, map_at}
 use Rattle.model.specs.Verdict.{verdict}
 use Rattle.model.specs.Machine.{State, Running, last, snapshot, leave, record_to_commit, refuse, join_history, body_sectors, store, store_unless, commit, step, IsReached}
+use Rattle.model.proofs.Lookups.{some_same}
 use Rattle.model.proofs.Machines.{map_at-append, commit_low}
 use Rattle.snapshot.specs.View.{View}
 use Rattle.snapshot.specs.Made.{HasMade, is_refused}
@@ -70,9 +71,6 @@ not_risen before now h = grind (arith, common_steps, le-ltb, ne_eqb)
 
 pub risen : (before now : ℕ) → Rose before now → has_risen before now ≡ true
 risen before now h = grind (arith, common_steps, or_left, lt-ltb, or_right, eq-eqb)
-
-some_same : {X : Type 0} (x y : X) → Some x ≡ Some y → x ≡ y
-some_same x y q = cc
 
 -- no room in the log
 pub no_room : (b : Bool) (used n count : ℕ) → (IsTrue b ↔ (used + n < count)) → b ≡ false → count ≤ used + n
@@ -142,7 +140,7 @@ module _ {D : Type 0} {g : Ghosts D} where
       → entry_of s e ≡ Some t → Some u ≡ entry_of s e → ((d : KeyWrite) → key ≡ (slice_index_or u.writes i d).0) → Leads e e' s Commit failed (Some (Refused (Overwritten key)))
   ended_overwritten e e' s t u failed i key refused leaves entry taken at =
       let d : KeyWrite = ([], None) in
-      let is : key ≡ (slice_index_or t.writes i d).0 = at d ∙ ap (λ (x : View). (slice_index_or x.writes i d).0) (some_same u t (taken ∙ entry)) in
+      let is : key ≡ (slice_index_or t.writes i d).0 = at d ∙ ap (λ (x : View). (slice_index_or x.writes i d).0) (some_same (taken ∙ entry)) in
       ended_refused {A = ℕ} e e' s failed Number (Refusing (Overwritten key)) (Overwritten key) (subst (λ (k : Bytes). IsRefused e s (Overwritten k)) (sym is) (refused d)) leaves refl
 
   -- the machine's commit of what has no conflict
@@ -290,7 +288,7 @@ module _ {D : Type 0} {g : Ghosts D} where
       → Joins e (record e₁ { history = new }) s t
   joins_from e f e₁ new s t u some entries logged stored same leaves taken last oldest stands =
       let facts : e₁.history.committed.facts ≡ e.history.committed.facts = ap (λ (v : HistoryValue). v.committed.facts) leaves.store.history ∙ same.facts in
-      let is : u ≡ t = some_same u t (taken ∙ ap (lookup (is_at (nat_cmp s))) entries ∙ some) in
+      let is : u ≡ t = some_same (taken ∙ ap (lookup (is_at (nat_cmp s))) entries ∙ some) in
       let log : f.log ≡ e₁.log = sym leaves.store.log in
       record {
         logged = subst (λ (l : Log D g). IsLogged e.log l t.writes) log logged;

@@ -9,6 +9,7 @@ use Rattle.versions.specs.StandsFor.{StandsFor as VersionsStandFor}
 use Rattle.pivot_check.specs.Kept.{Facts, CommittedValue, IsInReach}
 use Rattle.pivot_check.specs.StandsFor.{StandsFor as CommittedStandsFor, IsRecordOf, IsClear}
 use Rattle.snapshot.specs.View.{View}
+use Rattle.pivot_check.proofs.Judging.{nothing}
 use Rattle.engine.specs.HistoryValue.{HistoryValue, HistoryStandsFor}
 
 -- what a call makes of the versions and of the records
@@ -30,13 +31,9 @@ next_joined old versions committed t ws n number same adds notes held base histo
       committed = notes reach clear history h.committed r is;
     }
 
-no_element : {X : Type 0} (xs : List X) → length xs ≡ 0 → xs ≡ []
-no_element [] e = refl
-no_element (x ∷ xs) e = absurd (omega arith)
-
 -- a list that was found to be empty
 pub empty_is : {X : Type 0} (xs : List X) (n : ℕ) (b : Bool) → b ≡ (n == 0) → n ≡ length xs → b ≡ true → xs ≡ []
-empty_is xs n b e long t = no_element xs (sym long ∙ eqb-true n 0 (sym e ∙ t))
+empty_is xs n b e long t = nothing xs (sym long ∙ eqb-true n 0 (sym e ∙ t))
 
 pub not_empty_is : {X : Type 0} (xs : List X) (b : Bool) → b ≡ (length xs == 0) → b ≡ false → xs ≡ [] → ⊥
 not_empty_is [] b e f none = both_ways b f e

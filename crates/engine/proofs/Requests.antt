@@ -30,6 +30,7 @@ use Rattle.engine.specs.Faults.{of_read, of_write}
 use Rattle.engine.specs.StandsFor.{StandsFor}
 use Rattle.engine.specs.Meaning.{response_to, response_to_read, copy_in, IsKnownKey}
 use Rattle.snapshot.proofs.Copies.{any_keys}
+use Rattle.model.proofs.Lookups.{some_same}
 use Rattle.engine.proofs.Calls.{Answered, found_open, not_open, made_refused}
 
 pub begin-after_get : (t t' : View) (k : Bytes) → t' ≡ after_get t k → t'.begin ≡ t.begin
@@ -90,14 +91,11 @@ module _ {D : Type 0} {g : Ghosts D} (e : Engine D g) (t t' : View) where
 
 -- ---- reads that need no memory
 
-some_same : {X : Type 0} (x y : X) → Some x ≡ Some y → x ≡ y
-some_same x y q = cc
-
 module _ {D : Type 0} {g : Ghosts D} (e : Engine D g) (s : ℕ) (t : View) (some : entry_of s e ≡ Some t) where
   copy_is : (m : State) (h : StandsFor e m) (r : Running) → running_of m s ≡ Some r → HasMade t (snapshot m r) r.requests
   copy_is m h r is =
       let f = found_open e m s t h some in
-      let same : f.run ≡ r = some_same f.run r (sym f.is ∙ is) in
+      let same : f.run ≡ r = some_same (sym f.is ∙ is) in
       subst (λ (x : Running). HasMade t (snapshot m x) x.requests) same f.same.made
 
   pub known_key : (k : Bytes) (m : State) → StandsFor e m → (r : Running) → running_of m s ≡ Some r → IsKnownKey m r k → IsTrue (is_some (written t.writes k) || has_mark t.marks (OfKey k))
@@ -106,7 +104,7 @@ module _ {D : Type 0} {g : Ghosts D} (e : Engine D g) (s : ℕ) (t : View) (some
   pub seen_is : (m : State) (h : StandsFor e m) (r : Running) → running_of m s ≡ Some r → map_seen e.history.versions t.begin ≡ snapshot m r
   seen_is m h r is =
       let f = found_open e m s t h some in
-      let same : f.run ≡ r = some_same f.run r (sym f.is ∙ is) in
+      let same : f.run ≡ r = some_same (sym f.is ∙ is) in
       subst (λ (x : Running). map_seen e.history.versions t.begin ≡ snapshot m x) same
       (ap (map_seen e.history.versions) f.same.begin ∙ h.history.versions.maps f.run.begin (or_left (h.held f.run.begin) (nat_le e.history.versions.last f.run.begin) f.same.is_held))
 

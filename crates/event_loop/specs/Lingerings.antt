@@ -124,7 +124,7 @@ pub record AreTurned (now : Option Instant) (moment : ℕ) (is_told : Bool) (old
 abbrev pub closed : Lingerers → Lingerers
 closed old = record old { all = []; has_more = false }
 
--- all are closed where an accept failed, which may be for want of descriptors
+-- all are closed where an accept failed, perhaps because there are no more descriptors
 abbrev pub unless_failed : Backlog → Lingerers → Lingerers
 unless_failed Empty old = old
 unless_failed Full old = old

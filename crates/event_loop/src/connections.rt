@@ -27,10 +27,10 @@ use stream_driver::{BufferedStream, Entry, EntryState, Stream, end_drive};
 /// The token of the connections that linger, which no key of the table is.
 pub(crate) const LINGERER: Token = Token(usize::MAX - 1);
 
-/// What a listener may still hold. The poll tells of a change alone, so it is kept from turn to turn.
+/// What a listener may still hold. The poll reports a change alone, so it is kept from turn to turn.
 #[derive(Clone, Copy, PartialEq, Eq, Debug)]
 pub enum Backlog {
-    /// Nothing, until the poll tells of the listener.
+    /// Nothing, until the poll reports the listener.
     Empty,
     /// More: as many were accepted as one turn accepts.
     Full,
@@ -57,14 +57,14 @@ pub(crate) fn any_ready(table: &Slab<Entry<BufferedStream<Socket>>>) -> bool
     false
 }
 
-// Does an event tell of urgent bytes, at which a read ends early, or that what comes has an end, of which no other event may tell?
+// Does an event report urgent bytes, at which a read ends early, or that the peer has ended, which no other event may report?
 fn tells_to_read_on(event: &event::Event) -> bool
     ensures { result ≡ (is_priority event.now || is_read_closed event.now) }
 {
     event.is_priority() || event.is_read_closed()
 }
 
-// The poll told of an entry: if it waited it is to be driven.
+// The poll reported an entry: if it waited, it is to be driven.
 fn make_ready(entry: &mut Entry<BufferedStream<Socket>>, reads_on: bool)
     ensures { entry.new ≡ told reads_on entry.old }
 {
@@ -76,8 +76,8 @@ fn make_ready(entry: &mut Entry<BufferedStream<Socket>>, reads_on: bool)
     }
 }
 
-/// Makes the entries ready that wait and that the poll tells of, and no others. Those of which it tells that urgent bytes came, or that no
-/// more will come, are read until their streams block or end. Takes no memory.
+/// Makes the entries ready that wait and that the poll reports, and no others. Those for which it reports urgent bytes, or that no more
+/// will come, are read until their streams block or end. Takes no memory.
 pub(crate) fn make_polled_ready(events: &Events, table: &mut Slab<Entry<BufferedStream<Socket>>>)
     ensures { (key : ℕ) → slot_at table.new.slots key ≡ after_poll (items events.now) key (slot_at table.old.slots key) }
 {

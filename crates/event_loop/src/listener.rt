@@ -19,7 +19,7 @@ pub enum AcceptAnswer {
 
 /// A source of connections whose calls don't wait.
 ///
-/// What it has answered is told by three counts, one of each answer. A count is a u64: it rises with its answer, and once it stands at
+/// What it has answered is counted by three counts, one of each answer. A count is a u64: it rises with its answer, and once it stands at
 /// 2^64 - 1 it stays.
 pub trait Listener {
     ghost use Rattle.std.specs.Prelude.{◌≡◌};

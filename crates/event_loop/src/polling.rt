@@ -70,7 +70,7 @@ impl Poller {
         self.time = Instant::now(clock).ok();
     }
 
-    /// Polls once: waits until it tells of an event or the time is up, without end where none is given. A fault is the system's. Takes no
+    /// Polls once: waits until there is an event or the time is up, without end where no time is given. A fault is the system's. Takes no
     /// memory.
     pub(crate) fn wait(&mut self, timeout: Option<Duration>) -> io::Result<()>
         ensures polls { polls_of self.new ≡ after_wait result (polls_of self.old) }

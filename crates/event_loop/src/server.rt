@@ -38,7 +38,7 @@ pub struct EventLoop<D: Sectors> {
     backlog: Backlog,
     lingering: Lingering,
     hub: Hub<D>,
-    /// Are old versions of the store still due, as the last turn's end told?
+    /// Are old versions of the store still due, as the last turn's end found?
     due: bool,
     /// The number of the next session.
     next: u64,
@@ -71,7 +71,7 @@ impl<D: Sectors> EventLoop<D> {
 
     /// Listens at an address for the sessions of a hub that was opened. Port 0 stands for one that the system picks.
     ///
-    /// A fault is the system's, or a want of memory, which it tells as `OutOfMemory`. It takes memory for the events of one poll, and
+    /// A fault is the system's, or out of memory, which is `OutOfMemory`. It takes memory for the events of one poll, and
     /// for the connections that linger.
     pub fn bind<R: Net>(
         rt: &R,
@@ -131,22 +131,22 @@ impl<D: Sectors> EventLoop<D> {
     /// At its end it gives back what no open transaction needs, a step of it (`Hub::reclaim`). So turns go on with that, also where no
     /// session sends anything, until nothing is due.
     ///
-    /// It waits for no more than `timeout`, without end where none is given, and not at all where a session is still ready, 128
-    /// connections were accepted last time, or the turn before it has left old versions or runs that are due. After an accept that fails, the next turn waits for no more than `RETRY_AFTER_MILLIS` and
-    /// accepts again. A connection beyond 128 sessions, or for which memory, registration or an option of the socket is refused, is
-    /// closed without a byte.
+    /// It waits for no more than `timeout`, without end where none is given. It doesn't wait at all where a session is still ready, where
+    /// 128 connections were accepted last time, or where the turn before it has left old versions or runs that are due. After an accept
+    /// that fails, the next turn waits for no more than `RETRY_AFTER_MILLIS` and accepts again. A connection beyond 128 sessions, or for
+    /// which memory, registration or an option of the socket is refused, is closed without a byte.
     ///
-    /// The connection of a session that left is closed once its stream holds nothing, or has failed. Where none of its calls failed and its peer has not ended, it lingers first: it is
-    /// shut down for writing, and what comes in is dropped, at most `LINGERING_BYTES_A_TURN` a turn, so that the last replies arrive. It is
-    /// closed where the peer ends, after `LINGERING_BYTES` bytes or `LINGERING_SECONDS` seconds, where `LINGERING_MAX` others have come to
-    /// linger since, or where an accept fails, which may be for want of descriptors. While some linger, a turn may wait no longer than the
-    /// oldest may.
+    /// The connection of a session that left is closed once its stream holds nothing, or has failed. Where none of its calls failed and
+    /// its peer has not ended, it lingers first: it is shut down for writing, and what comes in is dropped, at most
+    /// `LINGERING_BYTES_A_TURN` a turn, so that the last replies arrive. It is closed where the peer ends, after `LINGERING_BYTES` bytes or
+    /// `LINGERING_SECONDS` seconds, where `LINGERING_MAX` others have come to linger since, or where an accept fails, perhaps because there
+    /// are no more descriptors. While some linger, a turn may wait no longer than the oldest may.
     ///
     /// It polls once, and answers a fault exactly where that failed; nothing else was done then. It may grow the table, and what the sessions'
     /// requests grow.
     ///
     /// The hub's events are those of the drives, each of its own session over its own stream, and then the joins of the accepts, and no
-    /// others: which entries are ready is what the poll told. No entry is taken out but one whose session has left. Before the turn and
+    /// others: which entries are ready is what the poll reported. No entry is taken out but one whose session has left. Before the turn and
     /// after it the entries that aren't gone are those of the hub's sessions, so that none is lost or made up.
     ///
     /// Whatever the connections send, and however their bytes are cut and interleaved, these events are one run of the hub. So
@@ -240,7 +240,7 @@ impl<D: Sectors> EventLoop<D> {
         }
     }
 
-    // Accepts connections. After an accept that failed, as for want of descriptors, none lingers.
+    // Accepts connections. After an accept that failed, perhaps because there were no more descriptors, none lingers.
     fn accept(&mut self)
         ensures accepts { Accepted true self.old self.new }
         ensures lingerers { lingerers_of self.new.lingering ≡ unless_failed self.new.backlog (lingerers_of self.old.lingering) }

@@ -1,4 +1,3 @@
-pub mod KeyOrder
 pub mod StepLaws
 pub mod Cuts
 pub mod MergeLaws

@@ -12,12 +12,13 @@ use Rattle.marks.specs.declared.held.Held.{Held}
 use Rattle.marks.specs.Marked.{mark_of, marks_of}
 use Rattle.last_readers.specs.Steps.{by_order, span_at}
 use Rattle.last_readers.specs.Merging.{later}
-use Rattle.last_readers.proofs.KeyOrder.{turned, same_keys, turned_greater, less_trans}
+use Rattle.model.proofs.Entries.{turned}
+use Rattle.model.proofs.KeyOrder.{same_keys, turned_greater, less_trans}
 
 -- ---- one mark
 
 pub key_step : (j k : Bytes) → by_order (key_cmp k j) 0 1 0 ≡ cond (covers (OfKey j) k) 1 0
-key_step j k = by (key_cmp k j) ∙ ap (λ o. cond (is_eq o) 1 0) (sym (turned j k))
+key_step j k = by (key_cmp k j) ∙ ap (λ o. cond (is_eq o) 1 0) (sym (turned k j))
   where
     by : (o : Ordering) → by_order o 0 1 0 ≡ cond (is_eq (ordering_reverse o)) 1 0
     by Less = refl
@@ -25,7 +26,7 @@ key_step j k = by (key_cmp k j) ∙ ap (λ o. cond (is_eq o) 1 0) (sym (turned j
     by Greater = refl
 
 pub open_step : (lo k : Bytes) → by_order (key_cmp k lo) 0 1 1 ≡ cond (covers (OfRange lo None) k) 1 0
-open_step lo k = by (key_cmp k lo) ∙ ap (λ o. cond (is_le o && true) 1 0) (sym (turned lo k))
+open_step lo k = by (key_cmp k lo) ∙ ap (λ o. cond (is_le o && true) 1 0) (sym (turned k lo))
   where
     by : (o : Ordering) → by_order o 0 1 1 ≡ cond (is_le (ordering_reverse o) && true) 1 0
     by Less = refl
@@ -53,7 +54,7 @@ closed_span lo last k = by (is_le (key_cmp lo k)) (key_cmp k last)
 -- ---- a span
 
 pub two_steps : (lo end : Bytes) (at : ℕ) (k : Bytes) → key_cmp lo end ≡ Less → by_order (key_cmp k lo) 0 1 (by_order (key_cmp k end) 1 at 0) ≡ span_at lo end at k
-two_steps lo end at k e = by (key_cmp k lo) refl ∙ ap (λ o. cond (is_le o) (by_order (key_cmp k end) 1 at 0) 0) (sym (turned lo k))
+two_steps lo end at k e = by (key_cmp k lo) refl ∙ ap (λ o. cond (is_le o) (by_order (key_cmp k end) 1 at 0) 0) (sym (turned k lo))
   where
     by : (o : Ordering) → key_cmp k lo ≡ o → by_order o 0 1 (by_order (key_cmp k end) 1 at 0) ≡ cond (is_le (ordering_reverse o)) (by_order (key_cmp k end) 1 at 0) 0
     by Less g = refl
@@ -61,7 +62,7 @@ two_steps lo end at k e = by (key_cmp k lo) refl ∙ ap (λ o. cond (is_le o) (b
     by Greater g = refl
 
 pub one_step : (lo end : Bytes) (at : ℕ) (k : Bytes) → key_cmp lo end ≡ Equal → by_order (key_cmp k lo) 0 at 0 ≡ span_at lo end at k
-one_step lo end at k e = by (key_cmp k lo) ∙ ap (λ o. cond (is_le o) (by_order (key_cmp k lo) 1 at 0) 0) (sym (turned lo k)) ∙ ap (λ (q : Bytes). cond (is_le (key_cmp lo k)) (by_order (key_cmp k q) 1 at 0) 0) (same_keys lo end e)
+one_step lo end at k e = by (key_cmp k lo) ∙ ap (λ o. cond (is_le o) (by_order (key_cmp k lo) 1 at 0) 0) (sym (turned k lo)) ∙ ap (λ (q : Bytes). cond (is_le (key_cmp lo k)) (by_order (key_cmp k q) 1 at 0) 0) (same_keys lo end e)
   where
     by : (o : Ordering) → by_order o 0 at 0 ≡ cond (is_le (ordering_reverse o)) (by_order o 1 at 0) 0
     by Less = refl
@@ -72,7 +73,7 @@ pub no_step : (lo end : Bytes) (at : ℕ) (k : Bytes) → key_cmp lo end ≡ Gre
 no_step lo end at k e = by (key_cmp lo k) refl
   where
     above : key_cmp end k ≡ Less → by_order (key_cmp k end) 1 at 0 ≡ 0
-    above g = ap (λ o. by_order o 1 at 0) (turned k end ∙ ap ordering_reverse g)
+    above g = ap (λ o. by_order o 1 at 0) (turned end k ∙ ap ordering_reverse g)
 
     by : (o : Ordering) → key_cmp lo k ≡ o → 0 ≡ cond (is_le o) (by_order (key_cmp k end) 1 at 0) 0
     by Less g = sym (above (less_trans end lo k (turned_greater lo end e) g))

@@ -13,7 +13,7 @@ use Rattle.last_readers.specs.Steps.{StepValue, by_order, number_from, number_at
 use Rattle.last_readers.specs.Readers.{cut}
 use Rattle.last_readers.specs.Merging.{later, EndsOver, EndsEqual, IsParted, IsJoined, IsAdded}
 use Rattle.last_readers.proofs.Cuts.{cut_twice}
-use Rattle.last_readers.proofs.KeyOrder.{itself, same_keys, turned_less, turned_greater}
+use Rattle.model.proofs.KeyOrder.{itself, same_keys, turned_less, turned_greater}
 use Rattle.last_readers.proofs.StepLaws.{around, put_between, over_less, under_more, low, high, end_push, number_push, one_end, under_last}
 
 -- ---- the steps below a key

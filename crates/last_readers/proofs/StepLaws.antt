@@ -12,7 +12,8 @@ use Rattle.std.proofs.lemmas.Option.{slice_get_read}
 use Rattle.std.proofs.lemmas.List.{take-append-drop, take_more, append-nil}
 use Rattle.model.specs.Map.{Bytes, key_cmp}
 use Rattle.last_readers.specs.Steps.{StepValue, by_order, number_from, number_at, merged_at, end_from, end_of, are_over, steps_rise, are_under, in_place_of, renumbered}
-use Rattle.last_readers.proofs.KeyOrder.{less, turned, turned_less, less_trans, lt_trans, lt_le_trans, le_of_lt, lt_of_not_le}
+use Rattle.model.proofs.Entries.{turned}
+use Rattle.model.proofs.KeyOrder.{less, turned_less, less_trans, lt_trans, lt_le_trans, le_of_lt, lt_of_not_le}
 
 -- ---- lists that rise
 
@@ -180,7 +181,7 @@ found b k ss i w lt is rise h =
     let front = take_more ss i w lt ∙ ap (λ (s : StepValue). take i ss ++ s ∷ []) (sym is) in
     let sides = around (take i ss) w [] (ap steps_rise (sym front) ∙ front_rises ss (i + 1) rise) in
     sym (ap (λ l. number_from b l k) (sym (take-append-drop (i + 1) ss)) ∙ front_decides b (take (i + 1) ss) (drop (i + 1) ss) k (rest_over k ss (i + 1) (omega arith) h)
-    ∙ ap (λ l. number_from b l k) front ∙ number_push b (take i ss) w k sides.under ∙ ap (λ o. by_order o (number_from b (take i ss) k) w.at w.above) (turned k w.key)
+    ∙ ap (λ l. number_from b l k) front ∙ number_push b (take i ss) w k sides.under ∙ ap (λ o. by_order o (number_from b (take i ss) k) w.at w.above) (turned w.key k)
     ∙ by (number_from b (take i ss) k) (key_cmp w.key k) (ap (λ (s : StepValue). is_le (key_cmp s.key k)) is ∙ h.0 i w (omega arith) (omega arith)))
   where
     by : (n : ℕ) (o : Ordering) → is_le o ≡ true → by_order (ordering_reverse o) n w.at w.above ≡ cond (is_eq o) w.at w.above

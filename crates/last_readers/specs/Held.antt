@@ -1,5 +1,6 @@
 -- How much runs hold, and how much of it is to be given back.
-use Rattle.std.specs.Prelude.{ℕ, ◌+◌, nat_le, List, [], ◌∷◌, if◌then◌else◌}
+use Rattle.std.specs.Prelude.{ℕ, ◌+◌, ◌-◌, ◌^◌, min, nat_le, List, [], ◌∷◌, if◌then◌else◌}
+use Rattle.std.specs.List.{fold}
 
 -- a run: a number that none of its numbers is above, and how much there is to give back of it, which is one more than what stands in it
 pub record HeldRun : Type 0 where
@@ -10,6 +11,10 @@ pub record HeldRun : Type 0 where
 pub record Held : Type 0 where
   pub runs : List HeldRun
   pub taken : ℕ
+
+-- how much all runs hold, where each counts as one more: 2^64 - 1 where there was more
+abbrev pub size_in : List HeldRun → ℕ
+size_in rs = fold (λ n r. min (n + r.size) (2 ^ 64 - 1)) 0 rs
 
 -- how much there is to give back of the runs that have no number above that one
 abbrev pub size_upto : ℕ → List HeldRun → ℕ

@@ -2,7 +2,7 @@
 ghost use Rattle.std.specs.Prelude.{◌≡◌, ◌<◌, ◌≤◌, ◌+◌, ◌-◌, ℕ, List, [], length, max, nat_lt, true, false, OnOk};
 ghost use Rattle.model.specs.Map.{Bytes};
 ghost use Rattle.model.specs.PrivateCopy.{Mark};
-ghost use Rattle.last_readers.specs.Held.{due_upto, given_a_forget};
+ghost use Rattle.last_readers.specs.Held.{due_upto, given_a_forget, size_in};
 ghost use Rattle.last_readers.specs.Readers.{last_reader, after, AreUpto, IsNoted, IsForgotten, IsMerged, IsReady, HasRoom, due_of, ready_len};
 ghost use Rattle.last_readers.specs.RunSizes.{IsMergedFor, left_above, with_run};
 
@@ -82,6 +82,15 @@ impl LastReaders {
         ensures { result ≡ length self.now.runs }
     {
         self.runs.len()
+    }
+
+    /// How many steps the runs hold, and one more for each run; 2^64 - 1 where there were more. Looks at each run, and takes no memory.
+    pub fn steps(&self) -> usize
+        ensures { result ≡ size_in self.now.held.runs }
+    {
+        self.runs
+            .iter()
+            .fold(0, |sum: usize, run| sum.saturating_add(run.size()))
     }
 
     /// How often memory for a merge was refused, 2^64 - 1 at most: each time two runs of a like size stayed. Takes no memory.

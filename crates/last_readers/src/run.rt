@@ -1,5 +1,5 @@
 //! A run of numbers by key.
-ghost use Rattle.std.specs.Prelude.{◌≡◌, ◌≤◌, ◌<◌, ◌+◌, ◌*◌, ◌-◌, ◌++◌, IsTrue, Bool, true, false, map, max};
+ghost use Rattle.std.specs.Prelude.{◌≡◌, ◌≤◌, ◌<◌, ◌+◌, ◌*◌, ◌-◌, ◌++◌, IsTrue, Bool, true, false, map, max, min, ◌^◌};
 ghost use Rattle.std.specs.VecDeque.{deque_len, deque_capacity};
 ghost use Rattle.model.specs.Map.{Bytes};
 ghost use Rattle.last_readers.specs.Steps.{number_at, steps_rise, merged_at, in_place_of, renumbered};
@@ -44,6 +44,8 @@ fn renumber(steps: &mut VecDeque<Step>, number: u64)
 }
 
 impl Run {
+    ghost use Rattle.last_readers.specs.Inside.{held_of};
+
     // What was made ready, read by the commit with this number.
     pub(crate) fn numbered(ready: Ready, number: u64) -> Run
         ensures numbers { (k : Bytes) → merged_at result.first.items result.second.items result.made.items k ≡ in_place_of number (number_at ready.steps.items k) }
@@ -68,6 +70,17 @@ impl Run {
     {
         let below = number_from(&self.first, 0, key).max(number_from(&self.second, 0, key));
         number_from(&self.made, below, key)
+    }
+
+    // How many steps it holds, and one more: 2^64 - 1 where there were more.
+    pub(crate) fn size(&self) -> usize
+        ensures { result ≡ min (held_of self.now).size (2 ^ 64 - 1) }
+    {
+        self.first
+            .len()
+            .saturating_add(self.second.len())
+            .saturating_add(self.made.len())
+            .saturating_add(1)
     }
 
     // Is it not being made of two?

@@ -7,21 +7,20 @@ use Rattle.std.specs.Ordering.{is_eq, is_lt, is_gt}
 use Rattle.std.specs.Cmp.Lexicographic.{nat_list_cmp_total}
 use Rattle.std.proofs.lemmas.List.Sums.{sum_by_push}
 use Rattle.model.specs.Map.{Bytes, KeyWrite, key_cmp, is_same_key}
+use Rattle.model.proofs.KeyOrder.{less}
+use Rattle.model.proofs.Lookups.{same_key}
 use Rattle.latest_writes.specs.Held.{weight, HasOneOfEach, IsHeld}
-use Rattle.latest_writes.proofs.Sweeping.{IsUpTo, same_key}
+use Rattle.latest_writes.proofs.Sweeping.{IsUpTo}
 
 abbrev pub IsUnder : Bytes → Bytes → Type 0
 IsUnder j k = is_lt (key_cmp j k) ≡ true
-
-less_from : (o : Ordering) → is_lt o ≡ true → o ≡ Less
-less_from o e = grind (arith, common_steps)
 
 under_or_same : (o : Ordering) → is_gt o ≡ false → (o ≡ Less) ⊎ (is_eq o ≡ true)
 under_or_same o e = grind (arith, common_steps)
 
 under_upto : (i j k : Bytes) → IsUnder i j → IsUpTo j k → IsUnder i k
 under_upto i j k lt le = elim (under_or_same (key_cmp j k) le) [
-  | inl less ↦ ap is_lt (nat_list_cmp_total.trans i j k (less_from (key_cmp i j) lt) less)
+  | inl below ↦ ap is_lt (nat_list_cmp_total.trans i j k (less (key_cmp i j) lt) below)
   | inr same ↦ subst (λ (q : Bytes). IsUnder i q) (same_key j k same) lt
 ]
 

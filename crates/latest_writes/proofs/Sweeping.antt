@@ -10,7 +10,7 @@ use Rattle.std.proofs.lemmas.Map.Lookups.{exact_bytes}
 use Rattle.std.proofs.lemmas.Cmp.{tied_itself, upto}
 use Rattle.latest_writes.specs.Rising.{is_before}
 use Rattle.latest_writes.proofs.Stable.{after_writes-push}
-use Rattle.model.proofs.Lookups.{value_after_write, IsMap-after_write, same_map}
+use Rattle.model.proofs.Lookups.{same_key, value_after_write, IsMap-after_write, same_map}
 use Rattle.model.specs.Map.{Bytes, KeyMap, KeyWrite, IsMap, value_at, key_cmp, is_same_key, after_write, after_writes}
 
 -- q is at most k
@@ -51,12 +51,6 @@ begun all rest p is h = record {
 
 itself : (k : Bytes) → IsUpTo k k
 itself k = ap is_gt (tied_itself nat_list_cmp_total k)
-
-equal_from : (o : Ordering) → is_eq o ≡ true → o ≡ Equal
-equal_from o e = grind (arith, common_steps)
-
-pub same_key : (j k : Bytes) → is_same_key j k ≡ true → j ≡ k
-same_key j k e = exact_bytes j k (equal_from (key_cmp j k) e)
 
 not_both : (b : Bool) → b ≡ true → b ≡ false → ⊥
 not_both b h g = grind (arith, common_steps)

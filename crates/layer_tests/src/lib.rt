@@ -13,6 +13,8 @@ mod keys;
 #[cfg(test)]
 mod log;
 #[cfg(test)]
+mod long_use;
+#[cfg(test)]
 mod readers;
 #[cfg(test)]
 mod replies;

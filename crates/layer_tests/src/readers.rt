@@ -131,6 +131,29 @@ fn many_commits_beside_a_plain_list(rt: HostRuntime) -> Result<(), Fail> {
     Ok(())
 }
 
+/// Runs and their steps stay few while old transactions come and go, and none is left once all are forgotten.
+#[test]
+fn last_readers_stay_in_few_runs(rt: HostRuntime) -> Result<(), Fail> {
+    let mut commits = Commits::new(rt.alloc());
+    let mut seed = 4;
+    for i in 0..3_000u64 {
+        let (marks, next) = some_marks(rt.alloc(), seed)?;
+        seed = next;
+        commits.commit(&marks)?;
+        if i % 16 == 15 {
+            commits.forget(i / 2);
+        }
+        assert!(rt; commits.readers.runs() <= 24, "after commit {i}");
+        assert!(rt; commits.readers.steps() <= 96, "after commit {i}");
+    }
+    for _ in 0..100 {
+        commits.forget(3_000);
+    }
+    assert!(rt; commits.readers.runs() == 0);
+    assert!(rt; commits.readers.steps() == 0);
+    Ok(())
+}
+
 #[test]
 fn worked_last_readers(rt: HostRuntime) -> Result<(), Fail> {
     let mut commits = Commits::new(rt.alloc());

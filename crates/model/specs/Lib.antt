@@ -2,7 +2,6 @@
 pub mod Bounds
 pub mod Key
 pub mod KeyBytes
-pub mod Stored
 pub mod Map
 pub mod Entries
 pub mod Operations

@@ -4,13 +4,16 @@ ghost use Rattle.model.specs.Key.{IsKey};
 ghost use Rattle.model.specs.Map.{key_cmp};
 
 use crate::refusals::Memory;
-use crate::stored::Stored;
+use smallvec::SmallVec;
 use std::alloc::Global;
 use std::cmp::Ordering;
 use std::marker::Model;
 
 /// The most bytes of a key. A key has 1 at least.
 pub const KEY_MAX: usize = 256;
+
+// The most bytes that stand in an owned key itself.
+const SHORT_MAX: usize = 16;
 
 /// A key that is lent: 1 to 256 bytes of any value. Keys stand in the order of their bytes, a shorter key before its extensions.
 #[derive(Clone, Copy)]
@@ -53,19 +56,21 @@ impl<'a> KeyRef<'a> {
 /// their own.
 #[derive(Drop)]
 pub struct Key {
-    bytes: Stored,
+    bytes: SmallVec<u8, SHORT_MAX>,
 }
+
+// One stands in each entry of a page.
+const _: () = prove!(size_of::<Key>() == 32);
 
 impl Model for Key {
     ghost use Rattle.std.specs.Prelude.{ℕ, List};
     ghost use Rattle.model.specs.Key.{IsKey};
-    ghost use Rattle.model.specs.Stored.{IsInPlace, stored_bytes};
 
     ghost Value = { List ℕ };
 
-    ghost view = { λ k. stored_bytes k.bytes };
+    ghost view = { λ k. k.bytes.items };
 
-    ghost invariant = { λ k. IsKey (stored_bytes k.bytes) × IsInPlace k.bytes };
+    ghost invariant = { λ k. IsKey k.bytes.items };
 }
 
 impl Key {
@@ -76,7 +81,7 @@ impl Key {
         ensures short { length key.entry.bytes.now ≤ 16 → IsOk result }
     {
         Ok(Key {
-            bytes: Stored::from_slice(alloc, key.bytes())?,
+            bytes: SmallVec::from_slice(alloc, key.bytes())?,
         })
     }
 
@@ -87,7 +92,7 @@ impl Key {
         ensures short { length self.now ≤ 16 → IsOk result }
     {
         Ok(Key {
-            bytes: self.bytes.copy()?,
+            bytes: SmallVec::from_slice(*self.bytes.allocator(), self.bytes.as_slice())?,
         })
     }
 

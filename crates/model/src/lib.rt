@@ -12,7 +12,6 @@ pub mod pair;
 pub mod pairs;
 pub mod ranges;
 pub mod refusals;
-mod stored;
 pub mod values;
 pub mod writes;
 

@@ -25,8 +25,3 @@ adding-step n flag old now next places places' all left left' k is a rising adde
       ∙ ap (λ ks. lesser (least c now) (least c (postings_by n flag ks))) (sym is)
       ∙ a.same c;
 }
-
-pub adding-done : (n : ℕ) (flag : Bool) (old now : List Posting) (places : ℕ) (all left keys : List Bytes) → left ≡ [] → all ≡ keys → Adding n flag old now places all left →
-    (c : Posting → Bool) → least c now ≡ lesser (least c old) (least c (postings_by n flag keys))
-adding-done n flag old now places all left keys is whole a c =
-    sym (lesser_none (least c now)) ∙ ap (λ ks. lesser (least c now) (least c (postings_by n flag ks))) (sym is) ∙ a.same c ∙ ap (λ ks. lesser (least c old) (least c (postings_by n flag ks))) whole

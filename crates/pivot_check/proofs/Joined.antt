@@ -88,9 +88,6 @@ found_in_three c ms xs ys found a b r a_is b_is r_is =
 
 -- ---- the lesser head
 
-pub before_none : (xs ys : List Posting) → ys ≡ [] → BeginsBelow xs ys
-before_none xs ys none w rest is = ap (are_keys_from w.key) none
-
 from_head : (k : Bytes) (y : Posting) (ys : List Posting) → is_le (key_cmp k y.key) ≡ true → are_keys_from y.key ys ≡ true → are_keys_from k ys ≡ true
 from_head k y [] le h = refl
 from_head k y (z ∷ ys) le h = let parts = and_parts _ _ h in and_from _ _ (le_trans k y.key z.key le parts.0) (from_head k y ys le parts.1)
@@ -147,9 +144,6 @@ upto_more last o ps le h = by ps (none (least (λ p. nat_lt last p.number) ps) h
 
 pub both_upto : (a b : ℕ) (ps qs rs : List Posting) → are_upto a ps ≡ true → are_upto b qs ≡ true → ((c : Posting → Bool) → least c rs ≡ lesser (least c ps) (least c qs)) → are_upto (max a b) rs ≡ true
 both_upto a b ps qs rs h g same = ap (λ o. not (is_some o)) (same (λ p. nat_lt (max a b) p.number) ∙ (λ i. lesser (upto_more a (max a b) ps (omega arith) h i) (upto_more b (max a b) qs (omega arith) g i)))
-
-pub upto_same : (n : ℕ) (ps qs : List Posting) → ((c : Posting → Bool) → least c qs ≡ least c ps) → are_upto n ps ≡ true → are_upto n qs ≡ true
-upto_same n ps qs same h = ap (λ o. not (is_some o)) (same (λ p. nat_lt n p.number)) ∙ h
 
 -- ---- runs
 

@@ -10,6 +10,7 @@ use Rattle.model.specs.History.{Record, IsNumberedFrom}
 use Rattle.model.proofs.Members.{IsRising}
 use Rattle.snapshot.specs.View.{View}
 use Rattle.last_readers.specs.Readers.{cut, after}
+use Rattle.last_readers.proofs.Cuts.{cut_above, cut_below, cut_twice}
 use Rattle.pivot_check.specs.Kept.{KeptRecord, keys_of, leads_to, AreAbove, first_of, last_that, last_number, greater, last_source}
 use Rattle.pivot_check.specs.StandsFor.{kept_of, greatest, last_reader_in, AreReaders}
 use Rattle.pivot_check.proofs.Lists.{last_that-map}
@@ -22,22 +23,10 @@ above_is b n lt = ap (λ x. cond x (Some n) None) (lt-ltb b n lt)
 pub none_above : (b n : ℕ) → n ≤ b → after b n ≡ None
 none_above b n le = ap (λ x. cond x (Some n) None) (le-ltb b n le)
 
-cut_is : (o n : ℕ) → o < n → cut o n ≡ n
-cut_is o n lt = ap (λ x. cond x n 0) (lt-ltb o n lt)
-
-cut_none : (o n : ℕ) → n ≤ o → cut o n ≡ 0
-cut_none o n le = ap (λ x. cond x n 0) (le-ltb o n le)
-
 pub after_cut : (o b n : ℕ) → o ≤ b → after b (cut o n) ≡ after b n
 after_cut o b n le = elim (cases_lt o n) [
-  | inl lt ↦ ap (after b) (cut_is o n lt)
-  | inr low ↦ ap (after b) (cut_none o n low) ∙ none_above b 0 (omega arith) ∙ sym (none_above b n (omega arith))
-]
-
-pub cut_cut : (o b n : ℕ) → o ≤ b → cut b (cut o n) ≡ cut b n
-cut_cut o b n le = elim (cases_lt o n) [
-  | inl lt ↦ ap (cut b) (cut_is o n lt)
-  | inr low ↦ ap (cut b) (cut_none o n low) ∙ cut_none b 0 (omega arith) ∙ sym (cut_none b n (omega arith))
+  | inl lt ↦ ap (after b) (cut_above o n lt)
+  | inr low ↦ ap (after b) (cut_below o n low) ∙ none_above b 0 (omega arith) ∙ sym (none_above b n (omega arith))
 ]
 
 after_max : (b n m : ℕ) → after b (max n m) ≡ greater (after b n) (after b m)
@@ -188,11 +177,11 @@ noted_readers o readers next h r marks n are numbered above is number reads note
     by true e =
         let low = greatest_low (λ s. is_covered s.reads k) 0 h numbered in
         let same : max (last_reader_in h k) n ≡ n = omega arith in
-        sym (ap (cut o) same ∙ cut_is o n above)
+        sym (ap (cut o) same ∙ cut_above o n above)
     by false e = let same : last_reader_in h k ≡ max (last_reader_in h k) 0 = omega arith in e ∙ ap (cut o) same
 
 pub forgotten_readers : (o newer : ℕ) (readers next : Bytes → ℕ) (h : List Record) → AreReaders o readers h → o ≤ newer → ((k : Bytes) → next k ≡ cut newer (readers k)) → AreReaders newer next h
-forgotten_readers o newer readers next h are le cut_to k = cut_to k ∙ ap (cut newer) (are k) ∙ cut_cut o newer (last_reader_in h k) le
+forgotten_readers o newer readers next h are le cut_to k = cut_to k ∙ ap (cut newer) (are k) ∙ cut_twice o newer (last_reader_in h k) le
 
 -- no number comes in but n
 pub noted_upto : (readers next : Bytes → ℕ) (marks : List Mark) (last n : ℕ) → n ≡ last + 1 → ((k : Bytes) → readers k ≤ last) → ((k : Bytes) → next k ≡ cond (is_covered marks k) n (readers k)) → (k : Bytes) → next k ≤ n
@@ -212,31 +201,18 @@ noted_above readers next marks oldest n lt above noted k some = by (is_covered m
 -- nothing is cut up to a lower number
 pub cut_all : (m o n : ℕ) → m ≤ o → (0 < n → o < n) → n ≡ cut m n
 cut_all m o n le above = elim (cases_lt 0 n) [
-  | inl some ↦ let l = above some in sym (cut_is m n (omega arith))
-  | inr none ↦ let e : n ≡ 0 = omega arith in e ∙ sym (cut_none m n (omega arith))
+  | inl some ↦ let l = above some in sym (cut_above m n (omega arith))
+  | inr none ↦ let e : n ≡ 0 = omega arith in e ∙ sym (cut_below m n (omega arith))
 ]
 
 -- what is left of a number that is above a
 pub cut_later : (a b n left : ℕ) → (0 < n → a < n) → left ≡ cut b n → left ≡ cut (max a b) n
 cut_later a b n left above is = elim (cases_lt (max a b) n) [
-  | inl lt ↦ is ∙ cut_is b n (omega arith) ∙ sym (cut_is (max a b) n lt)
+  | inl lt ↦ is ∙ cut_above b n (omega arith) ∙ sym (cut_above (max a b) n lt)
   | inr le ↦ elim (cases_lt b n) [
     | inl later ↦ let l = above (omega arith) in absurd (omega arith)
-    | inr low ↦ is ∙ cut_none b n low ∙ sym (cut_none (max a b) n le)
+    | inr low ↦ is ∙ cut_below b n low ∙ sym (cut_below (max a b) n le)
   ]
-]
-
--- what is left of a number
-pub above_after : (o n left : ℕ) → left ≡ cut o n → 0 < left → o < left
-above_after o n left is some = elim (cases_lt o n) [
-  | inl lt ↦ let e = cut_is o n lt in omega arith
-  | inr low ↦ let e = cut_none o n low in absurd (omega arith)
-]
-
-pub low_after : (o n left last : ℕ) → left ≡ cut o n → n ≤ last → left ≤ last
-low_after o n left last is low = elim (cases_lt o n) [
-  | inl lt ↦ let e = cut_is o n lt in omega arith
-  | inr le ↦ let e = cut_none o n le in omega arith
 ]
 
 -- ---- walks over the written keys

@@ -3,7 +3,6 @@ pub mod Intervals
 pub mod Ends
 pub mod Histories
 pub mod LastSources
-pub mod Order
 pub mod Writers
 pub mod Adding
 pub mod Passing

@@ -8,16 +8,14 @@ use Rattle.std.proofs.lemmas.List.Folds.{list_any-append}
 use Rattle.std.proofs.lemmas.List.Sorted.{list_any-IsPermutation}
 use Rattle.model.specs.Map.{Bytes}
 use Rattle.model.specs.PrivateCopy.{Mark, covers, is_covered}
+use Rattle.model.proofs.Pivots.{or_false}
 use Rattle.marks.specs.declared.held.Held.{Held}
 use Rattle.marks.specs.Marked.{mark_of, marks_of}
+use Rattle.marks.proofs.MarkLaws.{length-marks_of}
 use Rattle.pivot_check.specs.Postings.{Posting, least, lesser, is_asked, asked_of, covered_of}
 use Rattle.pivot_check.specs.Places.{places_upto, is_covered_at, covered_at, AreAllPlaces}
 use Rattle.pivot_check.proofs.Walks.{least-or, none_asked}
 use Rattle.pivot_check.proofs.Writers.{lesser_none, lesser_assoc, least_alike}
-
-or_false : (x : Bool) → (x || false) ≡ x
-or_false true = refl
-or_false false = refl
 
 -- ---- all places
 
@@ -29,14 +27,10 @@ upto_covered ms k (suc n) =
     ∙ sym (list_any-append (λ m. covers m k) (take n ms) (take 1 (drop n ms)))
     ∙ ap (λ l. is_covered l k) (sym (take-add n 1 ms) ∙ ap (λ j. take j ms) (add-one n))
 
-held_len : (hs : List Held) → length (marks_of hs) ≡ length hs
-held_len [] = refl
-held_len (h ∷ hs) = ap suc (held_len hs)
-
 -- in whatever order the places of all marks stand, these cover the same
 pub in_any_order : (hs : List Held) (places : List ℕ) → IsPermutation (places_upto (length hs)) places → AreAllPlaces (marks_of hs) places
 in_any_order hs places all k =
-    let long : length (marks_of hs) ≤ length hs = omega (arith, held_len hs) in
+    let long : length (marks_of hs) ≤ length hs = omega (arith, length-marks_of hs) in
     sym (list_any-IsPermutation (λ i. is_covered (take 1 (drop i (marks_of hs))) k) (places_upto (length hs)) places all)
     ∙ upto_covered (marks_of hs) k (length hs)
     ∙ ap (λ l. is_covered l k) (take_all (length hs) (marks_of hs) long)

@@ -16,15 +16,10 @@ use Rattle.marks.specs.declared.held.Held.{Held}
 use Rattle.marks.specs.Marked.{mark_of, marks_of, start_of}
 use Rattle.pivot_check.specs.Postings.{Posting, keys_rise, are_from, least, lesser, asked_of, covered_of}
 use Rattle.pivot_check.proofs.Intervals.{covers_below, covers_above}
-use Rattle.pivot_check.proofs.Order.{lt_trans, above_both, from_lo}
+use Rattle.model.proofs.KeyOrder.{less, lt_trans, above_both, from_lo}
 use Rattle.pivot_check.specs.declared.run.Run.{Run}
 use Rattle.pivot_check.specs.Inside.{in_run, postings_in}
 use Rattle.pivot_check.proofs.Writers.{lesser_none, lesser_assoc, some_lesser, least-append, placed}
-
-less : (o : Ordering) → is_lt o ≡ true → o ≡ Less
-less Less h = refl
-less Equal h = absurd (both_ways false refl h)
-less Greater h = absurd (both_ways false refl h)
 
 all_at : (p : Posting) (ps : List Posting) (j : ℕ) (d : Posting) → list_all (λ q. is_le (key_cmp p.key q.key)) ps ≡ true → j < length ps → is_le (key_cmp p.key (get_or ps j d).key) ≡ true
 all_at p [] j d h lt = absurd (omega arith)
@@ -221,32 +216,6 @@ least-or x y w (p ∷ ps) = ap (lesser (cond ((x p || y p) && w p) (Some p.numbe
 pub none_asked : (w : Posting → Bool) (ps : List Posting) → least (λ p. false && w p) ps ≡ None
 none_asked w [] = refl
 none_asked w (p ∷ ps) = none_asked w ps
-
-pub no_mark_left : (ms : List Held) (i : ℕ) (b : ℕ) (flagged : Bool) (ps : List Posting) (found whole : Option ℕ) → length ms ≤ i → lesser found (least (covered_of (marks_of (drop i ms)) b flagged) ps) ≡ whole → found ≡ whole
-no_mark_left ms i b flagged ps found whole le known =
-    sym (lesser_none found) ∙ ap (lesser found) (sym (ap (λ l. least (covered_of (marks_of l) b flagged) ps) (past ms i le) ∙ none_asked (λ p. nat_lt b p.number && (p.has_earlier_target || not flagged)) ps)) ∙ known
-  where
-    past : (ms : List Held) (i : ℕ) → length ms ≤ i → drop i ms ≡ []
-    past [] zero le = refl
-    past [] (suc i) le = refl
-    past (m ∷ ms) zero le = absurd (omega arith)
-    past (m ∷ ms) (suc i) le = past ms i (omega arith)
-
-pub next_mark : (ms : List Held) (i : ℕ) (m : Held) (b : ℕ) (flagged : Bool) (ps : List Posting) (found next whole : Option ℕ) → i < length ms → m ≡ get_or ms i m →
-    next ≡ lesser found (least (asked_of (mark_of m) b flagged) ps) →
-    lesser found (least (covered_of (marks_of (drop i ms)) b flagged) ps) ≡ whole → lesser next (least (covered_of (marks_of (drop (suc i) ms)) b flagged) ps) ≡ whole
-next_mark ms i m b flagged ps found next whole lt is more known =
-    ap (λ o. lesser o (least (covered_of (marks_of (drop (suc i) ms)) b flagged) ps)) more
-    ∙ lesser_assoc found (least (asked_of (mark_of m) b flagged) ps) (least (covered_of (marks_of (drop (suc i) ms)) b flagged) ps)
-    ∙ ap (lesser found) (sym (split ms i lt is)) ∙ known
-  where
-    split : (ms : List Held) (i : ℕ) → i < length ms → m ≡ get_or ms i m →
-        least (covered_of (marks_of (drop i ms)) b flagged) ps ≡ lesser (least (asked_of (mark_of m) b flagged) ps) (least (covered_of (marks_of (drop (suc i) ms)) b flagged) ps)
-    split [] i lt is = absurd (omega arith)
-    split (x ∷ ms) zero lt is =
-        least-or (λ p. covers (mark_of x) p.key) (λ p. is_covered (marks_of ms) p.key) (λ p. nat_lt b p.number && (p.has_earlier_target || not flagged)) ps
-        ∙ ap (λ (y : Held). lesser (least (asked_of (mark_of y) b flagged) ps) (least (covered_of (marks_of ms) b flagged) ps)) (sym is)
-    split (x ∷ ms) (suc i) lt is = split ms i (omega arith) is
 
 -- ---- runs
 

@@ -7,6 +7,7 @@ use Rattle.model.specs.Map.{Bytes, is_same_key}
 use Rattle.model.specs.PrivateCopy.{is_covered}
 use Rattle.model.specs.PrivateCopy.Mark.{OfKey}
 use Rattle.std.proofs.lemmas.Bool.{lt-ltb, le-ltb, ltb-true}
+use Rattle.model.proofs.Pivots.{find_alike}
 use Rattle.snapshot.specs.View.{View}
 use Rattle.pivot_check.specs.Kept.{KeptRecord, first_number, follows, becomes_pivot, is_written}
 use Rattle.pivot_check.specs.Postings.{Posting, postings_by, least, lesser, asked_of, covered_of}
@@ -223,10 +224,6 @@ module _ (d : Bytes → Bool) (e : Bool → Bool) (b : ℕ) where
 and_true : (x : Bool) → (x && true) ≡ x
 and_true true = refl
 and_true false = refl
-
-find_alike : {X : Type 0} (p q : X → Bool) → ((x : X) → p x ≡ q x) → (xs : List X) → find p xs ≡ find q xs
-find_alike p q same [] = refl
-find_alike p q same (x ∷ xs) = λ i. cond (same x i) (Some x) (find_alike p q same xs i)
 
 -- the first that passes the test of keys
 by_keys : (d : Bytes → Bool) (o b : ℕ) (ps : List Posting) (rs : List KeptRecord) → AreWriters o ps rs → o ≤ b → IsRising rs →

@@ -2,7 +2,7 @@
 ghost use Rattle.std.specs.Prelude.{◌≡◌, ◌+◌, ◌≤◌, ◌<◌, List, [], ◌∷◌, ◌++◌, true, false, is_some, length, max, nat_lt, OnOk, ◌-◌};
 ghost use Rattle.model.specs.History.{Record};
 ghost use Rattle.last_readers.specs.Readers.{IsForgotten};
-ghost use Rattle.last_readers.specs.Held.{due_upto, given_a_forget};
+ghost use Rattle.last_readers.specs.Held.{due_upto, given_a_forget, size_in};
 ghost use Rattle.last_readers.specs.RunSizes.{left_above, with_run};
 ghost use Rattle.pivot_check.specs.Merged.{IsMerged, IsMergedBy};
 ghost use Rattle.pivot_check.specs.Kept.{HasForgotten, IsEmpty, IsInReach, HasRoom, IsGivenBack, runs_due};
@@ -122,6 +122,16 @@ impl Committed {
         ensures { result ≡ length self.now.held.sizes }
     {
         self.runs.len()
+    }
+
+    /// How many written keys the runs hold, and one more for each run; 2^64 - 1 where there were more. What a merge has moved counts twice
+    /// until it ends. Looks at each run, and takes no memory.
+    pub fn postings(&self) -> usize
+        ensures { result ≡ size_in self.now.held.written.runs }
+    {
+        self.runs
+            .iter()
+            .fold(0, |sum: usize, run| sum.saturating_add(run.size()))
     }
 
     /// How often memory for a merge of written keys was refused, 2^64 - 1 at most: each time two runs of a like size stayed. Takes no memory.

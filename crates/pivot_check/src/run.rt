@@ -1,5 +1,5 @@
 //! A run of written keys.
-ghost use Rattle.std.specs.Prelude.{◌≡◌, ◌≤◌, ◌<◌, ◌+◌, ◌-◌, ◌++◌, IsTrue, Bool, true, false, length, max};
+ghost use Rattle.std.specs.Prelude.{◌≡◌, ◌≤◌, ◌<◌, ◌+◌, ◌-◌, ◌^◌, ◌++◌, IsTrue, Bool, true, false, length, max, min};
 ghost use Rattle.std.specs.Vec.{vec_len, vec_capacity};
 ghost use Rattle.marks.specs.Lent.{lent_mark};
 ghost use Rattle.marks.specs.Marked.{marks_of};
@@ -40,6 +40,8 @@ fn nothing(alloc: Global) -> Part
 }
 
 impl Run {
+    ghost use Rattle.pivot_check.specs.Inside.{held_of};
+
     // These postings, none of which has a number above `last`.
     pub(crate) fn of(written: Vec<Written>, last: u64) -> Run
         requires rising { IsTrue (keys_rise written.items) }
@@ -87,6 +89,18 @@ impl Run {
         let in_made = self.made.least_covered(order, found, begin, flagged);
         let in_first = self.first.least_covered(order, in_made, begin, flagged);
         self.second.least_covered(order, in_first, begin, flagged)
+    }
+
+    // How many postings it has places in use for, and one more: 2^64 - 1 where there were more.
+    pub(crate) fn size(&self) -> usize
+        ensures { result ≡ min (held_of self.now).size (2 ^ 64 - 1) }
+    {
+        self.first
+            .written
+            .len()
+            .saturating_add(self.second.written.len())
+            .saturating_add(self.made.written.len())
+            .saturating_add(1)
     }
 
     // Is it not being made of two?

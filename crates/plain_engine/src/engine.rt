@@ -24,7 +24,7 @@ struct Transaction {
 
 /// The store, with a device that isn't there: its size is counted, and who commits says whether the device fails.
 ///
-/// It copies before it judges, so want of memory may come first: `Memory` may be answered where the request would be refused.
+/// It copies before it judges, so it may run out of memory first: `Memory` may be answered where the request would be refused.
 #[derive(Drop)]
 pub struct Engine {
     /// The map that is committed.

@@ -7,22 +7,13 @@ use Rattle.std.proofs.lemmas.List.{append-nil, length-replicate}
 use Rattle.std.proofs.lemmas.List.Concat.{flat_map-append}
 use Rattle.std.proofs.lemmas.List.Elements.{All-append, All-replicate, All-nil, All-cons, All-head, All-tail}
 use Rattle.model.specs.Bounds.{value_max}
+use Rattle.model.proofs.Fronts.{same_front}
 use Rattle.resp.specs.declared.decoding.Stop.{Stop}
 use Rattle.resp.specs.declared.decoding.Stop.TheVariants.{More}
 use Rattle.model.specs.Grammar.{crlf, bulk, array_of_bulks, IsPart, IsRequest, Spells}
 use Rattle.resp.specs.Reading.{Stops, Only, CountLine, LengthLine, PartText}
 use Rattle.resp.proofs.Behind.{stops_behind}
 use Rattle.resp.proofs.Lines.{line_one_form}
-
--- lists of one length before others
-pub same_front : (xs ys a b : List ℕ) → length xs ≡ length ys → xs ++ a ≡ ys ++ b → (xs ≡ ys) × (a ≡ b)
-same_front [] [] a b len e = (refl, e)
-same_front (x ∷ xs) (y ∷ ys) a b len e =
-    let t : xs ++ a ≡ ys ++ b = cc in
-    let same = same_front xs ys a b (omega arith) t in
-    let first = same.0 in
-    (cc, same.1)
-same_front b0 b1 a b len e = absurd (omega arith)
 
 -- ---- parts
 

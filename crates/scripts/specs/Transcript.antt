@@ -139,7 +139,7 @@ pub record BreaksOff (first : Scene) (texts : List Bytes) (printed : Bytes) : Ty
   pub printed_is : printed ≡ front ++ part
 
 -- A script ends once all was printed, with sessions of which the laws hold; or before a line that is none or names one session too
--- many; or for want of memory before some line, or where reading or writing fails, or before the first line where the log fails.
+-- many; or out of memory before some line, or where reading or writing fails, or before the first line where the log fails.
 abbrev pub Plays : Scene → List Bytes → Result (Unit {0}) ScriptFault → Option Bytes → Option Bytes → Type 0
 Plays first texts (Ok done) before after = (printed : Bytes) × (last : Scene) × Transcript first texts last printed × IsLawful last.hub × Appends before after printed
 Plays first texts (Err (BadLine number)) before after = (printed : Bytes) × StopsAt first texts number printed IsBad × Appends before after printed

@@ -77,7 +77,7 @@ impl<D: Sectors> From<Unopened<D>> for ScriptFault {
     }
 }
 
-/// An error of the reader or the writer, among which a want of memory is told by its kind.
+/// An error of the reader or the writer. Its kind says whether it is out of memory.
 impl From<io::Error> for ScriptFault {
     ghost use Rattle.std.specs.Prelude.{◌≡◌, ◌≢◌, ◌⊎◌};
     ghost use Rattle.std.specs.IoError.{error_kind};

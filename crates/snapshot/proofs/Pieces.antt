@@ -13,6 +13,7 @@ use Rattle.model.specs.Map.{Bytes, KeyMap, KeyWrite, IsMap, key_cmp, is_same_key
 use Rattle.model.proofs.InOrder.{parts, both, less, is_less, find_none, below_later}
 use Rattle.model.proofs.Lookups.{same_key, same_map, value_in_range, IsMap-after_writes}
 use Rattle.model.proofs.Entries.{turned}
+use Rattle.model.proofs.KeyOrder.{turned_greater}
 use Rattle.write_buffer.specs.Buffered.{written}
 use Rattle.versions.proofs.Visibles.{where_twice}
 use Rattle.snapshot.specs.View.{or_else}
@@ -71,9 +72,6 @@ record Rest (w : KeyWrite) (ws : List KeyWrite) (f : KeyMap → KeyMap) : Type 0
   found : (q : Bytes) (ps : KeyMap) → IsMap ps → value_at (f ps) q ≡ or_else (written ws q) (value_at ps q)
   first : IsAbove w.0 ws
 
-turn : (j k : Bytes) → key_cmp j k ≡ Greater → key_cmp k j ≡ Less
-turn j k e = turned j k ∙ ap ordering_reverse e
-
 is_map_one : (w : KeyWrite) (ws : List KeyWrite) (f : KeyMap → KeyMap) → Rest w ws f → (ps : KeyMap) → IsMap ps → IsMap (merged_one w f ps)
 is_map_one w ws f r [] h = sorted-with w.0 w.1 (f []) (r.above w.0 [] r.first tt) (r.maps [] tt)
 is_map_one w ws f r (p ∷ ps) h =
@@ -81,7 +79,7 @@ is_map_one w ws f r (p ∷ ps) h =
     elim (key_cmp w.0 p.0) as (λ o. key_cmp w.0 p.0 ≡ o → IsMap (by_order o (with_value w.0 w.1 (f (p ∷ ps))) (with_value w.0 w.1 (f ps)) (p ∷ merged_one w f ps))) [
       | Less ↦ λ o. sorted-with w.0 w.1 (f (p ∷ ps)) (r.above w.0 (p ∷ ps) r.first (both _ _ (is_less _ o) (below_later nat_list_cmp_total w.0 p.0 ps o y.0))) (r.maps (p ∷ ps) h)
       | Equal ↦ λ o. sorted-with w.0 w.1 (f ps) (r.above w.0 ps r.first (subst (λ k. IsAbove k ps) (sym (exact_bytes w.0 p.0 o)) y.0)) (r.maps ps y.1)
-      | Greater ↦ λ o. both _ _ (above_one p.0 w f (λ qs x. r.above p.0 qs (below_later nat_list_cmp_total p.0 w.0 ws (turn w.0 p.0 o) r.first) x) (turn w.0 p.0 o) ps y.0) (is_map_one w ws f r ps y.1)
+      | Greater ↦ λ o. both _ _ (above_one p.0 w f (λ qs x. r.above p.0 qs (below_later nat_list_cmp_total p.0 w.0 ws (turned_greater w.0 p.0 o) r.first) x) (turned_greater w.0 p.0 o) ps y.0) (is_map_one w ws f r ps y.1)
     ] refl
 
 -- a write before what f leaves
@@ -114,7 +112,7 @@ found_one q w ws f r (p ∷ ps) h =
           ∙ hidden (is_same_key q w.0) (is_same_key q p.0) w.1 (written ws q) p.1 (value_at ps q) (ap (is_same_key q) same)
       | Greater ↦ λ o. ap (cond (is_same_key q p.0) (Some p.1)) (found_one q w ws f r ps y.1)
           ∙ through (is_same_key q p.0) (cond (is_same_key q w.0) (Some w.1) (written ws q)) p.1 (value_at ps q)
-          (λ t. ap (λ k. cond (is_same_key k w.0) (Some w.1) (written ws k)) (same_key q p.0 t) ∙ find_none key_cmp p.0 (w ∷ ws) (both _ _ (is_less _ (turn w.0 p.0 o)) (below_later nat_list_cmp_total p.0 w.0 ws (turn w.0 p.0 o) r.first)))
+          (λ t. ap (λ k. cond (is_same_key k w.0) (Some w.1) (written ws k)) (same_key q p.0 t) ∙ find_none key_cmp p.0 (w ∷ ws) (both _ _ (is_less _ (turned_greater w.0 p.0 o)) (below_later nat_list_cmp_total p.0 w.0 ws (turned_greater w.0 p.0 o) r.first)))
     ] refl
   where
     hidden : (a b : Bool) (x : Option Bytes) (o : Option (Option Bytes)) (v : Bytes) (z : Option Bytes) → a ≡ b → or_else (cond a (Some x) o) z ≡ or_else (cond a (Some x) o) (cond b (Some v) z)

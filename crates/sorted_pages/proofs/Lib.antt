@@ -1,4 +1,5 @@
 pub mod Blanks
+pub mod Deals
 pub mod Keys
 pub mod Placings
 pub mod Summaries

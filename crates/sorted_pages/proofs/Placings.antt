@@ -1,6 +1,6 @@
 -- Pages: where a key stands among them, and what a changed page does to all entries and to the rooms.
 use Rattle.std.proofs.lemmas.Grind.{common_steps}
-use Rattle.std.proofs.Common.{◌≡◌, ℕ, zero, suc, ◌+◌, ◌-◌, ◌*◌, ◌<◌, ◌≤◌, Bool, true, false, List, [], ◌∷◌, ◌++◌, length, get_or, set, take, drop, min, refl, sym, ap, subst, ◌∙◌, arith, inl, inr}
+use Rattle.std.proofs.Common.{◌≡◌, ℕ, zero, suc, max, ◌+◌, ◌-◌, ◌*◌, ◌<◌, ◌≤◌, Bool, true, false, List, [], ◌∷◌, ◌++◌, length, get_or, set, take, drop, min, refl, sym, ap, subst, ◌∙◌, arith, inl, inr}
 use Rattle.std.specs.Prelude.{if◌then◌else◌, ◌⊎◌}
 use Rattle.std.specs.List.{AllByRecursion, insert}
 use Rattle.std.specs.List.Sorted.{IsPartitionedBy, IsPartitionPoint}
@@ -13,7 +13,7 @@ use Rattle.std.proofs.lemmas.List.{append_assoc, append-nil, length-append, leng
 use Rattle.model.specs.Map.{Bytes, key_cmp}
 use Rattle.model.proofs.Entries.{IsSorted, IsBelowAll}
 use Rattle.model.proofs.InOrder.{below_left, below_right, sorted_left, sorted_right, parts}
-use Rattle.sorted_pages.specs.Pages.{AreAllFull, AreFull, Page, entries, starts_by, last_room, room_at, last_page, count_at, page_entries, stands_behind, IsHalved, IsLoose, AreLoose, IsFilled, AreRestFilled, IsInOrder, AreBelow, IsPlace, IsRoomier}
+use Rattle.sorted_pages.specs.Pages.{AreAllFull, AreFull, AreTight, Page, entries, starts_by, last_room, room_at, last_page, count_at, page_entries, stands_behind, IsHalved, IsLoose, AreLoose, IsFilled, AreRestFilled, IsInOrder, AreBelow, IsPlace, IsRoomier, StaysTight}
 use Rattle.sorted_pages.proofs.Keys.{below_of, above_of, first_of, starts_lower, starts-append, starts-put, filled-put, find_middle, put_middle}
 
 -- ---- lists
@@ -379,6 +379,33 @@ module _ {X : Type 0} where
 
   all_push : (P : Page X → Type 0) (qs : List (Page X)) (p : Page X) → P p → AllByRecursion P qs → AllByRecursion P (qs ++ p ∷ [])
   all_push P qs p h a = grind (arith, common_steps)
+
+  -- ---- how much room there is at most
+
+  all_insert : (P : Page X → Type 0) (qs : List (Page X)) (j : ℕ) (p : Page X) → P p → AllByRecursion P qs → AllByRecursion P (insert qs j p)
+  all_insert P [] zero p h a = (h, tt)
+  all_insert P [] (suc j) p h a = grind (arith, common_steps)
+  all_insert P (q ∷ qs) zero p h a = (h, a)
+  all_insert P (q ∷ qs) (suc j) p h a = (a.0, all_insert P qs j p h a.1)
+
+  pub tight-same : (n : ℕ) (ps new : List (Page X)) → new ≡ ps → StaysTight n ps new
+  tight-same n ps new e = record { tight = λ r le h. subst (λ (l : List (Page X)). AreTight r l) (sym e) h }
+
+  pub tight-then : (n : ℕ) (ps qs rs : List (Page X)) → StaysTight n ps qs → StaysTight n qs rs → StaysTight n ps rs
+  tight-then n ps qs rs a b = record { tight = λ r le h. b.tight r le (a.tight r le h) }
+
+  -- another page in a page's place
+  pub tight-set : (n : ℕ) (ps : List (Page X)) (i : ℕ) (p q : Page X) → p ≡ get_or ps i p → q.1 ≤ max p.1 n → StaysTight n ps (set ps i q)
+  tight-set n ps i p q is few = record { tight = λ r le h. all_set (λ (s : Page X). s.1 ≤ r) ps i p q is (λ b. omega arith) h }
+
+  pub tight-split : (n : ℕ) (old ps new : List (Page X)) (i j : ℕ) (p lo up : Page X) → old ≡ ps → new ≡ insert (set ps i lo) j up → p ≡ get_or ps i p → lo.1 ≤ n → up.1 ≤ n → StaysTight n old new
+  tight-split n old ps new i j p lo up was now is low high = record {
+    tight = λ r le h. subst (λ (l : List (Page X)). AreTight r l) (sym now)
+        (all_insert (λ (s : Page X). s.1 ≤ r) (set ps i lo) j up (omega arith) (all_set (λ (s : Page X). s.1 ≤ r) ps i p lo is (λ b. omega arith) (subst (λ (l : List (Page X)). AreTight r l) was h)));
+  }
+
+  pub tight-push : (n : ℕ) (ps new : List (Page X)) (p : Page X) → new ≡ ps ++ p ∷ [] → p.1 ≤ n → StaysTight n ps new
+  tight-push n ps new p now few = record { tight = λ r le h. subst (λ (l : List (Page X)). AreTight r l) (sym now) (all_push (λ (s : Page X). s.1 ≤ r) ps p (omega arith) h) }
 
   one_more : (b : Bool) (es more : List (Bytes × X)) (n : ℕ) → length more ≡ 1 → length es < n → length (if b then es ++ more else es) ≤ n
   one_more b es more n one lt = grind (arith, common_steps, length-append)

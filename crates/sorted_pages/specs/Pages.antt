@@ -1,5 +1,5 @@
 -- Pages of entries, all by rising key.
-use Rattle.std.specs.Prelude.{◌≡◌, ℕ, T, ◌+◌, ◌-◌, ◌*◌, ◌<◌, ◌≤◌, Bool, true, false, List, [], ◌∷◌, ◌++◌, length, slice_get, Option, Some, None, if◌then◌else◌, ⊤, ◌⊎◌}
+use Rattle.std.specs.Prelude.{◌≡◌, ℕ, T, ◌+◌, ◌-◌, ◌*◌, ◌^◌, ◌<◌, ◌≤◌, min, fold, Bool, true, false, List, [], ◌∷◌, ◌++◌, length, slice_get, Option, Some, None, if◌then◌else◌, ⊤, ◌⊎◌}
 use Rattle.std.specs.List.{AllByRecursion}
 use Rattle.std.specs.Ordering.{nat_cmp, is_le, is_lt}
 use Rattle.std.specs.declared.cmp.Ordering.TheVariants.{Less}
@@ -60,15 +60,27 @@ pub record IsHalved {X : Type 0} (k : Bytes) (old new : List (Page X)) : Type 0 
   pub low : stands_behind k (page_entries k old) ≡ false → count_at k old ≤ 2 * count_at k new + 1
   pub high : stands_behind k (page_entries k old) ≡ false → 2 * count_at k new ≤ count_at k old + 1
 
--- n more entries don't fit in the page where k stands or would stand, and are too many for it: it has 256, and would get more than 512
+-- n more entries don't fit in the page where k stands or would stand, and are too many for it: it has 288, and would get more than 576
 pub record IsCrowded {X : Type 0} (k : Bytes) (n : ℕ) (ps : List (Page X)) : Type 0 where
   pub short : room_at k ps < n
-  pub many : 256 ≤ count_at k ps
-  pub over : 512 < count_at k ps + n
+  pub many : 288 ≤ count_at k ps
+  pub over : 576 < count_at k ps + n
 
 -- a page is made where there is none, and else one that is crowded is split
 abbrev pub IsPageWanted : {X : Type 0} → Bytes → ℕ → List (Page X) → Type 0
 IsPageWanted k n ps = (ps ≡ []) ⊎ IsCrowded k n ps
+
+-- no page has room for more than r entries
+abbrev pub AreTight : {X : Type 0} → ℕ → List (Page X) → Type 0
+AreTight r ps = AllByRecursion (λ p. p.1 ≤ r) ps
+
+-- where no page had room for more than r entries, none has, whatever r is from this bound on
+pub record StaysTight {X : Type 0} (bound : ℕ) (old new : List (Page X)) : Type 0 where
+  pub tight : (r : ℕ) → bound ≤ r → AreTight r old → AreTight r new
+
+-- how many entries the pages have places for, in use and free: 2^64 - 1 where there were more
+abbrev pub places_in : {X : Type 0} → List (Page X) → ℕ
+places_in ps = fold (λ n p. min (n + (length p.0 + p.1)) (2 ^ 64 - 1)) 0 ps
 
 -- a page that entries come to by rising key: it has 384 at most, and 512 places at least, so that those that come in between find room
 pub record IsLoose {X : Type 0} (p : Page X) : Type 0 where

@@ -5,7 +5,7 @@ ghost use Rattle.std.specs.Cmp.Lexicographic.{slice_cmp};
 ghost use Rattle.std.specs.FinMap.Entries.{find, put, is_sorted};
 ghost use Rattle.std.specs.Vec.{vec_len};
 ghost use Rattle.model.specs.Map.{Bytes};
-ghost use Rattle.sorted_pages.specs.Pages.{AreAllFull, AreFull, AreLoose, IsCrowded, IsHalved, IsPageWanted, IsInOrder, IsRoomier, count_at, entries, room_at};
+ghost use Rattle.sorted_pages.specs.Pages.{AreAllFull, AreFull, AreLoose, IsCrowded, IsHalved, IsPageWanted, IsInOrder, IsRoomier, StaysTight, count_at, entries, room_at};
 
 use crate::aging::Aging;
 use crate::page::{PAGE_MAX, Page};
@@ -14,11 +14,13 @@ use model::Key;
 use std::alloc::AllocError;
 
 // A page of fewer entries isn't split.
-const SPLIT_MIN: usize = 256;
+const SPLIT_MIN: usize = 288;
 
-// How many entries a page is given where all come in by rising key. It has room for more, so that the first keys that come in between
+// How many entries a page is given where all come in by rising key. It has places for more, so that the first keys that come in between
 // don't move it.
 const FILL: usize = 384;
+
+const FILL_PLACES: usize = 512;
 
 // Adds an entry of a new key in the room that was made for it.
 pub(crate) fn insert<V: Aging>(pages: &mut [Page<V>], key: Key, value: V)
@@ -28,6 +30,7 @@ pub(crate) fn insert<V: Aging>(pages: &mut [Page<V>], key: Key, value: V)
     ensures order { IsInOrder pages.new }
     ensures entries { entries pages.new ≡ put (slice_cmp nat_cmp) key value (entries pages.old) }
     ensures rooms { (q : Bytes) → room_at q pages.old ≤ room_at q pages.new + 1 }
+    ensures tight { StaysTight 0 pages.old pages.new }
 {
     let i = place(pages, key.lend().bytes());
     pages[i].insert(key, value);
@@ -51,17 +54,20 @@ fn grow<V: Aging>(pages: &mut Vec<Page<V>>, key: &[u8], n: usize) -> Result<(), 
     ensures made { OnOk result (n ≤ room_at key.now pages.new.items) }
     ensures pages { length pages.new.items ≡ length pages.old.items }
     ensures count { count_at key.now pages.new.items ≡ count_at key.now pages.old.items }
+    ensures tight { StaysTight (n + 191) pages.old.items pages.new.items }
 {
     let i = place(pages, key);
     pages[i].reserve(n)
 }
 
-// Splits the page where the key would stand, and gives its upper part the places of a page, with room for `n` entries at least.
+// Splits the page where the key would stand, and gives both parts room for `n` entries.
 fn split<V: Aging + Drop>(pages: &mut Vec<Page<V>>, key: &[u8], n: usize) -> Result<(), AllocError>
     requires order { IsInOrder pages.old.items }
     requires some { 0 < vec_len pages.old }
+    requires short { room_at key.now pages.old.items < n }
     ensures order { IsInOrder pages.new.items }
     ensures roomier { IsRoomier pages.old.items pages.new.items }
+    ensures tight { StaysTight (n + 191) pages.old.items pages.new.items }
     ensures some { 0 < vec_len pages.new }
     ensures one { length pages.new.items ≤ length pages.old.items + 1 }
     ensures more { OnOk result (IsCrowded key.now n pages.old.items → length pages.old.items < length pages.new.items) }
@@ -74,9 +80,7 @@ fn split<V: Aging + Drop>(pages: &mut Vec<Page<V>>, key: &[u8], n: usize) -> Res
     if cut == 0 {
         return Ok(());
     }
-    let rest = PAGE_MAX.saturating_sub(page.len() - cut);
-    let needed = page.room().max(n).max(rest);
-    let upper = page.split_off(cut, needed)?;
+    let upper = page.split_off(cut, n)?;
     match pages.insert(i + 1, upper) {
         Ok(()) => Ok(()),
         Err(_) => unreachable!(),
@@ -87,8 +91,10 @@ fn split<V: Aging + Drop>(pages: &mut Vec<Page<V>>, key: &[u8], n: usize) -> Res
 fn divide<V: Aging + Drop>(pages: &mut Vec<Page<V>>, key: &[u8], n: usize) -> Result<(), AllocError>
     requires order { IsInOrder pages.old.items }
     requires some { 0 < vec_len pages.old }
+    requires short { room_at key.now pages.old.items < n }
     ensures order { IsInOrder pages.new.items }
     ensures roomier { IsRoomier pages.old.items pages.new.items }
+    ensures tight { StaysTight (n + 191) pages.old.items pages.new.items }
     ensures made { OnOk result (n ≤ room_at key.now pages.new.items) }
     ensures more { OnOk result (IsCrowded key.now n pages.old.items → length pages.old.items < length pages.new.items) }
     ensures one { length pages.new.items ≤ length pages.old.items + 1 }
@@ -100,9 +106,9 @@ fn divide<V: Aging + Drop>(pages: &mut Vec<Page<V>>, key: &[u8], n: usize) -> Re
 
 // Are `n` entries more too many for a page that has `len`?
 fn is_crowded(len: usize, n: usize) -> bool
-    ensures crowded { 0 < n → 256 ≤ len → 512 < len + n → result ≡ true }
-    ensures many { result ≡ true → 256 ≤ len }
-    ensures over { result ≡ true → 512 < len + n }
+    ensures crowded { 0 < n → 288 ≤ len → 576 < len + n → result ≡ true }
+    ensures many { result ≡ true → 288 ≤ len }
+    ensures over { result ≡ true → 576 < len + n }
 {
     SPLIT_MIN <= len && PAGE_MAX.saturating_sub(len) < n
 }
@@ -112,11 +118,12 @@ fn start<V: Aging + Drop>(pages: &mut Vec<Page<V>>, n: usize) -> Result<(), Allo
     requires { pages.old.items ≡ [] }
     ensures order { IsInOrder pages.new.items }
     ensures roomier { IsRoomier pages.old.items pages.new.items }
+    ensures tight { StaysTight (n + 191) pages.old.items pages.new.items }
     ensures made { OnOk result ((k : Bytes) → n ≤ room_at k pages.new.items) }
     ensures one { length pages.new.items ≤ 1 }
 {
     let alloc = *pages.allocator();
-    pages.push(Page::with_room(alloc, n)?)?;
+    pages.push(Page::with_room_in_steps(alloc, n)?)?;
     Ok(())
 }
 
@@ -131,6 +138,7 @@ pub(crate) fn reserve<V: Aging + Drop>(
     ensures roomier { IsRoomier pages.old.items pages.new.items }
     ensures made { OnOk result (n ≤ room_at key.now pages.new.items) }
     ensures known { n ≤ room_at key.now pages.old.items → IsOk result }
+    ensures tight { StaysTight (n + 191) pages.old.items pages.new.items }
     ensures split { OnOk result (IsCrowded key.now n pages.old.items → length pages.old.items < length pages.new.items) }
     ensures one { length pages.new.items ≤ length pages.old.items + 1 }
     ensures wanted { length pages.old.items < length pages.new.items → IsPageWanted key.now n pages.old.items }
@@ -149,7 +157,7 @@ pub(crate) fn reserve<V: Aging + Drop>(
     grow(pages, key, n)
 }
 
-// Adds a page of one entry, with room for as many as a page may have.
+// Adds a page of one entry.
 fn push_page<V: Aging + Drop>(
     pages: &mut Vec<Page<V>>,
     key: Key,
@@ -161,9 +169,10 @@ fn push_page<V: Aging + Drop>(
     ensures entries { entries pages.new.items ≡ (if is_ok result then entries pages.old.items ++ (key, value) ∷ [] else entries pages.old.items) }
     ensures loose { AreLoose pages.old.items → AreLoose pages.new.items }
     ensures full { AreAllFull pages.old.items → AreFull pages.old.items → AreFull pages.new.items }
+    ensures tight { StaysTight 512 pages.old.items pages.new.items }
 {
     let alloc = *pages.allocator();
-    let mut page = Page::with_room(alloc, PAGE_MAX)?;
+    let mut page = Page::with_room(alloc, FILL_PLACES)?;
     page.push(key, value)?;
     pages.push(page)?;
     Ok(())
@@ -181,6 +190,7 @@ pub(crate) fn push<V: Aging + Drop>(
     ensures entries { entries pages.new.items ≡ (if is_ok result then entries pages.old.items ++ (key, value) ∷ [] else entries pages.old.items) }
     ensures loose { AreLoose pages.old.items → AreLoose pages.new.items }
     ensures full { AreFull pages.old.items → AreFull pages.new.items }
+    ensures tight { StaysTight 512 pages.old.items pages.new.items }
 {
     let count = pages.len();
     if count == 0 {

@@ -1,9 +1,10 @@
 //! One page.
-ghost use Rattle.std.specs.Prelude.{◌≡◌, ◌+◌, ◌-◌, ◌*◌, ◌<◌, ◌≤◌, T, true, false, None, [], ◌∷◌, ◌++◌, length, take, drop, IfOk, IfErr, IsSome, OnOk, OnErr, option_copied, is_ok, if◌then◌else◌};
+ghost use Rattle.std.specs.Prelude.{◌≡◌, max, ◌+◌, ◌-◌, ◌*◌, ◌<◌, ◌≤◌, T, true, false, None, [], ◌∷◌, ◌++◌, length, take, drop, IfOk, IfErr, IsSome, OnOk, OnErr, option_copied, is_ok, if◌then◌else◌};
 ghost use Rattle.std.specs.Ordering.{nat_cmp};
 ghost use Rattle.std.specs.Cmp.Lexicographic.{slice_cmp};
 ghost use Rattle.std.specs.FinMap.Entries.{find, put, is_sorted};
 ghost use Rattle.std.specs.Borrow.{sem};
+ghost use Rattle.std.specs.Vec.{vec_len, vec_capacity};
 ghost use Rattle.model.specs.Map.{key_cmp};
 ghost use Rattle.model.specs.Entries.{IsAt, IsGap, IsSplit};
 ghost use Rattle.sorted_pages.specs.Pages.{stands_behind, starts_by};
@@ -16,10 +17,66 @@ use model::Key;
 use std::alloc::{AllocError, Global};
 use std::cmp::Ordering;
 use std::marker::Model;
+use std::mem;
 
-// How many places a page gets at once, for entries that it has and those that may come: what was never used of them costs no memory,
-// while a page that moves at every few new keys leaves blocks behind that no other page fits in. A page that would need more is split.
-pub(crate) const PAGE_MAX: usize = 512;
+// A page's places come in steps. They are few and large, since a page that moves leaves a block behind that larger pages don't fit in.
+const STEP: usize = 192;
+
+// A page that would need more places is split. It is three steps.
+pub(crate) const PAGE_MAX: usize = 576;
+
+// How much room to make beside `len` entries for `n` more, so that the places are whole steps.
+fn room_in_steps(len: usize, n: usize) -> usize
+    ensures least { n ≤ result }
+    ensures most { result ≤ n + 191 }
+{
+    // There is no memory for so many.
+    if usize::MAX - STEP < n {
+        return n;
+    }
+    match (len % STEP + n) % STEP {
+        0 => n,
+        over => n + (STEP - over),
+    }
+}
+
+// A vector with places for so many entries and for `n` more, in whole steps.
+fn vector_for<V>(alloc: Global, len: usize, n: usize) -> Result<Vec<(Key, V)>, AllocError>
+    ensures none { IfOk result (λ v. v.items ≡ []) }
+    ensures least { IfOk result (λ v. len + n ≤ vec_capacity v) }
+    ensures most { IfOk result (λ v. vec_capacity v ≤ len + n + 191) }
+{
+    match len.checked_add(room_in_steps(len, n)) {
+        None => Err(AllocError),
+        Some(places) => Vec::with_capacity(alloc, places),
+    }
+}
+
+// Moves the first `at` of the entries to one vector and the others to another, which both have the places.
+fn deal<V: Drop>(
+    entries: Vec<(Key, V)>,
+    at: usize,
+    lower: &mut Vec<(Key, V)>,
+    upper: &mut Vec<(Key, V)>,
+)
+    requires within { at ≤ vec_len entries }
+    requires lower_none { lower.old.items ≡ [] }
+    requires upper_none { upper.old.items ≡ [] }
+    requires lower_places { at ≤ vec_capacity lower.old }
+    requires upper_places { vec_len entries - at ≤ vec_capacity upper.old }
+    ensures lower { lower.new.items ≡ take at entries.items }
+    ensures upper { upper.new.items ≡ drop at entries.items }
+    ensures lower_places { vec_capacity lower.new ≡ vec_capacity lower.old }
+    ensures upper_places { vec_capacity upper.new ≡ vec_capacity upper.old }
+{
+    for entry in entries {
+        if lower.len() < at {
+            lower.push_reserved(entry);
+        } else {
+            upper.push_reserved(entry);
+        }
+    }
+}
 
 // Entries by rising key. A clause sees them, and how many more fit without memory.
 #[derive(Drop)]
@@ -54,6 +111,15 @@ impl<V: Aging> Page<V> {
     ghost use Rattle.sorted_pages.specs.Ranges.{IsTail};
     ghost use Rattle.sorted_pages.specs.Lent.{lends_in_page};
 
+    // An empty page with room for so many entries, in whole steps.
+    pub(crate) fn with_room_in_steps(alloc: Global, room: usize) -> Result<Page<V>, AllocError>
+        ensures none { IfOk result (λ p. p.0 ≡ []) }
+        ensures least { IfOk result (λ p. room ≤ p.1) }
+        ensures most { IfOk result (λ p. p.1 ≤ room + 191) }
+    {
+        Page::with_room(alloc, room_in_steps(0, room))
+    }
+
     // An empty page with room for so many entries.
     pub(crate) fn with_room(alloc: Global, room: usize) -> Result<Page<V>, AllocError>
         ensures { IfOk result (λ p. p ≡ ([], room)) }
@@ -69,6 +135,13 @@ impl<V: Aging> Page<V> {
         ensures { result ≡ length self.now.0 }
     {
         self.entries.len()
+    }
+
+    // How many entries it has places for, in use and free.
+    pub(crate) fn places(&self) -> usize
+        ensures { result ≡ length self.now.0 + self.now.1 }
+    {
+        self.entries.capacity()
     }
 
     // How many more entries fit without memory.
@@ -186,17 +259,18 @@ impl<V: Aging> Page<V> {
         self.summary = self.summary.take_in(&self.entries);
     }
 
-    // Makes room for `n` more entries, and where it is missing for as many as a page may have.
+    // Makes room for `n` more entries. Where it is missing the places become whole steps.
     pub(crate) fn reserve(&mut self, n: usize) -> Result<(), AllocError>
         ensures entries { self.new.0 ≡ self.old.0 }
         ensures room { self.old.1 ≤ self.new.1 }
         ensures made { OnOk result (n ≤ self.new.1) }
+        ensures tight { self.new.1 ≤ max self.old.1 (n + 191) }
     {
         if n <= self.room() {
             return Ok(());
         }
-        let rest = PAGE_MAX.saturating_sub(self.entries.len());
-        self.entries.reserve_exact(n.max(rest))
+        self.entries
+            .reserve_exact(room_in_steps(self.entries.len(), n))
     }
 
     // Adds an entry of a new key in the room that was made for it.
@@ -205,7 +279,7 @@ impl<V: Aging> Page<V> {
         requires absent { find (slice_cmp nat_cmp) key self.old.0 ≡ None }
         requires room { 0 < self.old.1 }
         ensures entries { self.new.0 ≡ put (slice_cmp nat_cmp) key value self.old.0 }
-        ensures room { self.old.1 ≤ self.new.1 + 1 }
+        ensures room { self.old.1 ≡ self.new.1 + 1 }
     {
         match self.search(key.lend().bytes()) {
             Ok(_) => unreachable!(),
@@ -228,44 +302,42 @@ impl<V: Aging + Drop> Page<V> {
     pub(crate) fn push(&mut self, key: Key, value: V) -> Result<(), AllocError>
         ensures entries { self.new.0 ≡ (if is_ok result then self.old.0 ++ (key, value) ∷ [] else self.old.0) }
         ensures places { length self.old.0 + self.old.1 ≤ length self.new.0 + self.new.1 }
+        ensures tight { self.new.1 ≤ max self.old.1 192 }
     {
+        self.reserve(1)?;
         let last = self.entries.len();
         self.summary = self.summary.take_in(&self.entries);
-        self.entries.push((key, value))?;
+        self.entries.push_reserved((key, value));
         self.summary.left_out = Some(last);
         self.summary = self.summary.take_in(&self.entries);
         Ok(())
     }
 
-    // Moves the entries from `at` on to a page of their own with so much room.
-    pub(crate) fn split_off(&mut self, at: usize, room: usize) -> Result<Page<V>, AllocError>
+    // Moves the entries from `at` on to a page of their own. Both get places of their own, with room for `n` more entries.
+    pub(crate) fn split_off(&mut self, at: usize, n: usize) -> Result<Page<V>, AllocError>
         requires { at ≤ length self.old.0 }
         ensures lower { OnOk result (self.new.0 ≡ take at self.old.0) }
+        ensures lower_room { OnOk result (n ≤ self.new.1) }
+        ensures lower_tight { OnOk result (self.new.1 ≤ n + 191) }
         ensures upper { IfOk result (λ u. u.0 ≡ drop at self.old.0) }
-        ensures upper_room { IfOk result (λ u. room ≤ u.1) }
-        ensures room { self.old.1 ≤ self.new.1 }
-        ensures failed { OnErr result (self.new.0 ≡ self.old.0) }
+        ensures upper_room { IfOk result (λ u. n ≤ u.1) }
+        ensures upper_tight { IfOk result (λ u. u.1 ≤ n + 191) }
+        ensures failed { OnErr result (self.new ≡ self.old) }
     {
-        let mut upper = self.entries.split_off(at)?;
-        match upper.reserve_exact(room) {
-            Ok(()) => {
-                self.blank = self.blank.min(at);
-                self.summary = Summary::of(&self.entries);
-                let summary = Summary::of(&upper);
-                Ok(Page {
-                    entries: upper,
-                    blank: 0,
-                    summary,
-                })
-            }
-            Err(error) => {
-                match self.entries.append(&mut upper) {
-                    Ok(()) => {}
-                    Err(_) => unreachable!(),
-                }
-                Err(error)
-            }
-        }
+        let alloc = *self.entries.allocator();
+        let mut lower = vector_for(alloc, at, n)?;
+        let mut upper = vector_for(alloc, self.entries.len() - at, n)?;
+        let entries = mem::replace(&mut self.entries, Vec::new(alloc));
+        deal(entries, at, &mut lower, &mut upper);
+        self.blank = self.blank.min(at);
+        self.summary = Summary::of(&lower);
+        self.entries = lower;
+        let summary = Summary::of(&upper);
+        Ok(Page {
+            entries: upper,
+            blank: 0,
+            summary,
+        })
     }
 }
 

@@ -4,7 +4,7 @@ ghost use Rattle.std.specs.Ordering.{nat_cmp};
 ghost use Rattle.std.specs.Cmp.Lexicographic.{slice_cmp};
 ghost use Rattle.std.specs.FinMap.Entries.{find, put, is_sorted};
 ghost use Rattle.model.specs.Map.{Bytes};
-ghost use Rattle.sorted_pages.specs.Pages.{AreFull, AreLoose, IsCrowded, IsHalved, IsPageWanted, entries, room_at};
+ghost use Rattle.sorted_pages.specs.Pages.{AreFull, AreLoose, IsCrowded, IsHalved, IsPageWanted, StaysTight, entries, places_in, room_at};
 
 use crate::aging::Aging;
 use crate::changing::{self, look_again};
@@ -150,6 +150,7 @@ impl<V: Aging + Drop> SortedPages<V> {
         ensures rooms { (q : Bytes) → room_at q self.old ≤ room_at q self.new }
         ensures made { OnOk result (n ≤ room_at key.entry.bytes.now self.new) }
         ensures known { n ≤ room_at key.entry.bytes.now self.old → IsOk result }
+        ensures tight { StaysTight (n + 191) self.old self.new }
         ensures split { OnOk result (IsCrowded key.entry.bytes.now n self.old → length self.old < length self.new) }
         ensures halved { OnOk result (IsCrowded key.entry.bytes.now n self.old → IsHalved key.entry.bytes.now self.old self.new) }
         ensures one { length self.new ≤ length self.old + 1 }
@@ -164,6 +165,7 @@ impl<V: Aging + Drop> SortedPages<V> {
         requires room { 0 < room_at key self.old }
         ensures entries { entries self.new ≡ put (slice_cmp nat_cmp) key value (entries self.old) }
         ensures rooms { (q : Bytes) → room_at q self.old ≤ room_at q self.new + 1 }
+        ensures tight { StaysTight 0 self.old self.new }
     {
         changing::insert(&mut self.pages, key, value);
     }
@@ -175,6 +177,7 @@ impl<V: Aging + Drop> SortedPages<V> {
         ensures entries { entries self.new ≡ (if is_ok result then entries self.old ++ (key, value) ∷ [] else entries self.old) }
         ensures loose { AreLoose self.old → AreLoose self.new }
         ensures full { AreFull self.old → AreFull self.new }
+        ensures tight { StaysTight 512 self.old self.new }
     {
         changing::push(&mut self.pages, key, value)
     }
@@ -188,6 +191,15 @@ impl<V: Aging> SortedPages<V> {
         ensures { result ≡ length self.now }
     {
         self.pages.len()
+    }
+
+    /// How many entries all pages have places for, in use and free; 2^64 - 1 where there were more. Looks at each page, and takes no memory.
+    pub fn places(&self) -> usize
+        ensures { result ≡ places_in self.now }
+    {
+        self.pages
+            .iter()
+            .fold(0, |sum: usize, page| sum.saturating_add(page.places()))
     }
 
     /// Drops what none of the numbers needs from the key's value, where it has one. Does the value keep something of `number` then?

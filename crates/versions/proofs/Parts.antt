@@ -133,7 +133,7 @@ due-taken bs g (inr none) = elim (is_among bs g.witness) as (λ b. (if b then g.
   | false ↦ omega (arith, none)
 ]
 
-no-versions : {Z : Type 0} (P : Listed → Type 0) (xs : List (Vec Listed Z)) → length xs ≡ 0 → AllByRecursion P (versions_in xs)
+pub no-versions : {Z : Type 0} (P : Listed → Type 0) (xs : List (Vec Listed Z)) → length xs ≡ 0 → AllByRecursion P (versions_in xs)
 no-versions P [] none = tt
 no-versions P (x ∷ xs) none = absurd (omega (arith, none))
 

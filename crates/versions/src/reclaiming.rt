@@ -182,6 +182,9 @@ impl Group {
         ensures witness { self.new.witness ≡ self.old.witness }
         ensures lists { self.new.lists ≤ self.old.lists }
     {
+        if count == 0 {
+            return;
+        }
         let witness = Some(self.witness).filter(|witness| is_among(begins, *witness));
         let mut lists = take_front(&mut self.due, count);
         settle_lists(chains, &mut lists, begins, witness);
@@ -202,6 +205,9 @@ impl Group {
         ensures lists { self.new.lists ≤ self.old.lists }
         ensures truly { IsTrulyMixed begins.now self.new }
     {
+        if self.mixed.is_empty() {
+            return;
+        }
         let alloc = *self.mixed.allocator();
         let mut mixed = mem::replace(&mut self.mixed, LinkedList::new(alloc));
         settle_lists(chains, &mut mixed, begins, None);

@@ -7,7 +7,7 @@ ghost use Rattle.model.specs.Map.{Bytes, KeyMap, IsMap, value_at, pairs_in_range
 ghost use Rattle.model.specs.History.{Record};
 ghost use Rattle.versions.specs.Chains.{IsPrepared, IsReady, HasPlace, HasRoom, IsRoomier, find_chain, added, stamped};
 ghost use Rattle.versions.specs.Meaning.{map_seen, newest_of, kept_of, due_of, groups_of, is_among, IsSameMeaning, IsInstalled, IsReclaimed};
-ghost use Rattle.sorted_pages.specs.Pages.{room_at};
+ghost use Rattle.sorted_pages.specs.Pages.{places_in, room_at};
 ghost use Rattle.std.specs.List.{AllByRecursion};
 ghost use Rattle.versions.specs.Listings.{IsTrulyMixed};
 ghost use Rattle.versions.specs.Lent.{range_pairs};
@@ -113,6 +113,27 @@ impl Versions {
             Some(chain) => chain.len(),
             None => 0,
         }
+    }
+
+    /// In how many groups the older versions stand. Takes no memory.
+    pub fn groups(&self) -> usize
+        ensures { result ≡ groups_of self.now }
+    {
+        self.groups.len()
+    }
+
+    /// In how many pages the keys stand. Takes no memory.
+    pub fn pages(&self) -> usize
+        ensures { result ≡ length self.now.pages }
+    {
+        self.chains.pages()
+    }
+
+    /// How many keys the pages have places for, in use and free; 2^64 - 1 where there were more. Looks at each page, and takes no memory.
+    pub fn places(&self) -> usize
+        ensures { result ≡ places_in self.now.pages }
+    {
+        self.chains.places()
     }
 
     // Makes room for a version in the key's chain, or for `n` new chains where it would stand.

@@ -313,3 +313,38 @@ fn while_large_runs_are_merged(rt: HostRuntime) -> Result<(), Fail> {
     }
     Ok(())
 }
+
+// Forgets what committed up to this number.
+fn forget_upto(committed: &mut Committed, oldest: u64) {
+    if oldest <= committed.last() {
+        committed.forget(oldest);
+    }
+}
+
+/// Runs of written keys stay few while old transactions come and go, and hold three places at most for each of the two keys that a kept
+/// commit wrote; none is left once all are forgotten.
+#[test]
+fn written_keys_stay_in_few_runs(rt: HostRuntime) -> Result<(), Fail> {
+    let mut committed = Committed::new(rt.alloc());
+    for n in 0..2_000u64 {
+        let tx = transaction(
+            rt.alloc(),
+            n,
+            &[(n % 97) as u8],
+            &[(n % 101) as u8, (n % 89) as u8],
+        )?;
+        assert!(rt; commit(&mut committed, &tx) == Ok(Verdict::Clear(false)));
+        if n % 16 == 15 {
+            forget_upto(&mut committed, n / 2);
+        }
+        assert!(rt; committed.runs() <= 24, "after commit {n}");
+        let most = committed.kept().saturating_add(64).saturating_mul(6);
+        assert!(rt; committed.postings() <= most, "after commit {n}");
+    }
+    for _ in 0..100 {
+        forget_upto(&mut committed, 2_000);
+    }
+    assert!(rt; committed.runs() == 0);
+    assert!(rt; committed.postings() == 0);
+    Ok(())
+}

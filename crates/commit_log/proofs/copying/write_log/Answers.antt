@@ -1,5 +1,5 @@
 use Rattle.std.proofs.Common.{◌∙◌, ◌+◌, arith}
-use Rattle.sector.proofs.Moments.{goes_on}
+use Rattle.sector.proofs.Crashes.{of_one_more}
 use Rattle.commit_log.specs.LogImage.{span}
 use Rattle.commit_log.specs.Copying.{write_sets_of, IsCopyStep}
 use Rattle.commit_log.proofs.Putting.{write_sets_are_proper}
@@ -22,7 +22,7 @@ returns-in_err-write-clause-steps g c keeps =
     let synced = after_sync g.D.Sectors (write_sets_of c.args.map.now) c.args.device.now c.write_records.new.device c.sync.new.self records (c.write_records.ensures.alone keeps) (c.sync.ensures.crash keeps) (c.sync.ensures.time keeps) in
     let is = ready g.D.Sectors (write_sets_of c.args.map.now) c.write_records.new.device c.sync.new.self (g.D.Sectors.size c.sync.new.self) (omega (arith, c.requires.room, c.write_records.ensures.size, c.sync.ensures.size)) (c.in_ok-records.ensures.records keeps) (c.in_ok-records.ensures.behind keeps) (c.in_ok-sync.ensures.settles keeps) in
     let head = headed_step g.D.Sectors (write_sets_of c.args.map.now) c.sync.new.self c.write.new.self (g.D.Sectors.may_leave c.args.device.now) (write_sets_are_proper c.args.map.now c.write_records.ensures.is_map c.write_records.ensures.in_bounds) is (c.write.ensures.crash keeps) in
-    goes_on g.D.Sectors.moment g.D.Sectors.left_since c.args.device.now c.sync.new.self c.write.new.self (IsCopyStep (write_sets_of c.args.map.now) (g.D.Sectors.may_leave c.args.device.now)) (g.D.Sectors.may_leave c.write.new.self) synced (c.write.ensures.time keeps) head
+    of_one_more {new = c.write.new.self} synced (c.write.ensures.time keeps) head
 
 pub returns-in_err-sync-2-clause-steps : goal.returns-in_err-sync-2-clause-steps
 returns-in_err-sync-2-clause-steps g c keeps =
@@ -30,8 +30,8 @@ returns-in_err-sync-2-clause-steps g c keeps =
     let synced = after_sync g.D.Sectors (write_sets_of c.args.map.now) c.args.device.now c.write_records.new.device c.sync.new.self records (c.write_records.ensures.alone keeps) (c.sync.ensures.crash keeps) (c.sync.ensures.time keeps) in
     let is = ready g.D.Sectors (write_sets_of c.args.map.now) c.write_records.new.device c.sync.new.self (g.D.Sectors.size c.sync.new.self) (omega (arith, c.requires.room, c.write_records.ensures.size, c.sync.ensures.size)) (c.in_ok-records.ensures.records keeps) (c.in_ok-records.ensures.behind keeps) (c.in_ok-sync.ensures.settles keeps) in
     let head = headed_step g.D.Sectors (write_sets_of c.args.map.now) c.sync.new.self c.write.new.self (g.D.Sectors.may_leave c.args.device.now) (write_sets_are_proper c.args.map.now c.write_records.ensures.is_map c.write_records.ensures.in_bounds) is (c.write.ensures.crash keeps) in
-    let written = goes_on g.D.Sectors.moment g.D.Sectors.left_since c.args.device.now c.sync.new.self c.write.new.self (IsCopyStep (write_sets_of c.args.map.now) (g.D.Sectors.may_leave c.args.device.now)) (g.D.Sectors.may_leave c.write.new.self) synced (c.write.ensures.time keeps) head in
-    goes_on g.D.Sectors.moment g.D.Sectors.left_since c.args.device.now c.write.new.self c.sync-2.new.self (IsCopyStep (write_sets_of c.args.map.now) (g.D.Sectors.may_leave c.args.device.now)) (g.D.Sectors.may_leave c.sync-2.new.self) written (c.sync-2.ensures.time keeps) (λ crash left. head crash (c.sync-2.ensures.crash keeps crash left))
+    let written = of_one_more {new = c.write.new.self} synced (c.write.ensures.time keeps) head in
+    of_one_more {new = c.sync-2.new.self} written (c.sync-2.ensures.time keeps) (λ crash left. head crash (c.sync-2.ensures.crash keeps crash left))
 
 pub returns-clause-steps : goal.returns-clause-steps
 returns-clause-steps g c keeps =
@@ -39,8 +39,8 @@ returns-clause-steps g c keeps =
     let synced = after_sync g.D.Sectors (write_sets_of c.args.map.now) c.args.device.now c.write_records.new.device c.sync.new.self records (c.write_records.ensures.alone keeps) (c.sync.ensures.crash keeps) (c.sync.ensures.time keeps) in
     let is = ready g.D.Sectors (write_sets_of c.args.map.now) c.write_records.new.device c.sync.new.self (g.D.Sectors.size c.sync.new.self) (omega (arith, c.requires.room, c.write_records.ensures.size, c.sync.ensures.size)) (c.in_ok-records.ensures.records keeps) (c.in_ok-records.ensures.behind keeps) (c.in_ok-sync.ensures.settles keeps) in
     let head = headed_step g.D.Sectors (write_sets_of c.args.map.now) c.sync.new.self c.write.new.self (g.D.Sectors.may_leave c.args.device.now) (write_sets_are_proper c.args.map.now c.write_records.ensures.is_map c.write_records.ensures.in_bounds) is (c.write.ensures.crash keeps) in
-    let written = goes_on g.D.Sectors.moment g.D.Sectors.left_since c.args.device.now c.sync.new.self c.write.new.self (IsCopyStep (write_sets_of c.args.map.now) (g.D.Sectors.may_leave c.args.device.now)) (g.D.Sectors.may_leave c.write.new.self) synced (c.write.ensures.time keeps) head in
-    goes_on g.D.Sectors.moment g.D.Sectors.left_since c.args.device.now c.write.new.self c.sync-2.new.self (IsCopyStep (write_sets_of c.args.map.now) (g.D.Sectors.may_leave c.args.device.now)) (g.D.Sectors.may_leave c.sync-2.new.self) written (c.sync-2.ensures.time keeps) (λ crash left. head crash (c.sync-2.ensures.crash keeps crash left))
+    let written = of_one_more {new = c.write.new.self} synced (c.write.ensures.time keeps) head in
+    of_one_more {new = c.sync-2.new.self} written (c.sync-2.ensures.time keeps) (λ crash left. head crash (c.sync-2.ensures.crash keeps crash left))
 
 pub returns-clause-copied : goal.returns-clause-copied
 returns-clause-copied g c keeps =

@@ -5,21 +5,16 @@ use Rattle.commit_log.proofs.pairs.next_payload_len.Goals as goal
 pub unreachable-requires : goal.unreachable-requires
 unreachable-requires c = not_none c.args.pairs.now c.loop-i.pairs c.loop-i.i c.args.count c.loop-i.invariant.rest c.in_default.ensures.steps.0 c.loop-i-test.true c.requires.there
 
-pub overflow_cast-len : goal.overflow_cast-len
-overflow_cast-len c =
+pub entry_len-len-requires : goal.entry_len-len-requires
+entry_len-len-requires c =
     let p = next_pair c.args.pairs.now c.loop-i.i c.loop-i.pairs c.next.new.self (c.in-Some.key.bytes.now, c.in-Some.value.now) c.loop-i.invariant.rest c.in-Some.ensures.steps c.requires.in_bounds in
-    omega (arith, c.bytes.ensures.sized.1, p.value)
-
-pub overflow_add-len-in-loop-i-2 : goal.overflow_add-len-in-loop-i-2
-overflow_add-len-in-loop-i-2 c =
-    let p = next_pair c.args.pairs.now c.loop-i.i c.loop-i.pairs c.next.new.self (c.in-Some.key.bytes.now, c.in-Some.value.now) c.loop-i.invariant.rest c.in-Some.ensures.steps c.requires.in_bounds in
-    omega (arith, c.bytes.ensures.sized.1, p.value, c.loop-i.invariant.bound, c.requires.count, c.loop-i-test.true)
+    p.value
 
 pub loop-i-preserved : goal.loop-i-preserved
 loop-i-preserved c =
     let p = next_pair c.args.pairs.now c.loop-i.i c.loop-i.pairs c.next.new.self (c.in-Some.key.bytes.now, c.in-Some.value.now) c.loop-i.invariant.rest c.in-Some.ensures.steps c.requires.in_bounds in
     record {
-      len = omega (arith, c.loop-i.invariant.len, p.size, ap length c.bytes.ensures.bytes);
+      len = omega (arith, c.loop-i.invariant.len, p.size, c.entry_len-len.ensures.len);
       rest = p.behind;
-      bound = omega (arith, c.bytes.ensures.sized.1, p.value, c.loop-i.invariant.bound);
+      bound = omega (arith, c.loop-i.invariant.bound, c.entry_len-len.ensures.bound);
     }

@@ -1,4 +1,5 @@
-use Rattle.std.proofs.Common.{Result, OnOk, Ok, Err, arith}
+use Rattle.std.proofs.Common.{Result, OnOk, Ok, Err, ◌+◌, arith}
+use Rattle.sorted_pages.proofs.Placings.{tight-then}
 use Rattle.sorted_pages.proofs.changing.divide.Goals as goal
 
 on_ok : {E : Type 0} (r : Result (Unit {0}) E) (P : Type 0) → P → OnOk r P
@@ -13,3 +14,6 @@ returns-clause-halved g c = on_ok c.grow.result _ (λ h.
     let half = c.in_ok-split.ensures.halved h in
     let same = c.grow.ensures.count in
     record { low = λ f. (let l = half.low f in omega arith); high = λ f. (let l = half.high f in omega arith) })
+
+pub returns-clause-tight : goal.returns-clause-tight
+returns-clause-tight g c = tight-then (c.args.n + 191) c.args.pages.now.items c.split.new.pages.items c.grow.new.pages.items c.split.ensures.tight c.grow.ensures.tight

@@ -1,6 +1,6 @@
-use Rattle.std.proofs.Common.{◌≡◌, ℕ, ◌≤◌, List, Result, OnOk, sym, subst, rules}
+use Rattle.std.proofs.Common.{◌≡◌, ℕ, ◌+◌, ◌≤◌, List, Result, OnOk, sym, subst, rules}
 use Rattle.sorted_pages.specs.Pages.{Page, IsPlace}
-use Rattle.sorted_pages.proofs.Placings.{count_grown, grown, room_grown}
+use Rattle.sorted_pages.proofs.Placings.{count_grown, grown, room_grown, tight-set}
 use Rattle.sorted_pages.proofs.changing.grow.Goals as goal
 
 to_room : {E : Type 0} (r : Result (Unit {0}) E) (n m k : ℕ) → m ≡ k → OnOk r (n ≤ k) → OnOk r (n ≤ m)
@@ -20,4 +20,5 @@ returns g c =
       made = to_room c.reserve.result c.args.n _ _ (room_grown ps c.args.key.now i page c.reserve.new.self at here c.reserve.ensures.entries) c.reserve.ensures.made;
       pages = search rules;
       count = count_grown ps c.args.key.now i page c.reserve.new.self at here c.reserve.ensures.entries;
+      tight = tight-set (c.args.n + 191) ps i page c.reserve.new.self here c.reserve.ensures.tight;
     }

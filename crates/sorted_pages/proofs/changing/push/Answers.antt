@@ -1,7 +1,7 @@
 use Rattle.std.proofs.Common.{◌≡◌, ◌+◌, ◌-◌, ◌<◌, ◌≤◌, length, ap, arith}
 use Rattle.std.specs.Prelude.{is_ok}
 use Rattle.sorted_pages.specs.Pages.{Page}
-use Rattle.sorted_pages.proofs.Placings.{all_full, full-set, loose-set, pushed_last, same_at}
+use Rattle.sorted_pages.proofs.Placings.{all_full, full-set, loose-set, pushed_last, same_at, tight-set}
 use Rattle.sorted_pages.proofs.changing.push.Goals as goal
 
 pub returns : goal.returns
@@ -18,6 +18,7 @@ returns g c =
       entries = all.entries;
       loose = loose-set ps (c.args.key, c.args.value) i p c.push.new.self (is_ok c.push.result) c.index_mut.ensures.value c.push.ensures.entries c.push.ensures.places few;
       full = full-set ps i c.push.new.self at;
+      tight = tight-set 512 ps i p c.push.new.self c.index_mut.ensures.value (let few = c.push.ensures.tight in omega arith);
     }
 
 pub returns-then-len-ge-FILL-clause-full : goal.returns-then-len-ge-FILL-clause-full

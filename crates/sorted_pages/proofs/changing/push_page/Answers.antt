@@ -1,7 +1,7 @@
-use Rattle.std.proofs.Common.{List, [], ◌∷◌, ◌++◌, ap, sym, subst, ◌∙◌}
+use Rattle.std.proofs.Common.{List, [], ◌∷◌, ◌++◌, ap, sym, subst, ◌∙◌, arith}
 use Rattle.model.specs.Map.{Bytes}
 use Rattle.sorted_pages.specs.Pages.{Page, AreFull, AreLoose, IsInOrder, entries}
-use Rattle.sorted_pages.proofs.Placings.{full-push, loose-push, pushed_page}
+use Rattle.sorted_pages.proofs.Placings.{full-push, loose-push, pushed_page, tight-push}
 use Rattle.sorted_pages.proofs.changing.push_page.Goals as goal
 
 pub returns-clause-order : goal.returns-clause-order
@@ -23,3 +23,9 @@ returns-clause-loose g c = λ h.
 
 pub returns-clause-full : goal.returns-clause-full
 returns-clause-full g c = λ all full. subst (λ (l : List (Page g.row.V.Denot)). AreFull l) (sym c.in_ok-push-2.ensures.items) (full-push c.args.pages.now.items c.push.new.self all)
+
+pub returns-clause-tight : goal.returns-clause-tight
+returns-clause-tight g c =
+    let few = c.in_ok-push.ensures.tight in
+    let places = ap (λ (p : Page g.row.V.Denot). p.1) c.in_ok-page.ensures in
+    tight-push 512 c.args.pages.now.items c.push-2.new.self.items c.push.new.self c.in_ok-push-2.ensures.items (omega arith)

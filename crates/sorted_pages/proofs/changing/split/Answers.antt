@@ -1,7 +1,7 @@
 use Rattle.std.proofs.Common.{◌≤◌, ◌+◌, List, length, set, refl, ap, sym, subst, arith, rules}
 use Rattle.std.proofs.lemmas.List.{length-set}
-use Rattle.sorted_pages.specs.Pages.{Page, IsPlace, IsInOrder, IsRoomier, count_at}
-use Rattle.sorted_pages.proofs.Placings.{count_of, grown, halved, halves, one_longer, place_within, split}
+use Rattle.sorted_pages.specs.Pages.{Page, IsPlace, IsInOrder, IsRoomier, count_at, room_at}
+use Rattle.sorted_pages.proofs.Placings.{count_of, grown, halved, halves, one_longer, place_within, room_of, split, tight-same, tight-set, tight-split, tight-then}
 use Rattle.sorted_pages.proofs.changing.split.Goals as goal
 
 pub returns-in_err-upper : goal.returns-in_err-upper
@@ -10,10 +10,15 @@ returns-in_err-upper g c =
     let i = c.place-i.result in
     let at = subst (λ (l : List (Page g.row.V.Denot)). IsPlace l c.args.key.now i) c.deref.ensures.value c.place-i.ensures in
     let order = subst (λ (l : List (Page g.row.V.Denot)). IsInOrder l) (sym c.reserve.ensures.items) c.requires.order in
-    let all = grown ps c.args.key.now i c.index_mut-page.result.now c.split_off.new.self at c.index_mut-page.ensures.value order c.in_err-upper.ensures.failed c.split_off.ensures.room in
+    let was = c.index_mut-page.ensures.value in
+    let same = ap (λ (p : Page g.row.V.Denot). p.0) c.in_err-upper.ensures.failed in
+    let room = ap (λ (p : Page g.row.V.Denot). p.1) c.in_err-upper.ensures.failed in
+    let all = grown ps c.args.key.now i c.index_mut-page.result.now c.split_off.new.self at was order same (omega arith) in
     record {
       order = all.order;
       roomier = subst (λ (l : List (Page g.row.V.Denot)). IsRoomier l (set ps i c.split_off.new.self)) c.reserve.ensures.items all.roomier;
+      tight = tight-then (c.args.n + 191) c.args.pages.now.items ps (set ps i c.split_off.new.self) (tight-same (c.args.n + 191) c.args.pages.now.items ps c.reserve.ensures.items)
+          (tight-set (c.args.n + 191) ps i c.index_mut-page.result.now c.split_off.new.self was (omega arith));
       some = search rules;
       one = (let a = ap length c.reserve.ensures.items in let b = length-set ps i c.split_off.new.self in omega arith);
       more = search rules;
@@ -30,12 +35,16 @@ returns g c =
     let at = subst (λ (l : List (Page g.row.V.Denot)). IsPlace l c.args.key.now i) c.deref.ensures.value c.place-i.ensures in
     let order = subst (λ (l : List (Page g.row.V.Denot)). IsInOrder l) (sym c.reserve.ensures.items) c.requires.order in
     let two = halves p.0 lo.0 up.0 c.cut_for-cut.result c.in_ok-upper.ensures.lower c.in_ok-upper.ensures.upper c.cut_for-cut.ensures.within c.if-cut-eq0.false in
-    let more : p.1 ≤ up.1 = (let a = c.in_ok-upper.ensures.upper_room in let b = c.max-needed.ensures in let e = c.max.ensures in let d = c.room.ensures in omega arith) in
-    let all = split ps c.args.key.now i (i + 1) p lo up at c.index_mut-page.ensures.value order refl two.same two.lower two.upper c.split_off.ensures.room more in
+    let was = c.index_mut-page.ensures.value in
+    let short : p.1 ≤ c.args.n = (let a = room_of ps c.args.key.now i p at was in let b = ap (λ (l : List (Page g.row.V.Denot)). room_at c.args.key.now l) c.reserve.ensures.items in let d = c.requires.short in omega arith) in
+    let less : p.1 ≤ lo.1 = (let a = c.in_ok-upper.ensures.lower_room in omega arith) in
+    let more : p.1 ≤ up.1 = (let a = c.in_ok-upper.ensures.upper_room in omega arith) in
+    let all = split ps c.args.key.now i (i + 1) p lo up at was order refl two.same two.lower two.upper less more in
     let lengthened = one_longer c.args.pages.now.items ps c.insert.new.self.items i (i + 1) lo up (sym c.reserve.ensures.items) refl (place_within ps c.args.key.now i at) c.in-Ok.ensures.items in
     record {
       order = subst (λ (l : List (Page g.row.V.Denot)). IsInOrder l) (sym c.in-Ok.ensures.items) all.order;
       roomier = subst (λ (l : List (Page g.row.V.Denot)). IsRoomier l c.insert.new.self.items) c.reserve.ensures.items (subst (λ (l : List (Page g.row.V.Denot)). IsRoomier ps l) (sym c.in-Ok.ensures.items) all.roomier);
+      tight = tight-split (c.args.n + 191) c.args.pages.now.items ps c.insert.new.self.items i (i + 1) p lo up (sym c.reserve.ensures.items) c.in-Ok.ensures.items was c.in_ok-upper.ensures.lower_tight c.in_ok-upper.ensures.upper_tight;
       some = search rules;
       one = (let l = lengthened in omega arith);
       more = λ h. (let l = lengthened in omega arith);

@@ -1,5 +1,4 @@
 use Rattle.std.proofs.Common.{◌≡◌, ◌≤◌, ◌∙◌, ◌*◌, length, ap, refl, arith}
-use Rattle.sector.proofs.Moments.{left_now}
 use Rattle.model.specs.Bounds.{value_max, payload_bound}
 use Rattle.commit_log.specs.Format.{current}
 use Rattle.commit_log.specs.RecordFormat.{sectors_of, payload_bytes}
@@ -56,17 +55,17 @@ returns-clause-any_moment g c keeps lists stands =
 
 pub returns-in-Err-clause-left : goal.returns-in-Err-clause-left
 returns-in-Err-clause-left g c keeps lists stands =
-    left_now g.D.Sectors.moment g.D.Sectors.left_since c.args.self.now.device c.write_record.new.device _ (g.D.Sectors.may_leave c.write_record.new.device)
-    (c.write_record.ensures.any_moment keeps lists c.args.writes.now
-    (next_record _ lists c.args.writes.now _ _ stands c.requires.proper c.in_ok-body.ensures.body c.in_ok-body.ensures.sectors c.deref.ensures.value) stands.left)
-    (g.met.D.Sectors.counts_now keeps c.write_record.new.device)
+    let run =
+    c.write_record.ensures.any_moment keeps lists c.args.writes.now
+    (next_record _ lists c.args.writes.now _ _ stands c.requires.proper c.in_ok-body.ensures.body c.in_ok-body.ensures.sectors c.deref.ensures.value) stands.left in
+    λ crash left. run.each crash (g.met.D.Sectors.counts_now keeps c.write_record.new.device (g.D.Sectors.moment c.args.self.now.device) crash run.later left)
 
 pub returns-clause-left : goal.returns-clause-left
 returns-clause-left g c keeps lists stands =
-    left_now g.D.Sectors.moment g.D.Sectors.left_since c.args.self.now.device c.write_record.new.device _ (g.D.Sectors.may_leave c.write_record.new.device)
-    (c.write_record.ensures.any_moment keeps lists c.args.writes.now
-    (next_record _ lists c.args.writes.now _ _ stands c.requires.proper c.in_ok-body.ensures.body c.in_ok-body.ensures.sectors c.deref.ensures.value) stands.left)
-    (g.met.D.Sectors.counts_now keeps c.write_record.new.device)
+    let run =
+    c.write_record.ensures.any_moment keeps lists c.args.writes.now
+    (next_record _ lists c.args.writes.now _ _ stands c.requires.proper c.in_ok-body.ensures.body c.in_ok-body.ensures.sectors c.deref.ensures.value) stands.left in
+    λ crash left. run.each crash (g.met.D.Sectors.counts_now keeps c.write_record.new.device (g.D.Sectors.moment c.args.self.now.device) crash run.later left)
 
 pub returns-clause-used : goal.returns-clause-used
 returns-clause-used g c =

@@ -11,12 +11,12 @@ take_in-self-inside-requires-2 g c =
     let es = c.self.inside.entries.items in
     let s = c.take_in-self-inside.result in
     let long : c.len-last.result ≡ length es = (let w = c.self.inside.entries.ok.0 in omega arith) in
-    pushed_but g.V.Aging.hides g.V.Aging.shows es c.deref-2.result.now c.len-last.result (c.args.key, c.args.value) s _ (c.deref-2.ensures.value ∙ c.in_ok-push.ensures.items) long refl refl refl refl
+    pushed_but g.V.Aging.hides g.V.Aging.shows es c.deref-2.result.now c.len-last.result (c.args.key, c.args.value) s _ (c.deref-2.ensures.value ∙ c.push_reserved.ensures.items) long refl refl refl refl
     (subst (λ (l : List (Bytes × g.row.V.Denot)). IsSummary g.V.Aging.hides g.V.Aging.shows l s) c.deref.ensures.value c.take_in-self-inside.ensures.summary)
 
-pub invariant_of-self-2 : goal.invariant_of-self-2
-invariant_of-self-2 g c =
+pub invariant_of-self : goal.invariant_of-self
+invariant_of-self g c =
     let s = c.take_in-self-inside-2.result in (
-      subst (λ (l : List (Bytes × g.row.V.Denot)). IsBlankTo g.V.Aging.hides l c.self.inside.blank) (sym c.in_ok-push.ensures.items) (blank-push g.V.Aging.hides c.self.inside.entries.items c.self.inside.blank _ c.self.invariant.0),
-      but_none g.V.Aging.hides g.V.Aging.shows c.push.new.self.items s c.take_in-self-inside-2.ensures.whole (subst (λ (l : List (Bytes × g.row.V.Denot)). IsSummary g.V.Aging.hides g.V.Aging.shows l s) c.deref-2.ensures.value c.take_in-self-inside-2.ensures.summary),
+      subst (λ (l : List (Bytes × g.row.V.Denot)). IsBlankTo g.V.Aging.hides l c.self.inside.blank) (sym c.push_reserved.ensures.items) (blank-push g.V.Aging.hides c.self.inside.entries.items c.self.inside.blank _ c.self.invariant.0),
+      but_none g.V.Aging.hides g.V.Aging.shows c.push_reserved.new.self.items s c.take_in-self-inside-2.ensures.whole (subst (λ (l : List (Bytes × g.row.V.Denot)). IsSummary g.V.Aging.hides g.V.Aging.shows l s) c.deref-2.ensures.value c.take_in-self-inside-2.ensures.summary),
     )

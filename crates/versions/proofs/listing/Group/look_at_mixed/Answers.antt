@@ -3,7 +3,8 @@ use Rattle.std.specs.List.{AllByRecursion}
 use Rattle.sorted_pages.specs.Pages.{entries}
 use Rattle.versions.specs.Groups.{GroupValue, Listed}
 use Rattle.versions.specs.Listings.{AreKept, IsSettled, IsTakenIn, versions_in}
-use Rattle.versions.proofs.Parts.{due-taken, kept-put_back, parts-settled}
+use Rattle.std.proofs.lemmas.Bool.{eqb-true}
+use Rattle.versions.proofs.Parts.{due-taken, kept-put_back, no-versions, parts-settled}
 use Rattle.versions.proofs.listing.Group.look_at_mixed.Goals as goal
 
 pub returns-clause-left : goal.returns-clause-left
@@ -26,3 +27,13 @@ returns-clause-settled c = λ none.
     c.keep.ensures.settled es
     (parts-settled bs es c.self.inside.witness c.self.inside.lists c.self.inside.due c.replace-mixed.new.dest held c.self.invariant.0 no_due (subst (λ (l : List Listed). AllByRecursion (IsSettled bs es) l) (sym empty) tt))
     c.settle_lists.ensures.settled
+
+pub returns-then-is_empty-clause-settled : goal.returns-then-is_empty-clause-settled
+returns-then-is_empty-clause-settled c = λ none.
+    let bs = c.args.begins.now in
+    let es = entries c.args.chains.now in
+    let held = subst (IsTakenIn bs) (sym c.self.view_is) c.requires.taken_in in
+    let no_due = ap (λ (g : GroupValue). g.due) c.self.view_is ∙ sym (due-taken bs c.args.self.now c.requires.taken_in) ∙ none in
+    let mixed = no-versions (IsSettled bs es) c.self.inside.mixed (eqb-true _ _ (sym c.if-is_empty.ensures)) in
+    subst (λ (g : GroupValue). AllByRecursion (IsSettled bs es) g.versions) c.self.view_is
+    (parts-settled bs es c.self.inside.witness c.self.inside.lists c.self.inside.due c.self.inside.mixed held c.self.invariant.0 no_due mixed)

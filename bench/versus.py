@@ -1,0 +1,180 @@
+#!/usr/bin/env python3
+"""Compares two built programs of ssikvd, request by request: has one that was fast become slower?
+
+    bench/versus.py OLD NEW                    # processor time, in alternating slices: five minutes
+    bench/versus.py OLD NEW --instructions     # the instructions that each request takes; needs valgrind, and tells the same on a busy machine
+
+A row is one kind of transaction. Its first form measures the processor time of both servers under the same load, in rounds of one slice each, and
+gives the median of the rounds' ratios with the middle half of them: above 1, the new program takes more. The data files are in memory, so no disk
+is involved. The second runs each server under callgrind, sends a few hundred transactions over one connection, then as many again and twice as many, and counts
+what the last ones took. The system's calls are not in it.
+"""
+
+import argparse
+import contextlib
+import os
+import re
+import signal
+import statistics
+import subprocess
+import sys
+import tempfile
+
+from beside import BEGIN, PING, connect, exchange, frame
+from run import Load, counted, quartile
+from servers import HERE, Failure, Listening, Ssikvd, run
+
+KINDS = [("PING", "ping", 1, False), ("PING", "ping", 16, False), ("32 PINGs sent at once", "pings", 1, False),
+         ("BEGIN, 4 GET, COMMIT", "read", 16, False), ("BEGIN, 4 GET, COMMIT, sent at once", "read", 16, True),
+         ("BEGIN, RANGE of 64, COMMIT, sent at once", "range", 16, True), ("BEGIN, SET, COMMIT", "write", 16, False),
+         ("BEGIN, SET, COMMIT, sent at once", "write", 1, True), ("BEGIN, GET, SET of one of 16 keys, COMMIT", "hot", 16, False)]
+KEYS, VALUE_BYTES, SECTORS = 10_000, 100, 4_194_303
+# Under callgrind: how many transactions are sent before those that count, and how many count.
+WARM, COUNTED = 200, 400
+
+
+def processor_us(slice_of):
+    return 1e6 * slice_of["processor_seconds"] / max(slice_of["committed"], 1)
+
+
+def timed_row(options, kind, old, new):
+    """The processor time of both for a transaction, and the ratios of the rounds."""
+    what, work, connections, at_once = kind
+    load = Load(options, work, connections, at_once)
+    times = {old: [], new: []}
+    for number in range(options.rounds):
+        for server in (old, new) if number % 2 == 0 else (new, old):
+            times[server].append(processor_us(load.measure(server, options.seconds)))
+    ratios = [mine / max(other, 1e-9) for mine, other in zip(times[new], times[old])]
+    middle_half = f"{quartile(ratios, 1):.2f} to {quartile(ratios, 3):.2f}"
+    both = [f"{statistics.median(times[it]):.2f}" for it in (old, new)]
+    return [f"{what}, {counted(connections)}", *both, f"**{quartile(ratios, 2):.2f}**", middle_half]
+
+
+def timed_rows(options):
+    options.keys, options.value_bytes = KEYS, VALUE_BYTES
+    with contextlib.ExitStack() as stack:
+        old, new = (stack.enter_context(Ssikvd(it, options.folder, SECTORS)) for it in (options.old, options.new))
+        for server in (old, new):
+            Load(options, "fill", 1).measure(server, 0)
+        for kind in KINDS:
+            yield timed_row(options, kind, old, new)
+
+
+class Counting(Listening):
+    """The server under callgrind."""
+
+    def __init__(self, program, folder, name):
+        self.figures = os.path.join(folder, name)
+        data = self.figures + ".data"
+        run([program, "create", "--data", data, "--sectors", "65536"])
+        words = ["valgrind", "--tool=callgrind", f"--callgrind-out-file={self.figures}", program, "serve", "--data", data, "--listen", "127.0.0.1:0"]
+        super().__init__(words, stop_signal=signal.SIGINT, stderr=subprocess.DEVNULL)
+        self.dumps = 0
+
+    def instructions(self):
+        """Those since the last call."""
+        self.dumps += 1
+        run(["callgrind_control", "--dump", str(self.process.pid)])
+        with open(f"{self.figures}.{self.dumps}") as file:
+            return int(re.search(r"^(?:summary|totals): (\d+)", file.read(), re.MULTILINE).group(1))
+
+
+def requests_of(work, number):
+    """The requests of one transaction."""
+    key = b"k%08d"
+    if work in ("ping", "pings"):
+        return [PING] * (32 if work == "pings" else 1)
+    if work == "read":
+        body = [frame(b"GET", key % (97 * (4 * number + i) % KEYS)) for i in range(4)]
+    elif work == "range":
+        body = [frame(b"RANGE", key % (97 * number % (KEYS - 64)), b"", b"64")]
+    elif work == "hot":
+        body = [frame(b"GET", key % (number % 16)), frame(b"SET", key % (number % 16), b"v" * VALUE_BYTES)]
+    else:
+        body = [frame(b"SET", key % (97 * number % KEYS), b"v" * VALUE_BYTES)]
+    return [BEGIN, *body, frame(b"COMMIT")]
+
+
+def reply_ends(connection):
+    """Reads one reply."""
+    came = connection.readline()
+    if came[:1] == b"$" and came != b"$-1\r\n":
+        connection.read(int(came[1:]) + 2)
+    elif came[:1] == b"*":
+        for _ in range(int(came[1:])):
+            reply_ends(connection)
+    elif came[:1] not in (b"+", b":", b"$"):
+        raise Failure(f"the reply was {came!r}")
+
+
+def send_all(connection, replies, kind, numbers):
+    _, work, _, at_once = kind
+    for number in numbers:
+        requests = requests_of(work, number)
+        pieces = [b"".join(requests)] if at_once or work == "pings" else requests
+        for piece in pieces:
+            connection.sendall(piece)
+            for _ in range(len(requests) if len(pieces) == 1 else 1):
+                reply_ends(replies)
+
+
+def fill(connection):
+    keys = [b"k%08d" % number for number in range(KEYS)]
+    for start in range(0, KEYS, 50):
+        part = keys[start:start + 50]
+        batch = BEGIN + b"".join(frame(b"SET", key, b"v" * VALUE_BYTES) for key in part) + frame(b"COMMIT")
+        number = start // 50 + 1
+        if not exchange(connection, batch, 5 + 5 * len(part) + len(b":%d\r\n" % number)).endswith(b":%d\r\n" % number):
+            raise Failure("a commit of the first keys was refused")
+
+
+def counted_instructions(program, folder, name):
+    """What a transaction of each kind takes, over one connection."""
+    with Counting(program, folder, name) as server, connect(server.address) as connection, connection.makefile("rb") as replies:
+        connection.settimeout(120)
+        fill(connection)
+        for kind in KINDS:
+            send_all(connection, replies, kind, range(WARM))
+            server.instructions()
+            send_all(connection, replies, kind, range(WARM, WARM + COUNTED))
+            yield server.instructions() / COUNTED
+
+
+def instruction_rows(options):
+    both = [list(counted_instructions(program, options.folder, name)) for program, name in ((options.old, "old"), (options.new, "new"))]
+    for (what, _, connections, _), old, new in zip(KINDS, *both):
+        if connections == 1 or (what, 1) not in {(it[0], it[2]) for it in KINDS}:
+            yield [f"{what}, 1 connection", f"{old:,.0f}", f"{new:,.0f}", f"**{new / old:.2f}**"]
+
+
+def print_table(heads, rows):
+    print("| " + " | ".join(heads) + " |\n|" + "---|" * len(heads), flush=True)
+    for row in rows:
+        print("| " + " | ".join(row) + " |", flush=True)
+
+
+def main():
+    parser = argparse.ArgumentParser(description=__doc__, formatter_class=argparse.RawDescriptionHelpFormatter)
+    parser.add_argument("old")
+    parser.add_argument("new")
+    parser.add_argument("--instructions", action="store_true", help="count instructions in place of time")
+    parser.add_argument("--rounds", type=int, default=15)
+    parser.add_argument("--seconds", type=float, default=0.5)
+    parser.add_argument("--threads", type=int, default=2, help="threads of the load generator")
+    options = parser.parse_args()
+    options.old, options.new = map(os.path.abspath, (options.old, options.new))
+    with tempfile.TemporaryDirectory(prefix="ssikvd-versus-", dir="/dev/shm") as options.folder:
+        print(f"Load before: {os.getloadavg()[0]:.1f}.\n")
+        if options.instructions:
+            print_table(["What", "Old: instructions", "New: instructions", "Ratio"], instruction_rows(options))
+        else:
+            run(["make", "-s", "-C", HERE, "all"])
+            print_table(["What", "Old: us", "New: us", "Ratio", "Middle half"], timed_rows(options))
+
+
+if __name__ == "__main__":
+    try:
+        main()
+    except Failure as failure:
+        sys.exit(f"versus.py: {failure}")

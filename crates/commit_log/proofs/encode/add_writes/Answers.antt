@@ -1,0 +1,41 @@
+use Rattle.std.proofs.Common.{◌≡◌, ◌++◌, ◌∙◌, ◌+◌, List, ℕ, Option, IfSome, length, ap, sym, subst, arith, append_assoc, length-append}
+use Rattle.std.specs.Prelude.{option_copied}
+use Rattle.std.specs.List.{flat_map}
+use Rattle.std.proofs.lemmas.List.{take_all}
+use Rattle.model.specs.Key.{IsValue}
+use Rattle.model.specs.Map.{KeyWrite}
+use Rattle.model.specs.Machine.{write_size}
+use Rattle.commit_log.specs.RecordFormat.{entry_bytes}
+use Rattle.commit_log.proofs.Encoding.{entries-more, entry_size, payload_size-more, payload_size_le}
+use Rattle.commit_log.proofs.encode.add_writes.Goals as goal
+
+pub add_entry-requires-clause-value : goal.add_entry-requires-clause-value
+add_entry-requires-clause-value c = subst (λ (o : Option (List ℕ)). IfSome o IsValue) (sym c.value.ensures.value) c.value.ensures.bound
+
+pub add_entry-requires-clause-room : goal.add_entry-requires-clause-room
+add_entry-requires-clause-room c =
+    let size : write_size c.lend_key.result.bytes.now (option_copied c.value.result) ≡ write_size c.write-item.result.0 c.write-item.result.1 = λ i. write_size (c.lend_key.ensures i) (c.value.ensures.value i) in
+    omega (arith, size, c.loop-write.invariant.len, c.loop-write.invariant.capacity, c.requires, payload_size-more c.args.writes.now c.loop-write.write-index c.write-item.result c.write-item.is c.loop-write-test.true, payload_size_le c.args.writes.now (c.loop-write.write-index + 1))
+
+pub loop-write-preserved : goal.loop-write-preserved
+loop-write-preserved c =
+    let added : c.add_entry.new.body.items ≡ c.loop-write.body.items ++ entry_bytes c.write-item.result =
+    c.add_entry.ensures.items ∙ (λ i. c.loop-write.body.items ++ entry_bytes (c.lend_key.ensures i, c.value.ensures.value i)) in
+    record {
+      items = added ∙ ap (λ (l : List ℕ). l ++ entry_bytes c.write-item.result) c.loop-write.invariant.items ∙ append_assoc c.args.body.now.items _ (entry_bytes c.write-item.result)
+          ∙ ap (λ (l : List ℕ). c.args.body.now.items ++ l) (sym (entries-more c.args.writes.now c.loop-write.write-index c.write-item.result c.write-item.is c.loop-write-test.true));
+      len = omega (
+        arith,
+        c.add_entry.new.body.ok.0,
+        c.loop-write.body.ok.0,
+        ap length added,
+        length-append c.loop-write.body.items (entry_bytes c.write-item.result),
+        entry_size c.write-item.result,
+        c.loop-write.invariant.len,
+        payload_size-more c.args.writes.now c.loop-write.write-index c.write-item.result c.write-item.is c.loop-write-test.true,
+      );
+      capacity = omega (arith, c.loop-write.invariant.capacity, c.add_entry.ensures.capacity);
+    }
+
+pub returns-clause-items : goal.returns-clause-items
+returns-clause-items c = c.loop-write.invariant.items ∙ ap (λ (ws : List KeyWrite). c.args.body.now.items ++ flat_map entry_bytes ws) (take_all c.loop-write.write-index c.args.writes.now c.loop-write-test.false)

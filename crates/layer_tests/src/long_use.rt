@@ -1,0 +1,82 @@
+//! Versions in long use: their pages, the places of these and the groups of older versions stay few.
+ghost use Rattle.std.specs.Prelude.{◌≡◌, ◌^◌, ◌<◌, OnOk};
+
+use crate::helpers::key;
+use model::{Key, Map, Memory, Write};
+use std::alloc::Global;
+use std::test::Fail;
+use versions::Versions;
+
+// How many commits there are in each test.
+const COMMITS: u64 = 3_000;
+
+// How many keys there are.
+const KEYS: u64 = 1_201;
+
+// The bytes of one of the keys, in an order that looks random.
+fn scattered(number: u64) -> [u8; 2] {
+    let place = number % KEYS * 487 % KEYS;
+    [(place / 256) as u8, (place % 256) as u8]
+}
+
+// Writes a key of this number, or deletes it.
+fn commit(alloc: Global, versions: &mut Versions, n: u64) -> Result<(), Memory>
+    requires above { versions.old.last < n }
+    requires fits { n < 2 ^ 63 }
+    ensures { OnOk result (versions.new.last ≡ n) }
+{
+    let value = if n % 5 == 0 {
+        None
+    } else {
+        Some(Vec::from_slice(alloc, b"1")?)
+    };
+    let bytes = scattered(n);
+    let mut writes = Vec::new(alloc);
+    writes.push(Write::new(Key::from_ref(alloc, key(&bytes))?, value))?;
+    versions.prepare(&writes)?;
+    versions.install(n, writes);
+    Ok(())
+}
+
+// Ends the old transaction at one of the places, and has another begin.
+fn renew(begins: &mut [u64; 4], n: u64) {
+    begins[0] = n;
+    if n % 7 == 0 {
+        begins[1] = n;
+    }
+    if n % 50 == 0 {
+        begins[2] = n;
+    }
+    if n % 400 == 0 {
+        begins[3] = n;
+    }
+}
+
+// Are the pages few, each of 288 keys at least and of 576 at most, and have they places for half as many keys more at most?
+fn are_small(versions: &Versions, keys: usize) -> bool {
+    let pages = versions.pages().saturating_mul(288);
+    let few = pages <= keys || versions.pages() <= 1;
+    let split = keys <= pages.saturating_mul(2);
+    let places = versions.places().saturating_mul(2);
+    few && split && (keys < 384 || places <= keys.saturating_mul(3))
+}
+
+/// Random keys are written, and deleted, while old transactions come and go.
+#[test]
+fn pages_places_and_groups_stay_few(rt: HostRuntime) -> Result<(), Fail> {
+    let mut versions = Versions::from_map(rt.alloc(), Map::new(rt.alloc()))?;
+    let mut begins = [0; 4];
+    for n in 1..COMMITS {
+        commit(rt.alloc(), &mut versions, n)?;
+        renew(&mut begins, n);
+        versions.reclaim(&begins);
+        assert!(rt; versions.groups() <= 5, "after commit {n}");
+        let keys = n.min(KEYS) as usize;
+        assert!(rt; are_small(&versions, keys), "after commit {n}");
+    }
+    for _step in 0..COMMITS {
+        versions.reclaim(&[]);
+    }
+    assert!(rt; versions.groups() <= 1);
+    Ok(())
+}
