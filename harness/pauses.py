@@ -1,8 +1,9 @@
 """For how long `serve` looks at nobody else: the longest processor time between two polls, in the scenes of bench/pauses.py, each below its bound.
 
-The processor time is that of the server's thread alone, so other work of the machine is hardly in it. `polls.c` takes it. The bounds are more
-than six times the longest of three runs over 10,000 keys on a busy machine. The judge is shown to fail: by a figure above each bound, and by a server that
-wastes more in one turn than any bound allows.
+The processor time is that of the server's thread alone, so other work of the machine is hardly in it. `polls.c` takes it. A virtual machine counts
+as processor time what its host took away meanwhile, once 29 ms in a turn of under one, and that can only add: so a scene that is above a bound runs
+again, and each part is judged by the least of up to three runs. The bounds are more than six times the longest of three runs over 10,000 keys on a busy
+machine. The judge is shown to fail: by a figure above each bound, and by a server that wastes more in one turn than any bound allows.
 """
 import argparse
 import os
@@ -16,6 +17,7 @@ import pause_scenes     # noqa: E402
 
 LIBRARY = os.path.join(HERE, "out", "polls.so")
 KEYS, SECONDS, BEHIND_SECONDS = 10_000, 0.2, 0.02
+TRIES = 3
 
 # Of each part of a scene, in milliseconds of the processor.
 BOUNDS_MS = {
@@ -61,12 +63,23 @@ def parts(scene, wasted_ms=0):
         raise Deviation(f"{scene}: {failure}") from None
 
 
+def least_parts(scene, wasted_ms=0):
+    """The same, with the least of up to three runs, which end once all parts are below their bounds."""
+    least = {}
+    for _ in range(TRIES):
+        for what, took_ms in parts(scene, wasted_ms):
+            least[what] = min(took_ms, least.get(what, took_ms))
+        if not any(is_refused(what, took_ms) for what, took_ms in least.items()):
+            break
+    return least.items()
+
+
 def scenes(tally):
     """Each scene below its bounds. Which parts there were, and of the longest its part of the bound."""
     seen = {}
     for scene in pause_scenes.SCENES:
         with tally.run(scene):
-            for what, took_ms in parts(scene):
+            for what, took_ms in least_parts(scene):
                 seen[what] = took_ms / BOUNDS_MS[what]
                 judge(what, took_ms)
     return seen
@@ -79,7 +92,7 @@ def judged(tally, seen):
         expect(all(is_refused(what, 1.001 * bound) for what, bound in BOUNDS_MS.items()), "a figure above its bound is taken")
     with tally.run("a server that wastes time"):
         wasted_ms = 1 + max(BOUNDS_MS.values())
-        for what, took_ms in parts("quiet", wasted_ms):
+        for what, took_ms in least_parts("quiet", wasted_ms):
             expect(took_ms >= wasted_ms and is_refused(what, took_ms), f"it wasted {wasted_ms} ms, and {took_ms} ms were seen")
 
 

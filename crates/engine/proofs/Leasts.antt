@@ -1,7 +1,7 @@
 -- The least so far, and one more.
 use Rattle.std.proofs.lemmas.Grind.{common_steps}
 use Rattle.std.proofs.Common.{◌≡◌, ◌≤◌, ◌<◌, ◌++◌, ℕ, List, [], ◌∷◌, arith, refl}
-use Rattle.std.specs.Prelude.{All, Contains}
+use Rattle.std.specs.Prelude.{All, Contains, min}
 use Rattle.std.proofs.Common.{map, ap, sym, ◌∙◌, append_assoc}
 use Rattle.std.proofs.lemmas.List.Elements.{All-push, All-weaker, All-contains, Contains-append_right, Contains-append_left, All-contains_itself}
 use Rattle.engine.specs.Least.{IsLeast}
@@ -12,14 +12,11 @@ last_has P xs x h = All-contains P (xs ++ x ∷ []) x h (Contains-append_right x
 front_has : {X : Type 0} (P : X → Type 0) (xs : List X) (x : X) → All P (xs ++ x ∷ []) → All P xs
 front_has P xs x h = All-weaker (Contains xs) P (λ y c. All-contains P (xs ++ x ∷ []) y h (Contains-append_left xs (x ∷ []) y c)) xs (All-contains_itself xs)
 
-pub least_less : {X : Type 0} (b : X → ℕ) (last : ℕ) (xs : List X) (n : ℕ) (x : X) → b x < n → IsLeast b last xs n → IsLeast b last (xs ++ x ∷ []) (b x)
-least_less b last xs n x h i = grind (arith, common_steps, last_has)
-
-pub least_same : {X : Type 0} (b : X → ℕ) (last : ℕ) (xs : List X) (n : ℕ) (x : X) → n ≤ b x → IsLeast b last xs n → IsLeast b last (xs ++ x ∷ []) n
-least_same b last xs n x h i = record {
-  below_last = i.below_last;
-  below = All-push (λ y. n ≤ b y) xs x i.below h;
-  greatest = λ k l a. i.greatest k l (front_has (λ y. k ≤ b y) xs x a);
+pub least_min : {X : Type 0} (b : X → ℕ) (last : ℕ) (xs : List X) (n : ℕ) (x : X) → IsLeast b last xs n → IsLeast b last (xs ++ x ∷ []) (min n (b x))
+least_min b last xs n x i = record {
+  below_last = omega (arith, i.below_last);
+  below = All-push (λ y. min n (b x) ≤ b y) xs x (All-weaker (λ y. n ≤ b y) (λ y. min n (b x) ≤ b y) (λ y h. omega (arith, h)) xs i.below) (omega arith);
+  greatest = λ k l a. (let f = i.greatest k l (front_has (λ y. k ≤ b y) xs x a) in let g = last_has (λ y. k ≤ b y) xs x a in omega (arith, f, g));
 }
 
 pub map_push : {X Y : Type 0} (f : X → Y) (xs : List X) (x : X) → map f (xs ++ x ∷ []) ≡ map f xs ++ f x ∷ []

@@ -3,7 +3,7 @@ ghost use Rattle.model.specs.Bounds.{value_max};
 
 use crate::faults::EngineFault;
 use crate::history::History;
-use crate::reclaiming::{begins, oldest_begin};
+use crate::reclaiming::{Gathered, gather_begins};
 use commit_log::Log;
 use model::{KeyRef, Refusal, machine_is_serializable};
 use sector::Sectors;
@@ -142,7 +142,7 @@ impl<D: Sectors> Engine<D> {
     /// all of that is gone.
     ///
     /// What each commit replaced is a list. One is due once no open transaction began with the number under which it stands, and a call
-    /// looks at 4 of those that are due. What was kept to check later commits stands in runs, and a call gives back 1,024 written keys and
+    /// looks at 3 of those that are due. What was kept to check later commits stands in runs, and a call gives back 1,024 written keys and
     /// as many steps of last readers of those that are wholly old. Takes no memory.
     pub fn reclaim(&mut self) -> bool
         ensures keeps { (m : State) → StandsFor self.old m → StandsFor self.new m }
@@ -153,9 +153,9 @@ impl<D: Sectors> Engine<D> {
         ensures device { device_of self.new ≡ device_of self.old }
         ensures stopped { is_stopped self.new ≡ is_stopped self.old }
     {
-        let oldest = oldest_begin(&self.running, self.history.committed().last());
+        let last = self.history.committed().last();
         let mut numbers = [0; OPEN_MAX];
-        let count = begins(&self.running, &mut numbers);
+        let Gathered { count, oldest } = gather_begins(&self.running, last, &mut numbers);
         self.history.reclaim(&numbers[..count], oldest)
     }
 

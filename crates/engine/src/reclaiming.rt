@@ -7,33 +7,31 @@ use crate::engine::OPEN_MAX;
 use snapshot::Transaction;
 use std::collections::BTreeMap;
 
-// The least begin number, or the last commit number where none is less.
-pub(crate) fn oldest_begin(running: &BTreeMap<u64, Transaction>, last: u64) -> u64
-    ensures { IsLeast (λ t. t.begin) last (values running.now) result }
+/// How many transactions are open, and the least of their begin numbers, or the last commit number where none is less.
+pub(crate) struct Gathered {
+    pub(crate) count: usize,
+    pub(crate) oldest: u64,
+}
+
+// Puts the begin numbers of the open transactions, of which there are 64 at most, into the front of `numbers`.
+pub(crate) fn gather_begins(
+    running: &BTreeMap<u64, Transaction>,
+    last: u64,
+    numbers: &mut [u64; OPEN_MAX],
+) -> Gathered
+    ensures count { result.count ≤ 64 }
+    ensures oldest { IsLeast (λ t. t.begin) last (values running.now) result.oldest }
+    ensures numbers { length running.now.entries ≤ 64 → take result.count numbers.new ≡ map (λ t. t.begin) (values running.now) }
 {
+    let mut count = 0;
     let mut oldest = last;
     for transaction in running.values() {
         let begin = transaction.begin();
-        if begin < oldest {
-            oldest = begin;
+        oldest = oldest.min(begin);
+        if count < OPEN_MAX {
+            numbers[count] = begin;
+            count += 1;
         }
     }
-    oldest
-}
-
-// Puts the begin numbers of the open transactions, of which there are 64 at most, into the front of `numbers`, and answers how many
-// they are.
-pub(crate) fn begins(running: &BTreeMap<u64, Transaction>, numbers: &mut [u64; OPEN_MAX]) -> usize
-    ensures count { result ≤ 64 }
-    ensures numbers { length running.now.entries ≤ 64 → take result numbers.new ≡ map (λ t. t.begin) (values running.now) }
-{
-    let mut count = 0;
-    for transaction in running.values() {
-        if count == OPEN_MAX {
-            return count;
-        }
-        numbers[count] = transaction.begin();
-        count += 1;
-    }
-    count
+    Gathered { count, oldest }
 }

@@ -164,6 +164,9 @@ impl Run {
         ensures most { result ≤ most }
         ensures two { deque_len self.old.first + deque_len self.old.second ≤ deque_len self.new.first + deque_len self.new.second + 2 * (most - result) }
     {
+        if self.is_at_rest() && self.first.capacity() == 0 && self.second.capacity() == 0 {
+            return most;
+        }
         let left = self.move_steps(oldest, most);
         if left > 0 {
             self.give_back();

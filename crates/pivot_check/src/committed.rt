@@ -146,6 +146,9 @@ impl Committed {
     fn answer(&self, tx: &Transaction) -> Verdict
         ensures { result ≡ answer_found self.now.facts tx.now }
     {
+        if self.runs.is_empty() {
+            return Verdict::Clear(false);
+        }
         let begin = tx.begin();
         let order = ByStart::of(tx.marks().held());
         let Some(target) = least_covered(&self.runs, &order, begin, false) else {

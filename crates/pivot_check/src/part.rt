@@ -225,6 +225,9 @@ impl Part {
     ) -> Option<u64>
         ensures { result ≡ lesser found (least (covered_of (marks_of order.now.marks.now) begin flagged) (drop self.now.start self.now.written.items)) }
     {
+        if !self.may_lower(found, begin, flagged) {
+            return found;
+        }
         let mut looked = Looked {
             found,
             seen: Span { first: 0, end: 0 },

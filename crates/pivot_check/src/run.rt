@@ -181,6 +181,9 @@ impl Run {
         ensures whole { left self.new.first + left self.new.second + left self.new.made ≡ left self.old.first + left self.old.second + left self.old.made }
         ensures most { result ≤ most }
     {
+        if self.first.written.is_empty() && self.second.written.is_empty() {
+            return most;
+        }
         let rest = self.move_postings(most);
         if rest > 0 {
             self.give_back();

@@ -23,7 +23,7 @@ fn commits(alloc: Global, store: &mut Pieces, lines: &[&str], n: usize) -> Resul
     Ok(last.as_str() == due.as_str())
 }
 
-/// A reader keeps an old version of each of 10 keys, of as many commits. Its end looks at 4 lists of them, and a step at 4 more.
+/// A reader keeps an old version of each of 10 keys, of as many commits. Its end looks at 3 lists of them, and each step at 3 more.
 #[test]
 fn steps_finish(rt: HostRuntime) -> Result<(), Fail> {
     let mut store = Pieces::new(new_hub(rt.alloc(), 4096)?, FRAME_MAX);
@@ -38,6 +38,7 @@ fn steps_finish(rt: HostRuntime) -> Result<(), Fail> {
         assert!(rt; !store.hub.reclaim());
     }
     reply_to(rt.alloc(), &mut store, "1 ABORT")?;
+    assert!(rt; store.hub.reclaim());
     assert!(rt; store.hub.reclaim());
     assert!(rt; !store.hub.reclaim());
     let engine = store.hub.into_engine();

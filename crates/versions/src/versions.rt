@@ -196,7 +196,7 @@ impl Versions {
     /// that is the newest version of its key stays. Answers whether it has to be called again until all those versions are gone.
     ///
     /// What each commit replaced is a list, of as many versions as it wrote, under a number that sees them. Once that number is none of
-    /// these, the list is due, and a call looks at 4 of the lists that are due. So what a call costs is bounded, beside the numbers
+    /// these, the list is due, and a call looks at 3 of the lists that are due. So what a call costs is bounded, beside the numbers
     /// themselves, and called again with the same numbers it ends. Takes no memory: where the lists of two commits come under one number,
     /// they are linked. What stands under one number is one group, so there are no more groups than numbers and one. Lists that are needed
     /// though their number isn't held, or doesn't see all of them, are mixed, and looked at by each call; no others are. Where each number

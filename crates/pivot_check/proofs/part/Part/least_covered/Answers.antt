@@ -1,9 +1,16 @@
 use Rattle.std.proofs.Common.{◌<◌, length, drop, add-one, arith, ◌∙◌, ap}
 use Rattle.marks.specs.Marked.{marks_of}
-use Rattle.pivot_check.specs.Postings.{least, lesser}
+use Rattle.std.proofs.lemmas.Bool.{and_parts}
+use Rattle.pivot_check.specs.Postings.{least, lesser, covered_of}
 use Rattle.pivot_check.specs.Places.{covered_at}
+use Rattle.pivot_check.proofs.Passing.{passed_over, all_left}
 use Rattle.pivot_check.proofs.PlacedMarks.{next_place, no_place_left, all_places}
 use Rattle.pivot_check.proofs.part.Part.least_covered.Goals as goal
+
+pub returns-then-not-may_lower : goal.returns-then-not-may_lower
+returns-then-not-may_lower c =
+    passed_over c.args.found c.args.begin c.args.flagged (covered_of (marks_of c.args.order.now.marks.now) c.args.begin c.args.flagged) (λ p e. (and_parts _ _ e).1) (drop c.args.self.now.start c.args.self.now.written.items)
+    (all_left _ c.args.self.now.start c.args.self.now.written.items (c.may_lower.ensures c.if-not-may_lower.true))
 
 pub loop-place-preserved : goal.loop-place-preserved
 loop-place-preserved c =
