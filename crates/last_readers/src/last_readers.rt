@@ -187,10 +187,16 @@ impl LastReaders {
         ensures some { result ≡ true → 0 < self.new.held.taken }
         ensures none { result ≡ false → due_of self.new ≡ 0 }
     {
-        if self.stale.is_none() {
-            self.stale = take_old(&mut self.runs, self.oldest).map(Stale::of);
+        if self.stale.is_some() {
+            return true;
         }
-        self.stale.is_some()
+        match take_old(&mut self.runs, self.oldest) {
+            Some(run) => {
+                self.stale = Some(Stale::of(run));
+                true
+            }
+            None => false,
+        }
     }
 
     // Gives back so much at most of the run that was taken out, of which there is some: how much more may be given back, which is none while

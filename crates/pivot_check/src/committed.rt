@@ -290,8 +290,13 @@ impl Committed {
         if self.stale.is_some() {
             return true;
         }
-        self.stale = take_old(&mut self.runs, self.oldest).map(Stale::of);
-        self.stale.is_some()
+        match take_old(&mut self.runs, self.oldest) {
+            Some(run) => {
+                self.stale = Some(Stale::of(run));
+                true
+            }
+            None => false,
+        }
     }
 
     // Gives back so much at most of the run that was taken out, of which there is some: how much more may be given back, which is none while
