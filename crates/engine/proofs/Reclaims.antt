@@ -88,3 +88,11 @@ module _ {D : Type 0} {g : Ghosts D} (e : Engine D g) (new : HistoryValue) (olde
       let below : n ≤ oldest = least.greatest n (omega (arith, is)) (All-from_recursion (λ t. n ≤ t.begin) (values e.running) (begins_low e.history.committed.facts h.held m.base m.history n e.running.entries m.running h.running each)) in
       let upto = forgotten.upto in
       record { upto = omega arith; readers = λ k some. (let above = forgotten.readers k some in omega arith) }
+
+-- where none is open, the last commit is the oldest that is needed
+pub none_open : {D : Type 0} {g : Ghosts D} (e : Engine D g) → length e.running.entries ≡ 0 → IsLeast (λ t. t.begin) e.history.committed.facts.last (values e.running) e.history.committed.facts.last × ([] ≡ begins_of e.running.entries)
+none_open e none = by e.running.entries none
+  where
+    by : (es : List (ℕ × View)) → length es ≡ 0 → IsLeast (λ (t : View). t.begin) e.history.committed.facts.last (values_of es) e.history.committed.facts.last × ([] ≡ begins_of es)
+    by [] none = (record { below_last = omega arith; below = λ k d lt. absurd (omega (arith, lt)); greatest = λ k l a. l }, refl)
+    by (x ∷ es) none = absurd (omega (arith, none))

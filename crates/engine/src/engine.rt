@@ -154,6 +154,9 @@ impl<D: Sectors> Engine<D> {
         ensures stopped { is_stopped self.new ≡ is_stopped self.old }
     {
         let last = self.history.committed().last();
+        if self.running.is_empty() {
+            return self.history.reclaim(&[], last);
+        }
         let mut numbers = [0; OPEN_MAX];
         let Gathered { count, oldest } = gather_begins(&self.running, last, &mut numbers);
         self.history.reclaim(&numbers[..count], oldest)

@@ -69,19 +69,19 @@ fn write_out<D: Sectors, S: Stream>(hub: &mut Hub<D>, s: u64, stream: &mut S) ->
     Flush::Empty
 }
 
-// One read into the inbox, which has so much room and holds only the beginning of a request.
+// One read into the inbox, which has so much room and holds only the beginning of a request. The bytes come over the buffer.
 fn read_some<D: Sectors, S: Stream>(
     hub: &mut Hub<D>,
     s: u64,
     room: usize,
     stream: &mut S,
+    buffer: &mut [u8; READ_MAX],
 ) -> ReadAnswer
     requires some { 0 < room }
     requires opened { InSomeState hub.old (λ h. (status_at h s ≡ Open) × (room ≡ room_at h s)) }
     ensures read { LeadsTelling s S.tells hub.old (S.traffic stream.old) hub.new (S.traffic stream.new) (λ h k. AwaitsMore h.hub s → ReadsSome s S.tells h (S.traffic stream.old) result k (S.traffic stream.new)) }
 {
     hub.runs_follow();
-    let mut buffer = [0u8; READ_MAX];
     let most = room.min(READ_MAX);
     let piece = &mut buffer[..most];
     let answer = stream.read(hub.device(), piece);
@@ -92,7 +92,12 @@ fn read_some<D: Sectors, S: Stream>(
 }
 
 // Reads until one request can be served, and serves it.
-fn serve_one<D: Sectors, S: Stream>(hub: &mut Hub<D>, s: u64, stream: &mut S) -> Exchange
+fn serve_one<D: Sectors, S: Stream>(
+    hub: &mut Hub<D>,
+    s: u64,
+    stream: &mut S,
+    buffer: &mut [u8; READ_MAX],
+) -> Exchange
     requires { InSomeState hub.old (λ h. (status_at h s ≡ Open) × (pending_at h s ≡ [])) }
     ensures served { LeadsTelling s S.tells hub.old (S.traffic stream.old) hub.new (S.traffic stream.new) (λ h k. Exchanges s S.tells h (S.traffic stream.old) result k (S.traffic stream.new)) }
 {
@@ -109,7 +114,7 @@ fn serve_one<D: Sectors, S: Stream>(hub: &mut Hub<D>, s: u64, stream: &mut S) ->
             Outcome::Memory => return Exchange::Starved,
             _ => {}
         }
-        match read_some(hub, s, room, stream) {
+        match read_some(hub, s, room, stream, buffer) {
             ReadAnswer::Moved(n) => room -= n,
             ReadAnswer::Blocked => return Exchange::Blocked,
             ReadAnswer::Failed => return Exchange::Failed,
@@ -146,6 +151,7 @@ pub fn drive<D: Sectors, S: Stream>(hub: &mut Hub<D>, s: u64, stream: &mut S) ->
     ensures driven { LeadsTelling s S.tells hub.old (S.traffic stream.old) hub.new (S.traffic stream.new) (λ h k. Drove s S.tells h (S.traffic stream.old) result k (S.traffic stream.new)) }
 {
     hub.runs_follow();
+    let mut buffer = [0u8; READ_MAX];
     let mut sent = 0usize;
     'requests: for _served in 0..REQUESTS_MAX {
         let owed = hub.pending(s).len();
@@ -162,7 +168,7 @@ pub fn drive<D: Sectors, S: Stream>(hub: &mut Hub<D>, s: u64, stream: &mut S) ->
         if sent >= OUTPUT_MAX {
             return Progress::Again;
         }
-        match serve_one(hub, s, stream) {
+        match serve_one(hub, s, stream, &mut buffer) {
             Exchange::Served | Exchange::Broke => {}
             Exchange::Blocked => return Progress::Waiting,
             _ => return depart(hub, s),
