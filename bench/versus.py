@@ -6,8 +6,9 @@
 
 A row is one kind of transaction. Its first form measures the processor time of both servers under the same load, in rounds of one slice each, and
 gives the median of the rounds' ratios with the middle half of them: above 1, the new program takes more. The data files are in memory, so no disk
-is involved. The second runs each server under callgrind, sends a few hundred transactions over one connection, then as many again and twice as many, and counts
-what the last ones took. The system's calls are not in it.
+is involved. The second runs each server under callgrind, sends 200 transactions over one connection, and counts what 400 more take: in the program's
+own code, and with the C library's. The system's calls are not in it. Valgrind counts a `rep stosb`, with which that library fills long stretches of
+memory, once for each byte.
 """
 
 import argparse
@@ -61,6 +62,21 @@ def timed_rows(options):
             yield timed_row(options, kind, old, new)
 
 
+def costs(figures):
+    """The instructions in the figures of callgrind, by the file of the program or library that they stand in."""
+    names, found, here, is_of_callee = {}, {}, "", False
+    for line in figures.splitlines():
+        if match := re.match(r"(c?)ob=(\(\d+\))(?: (.+))?", line):
+            name = names.setdefault(match[2], match[3])
+            here = here if match[1] else name
+        elif line.startswith("calls="):
+            is_of_callee = True
+        elif re.match(r"[0-9+*-]", line):
+            found[here] = found.get(here, 0) + (0 if is_of_callee else int(line.split()[-1]))
+            is_of_callee = False
+    return found
+
+
 class Counting(Listening):
     """The server under callgrind."""
 
@@ -73,11 +89,12 @@ class Counting(Listening):
         self.dumps = 0
 
     def instructions(self):
-        """Those since the last call."""
+        """Those since the last call: of the program's own code, and all."""
         self.dumps += 1
         run(["callgrind_control", "--dump", str(self.process.pid)])
         with open(f"{self.figures}.{self.dumps}") as file:
-            return int(re.search(r"^(?:summary|totals): (\d+)", file.read(), re.MULTILINE).group(1))
+            by_object = costs(file.read())
+        return sum(cost for name, cost in by_object.items() if name.endswith("/ssikvd")), sum(by_object.values())
 
 
 def requests_of(work, number):
@@ -138,14 +155,15 @@ def counted_instructions(program, folder, name):
             send_all(connection, replies, kind, range(WARM))
             server.instructions()
             send_all(connection, replies, kind, range(WARM, WARM + COUNTED))
-            yield server.instructions() / COUNTED
+            yield [count / COUNTED for count in server.instructions()]
 
 
 def instruction_rows(options):
     both = [list(counted_instructions(program, options.folder, name)) for program, name in ((options.old, "old"), (options.new, "new"))]
     for (what, _, connections, _), old, new in zip(KINDS, *both):
         if connections == 1 or (what, 1) not in {(it[0], it[2]) for it in KINDS}:
-            yield [f"{what}, 1 connection", f"{old:,.0f}", f"{new:,.0f}", f"**{new / old:.2f}**"]
+            ratios = [f"**{mine / other:.2f}**" for mine, other in zip(new, old)]
+            yield [what, f"{old[0]:,.0f}", f"{new[0]:,.0f}", ratios[0], f"{old[1]:,.0f}", f"{new[1]:,.0f}", ratios[1]]
 
 
 def print_table(heads, rows):
@@ -167,7 +185,7 @@ def main():
     with tempfile.TemporaryDirectory(prefix="ssikvd-versus-", dir="/dev/shm") as options.folder:
         print(f"Load before: {os.getloadavg()[0]:.1f}.\n")
         if options.instructions:
-            print_table(["What", "Old: instructions", "New: instructions", "Ratio"], instruction_rows(options))
+            print_table(["What", "Old: own code", "New: own code", "Ratio", "Old: all", "New: all", "Ratio"], instruction_rows(options))
         else:
             run(["make", "-s", "-C", HERE, "all"])
             print_table(["What", "Old: us", "New: us", "Ratio", "Middle half"], timed_rows(options))
