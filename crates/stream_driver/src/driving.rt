@@ -132,6 +132,50 @@ fn depart<D: Sectors>(hub: &mut Hub<D>, s: u64) -> Progress
     Progress::Gone
 }
 
+// As `drive`. What is read comes over the buffer.
+pub(crate) fn drive_over<D: Sectors, S: Stream>(
+    hub: &mut Hub<D>,
+    s: u64,
+    stream: &mut S,
+    buffer: &mut [u8; READ_MAX],
+) -> Progress
+    requires { IsPresent hub.old s }
+    ensures driven { LeadsTelling s S.tells hub.old (S.traffic stream.old) hub.new (S.traffic stream.new) (λ h k. Drove s S.tells h (S.traffic stream.old) result k (S.traffic stream.new)) }
+{
+    hub.runs_follow();
+    let mut sent = 0usize;
+    'requests: for _served in 0..REQUESTS_MAX {
+        let owed = hub.pending(s).len();
+        match write_out(hub, s, stream) {
+            Flush::Empty => {}
+            Flush::Blocked => return Progress::Waiting,
+            Flush::Failed => return depart(hub, s),
+        }
+        match hub.status(s) {
+            Status::Open => {}
+            _ => return depart(hub, s),
+        }
+        sent = sent.saturating_add(owed);
+        if sent >= OUTPUT_MAX {
+            return Progress::Again;
+        }
+        match serve_one(hub, s, stream, buffer) {
+            Exchange::Served | Exchange::Broke => {}
+            Exchange::Blocked => return Progress::Waiting,
+            _ => return depart(hub, s),
+        }
+    }
+    match write_out(hub, s, stream) {
+        Flush::Empty => {}
+        Flush::Blocked => return Progress::Waiting,
+        Flush::Failed => return depart(hub, s),
+    }
+    match hub.status(s) {
+        Status::Open => Progress::Again,
+        _ => depart(hub, s),
+    }
+}
+
 /// Carries bytes between a stream and a session that is present, until the stream blocks, the session has left, or `REQUESTS_MAX`
 /// requests were served and their replies sent, or `OUTPUT_MAX` bytes of replies were.
 ///
@@ -150,37 +194,6 @@ pub fn drive<D: Sectors, S: Stream>(hub: &mut Hub<D>, s: u64, stream: &mut S) ->
     requires { IsPresent hub.old s }
     ensures driven { LeadsTelling s S.tells hub.old (S.traffic stream.old) hub.new (S.traffic stream.new) (λ h k. Drove s S.tells h (S.traffic stream.old) result k (S.traffic stream.new)) }
 {
-    hub.runs_follow();
     let mut buffer = [0u8; READ_MAX];
-    let mut sent = 0usize;
-    'requests: for _served in 0..REQUESTS_MAX {
-        let owed = hub.pending(s).len();
-        match write_out(hub, s, stream) {
-            Flush::Empty => {}
-            Flush::Blocked => return Progress::Waiting,
-            Flush::Failed => return depart(hub, s),
-        }
-        match hub.status(s) {
-            Status::Open => {}
-            _ => return depart(hub, s),
-        }
-        sent = sent.saturating_add(owed);
-        if sent >= OUTPUT_MAX {
-            return Progress::Again;
-        }
-        match serve_one(hub, s, stream, &mut buffer) {
-            Exchange::Served | Exchange::Broke => {}
-            Exchange::Blocked => return Progress::Waiting,
-            _ => return depart(hub, s),
-        }
-    }
-    match write_out(hub, s, stream) {
-        Flush::Empty => {}
-        Flush::Blocked => return Progress::Waiting,
-        Flush::Failed => return depart(hub, s),
-    }
-    match hub.status(s) {
-        Status::Open => Progress::Again,
-        _ => depart(hub, s),
-    }
+    drive_over(hub, s, stream, &mut buffer)
 }

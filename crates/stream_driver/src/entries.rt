@@ -6,7 +6,7 @@ ghost use Rattle.stream_driver.specs.Entries.{DrivenEntry, DrivenAll, HaveSessio
 
 use crate::answers::Progress;
 use crate::buffered::BufferedStream;
-use crate::driving::drive;
+use crate::driving::{READ_MAX, drive_over};
 use crate::stream::Stream;
 use sector::Sectors;
 use sessions::Hub;
@@ -32,7 +32,11 @@ pub struct Entry<S: Stream> {
 }
 
 // Drives an entry, if it is ready.
-fn drive_entry<D: Sectors, S: Stream>(hub: &mut Hub<D>, entry: &mut Entry<S>)
+fn drive_entry<D: Sectors, S: Stream>(
+    hub: &mut Hub<D>,
+    entry: &mut Entry<S>,
+    buffer: &mut [u8; READ_MAX],
+)
     requires { entry.old.state ≢ EntryState.Gone → IsPresent hub.old entry.old.session }
     ensures driven { LeadsTelling entry.old.session S.tells hub.old (S.traffic entry.old.stream) hub.new (S.traffic entry.new.stream) (λ h k. DrivenEntry S.tells S.traffic h entry.old k entry.new) }
     ensures session { entry.new.session ≡ entry.old.session }
@@ -40,7 +44,7 @@ fn drive_entry<D: Sectors, S: Stream>(hub: &mut Hub<D>, entry: &mut Entry<S>)
 {
     hub.runs_follow();
     if let EntryState::Ready = entry.state {
-        entry.state = match drive(hub, entry.session, &mut entry.stream) {
+        entry.state = match drive_over(hub, entry.session, &mut entry.stream, buffer) {
             Progress::Waiting => EntryState::Idle,
             Progress::Again => EntryState::Ready,
             Progress::Gone => EntryState::Gone,
@@ -61,9 +65,10 @@ pub fn drive_ready<D: Sectors, S: Stream>(hub: &mut Hub<D>, table: &mut Slab<Ent
     ensures numbers { KeepSessions table.old.slots table.new.slots }
 {
     hub.runs_follow();
+    let mut buffer = [0u8; READ_MAX];
     for key in 0..table.capacity() {
         if let Some(entry) = table.get_mut(key) {
-            drive_entry(hub, entry);
+            drive_entry(hub, entry, &mut buffer);
         }
     }
 }

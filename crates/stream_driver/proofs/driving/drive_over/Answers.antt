@@ -4,7 +4,7 @@ use Rattle.stream_driver.specs.Sessions.{status_at, pending_at}
 use Rattle.stream_driver.proofs.States.{present_at, leads_none, leads_then, some_after}
 use Rattle.stream_driver.proofs.Sends.{tells_map, tells_still, tells_then, tells_three, tells_two_at}
 use Rattle.stream_driver.proofs.Loops.{driven_none, flushes_out, is_below, out_served, out_broke, again_full, waits_to_write, waits_to_read, gone_writing, gone_serving, gone_closed, again}
-use Rattle.stream_driver.proofs.driving.drive.Goals as goal
+use Rattle.stream_driver.proofs.driving.drive_over.Goals as goal
 
 pub requests-init : goal.requests-init
 requests-init g c =
