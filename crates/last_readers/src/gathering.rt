@@ -26,7 +26,7 @@ fn from_on(alloc: Global, lo: KeyRef<'_>, at: u64, above: u64) -> Result<VecDequ
     ensures { IfOk result (λ v. v.items ≡ record { key = lo.entry.bytes.now; at = at; above = above } ∷ []) }
 {
     let mut steps = VecDeque::with_capacity(alloc, 1)?;
-    steps.push_back(step_at(alloc, lo, at, above)?)?;
+    steps.push_back_reserved(step_at(alloc, lo, at, above)?);
     Ok(steps)
 }
 
@@ -40,8 +40,8 @@ fn from_to(
     ensures { IfOk result (λ v. v.items ≡ record { key = lo.entry.bytes.now; at = 1; above = 1 } ∷ record { key = end.entry.bytes.now; at = at; above = 0 } ∷ []) }
 {
     let mut steps = VecDeque::with_capacity(alloc, 2)?;
-    steps.push_back(step_at(alloc, lo, 1, 1)?)?;
-    steps.push_back(step_at(alloc, end, at, 0)?)?;
+    steps.push_back_reserved(step_at(alloc, lo, 1, 1)?);
+    steps.push_back_reserved(step_at(alloc, end, at, 0)?);
     Ok(steps)
 }
 

@@ -1,10 +1,11 @@
 //! The last readers.
-ghost use Rattle.std.specs.Prelude.{◌≡◌, ◌<◌, ◌≤◌, ◌+◌, ◌-◌, ℕ, List, [], length, max, nat_lt, true, false, OnOk};
+ghost use Rattle.std.specs.Prelude.{◌≡◌, ◌<◌, ◌≤◌, ◌+◌, ◌-◌, ℕ, List, [], None, length, max, nat_lt, OnOk};
 ghost use Rattle.model.specs.Map.{Bytes};
 ghost use Rattle.model.specs.PrivateCopy.{Mark};
 ghost use Rattle.last_readers.specs.Held.{due_upto, given_a_forget, size_in};
 ghost use Rattle.last_readers.specs.Readers.{last_reader, after, AreUpto, IsNoted, IsForgotten, IsMerged, IsReady, HasRoom, due_of, ready_len};
 ghost use Rattle.last_readers.specs.RunSizes.{IsMergedFor, left_above, with_run};
+ghost use Rattle.last_readers.specs.Inside.{held_of, size_of};
 
 use crate::gathering::steps_of;
 use crate::merges::{add_run, greatest_in, is_one_old, move_runs, open_last, take_old};
@@ -177,42 +178,31 @@ impl LastReaders {
         self.merge(count.saturating_mul(MOVES_EACH).saturating_add(MOVES_MORE));
     }
 
-    // Takes out a run all of whose numbers are forgotten, where there is one and none is still being given back: is one being given back?
-    fn take_stale(&mut self) -> bool
+    // Takes out a run all of whose numbers are forgotten, if there is one.
+    fn take_old(&mut self) -> Option<Run>
         ensures same { (key : Bytes) → last_reader self.new.readers key ≡ last_reader self.old.readers key }
         ensures oldest { self.new.readers.oldest ≡ self.old.readers.oldest }
-        ensures due { due_of self.new ≡ due_of self.old }
+        ensures due { due_of self.old ≡ size_of result + due_of self.new }
+        ensures taken { self.new.held.taken ≡ self.old.held.taken }
+        ensures none { result ≡ None → due_of self.new ≡ self.new.held.taken }
         ensures left { left_above self.new.readers.oldest self.new.runs ≡ left_above self.new.readers.oldest self.old.runs }
         ensures refused { self.new.refused ≡ self.old.refused }
-        ensures some { result ≡ true → 0 < self.new.held.taken }
-        ensures none { result ≡ false → due_of self.new ≡ 0 }
     {
-        if self.stale.is_some() {
-            return true;
-        }
-        match take_old(&mut self.runs, self.oldest) {
-            Some(run) => {
-                self.stale = Some(Stale::of(run));
-                true
-            }
-            None => false,
-        }
+        take_old(&mut self.runs, self.oldest)
     }
 
-    // Gives back so much at most of the run that was taken out, of which there is some: how much more may be given back, which is none while
+    // Gives back so much at most of the run that is being given back, if there is one: how much more may be given back, which is none while
     // something is left of it.
     fn give_back(&mut self, most: usize) -> usize
-        requires some { 0 < self.old.held.taken }
-        requires most { 0 < most }
         ensures readers { self.new.readers ≡ self.old.readers }
         ensures held { self.new.held.runs ≡ self.old.held.runs }
         ensures runs { self.new.runs ≡ self.old.runs }
         ensures refused { self.new.refused ≡ self.old.refused }
         ensures taken { self.old.held.taken + result ≡ self.new.held.taken + most }
-        ensures fewer { result < most }
+        ensures ended { 0 < result → self.new.held.taken ≡ 0 }
     {
         let Some(stale) = &mut self.stale else {
-            unreachable!()
+            return most;
         };
         let left = stale.give_back(most);
         if left == 0 {
@@ -220,6 +210,26 @@ impl LastReaders {
         }
         self.stale = None;
         left - 1
+    }
+
+    // Gives back so much at most of a run that was taken out, the whole of it at once where that is enough.
+    fn give_back_run(&mut self, run: Run, most: usize) -> usize
+        requires none { self.old.held.taken ≡ 0 }
+        requires some { 0 < most }
+        requires most { most ≤ given_a_forget }
+        ensures readers { self.new.readers ≡ self.old.readers }
+        ensures held { self.new.held.runs ≡ self.old.held.runs }
+        ensures runs { self.new.runs ≡ self.old.runs }
+        ensures refused { self.new.refused ≡ self.old.refused }
+        ensures taken { (held_of run).size + result ≡ self.new.held.taken + most }
+        ensures ended { 0 < result → self.new.held.taken ≡ 0 }
+    {
+        let size = run.size();
+        if size <= most {
+            return most - size;
+        }
+        self.stale = Some(Stale::of(run));
+        self.give_back(most)
     }
 
     // Gives back runs all of whose numbers are forgotten, 1,024 of their steps at most.
@@ -230,9 +240,12 @@ impl LastReaders {
         ensures left { left_above self.new.readers.oldest self.new.runs ≡ left_above self.new.readers.oldest self.old.runs }
         ensures refused { self.new.refused ≡ self.old.refused }
     {
-        let mut left = GIVEN_BACK_MAX;
-        'runs: while left > 0 && self.take_stale() {
-            left = self.give_back(left);
+        let mut left = self.give_back(GIVEN_BACK_MAX);
+        'runs: while left > 0 {
+            let Some(run) = self.take_old() else {
+                return;
+            };
+            left = self.give_back_run(run, left);
         }
     }
 

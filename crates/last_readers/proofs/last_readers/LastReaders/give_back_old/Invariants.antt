@@ -1,4 +1,4 @@
-use Rattle.std.proofs.Common.{◌≡◌, ◌≤◌, ◌+◌}
+use Rattle.std.proofs.Common.{◌≡◌, ◌≤◌, ◌<◌, ◌+◌}
 use Rattle.model.specs.Map.{Bytes}
 use Rattle.last_readers.specs.Readers.{last_reader, due_of}
 use Rattle.last_readers.specs.RunSizes.{left_above}
@@ -12,6 +12,7 @@ invariant-runs l = record {
   left : left_above l.self.readers.oldest l.self.runs ≡ left_above l.self.readers.oldest l.fn.self.runs;
   refused : l.self.refused ≡ l.fn.self.refused;
   most : l.left ≤ 1024;
+  ended : 0 < l.left → l.self.held.taken ≡ 0;
 }
 
 abbrev pub decreases-runs : goal.decreases-runs
