@@ -8,6 +8,7 @@ ghost use Rattle.pivot_check.specs.Merged.{IsMerged, IsMergedBy};
 ghost use Rattle.pivot_check.specs.Kept.{HasForgotten, IsEmpty, IsInReach, HasRoom, IsGivenBack, runs_due};
 ghost use Rattle.pivot_check.specs.Index.{FindsTarget, answer_found, target};
 ghost use Rattle.pivot_check.specs.StandsFor.{StandsFor, IsRecordOf, IsVerdict, IsPlaced, IsClear};
+ghost use Rattle.pivot_check.specs.Inside.{held_of, size_of};
 
 use crate::by_start::ByStart;
 use crate::merges::{move_runs, open_last};
@@ -273,47 +274,35 @@ impl Committed {
         due
     }
 
-    // Takes out a run that has no number for which one may ask, where there is one and none is still being given back: is one being given
-    // back?
-    fn take_stale(&mut self) -> bool
+    // Takes out a run that has no number for which one may ask, if there is one.
+    fn take_old(&mut self) -> Option<Run>
         ensures stands_for { (h : List Record) → StandsFor self.old.facts h → StandsFor self.new.facts h }
         ensures readers { self.new.facts.readers ≡ self.old.facts.readers }
         ensures oldest { self.new.facts.oldest ≡ self.old.facts.oldest }
         ensures last { self.new.facts.last ≡ self.old.facts.last }
         ensures held { self.new.held.readers ≡ self.old.held.readers }
-        ensures due { due_upto self.new.facts.oldest self.new.held.written ≡ due_upto self.new.facts.oldest self.old.held.written }
-        ensures some { result ≡ true → 0 < self.new.held.written.taken }
-        ensures none { result ≡ false → due_upto self.new.facts.oldest self.new.held.written ≡ 0 }
+        ensures due { due_upto self.new.facts.oldest self.old.held.written ≡ size_of result + due_upto self.new.facts.oldest self.new.held.written }
+        ensures taken { self.new.held.written.taken ≡ self.old.held.written.taken }
+        ensures none { result ≡ None → due_upto self.new.facts.oldest self.new.held.written ≡ self.new.held.written.taken }
         ensures left { left_above self.new.facts.oldest self.new.held.sizes ≡ left_above self.new.facts.oldest self.old.held.sizes }
         ensures refused { self.new.held.refused ≡ self.old.held.refused }
     {
-        if self.stale.is_some() {
-            return true;
-        }
-        match take_old(&mut self.runs, self.oldest) {
-            Some(run) => {
-                self.stale = Some(Stale::of(run));
-                true
-            }
-            None => false,
-        }
+        take_old(&mut self.runs, self.oldest)
     }
 
-    // Gives back so much at most of the run that was taken out, of which there is some: how much more may be given back, which is none while
+    // Gives back so much at most of the run that is being given back, if there is one: how much more may be given back, which is none while
     // something is left of it.
     fn give_back(&mut self, most: usize) -> usize
-        requires some { 0 < self.old.held.written.taken }
-        requires most { 0 < most }
         ensures facts { self.new.facts ≡ self.old.facts }
         ensures readers { self.new.held.readers ≡ self.old.held.readers }
         ensures runs { self.new.held.written.runs ≡ self.old.held.written.runs }
         ensures taken { self.old.held.written.taken + result ≡ self.new.held.written.taken + most }
-        ensures fewer { result < most }
+        ensures ended { 0 < result → self.new.held.written.taken ≡ 0 }
         ensures sizes { self.new.held.sizes ≡ self.old.held.sizes }
         ensures refused { self.new.held.refused ≡ self.old.held.refused }
     {
         let Some(stale) = &mut self.stale else {
-            unreachable!()
+            return most;
         };
         let left = stale.give_back(most);
         if left == 0 {
@@ -321,6 +310,27 @@ impl Committed {
         }
         self.stale = None;
         left - 1
+    }
+
+    // Gives back so much at most of a run that was taken out, the whole of it at once where that is enough.
+    fn give_back_run(&mut self, run: Run, most: usize) -> usize
+        requires none { self.old.held.written.taken ≡ 0 }
+        requires some { 0 < most }
+        requires most { most ≤ given_a_forget }
+        ensures facts { self.new.facts ≡ self.old.facts }
+        ensures readers { self.new.held.readers ≡ self.old.held.readers }
+        ensures runs { self.new.held.written.runs ≡ self.old.held.written.runs }
+        ensures taken { (held_of run).size + result ≡ self.new.held.written.taken + most }
+        ensures ended { 0 < result → self.new.held.written.taken ≡ 0 }
+        ensures sizes { self.new.held.sizes ≡ self.old.held.sizes }
+        ensures refused { self.new.held.refused ≡ self.old.held.refused }
+    {
+        let size = run.size();
+        if size <= most {
+            return most - size;
+        }
+        self.stale = Some(Stale::of(run));
+        self.give_back(most)
     }
 
     // Gives back runs that have no number for which one may ask, 1,024 of their keys at most.
@@ -334,9 +344,12 @@ impl Committed {
         ensures left { left_above self.new.facts.oldest self.new.held.sizes ≡ left_above self.new.facts.oldest self.old.held.sizes }
         ensures refused { self.new.held.refused ≡ self.old.held.refused }
     {
-        let mut left = GIVEN_BACK_MAX;
-        'runs: while left > 0 && self.take_stale() {
-            left = self.give_back(left);
+        let mut left = self.give_back(GIVEN_BACK_MAX);
+        'runs: while left > 0 {
+            let Some(run) = self.take_old() else {
+                return;
+            };
+            left = self.give_back_run(run, left);
         }
     }
 

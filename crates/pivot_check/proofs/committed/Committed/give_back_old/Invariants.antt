@@ -1,4 +1,4 @@
-use Rattle.std.proofs.Common.{◌≡◌, ◌≤◌, ◌+◌, List}
+use Rattle.std.proofs.Common.{◌≡◌, ◌≤◌, ◌<◌, ◌+◌, List}
 use Rattle.model.specs.History.{Record}
 use Rattle.last_readers.specs.Held.{due_upto}
 use Rattle.last_readers.specs.RunSizes.{left_above}
@@ -16,6 +16,7 @@ invariant-runs l = record {
   left : left_above l.fn.self.facts.oldest l.self.held.sizes ≡ left_above l.fn.self.facts.oldest l.fn.self.held.sizes;
   refused : l.self.held.refused ≡ l.fn.self.held.refused;
   most : l.left ≤ 1024;
+  ended : 0 < l.left → l.self.held.written.taken ≡ 0;
 }
 
 abbrev pub decreases-runs : goal.decreases-runs
