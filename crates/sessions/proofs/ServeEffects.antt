@@ -1,9 +1,10 @@
 -- From the parts of a Serve to its effect.
 use Rattle.std.proofs.lemmas.Grind.{common_steps}
-use Rattle.std.proofs.Common.{◌≡◌, ℕ, Bool, true, false, List, [], length, arith, IsTrue, drop, refl, ap, subst, ◌∙◌, if◌then◌else◌}
+use Rattle.std.proofs.Common.{◌≡◌, ℕ, Bool, true, false, List, [], ◌∷◌, length, arith, IsTrue, drop, refl, sym, ap, subst, ◌∙◌, if◌then◌else◌}
 use Rattle.sector.specs.declared.device.Sectors.{Ghosts}
 use Rattle.std.specs.Prelude.{◌==◌}
 use Rattle.std.proofs.lemmas.Bool.Decides.{nat_tests}
+use Rattle.model.specs.Grammar.{IsProperBeginning, array_of_bulks}
 use Rattle.model.specs.Map.{Bytes}
 use Rattle.model.specs.Machine.{State, step}
 use Rattle.model.specs.ReplyText.{reply_text}
@@ -54,3 +55,12 @@ module _ {D : Type 0} {g : Ghosts D} (old new : Engine D g) (s : ℕ) (before af
         → ServesSession old new s before after OutOfMemory
     refused_memory parts used front takes a inbox none due status =
         (Whole parts used, λ m h. effects _ m OutOfMemory (front, λ _. (takes, due m h)) (a m h) (standing _ inbox (pending ∙ none) status) refl)
+
+-- nothing is the beginning of a request
+nothing_begins : IsProperBeginning []
+nothing_begins = (array_of_bulks ([] ∷ []), [] ∷ [], omega arith, (record { some = omega arith; few = omega arith; each = grind (arith, common_steps) }, refl))
+
+-- where nothing came in, nothing is done
+pub nothing_came : {D : Type 0} {g : Ghosts D} (e : Engine D g) (s : ℕ) (before : SessionState) → may_serve before ≡ true → before.inbox ≡ [] → ServesSession e e s before before OfIdle
+nothing_came e s before may none =
+    more e e s before before may before.pending refl (subst IsProperBeginning (sym none) nothing_begins) refl (nothing_pending _ _ may) refl refl

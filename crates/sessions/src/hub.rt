@@ -205,7 +205,8 @@ impl<D: Sectors> Hub<D> {
         }
     }
 
-    /// Applies one event.
+    /// Applies one event. Each caller has one kind of them, so the others fall away where this is inlined.
+    #[inline(always)]
     fn apply(&mut self, event: &Event<'_>) -> Outcome
         ensures step { HubLeads self.old self.new (event_of event.now) result }
         ensures crash { SurvivesEvent self.old self.new (event_of event.now) }
@@ -238,6 +239,7 @@ impl<D: Sectors> Hub<D> {
     /// A crash at any moment of the event leaves the map committed before it or, where it executes a COMMIT, that with the
     /// transaction's writes; after the event it leaves the map that is then committed. A store that is stopped leaves the device alone.
     /// The event, alone, is a run.
+    #[inline(always)]
     pub fn step(&mut self, event: &Event<'_>) -> Outcome
         ensures step { HubLeads self.old self.new (event_of event.now) result }
         ensures crash { SurvivesCrash self.old self.new (event_of event.now) }

@@ -143,6 +143,9 @@ impl Session {
         if !self.is_ready() {
             return Outcome::Idle;
         }
+        if self.inbox.as_slice().is_empty() {
+            return Outcome::Idle;
+        }
         self.output.clear();
         let served = serve_request(engine, s, self.inbox.as_slice(), &mut self.output.bytes);
         let given = self.output.give_back(OUTPUT_ROOM, OUTPUT_KEPT);

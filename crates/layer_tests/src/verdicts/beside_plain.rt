@@ -321,8 +321,8 @@ fn forget_upto(committed: &mut Committed, oldest: u64) {
     }
 }
 
-/// Runs of written keys stay few while old transactions come and go, and hold three places at most for each of the two keys that a kept
-/// commit wrote; none is left once all are forgotten.
+/// Runs of written keys stay few while old transactions come and go, and hold three places at most for each of the two keys that a commit
+/// wrote, of those that are kept and 64 more; none is left once all are forgotten.
 #[test]
 fn written_keys_stay_in_few_runs(rt: HostRuntime) -> Result<(), Fail> {
     let mut committed = Committed::new(rt.alloc());
