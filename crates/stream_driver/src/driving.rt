@@ -1,6 +1,8 @@
 //! One drive.
 ghost use Rattle.std.specs.Prelude.{◌≡◌, ◌<◌, length, []};
 ghost use Rattle.sessions.specs.declared.events.Status.TheVariants.{Open};
+ghost use Rattle.sessions.specs.SessionStreams.{HubState};
+ghost use Rattle.sessions.specs.StandsFor.{StandsFor};
 ghost use Rattle.stream_driver.specs.Sessions.{AwaitsMore, InSomeState, IsPresent, IsPresentIn, Leads, pending_at, status_at, room_at};
 ghost use Rattle.stream_driver.specs.Sends.{LeadsTelling};
 ghost use Rattle.stream_driver.specs.Drives.{Drove, Departs};
@@ -52,13 +54,19 @@ fn write_some<D: Sectors, S: Stream>(hub: &mut Hub<D>, s: u64, stream: &mut S) -
     answer
 }
 
-// Writes what is pending, as far as the stream takes it.
-fn write_out<D: Sectors, S: Stream>(hub: &mut Hub<D>, s: u64, stream: &mut S) -> Flush
-    requires { IsPresent hub.old s }
+// Writes what is pending, so many bytes, as far as the stream takes them.
+fn write_out<D: Sectors, S: Stream>(
+    hub: &mut Hub<D>,
+    s: u64,
+    pending: usize,
+    stream: &mut S,
+) -> Flush
+    requires present { IsPresent hub.old s }
+    requires pending { (h : HubState) → StandsFor hub.old h → pending ≡ length (pending_at h s) }
     ensures written { LeadsTelling s S.tells hub.old (S.traffic stream.old) hub.new (S.traffic stream.new) (λ h k. Flushes s S.tells h (S.traffic stream.old) result k (S.traffic stream.new)) }
 {
     hub.runs_follow();
-    let mut owed = hub.pending(s).len();
+    let mut owed = pending;
     while owed > 0 {
         match write_some(hub, s, stream) {
             WriteAnswer::Moved(n) => owed -= n,
@@ -146,7 +154,7 @@ pub(crate) fn drive_over<D: Sectors, S: Stream>(
     let mut sent = 0usize;
     'requests: for _served in 0..REQUESTS_MAX {
         let owed = hub.pending(s).len();
-        match write_out(hub, s, stream) {
+        match write_out(hub, s, owed, stream) {
             Flush::Empty => {}
             Flush::Blocked => return Progress::Waiting,
             Flush::Failed => return depart(hub, s),
@@ -165,7 +173,8 @@ pub(crate) fn drive_over<D: Sectors, S: Stream>(
             _ => return depart(hub, s),
         }
     }
-    match write_out(hub, s, stream) {
+    let owed = hub.pending(s).len();
+    match write_out(hub, s, owed, stream) {
         Flush::Empty => {}
         Flush::Blocked => return Progress::Waiting,
         Flush::Failed => return depart(hub, s),

@@ -12,8 +12,8 @@ requests-init g c =
     (leads_none c.args.hub.now c.runs_follow.ensures.none _
     (λ h stands. record { driven = driven_none c.args.s g.S.Stream.tells h (g.S.Stream.traffic c.args.stream.now) (present_at c.args.hub.now c.args.s h.hub stands.state _ c.requires (λ k p. p)); out = refl }))
 
-pub write_out-requires : goal.write_out-requires
-write_out-requires g c = some_after c.args.hub.now c.requests.hub _ _ _ c.requires c.requests.invariant.leads (λ h k before p. p.driven.carried.runs.present)
+pub write_out-requires-clause-present : goal.write_out-requires-clause-present
+write_out-requires-clause-present g c = some_after c.args.hub.now c.requests.hub _ _ _ c.requires c.requests.invariant.leads (λ h k before p. p.driven.carried.runs.present)
 
 pub returns-in-Blocked : goal.returns-in-Blocked
 returns-in-Blocked g c =
@@ -86,8 +86,8 @@ returns-in_default-serve_one g c =
           c.in_default-serve_one.not-Served c.in_default-serve_one.not-Broke c.in_default-serve_one.not-Blocked r));
     }
 
-pub write_out-requires-2 : goal.write_out-requires-2
-write_out-requires-2 g c = some_after c.args.hub.now c.requests.hub _ _ _ c.requires c.requests.invariant.leads (λ h k before p. p.driven.carried.runs.present)
+pub write_out-requires-2-clause-present : goal.write_out-requires-2-clause-present
+write_out-requires-2-clause-present g c = some_after c.args.hub.now c.requests.hub _ _ _ c.requires c.requests.invariant.leads (λ h k before p. p.driven.carried.runs.present)
 
 pub returns-in-Blocked-write_out : goal.returns-in-Blocked-write_out
 returns-in-Blocked-write_out g c =
