@@ -34,6 +34,11 @@ KEYS, VALUE_BYTES, SECTORS = 10_000, 100, 4_194_303
 WARM, COUNTED = 200, 400
 
 
+def chosen(options):
+    """The kinds of transactions that are asked for."""
+    return [kind for kind in KINDS if not options.row or any(word in kind[0] for word in options.row)]
+
+
 def processor_us(slice_of):
     return 1e6 * slice_of["processor_seconds"] / max(slice_of["committed"], 1)
 
@@ -58,7 +63,7 @@ def timed_rows(options):
         old, new = (stack.enter_context(Ssikvd(it, options.folder, SECTORS)) for it in (options.old, options.new))
         for server in (old, new):
             Load(options, "fill", 1).measure(server, 0)
-        for kind in KINDS:
+        for kind in chosen(options):
             yield timed_row(options, kind, old, new)
 
 
@@ -146,12 +151,12 @@ def fill(connection):
             raise Failure("a commit of the first keys was refused")
 
 
-def counted_instructions(program, folder, name):
+def counted_instructions(program, folder, name, kinds):
     """What a transaction of each kind takes, over one connection."""
     with Counting(program, folder, name) as server, connect(server.address) as connection, connection.makefile("rb") as replies:
         connection.settimeout(120)
         fill(connection)
-        for kind in KINDS:
+        for kind in kinds:
             send_all(connection, replies, kind, range(WARM))
             server.instructions()
             send_all(connection, replies, kind, range(WARM, WARM + COUNTED))
@@ -159,11 +164,12 @@ def counted_instructions(program, folder, name):
 
 
 def instruction_rows(options):
-    both = [list(counted_instructions(program, options.folder, name)) for program, name in ((options.old, "old"), (options.new, "new"))]
-    for (what, _, connections, _), old, new in zip(KINDS, *both):
-        if connections == 1 or (what, 1) not in {(it[0], it[2]) for it in KINDS}:
-            ratios = [f"**{mine / other:.2f}**" for mine, other in zip(new, old)]
-            yield [what, f"{old[0]:,.0f}", f"{new[0]:,.0f}", ratios[0], f"{old[1]:,.0f}", f"{new[1]:,.0f}", ratios[1]]
+    # (a row for each kind of transaction, however many connections it stands there for)
+    kinds = list({kind[0]: kind for kind in chosen(options)}.values())
+    both = [list(counted_instructions(program, options.folder, name, kinds)) for program, name in ((options.old, "old"), (options.new, "new"))]
+    for (what, *_), old, new in zip(kinds, *both):
+        ratios = [f"**{mine / other:.2f}**" for mine, other in zip(new, old)]
+        yield [what, f"{old[0]:,.0f}", f"{new[0]:,.0f}", ratios[0], f"{old[1]:,.0f}", f"{new[1]:,.0f}", ratios[1]]
 
 
 def print_table(heads, rows):
@@ -177,6 +183,7 @@ def main():
     parser.add_argument("old")
     parser.add_argument("new")
     parser.add_argument("--instructions", action="store_true", help="count instructions in place of time")
+    parser.add_argument("--row", action="append", metavar="WORDS", help="only rows that have these words; may be given more than once")
     parser.add_argument("--rounds", type=int, default=15)
     parser.add_argument("--seconds", type=float, default=0.5)
     parser.add_argument("--threads", type=int, default=2, help="threads of the load generator")

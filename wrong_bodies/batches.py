@@ -1,0 +1,154 @@
+"""Tries the wrong bodies of crates, many in one check: `batches.py [CRATE..]`, all crates where none is named.
+
+A function's proof cites what it calls by their contracts alone. So one check of a crate judges a wrong body of each of several functions, as long as
+none of them calls another: `rattle` reports each function by itself. Where it reports that a callee isn't proved, the caller is tried again without
+that callee's edit. What stands outside a function, such as a constant, is tried alone, over the whole crate. All is done on a copy of the
+repository; `--gate` tries those of the crates' own folders `must-fail` as well.
+
+Prints each wrong body that isn't refused, and ends with status 1 where there is one. `BAD` is one that doesn't compile, or of which nothing is said.
+"""
+import re
+import shutil
+import subprocess
+import sys
+import tempfile
+from pathlib import Path
+
+TOP = Path(__file__).resolve().parent.parent
+REPORT = re.compile(r"^(?:fn|impl|struct|enum) (\S+): (.*)$", re.MULTILINE)
+FUNCTION = re.compile(r"( *)(?:pub(?:\([a-z]+\))? )?(?:const )?fn (\w+)")
+BLOCK = re.compile(r"impl\b(?:<.*?>)? (?:(?P<trait>\w+)(?:<.*>)? for )?(?:&(?:'\w+ )?)?(?P<type>\w+)")
+
+
+def pairs_of(edit):
+    """The file, the old and the new text of each of its changes."""
+    pairs, path, old = [], None, None
+    for line in edit.read_text().split("\n"):
+        word, _, rest = line.partition(" ")
+        path = rest.strip() if word == "file:" else path
+        old = rest if word == "old:" else old
+        if word == "new:":
+            pairs.append((path, old, rest))
+    return pairs
+
+
+def function_at(crate, path, text, old):
+    """The path of the function in whose body the old text stands, or None."""
+    lines = text[:text.index(old) + len(old)].split("\n")
+    number = len(lines) - 1 - old.count("\n")
+    found = [(i, FUNCTION.match(line)) for i, line in enumerate(lines[:number + 1]) if FUNCTION.match(line)]
+    if not found:
+        return None
+    start, function = found[-1]
+    if any(line == function[1] + "}" for line in lines[start:number]):
+        return None
+    blocks = [BLOCK.match(line) for line in lines[:start] if BLOCK.match(line)] if function[1] else []
+    modules = [it for it in path.removeprefix("src/").removesuffix(".rt").split("/") if it not in ("lib", "main", "mod")]
+    return "::".join([crate, *modules, *(name_of(it) for it in blocks[-1:]), function[2]])
+
+
+def name_of(block):
+    """What `rattle` calls a block of methods: after the type, and after the trait where it has one."""
+    return block["type"] + (block["trait"] or "")
+
+
+class Crate:
+    """The wrong bodies of a crate, on a copy of the repository."""
+
+    def __init__(self, copy, name, edits):
+        self.name, self.folder, self.fresh = name, copy / "crates" / name, TOP / "crates" / name
+        self.edits = edits
+        self.functions = {edit: self.function_of(edit) for edit in edits}
+        self.verdicts, self.calls = {}, {}
+
+    def function_of(self, edit):
+        """The one function that it changes, or None."""
+        names = {function_at(self.name, path, (self.fresh / path).read_text(), old) for path, old, _ in pairs_of(edit) if (self.fresh / path).is_file()
+                 and old in (self.fresh / path).read_text()}
+        return names.pop() if len(names) == 1 else None
+
+    def check(self, edits, functions):
+        """What a check with these edits reports of each function, and all that it prints."""
+        shutil.rmtree(self.folder / "src")
+        shutil.copytree(self.fresh / "src", self.folder / "src")
+        for path, old, new in (pair for edit in edits for pair in pairs_of(edit)):
+            file = self.folder / path
+            file.write_text(file.read_text().replace(old, new))
+        only = [word for name in functions for word in ("--only", name)]
+        ran = subprocess.run(["rt", "check", self.name, *only], cwd=self.folder, capture_output=True, text=True)
+        return dict(REPORT.findall(ran.stdout)), ran.stdout + ran.stderr
+
+    def alone(self, edit):
+        """Tries one by itself."""
+        function = self.functions[edit]
+        found = self.check([edit], [function])[0] if function else {}
+        found = found or self.check([edit], [])[0]
+        if not found or any("could not tell" in it for it in found.values()):
+            self.verdicts[edit] = "BAD"
+        else:
+            self.verdicts[edit] = "refused" if any(not it.startswith(("proved", "assumed")) for it in found.values()) else "PROVED"
+
+    def below(self, function):
+        """The functions that it is known to call, at any distance."""
+        found, left = set(), [function]
+        while left:
+            new = self.calls.get(left.pop(), set()) - found
+            found |= new
+            left += new
+        return found
+
+    def batch(self):
+        """One wrong body of each function, of which none is known to call another."""
+        chosen = {}
+        for edit in self.edits:
+            function = self.functions[edit]
+            if edit not in self.verdicts and function and function not in chosen:
+                if not any(it in self.below(function) or function in self.below(it) for it in chosen):
+                    chosen[function] = edit
+        return chosen
+
+    def judge(self, chosen):
+        """Tries these at once: those of which nothing can be said yet stay."""
+        found, _ = self.check(chosen.values(), chosen)
+        if not found and len(chosen) > 1:
+            items = list(chosen.items())
+            self.judge(dict(items[:len(items) // 2]))
+            self.judge(dict(items[len(items) // 2:]))
+            return
+        for function, said in found.items():
+            self.calls.setdefault(function, set()).update(re.findall(r"`([^`]+)`", said.partition("calls")[2]))
+        told = {edit: found.get(function, "nothing") for function, edit in chosen.items()}
+        clear = {edit: said for edit, said in told.items() if said.startswith(("proved", "not proved", "no proof")) and "calls" not in said}
+        self.verdicts.update({edit: "PROVED" if said.startswith("proved") else "refused" for edit, said in clear.items()})
+        for edit in [] if clear else told:
+            self.alone(edit)
+
+    def run(self):
+        while chosen := self.batch():
+            self.judge(chosen)
+        for edit in self.edits:
+            if edit not in self.verdicts:
+                self.alone(edit)
+        wrong = {edit: said for edit, said in self.verdicts.items() if said != "refused"}
+        for edit, said in wrong.items():
+            print(f"{said}: {edit.relative_to(TOP)}", flush=True)
+        print(f"{self.name}: {len(self.verdicts)} wrong bodies, {len(self.verdicts) - len(wrong)} refused", flush=True)
+        return not wrong
+
+
+def main(words):
+    names = [it for it in words if it != "--gate"] or sorted(it.name for it in (TOP / "crates").iterdir())
+    with tempfile.TemporaryDirectory() as folder:
+        copy = Path(folder)
+        for name in ("crates", "crates.txt", "HANDLES"):
+            subprocess.run(["cp", "-r", TOP / name, copy], check=True)
+        good = True
+        for name in names:
+            edits = sorted((TOP / "wrong_bodies" / name).glob("*.edit"))
+            edits += sorted((TOP / "crates" / name / "must-fail").glob("*.edit")) if "--gate" in words else []
+            good &= Crate(copy, name, edits).run() if edits else True
+    return 0 if good else 1
+
+
+if __name__ == "__main__":
+    sys.exit(main(sys.argv[1:]))
