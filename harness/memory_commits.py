@@ -1,0 +1,85 @@
+"""What commits leave: a client writes keys again and again without a pause, so that no turn waits.
+
+Each COMMIT replaces a version, which nobody sees. The memory of the process must not grow with how many came, also while they come: a server that gives such
+versions back only at the end of its turns falls behind. Beside an old transaction a version of each key is kept. A preloaded library must count these,
+and that they are given back after its end, also while further commits come.
+"""
+import os
+
+from client import Connection, Refusals, Server, Tally, create, expect, folder, need, run_harness
+from model import frame
+
+SECTORS = 65_536
+VALUE_BYTES = 1_000
+# A turn serves 64 requests of a session. So many are sent at once, and so many such pieces ahead of what was read.
+TRANSACTIONS, AHEAD = 21, 4
+PIECES, KEYS = 200, 840
+# By how much the process may grow while commits come, and what may be held more than before once an old transaction has ended.
+GROWTH, BOUND = 1 << 20, 65_536
+BEGIN, COMMIT, ABORT = (frame(word) for word in ("BEGIN", "COMMIT", "ABORT"))
+OK = b"+OK\r\n"
+
+
+def piece(number):
+    """The requests of some transactions, each of which writes one key, after those of the pieces before."""
+    keys = [b"key %d" % (it % KEYS) for it in range(number * TRANSACTIONS, (number + 1) * TRANSACTIONS)]
+    return b"".join(BEGIN + frame("SET", key, b"v" * VALUE_BYTES) + COMMIT for key in keys)
+
+
+def read_piece(client):
+    for _ in range(TRANSACTIONS):
+        replies = [client.reply() for _ in range(3)]
+        expect(replies[:2] == [OK, OK] and replies[2][:1] == b":", f"a transaction was answered {replies}")
+
+
+def write_again(client, count, pieces):
+    """The most that was counted while so many pieces were written, from when the first replies came."""
+    most = 0
+    for number in range(pieces):
+        client.send(piece(number))
+        if number >= AHEAD:
+            read_piece(client)
+            most = max(most, count())
+    for _ in range(min(AHEAD, pieces)):
+        read_piece(client)
+    return most
+
+
+def commits_leave_nothing(tally, server):
+    with Connection(server.port) as client, tally.run(f"{PIECES * TRANSACTIONS:,} commits"):
+        write_again(client, lambda: 0, KEYS // TRANSACTIONS)
+        first = server.memory("VmRSS")
+        more = write_again(client, lambda: server.memory("VmRSS"), PIECES) - first
+        print(f"  memory: the process grew by {more:,} bytes while {PIECES * TRANSACTIONS:,} commits came, of {GROWTH:,}")
+        expect(more <= GROWTH, f"the process grew by {more:,} bytes while commits came")
+
+
+def an_old_one_is_counted(tally, port, held):
+    """While an old transaction is open a version of each key is kept, and those that come after its end give these back faster than they add any."""
+    pieces = KEYS // TRANSACTIONS
+    with Connection(port) as client, Connection(port) as old, tally.run("beside an old transaction"):
+        first = held()
+        expect(old.ask(BEGIN) == OK, "BEGIN was refused")
+        kept = write_again(client, held, pieces) - first
+        expect(kept > BOUND, f"only {kept:,} bytes more are held beside it")
+        expect(old.ask(ABORT) == OK, "ABORT was refused")
+        write_again(client, held, pieces)
+        more = write_again(client, held, AHEAD + 2) - first
+        expect(more <= BOUND, f"{more:,} bytes more are held after its end")
+
+
+def main():
+    need()
+    tally = Tally("what commits leave")
+    with folder() as place:
+        data, refusals = os.path.join(place, "data"), Refusals(place)
+        create(data, SECTORS)
+        with Server(data, refusals.environment()) as server:
+            commits_leave_nothing(tally, server)
+            an_old_one_is_counted(tally, server.port, refusals.held)
+            expect(server.is_alive() and server.error_text() == b"", "the server ended, or wrote an error")
+    return 0 if tally.end() else 1
+
+
+if __name__ == "__main__":
+    run_harness(main)
