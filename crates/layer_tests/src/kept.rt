@@ -100,7 +100,7 @@ fn after_five_commits(alloc: Global) -> Result<Versions, Memory> {
     Ok(versions)
 }
 
-/// Where no number before the last is held, older versions go in two calls, since a call looks at three lists, and the deleted key before the
+/// Where no number before the last is held, older versions go in two calls, since a call looks at two lists, and the deleted key before the
 /// other isn't shown.
 #[test]
 fn few_lists_go_in_two_calls(rt: HostRuntime) -> Result<(), Fail> {
@@ -145,14 +145,15 @@ fn older_versions(versions: &Versions) -> u64 {
     count
 }
 
-/// Ten lists go in four calls, three at most in each, and each call but the last asks for another.
+/// Ten lists go in five calls, two in each, and each call but the last asks for another.
 #[test]
 fn lists_go_in_instalments(rt: HostRuntime) -> Result<(), Fail> {
     let mut versions = after_ten_commits(rt.alloc())?;
     assert!(rt; older_versions(&versions) == 10);
-    assert!(rt; versions.reclaim(&[10]) && older_versions(&versions) == 7);
+    assert!(rt; versions.reclaim(&[10]) && older_versions(&versions) == 8);
+    assert!(rt; versions.reclaim(&[10]) && older_versions(&versions) == 6);
     assert!(rt; versions.reclaim(&[10]) && older_versions(&versions) == 4);
-    assert!(rt; versions.reclaim(&[10]) && older_versions(&versions) == 1);
+    assert!(rt; versions.reclaim(&[10]) && older_versions(&versions) == 2);
     assert!(rt; !versions.reclaim(&[10]) && older_versions(&versions) == 0);
     assert!(rt; versions.at(10, key(&[7])) == Some(b"new".as_slice()));
     Ok(())

@@ -4,6 +4,7 @@ ghost use Rattle.model.specs.Key.{IsKey};
 ghost use Rattle.model.specs.Map.{key_cmp};
 
 use crate::refusals::Memory;
+use byteorder::{BigEndian, ByteOrder};
 use smallvec::SmallVec;
 use std::alloc::Global;
 use std::cmp::Ordering;
@@ -14,6 +15,9 @@ pub const KEY_MAX: usize = 256;
 
 // The most bytes that stand in an owned key itself.
 const SHORT_MAX: usize = 16;
+
+// The bytes of which one number is made to compare keys.
+const WORD: usize = 8;
 
 /// A key that is lent: 1 to 256 bytes of any value. Keys stand in the order of their bytes, a shorter key before its extensions.
 #[derive(Clone, Copy)]
@@ -39,7 +43,7 @@ impl<'a> KeyRef<'a> {
     pub fn order(self, other: KeyRef<'_>) -> Ordering
         ensures { result ≡ key_cmp self.entry.bytes.now other.entry.bytes.now }
     {
-        self.bytes.cmp(other.bytes)
+        order_bytes(self.bytes, other.bytes)
     }
 
     /// The key's bytes, which may outlive this value. Takes no memory.
@@ -50,6 +54,22 @@ impl<'a> KeyRef<'a> {
         let KeyRef { bytes } = self;
         bytes
     }
+}
+
+// Words that differ stand as the keys do. The bytes after the last whole word are fewer than a word in one of the two.
+fn order_bytes(left: &[u8], right: &[u8]) -> Ordering
+    ensures { result ≡ key_cmp left.now right.now }
+{
+    let (mut left, mut right) = (left, right);
+    while left.len() >= WORD && right.len() >= WORD {
+        let (first, second) = (BigEndian::read_u64(left), BigEndian::read_u64(right));
+        if first != second {
+            return first.cmp(&second);
+        }
+        left = &left[WORD..];
+        right = &right[WORD..];
+    }
+    left.cmp(right)
 }
 
 /// A key of 1 to 256 bytes that owns them. A clause sees its bytes. Up to 16 bytes stand in the value itself; only more take memory of

@@ -85,7 +85,7 @@ needed_of bs v k = kept_in (option_map (reclaimed bs) (find_chain k v.chains))
 
 -- how many lists of older versions a reclaim looks at; a list has what one commit replaced
 abbrev pub lists_a_reclaim : ℕ
-lists_a_reclaim = 3
+lists_a_reclaim = 2
 
 -- What the numbers see, and what the greatest installed and those above it see, hasn't changed. So many lists are due no more. Each key has
 -- all its versions still or none but those that are needed, and has none but those where no list is due.

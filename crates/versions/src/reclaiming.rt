@@ -19,7 +19,7 @@ use std::collections::LinkedList;
 use std::mem;
 
 // How many of the due lists one reclaim looks at.
-const LISTS_A_RECLAIM: usize = 3;
+const LISTS_A_RECLAIM: usize = 2;
 
 // Drops the older versions of the key that none of the numbers sees. Is this one still there?
 fn reclaim_version(chains: &mut SortedPages<Chain>, version: &OldVersion, begins: &[u64]) -> bool
