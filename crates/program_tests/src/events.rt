@@ -132,3 +132,34 @@ fn kept_versions_and_records(rt: HostRuntime) -> Result<(), Fail> {
     }
     Ok(())
 }
+
+/// What ends a transaction drops the versions that were kept for it alone: a COMMIT, an ABORT, a session that leaves.
+#[test]
+fn each_end_drops_versions(rt: HostRuntime) -> Result<(), Fail> {
+    let asked = [
+        ("1 BEGIN", "+OK"),
+        ("1 SET a 1", "+OK"),
+        ("1 COMMIT", ":1"),
+        ("1 BEGIN", "+OK"),
+        ("2 BEGIN", "+OK"),
+        ("2 SET a 2", "+OK"),
+        ("2 COMMIT", ":2"),
+    ];
+    for end in ["1 COMMIT", "1 ABORT", "leaves"] {
+        let mut store = Pieces::new(new_hub(rt.alloc(), 4096)?, FRAME_MAX);
+        for (line, due) in &asked {
+            expect(rt.alloc(), &mut store, line, due)?;
+        }
+        if end == "leaves" {
+            store.hub.run(&[Event::Left(1)]);
+        } else {
+            reply_to(rt.alloc(), &mut store, end)?;
+        }
+        let engine = store.hub.into_engine();
+        let Some(key) = KeyRef::new(b"a") else {
+            return Err("no key".into());
+        };
+        assert!(rt; engine.kept_versions(key) == 1, "{end}");
+    }
+    Ok(())
+}

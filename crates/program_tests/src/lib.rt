@@ -1,12 +1,10 @@
-//! Tests of the sessions, the driver, the loop and the program: what clients send, in any pieces, and what they read.
+//! Tests of the sessions, the driver and the loop: what clients send, in any pieces, and what they read.
 #![tactic(auto)]
 
 #[cfg(test)]
 mod accepts;
 #[cfg(test)]
 mod buffers;
-#[cfg(test)]
-mod created;
 #[cfg(test)]
 mod driven;
 #[cfg(test)]
@@ -17,8 +15,6 @@ mod hubs;
 mod idle;
 #[cfg(test)]
 mod loops;
-#[cfg(test)]
-mod programs;
 mod script;
 #[cfg(test)]
 mod streams;

@@ -130,5 +130,6 @@ fn data_file(rt: HostRuntime) -> Result<(), Fail> {
         status == DONE && out.as_slice() == b"records 1 keys 1 sectors 4 of 4\n".as_slice()
     );
     assert!(rt; copies(&rt, rt.alloc(), name));
+    assert!(rt; fs::remove_file(&rt, name).is_ok());
     Ok(())
 }

@@ -217,6 +217,7 @@ fn data_files(rt: HostRuntime) -> Result<(), Fail> {
     for case in cases {
         assert!(rt; is_met(&rt, rt.alloc(), case));
     }
+    assert!(rt; fs::remove_file(&rt, "made.data").is_ok());
     Ok(())
 }
 
