@@ -133,33 +133,68 @@ fn kept_versions_and_records(rt: HostRuntime) -> Result<(), Fail> {
     Ok(())
 }
 
-/// What ends a transaction drops the versions that were kept for it alone: a COMMIT, an ABORT, a session that leaves.
+/// An old transaction that wrote nothing: it keeps the version of `a` that it began with.
+const READER: &[(&str, &str)] = &[
+    ("1 BEGIN", "+OK"),
+    ("1 SET a 1", "+OK"),
+    ("1 COMMIT", ":1"),
+    ("1 BEGIN", "+OK"),
+    ("2 BEGIN", "+OK"),
+    ("2 SET a 2", "+OK"),
+    ("2 COMMIT", ":2"),
+];
+
+/// One that keeps it too, and whose COMMIT is refused.
+const PIVOT: &[(&str, &str)] = &[
+    ("1 BEGIN", "+OK"),
+    ("1 SET a 1", "+OK"),
+    ("1 COMMIT", ":1"),
+    ("1 BEGIN", "+OK"),
+    ("1 GET a", "$1 1"),
+    ("1 SET b 1", "+OK"),
+    ("2 BEGIN", "+OK"),
+    ("2 GET b", "$-1"),
+    ("2 SET a 2", "+OK"),
+    ("2 COMMIT", ":2"),
+];
+
+/// What ends a transaction drops the versions that were kept for it alone: a COMMIT, also one that is refused, and an ABORT.
 #[test]
 fn each_end_drops_versions(rt: HostRuntime) -> Result<(), Fail> {
-    let asked = [
-        ("1 BEGIN", "+OK"),
-        ("1 SET a 1", "+OK"),
-        ("1 COMMIT", ":1"),
-        ("1 BEGIN", "+OK"),
-        ("2 BEGIN", "+OK"),
-        ("2 SET a 2", "+OK"),
-        ("2 COMMIT", ":2"),
+    let ends = [
+        (READER, "1 COMMIT", ":3"),
+        (PIVOT, "1 COMMIT", "-CONFLICT pivot self"),
+        (READER, "1 ABORT", "+OK"),
     ];
-    for end in ["1 COMMIT", "1 ABORT", "leaves"] {
-        let mut store = Pieces::new(new_hub(rt.alloc(), 4096)?, FRAME_MAX);
-        for (line, due) in &asked {
-            expect(rt.alloc(), &mut store, line, due)?;
-        }
-        if end == "leaves" {
-            store.hub.run(&[Event::Left(1)]);
-        } else {
-            reply_to(rt.alloc(), &mut store, end)?;
-        }
-        let engine = store.hub.into_engine();
-        let Some(key) = KeyRef::new(b"a") else {
-            return Err("no key".into());
-        };
-        assert!(rt; engine.kept_versions(key) == 1, "{end}");
+    for (asked, end, due) in ends {
+        let mut store = played(rt.alloc(), asked)?;
+        expect(rt.alloc(), &mut store, end, due)?;
+        assert!(rt; versions_of_a(store) == Some(1), "{end}: {due}");
     }
     Ok(())
+}
+
+/// So does a session that leaves.
+#[test]
+fn who_leaves_drops_versions(rt: HostRuntime) -> Result<(), Fail> {
+    let mut store = played(rt.alloc(), READER)?;
+    store.hub.run(&[Event::Left(1)]);
+    assert!(rt; versions_of_a(store) == Some(1));
+    let kept = played(rt.alloc(), READER)?;
+    assert!(rt; versions_of_a(kept) == Some(2));
+    Ok(())
+}
+
+/// A store in which these lines were asked, and answered so.
+fn played(alloc: Global, asked: &[(&str, &str)]) -> Result<Pieces, Fail> {
+    let mut store = Pieces::new(new_hub(alloc, 4096)?, FRAME_MAX);
+    for (line, due) in asked {
+        expect(alloc, &mut store, line, due)?;
+    }
+    Ok(store)
+}
+
+/// How many versions of `a` are kept.
+fn versions_of_a(store: Pieces) -> Option<usize> {
+    Some(store.hub.into_engine().kept_versions(KeyRef::new(b"a")?))
 }
