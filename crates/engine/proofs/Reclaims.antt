@@ -1,11 +1,12 @@
 -- What an engine stands for once nothing is kept that no open transaction needs.
 use Rattle.std.proofs.lemmas.Grind.{common_steps}
-use Rattle.std.proofs.Common.{◌≡◌, ◌≤◌, ◌&&◌, ℕ, Bool, true, List, [], ◌∷◌, refl, sym, subst, ◌∙◌, length, arith, map}
+use Rattle.std.proofs.Common.{◌≡◌, ◌≤◌, ◌&&◌, ℕ, Bool, true, false, inl, inr, ap, List, [], ◌∷◌, refl, sym, subst, ◌∙◌, length, arith, map}
 use Rattle.std.specs.Prelude.{max, ◌==◌}
 use Rattle.std.specs.List.{AllByRecursion}
 use Rattle.std.specs.BTreeMap.{values}
 use Rattle.std.specs.Map.{values_of}
-use Rattle.std.proofs.lemmas.Bool.{or_left, or_right, and_from, eq-eqb}
+use Rattle.std.proofs.lemmas.Bool.{both_ways, or_cases, or_left, or_right, and_from, eq-eqb}
+use Rattle.std.proofs.lemmas.Bool.Decides.{nat_tests}
 use Rattle.std.proofs.lemmas.List.Elements.{All-from_recursion, recursion_from_All}
 use Rattle.model.specs.Map.{KeyMap}
 use Rattle.model.specs.History.{Record}
@@ -48,6 +49,15 @@ begins_same facts held base history [] [] h = refl
 begins_same facts held base history (e ∷ es) (r ∷ rs) h = λ i. h.0.1.begin i ∷ begins_same facts held base history es rs h.1 i
 begins_same facts held base history b4 b5 h = absurd h
 
+begins_held : (facts : Facts) (held : ℕ → Bool) (base : KeyMap) (history : List Record) (es : List (ℕ × View)) (rs : List (ℕ × Running)) → AreRunning facts held base history es rs
+    → (n : ℕ) → is_among (begins_of es) n ≡ true → held n ≡ true
+begins_held facts held base history [] rs h n t = absurd (both_ways false refl t)
+begins_held facts held base history (e ∷ es) [] h n t = absurd h
+begins_held facts held base history (e ∷ es) (r ∷ rs) h n t = elim (or_cases (e.1.begin == n) (is_among (begins_of es) n) t) [
+  | inl own ↦ let same : e.1.begin ≡ n = grind (arith, nat_tests, own) in subst (λ k. held k ≡ true) (sym h.0.1.begin ∙ same) h.0.1.is_held
+  | inr other ↦ begins_held facts held base history es rs h.1 n other
+]
+
 begins_low : (facts : Facts) (held : ℕ → Bool) (base : KeyMap) (history : List Record) (n : ℕ) (es : List (ℕ × View)) (rs : List (ℕ × Running)) → AreRunning facts held base history es rs → AllByRecursion (λ r. n ≤ r.1.begin) rs
     → AllByRecursion (λ t. n ≤ t.begin) (values_of es)
 begins_low facts held base history n [] [] h low = tt
@@ -81,6 +91,9 @@ module _ {D : Type 0} {g : Ghosts D} (e : Engine D g) (new : HistoryValue) (olde
 
   pub numbers_are : (m : State) → StandsFor e m → bs ≡ map (λ r. r.1.begin) m.running
   numbers_are m h = numbers h.few_open ∙ begins_same e.history.committed.facts h.held m.base m.history e.running.entries m.running h.running
+
+  pub are_held : (m : State) → (h : StandsFor e m) → (n : ℕ) → is_among bs n ≡ true → h.held n ≡ true
+  are_held m h n t = begins_held e.history.committed.facts h.held m.base m.history e.running.entries m.running h.running n (subst (λ ns. is_among ns n ≡ true) (numbers h.few_open) t)
 
   pub none_below : (m : State) → StandsFor e m → (n : ℕ) → n ≤ last m → AllByRecursion (λ r. n ≤ r.1.begin) m.running → (facts : Facts) → HasForgotten oldest facts → HasForgotten n facts
   none_below m h n low each facts forgotten =

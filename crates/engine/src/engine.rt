@@ -38,6 +38,7 @@ impl<D: Sectors> Engine<D> {
     ghost use Rattle.model.specs.Machine.{State, IsReached, last, leave};
     ghost use Rattle.model.specs.Laws.{IsIsolated, IsSerializable};
     ghost use Rattle.model.specs.Map.{Bytes};
+    ghost use Rattle.versions.specs.Listings.{IsUnmixed};
     ghost use Rattle.versions.specs.Meaning.{due_of, kept_of, IsReclaimed};
     ghost use Rattle.std.specs.List.{AllByRecursion};
     ghost use Rattle.pivot_check.specs.Kept.{HasForgotten, IsGivenBack, runs_due};
@@ -142,12 +143,13 @@ impl<D: Sectors> Engine<D> {
     /// all of that is gone.
     ///
     /// What each commit replaced is a list. One is due once no open transaction began with the number under which it stands, and a call
-    /// looks at 3 of those that are due. What was kept to check later commits stands in runs, and a call gives back 1,024 written keys and
+    /// looks at 2 of those that are due, and at no other. What was kept to check later commits stands in runs, and a call gives back 1,024 written keys and
     /// as many steps of last readers of those that are wholly old. Takes no memory.
     pub fn reclaim(&mut self) -> bool
         ensures keeps { (m : State) → StandsFor self.old m → StandsFor self.new m }
         ensures versions { (m : State) → StandsFor self.old m → IsReclaimed (versions_of self.old) (versions_of self.new) (map (λ e. e.1.begin) m.running) }
         ensures still { (m : State) → StandsFor self.old m → result ≡ nat_lt 0 (due_of (map (λ e. e.1.begin) m.running) (versions_of self.new) + runs_due (committed_of self.new)) }
+        ensures unmixed { (m : State) → StandsFor self.old m → AllByRecursion IsUnmixed (versions_of self.new).groups }
         ensures given_back { IsGivenBack (committed_of self.old) (committed_of self.new) }
         ensures forgotten { (m : State) → StandsFor self.old m → (n : ℕ) → n ≤ last m → AllByRecursion (λ e. n ≤ e.1.begin) m.running → HasForgotten n (facts_of self.new) }
         ensures device { device_of self.new ≡ device_of self.old }

@@ -1,7 +1,9 @@
 //! What has committed.
-ghost use Rattle.std.specs.Prelude.{◌≡◌, ℕ, ◌+◌, ◌-◌, ◌^◌, ◌<◌, ◌≤◌, ◌&&◌, Bool, true, List, [], ◌∷◌, ◌++◌, All, IfOk, OnOk, is_some, max, nat_lt};
+ghost use Rattle.std.specs.Prelude.{◌≡◌, ℕ, ◌+◌, ◌-◌, ◌^◌, ◌<◌, ◌≤◌, ◌&&◌, Bool, true, List, [], ◌∷◌, ◌++◌, All, IfOk, IsTrue, OnOk, is_some, max, nat_lt};
 ghost use Rattle.model.specs.Map.{Bytes, KeyMap};
 ghost use Rattle.model.specs.History.{Record};
+ghost use Rattle.std.specs.List.{AllByRecursion};
+ghost use Rattle.versions.specs.Listings.{IsUnmixed};
 ghost use Rattle.versions.specs.Meaning.{due_of, is_among, IsReclaimed};
 ghost use Rattle.pivot_check.specs.Kept.{HasForgotten, IsEmpty, IsInReach, IsGivenBack, runs_due};
 ghost use Rattle.pivot_check.specs.Index.{target};
@@ -102,6 +104,7 @@ impl History {
         ensures given_back { IsGivenBack self.old.committed self.new.committed }
         ensures still { result ≡ nat_lt 0 (due_of begins.now self.new.versions + runs_due self.new.committed) }
         ensures forgotten { HasForgotten oldest self.new.committed.facts }
+        ensures unmixed { (held : ℕ → Bool) (base : KeyMap) (history : List Record) → HistoryStandsFor self.old held base history → ((n : ℕ) → IsTrue (is_among begins.now n) → IsTrue (held n)) → AllByRecursion IsUnmixed self.new.versions.groups }
     {
         let versions_due = self.versions.reclaim(begins);
         let runs_due = self.committed.forget(oldest);

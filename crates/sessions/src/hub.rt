@@ -274,7 +274,7 @@ impl<D: Sectors> Hub<D> {
 
     /// Drops what no open transaction needs, a step of it, and answers whether more is due. It may come between any two events, and is none:
     /// what the hub stands for stays, and so does the device. Ends of transactions take such a step themselves; called again until it answers
-    /// no, it ends what an old reader has left. It looks at 3 of the lists of old versions that are due, and gives back 1,024 written keys and as
+    /// no, it ends what an old reader has left. It looks at 2 of the lists of old versions that are due, and gives back 1,024 written keys and as
     /// many steps of last readers of old runs, so it is short. Takes no memory.
     pub fn reclaim(&mut self) -> bool
         ensures { GivesBack self.old self.new result }

@@ -10,8 +10,9 @@ use Rattle.std.specs.FinMap.Entries.{put, is_sorted}
 use Rattle.model.specs.Map.{Bytes, KeyMap, KeyWrite, IsMap, value_at}
 use Rattle.versions.specs.Chains.{ChainValue, Chains, ChainsValue, find_chain, seen_in, visible, IsKept, IsRisingChain, IsRoomier, HasPlace, HasRoom, added, stamped, fresh_chain, IsReady, base_chains}
 use Rattle.versions.specs.StandsFor.{StandsFor}
+use Rattle.versions.specs.Witnesses.{AreUnderWitnesses, IsAddedTo}
 use Rattle.sorted_pages.specs.Pages.{Page, room_at}
-use Rattle.versions.specs.Listings.{AreSeenFrom, is_in, is_listed, IsListed, unwitnessed, followed}
+use Rattle.versions.specs.Listings.{AreSeenFrom, IsFollowed, is_in, is_listed, IsListed, unwitnessed, followed}
 use Rattle.versions.specs.Groups.{GroupValue, Listed}
 use Rattle.versions.specs.Meaning.{kept_in, writes_of, AreInstalled}
 use Rattle.std.proofs.lemmas.Bool.{or_right}
@@ -20,6 +21,7 @@ use Rattle.model.proofs.Entries.{IsSorted, IsBelowAll, parts}
 use Rattle.versions.proofs.Visibles.{value-visible}
 use Rattle.versions.proofs.Stores.{HavePlaces, both, sorted_base, find-roomier, room-more, room-roomier, room_roomier, places-more, place-roomier, places-roomier, places-apart, written_map, written_number, ready-apart, maps-step, newest-step, kept-step, ready-prepared, kept-put, rising_one, visible-base, newest-base}
 use Rattle.versions.proofs.Listings.{groups-found, listed-write}
+use Rattle.versions.proofs.UnderWitnesses.{added-put, added-refl, added-trans, followed-write}
 
 -- what was found is what number n sees
 pub seen_found : (n : ℕ) (k : Bytes) (es : Chains) (o : Option ChainValue) → IsSorted es → o ≡ find_chain k es → seen_in n o ≡ value_at (visible n es) k
@@ -88,6 +90,8 @@ pub record Installing (n : ℕ) (from es : Chains) (ps : List (Page ChainValue))
   pub kept : (k : Bytes) → kept_in (find_chain k es) + writes_of ws k ≡ kept_in (find_chain k from) + writes_of all k
   pub listed : (gs : List GroupValue) → IsListed from gs → IsListed es (unwitnessed ls ∷ gs)
   pub seen : AreSeenFrom (n - 1) ls
+  pub added : (k : Bytes) → IsAddedTo n (find_chain k from) (find_chain k es)
+  pub followed : AllByRecursion (IsFollowed n es) ls
 
 followed_seen : (n : ℕ) (k : Bytes) (o : Option ChainValue) → IsReady n o → AreSeenFrom (n - 1) (followed o k n)
 followed_seen n k None r = tt
@@ -113,6 +117,8 @@ installing-step n from es fs ps qs ls us room room' all ws vs w own next g is mo
       newest = λ k. ap (λ (l : Chains). written_number n ws k (number_in k l)) is ∙ newest-step n k w ws own es ∙ h.newest k;
       kept = λ k. ap (λ (l : Chains). kept_in (find_chain k l) + writes_of ws k) is ∙ kept-step n k w ws own es ∙ h.kept k;
       listed = λ gs from_listed. subst (λ (l : List Listed). IsListed fs (unwitnessed l ∷ gs)) (sym list) (subst (λ (l : Chains). IsListed l (unwitnessed (ls ++ followed (find_chain w.0 es) w.0 n) ∷ gs)) (sym is) (listed-write w.0 n w.1 own es ls gs (h.listed gs from_listed)));
+      added = λ k. added-trans n (find_chain k from) (find_chain k es) (find_chain k fs) (h.added k) (subst (λ (l : Chains). IsAddedTo n (find_chain k es) (find_chain k l)) (sym is) (added-put n w.0 k w.1 own es));
+      followed = subst (AllByRecursion (IsFollowed n fs)) (sym list) (subst (λ (l : Chains). AllByRecursion (IsFollowed n l) (ls ++ followed (find_chain w.0 es) w.0 n)) (sym is) (followed-write n w.0 w.1 own es ls h.ready.0 h.followed));
       seen = subst (AreSeenFrom (n - 1)) (sym list) (seen-append (n - 1) ls (followed (find_chain w.0 es) w.0 n) h.seen (followed_seen n w.0 (find_chain w.0 es) h.ready.0));
     }
 
@@ -152,6 +158,8 @@ installing-begun n last es ps ls room ws us kept lt rising rooms fits list none 
   kept = λ k. refl;
   listed = λ gs h. groups-found es gs (unwitnessed ls ∷ gs) (λ k n high t. or_right (is_in ls k n high) (is_listed gs k n high) t) h;
   seen = subst (AreSeenFrom (n - 1)) (sym none) tt;
+  added = λ k. added-refl n (find_chain k es);
+  followed = subst (AllByRecursion (IsFollowed n es)) (sym none) tt;
 })
 
 -- ---- an opened map
@@ -171,10 +179,11 @@ base-next es m rest next p h is all =
     let whole : (es ++ e ∷ []) ++ base_chains next ≡ base_chains m = append_assoc es (e ∷ []) (base_chains next) ∙ ap (λ (l : KeyMap). es ++ base_chains l) (sym is) ∙ all in
     sorted_left (es ++ e ∷ []) (base_chains next) (subst IsSorted (sym whole) (sorted_base m h))
 
-pub stands-opened : (v : ChainsValue) (m : KeyMap) → IsMap m → v.chains ≡ base_chains m → v.last ≡ 0 → StandsFor v (λ _. true) m []
-stands-opened v m is_map is last = record {
+pub stands-opened : (v : ChainsValue) (m : KeyMap) → IsMap m → v.chains ≡ base_chains m → v.last ≡ 0 → v.groups ≡ [] → StandsFor v (λ _. true) m []
+stands-opened v m is_map is last none = record {
   is_map = is_map;
   maps = λ n t. ap (visible n) is ∙ visible-base n m;
   newest = λ k. ap (λ es. option_map (λ (c : ChainValue). c.newest.number) (find_chain k es)) is ∙ newest-base k m;
   within = omega (arith, last);
+  witnessed = subst (AreUnderWitnesses (λ _. true) v) (sym none) tt;
 }

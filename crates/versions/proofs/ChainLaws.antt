@@ -56,10 +56,10 @@ rising-added (Some c) v room last h le = (rising-push c.older c.newest v.number 
 abbrev pub pick : ℕ → Option Stamped → List Stamped → Stamped → Option Stamped
 pick b d vs w = if nat_le w.number b then Some w else last_at b d vs
 
-le_true : (a b : ℕ) → a ≤ b → nat_le a b ≡ true
+pub le_true : (a b : ℕ) → a ≤ b → nat_le a b ≡ true
 le_true a b h = grind (arith, nat_tests)
 
-le_false : (a b : ℕ) → b < a → nat_le a b ≡ false
+pub le_false : (a b : ℕ) → b < a → nat_le a b ≡ false
 le_false a b h = grind (arith, nat_tests)
 
 -- once the first is at most b, what came before doesn't matter
@@ -100,11 +100,11 @@ version_at-newest bs c b le = let t = le_true c.newest.number b le in
     ap (λ q. if q then Some c.newest else last_at b None (seen_by bs c.newest.number c.older)) t ∙ sym (ap (λ q. if q then Some c.newest else last_at b None c.older) t)
 
 -- no later version has a number of at most b
-stays : (b : ℕ) (v : Stamped) (vs : List Stamped) → AllByRecursion (λ u. b < u.number) vs → last_at b (Some v) vs ≡ Some v
+pub stays : (b : ℕ) (v : Stamped) (vs : List Stamped) → AllByRecursion (λ u. b < u.number) vs → last_at b (Some v) vs ≡ Some v
 stays b v [] h = refl
 stays b v (u ∷ vs) h = ap (λ q. last_at b (if q then Some u else Some v) vs) (le_false u.number b h.0) ∙ stays b v vs h.1
 
-above_first : (b n : ℕ) (vs : List Stamped) → IsRisingTo vs n → b < first_number vs n → AllByRecursion (λ u. b < u.number) vs × (b < n)
+pub above_first : (b n : ℕ) (vs : List Stamped) → IsRisingTo vs n → b < first_number vs n → AllByRecursion (λ u. b < u.number) vs × (b < n)
 above_first b n [] h lt = (tt, lt)
 above_first b n (v ∷ vs) h lt = ((lt, weaker vs h.0), omega (arith, h.1))
   where
@@ -112,7 +112,7 @@ above_first b n (v ∷ vs) h lt = ((lt, weaker vs h.0), omega (arith, h.1))
     weaker [] g = tt
     weaker (u ∷ us) g = (omega (arith, g.0), weaker us g.1)
 
-some_between : (bs : List ℕ) (low high : ℕ) → is_between bs low high ≡ true → (b : ℕ) × (is_among bs b ≡ true) × (low ≤ b) × (b < high)
+pub some_between : (bs : List ℕ) (low high : ℕ) → is_between bs low high ≡ true → (b : ℕ) × (is_among bs b ≡ true) × (low ≤ b) × (b < high)
 some_between [] low high t = absurd (both_ways _ refl t)
 some_between (x ∷ bs) low high t = elim (or_cases (nat_le low x && nat_lt x high) (is_between bs low high) t) [
   | inl e ↦ (x, or_left (x == x) (is_among bs x) (grind (arith, nat_tests)), grind (arith, nat_tests), grind (arith, nat_tests))

@@ -9,9 +9,10 @@ use Rattle.std.proofs.lemmas.Bool.{both_ways, or_cases, or_left, or_right}
 use Rattle.std.proofs.lemmas.Bool.Decides.{nat_tests}
 use Rattle.model.specs.Map.{Bytes, is_same_key}
 use Rattle.model.proofs.Lookups.{same_key, same_key_itself}
-use Rattle.versions.specs.Chains.{Stamped, ChainValue, Chains, find_chain, first_number, is_between, reclaimed, IsKept, IsReclaimedAt}
-use Rattle.versions.specs.Listings.{is_seen_from, is_seen_by, AreSeenFrom, is_of, is_in, is_listed, AreListed, IsListedChain, IsListed, AreFound, has_version, AreNeeded, IsNeededChain, IsSettled, IsPartReclaimed, AreKept, AreAmong, IsTrulyMixed, sees_mixed, versions_in, witnesses, lists_in}
+use Rattle.versions.specs.Chains.{Stamped, ChainValue, Chains, ChainsValue, find_chain, first_number, is_between, reclaimed, IsKept, IsReclaimedAt}
+use Rattle.versions.specs.Listings.{is_seen_from, is_seen_by, AreSeenFrom, is_of, is_in, is_listed, AreListed, IsListedChain, IsListed, AreFound, has_version, AreNeeded, IsNeededChain, IsSettled, IsPartReclaimed, AreKept, AreAmong, AreMixedSettled, IsTrulyMixed, sees_mixed, versions_in, witness_for, witnesses, lists_in}
 use Rattle.versions.specs.Groups.{GroupValue, Listed}
+use Rattle.versions.specs.Witnesses.{AreUnderWitnesses, IsUnderWitness}
 use Rattle.versions.specs.Meaning.{is_among, due_for, due_in, lists_a_reclaim}
 use Rattle.versions.proofs.Stores.{rising_found}
 use Rattle.versions.proofs.Calls.{take_all}
@@ -89,6 +90,7 @@ pub record Dropping (bs : List ℕ) (old now : Chains) (os vs : List Listed) (le
   pub settled : AllByRecursion (IsSettled bs now) (drop left vs)
   pub left_out : AreKept os vs now
   pub seen : (n : ℕ) → AreSeenFrom n os → AreSeenFrom n vs
+  pub each : (held : ℕ → Bool) (v : ChainsValue) (w : ℕ) → AllByRecursion (IsUnderWitness held v w) os → AllByRecursion (IsUnderWitness held v w) vs
 
 pub dropping-begun : (bs : List ℕ) (es : Chains) (os : List Listed) (left : ℕ) → left ≡ length os → Dropping bs es es os os left
 dropping-begun bs es os left all = record {
@@ -98,6 +100,7 @@ dropping-begun bs es os left all = record {
   settled = subst (λ l. AllByRecursion (IsSettled bs es) l) (sym (ap (λ n. drop n os) all ∙ drop-all os)) tt;
   left_out = λ k n high t. or_left (is_in os k n high) (not (has_version n (find_chain k es))) t;
   seen = λ n h. h;
+  each = λ held v w h. h;
 }
   where
     drop-all : (xs : List Listed) → drop (length xs) xs ≡ []
@@ -114,6 +117,7 @@ dropping-seen bs old now os vs m left v o next at a s d = record {
   settled = rest-more (IsSettled bs now) vs m v (let h = d.in_range in omega arith) at (inl (next-between bs o v a s)) (subst (λ n. AllByRecursion (IsSettled bs now) (drop n vs)) {x = left} {y = suc m} (omega arith) d.settled);
   left_out = d.left_out;
   seen = d.seen;
+  each = d.each;
 }
 
 module _ (bs : List ℕ) (old now new : Chains) (os vs : List Listed) (m left last : ℕ) (v : Listed) (next : left ≡ m + 1) (at : v ≡ get_or vs m v) (ordered : IsKept old last) (r : IsReclaimedAt bs v.key now new) (d : Dropping bs old now os vs left) where
@@ -130,14 +134,15 @@ module _ (bs : List ℕ) (old now new : Chains) (os vs : List Listed) (m left la
   needed = subst (IsNeededChain bs) (sym (r.found v.key ∙ ap (λ b. if b then option_map (reclaimed bs) (find_chain v.key now) else find_chain v.key now) (same_key_itself v.key))) (needed-chain bs (find_chain v.key now) last (rising_found v.key now last (d.kept last ordered)))
 
   -- the version is still there
-  pub dropping-stays : Dropping bs old new os vs m
-  dropping-stays = record {
+  pub dropping-stays : has_version v.number (find_chain v.key new) ≡ true → Dropping bs old new os vs m
+  dropping-stays there = record {
     in_range = let h = within in omega arith;
     part = part-trans bs old now new last ordered d.part step;
     kept = λ n h. r.kept n (d.kept n h);
-    settled = rest-more (IsSettled bs new) vs m v within at (inr needed) rest;
+    settled = rest-more (IsSettled bs new) vs m v within at (inr (there, needed)) rest;
     left_out = left-part bs now new os vs step d.left_out;
     seen = d.seen;
+    each = d.each;
   }
 
   -- the version is gone
@@ -155,6 +160,7 @@ module _ (bs : List ℕ) (old now new : Chains) (os vs : List Listed) (m left la
       | inr e ↦ or_right (is_in us k n high) (not (has_version n (find_chain k new))) e
     ];
     seen = λ n h. subst (AreSeenFrom n) (sym is) (all-swap_remove (λ x. is_seen_from n x ≡ true) vs m v within (d.seen n h));
+    each = λ held u w h. subst (λ l. AllByRecursion (IsUnderWitness held u w) l) (sym is) (all-swap_remove (IsUnderWitness held u w) vs m v within (d.each held u w h));
   }
     where
       absent : (k : Bytes) (n high : ℕ) → is_of k n high v ≡ true → has_version n (find_chain k new) ≡ false
@@ -197,6 +203,45 @@ IsLookedAfter bs es g = due_for bs g ≡ 0 → AllByRecursion (IsSettled bs es) 
 all-parts-settled : (bs : List ℕ) (now new : Chains) → IsPartReclaimed bs now new → (gs : List GroupValue) → AllByRecursion (IsLookedAfter bs now) gs → AllByRecursion (IsLookedAfter bs new) gs
 all-parts-settled bs now new p [] h = tt
 all-parts-settled bs now new p (g ∷ gs) h = (λ e. all-settled-part bs now new p g.versions (h.0 e), all-parts-settled bs now new p gs h.1)
+
+all-mixed-settled : (bs : List ℕ) (now new : Chains) → IsPartReclaimed bs now new → (gs : List GroupValue) → AreMixedSettled bs now gs → AreMixedSettled bs new gs
+all-mixed-settled bs now new p [] h = tt
+all-mixed-settled bs now new p (g ∷ gs) h = (all-settled-part bs now new p g.mixed h.0, all-mixed-settled bs now new p gs h.1)
+
+-- ---- groups that were not looked at yet
+
+drop-here : {X : Type 0} (P : X → Type 0) (xs : List X) (i : ℕ) (x : X) → i < length xs → x ≡ get_or xs i x → AllByRecursion P (drop i xs) → P x
+drop-here P [] i x lt at h = absurd (omega arith)
+drop-here P (y ∷ xs) zero x lt at h = subst P (sym at) h.0
+drop-here P (y ∷ xs) (suc i) x lt at h = drop-here P xs i x (omega arith) at h
+
+drop-next : {X : Type 0} (P : X → Type 0) (xs : List X) (i : ℕ) (y : X) → i < length xs → AllByRecursion P (drop i xs) → AllByRecursion P (drop (suc i) (set xs i y))
+drop-next P [] i y lt h = absurd (omega arith)
+drop-next P (x ∷ xs) zero y lt h = h.1
+drop-next P (x ∷ xs) (suc i) y lt h = drop-next P xs i y (omega arith) h
+
+all-step : {X : Type 0} (P Q : X → Type 0) → ((x : X) → P x → Q x) → (xs : List X) → AllByRecursion P xs → AllByRecursion Q xs
+all-step P Q f [] h = tt
+all-step P Q f (x ∷ xs) h = (f x h.0, all-step P Q f xs h.1)
+
+-- the group's versions are under its witness
+abbrev pub IsUnder : (ℕ → Bool) → ChainsValue → GroupValue → Type 0
+IsUnder held v g = AllByRecursion (IsUnderWitness held v g.witness) g.versions × AllByRecursion (IsUnderWitness held v g.witness) g.mixed
+
+-- what the group's versions were under, they are under when some of them are gone
+abbrev pub StaysUnder : GroupValue → GroupValue → Type 0
+StaysUnder g h = (held : ℕ → Bool) (v : ChainsValue) (w : ℕ) → AllByRecursion (IsUnderWitness held v w) g.versions → AllByRecursion (IsUnderWitness held v w) g.mixed → AllByRecursion (IsUnderWitness held v w) h.versions × AllByRecursion (IsUnderWitness held v w) h.mixed
+
+-- what is under a witness is under the one that stands for it
+abbrev pub StandsUnder : List ℕ → (ℕ → Bool) → ChainsValue → (ℕ → Bool) → ChainsValue → Type 0
+StandsUnder bs more v held u = (w : ℕ) (x : Listed) → IsUnderWitness more v w x → IsUnderWitness held u (witness_for bs w) x
+
+stays-under : (bs : List ℕ) (more held : ℕ → Bool) (v u : ChainsValue) (g h : GroupValue) → h.witness ≡ witness_for bs g.witness → StaysUnder g h → StandsUnder bs more v held u → IsUnder more v g → IsUnder held u h
+stays-under bs more held v u g h is stays stands under =
+    let w = g.witness in
+    let left = stays more v w under.0 under.1 in
+    let step = all-step (IsUnderWitness more v w) (IsUnderWitness held u (witness_for bs w)) (stands w) in
+    subst (λ n. AllByRecursion (IsUnderWitness held u n) h.versions × AllByRecursion (IsUnderWitness held u n) h.mixed) (sym is) (step h.versions left.0, step h.mixed left.1)
 
 -- what is listed with another group in a group's place
 listed-set : (gs : List GroupValue) (i : ℕ) (g h : GroupValue) (k : Bytes) (n high : ℕ) → i < length gs → g ≡ get_or gs i g → (is_in g.versions k n high ≡ true → is_in h.versions k n high ≡ true) → is_listed gs k n high ≡ true → is_listed (set gs i h) k n high ≡ true
@@ -241,10 +286,17 @@ pub record Settling (bs : List ℕ) (old now : Chains) (olds gs : List GroupValu
   pub held : AllByRecursion (IsHeld bs) (take i gs)
   pub truly : AllByRecursion (IsTrulyMixed bs) (take i gs)
   pub lists : lists_in gs ≤ lists_in olds
+  pub each : (more held : ℕ → Bool) (v u : ChainsValue) → StandsUnder bs more v held u → AreUnderWitnesses more v olds → AreUnderWitnesses held u (take i gs)
+  pub later : (more : ℕ → Bool) (v : ChainsValue) → AreUnderWitnesses more v olds → AreUnderWitnesses more v (drop i gs)
+  pub mixed : AreMixedSettled bs now (take i gs)
 
 nothing-before : {X : Type 0} (P : X → Type 0) (xs : List X) → AllByRecursion P (take 0 xs)
 nothing-before P [] = tt
 nothing-before P (x ∷ xs) = tt
+
+all-left : {X : Type 0} (P : X → Type 0) (xs : List X) → AllByRecursion P xs → AllByRecursion P (drop 0 xs)
+all-left P [] h = h
+all-left P (x ∷ xs) h = h
 
 pub settling-begun : (bs : List ℕ) (es : Chains) (gs : List GroupValue) (most : ℕ) → most ≡ lists_a_reclaim → IsListed es gs → Settling bs es es gs gs 0 most
 settling-begun bs es gs most all h = record {
@@ -258,6 +310,9 @@ settling-begun bs es gs most all h = record {
   held = nothing-before (IsHeld bs) gs;
   truly = nothing-before (IsTrulyMixed bs) gs;
   lists = omega arith;
+  each = λ more held v u stands h. nothing-before (IsUnder held u) gs;
+  later = λ more v h. all-left (IsUnder more v) gs h;
+  mixed = nothing-before (λ g. AllByRecursion (IsSettled bs es) g.mixed) gs;
 }
   where
     none : (xs : List GroupValue) → due_in bs (take 0 xs) ≡ 0
@@ -266,9 +321,9 @@ settling-begun bs es gs most all h = record {
 
 -- the next group was looked at
 pub settling-settled : (bs : List ℕ) (old now new : Chains) (olds gs : List GroupValue) (i last most more : ℕ) (g h : GroupValue) → i < length gs → g ≡ get_or gs i g → IsKept old last → IsPartReclaimed bs now new → ((last : ℕ) → IsKept now last → IsKept new last)
-    → more ≡ most - due_for bs g → due_for bs h ≡ due_for bs g - most → IsLookedAfter bs new h → AreKept g.versions h.versions new → IsHeld bs h → IsTrulyMixed bs h → h.lists ≤ g.lists → Settling bs old now olds gs i most
+    → more ≡ most - due_for bs g → due_for bs h ≡ due_for bs g - most → IsLookedAfter bs new h → AreKept g.versions h.versions new → IsHeld bs h → IsTrulyMixed bs h → h.lists ≤ g.lists → h.witness ≡ witness_for bs g.witness → StaysUnder g h → AllByRecursion (IsSettled bs new) h.mixed → Settling bs old now olds gs i most
     → Settling bs old new olds (set gs i h) (i + 1) more
-settling-settled bs old now new olds gs i last most more g h lt at ordered p keeps spare due settled left held truly counted s =
+settling-settled bs old now new olds gs i last most more g h lt at ordered p keeps spare due settled left held truly counted is stays mixed s =
     let long : i < length (set gs i h) = omega (arith, lt, length-set gs i h) in
     let there : h ≡ get_or (set gs i h) i h = sym (get-set gs i h h lt) in
     let sum = due-set bs gs i g h lt at in
@@ -293,6 +348,13 @@ settling-settled bs old now new olds gs i last most more g h lt at ordered p kee
       held = subst (λ n. AllByRecursion (IsHeld bs) (take n (set gs i h))) next (take-more (IsHeld bs) (set gs i h) i h long there held (subst (λ l. AllByRecursion (IsHeld bs) l) (sym (take-set gs i h)) s.held));
       truly = subst (λ n. AllByRecursion (IsTrulyMixed bs) (take n (set gs i h))) next (take-more (IsTrulyMixed bs) (set gs i h) i h long there truly (subst (λ l. AllByRecursion (IsTrulyMixed bs) l) (sym (take-set gs i h)) s.truly));
       lists = (let now = s.lists in let fewer = lists-fewer gs i g h lt at counted in omega (arith, now, fewer));
+      each = λ more held v u stands under.
+          subst (λ n. AreUnderWitnesses held u (take n (set gs i h))) next (take-more (IsUnder held u) (set gs i h) i h long there
+          (stays-under bs more held v u g h is stays stands (drop-here (IsUnder more v) gs i g lt at (s.later more v under)))
+          (subst (λ l. AreUnderWitnesses held u l) (sym (take-set gs i h)) (s.each more held v u stands under)));
+      later = λ more v under. subst (λ n. AreUnderWitnesses more v (drop n (set gs i h))) next (drop-next (IsUnder more v) gs i h lt (s.later more v under));
+      mixed = subst (λ n. AreMixedSettled bs new (take n (set gs i h))) next (take-more (λ x. AllByRecursion (IsSettled bs new) x.mixed) (set gs i h) i h long there mixed
+          (subst (λ l. AreMixedSettled bs new l) (sym (take-set gs i h)) (all-mixed-settled bs now new p (take i gs) s.mixed)));
     }
   where
     still : (k : Bytes) (n high : ℕ) → has_version n (find_chain k new) ≡ true → is_in g.versions k n high ≡ true → is_in h.versions k n high ≡ true
@@ -308,7 +370,7 @@ listed-needed bs es k n high [] h t = absurd (both_ways _ refl t)
 listed-needed bs es k n high (v ∷ vs) h t = elim (or_cases (is_of k n high v) (is_in vs k n high) t) [
   | inl own ↦ elim h.0 [
     | inl b ↦ inl (between-wider bs v.number v.next n high (grind (arith, nat_tests, own)) (grind (arith, nat_tests, own)) b)
-    | inr c ↦ inr (subst (λ (j : Bytes). IsNeededChain bs (find_chain j es)) (sym (same_key k v.key (grind (arith, own)))) c)
+    | inr c ↦ inr (subst (λ (j : Bytes). IsNeededChain bs (find_chain j es)) (sym (same_key k v.key (grind (arith, own)))) c.1)
   ]
   | inr e ↦ listed-needed bs es k n high vs h.1 e
 ]
@@ -355,6 +417,12 @@ settling-held bs old now olds gs i most all s = each gs (subst (λ l. AllByRecur
 
 pub settling-truly : (bs : List ℕ) (old now : Chains) (olds gs : List GroupValue) (i most : ℕ) → length gs ≤ i → Settling bs old now olds gs i most → AllByRecursion (IsTrulyMixed bs) gs
 settling-truly bs old now olds gs i most all s = subst (λ l. AllByRecursion (IsTrulyMixed bs) l) (take_all gs i all) s.truly
+
+pub settling-each : (bs : List ℕ) (old now : Chains) (olds gs : List GroupValue) (i most : ℕ) → length gs ≤ i → Settling bs old now olds gs i most → (more held : ℕ → Bool) (v u : ChainsValue) → StandsUnder bs more v held u → AreUnderWitnesses more v olds → AreUnderWitnesses held u gs
+settling-each bs old now olds gs i most all s more held v u stands under = subst (λ l. AreUnderWitnesses held u l) (take_all gs i all) (s.each more held v u stands under)
+
+pub settling-mixed : (bs : List ℕ) (old now : Chains) (olds gs : List GroupValue) (i most : ℕ) → length gs ≤ i → Settling bs old now olds gs i most → AreMixedSettled bs now gs
+settling-mixed bs old now olds gs i most all s = subst (λ l. AreMixedSettled bs now l) (take_all gs i all) s.mixed
 
 -- where none is due, all chains were reclaimed
 pub settling-ended : (bs : List ℕ) (old now : Chains) (olds gs : List GroupValue) (i most : ℕ) → length gs ≤ i → Settling bs old now olds gs i most → due_in bs gs ≡ 0 → (k : Bytes) → find_chain k now ≡ option_map (reclaimed bs) (find_chain k old)
@@ -486,8 +554,16 @@ truly-joined bs a g j one own is (inl e) (inr f) = inr (both ∙ not-second (is_
     both = (λ i. is_among bs (own i) && list_all (is_seen_from (own i)) (is i)) ∙ ap (λ b. is_among bs a.witness && b) (list_all-append (is_seen_from a.witness) a.mixed g.mixed)
 
 -- one of the groups is joined to another
-pub truly-set : (bs : List ℕ) (gs hs : List GroupValue) (i m : ℕ) (a g j : GroupValue) → i < length gs → g ≡ get_or gs i g → hs ≡ remove gs i → m < length hs → a ≡ get_or hs m a → (IsTrulyMixed bs a → IsTrulyMixed bs g → IsTrulyMixed bs j)
-    → AllByRecursion (IsTrulyMixed bs) gs → AllByRecursion (IsTrulyMixed bs) (set hs m j)
-truly-set bs gs hs i m a g j lt at less within other joins h =
-    let left = subst (λ l. AllByRecursion (IsTrulyMixed bs) l) (sym less) (all-remove (IsTrulyMixed bs) gs i h) in
-    all-set (IsTrulyMixed bs) hs m j (joins (subst (IsTrulyMixed bs) (sym other) (all-get (IsTrulyMixed bs) hs m a within left)) (subst (IsTrulyMixed bs) (sym at) (all-get (IsTrulyMixed bs) gs i g lt h))) left
+pub all-joined : (P : GroupValue → Type 0) (gs hs : List GroupValue) (i m : ℕ) (a g j : GroupValue) → i < length gs → g ≡ get_or gs i g → hs ≡ remove gs i → m < length hs → a ≡ get_or hs m a → (P a → P g → P j) → AllByRecursion P gs → AllByRecursion P (set hs m j)
+all-joined P gs hs i m a g j lt at less within other joins h =
+    let left = subst (λ l. AllByRecursion P l) (sym less) (all-remove P gs i h) in
+    all-set P hs m j (joins (subst P (sym other) (all-get P hs m a within left)) (subst P (sym at) (all-get P gs i g lt h))) left
+
+-- two groups of one witness are joined, and what they list stays under it
+pub under-joined : (held : ℕ → Bool) (v : ChainsValue) (a g j : GroupValue) → a.witness ≡ g.witness → j.witness ≡ a.witness
+    → ((w : ℕ) → AllByRecursion (IsUnderWitness held v w) a.versions → AllByRecursion (IsUnderWitness held v w) a.mixed → AllByRecursion (IsUnderWitness held v w) g.versions → AllByRecursion (IsUnderWitness held v w) g.mixed → AllByRecursion (IsUnderWitness held v w) j.versions × AllByRecursion (IsUnderWitness held v w) j.mixed)
+    → IsUnder held v a → IsUnder held v g → IsUnder held v j
+under-joined held v a g j one own each ha hg =
+    let at = λ (n : ℕ) (x : GroupValue). AllByRecursion (IsUnderWitness held v n) x.versions × AllByRecursion (IsUnderWitness held v n) x.mixed in
+    let other = subst (λ n. at n g) (sym one) hg in
+    subst (λ n. at n j) (sym own) (each a.witness ha.0 ha.1 other.0 other.1)

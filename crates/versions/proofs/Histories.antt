@@ -6,9 +6,11 @@ use Rattle.model.specs.Map.{Bytes, KeyMap, KeyWrite, IsMap, after_writes, value_
 use Rattle.model.specs.History.{Record, map_at}
 use Rattle.model.proofs.Lookups.{IsMap-after_writes}
 use Rattle.model.specs.Dependency.{writes_key}
-use Rattle.versions.specs.Chains.{ChainsValue}
+use Rattle.versions.specs.Chains.{ChainsValue, IsRoomier}
 use Rattle.versions.specs.Meaning.{map_seen, is_written_by, is_among, IsSameMeaning, IsInstalled, IsReclaimed}
 use Rattle.versions.specs.StandsFor.{StandsFor, last_writer, last_writer_from}
+use Rattle.versions.specs.Witnesses.{AreUnderWitnesses}
+use Rattle.versions.proofs.UnderWitnesses.{groups-under, under-held, under-roomier}
 
 pub map_at-push : (base : KeyMap) (rs : List Record) (r : Record) (n : ℕ) → map_at base (rs ++ r ∷ []) n ≡ (if nat_le r.commit n then after_writes (map_at base rs n) r.writes else map_at base rs n)
 map_at-push base [] r n = refl
@@ -26,6 +28,7 @@ module _ (v : ChainsValue) (held : ℕ → Bool) (base : KeyMap) (history : List
     maps = λ n t. s.maps n (elim (or_cases (fewer n) (nat_le v.last n) t) [ inl f ↦ h n f | inr l ↦ or_right (held n) (nat_le v.last n) l ]);
     newest = s.newest;
     within = s.within;
+    witnessed = groups-under held fewer v v v.groups (under-held held fewer v h) s.witnessed;
   }
 
   -- a record without writes
@@ -35,6 +38,7 @@ module _ (v : ChainsValue) (held : ℕ → Bool) (base : KeyMap) (history : List
     maps = λ n t. s.maps n t ∙ sym (map_at-push base history r n ∙ ap (λ ws. if nat_le r.commit n then after_writes (map_at base history n) ws else map_at base history n) e ∙ either (nat_le r.commit n) (map_at base history n));
     newest = λ k. s.newest k ∙ sym (last_writer-push (option_map (λ _. 0) (value_at base k)) history r k ∙ ap (λ ws. if is_written_by ws k then Some r.commit else last_writer base history k) e);
     within = (let w = s.within in omega (arith, length-append history (r ∷ [])));
+    witnessed = s.witnessed;
   }
     where
       either : {A : Type 0} (b : Bool) (x : A) → (if b then x else x) ≡ x
@@ -42,16 +46,17 @@ module _ (v : ChainsValue) (held : ℕ → Bool) (base : KeyMap) (history : List
       either false x = refl
 
   module _ (new : ChainsValue) where
-    pub stands-same : IsSameMeaning v new → StandsFor v held base history → StandsFor new held base history
-    stands-same h s = record {
+    pub stands-same : IsSameMeaning v new → IsRoomier v.chains new.chains → new.groups ≡ v.groups → StandsFor v held base history → StandsFor new held base history
+    stands-same h more same s = record {
       is_map = s.is_map;
       maps = λ n t. h.maps n ∙ s.maps n (subst (λ l. IsTrue (held n || nat_le l n)) h.last t);
       newest = λ k. h.newest k ∙ s.newest k;
       within = subst (λ l. l ≤ length history) (sym h.last) s.within;
+      witnessed = subst (AreUnderWitnesses held new) (sym same) (groups-under held held v new v.groups (under-roomier held v new more h.last) s.witnessed);
     }
 
-    pub stands-installed : (n : ℕ) (ws : List KeyWrite) (r : Record) → IsInstalled v new n ws → v.last < n → length history + 1 ≡ n → r.commit ≡ n → r.writes ≡ ws → StandsFor v held base history → StandsFor new held base (history ++ r ∷ [])
-    stands-installed n ws r h lt long commit is s =
+    pub stands-installed : (n : ℕ) (ws : List KeyWrite) (r : Record) → IsInstalled v new n ws → (AreUnderWitnesses held v v.groups → AreUnderWitnesses held new new.groups) → v.last < n → length history + 1 ≡ n → r.commit ≡ n → r.writes ≡ ws → StandsFor v held base history → StandsFor new held base (history ++ r ∷ [])
+    stands-installed n ws r h under lt long commit is s =
         let at : (m : ℕ) → map_at base (history ++ r ∷ []) m ≡ (if nat_le n m then after_writes (map_at base history m) ws else map_at base history m) =
         λ m. map_at-push base history r m ∙ λ i. if nat_le (commit i) m then after_writes (map_at base history m) (is i) else map_at base history m in
         record {
@@ -68,10 +73,11 @@ module _ (v : ChainsValue) (held : ℕ → Bool) (base : KeyMap) (history : List
           newest = λ k. h.newest k ∙ ap (λ o. if is_written_by ws k then Some n else o) (s.newest k)
               ∙ sym (last_writer-push (option_map (λ _. 0) (value_at base k)) history r k ∙ λ i. if is_written_by (is i) k then Some (commit i) else last_writer base history k);
           within = subst (λ l. l ≤ length (history ++ r ∷ [])) (sym h.last) (omega (arith, length-append history (r ∷ [])));
+          witnessed = under s.witnessed;
         }
 
-    pub stands-reclaimed : (bs : List ℕ) → IsReclaimed v new bs → StandsFor v held base history → StandsFor new (λ n. held n && is_among bs n) base history
-    stands-reclaimed bs h s = record {
+    pub stands-reclaimed : (bs : List ℕ) → IsReclaimed v new bs → (AreUnderWitnesses held v v.groups → AreUnderWitnesses (λ n. held n && is_among bs n) new new.groups) → StandsFor v held base history → StandsFor new (λ n. held n && is_among bs n) base history
+    stands-reclaimed bs h under s = record {
       is_map = s.is_map;
       maps = λ n t. elim (or_cases (held n && is_among bs n) (nat_le new.last n) t) [
         | inl f ↦ let p = both_true (held n) (is_among bs n) f in h.maps n (or_left (is_among bs n) (nat_le v.last n) p.1) ∙ s.maps n (or_left (held n) (nat_le v.last n) p.0)
@@ -79,6 +85,7 @@ module _ (v : ChainsValue) (held : ℕ → Bool) (base : KeyMap) (history : List
       ];
       newest = λ k. h.newest k ∙ s.newest k;
       within = subst (λ l. l ≤ length history) (sym h.last) s.within;
+      witnessed = under s.witnessed;
     }
       where
         both_true : (a b : Bool) → (a && b) ≡ true → (a ≡ true) × (b ≡ true)

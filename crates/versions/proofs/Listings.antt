@@ -191,10 +191,17 @@ needed-part bs k now new p h = elim (p k) [
   | inr x ↦ subst (IsNeededChain bs) (sym (x ∙ reclaimed-needed bs (find_chain k now) h)) h
 ]
 
+-- what is needed goes no more
+has-part : (bs : List ℕ) (n : ℕ) (k : Bytes) (now new : Chains) → IsPartReclaimed bs now new → IsNeededChain bs (find_chain k now) → has_version n (find_chain k now) ≡ true → has_version n (find_chain k new) ≡ true
+has-part bs n k now new p h t = elim (p k) [
+  | inl x ↦ ap (has_version n) x ∙ t
+  | inr x ↦ ap (has_version n) (x ∙ reclaimed-needed bs (find_chain k now) h) ∙ t
+]
+
 pub settled-part : (bs : List ℕ) (now new : Chains) → IsPartReclaimed bs now new → (v : Listed) → IsSettled bs now v → IsSettled bs new v
 settled-part bs now new p v h = elim h [
   | inl t ↦ inl t
-  | inr n ↦ inr (needed-part bs v.key now new p n)
+  | inr n ↦ inr (has-part bs v.number v.key now new p n.1 n.0, needed-part bs v.key now new p n.1)
 ]
 
 pub all-settled-part : (bs : List ℕ) (now new : Chains) → IsPartReclaimed bs now new → (vs : List Listed) → AllByRecursion (IsSettled bs now) vs → AllByRecursion (IsSettled bs new) vs

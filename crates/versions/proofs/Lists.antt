@@ -9,9 +9,10 @@ use Rattle.std.proofs.lemmas.List.Folds.{list_any-append}
 use Rattle.std.proofs.lemmas.Bool.{both_ways, or_left}
 use Rattle.std.proofs.lemmas.Bool.Decides.{nat_tests}
 use Rattle.model.specs.Map.{Bytes}
-use Rattle.versions.specs.Chains.{Chains, find_chain, IsKept}
+use Rattle.versions.specs.Chains.{Chains, ChainsValue, find_chain, IsKept}
 use Rattle.versions.specs.Listings.{is_seen_from, AreSeenFrom, is_of, is_in, has_version, IsSettled, IsPartReclaimed, AreKept, versions_in}
 use Rattle.versions.specs.Groups.{Listed}
+use Rattle.versions.specs.Witnesses.{IsUnderWitness}
 use Rattle.versions.proofs.Listings.{part-refl, part-trans, all-settled-part, left-part}
 
 -- ---- lists, one after the other
@@ -76,6 +77,13 @@ pub record Settled (bs : List ℕ) (old now : Chains) (os done rest : List Liste
   pub settled : AllByRecursion (IsSettled bs now) done
   pub left_out : AreKept os (done ++ rest) now
   pub seen : (n : ℕ) → AreSeenFrom n os → AreSeenFrom n (done ++ rest)
+  pub each : (held : ℕ → Bool) (v : ChainsValue) (w : ℕ) → AllByRecursion (IsUnderWitness held v w) os → AllByRecursion (IsUnderWitness held v w) (done ++ rest)
+
+-- where each of the versions `us` and of `rest` is such, so is each of `vs` and of `rest`
+all-replaced : (P : Listed → Type 0) (done us vs rest : List Listed) → (AllByRecursion P us → AllByRecursion P vs) → AllByRecursion P (done ++ (us ++ rest)) → AllByRecursion P (done ++ vs ++ rest)
+all-replaced P done us vs rest f all =
+    let behind = all-back P done (us ++ rest) all in
+    all-append P (done ++ vs) rest (all-append P done vs (all-front P done (us ++ rest) all) (f (all-front P us rest behind))) (all-back P us rest behind)
 
 pub settled-begun : (bs : List ℕ) (es : Chains) (os : List Listed) → Settled bs es es os [] os
 settled-begun bs es os = record {
@@ -84,6 +92,7 @@ settled-begun bs es os = record {
   settled = tt;
   left_out = λ k n high t. or_left (is_in os k n high) (not (has_version n (find_chain k es))) t;
   seen = λ n h. h;
+  each = λ held v w h. h;
 }
 
 swapped : (a b c d g : Bool) → (b ≡ true → (d || g) ≡ true) → (a || (b || c) || g) ≡ true → (a || d || c || g) ≡ true
@@ -96,18 +105,15 @@ swapped false false c false g h t = t
 
 -- the versions `us` were looked after, and `vs` are left of them
 pub settled-more : (bs : List ℕ) (old now new : Chains) (os done us vs rest : List Listed) (last : ℕ) → IsKept old last
-    → IsPartReclaimed bs now new → ((last : ℕ) → IsKept now last → IsKept new last) → AllByRecursion (IsSettled bs new) vs → AreKept us vs new → ((n : ℕ) → AreSeenFrom n us → AreSeenFrom n vs)
+    → IsPartReclaimed bs now new → ((last : ℕ) → IsKept now last → IsKept new last) → AllByRecursion (IsSettled bs new) vs → AreKept us vs new → ((n : ℕ) → AreSeenFrom n us → AreSeenFrom n vs) → ((held : ℕ → Bool) (v : ChainsValue) (w : ℕ) → AllByRecursion (IsUnderWitness held v w) us → AllByRecursion (IsUnderWitness held v w) vs)
     → Settled bs old now os done (us ++ rest) → Settled bs old new os (done ++ vs) rest
-settled-more bs old now new os done us vs rest last ordered p keeps settled left seen s = record {
+settled-more bs old now new os done us vs rest last ordered p keeps settled left seen each s = record {
   part = part-trans bs old now new last ordered s.part p;
   kept = λ n h. keeps n (s.kept n h);
   settled = all-append (IsSettled bs new) done vs (all-settled-part bs now new p done s.settled) settled;
   left_out = λ k n high t. still k n high (left-part bs now new os (done ++ (us ++ rest)) p s.left_out k n high t);
-  seen = λ n h.
-      let all = s.seen n h in
-      let P = λ (v : Listed). is_seen_from n v ≡ true in
-      let behind = all-back P done (us ++ rest) all in
-      all-append P (done ++ vs) rest (all-append P done vs (all-front P done (us ++ rest) all) (seen n (all-front P us rest behind))) (all-back P us rest behind);
+  seen = λ n h. all-replaced (λ v. is_seen_from n v ≡ true) done us vs rest (seen n) (s.seen n h);
+  each = λ held v w h. all-replaced (IsUnderWitness held v w) done us vs rest (each held v w) (s.each held v w h);
 }
   where
     still : (k : Bytes) (n high : ℕ) → (is_in (done ++ (us ++ rest)) k n high || not (has_version n (find_chain k new))) ≡ true → (is_in (done ++ vs ++ rest) k n high || not (has_version n (find_chain k new))) ≡ true
@@ -126,12 +132,12 @@ in-parts (x ∷ y ∷ xs) = ap (λ l. l ++ versions_in (y ∷ xs)) (sym (append-
 -- the first of the lists was looked after, and what is left of it was put behind the others
 pub settled-list : {Z : Type 0} (bs : List ℕ) (old now new : Chains) (os : List Listed) (ls hs lists first left rest : List (Vec Listed Z)) (last : ℕ) → IsKept old last → first ≡ take 1 lists → rest ≡ drop 1 lists
     → versions_in hs ≡ versions_in ls ++ versions_in left → IsPartReclaimed bs now new → ((last : ℕ) → IsKept now last → IsKept new last) → AllByRecursion (IsSettled bs new) (versions_in left)
-    → AreKept (versions_in first) (versions_in left) new → ((n : ℕ) → AreSeenFrom n (versions_in first) → AreSeenFrom n (versions_in left))
+    → AreKept (versions_in first) (versions_in left) new → ((n : ℕ) → AreSeenFrom n (versions_in first) → AreSeenFrom n (versions_in left)) → ((held : ℕ → Bool) (v : ChainsValue) (w : ℕ) → AllByRecursion (IsUnderWitness held v w) (versions_in first) → AllByRecursion (IsUnderWitness held v w) (versions_in left))
     → Settled bs old now os (versions_in ls) (versions_in lists) → Settled bs old new os (versions_in hs) (versions_in rest)
-settled-list bs old now new os ls hs lists first left rest last ordered one others is p keeps settled kept seen s =
+settled-list bs old now new os ls hs lists first left rest last ordered one others is p keeps settled kept seen each s =
     let parts : versions_in lists ≡ versions_in first ++ versions_in rest = in-parts lists ∙ ap (λ l. versions_in l ++ versions_in (drop 1 lists)) (sym one) ∙ ap (λ l. versions_in first ++ versions_in l) (sym others) in
     subst (λ l. Settled bs old new os l (versions_in rest)) (sym is)
-    (settled-more bs old now new os (versions_in ls) (versions_in first) (versions_in left) (versions_in rest) last ordered p keeps settled kept seen (subst (λ l. Settled bs old now os (versions_in ls) l) parts s))
+    (settled-more bs old now new os (versions_in ls) (versions_in first) (versions_in left) (versions_in rest) last ordered p keeps settled kept seen each (subst (λ l. Settled bs old now os (versions_in ls) l) parts s))
 
 pub one-less : {X : Type 0} (xs ys : List X) → ys ≡ drop 1 xs → 0 < length xs → length ys + 1 ≡ length xs
 one-less [] ys is some = absurd (omega arith)

@@ -113,6 +113,17 @@ all-mixed_more P us ds ms xs ws is h g =
     subst (λ l. AllByRecursion P (us ++ (ds ++ l))) (sym is)
     (all-append P us (ds ++ (ms ++ xs)) (all-front P us (ds ++ ms) h) (all-append P ds (ms ++ xs) (all-front P ds ms back) (all-append P ms xs (all-back P ds ms back) g)))
 
+-- what holds of each version of a group holds of those of each part, and the other way round
+pub all-parts : (P : Listed → Type 0) (us ds ms : List Listed) → AllByRecursion P (us ++ (ds ++ ms)) → AllByRecursion P us × AllByRecursion P ds × AllByRecursion P ms
+all-parts P us ds ms h = let back = all-back P us (ds ++ ms) h in (all-front P us (ds ++ ms) h, all-front P ds ms back, all-back P ds ms back)
+
+pub all-three : (P : Listed → Type 0) (us ds ms : List Listed) → AllByRecursion P us → AllByRecursion P ds → AllByRecursion P ms → AllByRecursion P (us ++ (ds ++ ms))
+all-three P us ds ms h g f = all-append P us (ds ++ ms) h (all-append P ds ms g f)
+
+-- versions that were put behind others
+pub all-put : (P : Listed → Type 0) (us xs ws : List Listed) → ws ≡ us ++ xs → AllByRecursion P us → AllByRecursion P xs → AllByRecursion P ws
+all-put P us xs ws is h g = subst (AllByRecursion P) (sym is) (all-append P us xs h g)
+
 -- the two looks at a group
 pub kept-twice : (bs : List ℕ) (now new : Chains) (ls us vs ws : List Listed) → AreIn ls us → IsPartReclaimed bs now new → AreKept us vs now → AreKept vs ws new → AreKept ls ws new
 kept-twice bs now new ls us vs ws found part one two = kept-trans ls us ws new (kept-in ls us new found) (kept-trans us vs ws new (left-part bs now new us vs part one) two)

@@ -3,6 +3,7 @@ pub mod Chains
 pub mod Kept
 pub mod Listings
 pub mod Meaning
+pub mod Witnesses
 pub mod StandsFor
 pub mod Lent
 pub mod Laws

@@ -122,6 +122,12 @@ abbrev pub followed : Option ChainValue → Bytes → ℕ → List Listed
 followed None k n = []
 followed (Some c) k n = record { key = k; number = c.newest.number; next = n } ∷ []
 
+-- the listed version is behind n, the newest number of its key
+pub record IsFollowed (n : ℕ) (chains : Chains) (v : Listed) : Type 0 where
+  pub number : v.number < n
+  pub next : v.next ≡ n
+  pub newest : (c : ChainValue) → find_chain v.key chains ≡ Some c → c.newest.number ≡ n
+
 -- ---- what a reclaim leaves
 
 -- the chain has an older version of this number
@@ -138,9 +144,9 @@ abbrev pub IsNeededChain : List ℕ → Option ChainValue → Type 0
 IsNeededChain bs None = ⊤
 IsNeededChain bs (Some c) = AreNeeded bs c.newest.number c.older
 
--- some of the numbers sees the listed version, or its chain holds none that they don't see
+-- some of the numbers sees the listed version, or its chain has it and holds none that they don't see
 abbrev pub IsSettled : List ℕ → Chains → Listed → Type 0
-IsSettled bs chains v = IsTrue (is_between bs v.number v.next) ⊎ IsNeededChain bs (find_chain v.key chains)
+IsSettled bs chains v = IsTrue (is_between bs v.number v.next) ⊎ (IsTrue (has_version v.number (find_chain v.key chains)) × IsNeededChain bs (find_chain v.key chains))
 
 -- each chain is as it was, or was reclaimed
 abbrev pub IsPartReclaimed : List ℕ → Chains → Chains → Type 0
@@ -149,3 +155,11 @@ IsPartReclaimed bs old new = (k : Bytes) → (find_chain k new ≡ find_chain k 
 -- a version that is listed no more is in its chain no more
 abbrev pub AreKept : List Listed → List Listed → Chains → Type 0
 AreKept old new chains = (k : Bytes) (n high : ℕ) → IsTrue (is_in old k n high) → IsTrue (is_in new k n high || not (has_version n (find_chain k chains)))
+
+-- each version of the mixed lists is settled
+abbrev pub AreMixedSettled : List ℕ → Chains → List GroupValue → Type 0
+AreMixedSettled bs chains gs = AllByRecursion (λ g. AllByRecursion (IsSettled bs chains) g.mixed) gs
+
+-- no list is mixed
+abbrev pub IsUnmixed : GroupValue → Type 0
+IsUnmixed g = g.mixed ≡ []

@@ -5,6 +5,7 @@ use Rattle.model.specs.History.{Record, map_at}
 use Rattle.model.specs.Dependency.{writes_key}
 use Rattle.versions.specs.Chains.{ChainsValue}
 use Rattle.versions.specs.Meaning.{map_seen, newest_of}
+use Rattle.versions.specs.Witnesses.{AreUnderWitnesses}
 
 -- the commit number of the last record that writes the key, and d where none does
 abbrev pub last_writer_from : Option ℕ → List Record → Bytes → Option ℕ
@@ -23,3 +24,5 @@ pub record StandsFor (v : ChainsValue) (held : ℕ → Bool) (base : KeyMap) (hi
   pub newest : (k : Bytes) → newest_of v k ≡ last_writer base history k
   -- what was installed has the number of a record
   pub within : v.last ≤ length history
+  -- what is listed under a number that is held no more is looked at by the greatest held number below it
+  pub witnessed : AreUnderWitnesses held v v.groups

@@ -8,9 +8,10 @@ ghost use Rattle.std.specs.Vec.{vec_len, vec_capacity};
 ghost use Rattle.model.specs.Map.{Bytes};
 ghost use Rattle.sorted_pages.specs.Pages.{entries, room_at};
 ghost use Rattle.versions.specs.Chains.{ChainValue, HasPlace, HasRoom, IsKept, IsReady, IsRoomier, added, find_chain, stamped};
-ghost use Rattle.versions.specs.Listings.{AreSeenFrom, IsListed, followed, unwitnessed};
+ghost use Rattle.versions.specs.Listings.{AreSeenFrom, IsFollowed, IsListed, followed, unwitnessed};
 ghost use Rattle.versions.specs.Groups.{GroupValue};
 ghost use Rattle.versions.specs.Meaning.{AreInstalled};
+ghost use Rattle.versions.specs.Witnesses.{IsAddedTo};
 
 use crate::chain::Chain;
 use crate::listing::OldVersion;
@@ -129,6 +130,8 @@ pub(crate) fn add_all(
     ensures installed { AreInstalled (entries chains.old) (entries chains.new) n writes.items }
     ensures listed { (groups : List GroupValue) → IsListed (entries chains.old) groups → IsListed (entries chains.new) (unwitnessed listed.new.items ∷ groups) }
     ensures seen { AreSeenFrom (n - 1) listed.new.items }
+    ensures added { (k : Bytes) → IsAddedTo n (find_chain k (entries chains.old)) (find_chain k (entries chains.new)) }
+    ensures followed { AllByRecursion (IsFollowed n (entries chains.new)) listed.new.items }
 {
     for write in writes {
         add(chains, listed, n, write);

@@ -53,8 +53,8 @@ pub(crate) struct Group {
     pub(crate) lists: LinkedList<Vec<OldVersion>>,
     // what is to be looked at, since its witness was held no more
     pub(crate) due: LinkedList<Vec<OldVersion>>,
-    // what was looked at and is needed, though the witness doesn't see all of it. It is looked at each time. Where each number is at
-    // least the last commit's when it comes to be held, there is none
+    // what was looked at and is needed, though the witness doesn't see all of it. It is looked at each time. Where each number is held
+    // from the last commit on, there is none
     pub(crate) mixed: LinkedList<Vec<OldVersion>>,
 }
 
@@ -75,6 +75,8 @@ impl Group {
     pub(crate) fn new(witness: u64, lists: LinkedList<Vec<OldVersion>>) -> Group
         requires { AreSeenFrom witness (versions_in lists) }
         ensures versions { result.versions ≡ versions_in lists }
+        ensures mixed { result.mixed ≡ [] }
+        ensures witness { result.witness ≡ witness }
         ensures due { (bs : List ℕ) → due_for bs result ≤ length lists }
         ensures lists { result.lists ≡ length lists }
     {

@@ -1,5 +1,5 @@
 //! Old versions go.
-ghost use Rattle.std.specs.Prelude.{◌≡◌, ◌||◌, ◌==◌, ℕ, List, [], ◌∷◌, T, false, IfSome, IsTrue, nat_lt, ◌<◌, ◌≤◌, ◌+◌, ◌-◌, ◌^◌, ◌++◌, length, take, drop, get_or, position, option_map};
+ghost use Rattle.std.specs.Prelude.{◌≡◌, ◌||◌, ◌==◌, ℕ, Bool, List, [], ◌∷◌, T, false, IfSome, IsTrue, nat_lt, ◌<◌, ◌≤◌, ◌+◌, ◌-◌, ◌^◌, ◌++◌, length, take, drop, get_or, position, option_map};
 ghost use Rattle.std.specs.List.{AllByRecursion, list_any};
 ghost use Rattle.std.specs.Ordering.{nat_cmp};
 ghost use Rattle.std.specs.Cmp.Lexicographic.{slice_cmp};
@@ -7,8 +7,10 @@ ghost use Rattle.std.specs.FinMap.Entries.{is_sorted};
 ghost use Rattle.std.specs.Vec.{vec_len};
 ghost use Rattle.model.specs.Map.{Bytes};
 ghost use Rattle.sorted_pages.specs.Pages.{entries};
-ghost use Rattle.versions.specs.Chains.{Chains, IsKept, IsReclaimedAt, find_chain, reclaimed};
-ghost use Rattle.versions.specs.Listings.{AreAmong, AreApart, AreFound, AreIn, AreKept, AreSeenFrom, CanJoin, IsListed, IsPartReclaimed, IsSettled, IsTakenIn, IsTrulyMixed, has_version, is_in, lists_in, versions_in, witness_for, witnesses};
+ghost use Rattle.versions.specs.Chains.{Chains, ChainsValue, IsKept, IsReclaimedAt, find_chain, reclaimed};
+ghost use Rattle.versions.specs.Groups.{Listed};
+ghost use Rattle.versions.specs.Witnesses.{AreUnderWitnesses, IsUnderWitness};
+ghost use Rattle.versions.specs.Listings.{AreAmong, AreApart, AreFound, AreIn, AreKept, AreMixedSettled, AreSeenFrom, CanJoin, IsListed, IsPartReclaimed, IsSettled, IsTakenIn, IsTrulyMixed, has_version, is_in, lists_in, versions_in, witness_for, witnesses};
 ghost use Rattle.versions.specs.Meaning.{due_for, due_in};
 ghost use Rattle.versions.specs.Meaning.{is_among, lists_a_reclaim};
 
@@ -45,6 +47,7 @@ fn drop_unseen(
     ensures settled { AllByRecursion (IsSettled begins.now (entries chains.new)) versions.new.items }
     ensures left { AreKept versions.old.items versions.new.items (entries chains.new) }
     ensures seen { (n : ℕ) → AreSeenFrom n versions.old.items → AreSeenFrom n versions.new.items }
+    ensures each { (held : ℕ → Bool) (v : ChainsValue) (w : ℕ) → AllByRecursion (IsUnderWitness held v w) versions.old.items → AllByRecursion (IsUnderWitness held v w) versions.new.items }
 {
     let mut left = versions.len();
     while left > 0 {
@@ -96,6 +99,7 @@ fn settle_first(
     ensures settled { AllByRecursion (IsSettled begins.now (entries chains.new)) (versions_in lists.new) }
     ensures left { AreKept (versions_in lists.old) (versions_in lists.new) (entries chains.new) }
     ensures seen { (n : ℕ) → AreSeenFrom n (versions_in lists.old) → AreSeenFrom n (versions_in lists.new) }
+    ensures each { (held : ℕ → Bool) (v : ChainsValue) (w : ℕ) → AllByRecursion (IsUnderWitness held v w) (versions_in lists.old) → AllByRecursion (IsUnderWitness held v w) (versions_in lists.new) }
 {
     match lists.front_mut() {
         Some(list) => drop_unseen(chains, list, begins, next),
@@ -118,6 +122,7 @@ fn settle_lists(
     ensures settled { AllByRecursion (IsSettled begins.now (entries chains.new)) (versions_in lists.new) }
     ensures left { AreKept (versions_in lists.old) (versions_in lists.new) (entries chains.new) }
     ensures seen { (n : ℕ) → AreSeenFrom n (versions_in lists.old) → AreSeenFrom n (versions_in lists.new) }
+    ensures each { (held : ℕ → Bool) (v : ChainsValue) (w : ℕ) → AllByRecursion (IsUnderWitness held v w) (versions_in lists.old) → AllByRecursion (IsUnderWitness held v w) (versions_in lists.new) }
 {
     let alloc = *lists.allocator();
     let mut rest = mem::replace(lists, LinkedList::new(alloc));
@@ -139,6 +144,7 @@ impl Group {
         ensures taken_in { IsTakenIn begins.now self.new }
         ensures witness { self.new.witness ≡ witness_for begins.now self.old.witness }
         ensures lists { self.new.lists ≡ self.old.lists }
+        ensures each { (held : ℕ → Bool) (v : ChainsValue) (w : ℕ) → AllByRecursion (IsUnderWitness held v w) self.old.versions → AllByRecursion (IsUnderWitness held v w) self.old.mixed → AllByRecursion (IsUnderWitness held v w) self.new.versions × AllByRecursion (IsUnderWitness held v w) self.new.mixed }
     {
         if is_among(begins, self.witness) {
             return;
@@ -161,6 +167,8 @@ impl Group {
         ensures lists { self.new.lists ≡ self.old.lists + length lists }
         ensures settled { (chains : Chains) → AllByRecursion (IsSettled begins.now chains) self.old.versions → AllByRecursion (IsSettled begins.now chains) (versions_in lists) → AllByRecursion (IsSettled begins.now chains) self.new.versions }
         ensures truly { self.old.mixed ≡ [] → IsTrulyMixed begins.now self.new }
+        ensures each { (held : ℕ → Bool) (v : ChainsValue) (w : ℕ) → AllByRecursion (IsUnderWitness held v w) self.old.versions → AllByRecursion (IsUnderWitness held v w) self.old.mixed → AllByRecursion (IsUnderWitness held v w) (versions_in lists) → AllByRecursion (IsUnderWitness held v w) self.new.versions × AllByRecursion (IsUnderWitness held v w) self.new.mixed }
+        ensures mixed { (chains : Chains) → AllByRecursion (IsSettled begins.now chains) self.old.mixed → AllByRecursion (IsSettled begins.now chains) (versions_in lists) → AllByRecursion (IsSettled begins.now chains) self.new.mixed }
     {
         if is_among(begins, self.witness) && are_seen_from(&lists, self.witness) {
             append(&mut self.lists, lists);
@@ -181,6 +189,7 @@ impl Group {
         ensures taken_in { IsTakenIn begins.now self.new }
         ensures witness { self.new.witness ≡ self.old.witness }
         ensures lists { self.new.lists ≤ self.old.lists }
+        ensures each { (held : ℕ → Bool) (v : ChainsValue) (w : ℕ) → AllByRecursion (IsUnderWitness held v w) self.old.versions → AllByRecursion (IsUnderWitness held v w) self.old.mixed → AllByRecursion (IsUnderWitness held v w) self.new.versions × AllByRecursion (IsUnderWitness held v w) self.new.mixed }
     {
         if count == 0 {
             return;
@@ -204,6 +213,8 @@ impl Group {
         ensures witness { self.new.witness ≡ self.old.witness }
         ensures lists { self.new.lists ≤ self.old.lists }
         ensures truly { IsTrulyMixed begins.now self.new }
+        ensures each { (held : ℕ → Bool) (v : ChainsValue) (w : ℕ) → AllByRecursion (IsUnderWitness held v w) self.old.versions → AllByRecursion (IsUnderWitness held v w) self.old.mixed → AllByRecursion (IsUnderWitness held v w) self.new.versions × AllByRecursion (IsUnderWitness held v w) self.new.mixed }
+        ensures mixed { AllByRecursion (IsSettled begins.now (entries chains.new)) self.new.mixed }
     {
         if self.mixed.is_empty() {
             return;
@@ -226,6 +237,8 @@ impl Group {
         ensures witness { self.new.witness ≡ witness_for begins.now self.old.witness }
         ensures lists { self.new.lists ≤ self.old.lists }
         ensures truly { IsTrulyMixed begins.now self.new }
+        ensures each { (held : ℕ → Bool) (v : ChainsValue) (w : ℕ) → AllByRecursion (IsUnderWitness held v w) self.old.versions → AllByRecursion (IsUnderWitness held v w) self.old.mixed → AllByRecursion (IsUnderWitness held v w) self.new.versions × AllByRecursion (IsUnderWitness held v w) self.new.mixed }
+        ensures mixed { AllByRecursion (IsSettled begins.now (entries chains.new)) self.new.mixed }
     {
         self.take_in(begins);
         let count = self.due().min(most);
@@ -242,6 +255,8 @@ impl Group {
         ensures witness { self.new.witness ≡ self.old.witness }
         ensures lists { self.new.lists ≡ self.old.lists + other.lists }
         ensures truly { (bs : List ℕ) → IsTrulyMixed bs self.old → IsTrulyMixed bs other → IsTrulyMixed bs self.new }
+        ensures each { (held : ℕ → Bool) (v : ChainsValue) (w : ℕ) → AllByRecursion (IsUnderWitness held v w) self.old.versions → AllByRecursion (IsUnderWitness held v w) self.old.mixed → AllByRecursion (IsUnderWitness held v w) other.versions → AllByRecursion (IsUnderWitness held v w) other.mixed → AllByRecursion (IsUnderWitness held v w) self.new.versions × AllByRecursion (IsUnderWitness held v w) self.new.mixed }
+        ensures mixed { (bs : List ℕ) (chains : Chains) → AllByRecursion (IsSettled bs chains) self.old.mixed → AllByRecursion (IsSettled bs chains) other.mixed → AllByRecursion (IsSettled bs chains) self.new.mixed }
     {
         append(&mut self.lists, other.lists);
         append(&mut self.due, other.due);
@@ -261,6 +276,8 @@ fn reclaim_groups(chains: &mut SortedPages<Chain>, groups: &mut [Group], begins:
     ensures held { AreAmong (0 ∷ begins.now) (witnesses groups.new) }
     ensures lists { lists_in groups.new ≤ lists_in groups.old }
     ensures truly { AllByRecursion (IsTrulyMixed begins.now) groups.new }
+    ensures each { (more held : ℕ → Bool) (v u : ChainsValue) → ((w : ℕ) (x : Listed) → IsUnderWitness more v w x → IsUnderWitness held u (witness_for begins.now w) x) → AreUnderWitnesses more v groups.old → AreUnderWitnesses held u groups.new }
+    ensures mixed { AreMixedSettled begins.now (entries chains.new) groups.new }
 {
     let mut most = LISTS_A_RECLAIM;
     for i in 0..groups.len() {
@@ -288,6 +305,8 @@ fn join(groups: &mut Vec<Group>, i: usize) -> bool
     ensures held { (bs : List ℕ) → AreAmong bs (witnesses groups.old.items) → AreAmong bs (witnesses groups.new.items) }
     ensures lists { lists_in groups.new.items ≡ lists_in groups.old.items }
     ensures truly { (bs : List ℕ) → AllByRecursion (IsTrulyMixed bs) groups.old.items → AllByRecursion (IsTrulyMixed bs) groups.new.items }
+    ensures each { (held : ℕ → Bool) (v : ChainsValue) → AreUnderWitnesses held v groups.old.items → AreUnderWitnesses held v groups.new.items }
+    ensures mixed { (bs : List ℕ) (es : Chains) → AreMixedSettled bs es groups.old.items → AreMixedSettled bs es groups.new.items }
 {
     match place_of(&groups[..i], groups[i].witness) {
         Some(place) => {
@@ -308,6 +327,8 @@ fn join_groups(groups: &mut Vec<Group>)
     ensures held { (bs : List ℕ) → AreAmong bs (witnesses groups.old.items) → AreAmong bs (witnesses groups.new.items) }
     ensures lists { lists_in groups.new.items ≤ lists_in groups.old.items }
     ensures truly { (bs : List ℕ) → AllByRecursion (IsTrulyMixed bs) groups.old.items → AllByRecursion (IsTrulyMixed bs) groups.new.items }
+    ensures each { (held : ℕ → Bool) (v : ChainsValue) → AreUnderWitnesses held v groups.old.items → AreUnderWitnesses held v groups.new.items }
+    ensures mixed { (bs : List ℕ) (es : Chains) → AreMixedSettled bs es groups.old.items → AreMixedSettled bs es groups.new.items }
 {
     let mut i = 0;
     while i < groups.len() {
@@ -345,6 +366,9 @@ pub(crate) fn reclaim_versions(
     ensures few { length groups.new.items ≤ length begins.now + 1 }
     ensures lists { lists_in groups.new.items ≤ lists_in groups.old.items }
     ensures truly { AllByRecursion (IsTrulyMixed begins.now) groups.new.items }
+    ensures held { AreAmong (0 ∷ begins.now) (witnesses groups.new.items) }
+    ensures each { (more held : ℕ → Bool) (v u : ChainsValue) → ((w : ℕ) (x : Listed) → IsUnderWitness more v w x → IsUnderWitness held u (witness_for begins.now w) x) → AreUnderWitnesses more v groups.old.items → AreUnderWitnesses held u groups.new.items }
+    ensures mixed { AreMixedSettled begins.now (entries chains.new) groups.new.items }
 {
     reclaim_groups(chains, groups, begins);
     join_groups(groups);

@@ -1,5 +1,5 @@
 //! The versions of all keys.
-ghost use Rattle.std.specs.Prelude.{◌≡◌, ◌≢◌, ℕ, T, true, nat_lt, ◌^◌, ◌+◌, ◌≤◌, ◌<◌, ◌&&◌, Bool, List, [], ◌∷◌, ◌++◌, length, IsOk, IfOk, OnOk, option_map, option_copied};
+ghost use Rattle.std.specs.Prelude.{◌≡◌, ◌≢◌, ℕ, T, true, nat_lt, ◌^◌, ◌+◌, ◌≤◌, ◌<◌, ◌&&◌, Bool, List, [], ◌∷◌, ◌++◌, length, IsOk, IfOk, IsTrue, OnOk, option_map, option_copied};
 ghost use Rattle.std.specs.Ordering.{nat_cmp};
 ghost use Rattle.std.specs.Cmp.Lexicographic.{slice_cmp};
 ghost use Rattle.std.specs.FinMap.Entries.{put, is_sorted, where_key};
@@ -9,7 +9,7 @@ ghost use Rattle.versions.specs.Chains.{IsPrepared, IsReady, HasPlace, HasRoom, 
 ghost use Rattle.versions.specs.Meaning.{map_seen, newest_of, kept_of, due_of, groups_of, is_among, IsSameMeaning, IsInstalled, IsReclaimed};
 ghost use Rattle.sorted_pages.specs.Pages.{places_in, room_at};
 ghost use Rattle.std.specs.List.{AllByRecursion};
-ghost use Rattle.versions.specs.Listings.{IsTrulyMixed};
+ghost use Rattle.versions.specs.Listings.{IsTrulyMixed, IsUnmixed};
 ghost use Rattle.versions.specs.Lent.{range_pairs};
 ghost use Rattle.versions.specs.StandsFor.{StandsFor};
 
@@ -142,6 +142,7 @@ impl Versions {
         ensures rooms { (q : Bytes) → room_at q self.old.pages ≤ room_at q self.new.pages }
         ensures listed_spare { self.new.listed_spare ≡ self.old.listed_spare }
         ensures groups_spare { self.new.groups_spare ≡ self.old.groups_spare }
+        ensures groups { self.new.groups ≡ self.old.groups }
         ensures last { self.new.last ≡ self.old.last }
         ensures room { OnOk result (HasRoom (find_chain key.entry.bytes.now self.new.chains)) }
         ensures place { OnOk result (HasPlace n (room_at key.entry.bytes.now self.new.pages) (find_chain key.entry.bytes.now self.new.chains)) }
@@ -196,16 +197,17 @@ impl Versions {
     /// that is the newest version of its key stays. Answers whether it has to be called again until all those versions are gone.
     ///
     /// What each commit replaced is a list, of as many versions as it wrote, under a number that sees them. Once that number is none of
-    /// these, the list is due, and a call looks at 3 of the lists that are due. So what a call costs is bounded, beside the numbers
+    /// these, the list is due, and a call looks at 2 of the lists that are due. So what a call costs is bounded, beside the numbers
     /// themselves, and called again with the same numbers it ends. Takes no memory: where the lists of two commits come under one number,
     /// they are linked. What stands under one number is one group, so there are no more groups than numbers and one. Lists that are needed
-    /// though their number isn't held, or doesn't see all of them, are mixed, and looked at by each call; no others are. Where each number
-    /// was at least that of the last commit when it came to be held, there are none.
+    /// though their number isn't held, or doesn't see all of them, are mixed, and looked at by each call; no others are. Where each of the
+    /// numbers was held at the calls before, or is at least that of the last commit, there are none.
     pub fn reclaim(&mut self, begins: &[u64]) -> bool
         ensures reclaimed { IsReclaimed self.old self.new begins.now }
         ensures still { result ≡ nat_lt 0 (due_of begins.now self.new) }
         ensures few { groups_of self.new ≤ length begins.now + 1 }
         ensures mixed { AllByRecursion (IsTrulyMixed begins.now) self.new.groups }
+        ensures unmixed { (held : ℕ → Bool) (base : KeyMap) (history : List Record) → StandsFor self.old held base history → ((n : ℕ) → IsTrue (is_among begins.now n) → IsTrue (held n)) → AllByRecursion IsUnmixed self.new.groups }
         ensures stands { (held : ℕ → Bool) (base : KeyMap) (history : List Record) → StandsFor self.old held base history → StandsFor self.new (λ n. held n && is_among begins.now n) base history }
     {
         reclaim_versions(&mut self.chains, &mut self.groups, begins)

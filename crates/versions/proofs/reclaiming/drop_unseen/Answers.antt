@@ -23,7 +23,7 @@ loop-left-preserved c =
     let v = c.index-version.result.now in
     elim c.else-not-is_seen_by.branch [
       | else-not-is_seen_by-via-then-not-is_seen_by+else-not-reclaim_version w ↦ subst (λ (es : Chains). Dropping c.args.begins.now (entries c.args.chains.now) es c.args.versions.now.items vs (c.loop-left.left - 1)) (sym (ap entries w.chains-is))
-          (dropping-stays c.args.begins.now (entries c.args.chains.now) (entries c.loop-left.chains) (entries w.reclaim_version.new.chains) c.args.versions.now.items vs (c.loop-left.left - 1) c.loop-left.left c.requires.kept.0 v (omega arith) c.index-version.ensures c.requires.kept.1 w.reclaim_version.ensures.reclaimed c.loop-left.invariant)
+          (dropping-stays c.args.begins.now (entries c.args.chains.now) (entries c.loop-left.chains) (entries w.reclaim_version.new.chains) c.args.versions.now.items vs (c.loop-left.left - 1) c.loop-left.left c.requires.kept.0 v (omega arith) c.index-version.ensures c.requires.kept.1 w.reclaim_version.ensures.reclaimed c.loop-left.invariant (sym w.if-not-reclaim_version.ensures.left))
       | else-not-is_seen_by-via-else-not-is_seen_by w ↦ subst (λ (es : Chains). Dropping c.args.begins.now (entries c.args.chains.now) es c.args.versions.now.items vs (c.loop-left.left - 1)) (sym (ap entries w.chains-is))
           (dropping-seen c.args.begins.now (entries c.args.chains.now) (entries c.loop-left.chains) c.args.versions.now.items vs (c.loop-left.left - 1) c.loop-left.left v c.args.next (omega arith) c.index-version.ensures c.requires.next (sym (w.if-not-is_seen_by.ensures)) c.loop-left.invariant)
     ]

@@ -1,10 +1,10 @@
 use Rattle.std.proofs.Common.{◌≡◌, ◌<◌, ℕ, List, length, take, get_or, Option, Some, sym, ap, subst, ◌∙◌, arith}
 use Rattle.std.specs.Prelude.{◌==◌}
-use Rattle.std.specs.List.{position, remove}
+use Rattle.std.specs.List.{AllByRecursion, position, remove}
 use Rattle.versions.specs.Groups.{GroupValue}
-use Rattle.versions.specs.Listings.{AreAmong, witnesses}
+use Rattle.versions.specs.Listings.{AreAmong, IsSettled, IsTrulyMixed, witnesses}
 use Rattle.versions.specs.Meaning.{is_among}
-use Rattle.versions.proofs.Groups.{join-found, due-joined, truly-set}
+use Rattle.versions.proofs.Groups.{IsUnder, all-joined, due-joined, join-found, under-joined}
 use Rattle.versions.proofs.Witnesses.{found-before, join-fits, lists-joined, witnesses-set, take-remove, among-remove, none-before, take-get}
 use Rattle.versions.proofs.reclaiming.join.Goals as goal
 
@@ -50,5 +50,18 @@ returns-in-None-clause-other c = λ t.
     ∙ none-before gs c.args.i w (sym (ap (λ (l : List GroupValue). position (λ g. g.witness == w) (take c.args.i l)) c.deref.ensures.value) ∙ sym c.place_of.ensures ∙ c.in-None.is)
 
 pub returns-in-Some-clause-truly : goal.returns-in-Some-clause-truly
-returns-in-Some-clause-truly c = λ bs. truly-set bs c.args.groups.now.items c.remove-group.new.self.items c.args.i c.in-Some.place c.index_mut.result.now c.remove-group.result c.absorb.new.self
+returns-in-Some-clause-truly c = λ bs. all-joined (IsTrulyMixed bs) c.args.groups.now.items c.remove-group.new.self.items c.args.i c.in-Some.place c.index_mut.result.now c.remove-group.result c.absorb.new.self
     (omega (arith, c.requires.within)) c.remove-group.ensures.value c.remove-group.ensures.items (within c.args.groups.now.items c.deref.result.now c.remove-group.new.self.items c.args.i c.in-Some.place c.behind-groups.inside.witness c.index_mut.result.now c.place_of.result (omega (arith, c.requires.within)) c.remove-group.ensures.items c.deref.ensures.value c.place_of.ensures c.in-Some.is) c.index_mut.ensures.value (c.absorb.ensures.truly bs)
+
+pub returns-in-Some-clause-mixed : goal.returns-in-Some-clause-mixed
+returns-in-Some-clause-mixed c = λ bs es. all-joined (λ x. AllByRecursion (IsSettled bs es) x.mixed) c.args.groups.now.items c.remove-group.new.self.items c.args.i c.in-Some.place c.index_mut.result.now c.remove-group.result c.absorb.new.self
+    (omega (arith, c.requires.within)) c.remove-group.ensures.value c.remove-group.ensures.items (within c.args.groups.now.items c.deref.result.now c.remove-group.new.self.items c.args.i c.in-Some.place c.behind-groups.inside.witness c.index_mut.result.now c.place_of.result (omega (arith, c.requires.within)) c.remove-group.ensures.items c.deref.ensures.value c.place_of.ensures c.in-Some.is) c.index_mut.ensures.value (c.absorb.ensures.mixed bs es)
+
+pub returns-in-Some-clause-each : goal.returns-in-Some-clause-each
+returns-in-Some-clause-each c = λ held v.
+    let joins = join-fits c.args.groups.now.items c.remove-group.new.self.items c.args.i c.in-Some.place c.behind-groups.inside.witness c.index.result.now c.index_mut.result.now c.remove-group.result
+    (omega (arith, c.requires.within)) c.index.ensures (ap (λ (g : GroupValue). g.witness) c.behind-groups.view_is) c.remove-group.ensures.value c.remove-group.ensures.items c.index_mut.ensures.value
+    (sym (ap (λ (gs : List GroupValue). position (λ g. g.witness == c.behind-groups.inside.witness) (take c.args.i gs)) c.deref.ensures.value) ∙ sym c.place_of.ensures ∙ c.in-Some.is) c.requires.few in
+    all-joined (IsUnder held v) c.args.groups.now.items c.remove-group.new.self.items c.args.i c.in-Some.place c.index_mut.result.now c.remove-group.result c.absorb.new.self
+    (omega (arith, c.requires.within)) c.remove-group.ensures.value c.remove-group.ensures.items (within c.args.groups.now.items c.deref.result.now c.remove-group.new.self.items c.args.i c.in-Some.place c.behind-groups.inside.witness c.index_mut.result.now c.place_of.result (omega (arith, c.requires.within)) c.remove-group.ensures.items c.deref.ensures.value c.place_of.ensures c.in-Some.is) c.index_mut.ensures.value
+    (under-joined held v c.index_mut.result.now c.remove-group.result c.absorb.new.self joins.0 c.absorb.ensures.witness (c.absorb.ensures.each held v))

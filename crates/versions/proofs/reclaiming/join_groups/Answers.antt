@@ -1,14 +1,15 @@
 use Rattle.std.specs.List.{AllByRecursion}
 use Rattle.std.proofs.Common.{◌+◌, List, take, sym, ap, subst, refl, ◌∙◌, arith}
 use Rattle.versions.specs.Groups.{GroupValue}
-use Rattle.versions.specs.Listings.{AreAmong, AreApart, AreFound, IsTrulyMixed, lists_in, witnesses}
+use Rattle.versions.specs.Witnesses.{AreUnderWitnesses}
+use Rattle.versions.specs.Listings.{AreAmong, AreApart, AreFound, AreMixedSettled, IsSettled, IsTrulyMixed, lists_in, witnesses}
 use Rattle.versions.proofs.Calls.{take_all}
-use Rattle.versions.proofs.Groups.{all-remove, due-empty, found-remove, found-trans}
+use Rattle.versions.proofs.Groups.{IsUnder, all-remove, due-empty, found-remove, found-trans}
 use Rattle.versions.proofs.Witnesses.{apart-none, apart-next, among-remove, take-remove, lists-remove, length-map}
 use Rattle.versions.proofs.reclaiming.join_groups.Goals as goal
 
 pub loop-i-init : goal.loop-i-init
-loop-i-init c = record { found = λ k n high t. t; due = λ bs. refl; apart = apart-none (witnesses c.args.groups.now.items); held = λ bs h. h; truly = λ bs h. h; lists = omega arith }
+loop-i-init c = record { found = λ k n high t. t; due = λ bs. refl; apart = apart-none (witnesses c.args.groups.now.items); held = λ bs h. h; truly = λ bs h. h; lists = omega arith; each = λ held v h. h; mixed = λ bs es h. h }
 
 pub join-requires-clause-few : goal.join-requires-clause-few
 join-requires-clause-few c = omega (arith, c.requires, c.loop-i.invariant.lists)
@@ -26,6 +27,8 @@ loop-i-preserved-then-is_empty c =
       held = λ bs h. subst (λ (l : List GroupValue). AreAmong bs (witnesses l)) (sym less) (among-remove bs gs i (c.loop-i.invariant.held bs h));
       truly = λ bs h. subst (λ (l : List GroupValue). AllByRecursion (IsTrulyMixed bs) l) (sym less) (all-remove (IsTrulyMixed bs) gs i (c.loop-i.invariant.truly bs h));
       lists = (let sum = lists-remove gs i c.index.result.now (omega arith) c.index.ensures in let now = ap lists_in less in let before = c.loop-i.invariant.lists in omega (arith, sum, now, before));
+      each = λ held v h. subst (λ (l : List GroupValue). AreUnderWitnesses held v l) (sym less) (all-remove (IsUnder held v) gs i (c.loop-i.invariant.each held v h));
+      mixed = λ bs es h. subst (λ (l : List GroupValue). AreMixedSettled bs es l) (sym less) (all-remove (λ x. AllByRecursion (IsSettled bs es) x.mixed) gs i (c.loop-i.invariant.mixed bs es h));
     }
 
 pub loop-i-preserved : goal.loop-i-preserved
@@ -36,6 +39,8 @@ loop-i-preserved c = record {
   held = λ bs h. c.join.ensures.held bs (c.loop-i.invariant.held bs h);
   truly = λ bs h. c.join.ensures.truly bs (c.loop-i.invariant.truly bs h);
   lists = omega (arith, c.join.ensures.lists, c.loop-i.invariant.lists);
+  each = λ held v h. c.join.ensures.each held v (c.loop-i.invariant.each held v h);
+  mixed = λ bs es h. c.join.ensures.mixed bs es (c.loop-i.invariant.mixed bs es h);
 }
 
 pub loop-i-preserved-then-not-join : goal.loop-i-preserved-then-not-join
@@ -49,6 +54,8 @@ loop-i-preserved-then-not-join c =
       held = λ bs h. c.join.ensures.held bs (inv.held bs h);
       truly = λ bs h. c.join.ensures.truly bs (inv.truly bs h);
       lists = omega (arith, c.join.ensures.lists, inv.lists);
+      each = λ held v h. c.join.ensures.each held v (inv.each held v h);
+      mixed = λ bs es h. c.join.ensures.mixed bs es (inv.mixed bs es h);
     }
 
 pub returns-clause-apart : goal.returns-clause-apart
@@ -64,3 +71,9 @@ returns-clause-truly c = c.loop-i.invariant.truly
 
 pub returns-clause-lists : goal.returns-clause-lists
 returns-clause-lists c = c.loop-i.invariant.lists
+
+pub returns-clause-each : goal.returns-clause-each
+returns-clause-each c = c.loop-i.invariant.each
+
+pub returns-clause-mixed : goal.returns-clause-mixed
+returns-clause-mixed c = c.loop-i.invariant.mixed

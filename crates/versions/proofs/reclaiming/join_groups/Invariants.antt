@@ -1,6 +1,8 @@
 use Rattle.std.specs.List.{AllByRecursion}
-use Rattle.std.proofs.Common.{◌≡◌, ◌≤◌, ℕ, List, ◌-◌, length, take}
-use Rattle.versions.specs.Listings.{AreAmong, AreApart, AreFound, IsTrulyMixed, lists_in, witnesses}
+use Rattle.std.proofs.Common.{◌≡◌, ◌≤◌, ℕ, Bool, List, ◌-◌, length, take}
+use Rattle.versions.specs.Chains.{Chains, ChainsValue}
+use Rattle.versions.specs.Witnesses.{AreUnderWitnesses}
+use Rattle.versions.specs.Listings.{AreAmong, AreApart, AreFound, AreMixedSettled, IsTrulyMixed, lists_in, witnesses}
 use Rattle.versions.specs.Meaning.{due_in}
 use Rattle.versions.proofs.reclaiming.join_groups.Given as goal
 
@@ -13,6 +15,8 @@ invariant-loop-i l = record {
   held : (bs : List ℕ) → AreAmong bs (witnesses l.initial.groups.items) → AreAmong bs (witnesses l.groups.items);
   truly : (bs : List ℕ) → AllByRecursion (IsTrulyMixed bs) l.initial.groups.items → AllByRecursion (IsTrulyMixed bs) l.groups.items;
   lists : lists_in l.groups.items ≤ lists_in l.initial.groups.items;
+  each : (held : ℕ → Bool) (v : ChainsValue) → AreUnderWitnesses held v l.initial.groups.items → AreUnderWitnesses held v l.groups.items;
+  mixed : (bs : List ℕ) (es : Chains) → AreMixedSettled bs es l.initial.groups.items → AreMixedSettled bs es l.groups.items;
 }
 
 abbrev pub decreases-loop-i : goal.decreases-loop-i

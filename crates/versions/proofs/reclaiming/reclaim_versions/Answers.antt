@@ -4,7 +4,8 @@ use Rattle.sorted_pages.specs.Pages.{entries}
 use Rattle.versions.specs.Groups.{GroupValue}
 use Rattle.std.specs.Prelude.{nat_lt}
 use Rattle.versions.specs.Meaning.{due_in}
-use Rattle.versions.specs.Listings.{AreAmong, IsListed, IsTrulyMixed, witnesses}
+use Rattle.versions.specs.Witnesses.{AreUnderWitnesses}
+use Rattle.versions.specs.Listings.{AreAmong, AreMixedSettled, IsListed, IsTrulyMixed, witnesses}
 use Rattle.versions.proofs.Calls.{all_items}
 use Rattle.versions.proofs.Groups.{any-due}
 use Rattle.versions.proofs.Witnesses.{apart-few, length-map}
@@ -36,3 +37,24 @@ returns-clause-truly c =
     let groups = c.reclaim_groups.new.groups in
     let are = all_items c.args.groups.now.len groups (drop (length groups) c.args.groups.now.items) (omega (arith, c.deref_mut.ensures.len, c.reclaim_groups.auto.groups)) in
     c.join_groups.ensures.truly bs (subst (λ (l : List GroupValue). AllByRecursion (IsTrulyMixed bs) l) (sym are) c.reclaim_groups.ensures.truly)
+
+pub returns-clause-held : goal.returns-clause-held
+returns-clause-held c =
+    let bs = c.args.begins.now in
+    let groups = c.reclaim_groups.new.groups in
+    let are = all_items c.args.groups.now.len groups (drop (length groups) c.args.groups.now.items) (omega (arith, c.deref_mut.ensures.len, c.reclaim_groups.auto.groups)) in
+    c.join_groups.ensures.held (0 ∷ bs) (subst (λ (l : List GroupValue). AreAmong (0 ∷ bs) (witnesses l)) (sym are) c.reclaim_groups.ensures.held)
+
+pub returns-clause-each : goal.returns-clause-each
+returns-clause-each c = λ more held v u stands under.
+    let groups = c.reclaim_groups.new.groups in
+    let are = all_items c.args.groups.now.len groups (drop (length groups) c.args.groups.now.items) (omega (arith, c.deref_mut.ensures.len, c.reclaim_groups.auto.groups)) in
+    c.join_groups.ensures.each held u (subst (λ (l : List GroupValue). AreUnderWitnesses held u l) (sym are) (c.reclaim_groups.ensures.each more held v u stands (subst (AreUnderWitnesses more v) (sym c.deref_mut.ensures.value) under)))
+
+pub returns-clause-mixed : goal.returns-clause-mixed
+returns-clause-mixed c =
+    let bs = c.args.begins.now in
+    let es = entries c.reclaim_groups.new.chains in
+    let groups = c.reclaim_groups.new.groups in
+    let are = all_items c.args.groups.now.len groups (drop (length groups) c.args.groups.now.items) (omega (arith, c.deref_mut.ensures.len, c.reclaim_groups.auto.groups)) in
+    c.join_groups.ensures.mixed bs es (subst (λ (l : List GroupValue). AreMixedSettled bs es l) (sym are) c.reclaim_groups.ensures.mixed)

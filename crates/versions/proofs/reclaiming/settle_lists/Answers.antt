@@ -1,6 +1,8 @@
 use Rattle.std.proofs.Common.{◌≡◌, ◌≤◌, ◌<◌, ◌+◌, ◌++◌, length, sym, ap, subst, ◌∙◌, arith}
 use Rattle.std.proofs.lemmas.List.{append-nil, length-append}
+use Rattle.std.specs.List.{AllByRecursion}
 use Rattle.sorted_pages.specs.Pages.{entries}
+use Rattle.versions.specs.Witnesses.{IsUnderWitness}
 use Rattle.versions.specs.Listings.{AreKept, AreSeenFrom, versions_in}
 use Rattle.versions.proofs.Lists.{in-append, in-empty, in-none, one-less, settled-list}
 use Rattle.versions.proofs.reclaiming.settle_lists.Goals.{then-not-are_empty, else-not-are_empty}
@@ -26,7 +28,7 @@ loop-preserved c =
       left = omega (arith, shorter);
       counted = omega (arith, shorter, counted);
       settled = settled-list c.args.begins.now (entries c.args.chains.now) (entries c.loop.chains) (entries c.settle_first.new.chains) (versions_in c.args.lists.now) c.loop.lists c.if-not-are_empty.lists c.loop.rest c.take_front-first.result left c.take_front-first.new.lists
-          c.requires.kept.0 c.requires.kept.1 c.take_front-first.ensures.front c.take_front-first.ensures.rest is c.settle_first.ensures.part c.settle_first.ensures.kept c.settle_first.ensures.settled c.settle_first.ensures.left c.settle_first.ensures.seen c.loop.invariant.settled;
+          c.requires.kept.0 c.requires.kept.1 c.take_front-first.ensures.front c.take_front-first.ensures.rest is c.settle_first.ensures.part c.settle_first.ensures.kept c.settle_first.ensures.settled c.settle_first.ensures.left c.settle_first.ensures.seen c.settle_first.ensures.each c.loop.invariant.settled;
     }
 
 pub returns-clause-left : goal.returns-clause-left
@@ -34,3 +36,6 @@ returns-clause-left c = subst (λ l. AreKept (versions_in c.args.lists.now) l (e
 
 pub returns-clause-seen : goal.returns-clause-seen
 returns-clause-seen c = λ n h. subst (AreSeenFrom n) (in-none (versions_in c.loop.lists) c.loop.rest (omega arith)) (c.loop.invariant.settled.seen n h)
+
+pub returns-clause-each : goal.returns-clause-each
+returns-clause-each c = λ held v w h. subst (AllByRecursion (IsUnderWitness held v w)) (in-none (versions_in c.loop.lists) c.loop.rest (omega arith)) (c.loop.invariant.settled.each held v w h)

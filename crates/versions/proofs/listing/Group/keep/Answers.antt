@@ -2,6 +2,7 @@ use Rattle.std.proofs.Common.{◌≡◌, ◌&&◌, ◌++◌, true, false, inr, l
 use Rattle.std.proofs.lemmas.List.{length-append}
 use Rattle.versions.specs.Groups.{GroupValue, Listed}
 use Rattle.std.specs.List.{AllByRecursion, list_all}
+use Rattle.versions.specs.Witnesses.{IsUnderWitness}
 use Rattle.versions.specs.Listings.{AreSeenFrom, IsSettled, is_seen_from, versions_in}
 use Rattle.versions.specs.Meaning.{is_among}
 use Rattle.versions.proofs.Lists.{all-append, in-append, in-seen}
@@ -39,3 +40,12 @@ returns-else-is_among-clause-truly c = λ none.
       | else-is_among-via-else-is_among b ↦ unheld bs w c.args.lists (sym c.is_among.ensures ∙ b.if-is_among.false)
     ] in
     inr (unseen-put bs w (versions_in mixed) (versions_in c.args.lists) (versions_in c.append-else-is_among.new.lists) (ap versions_in c.append-else-is_among.ensures ∙ in-append mixed c.args.lists) (ap (λ (x : GroupValue). x.mixed) c.self.view_is ∙ none) unfit)
+
+pub returns-then-are_seen_from-clause-each : goal.returns-then-are_seen_from-clause-each
+returns-then-are_seen_from-clause-each c = λ held v w h hm g.
+    let P = IsUnderWitness held v w in
+    let lists = c.self.inside.lists in (
+      all-seen_more P (versions_in lists) (versions_in c.self.inside.due ++ versions_in c.self.inside.mixed) (versions_in c.args.lists) (versions_in c.append.new.lists) (ap versions_in c.append.ensures ∙ in-append lists c.args.lists)
+          (subst (λ (x : GroupValue). AllByRecursion P x.versions) (sym c.self.view_is) h) g,
+      subst (λ (x : GroupValue). AllByRecursion P x.mixed) (sym c.self.view_is) hm,
+    )

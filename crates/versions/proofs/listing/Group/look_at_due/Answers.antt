@@ -1,8 +1,11 @@
 use Rattle.std.proofs.Common.{◌≡◌, ◌++◌, sym, subst, ◌∙◌}
+use Rattle.std.specs.List.{AllByRecursion}
 use Rattle.sorted_pages.specs.Pages.{entries}
+use Rattle.versions.specs.Witnesses.{IsUnderWitness}
 use Rattle.versions.specs.Groups.{GroupValue}
 use Rattle.versions.specs.Listings.{AreKept, versions_in}
-use Rattle.versions.proofs.Parts.{in-split, kept-due}
+use Rattle.versions.proofs.Lists.{all-back, all-front}
+use Rattle.versions.proofs.Parts.{all-parts, all-three, in-split, kept-due}
 use Rattle.versions.proofs.listing.Group.look_at_due.Goals as goal
 
 pub returns-clause-left : goal.returns-clause-left
@@ -14,3 +17,16 @@ returns-clause-left c =
     let split : versions_in due ≡ versions_in taken ++ versions_in rest = in-split c.args.count due ∙ (λ i. versions_in (sym c.take_front-lists.ensures.front i) ++ versions_in (sym c.take_front-lists.ensures.rest i)) in
     subst (λ (g : GroupValue). AreKept g.versions c.keep.new.self.versions es) c.self.view_is
     (kept-due (versions_in c.self.inside.lists) (versions_in due) (versions_in c.self.inside.mixed) (versions_in taken) (versions_in c.settle_lists.new.lists) (versions_in rest) c.keep.new.self.versions es split c.settle_lists.ensures.left c.keep.ensures.found c.keep.ensures.kept)
+
+pub returns-clause-each : goal.returns-clause-each
+returns-clause-each c = λ held v w h hm.
+    let P = IsUnderWitness held v w in
+    let g = c.self.inside in
+    let taken = c.take_front-lists.result in
+    let rest = c.take_front-lists.new.lists in
+    let split : versions_in g.due ≡ versions_in taken ++ versions_in rest = in-split c.args.count g.due ∙ (λ i. versions_in (sym c.take_front-lists.ensures.front i) ++ versions_in (sym c.take_front-lists.ensures.rest i)) in
+    let own = all-parts P (versions_in g.lists) (versions_in g.due) (versions_in g.mixed) (subst (λ (x : GroupValue). AllByRecursion P x.versions) (sym c.self.view_is) h) in
+    let due = subst (AllByRecursion P) split own.1 in
+    c.keep.ensures.each held v w
+    (all-three P (versions_in g.lists) (versions_in rest) (versions_in g.mixed) own.0 (all-back P (versions_in taken) (versions_in rest) due) own.2) own.2
+    (c.settle_lists.ensures.each held v w (all-front P (versions_in taken) (versions_in rest) due))

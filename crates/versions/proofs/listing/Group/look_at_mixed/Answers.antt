@@ -2,9 +2,10 @@ use Rattle.std.proofs.Common.{◌≡◌, List, [], ap, sym, subst, ◌∙◌}
 use Rattle.std.specs.List.{AllByRecursion}
 use Rattle.sorted_pages.specs.Pages.{entries}
 use Rattle.versions.specs.Groups.{GroupValue, Listed}
+use Rattle.versions.specs.Witnesses.{IsUnderWitness}
 use Rattle.versions.specs.Listings.{AreKept, IsSettled, IsTakenIn, versions_in}
 use Rattle.std.proofs.lemmas.Bool.{eqb-true}
-use Rattle.versions.proofs.Parts.{due-taken, kept-put_back, no-versions, parts-settled}
+use Rattle.versions.proofs.Parts.{all-parts, all-three, due-taken, kept-put_back, no-versions, parts-settled}
 use Rattle.versions.proofs.listing.Group.look_at_mixed.Goals as goal
 
 pub returns-clause-left : goal.returns-clause-left
@@ -37,3 +38,21 @@ returns-then-is_empty-clause-settled c = λ none.
     let mixed = no-versions (IsSettled bs es) c.self.inside.mixed (eqb-true _ _ (sym c.if-is_empty.ensures)) in
     subst (λ (g : GroupValue). AllByRecursion (IsSettled bs es) g.versions) c.self.view_is
     (parts-settled bs es c.self.inside.witness c.self.inside.lists c.self.inside.due c.self.inside.mixed held c.self.invariant.0 no_due mixed)
+
+pub returns-clause-each : goal.returns-clause-each
+returns-clause-each c = λ held v w h hm.
+    let P = IsUnderWitness held v w in
+    let g = c.self.inside in
+    let own = all-parts P (versions_in g.lists) (versions_in g.due) (versions_in g.mixed) (subst (λ (x : GroupValue). AllByRecursion P x.versions) (sym c.self.view_is) h) in
+    let empty : versions_in c.replace-mixed.new.dest ≡ [] = ap versions_in (c.replace-mixed.ensures.after ∙ c.new.ensures) in
+    let none = subst (λ (l : List Listed). AllByRecursion P l) (sym empty) tt in
+    c.keep.ensures.each held v w
+    (all-three P (versions_in g.lists) (versions_in g.due) (versions_in c.replace-mixed.new.dest) own.0 own.1 none) none
+    (c.settle_lists.ensures.each held v w (subst (λ l. AllByRecursion P (versions_in l)) (sym c.replace-mixed.ensures.value) own.2))
+
+pub returns-clause-mixed : goal.returns-clause-mixed
+returns-clause-mixed c =
+    let bs = c.args.begins.now in
+    let es = entries c.settle_lists.new.chains in
+    let empty : versions_in c.replace-mixed.new.dest ≡ [] = ap versions_in (c.replace-mixed.ensures.after ∙ c.new.ensures) in
+    c.keep.ensures.mixed es (subst (λ (l : List Listed). AllByRecursion (IsSettled bs es) l) (sym empty) tt) c.settle_lists.ensures.settled

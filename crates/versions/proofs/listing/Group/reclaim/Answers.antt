@@ -15,3 +15,9 @@ returns-clause-kept c = λ last h. c.look_at_mixed.ensures.kept last (c.look_at_
 pub returns-clause-left : goal.returns-clause-left
 returns-clause-left c = kept-twice c.args.begins.now (entries c.look_at_due.new.chains) (entries c.look_at_mixed.new.chains) c.args.self.now.versions c.take_in.new.self.versions c.look_at_due.new.self.versions c.look_at_mixed.new.self.versions
     c.take_in.ensures.found c.look_at_mixed.ensures.part c.look_at_due.ensures.left c.look_at_mixed.ensures.left
+
+pub returns-clause-each : goal.returns-clause-each
+returns-clause-each c = λ held v w h hm.
+    let one = c.take_in.ensures.each held v w h hm in
+    let two = c.look_at_due.ensures.each held v w one.0 one.1 in
+    c.look_at_mixed.ensures.each held v w two.0 two.1

@@ -27,7 +27,7 @@ invariant_of-result c =
 pub returns : goal.returns
 returns c =
     let none : c.loop-pair.pair-iterator.rest.items ≡ [] = nil_from_length _ (sym c.loop-pair.pair-iterator.rest.ok.0 ∙ c.in-None.ensures.steps.0) in
-    stands-opened _ c.args.map c.into_pairs-pair-items.ensures.is_map (all_made (entries c.loop-pair.chains) c.args.map _ none c.loop-pair.invariant) refl
+    stands-opened _ c.args.map c.into_pairs-pair-items.ensures.is_map (all_made (entries c.loop-pair.chains) c.args.map _ none c.loop-pair.invariant) refl c.new-2.ensures.items
 
 pub push-requires : goal.push-requires
 push-requires c = subst (λ (d : ChainValue). IsSorted (entries c.loop-pair.chains ++ (c.into_parts-key.result.0, d) ∷ [])) (sym c.new.ensures)

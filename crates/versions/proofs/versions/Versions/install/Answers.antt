@@ -1,16 +1,19 @@
-use Rattle.std.proofs.Common.{◌≡◌, ◌^◌, ◌<◌, ◌≤◌, ℕ, List, [], ◌∷◌, ◌++◌, ◌-◌, length, sym, subst, ap, ◌∙◌, refl, arith}
+use Rattle.std.proofs.Common.{◌≡◌, ◌^◌, ◌<◌, ◌≤◌, ℕ, Bool, List, [], ◌∷◌, ◌++◌, ◌-◌, length, sym, subst, ap, ◌∙◌, refl, arith}
 use Rattle.std.specs.declared.vec.Vec.{Vec}
-use Rattle.model.specs.Map.{KeyWrite}
+use Rattle.std.specs.List.{AllByRecursion}
+use Rattle.model.specs.Map.{Bytes, KeyWrite}
 use Rattle.sorted_pages.specs.Pages.{entries}
-use Rattle.versions.specs.Chains.{ChainsValue}
-use Rattle.versions.specs.Listings.{AreSeenFrom, HasFewLists, IsListed, lists_in, unwitnessed, versions_in}
+use Rattle.versions.specs.Chains.{ChainsValue, find_chain}
+use Rattle.versions.specs.Listings.{AreSeenFrom, HasFewLists, IsFollowed, IsListed, lists_in, unwitnessed, versions_in}
 use Rattle.versions.specs.Groups.{GroupValue, Listed}
 use Rattle.versions.specs.Meaning.{AreInstalled, IsInstalled}
+use Rattle.versions.specs.Witnesses.{AreUnderWitnesses, IsAddedTo}
 use Rattle.versions.proofs.Lists.{in-first, in-filled}
 use Rattle.versions.proofs.Listings.{groups-found, found-last}
 use Rattle.versions.proofs.Groups.{length-set}
 use Rattle.versions.proofs.Witnesses.{lists-push}
 use Rattle.versions.proofs.Histories.{stands-installed}
+use Rattle.versions.proofs.UnderWitnesses.{groups-installed}
 use Rattle.versions.proofs.versions.Versions.install.Goals as goal
 
 whole : (old inside new : ChainsValue) (n : ℕ) (ws : List KeyWrite) → inside ≡ old → AreInstalled inside.chains new.chains n ws → new.last ≡ n → IsInstalled old new n ws
@@ -47,5 +50,15 @@ invariant_of-self c =
 pub returns-clause-installed : goal.returns-clause-installed
 returns-clause-installed c = whole c.args.self.now _ _ c.args.n c.args.writes.items c.self.view_is c.add_all.ensures.installed refl
 
+-- the commit's list comes under the number before it
+under : (held : ℕ → Bool) (old inside new : ChainsValue) (n : ℕ) (g : GroupValue) (ls : List Listed) → inside ≡ old → old.last < n → new.last ≡ n → ((k : Bytes) → IsAddedTo n (find_chain k inside.chains) (find_chain k new.chains)) → new.groups ≡ inside.groups ++ g ∷ []
+    → g.witness ≡ n - 1 → g.mixed ≡ [] → g.versions ≡ ls → AllByRecursion (IsFollowed n new.chains) ls → AreUnderWitnesses held old old.groups → AreUnderWitnesses held new new.groups
+under held old inside new n g ls same lt last chains groups witness mixed versions each =
+    groups-installed held old new n g ls lt last (subst (λ (v : ChainsValue). (k : Bytes) → IsAddedTo n (find_chain k v.chains) (find_chain k new.chains)) same chains) (groups ∙ ap (λ (v : ChainsValue). v.groups ++ g ∷ []) same) witness mixed versions each
+
 pub returns-clause-stands : goal.returns-clause-stands
-returns-clause-stands c = λ held base history r s long commit is. stands-installed c.args.self.now held base history _ c.args.n c.args.writes.items r (returns-clause-installed c) c.requires.above long commit is s
+returns-clause-stands c = λ held base history r s long commit is.
+    let filled = in-filled c.replace-listed.result c.add_all.new.listed (ap versions_in c.replace-listed.ensures.value ∙ c.self.invariant.2) (c.in-Some.ensures.variant.0 refl) in
+    stands-installed c.args.self.now held base history _ c.args.n c.args.writes.items r (returns-clause-installed c)
+    (under held c.args.self.now _ _ c.args.n c.new-2.result c.add_all.new.listed.items c.self.view_is c.requires.above refl c.add_all.ensures.added c.in-Ok.ensures.items c.new-2.ensures.witness c.new-2.ensures.mixed (c.new-2.ensures.versions ∙ filled) c.add_all.ensures.followed)
+    c.requires.above long commit is s

@@ -1,7 +1,10 @@
-use Rattle.std.proofs.Common.{◌≡◌, length, sym, ap, subst, ◌∙◌, refl, false, arith}
+use Rattle.std.proofs.Common.{◌≡◌, ℕ, Bool, List, length, sym, ap, subst, ◌∙◌, refl, false, arith}
 use Rattle.std.proofs.lemmas.Bool.{both_ways}
 use Rattle.versions.specs.Chains.{ChainsValue, IsRoomier}
 use Rattle.versions.specs.Meaning.{IsSameMeaning}
+use Rattle.versions.specs.StandsFor.{StandsFor}
+use Rattle.model.specs.Map.{KeyMap}
+use Rattle.model.specs.History.{Record}
 use Rattle.versions.proofs.Stores.{roomier-refl, roomier-trans, same-roomier}
 use Rattle.versions.proofs.Calls.{Preparing, preparing, take_all, has_chain_room, has_place}
 use Rattle.versions.proofs.Histories.{stands-same}
@@ -11,14 +14,21 @@ use Rattle.versions.proofs.versions.Versions.prepare.Goals as goal
 reserved : (old now new : ChainsValue) → IsRoomier old.chains now.chains → now.last ≡ old.last → new.chains ≡ now.chains → new.last ≡ now.last → IsSameMeaning old new
 reserved old now new more last same last' = same-roomier old new (subst (IsRoomier old.chains) (sym same) more) (last' ∙ last)
 
+-- the histories stay, where the chains have no less room and the groups are the same
+stands : (old now new : ChainsValue) → IsRoomier old.chains now.chains → now.last ≡ old.last → now.groups ≡ old.groups → new.chains ≡ now.chains → new.last ≡ now.last → new.groups ≡ now.groups
+    → (held : ℕ → Bool) (base : KeyMap) (history : List Record) → StandsFor old held base history → StandsFor new held base history
+stands old now new more last groups same last' groups' held base history s =
+    stands-same old held base history new (reserved old now new more last same last') (subst (IsRoomier old.chains) (sym same) more) (groups' ∙ groups) s
+
 pub loop-write-init : goal.loop-write-init
-loop-write-init c = record { roomier = roomier-refl c.args.self.now.chains; pages = λ q. omega arith; last = refl; prepared = record { rooms = tt; places = tt }; listed_spare = refl; groups_spare = refl }
+loop-write-init c = record { roomier = roomier-refl c.args.self.now.chains; pages = λ q. omega arith; last = refl; groups = refl; prepared = record { rooms = tt; places = tt }; listed_spare = refl; groups_spare = refl }
 
 pub loop-write-preserved : goal.loop-write-preserved
 loop-write-preserved c = record {
   roomier = roomier-trans c.args.self.now.chains c.loop-write.self.chains c.make_room.new.self.chains c.loop-write.invariant.roomier c.make_room.ensures.chains;
   pages = λ q. omega (arith, c.loop-write.invariant.pages q, c.make_room.ensures.rooms q);
   last = c.make_room.ensures.last ∙ c.loop-write.invariant.last;
+  groups = c.make_room.ensures.groups ∙ c.loop-write.invariant.groups;
   prepared = preparing (length c.args.writes.now) c.args.writes.now c.loop-write.write-index c.write-item.result c.lend_key.result.bytes.now c.loop-write.self.chains c.make_room.new.self.chains c.loop-write.self.pages c.make_room.new.self.pages
       (omega arith) c.write-item.is c.lend_key.ensures c.make_room.ensures.chains c.make_room.ensures.rooms c.loop-write.invariant.prepared c.in_ok-make_room.ensures.room c.in_ok-make_room.ensures.place;
   listed_spare = c.make_room.ensures.listed_spare ∙ c.loop-write.invariant.listed_spare;
@@ -33,7 +43,9 @@ returns-in_err-make_room-clause-same c = same-roomier c.args.self.now c.make_roo
     (c.make_room.ensures.last ∙ c.loop-write.invariant.last)
 
 pub returns-in_err-make_room-clause-stands : goal.returns-in_err-make_room-clause-stands
-returns-in_err-make_room-clause-stands c = λ held base history s. stands-same c.args.self.now held base history _ (returns-in_err-make_room-clause-same c) s
+returns-in_err-make_room-clause-stands c = λ held base history s. stands-same c.args.self.now held base history _ (returns-in_err-make_room-clause-same c)
+    (roomier-trans c.args.self.now.chains c.loop-write.self.chains c.make_room.new.self.chains c.loop-write.invariant.roomier c.make_room.ensures.chains)
+    (c.make_room.ensures.groups ∙ c.loop-write.invariant.groups) s
 
 pub returns-in_err-make_room-clause-known : goal.returns-in_err-make_room-clause-known
 returns-in_err-make_room-clause-known c = λ p.
@@ -52,13 +64,13 @@ pub returns-in_err-reserve_list-clause-same : goal.returns-in_err-reserve_list-c
 returns-in_err-reserve_list-clause-same c = reserved c.args.self.now c.loop-write.self _ c.loop-write.invariant.roomier c.loop-write.invariant.last (ap (λ (v : ChainsValue). v.chains) c.self.view_is) (ap (λ (v : ChainsValue). v.last) c.self.view_is)
 
 pub returns-in_err-reserve_list-clause-stands : goal.returns-in_err-reserve_list-clause-stands
-returns-in_err-reserve_list-clause-stands c = λ held base history s. stands-same c.args.self.now held base history _ (returns-in_err-reserve_list-clause-same c) s
+returns-in_err-reserve_list-clause-stands c = stands c.args.self.now c.loop-write.self _ c.loop-write.invariant.roomier c.loop-write.invariant.last c.loop-write.invariant.groups (ap (λ (v : ChainsValue). v.chains) c.self.view_is) (ap (λ (v : ChainsValue). v.last) c.self.view_is) (ap (λ (v : ChainsValue). v.groups) c.self.view_is)
 
 pub returns-in_err-reserve-clause-same : goal.returns-in_err-reserve-clause-same
 returns-in_err-reserve-clause-same c = reserved c.args.self.now c.loop-write.self _ c.loop-write.invariant.roomier c.loop-write.invariant.last (ap (λ (v : ChainsValue). v.chains) c.self.view_is) (ap (λ (v : ChainsValue). v.last) c.self.view_is)
 
 pub returns-in_err-reserve-clause-stands : goal.returns-in_err-reserve-clause-stands
-returns-in_err-reserve-clause-stands c = λ held base history s. stands-same c.args.self.now held base history _ (returns-in_err-reserve-clause-same c) s
+returns-in_err-reserve-clause-stands c = stands c.args.self.now c.loop-write.self _ c.loop-write.invariant.roomier c.loop-write.invariant.last c.loop-write.invariant.groups (ap (λ (v : ChainsValue). v.chains) c.self.view_is) (ap (λ (v : ChainsValue). v.last) c.self.view_is) (c.reserve.ensures.items ∙ ap (λ (v : ChainsValue). v.groups) c.self.view_is)
 
 -- ---- all room is there
 
@@ -66,7 +78,7 @@ pub returns-clause-same : goal.returns-clause-same
 returns-clause-same c = reserved c.args.self.now c.loop-write.self _ c.loop-write.invariant.roomier c.loop-write.invariant.last (ap (λ (v : ChainsValue). v.chains) c.self.view_is) (ap (λ (v : ChainsValue). v.last) c.self.view_is)
 
 pub returns-clause-stands : goal.returns-clause-stands
-returns-clause-stands c = λ held base history s. stands-same c.args.self.now held base history _ (returns-clause-same c) s
+returns-clause-stands c = stands c.args.self.now c.loop-write.self _ c.loop-write.invariant.roomier c.loop-write.invariant.last c.loop-write.invariant.groups (ap (λ (v : ChainsValue). v.chains) c.self.view_is) (ap (λ (v : ChainsValue). v.last) c.self.view_is) (c.reserve.ensures.items ∙ ap (λ (v : ChainsValue). v.groups) c.self.view_is)
 
 pub returns-clause-prepared : goal.returns-clause-prepared
 returns-clause-prepared c =

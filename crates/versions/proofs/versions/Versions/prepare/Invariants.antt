@@ -11,6 +11,7 @@ invariant-loop-write l = record {
   roomier : IsRoomier l.initial.self.chains l.self.chains;
   pages : (q : Bytes) → room_at q l.initial.self.pages ≤ room_at q l.self.pages;
   last : l.self.last ≡ l.initial.self.last;
+  groups : l.self.groups ≡ l.initial.self.groups;
   prepared : Preparing (length l.writes) l.self.chains l.self.pages (take l.write-index l.writes);
   listed_spare : l.self.listed_spare ≡ l.initial.self.listed_spare;
   groups_spare : l.self.groups_spare ≡ l.initial.self.groups_spare;

@@ -1,11 +1,14 @@
-use Rattle.std.proofs.Common.{ℕ, List, ◌≡◌, ◌-◌, subst, refl, arith}
-use Rattle.std.specs.Prelude.{option_map}
+use Rattle.std.proofs.Common.{ℕ, Bool, true, ◌&&◌, List, ◌≡◌, ◌-◌, subst, sym, ap, ◌∙◌, refl, arith}
+use Rattle.std.specs.Prelude.{option_map, IsTrue}
 use Rattle.model.specs.Map.{Bytes}
 use Rattle.versions.specs.Chains.{ChainsValue, IsKept, find_chain, reclaimed}
-use Rattle.versions.specs.Listings.{IsPartReclaimed}
-use Rattle.versions.specs.Meaning.{IsReclaimed, due_of, lists_a_reclaim}
+use Rattle.versions.specs.Groups.{Listed}
+use Rattle.versions.specs.Listings.{IsPartReclaimed, witness_for}
+use Rattle.versions.specs.Meaning.{IsReclaimed, due_of, is_among, lists_a_reclaim}
+use Rattle.versions.specs.Witnesses.{AreUnderWitnesses, IsUnderWitness}
 use Rattle.versions.proofs.Stores.{reclaimed-whole}
 use Rattle.versions.proofs.Histories.{stands-reclaimed}
+use Rattle.versions.proofs.UnderWitnesses.{groups-unmixed, under-reclaimed}
 use Rattle.versions.proofs.versions.Versions.reclaim.Goals as goal
 
 whole : (old inside new : ChainsValue) (bs : List ℕ) → inside ≡ old → IsKept inside.chains inside.last → IsKept new.chains new.last → new.last ≡ inside.last → due_of bs new ≡ due_of bs inside - lists_a_reclaim → IsPartReclaimed bs inside.chains new.chains
@@ -21,8 +24,26 @@ invariant_of-self c = (c.reclaim_versions.ensures.kept c.self.inside.last c.self
 pub returns-clause-reclaimed : goal.returns-clause-reclaimed
 returns-clause-reclaimed c = whole c.args.self.now _ _ c.args.begins.now c.self.view_is c.self.invariant.0 (c.reclaim_versions.ensures.kept c.self.inside.last c.self.invariant.0) refl c.reclaim_versions.ensures.due c.reclaim_versions.ensures.part c.reclaim_versions.ensures.all
 
+-- what is listed is listed under what is left of the numbers
+under : (held : ℕ → Bool) (bs : List ℕ) (old inside new : ChainsValue) → inside ≡ old → IsPartReclaimed bs inside.chains new.chains → new.last ≡ inside.last
+    → ((more held : ℕ → Bool) (v u : ChainsValue) → ((w : ℕ) (x : Listed) → IsUnderWitness more v w x → IsUnderWitness held u (witness_for bs w) x) → AreUnderWitnesses more v inside.groups → AreUnderWitnesses held u new.groups)
+    → AreUnderWitnesses held old old.groups → AreUnderWitnesses (λ n. held n && is_among bs n) new new.groups
+under held bs old inside new same part last each h =
+    each held (λ n. held n && is_among bs n) inside new (under-reclaimed held bs inside new part last) (subst (λ (v : ChainsValue). AreUnderWitnesses held v v.groups) (sym same) h)
+
 pub returns-clause-stands : goal.returns-clause-stands
-returns-clause-stands c = λ held base history s. stands-reclaimed c.args.self.now held base history _ c.args.begins.now (returns-clause-reclaimed c) s
+returns-clause-stands c = λ held base history s. stands-reclaimed c.args.self.now held base history _ c.args.begins.now (returns-clause-reclaimed c)
+    (under held c.args.begins.now c.args.self.now _ _ c.self.view_is c.reclaim_versions.ensures.part refl c.reclaim_versions.ensures.each) s
+
+-- a number that was held and is left
+left : (held : ℕ → Bool) (bs : List ℕ) → ((n : ℕ) → IsTrue (is_among bs n) → IsTrue (held n)) → (n : ℕ) → is_among bs n ≡ true → IsTrue (held n && is_among bs n)
+left held bs h n t = ap (λ b. b && is_among bs n) (h n t) ∙ t
+
+pub returns-clause-unmixed : goal.returns-clause-unmixed
+returns-clause-unmixed c = λ held base history s all.
+    let bs = c.args.begins.now in
+    groups-unmixed bs (λ n. held n && is_among bs n) _ c.self.inside.last (left held bs all) (c.reclaim_versions.ensures.kept c.self.inside.last c.self.invariant.0) c.reclaim_versions.new.groups.items
+    c.reclaim_versions.ensures.held (returns-clause-stands c held base history s).witnessed c.reclaim_versions.ensures.mixed c.reclaim_versions.ensures.truly
 
 pub reclaim_versions-requires-clause-few : goal.reclaim_versions-requires-clause-few
 reclaim_versions-requires-clause-few c = omega (arith, c.self.invariant.3.lists, c.self.invariant.3.fits)

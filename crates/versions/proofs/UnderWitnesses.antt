@@ -1,0 +1,355 @@
+-- Under which numbers the older versions are listed, from call to call.
+use Rattle.std.proofs.Common.{◌≡◌, ℕ, ◌-◌, ◌<◌, ◌≤◌, Bool, true, false, cond, ◌&&◌, ◌||◌, List, [], ◌∷◌, ◌++◌, Option, Some, None, refl, sym, ap, subst, ◌∙◌, arith, inl, inr}
+use Rattle.std.specs.Prelude.{option_map, nat_le, nat_lt, max, fold, ◌==◌, ◌⊎◌, IsTrue, if◌then◌else◌}
+use Rattle.std.specs.List.{AllByRecursion, list_all, list_any}
+use Rattle.std.proofs.lemmas.Bool.{cases_Bool, both_ways, or_cases, leb-true}
+use Rattle.std.proofs.lemmas.Bool.Decides.{nat_tests}
+use Rattle.std.specs.Ordering.{nat_cmp}
+use Rattle.std.specs.Cmp.Lexicographic.{slice_cmp}
+use Rattle.std.specs.FinMap.Entries.{put}
+use Rattle.model.specs.Map.{Bytes, is_same_key}
+use Rattle.model.proofs.Lookups.{same_key}
+use Rattle.versions.specs.Chains.{Stamped, ChainValue, Chains, ChainsValue, added, find_chain, last_at, reclaimed, stamped, IsKept, IsReady, IsRisingChain, IsRisingTo, IsRoomier, IsRoomierChain}
+use Rattle.versions.specs.Groups.{GroupValue, Listed}
+use Rattle.versions.specs.Meaning.{is_among}
+use Rattle.versions.specs.Listings.{followed, greatest_below, has_version, is_seen_from, witness_for, witnesses, AreAmong, AreMixedSettled, AreNeeded, IsFollowed, IsNeededChain, IsPartReclaimed, IsSettled, IsTrulyMixed, IsUnmixed}
+use Rattle.versions.specs.Witnesses.{number_at, number_seen, AreUnderWitnesses, IsAddedTo, IsUnderChain, IsUnderWitness}
+use Rattle.versions.proofs.ChainLaws.{above_first, last_at-push, le_false, le_true, some_between, stays, version_at-reclaimed}
+use Rattle.versions.proofs.Stores.{RoomierFound, all-find, find-put_itself, find-roomier}
+use Rattle.versions.proofs.Visibles.{find_chain-put}
+
+not_some : {A : Type 0} (x : A) → ◌≡◌ {A = Option A} None (Some x) → ⊥
+not_some x e = cc
+
+-- ---- each of the groups' versions
+
+all-each : {X : Type 0} (P Q : X → Type 0) (xs : List X) → ((x : X) → P x → Q x) → AllByRecursion P xs → AllByRecursion Q xs
+all-each P Q [] f h = tt
+all-each P Q (x ∷ xs) f h = (f x h.0, all-each P Q xs f h.1)
+
+pub groups-under : (more held : ℕ → Bool) (v u : ChainsValue) (gs : List GroupValue) → ((w : ℕ) (x : Listed) → IsUnderWitness more v w x → IsUnderWitness held u w x) → AreUnderWitnesses more v gs → AreUnderWitnesses held u gs
+groups-under more held v u [] f h = tt
+groups-under more held v u (g ∷ gs) f h =
+    let each = λ (xs : List Listed). all-each (IsUnderWitness more v g.witness) (IsUnderWitness held u g.witness) xs (f g.witness) in
+    ((each g.versions h.0.0, each g.mixed h.0.1), groups-under more held v u gs f h.1)
+
+-- ---- other numbers are held
+
+pub under-held : (held fewer : ℕ → Bool) (v : ChainsValue) → ((n : ℕ) → IsTrue (fewer n) → IsTrue (held n || nat_le v.last n)) → (w : ℕ) (x : Listed) → IsUnderWitness held v w x → IsUnderWitness fewer v w x
+under-held held fewer v h w x u = record {
+  before = u.before;
+  rises = u.rises;
+  installed = u.installed;
+  between = λ b t low high. elim (or_cases (held b) (nat_le v.last b) (h b t)) [
+    | inl e ↦ u.between b e low high
+    | inr l ↦ absurd (let le = leb-true v.last b l in let most = u.installed in omega (arith, le, high, most))
+  ];
+  chain = λ c found. (let r = u.chain c found in record {
+    behind = r.behind;
+    installed = r.installed;
+    sees = λ b t high is. elim (or_cases (held b) (nat_le v.last b) (h b t)) [
+      | inl e ↦ r.sees b e high is
+      | inr l ↦ absurd (let le = leb-true v.last b l in let most = r.installed in omega (arith, le, high, most))
+    ];
+  });
+}
+
+-- ---- more room
+
+-- the held numbers see of the chain what they saw
+under-chain : (more held : ℕ → Bool) (last last' w w' n : ℕ) (c d : ChainValue) → d.newest ≡ c.newest → last ≤ last' → ((b : ℕ) → IsTrue (held b) → IsTrue (more b) × (number_at b d ≡ number_at b c) × (b ≤ w → b ≤ w'))
+    → IsUnderChain more last w n c → IsUnderChain held last' w' n d
+under-chain more held last last' w w' n c d same le each u =
+    let e : d.newest.number ≡ c.newest.number = ap (λ (v : Stamped). v.number) same in record {
+      behind = (let lt = u.behind in omega (arith, e, lt));
+      installed = (let most = u.installed in omega (arith, e, most, le));
+      sees = λ b t high is. (let r = each b t in r.2 (u.sees b r.0 (omega (arith, e, high)) (sym r.1 ∙ is)));
+    }
+
+number_roomier : (b : ℕ) (c d : ChainValue) → IsRoomierChain c d → number_at b d ≡ number_at b c
+number_roomier b c d r = λ i. option_map (λ (v : Stamped). v.number) (if nat_le (r.newest i).number b then Some (r.newest i) else last_at b None (r.older i))
+
+roomier_before : (o p : Option ChainValue) (d : ChainValue) → RoomierFound o p → p ≡ Some d → (c : ChainValue) × (o ≡ Some c) × IsRoomierChain c d
+roomier_before None None d r e = absurd (not_some d e)
+roomier_before None (Some f) d r e = absurd r
+roomier_before (Some c) None d r e = absurd r
+roomier_before (Some c) (Some f) d r e = let same : f ≡ d = cc in (c, refl, subst (IsRoomierChain c) same r)
+
+pub under-roomier : (held : ℕ → Bool) (v u : ChainsValue) → IsRoomier v.chains u.chains → u.last ≡ v.last → (w : ℕ) (x : Listed) → IsUnderWitness held v w x → IsUnderWitness held u w x
+under-roomier held v u more last w x h = record {
+  before = h.before;
+  rises = h.rises;
+  installed = subst (λ n. x.next ≤ n) (sym last) h.installed;
+  between = h.between;
+  chain = λ d found. (let r = roomier_before (find_chain x.key v.chains) (find_chain x.key u.chains) d (find-roomier x.key v.chains u.chains more) found in
+      under-chain held held v.last u.last w w x.number r.0 d r.2.newest (omega (arith, last)) (λ b t. (t, number_roomier b r.0 d r.2, λ le. le)) (h.chain r.0 r.1));
+}
+
+-- ---- a reclaim
+
+greatest_low : (high : ℕ) (bs : List ℕ) (m : ℕ) → m ≤ high → fold (λ greatest b. if nat_lt b high then max greatest b else greatest) m bs ≤ high
+greatest_low high [] m le = le
+greatest_low high (b ∷ bs) m le = greatest_low high bs (if nat_lt b high then max m b else m) (elim (nat_lt b high) as (λ t. nat_lt b high ≡ t → (if t then max m b else m) ≤ high) [
+  | true ↦ λ t. grind (arith, nat_tests, t, le)
+  | false ↦ λ t. le
+] refl)
+
+greatest_rises : (high : ℕ) (bs : List ℕ) (m : ℕ) → m ≤ fold (λ greatest b. if nat_lt b high then max greatest b else greatest) m bs
+greatest_rises high [] m = omega arith
+greatest_rises high (b ∷ bs) m = elim (nat_lt b high) as (λ t. m ≤ fold (λ greatest b. if nat_lt b high then max greatest b else greatest) (if t then max m b else m) bs) [
+  | true ↦ let rest = greatest_rises high bs (max m b) in omega (arith, rest)
+  | false ↦ greatest_rises high bs m
+]
+
+-- the greatest is at least each of them
+greatest_most : (high b : ℕ) (bs : List ℕ) (m : ℕ) → is_among bs b ≡ true → b < high → b ≤ fold (λ greatest b. if nat_lt b high then max greatest b else greatest) m bs
+greatest_most high b [] m t lt = absurd (both_ways _ refl t)
+greatest_most high b (x ∷ bs) m t lt = elim (or_cases (x == b) (is_among bs b) t) [
+  | inl e ↦ (let same : x ≡ b = grind (arith, nat_tests, e) in
+      let low : nat_lt x high ≡ true = grind (arith, nat_tests, same, lt) in
+      let rest = greatest_rises high bs (if nat_lt x high then max m x else m) in
+      let first : (if nat_lt x high then max m x else m) ≡ max m x = ap (λ c. if c then max m x else m) low in
+      omega (arith, same, first, rest))
+  | inr r ↦ greatest_most high b bs (if nat_lt x high then max m x else m) r lt
+]
+
+witness_low : (bs : List ℕ) (w : ℕ) → witness_for bs w ≤ w
+witness_low bs w = elim (is_among bs w) as (λ t. (if t then w else greatest_below bs w) ≤ w) [
+  | true ↦ omega arith
+  | false ↦ greatest_low w bs 0 (omega arith)
+]
+
+witness_most : (bs : List ℕ) (w b : ℕ) → is_among bs b ≡ true → b ≤ w → b ≤ witness_for bs w
+witness_most bs w b t le = elim (is_among bs w) as (λ q. is_among bs w ≡ q → b ≤ (if q then w else greatest_below bs w)) [
+  | true ↦ λ e. le
+  | false ↦ λ e. elim (cases_Bool (nat_lt b w)) [
+    | inl l ↦ greatest_most w b bs 0 t (grind (arith, nat_tests, l))
+    | inr f ↦ absurd (let same : b ≡ w = grind (arith, nat_tests, f, le) in both_ways _ e (sym (ap (is_among bs) same) ∙ t))
+  ]
+] refl
+
+reclaimed_before : (bs : List ℕ) (o p : Option ChainValue) (d : ChainValue) → (p ≡ o) ⊎ (p ≡ option_map (reclaimed bs) o) → p ≡ Some d
+    → (c : ChainValue) × (o ≡ Some c) × (d.newest ≡ c.newest) × ((b : ℕ) → is_among bs b ≡ true → number_at b d ≡ number_at b c)
+reclaimed_before bs o p d (inl e) is = (d, sym e ∙ is, refl, λ b t. refl)
+reclaimed_before bs None p d (inr e) is = absurd (not_some d (sym e ∙ is))
+reclaimed_before bs (Some c) p d (inr e) is =
+    let there : ◌≡◌ {A = Option ChainValue} (Some (reclaimed bs c)) (Some d) = sym e ∙ is in
+    let same : reclaimed bs c ≡ d = cc in
+    (c, refl, sym (ap (λ (y : ChainValue). y.newest) same), λ b t. ap (number_at b) (sym same) ∙ ap (option_map (λ (v : Stamped). v.number)) (version_at-reclaimed bs c b t))
+
+both_true : (a b : Bool) → (a && b) ≡ true → (a ≡ true) × (b ≡ true)
+both_true true b t = (refl, t)
+both_true false b t = absurd (both_ways _ refl t)
+
+pub under-reclaimed : (held : ℕ → Bool) (bs : List ℕ) (v u : ChainsValue) → IsPartReclaimed bs v.chains u.chains → u.last ≡ v.last
+    → (w : ℕ) (x : Listed) → IsUnderWitness held v w x → IsUnderWitness (λ n. held n && is_among bs n) u (witness_for bs w) x
+under-reclaimed held bs v u part last w x h = record {
+  before = (let lt = h.before in let low = witness_low bs w in omega (arith, lt, low));
+  rises = h.rises;
+  installed = subst (λ n. x.next ≤ n) (sym last) h.installed;
+  between = λ b t low high. (let r = both_true (held b) (is_among bs b) t in witness_most bs w b r.1 (h.between b r.0 low high));
+  chain = λ d found. (let r = reclaimed_before bs (find_chain x.key v.chains) (find_chain x.key u.chains) d (part x.key) found in
+      under-chain held (λ n. held n && is_among bs n) v.last u.last w (witness_for bs w) x.number r.0 d r.2 (omega (arith, last))
+      (λ b t. (let q = both_true (held b) (is_among bs b) t in (q.0, r.3 b q.1, witness_most bs w b q.1))) (h.chain r.0 r.1));
+}
+
+-- ---- no list stays mixed
+
+-- an older version of a chain in which all are needed is what some of the numbers sees
+needed_seen : (bs : List ℕ) (next m : ℕ) (vs : List Stamped) → IsRisingTo vs next → AreNeeded bs next vs → list_any (λ v. v.number == m) vs ≡ true
+    → (b : ℕ) × (is_among bs b ≡ true) × (m ≤ b) × (b < next) × ((d : Option Stamped) → option_map (λ (v : Stamped). v.number) (last_at b d vs) ≡ Some m)
+needed_seen bs next m [] rising needed t = absurd (both_ways _ refl t)
+needed_seen bs next m (v ∷ vs) rising needed t = elim (or_cases (v.number == m) (list_any (λ v. v.number == m) vs) t) [
+  | inl e ↦
+      let same : v.number ≡ m = grind (arith, nat_tests, e) in
+      let s = some_between bs v.number _ needed.0 in
+      let a = above_first s.0 next vs rising.2 s.3 in
+      let low = s.2 in (
+        s.0,
+        s.1,
+        omega (arith, same, low),
+        a.1,
+        λ d. ap (λ q. option_map (λ (v : Stamped). v.number) (last_at s.0 (if q then Some v else d) vs)) (le_true v.number s.0 s.2)
+            ∙ ap (option_map (λ (v : Stamped). v.number)) (stays s.0 v vs a.0) ∙ ap Some same,
+      )
+  | inr e ↦ let r = needed_seen bs next m vs rising.2 needed.1 e in (r.0, r.1, r.2, r.3, λ d. r.4 (if nat_le v.number r.0 then Some v else d))
+]
+
+-- a settled version is seen from some of the numbers up to its witness
+settled_seen : (bs : List ℕ) (held : ℕ → Bool) (u : ChainsValue) (last w : ℕ) (x : Listed) → ((n : ℕ) → is_among bs n ≡ true → IsTrue (held n)) → IsKept u.chains last → IsUnderWitness held u w x → IsSettled bs u.chains x
+    → (b : ℕ) × (is_among bs b ≡ true) × (x.number ≤ b) × (b ≤ w)
+settled_seen bs held u last w x all kept h (inl t) = let s = some_between bs x.number x.next t in (s.0, s.1, s.2, h.between s.0 (all s.0 s.1) s.2 s.3)
+settled_seen bs held u last w x all kept h (inr s) = by (find_chain x.key u.chains) refl s.0 s.1
+  where
+    by : (o : Option ChainValue) → find_chain x.key u.chains ≡ o → has_version x.number o ≡ true → IsNeededChain bs o → (b : ℕ) × (is_among bs b ≡ true) × (x.number ≤ b) × (b ≤ w)
+    by None e has needed = absurd (both_ways _ refl has)
+    by (Some c) e has needed =
+        let r = needed_seen bs c.newest.number x.number c.older (all-find (IsRisingChain last) x.key c u.chains kept.rising e).0 needed has in
+        let sees : number_at r.0 c ≡ Some x.number = ap (λ q. option_map (λ (v : Stamped). v.number) (if q then Some c.newest else last_at r.0 None c.older)) (le_false c.newest.number r.0 r.3) ∙ r.4 None in
+        (r.0, r.1, r.2, (h.chain c e).sees r.0 (all r.0 r.1) r.3 sees)
+
+module _ (bs : List ℕ) (held : ℕ → Bool) (u : ChainsValue) (last : ℕ) (all : (n : ℕ) → is_among bs n ≡ true → IsTrue (held n)) (kept : IsKept u.chains last) where
+  all_seen : (w : ℕ) (xs : List Listed) → AllByRecursion (IsUnderWitness held u w) xs → AllByRecursion (IsSettled bs u.chains) xs → list_all (is_seen_from w) xs ≡ true
+  all_seen w [] h s = refl
+  all_seen w (x ∷ xs) h s =
+      let r = settled_seen bs held u last w x all kept h.0 s.0 in
+      let low = r.2 in
+      let high = r.3 in
+      let lt = h.0.before in
+      let first : is_seen_from w x ≡ true = grind (arith, nat_tests, low, high, lt) in
+      ap (λ b. b && list_all (is_seen_from w) xs) first ∙ all_seen w xs h.1 s.1
+
+  -- a witness with a settled version under it is one of the numbers
+  seen_among : (w : ℕ) (x : Listed) → is_among (0 ∷ bs) w ≡ true → IsUnderWitness held u w x → IsSettled bs u.chains x → is_among bs w ≡ true
+  seen_among w x t h s = elim (or_cases (0 == w) (is_among bs w) t) [
+    | inl e ↦
+        let r = settled_seen bs held u last w x all kept h s in
+        let high = r.3 in
+        let none : 0 ≡ w = grind (arith, nat_tests, e) in
+        let same : r.0 ≡ w = omega (arith, high, none) in
+        ap (is_among bs) (sym same) ∙ r.1
+    | inr e ↦ e
+  ]
+
+  unmixed_list : (w : ℕ) (xs : List Listed) → is_among (0 ∷ bs) w ≡ true → AllByRecursion (IsUnderWitness held u w) xs → AllByRecursion (IsSettled bs u.chains) xs → (is_among bs w && list_all (is_seen_from w) xs) ≡ false → xs ≡ []
+  unmixed_list w [] t h s f = refl
+  unmixed_list w (x ∷ xs) t h s f = absurd (both_ways _ f (ap (λ b. b && list_all (is_seen_from w) (x ∷ xs)) (seen_among w x t h.0 s.0) ∙ all_seen w (x ∷ xs) h s))
+
+  -- where each mixed version is settled, there is none
+  pub groups-unmixed : (gs : List GroupValue) → AreAmong (0 ∷ bs) (witnesses gs) → AreUnderWitnesses held u gs → AreMixedSettled bs u.chains gs → AllByRecursion (IsTrulyMixed bs) gs → AllByRecursion IsUnmixed gs
+  groups-unmixed [] t h s m = tt
+  groups-unmixed (g ∷ gs) t h s m = (elim m.0 [ inl none ↦ none | inr f ↦ unmixed_list g.witness g.mixed t.0 h.0.1 s.0 f ], groups-unmixed gs t.1 h.1 s.1 m.1)
+
+-- ---- an install
+
+pub added-refl : (n : ℕ) (o : Option ChainValue) → IsAddedTo n o o
+added-refl n o = record { below = λ b lt. refl; newest = inl refl }
+
+pub added-trans : (n : ℕ) (o p q : Option ChainValue) → IsAddedTo n o p → IsAddedTo n p q → IsAddedTo n o q
+added-trans n o p q a b = record {
+  below = λ m lt. b.below m lt ∙ a.below m lt;
+  newest = elim b.newest [
+    | inl e ↦ elim a.newest [ inl f ↦ inl (e ∙ f) | inr f ↦ inr (ap (option_map (λ (c : ChainValue). c.newest.number)) e ∙ f) ]
+    | inr e ↦ inr e
+  ];
+}
+
+-- a version of number n more is not seen below n
+seen_added : (n : ℕ) (o : Option ChainValue) (value : Option Bytes) (room b : ℕ) → b < n → number_at b (added o (stamped n value) room) ≡ number_seen b o
+seen_added n None value room b lt = ap (λ q. option_map (λ (v : Stamped). v.number) (if q then Some (stamped n value) else None)) (le_false n b lt)
+seen_added n (Some c) value room b lt =
+    ap (λ q. option_map (λ (v : Stamped). v.number) (if q then Some (stamped n value) else last_at b None (c.older ++ c.newest ∷ []))) (le_false n b lt)
+    ∙ ap (option_map (λ (v : Stamped). v.number)) (last_at-push b None c.older c.newest)
+
+newest_added : (n : ℕ) (o : Option ChainValue) (value : Option Bytes) (room : ℕ) → (added o (stamped n value) room).newest.number ≡ n
+newest_added n None value room = refl
+newest_added n (Some c) value room = refl
+
+-- a write with number n
+pub added-put : (n : ℕ) (k q : Bytes) (value : Option Bytes) (room : ℕ) (es : Chains) → IsAddedTo n (find_chain q es) (find_chain q (put (slice_cmp nat_cmp) k (added (find_chain k es) (stamped n value) room) es))
+added-put n k q value room es =
+    let c = added (find_chain k es) (stamped n value) room in
+    subst (IsAddedTo n (find_chain q es)) (sym (find_chain-put q k c es))
+    (elim (is_same_key q k) as (λ b. is_same_key q k ≡ b → IsAddedTo n (find_chain q es) (cond b (Some c) (find_chain q es))) [
+      | true ↦ λ t. record {
+        below = λ b lt. seen_added n (find_chain k es) value room b lt ∙ ap (λ (j : Bytes). number_seen b (find_chain j es)) (sym (same_key q k t));
+        newest = inr (ap Some (newest_added n (find_chain k es) value room));
+      }
+      | false ↦ λ f. added-refl n (find_chain q es)
+    ] refl)
+
+-- what was followed by number n still is
+followed_later : (n : ℕ) (k : Bytes) (value : Option Bytes) (room : ℕ) (es : Chains) (x : Listed) → IsFollowed n es x → IsFollowed n (put (slice_cmp nat_cmp) k (added (find_chain k es) (stamped n value) room) es) x
+followed_later n k value room es x h = record {
+  number = h.number;
+  next = h.next;
+  newest = λ d found. (let c = added (find_chain k es) (stamped n value) room in
+      elim (is_same_key x.key k) as (λ b. cond b (Some c) (find_chain x.key es) ≡ Some d → d.newest.number ≡ n) [
+        | true ↦ λ e. (let same : c ≡ d = cc in ap (λ (y : ChainValue). y.newest.number) (sym same) ∙ newest_added n (find_chain k es) value room)
+        | false ↦ λ e. h.newest d e
+      ] (sym (find_chain-put x.key k c es) ∙ found));
+}
+
+followed_own : (n : ℕ) (k : Bytes) (value : Option Bytes) (room : ℕ) (es : Chains) (o : Option ChainValue) → IsReady n o → AllByRecursion (IsFollowed n (put (slice_cmp nat_cmp) k (added (find_chain k es) (stamped n value) room) es)) (followed o k n)
+followed_own n k value room es None ready = tt
+followed_own n k value room es (Some c) ready = (
+  record {
+    number = ready.0;
+    next = refl;
+    newest = λ d found. (let own = added (find_chain k es) (stamped n value) room in
+        let same : own ≡ d = (let e = sym (find-put_itself k own es) ∙ found in cc) in ap (λ (y : ChainValue). y.newest.number) (sym same) ∙ newest_added n (find_chain k es) value room);
+  },
+  tt,
+)
+
+all-append : {X : Type 0} (P : X → Type 0) (xs ys : List X) → AllByRecursion P xs → AllByRecursion P ys → AllByRecursion P (xs ++ ys)
+all-append P [] ys h g = g
+all-append P (x ∷ xs) ys h g = (h.0, all-append P xs ys h.1 g)
+
+pub followed-write : (n : ℕ) (k : Bytes) (value : Option Bytes) (room : ℕ) (es : Chains) (ls : List Listed) → IsReady n (find_chain k es) → AllByRecursion (IsFollowed n es) ls
+    → AllByRecursion (IsFollowed n (put (slice_cmp nat_cmp) k (added (find_chain k es) (stamped n value) room) es)) (ls ++ followed (find_chain k es) k n)
+followed-write n k value room es ls ready h =
+    let fs = put (slice_cmp nat_cmp) k (added (find_chain k es) (stamped n value) room) es in
+    all-append (IsFollowed n fs) ls (followed (find_chain k es) k n) (all-each (IsFollowed n es) (IsFollowed n fs) ls (followed_later n k value room es) h) (followed_own n k value room es (find_chain k es) ready)
+
+-- a version under its chain is under the chain that is left by an install
+under_added : (held : ℕ → Bool) (last n w m : ℕ) (o : Option ChainValue) (d : ChainValue) → last < n → m < n → IsAddedTo n o (Some d) → ((c : ChainValue) → o ≡ Some c → IsUnderChain held last w m c) → IsUnderChain held n w m d
+under_added held last n w m o d lt low h u = elim h.newest [
+  | inl e ↦ (let r = u d (sym e) in record { behind = r.behind; installed = (let most = r.installed in omega (arith, most, lt)); sees = r.sees })
+  | inr e ↦ (let is : d.newest.number ≡ n = cc in record {
+    behind = omega (arith, is, low);
+    installed = omega (arith, is);
+    sees = λ b t high sees. (let below : b < n = omega (arith, is, high) in old o u b t (sym (h.below b below) ∙ sees));
+  })
+]
+  where
+    old : (p : Option ChainValue) → ((c : ChainValue) → p ≡ Some c → IsUnderChain held last w m c) → (b : ℕ) → IsTrue (held b) → number_seen b p ≡ Some m → b ≤ w
+    old None g b t e = absurd (not_some m e)
+    old (Some c) g b t e = (let r = g c refl in elim (cases_Bool (nat_le c.newest.number b)) [
+      | inl le ↦ absurd (let first : Some c.newest.number ≡ number_at b c = sym (ap (λ q. option_map (λ (v : Stamped). v.number) (if q then Some c.newest else last_at b None c.older)) le) in
+          let same : c.newest.number ≡ m = (let all = first ∙ e in cc) in
+          let behind = r.behind in
+          omega (arith, same, behind))
+      | inr gt ↦ r.sees b t (let lt : b < c.newest.number = grind (arith, nat_tests, gt) in lt) e
+    ])
+
+pub under-installed : (held : ℕ → Bool) (v u : ChainsValue) (n : ℕ) → v.last < n → u.last ≡ n → ((k : Bytes) → IsAddedTo n (find_chain k v.chains) (find_chain k u.chains)) → (w : ℕ) (x : Listed) → IsUnderWitness held v w x → IsUnderWitness held u w x
+under-installed held v u n lt last chains w x h =
+    let most = h.installed in record {
+      before = h.before;
+      rises = h.rises;
+      installed = omega (arith, most, lt, last);
+      between = h.between;
+      chain = λ d found. (let rises = h.rises in
+          subst (λ l. IsUnderChain held l w x.number d) (sym last)
+          (under_added held v.last n w x.number (find_chain x.key v.chains) d lt (omega (arith, rises, most, lt)) (subst (IsAddedTo n (find_chain x.key v.chains)) found (chains x.key)) h.chain));
+    }
+
+-- what a commit followed is listed under the number before it
+under-followed : (held : ℕ → Bool) (u : ChainsValue) (n : ℕ) → 0 < n → u.last ≡ n → (x : Listed) → IsFollowed n u.chains x → IsUnderWitness held u (n - 1) x
+under-followed held u n some last x h =
+    let next = h.next in
+    let number = h.number in record {
+      before = omega (arith, next, some);
+      rises = omega (arith, next, number);
+      installed = omega (arith, next, last);
+      between = λ b t low high. omega (arith, next, high);
+      chain = λ c found. (let is = h.newest c found in record {
+        behind = omega (arith, is, number);
+        installed = omega (arith, is, last);
+        sees = λ b t high sees. omega (arith, is, high);
+      });
+    }
+
+-- one group more
+groups-last : (held : ℕ → Bool) (u : ChainsValue) (gs : List GroupValue) (g : GroupValue) → AreUnderWitnesses held u gs → AllByRecursion (IsUnderWitness held u g.witness) g.versions → g.mixed ≡ [] → AreUnderWitnesses held u (gs ++ g ∷ [])
+groups-last held u [] g h own none = ((own, subst (AllByRecursion (IsUnderWitness held u g.witness)) (sym none) tt), tt)
+groups-last held u (x ∷ gs) g h own none = (h.0, groups-last held u gs g h.1 own none)
+
+pub groups-installed : (held : ℕ → Bool) (v u : ChainsValue) (n : ℕ) (g : GroupValue) (ls : List Listed) → v.last < n → u.last ≡ n → ((k : Bytes) → IsAddedTo n (find_chain k v.chains) (find_chain k u.chains)) → u.groups ≡ v.groups ++ g ∷ []
+    → g.witness ≡ n - 1 → g.mixed ≡ [] → g.versions ≡ ls → AllByRecursion (IsFollowed n u.chains) ls → AreUnderWitnesses held v v.groups → AreUnderWitnesses held u u.groups
+groups-installed held v u n g ls lt last chains groups witness mixed versions each h =
+    let own : AllByRecursion (IsUnderWitness held u (n - 1)) ls = all-each (IsFollowed n u.chains) (IsUnderWitness held u (n - 1)) ls (under-followed held u n (omega arith) last) each in
+    subst (AreUnderWitnesses held u) (sym groups)
+    (groups-last held u v.groups g (groups-under held held v u v.groups (under-installed held v u n lt last chains) h)
+    (subst (λ (p : ℕ × List Listed). AllByRecursion (IsUnderWitness held u p.0) p.1) {x = (n - 1, ls)} {y = (g.witness, g.versions)} (λ i. (sym witness i, sym versions i)) own) mixed)

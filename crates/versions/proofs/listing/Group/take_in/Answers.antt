@@ -1,0 +1,18 @@
+use Rattle.std.proofs.Common.{◌≡◌, List, [], ◌++◌, ap, sym, subst, ◌∙◌}
+use Rattle.std.specs.List.{AllByRecursion}
+use Rattle.versions.specs.Groups.{GroupValue, Listed}
+use Rattle.versions.specs.Witnesses.{IsUnderWitness}
+use Rattle.versions.specs.Listings.{versions_in}
+use Rattle.versions.proofs.Lists.{in-append}
+use Rattle.versions.proofs.Parts.{all-parts, all-put, all-three}
+use Rattle.versions.proofs.listing.Group.take_in.Goals as goal
+
+pub returns-clause-each : goal.returns-clause-each
+returns-clause-each c = λ held v w h hm.
+    let P = IsUnderWitness held v w in
+    let g = c.self.inside in
+    let own = all-parts P (versions_in g.lists) (versions_in g.due) (versions_in g.mixed) (subst (λ (x : GroupValue). AllByRecursion P x.versions) (sym c.self.view_is) h) in
+    let empty : versions_in c.replace-lists.new.dest ≡ [] = ap versions_in (c.replace-lists.ensures.after ∙ c.new.ensures) in
+    let moved : versions_in c.append.new.lists ≡ versions_in g.due ++ versions_in g.lists = ap versions_in c.append.ensures ∙ in-append g.due c.replace-lists.result ∙ ap (λ l. versions_in g.due ++ versions_in l) c.replace-lists.ensures.value in
+    let due = all-put P (versions_in g.due) (versions_in g.lists) (versions_in c.append.new.lists) moved own.1 own.0 in
+    (all-three P (versions_in c.replace-lists.new.dest) (versions_in c.append.new.lists) (versions_in g.mixed) (subst (λ (l : List Listed). AllByRecursion P l) (sym empty) tt) due own.2, own.2)
