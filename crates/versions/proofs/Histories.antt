@@ -1,6 +1,6 @@
 -- The histories that versions stand for, from call to call.
 use Rattle.std.proofs.Common.{◌≡◌, ℕ, ◌+◌, ◌<◌, ◌≤◌, Bool, true, false, ◌&&◌, ◌||◌, List, [], ◌∷◌, ◌++◌, length, Option, Some, refl, sym, ap, subst, ◌∙◌, arith, inl, inr, length-append}
-use Rattle.std.specs.Prelude.{option_map, nat_le, if◌then◌else◌, IsTrue}
+use Rattle.std.specs.Prelude.{◌↔◌, option_map, nat_le, if◌then◌else◌, IsTrue}
 use Rattle.std.proofs.lemmas.Bool.{cases_Bool, both_ways, or_cases, or_left, or_right, le-leb, leb-true}
 use Rattle.model.specs.Map.{Bytes, KeyMap, KeyWrite, IsMap, after_writes, value_at}
 use Rattle.model.specs.History.{Record, map_at}
@@ -10,7 +10,7 @@ use Rattle.versions.specs.Chains.{ChainsValue, IsRoomier}
 use Rattle.versions.specs.Meaning.{map_seen, is_written_by, is_among, IsSameMeaning, IsInstalled, IsReclaimed}
 use Rattle.versions.specs.StandsFor.{StandsFor, last_writer, last_writer_from}
 use Rattle.versions.specs.Witnesses.{AreUnderWitnesses}
-use Rattle.versions.proofs.UnderWitnesses.{groups-under, under-held, under-roomier}
+use Rattle.versions.proofs.UnderWitnesses.{groups-under, under-held, under-roomier, under-roomy}
 
 pub map_at-push : (base : KeyMap) (rs : List Record) (r : Record) (n : ℕ) → map_at base (rs ++ r ∷ []) n ≡ (if nat_le r.commit n then after_writes (map_at base rs n) r.writes else map_at base rs n)
 map_at-push base [] r n = refl
@@ -46,14 +46,23 @@ module _ (v : ChainsValue) (held : ℕ → Bool) (base : KeyMap) (history : List
       either false x = refl
 
   module _ (new : ChainsValue) where
-    pub stands-same : IsSameMeaning v new → IsRoomier v.chains new.chains → new.groups ≡ v.groups → StandsFor v held base history → StandsFor new held base history
-    stands-same h more same s = record {
-      is_map = s.is_map;
-      maps = λ n t. h.maps n ∙ s.maps n (subst (λ l. IsTrue (held n || nat_le l n)) h.last t);
-      newest = λ k. h.newest k ∙ s.newest k;
-      within = subst (λ l. l ≤ length history) (sym h.last) s.within;
-      witnessed = subst (AreUnderWitnesses held new) (sym same) (groups-under held held v new v.groups (under-roomier held v new more h.last) s.witnessed);
-    }
+    pub stands-same : IsSameMeaning v new → IsRoomier v.chains new.chains → new.groups ≡ v.groups → StandsFor v held base history ↔ StandsFor new held base history
+    stands-same h more same = (
+      λ s. record {
+        is_map = s.is_map;
+        maps = λ n t. h.maps n ∙ s.maps n (subst (λ l. IsTrue (held n || nat_le l n)) h.last t);
+        newest = λ k. h.newest k ∙ s.newest k;
+        within = subst (λ l. l ≤ length history) (sym h.last) s.within;
+        witnessed = subst (AreUnderWitnesses held new) (sym same) (groups-under held held v new v.groups (under-roomier held v new more h.last) s.witnessed);
+      },
+      λ s. record {
+        is_map = s.is_map;
+        maps = λ n t. sym (h.maps n) ∙ s.maps n (subst (λ l. IsTrue (held n || nat_le l n)) (sym h.last) t);
+        newest = λ k. sym (h.newest k) ∙ s.newest k;
+        within = subst (λ l. l ≤ length history) h.last s.within;
+        witnessed = groups-under held held new v v.groups (under-roomy held v new more h.last) (subst (AreUnderWitnesses held new) same s.witnessed);
+      },
+    )
 
     pub stands-installed : (n : ℕ) (ws : List KeyWrite) (r : Record) → IsInstalled v new n ws → (AreUnderWitnesses held v v.groups → AreUnderWitnesses held new new.groups) → v.last < n → length history + 1 ≡ n → r.commit ≡ n → r.writes ≡ ws → StandsFor v held base history → StandsFor new held base (history ++ r ∷ [])
     stands-installed n ws r h under lt long commit is s =

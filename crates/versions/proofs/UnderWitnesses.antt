@@ -85,6 +85,23 @@ under-roomier held v u more last w x h = record {
       under-chain held held v.last u.last w w x.number r.0 d r.2.newest (omega (arith, last)) (λ b t. (t, number_roomier b r.0 d r.2, λ le. le)) (h.chain r.0 r.1));
 }
 
+roomier_behind : (o p : Option ChainValue) (c : ChainValue) → RoomierFound o p → o ≡ Some c → (d : ChainValue) × (p ≡ Some d) × IsRoomierChain c d
+roomier_behind None None c r e = absurd (not_some c e)
+roomier_behind None (Some f) c r e = absurd r
+roomier_behind (Some f) None c r e = absurd r
+roomier_behind (Some f) (Some d) c r e = let same : f ≡ c = cc in (d, refl, subst (λ (g : ChainValue). IsRoomierChain g d) same r)
+
+-- and so it was before there was more room
+pub under-roomy : (held : ℕ → Bool) (v u : ChainsValue) → IsRoomier v.chains u.chains → u.last ≡ v.last → (w : ℕ) (x : Listed) → IsUnderWitness held u w x → IsUnderWitness held v w x
+under-roomy held v u more last w x h = record {
+  before = h.before;
+  rises = h.rises;
+  installed = subst (λ n. x.next ≤ n) last h.installed;
+  between = h.between;
+  chain = λ c found. (let r = roomier_behind (find_chain x.key v.chains) (find_chain x.key u.chains) c (find-roomier x.key v.chains u.chains more) found in
+      under-chain held held u.last v.last w w x.number r.0 c (sym r.2.newest) (omega (arith, last)) (λ b t. (t, sym (number_roomier b c r.0 r.2), λ le. le)) (h.chain r.0 r.1));
+}
+
 -- ---- a reclaim
 
 greatest_low : (high : ℕ) (bs : List ℕ) (m : ℕ) → m ≤ high → fold (λ greatest b. if nat_lt b high then max greatest b else greatest) m bs ≤ high

@@ -1,5 +1,5 @@
 //! The versions of all keys.
-ghost use Rattle.std.specs.Prelude.{◌≡◌, ◌≢◌, ℕ, T, true, nat_lt, ◌^◌, ◌+◌, ◌≤◌, ◌<◌, ◌&&◌, Bool, List, [], ◌∷◌, ◌++◌, length, IsOk, IfOk, IsTrue, OnOk, option_map, option_copied};
+ghost use Rattle.std.specs.Prelude.{◌≡◌, ◌↔◌, ◌≢◌, ℕ, T, true, nat_lt, ◌^◌, ◌+◌, ◌≤◌, ◌<◌, ◌&&◌, Bool, List, [], ◌∷◌, ◌++◌, length, IsOk, IfOk, IsTrue, OnOk, option_map, option_copied};
 ghost use Rattle.std.specs.Ordering.{nat_cmp};
 ghost use Rattle.std.specs.Cmp.Lexicographic.{slice_cmp};
 ghost use Rattle.std.specs.FinMap.Entries.{put, is_sorted, where_key};
@@ -159,7 +159,7 @@ impl Versions {
         ensures prepared { OnOk result (IsPrepared self.new writes.now) }
         ensures known { IsPrepared self.old writes.now → IsOk result }
         ensures same { IsSameMeaning self.old self.new }
-        ensures stands { (held : ℕ → Bool) (base : KeyMap) (history : List Record) → StandsFor self.old held base history → StandsFor self.new held base history }
+        ensures stands { (held : ℕ → Bool) (base : KeyMap) (history : List Record) → StandsFor self.old held base history ↔ StandsFor self.new held base history }
     {
         for write in writes {
             self.make_room(write.lend_key(), writes.len())?;

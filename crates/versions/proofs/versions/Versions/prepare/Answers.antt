@@ -1,4 +1,5 @@
 use Rattle.std.proofs.Common.{◌≡◌, ℕ, Bool, List, length, sym, ap, subst, ◌∙◌, refl, false, arith}
+use Rattle.std.specs.Prelude.{◌↔◌}
 use Rattle.std.proofs.lemmas.Bool.{both_ways}
 use Rattle.versions.specs.Chains.{ChainsValue, IsRoomier}
 use Rattle.versions.specs.Meaning.{IsSameMeaning}
@@ -16,9 +17,9 @@ reserved old now new more last same last' = same-roomier old new (subst (IsRoomi
 
 -- the histories stay, where the chains have no less room and the groups are the same
 stands : (old now new : ChainsValue) → IsRoomier old.chains now.chains → now.last ≡ old.last → now.groups ≡ old.groups → new.chains ≡ now.chains → new.last ≡ now.last → new.groups ≡ now.groups
-    → (held : ℕ → Bool) (base : KeyMap) (history : List Record) → StandsFor old held base history → StandsFor new held base history
-stands old now new more last groups same last' groups' held base history s =
-    stands-same old held base history new (reserved old now new more last same last') (subst (IsRoomier old.chains) (sym same) more) (groups' ∙ groups) s
+    → (held : ℕ → Bool) (base : KeyMap) (history : List Record) → StandsFor old held base history ↔ StandsFor new held base history
+stands old now new more last groups same last' groups' held base history =
+    stands-same old held base history new (reserved old now new more last same last') (subst (IsRoomier old.chains) (sym same) more) (groups' ∙ groups)
 
 pub loop-write-init : goal.loop-write-init
 loop-write-init c = record { roomier = roomier-refl c.args.self.now.chains; pages = λ q. omega arith; last = refl; groups = refl; prepared = record { rooms = tt; places = tt }; listed_spare = refl; groups_spare = refl }
@@ -43,9 +44,9 @@ returns-in_err-make_room-clause-same c = same-roomier c.args.self.now c.make_roo
     (c.make_room.ensures.last ∙ c.loop-write.invariant.last)
 
 pub returns-in_err-make_room-clause-stands : goal.returns-in_err-make_room-clause-stands
-returns-in_err-make_room-clause-stands c = λ held base history s. stands-same c.args.self.now held base history _ (returns-in_err-make_room-clause-same c)
+returns-in_err-make_room-clause-stands c = λ held base history. stands-same c.args.self.now held base history _ (returns-in_err-make_room-clause-same c)
     (roomier-trans c.args.self.now.chains c.loop-write.self.chains c.make_room.new.self.chains c.loop-write.invariant.roomier c.make_room.ensures.chains)
-    (c.make_room.ensures.groups ∙ c.loop-write.invariant.groups) s
+    (c.make_room.ensures.groups ∙ c.loop-write.invariant.groups)
 
 pub returns-in_err-make_room-clause-known : goal.returns-in_err-make_room-clause-known
 returns-in_err-make_room-clause-known c = λ p.
