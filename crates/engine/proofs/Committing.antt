@@ -29,7 +29,7 @@ use Rattle.sector.specs.declared.device.Sectors.{Ghosts}
 use Rattle.sector.specs.Failures.{Rose, Stayed}
 use Rattle.sector.specs.SectorModel.{LeavesOnly}
 use Rattle.commit_log.specs.declared.log.Log.{Log}
-use Rattle.commit_log.specs.LogState.{is_stopped, used_sectors, sector_count}
+use Rattle.commit_log.specs.LogState.{device_of as log_device, is_stopped, used_sectors, sector_count}
 use Rattle.engine.specs.HistoryValue.{HistoryValue, HistoryStandsFor, IsSameHistory}
 use Rattle.engine.specs.declared.engine.Engine.{Engine}
 use Rattle.engine.specs.StandsFor.{StandsFor, IsRunning, AreRunning}
@@ -89,7 +89,21 @@ HasVerdict f t o = IsInReach f t → (history : List Record) → CommittedStands
 
 module _ {D : Type 0} {g : Ghosts D} where
   pub same_with : (e e' : Engine D g) (m : State) → e'.log ≡ e.log → e'.running.entries ≡ e.running.entries → IsSameHistory e.history e'.history → StandsFor e m → StandsFor e' m
-  same_with e e' m log entries same h = grind (arith, common_steps, same_history, are_running)
+  same_with e e' m log entries same h = record {
+    reached = h.reached;
+    stopped = h.stopped ∙ ap is_stopped (sym log);
+    used = h.used ∙ ap used_sectors (sym log);
+    count = h.count ∙ ap sector_count (sym log);
+    stored = λ keeps runs. subst (λ l. IsStored l (committed_map m)) (sym log) (h.stored keeps (ap is_stopped (sym log) ∙ runs));
+    doubt = λ keeps stops. subst (λ l. IsInDoubt (committed_map m) (g.may_leave (log_device l))) (sym log) (h.doubt keeps (ap is_stopped (sym log) ∙ stops));
+    held = h.held;
+    history = same_history e.history e'.history h.held m.base m.history same h.history;
+    kept = subst (λ (f : Facts). f.oldest ≤ length m.history) (sym same.facts) h.kept;
+    few = h.few;
+    running = are_running e.history.committed.facts e'.history.committed.facts h.held m.base m.history e.running.entries e'.running.entries m.running (sym same.facts) (sym entries) h.running;
+    sorted = h.sorted;
+    few_open = subst (λ (l : List (ℕ × View)). length l ≤ 64) (sym entries) h.few_open;
+  }
 
   -- memory was refused
   pub refused_memory : (e e' : Engine D g) → e'.log ≡ e.log → e'.running.entries ≡ e.running.entries → IsSameHistory e.history e'.history → StandsForSame e e'

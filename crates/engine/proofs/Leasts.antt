@@ -1,6 +1,5 @@
 -- The least so far, and one more.
-use Rattle.std.proofs.lemmas.Grind.{common_steps}
-use Rattle.std.proofs.Common.{◌≡◌, ◌≤◌, ◌<◌, ◌++◌, ℕ, List, [], ◌∷◌, arith, refl}
+use Rattle.std.proofs.Common.{◌≡◌, ◌≤◌, ◌++◌, ℕ, List, [], ◌∷◌, arith, refl}
 use Rattle.std.specs.Prelude.{All, Contains, min}
 use Rattle.std.proofs.Common.{map, ap, sym, ◌∙◌, append_assoc}
 use Rattle.std.proofs.lemmas.List.Elements.{All-push, All-weaker, All-contains, Contains-append_right, Contains-append_left, All-contains_itself}

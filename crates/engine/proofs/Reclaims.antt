@@ -1,6 +1,6 @@
 -- What an engine stands for once nothing is kept that no open transaction needs.
 use Rattle.std.proofs.lemmas.Grind.{common_steps}
-use Rattle.std.proofs.Common.{◌≡◌, ◌≤◌, ◌&&◌, ℕ, Bool, true, false, inl, inr, ap, List, [], ◌∷◌, refl, sym, subst, ◌∙◌, length, arith, map}
+use Rattle.std.proofs.Common.{◌≡◌, ◌≤◌, ◌&&◌, ℕ, Bool, true, false, inl, inr, List, [], ◌∷◌, refl, sym, subst, ◌∙◌, length, arith, map}
 use Rattle.std.specs.Prelude.{max, ◌==◌}
 use Rattle.std.specs.List.{AllByRecursion}
 use Rattle.std.specs.BTreeMap.{values}
