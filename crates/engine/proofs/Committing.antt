@@ -47,10 +47,16 @@ use Rattle.engine.specs.Judgements.{IsRefused, IsToJudge, IsToCommit}
 -- ---- memory made ready
 
 pub same_history : (a b : HistoryValue) (held : ℕ → Bool) (base : KeyMap) (history : List Record) → IsSameHistory a b → HistoryStandsFor a held base history → HistoryStandsFor b held base history
-same_history a b held base history same h = record { versions = (same.versions held base history).0 h.versions; committed = subst (λ f. CommittedStandsFor f history) (sym same.facts) h.committed }
+same_history a b held base history same h = record { versions = (same.stands held base history).0 h.versions; committed = subst (λ f. CommittedStandsFor f history) (sym same.facts) h.committed }
 
 pub same_turned : (a b : HistoryValue) → IsSameHistory a b → IsSameHistory b a
-same_turned a b same = record { versions = λ held base history. ((same.versions held base history).1, (same.versions held base history).0); facts = sym same.facts }
+same_turned a b same =
+    let v = same.versions in
+    record {
+      versions = record { maps = λ n. sym (v.maps n); newest = λ k. sym (v.newest k); kept = λ k. sym (v.kept k); last = sym v.last };
+      stands = λ held base history. ((same.stands held base history).1, (same.stands held base history).0);
+      facts = sym same.facts;
+    }
 
 are_running : (facts facts' : Facts) (held : ℕ → Bool) (base : KeyMap) (history : List Record) (es es' : List (ℕ × View)) (rs : List (ℕ × Running)) → facts ≡ facts' → es ≡ es'
     → AreRunning facts held base history es rs → AreRunning facts' held base history es' rs

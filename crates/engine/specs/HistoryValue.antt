@@ -3,6 +3,7 @@ use Rattle.std.specs.Prelude.{◌≡◌, ◌↔◌, ℕ, Bool, List}
 use Rattle.model.specs.Map.{KeyMap}
 use Rattle.model.specs.History.{Record}
 use Rattle.versions.specs.Chains.{ChainsValue, IsPrepared}
+use Rattle.versions.specs.Meaning.{IsSameMeaning}
 use Rattle.versions.specs.StandsFor.{StandsFor as VersionsStandFor}
 use Rattle.pivot_check.specs.Kept.{CommittedValue, HasRoom}
 use Rattle.pivot_check.specs.StandsFor.{StandsFor as CommittedStandsFor}
@@ -19,7 +20,8 @@ pub record HistoryStandsFor (h : HistoryValue) (held : ℕ → Bool) (base : Key
 
 -- nothing but the memory that was made ready has changed
 pub record IsSameHistory (old new : HistoryValue) : Type 0 where
-  pub versions : (held : ℕ → Bool) (base : KeyMap) (history : List Record) → VersionsStandFor old.versions held base history ↔ VersionsStandFor new.versions held base history
+  pub versions : IsSameMeaning old.versions new.versions
+  pub stands : (held : ℕ → Bool) (base : KeyMap) (history : List Record) → VersionsStandFor old.versions held base history ↔ VersionsStandFor new.versions held base history
   pub facts : new.committed.facts ≡ old.committed.facts
 
 -- the memory that the commit of the transaction needs has been made
