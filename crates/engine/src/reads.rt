@@ -6,7 +6,9 @@ use sector::Sectors;
 use snapshot::Rows;
 
 impl<D: Sectors> Engine<D> {
-    ghost use Rattle.std.specs.Prelude.{◌≡◌, ◌≤◌, false, Some, IsOk, option_copied, option_map};
+    ghost use Rattle.std.specs.Prelude.{◌≡◌, ◌≤◌, false, length, Some, IfOk, IfSome, IsOk, option_copied, option_map};
+    ghost use Rattle.model.specs.Key.{IsValue};
+    ghost use Rattle.model.specs.Map.{IsInBounds};
     ghost use Rattle.std.specs.Borrow.{sem};
     ghost use Rattle.std.specs.Io.BufRead.{Rests};
     ghost use Rattle.model.specs.Operations.Operation.{Get, Range};
@@ -24,6 +26,7 @@ impl<D: Sectors> Engine<D> {
     /// never for a key that is written or marked.
     pub fn get(&mut self, s: u64, key: KeyRef<'_>) -> Result<Option<&[u8]>, ReadFault>
         ensures known { (m : State) → StandsFor self.old m → (t : Running) → running_of m s ≡ Some t → IsKnownKey m t key.entry.bytes.now → IsOk result }
+        ensures short { IfOk result (λ value. IfSome value (λ v. IsValue v.now)) }
         ensures* after { sem 𝓛 (Rests (the_row D.row D.Sectors) self.entry (λ new.
             Leads self.old new s (Get key.entry.bytes.now) false (response_to_read (λ v. Value (option_copied v)) result)
             × (device_of new ≡ device_of self.old))) }
@@ -46,6 +49,8 @@ impl<D: Sectors> Engine<D> {
     pub fn range(&mut self, s: u64, range: RangeRef<'_>, limit: u8) -> Result<Rows<'_>, ReadFault>
         requires { (1 ≤ limit) × (limit ≤ 128) }
         ensures known { (m : State) → StandsFor self.old m → (t : Running) → running_of m s ≡ Some t → IsKnownRange (copy_in m t) range.entry.lo.bytes.now (option_map (λ k. k.bytes.now) range.entry.hi) limit → IsOk result }
+        ensures few { IfOk result (λ rows. length (row_pairs rows) ≤ limit) }
+        ensures in_bounds { IfOk result (λ rows. IsInBounds (row_pairs rows)) }
         ensures* after { sem 𝓛 (Rests (the_row D.row D.Sectors) self.entry (λ new.
             Leads self.old new s (Range range.entry.lo.bytes.now (option_map (λ k. k.bytes.now) range.entry.hi) limit) false (response_to_read (λ rows. Pairs (row_pairs rows)) result)
             × (device_of new ≡ device_of self.old))) }

@@ -14,3 +14,4 @@ pub mod PrivateReplies
 pub mod HubEvents
 pub mod PiecesOfStreams
 pub mod Places
+pub mod ReplyLengths

@@ -1,5 +1,5 @@
 //! The sessions that are present, over one engine.
-ghost use Rattle.std.specs.Prelude.{◌≡◌, ◌≤◌, ℕ, true, [], map};
+ghost use Rattle.std.specs.Prelude.{◌≡◌, ◌≤◌, ℕ, true, [], length, map};
 ghost use Rattle.engine.specs.Meaning.{device_of};
 ghost use Rattle.engine.specs.Meaning.{StandsFor as EngineStandsFor};
 ghost use Rattle.model.specs.Machine.{State};
@@ -16,7 +16,7 @@ use crate::present::Present;
 use crate::requests::abort_transaction;
 use crate::session::Session;
 use engine::Engine;
-use model::{machine_is_serializable, restarts_have_one_order};
+use model::{RANGE_REPLY_MAX, machine_is_serializable, restarts_have_one_order};
 use sector::Sectors;
 use std::alloc::Global;
 
@@ -81,9 +81,10 @@ impl<D: Sectors> Hub<D> {
         }
     }
 
-    /// The session's bytes that are to be sent; none for an absent session. Takes no memory.
+    /// The session's bytes that are to be sent, `RANGE_REPLY_MAX` at most; none for an absent session. Takes no memory.
     pub fn pending(&self, s: u64) -> &[u8]
-        ensures { (h : HubState) → StandsFor self.now h → result.now ≡ pending_in (stream_of h s) }
+        ensures bytes { (h : HubState) → StandsFor self.now h → result.now ≡ pending_in (stream_of h s) }
+        ensures short { length result.now ≤ RANGE_REPLY_MAX }
     {
         match self.sessions.get(s) {
             Some(session) => session.pending(),

@@ -1,5 +1,6 @@
 //! One request of a session: executed by the engine, answered into an output.
-ghost use Rattle.std.specs.Prelude.{◌≡◌, ◌≤◌, [], vec_capacity, Some, true, false};
+ghost use Rattle.std.specs.Prelude.{◌≡◌, ◌≤◌, [], length, vec_capacity, Some, true, false};
+ghost use Rattle.model.specs.Bounds.{range_reply_max};
 ghost use Rattle.model.specs.KeyBytes.{key_bytes, end_bytes};
 ghost use Rattle.model.specs.Operations.{operation_of, response_of, IsFit};
 ghost use Rattle.model.specs.Operations.Operation.{Get, Range, Abort as ToAbort, Commit as ToCommit};
@@ -21,6 +22,7 @@ fn write_brief(out: &mut Vec<u8>, reply: &Reply<'_>) -> Result<(), Memory>
     requires empty { out.old.items ≡ [] }
     requires room { 536 ≤ vec_capacity out.old }
     ensures written { Writes (Some (response_of reply.now)) out.new.items result }
+    ensures short { length out.new.items ≤ range_reply_max }
     ensures capacity { vec_capacity out.old ≤ vec_capacity out.new }
 {
     write_reply(out, reply)
@@ -31,6 +33,7 @@ fn write_done(out: &mut Vec<u8>, answer: Result<(), EngineFault>) -> Result<(), 
     requires empty { out.old.items ≡ [] }
     requires room { 536 ≤ vec_capacity out.old }
     ensures written { Writes (response_to (λ _. Done) answer) out.new.items result }
+    ensures short { length out.new.items ≤ range_reply_max }
     ensures capacity { vec_capacity out.old ≤ vec_capacity out.new }
 {
     match answer {
@@ -45,6 +48,7 @@ fn write_read_fault(out: &mut Vec<u8>, fault: ReadFault) -> Result<(), Memory>
     requires empty { out.old.items ≡ [] }
     requires room { 536 ≤ vec_capacity out.old }
     ensures written { Writes (refusal_to_read fault) out.new.items result }
+    ensures short { length out.new.items ≤ range_reply_max }
     ensures capacity { vec_capacity out.old ≤ vec_capacity out.new }
 {
     match fault {
@@ -65,6 +69,7 @@ fn get<D: Sectors>(
     requires room { 536 ≤ vec_capacity out.old }
     ensures step { Executes engine.old engine.new s (Get (key_bytes key.entry)) false out.new.items result }
     ensures device { device_of engine.new ≡ device_of engine.old }
+    ensures short { length out.new.items ≤ range_reply_max }
     ensures capacity { vec_capacity out.old ≤ vec_capacity out.new }
 {
     match engine.get(s, key) {
@@ -86,6 +91,7 @@ fn range<D: Sectors>(
     requires limit { (1 ≤ limit) × (limit ≤ 128) }
     ensures step { Executes engine.old engine.new s (Range (key_bytes range.entry.lo) (end_bytes range.entry.hi) limit) false out.new.items result }
     ensures device { device_of engine.new ≡ device_of engine.old }
+    ensures short { length out.new.items ≤ range_reply_max }
     ensures capacity { vec_capacity out.old ≤ vec_capacity out.new }
 {
     match engine.range(s, range, limit) {
@@ -102,6 +108,7 @@ fn commit<D: Sectors>(engine: &mut Engine<D>, s: u64, out: &mut Vec<u8>) -> Resu
     ensures crash { SurvivesCommit engine.old engine.new s }
     ensures still { is_stopped engine.old ≡ true → device_of engine.new ≡ device_of engine.old }
     ensures device { failures_of engine.old ≤ failures_of engine.new }
+    ensures short { length out.new.items ≤ range_reply_max }
     ensures capacity { vec_capacity out.old ≤ vec_capacity out.new }
 {
     match engine.commit(s) {
@@ -123,6 +130,7 @@ fn abort<D: Sectors>(engine: &mut Engine<D>, s: u64, out: &mut Vec<u8>) -> Resul
     requires room { 536 ≤ vec_capacity out.old }
     ensures step { Executes engine.old engine.new s ToAbort false out.new.items result }
     ensures device { device_of engine.new ≡ device_of engine.old }
+    ensures short { length out.new.items ≤ range_reply_max }
     ensures capacity { vec_capacity out.old ≤ vec_capacity out.new }
 {
     let answer = engine.abort(s);
@@ -144,6 +152,7 @@ fn execute<D: Sectors>(
     ensures crash { SurvivesRequest engine.old engine.new s (operation_of command.entry) }
     ensures still { is_stopped engine.old ≡ true → device_of engine.new ≡ device_of engine.old }
     ensures device { failures_of engine.old ≤ failures_of engine.new }
+    ensures short { length out.new.items ≤ range_reply_max }
     ensures capacity { vec_capacity out.old ≤ vec_capacity out.new }
 {
     match command {
@@ -183,6 +192,7 @@ fn execute_request<D: Sectors>(
     ensures crash { SurvivesRequest engine.old engine.new s (asks request.now) }
     ensures still { is_stopped engine.old ≡ true → device_of engine.new ≡ device_of engine.old }
     ensures device { failures_of engine.old ≤ failures_of engine.new }
+    ensures short { length out.new.items ≤ range_reply_max }
     ensures capacity { vec_capacity out.old ≤ vec_capacity out.new }
 {
     match command(request) {
@@ -233,6 +243,7 @@ pub(crate) fn serve_request<D: Sectors>(
     ensures crash { SurvivesFront engine.old engine.new s inbox.now }
     ensures still { is_stopped engine.old ≡ true → device_of engine.new ≡ device_of engine.old }
     ensures device { failures_of engine.old ≤ failures_of engine.new }
+    ensures short { length out.new.items ≤ range_reply_max }
     ensures capacity { vec_capacity out.old ≤ vec_capacity out.new }
 {
     match decode(inbox) {

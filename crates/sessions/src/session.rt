@@ -45,7 +45,7 @@ pub(crate) struct Session {
 
 impl Model for Session {
     ghost use Rattle.std.specs.Prelude.{◌≡◌, ◌≤◌, false, vec_len, vec_capacity};
-    ghost use Rattle.model.specs.Bounds.{inbox_max};
+    ghost use Rattle.model.specs.Bounds.{inbox_max, range_reply_max};
     ghost use Rattle.sessions.specs.Calls.{output_kept};
     ghost use Rattle.sessions.specs.Calls.{rest};
     ghost use Rattle.sessions.specs.SessionStreams.{SessionState};
@@ -56,12 +56,14 @@ impl Model for Session {
 
     ghost invariant = { λ t. (t.inbox.start ≤ vec_len t.inbox.bytes) × (vec_len t.inbox.bytes ≤ inbox_max) × (inbox_max ≤ vec_capacity t.inbox.bytes)
         × (t.output.start ≤ vec_len t.output.bytes) × (536 ≤ vec_capacity t.output.bytes)
-        × (t.has_surplus ≡ false → vec_len t.output.bytes ≡ 0 → vec_capacity t.output.bytes ≤ output_kept) };
+        × (t.has_surplus ≡ false → vec_len t.output.bytes ≡ 0 → vec_capacity t.output.bytes ≤ output_kept)
+        × (vec_len t.output.bytes ≤ range_reply_max) };
 }
 
 impl Session {
     ghost use Rattle.std.specs.Prelude.{◌≡◌, ◌≤◌, ◌++◌, true, length, drop, IfOk};
     ghost use Rattle.engine.specs.Meaning.{failures_of, device_of, is_stopped};
+    ghost use Rattle.model.specs.Bounds.{range_reply_max};
     ghost use Rattle.sessions.specs.Calls.{ServesSession};
     ghost use Rattle.sessions.specs.Crashes.{SurvivesServe};
     ghost use Rattle.sessions.specs.SessionStreams.{new_session, is_open, room, may_serve};
@@ -96,7 +98,8 @@ impl Session {
     }
 
     pub(crate) fn pending(&self) -> &[u8]
-        ensures { result.now ≡ self.now.pending }
+        ensures bytes { result.now ≡ self.now.pending }
+        ensures short { length result.now ≤ range_reply_max }
     {
         self.output.as_slice()
     }

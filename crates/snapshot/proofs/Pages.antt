@@ -1,12 +1,13 @@
 -- The first pairs of a range, and the last of their keys.
 use Rattle.std.proofs.lemmas.Grind.{common_steps}
-use Rattle.std.proofs.Common.{◌≡◌, ℕ, zero, suc, ◌+◌, ◌<◌, ◌≤◌, Bool, true, false, cond, List, [], ◌∷◌, length, take, drop, Option, Some, None, refl, sym, ap, ◌∙◌, arith, add-one, eqb}
+use Rattle.std.proofs.Common.{◌≡◌, ℕ, zero, suc, ◌+◌, ◌<◌, ◌≤◌, Bool, true, false, cond, List, [], ◌∷◌, length, take, drop, Option, Some, None, refl, sym, ap, subst, ◌∙◌, arith, add-one, eqb}
 use Rattle.std.specs.List.{AllByRecursion}
 use Rattle.std.specs.Ordering.{is_le, nat_cmp}
 use Rattle.std.specs.Cmp.Lexicographic.{slice_cmp}
 use Rattle.std.specs.FinMap.Entries.{where_key}
 use Rattle.std.proofs.lemmas.Bool.{and_parts, eqb-true}
-use Rattle.model.specs.Map.{Bytes, KeyMap, KeyWrite, key_cmp, is_in_range, is_below, pairs_in_range}
+use Rattle.model.specs.Key.{IsKey, IsValue}
+use Rattle.model.specs.Map.{Bytes, KeyMap, KeyWrite, IsInBounds, key_cmp, is_in_range, is_below, pairs_in_range}
 use Rattle.model.specs.PrivateCopy.{last_key, page_end}
 use Rattle.snapshot.specs.View.{View}
 use Rattle.snapshot.specs.Merged.{with_value, merged_one, merged, all_rows, rows_of}
@@ -31,6 +32,15 @@ one_suc (x ∷ y ∷ ys) (suc n) e rest h =
 pub one_more : (all : KeyMap) (n : ℕ) (e : Bytes × Bytes) (rest : KeyMap) → drop n all ≡ e ∷ rest → OneMore all (n + 1) e rest
 one_more all n e rest h = rw add-one (one_suc all n e rest h)
 
+-- with one more that is in bounds, the first are
+in_bounds_suc : (all : KeyMap) (n : ℕ) (e : Bytes × Bytes) (rest : KeyMap) → drop n all ≡ e ∷ rest → IsKey e.0 → IsValue e.1 → IsInBounds (take n all) → IsInBounds (take (suc n) all)
+in_bounds_suc [] n e rest h key value b = tt
+in_bounds_suc (x ∷ xs) zero e rest h key value b = let same : x ≡ e = cc in subst (λ (p : Bytes × Bytes). IsKey p.0 × IsValue p.1 × Unit {0}) (sym same) (key, value, tt)
+in_bounds_suc (x ∷ xs) (suc n) e rest h key value b = (b.0, b.1, in_bounds_suc xs n e rest h key value b.2)
+
+pub one_more_in_bounds : (all : KeyMap) (n : ℕ) (e : Bytes × Bytes) (rest : KeyMap) → drop n all ≡ e ∷ rest → IsKey e.0 → IsValue e.1 → IsInBounds (take n all) → IsInBounds (take (n + 1) all)
+one_more_in_bounds all n e rest h key value b = rw add-one (in_bounds_suc all n e rest h key value b)
+
 -- where none is left, all are among the first n
 pub none_left : (all : KeyMap) (n : ℕ) → drop n all ≡ [] → length all ≤ n
 none_left [] n h = omega arith
@@ -44,6 +54,19 @@ taken_length b0 b1 = refl
 pub taken_within : (n : ℕ) (xs : KeyMap) → length (take n xs) ≤ length xs
 taken_within (suc n) (x ∷ xs) = let inner = taken_within n xs in omega (arith, inner)
 taken_within b0 b1 = omega arith
+
+pub taken_few : (n : ℕ) (xs : KeyMap) → length (take n xs) ≤ n
+taken_few (suc n) (x ∷ xs) = let inner = taken_few n xs in omega (arith, inner)
+taken_few b0 b1 = omega arith
+
+-- where none is left behind the first n, no more are taken
+pub taken_same : (n limit : ℕ) (xs : KeyMap) → drop n xs ≡ [] → n ≤ limit → take limit xs ≡ take n xs
+taken_same zero zero xs h le = refl
+taken_same zero (suc limit) [] h le = refl
+taken_same zero (suc limit) (x ∷ xs) h le = let no : ◌≡◌ {A = KeyMap} (x ∷ xs) [] = h in cc
+taken_same (suc n) zero xs h le = absurd (omega arith)
+taken_same (suc n) (suc limit) [] h le = refl
+taken_same (suc n) (suc limit) (x ∷ xs) h le = ap (λ l. x ∷ l) (taken_same n limit xs h (omega arith))
 
 -- ---- the keys of a range's pairs lie in it
 

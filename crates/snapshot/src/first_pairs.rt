@@ -3,7 +3,7 @@ ghost use Rattle.std.specs.Prelude.{◌≡◌, ◌≢◌, ◌↔◌, ◌&&◌, �
 ghost use Rattle.std.specs.Ordering.{is_le};
 ghost use Rattle.marks.specs.Marked.{has_mark, is_full_for, with_mark};
 ghost use Rattle.model.specs.KeyBytes.{key_bytes, end_bytes};
-ghost use Rattle.model.specs.Map.{key_cmp, is_empty_range};
+ghost use Rattle.model.specs.Map.{key_cmp, is_empty_range, IsInBounds};
 ghost use Rattle.model.specs.PrivateCopy.{mark_of_reply, page_end};
 ghost use Rattle.snapshot.specs.Ahead.{merged_pairs};
 
@@ -24,6 +24,7 @@ struct Page<'a> {
 fn find_page<'a>(pairs: MergedPairs<'a>, limit: u8) -> Page<'a>
     ensures len { result.len ≡ length (take limit (merged_pairs pairs.entry)) }
     ensures end { end_bytes result.end ≡ page_end limit (take limit (merged_pairs pairs.entry)) }
+    ensures in_bounds { IsInBounds (take limit (merged_pairs pairs.entry)) }
 {
     let mut rest = pairs;
     let mut len: usize = 0;
@@ -49,6 +50,7 @@ pub(crate) fn mark_page(
     requires { (last : List ℕ) → page_end limit (take limit (merged_pairs pairs)) ≡ Some last → IsTrue (is_le (key_cmp (key_bytes range.lo) last)) }
     ensures ok { OnOk result (marks.new ≡ (if is_empty_range (key_bytes range.entry.lo) (end_bytes range.entry.hi) then marks.old else with_mark marks.old (mark_of_reply (key_bytes range.entry.lo) (end_bytes range.entry.hi) limit (take limit (merged_pairs pairs.entry))))) }
     ensures len { IfOk result (λ n. n ≡ length (take limit (merged_pairs pairs.entry))) }
+    ensures in_bounds { IsInBounds (take limit (merged_pairs pairs.entry)) }
     ensures err { OnErr result (marks.new ≡ marks.old) }
     ensures full { (result ≡ Err SnapshotFault.FullMarks) ↔ IsTrue (not (is_empty_range (key_bytes range.entry.lo) (end_bytes range.entry.hi)) && is_full_for marks.old (mark_of_reply (key_bytes range.entry.lo) (end_bytes range.entry.hi) limit (take limit (merged_pairs pairs.entry)))) }
     ensures known { IsTrue (is_empty_range (key_bytes range.entry.lo) (end_bytes range.entry.hi) || has_mark marks.old (mark_of_reply (key_bytes range.entry.lo) (end_bytes range.entry.hi) limit (take limit (merged_pairs pairs.entry)))) → IsOk result }

@@ -1,4 +1,7 @@
 //! Writes over pairs, by rising key.
+ghost use Rattle.std.specs.Option.{ForSome};
+ghost use Rattle.model.specs.Key.{IsValue};
+
 use model::{KeyRef, Write};
 use std::cmp::Ordering;
 use versions::Pairs;
@@ -11,6 +14,7 @@ pub(crate) struct MergedPairs<'a> {
     pairs: Pairs<'a>,
     // the pair that stands before the others, where it was looked at and isn't given yet
     ahead: Option<(KeyRef<'a>, &'a [u8])>,
+    ghost short: { ForSome ahead (λ p. IsValue p.1.now) },
 }
 
 impl<'a> MergedPairs<'a> {
@@ -44,7 +48,9 @@ impl<'a> MergedPairs<'a> {
 impl<'a> Iterator for MergedPairs<'a> {
     type Item = (KeyRef<'a>, &'a [u8]);
 
-    ghost use Rattle.std.specs.Iterator.{YieldsFirstBy, item_count};
+    ghost use Rattle.std.specs.Prelude.{⊤, IfSome};
+    ghost use Rattle.std.specs.Iterator.{MakesProgress, YieldsFirstBy, item_count};
+    ghost use Rattle.model.specs.Key.{IsValue};
     ghost use Rattle.model.specs.KeyBytes.{pair_bytes};
     ghost use Rattle.snapshot.specs.Ahead.{merged_pairs};
 
@@ -53,7 +59,12 @@ impl<'a> Iterator for MergedPairs<'a> {
     ghost remaining = { item_count merged_pairs };
 
     // A deletion hides the pair of its key.
-    fn next(&mut self) -> Option<(KeyRef<'a>, &'a [u8])> {
+    fn next(&mut self) -> Option<(KeyRef<'a>, &'a [u8])>
+        ensures steps { YieldsFirstBy pair_bytes merged_pairs self.old result self.new }
+        ensures goes { MakesProgress (λ _. ⊤) (item_count merged_pairs) self.old result self.new }
+        // Each value is short.
+        ensures short { IfSome result (λ p. IsValue p.1.now) }
+    {
         while let Some((first, rest)) = self.writes.split_first() {
             self.look();
             if let Some((key, value)) = self.ahead {

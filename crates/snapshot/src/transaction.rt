@@ -1,9 +1,10 @@
 //! One transaction.
-ghost use Rattle.std.specs.Prelude.{◌||◌, ◌≡◌, ◌≢◌, ◌≤◌, ◌<◌, ◌↔◌, ◌++◌, ◌∷◌, [], List, length, IsTrue, IsOk, IfOk, OnOk, OnErr, Err, Some, None, take, option_copied, is_some, slice_index_or};
+ghost use Rattle.std.specs.Prelude.{◌||◌, ◌≡◌, ◌≢◌, ◌≤◌, ◌<◌, ◌↔◌, ◌++◌, ◌∷◌, [], List, length, IsTrue, IsOk, IfOk, IfSome, OnOk, OnErr, Err, Some, None, take, option_copied, is_some, slice_index_or};
 ghost use Rattle.std.specs.Borrow.{sem};
 ghost use Rattle.std.specs.Io.BufRead.{Rests};
 ghost use Rattle.model.specs.KeyBytes.{key_bytes, end_bytes};
-ghost use Rattle.model.specs.Map.{KeyMap, KeyWrite, IsMap};
+ghost use Rattle.model.specs.Key.{IsValue};
+ghost use Rattle.model.specs.Map.{KeyMap, KeyWrite, IsMap, IsInBounds};
 ghost use Rattle.model.specs.Operations.{Operation};
 ghost use Rattle.model.specs.Operations.Operation.{Get, Set, Del, Range};
 ghost use Rattle.model.specs.PrivateCopy.{answer, copy_after, copy_of, reads, writes};
@@ -123,7 +124,8 @@ impl Transaction {
 
     // What a read of the key gives.
     fn peek<'a>(&'a self, versions: &'a Versions, key: KeyRef<'_>) -> Option<&'a [u8]>
-        ensures { option_copied result ≡ value_read self.now (map_seen versions.now self.now.begin) key.entry.bytes.now }
+        ensures value { option_copied result ≡ value_read self.now (map_seen versions.now self.now.begin) key.entry.bytes.now }
+        ensures short { IfSome result (λ v. IsValue v.now) }
     {
         match self.buffer.get(key) {
             Written::NotWritten => versions.at(self.begin, key),
@@ -144,6 +146,7 @@ impl Transaction {
         // A read that needs no new mark succeeds.
         ensures known { IsTrue (is_some (written self.old.writes key.entry.bytes.now) || has_mark self.old.marks (OfKey key.entry.bytes.now)) → IsOk result }
         ensures reply { (m : KeyMap) (qs : List Operation) → map_seen versions.now self.old.begin ≡ m → HasMade self.old m qs → IsValueReply result (answer m qs (Get key.entry.bytes.now)) }
+        ensures short { IfOk result (λ value. IfSome value (λ v. IsValue v.now)) }
         ensures* after { sem 𝓛 (Rests the_row self.entry (λ new. IsLeftByGet self.old key.entry.bytes.now result new)) }
     {
         match self.mark_key(key) {
@@ -166,6 +169,8 @@ impl Transaction {
         // A read that needs no new mark succeeds.
         ensures known { (m : KeyMap) (qs : List Operation) → map_seen versions.now self.old.begin ≡ m → HasMade self.old m qs → IsKnownRange (copy_after (copy_of m) qs) (key_bytes range.entry.lo) (end_bytes range.entry.hi) limit → IsOk result }
         ensures reply { (m : KeyMap) (qs : List Operation) → map_seen versions.now self.old.begin ≡ m → HasMade self.old m qs → IsPairsReply result (answer m qs (Range (key_bytes range.entry.lo) (end_bytes range.entry.hi) limit)) }
+        ensures few { IfOk result (λ rows. length (row_pairs rows) ≤ limit) }
+        ensures in_bounds { IfOk result (λ rows. IsInBounds (row_pairs rows)) }
         ensures* after { sem 𝓛 (Rests the_row self.entry (λ new. IsLeftByRange self.old (map_seen versions.now self.old.begin) (key_bytes range.entry.lo) (end_bytes range.entry.hi) limit result new)) }
     {
         let writes = within(self.buffer.entries(), range);

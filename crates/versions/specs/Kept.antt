@@ -6,6 +6,6 @@ use Rattle.versions.specs.Chains.{ChainValue, fresh_chain, stamped}
 
 -- the chain of these versions
 abbrev pub kept_chain : Kept → ChainValue
-kept_chain (Value number value) = fresh_chain (stamped number (Some value.items)) 0
+kept_chain (Value number value) = fresh_chain (stamped number (Some value)) 0
 kept_chain (Deletion number) = fresh_chain (stamped number None) 0
 kept_chain (More several) = several.value

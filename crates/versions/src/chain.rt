@@ -1,10 +1,12 @@
 //! The versions of one key.
-ghost use Rattle.std.specs.Prelude.{◌≡◌, ◌+◌, ◌<◌, ◌≤◌, [], length, IsOk, OnOk, Some, option_copied};
+ghost use Rattle.std.specs.Prelude.{◌≡◌, ◌+◌, ◌<◌, ◌≤◌, [], length, IfSome, IsOk, OnOk, Some, option_copied};
+ghost use Rattle.model.specs.Key.{IsValue};
 ghost use Rattle.versions.specs.Chains.{seen, hides, shows, first_shown, longer_chain, fresh_chain, reclaimed, is_blank};
 ghost use Rattle.versions.specs.Kept.{kept_chain};
 ghost use Rattle.versions.specs.Listings.{has_version};
 
 use crate::several::{Several, Version};
+use crate::value::KeptValue;
 use sorted_pages::Aging;
 use std::alloc::{AllocError, Global};
 use std::boxed::Box;
@@ -15,7 +17,7 @@ use std::mem;
 #[derive(Drop)]
 enum Kept {
     // one version, a value
-    Value(u64, Vec<u8>),
+    Value(u64, KeptValue),
     // one version, a deletion
     Deletion(u64),
     // several, or room for them
@@ -80,7 +82,8 @@ impl Chain {
 
     // What number `n` sees.
     pub(crate) fn seen(&self, n: u64) -> Option<&[u8]>
-        ensures { option_copied result ≡ seen n self.now }
+        ensures value { option_copied result ≡ seen n self.now }
+        ensures short { IfSome result (λ v. IsValue v.now) }
     {
         match &self.kept {
             Kept::Value(number, value) if *number <= n => Some(value.as_slice()),

@@ -16,6 +16,7 @@ ghost use Rattle.versions.specs.Witnesses.{IsAddedTo};
 use crate::chain::Chain;
 use crate::listing::OldVersion;
 use crate::several::Version;
+use crate::value::kept_value;
 use model::{Key, KeyRef, Write};
 use sorted_pages::SortedPages;
 use std::alloc::{AllocError, Global};
@@ -103,7 +104,10 @@ fn add(chains: &mut SortedPages<Chain>, listed: &mut Vec<OldVersion>, n: u64, wr
     ensures listed_spare { vec_capacity listed.old - vec_len listed.old ≤ vec_capacity listed.new - vec_len listed.new + 1 }
 {
     let (key, value) = write.into_parts();
-    let version = Version { number: n, value };
+    let version = Version {
+        number: n,
+        value: kept_value(value),
+    };
     match newest(chains, key.lend()) {
         Some(number) => {
             lengthen(chains, key.lend(), version);

@@ -11,6 +11,7 @@ mod listing;
 mod pairs;
 mod reclaiming;
 mod several;
+mod value;
 mod versions;
 
 pub use laws::{history_has_maps, numbers_change, read_only_record_follows};

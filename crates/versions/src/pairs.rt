@@ -26,7 +26,9 @@ impl<'a> Pairs<'a> {
 impl<'a> Iterator for Pairs<'a> {
     type Item = (KeyRef<'a>, &'a [u8]);
 
-    ghost use Rattle.std.specs.Iterator.{YieldsFirstBy, item_count};
+    ghost use Rattle.std.specs.Prelude.{⊤, IfSome};
+    ghost use Rattle.std.specs.Iterator.{MakesProgress, YieldsFirstBy, item_count};
+    ghost use Rattle.model.specs.Key.{IsValue};
     ghost use Rattle.model.specs.KeyBytes.{pair_bytes};
     ghost use Rattle.versions.specs.Lent.{range_pairs};
 
@@ -34,7 +36,12 @@ impl<'a> Iterator for Pairs<'a> {
 
     ghost remaining = { item_count range_pairs };
 
-    fn next(&mut self) -> Option<(KeyRef<'a>, &'a [u8])> {
+    fn next(&mut self) -> Option<(KeyRef<'a>, &'a [u8])>
+        ensures steps { YieldsFirstBy pair_bytes range_pairs self.old result self.new }
+        ensures goes { MakesProgress (λ _. ⊤) (item_count range_pairs) self.old result self.new }
+        // Each value is short.
+        ensures short { IfSome result (λ p. IsValue p.1.now) }
+    {
         while let Some((key, chain)) = self.entries.next() {
             if let Some(value) = chain.seen(self.n) {
                 return Some((key, value));

@@ -1,8 +1,10 @@
 //! Several versions of one key.
-ghost use Rattle.std.specs.Prelude.{◌≡◌, ◌==◌, ◌+◌, ◌<◌, ◌≤◌, length, IsOk, OnOk, Some, option_copied};
+ghost use Rattle.std.specs.Prelude.{◌≡◌, ◌==◌, ◌+◌, ◌<◌, ◌≤◌, length, IfSome, IsOk, OnOk, Some, option_copied};
+ghost use Rattle.model.specs.Key.{IsValue};
 ghost use Rattle.versions.specs.Chains.{seen, shows, first_shown, least_value, longer_chain, thinned, is_between};
 ghost use Rattle.versions.specs.Listings.{has_version};
 
+use crate::value::KeptValue;
 use std::alloc::AllocError;
 use std::marker::Model;
 use std::mem;
@@ -11,16 +13,15 @@ use std::mem;
 #[derive(Drop)]
 pub(crate) struct Version {
     pub(crate) number: u64,
-    pub(crate) value: Option<Vec<u8>>,
+    pub(crate) value: Option<KeptValue>,
 }
 
 impl Model for Version {
-    ghost use Rattle.std.specs.Prelude.{option_map};
     ghost use Rattle.versions.specs.Chains.{Stamped};
 
     ghost Value = { Stamped };
 
-    ghost view = { λ v. record { number = v.number; value = option_map (λ b. b.items) v.value } };
+    ghost view = { λ v. record { number = v.number; value = v.value } };
 }
 
 impl Version {
@@ -69,7 +70,8 @@ impl Several {
 
     // What number `n` sees. The walk starts at the newest, which most readers see.
     pub(crate) fn seen(&self, n: u64) -> Option<&[u8]>
-        ensures { option_copied result ≡ seen n self.now }
+        ensures value { option_copied result ≡ seen n self.now }
+        ensures short { IfSome result (λ v. IsValue v.now) }
     {
         if self.newest.number <= n {
             return lend_value(&self.newest);
@@ -161,7 +163,8 @@ impl Several {
 }
 
 fn lend_value(version: &Version) -> Option<&[u8]>
-    ensures { option_copied result ≡ version.now.value }
+    ensures value { option_copied result ≡ version.now.value }
+    ensures short { IfSome result (λ v. IsValue v.now) }
 {
     match &version.value {
         None => None,

@@ -1,5 +1,6 @@
 //! The versions of all keys.
-ghost use Rattle.std.specs.Prelude.{◌≡◌, ◌↔◌, ◌≢◌, ℕ, T, true, nat_lt, ◌^◌, ◌+◌, ◌≤◌, ◌<◌, ◌&&◌, Bool, List, [], ◌∷◌, ◌++◌, length, IsOk, IfOk, IsTrue, OnOk, option_map, option_copied};
+ghost use Rattle.std.specs.Prelude.{◌≡◌, ◌↔◌, ◌≢◌, ℕ, T, true, nat_lt, ◌^◌, ◌+◌, ◌≤◌, ◌<◌, ◌&&◌, Bool, List, [], ◌∷◌, ◌++◌, length, IsOk, IfOk, IfSome, IsTrue, OnOk, option_map, option_copied};
+ghost use Rattle.model.specs.Key.{IsValue};
 ghost use Rattle.std.specs.Ordering.{nat_cmp};
 ghost use Rattle.std.specs.Cmp.Lexicographic.{slice_cmp};
 ghost use Rattle.std.specs.FinMap.Entries.{put, is_sorted, where_key};
@@ -19,6 +20,7 @@ use crate::listing::{Group, OldVersion, reserve_list};
 use crate::pairs::Pairs;
 use crate::reclaiming::reclaim_versions;
 use crate::several::Version;
+use crate::value::KeptValue;
 use model::{KeyRef, Map, Memory, RangeRef, Write};
 use sorted_pages::SortedPages;
 use std::alloc::{AllocError, Global};
@@ -65,7 +67,7 @@ impl Versions {
             let (key, value) = pair.into_parts();
             let newest = Version {
                 number: 0,
-                value: Some(value),
+                value: Some(KeptValue::new(value)),
             };
             chains.push(key, Chain::new(newest))?;
         }
@@ -79,7 +81,8 @@ impl Versions {
 
     /// Lends the value that number `n` sees at the key, and `None` where it sees none. Takes no memory.
     pub fn at(&self, n: u64, key: KeyRef<'_>) -> Option<&[u8]>
-        ensures { option_copied result ≡ value_at (map_seen self.now n) key.entry.bytes.now }
+        ensures value { option_copied result ≡ value_at (map_seen self.now n) key.entry.bytes.now }
+        ensures short { IfSome result (λ v. IsValue v.now) }
     {
         match self.chains.get(key) {
             Some(chain) => chain.seen(n),

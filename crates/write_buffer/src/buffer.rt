@@ -2,7 +2,7 @@
 ghost use Rattle.std.specs.Prelude.{◌≡◌, ◌≤◌, ◌↔◌, [], length, IsTrue, IsOk, IfOk, IfErr, OnOk, OnErr, Err, Some, None, is_some, option_map, false};
 ghost use Rattle.model.specs.Entries.{IsAt, IsGap};
 ghost use Rattle.write_buffer.specs.Buffered.{AreEntries, written, with_write, is_full_for, IsShortValue};
-ghost use Rattle.write_buffer.specs.Written.{written_lent};
+ghost use Rattle.write_buffer.specs.Written.{written_lent, IsShortWritten};
 
 use crate::faults::WritesFault;
 use crate::written::Written;
@@ -51,7 +51,8 @@ impl WriteBuffer {
 
     /// What was last written to the key. Takes no memory.
     pub fn get(&self, key: KeyRef<'_>) -> Written<'_>
-        ensures { written_lent result ≡ written self.now key.entry.bytes.now }
+        ensures last { written_lent result ≡ written self.now key.entry.bytes.now }
+        ensures short { IsShortWritten result }
     {
         match self.search(key.bytes()) {
             Ok(i) => match self.entries[i].value() {

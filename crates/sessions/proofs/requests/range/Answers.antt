@@ -1,8 +1,12 @@
-use Rattle.std.proofs.Common.{refl, sym}
+use Rattle.std.proofs.Common.{refl, sym, arith}
 use Rattle.model.specs.KeyBytes.{key_bytes, end_bytes}
+use Rattle.model.specs.Bounds.{range_reply_max}
 use Rattle.model.specs.Operations.Operation.{Range}
+use Rattle.model.specs.Operations.Response.{Pairs}
+use Rattle.model.specs.ReplyText.{reply_text}
 use Rattle.snapshot.specs.RowPairs.{row_pairs}
 use Rattle.sessions.proofs.RequestSteps.{executes_read, executes_refused}
+use Rattle.sessions.proofs.ReplyLengths.{pairs_short, written_short}
 use Rattle.sessions.proofs.requests.range.Goals as goal
 
 pub write_pairs-requires : goal.write_pairs-requires
@@ -17,3 +21,9 @@ returns-in-Ok-clause-step g c =
 pub returns-in-Err-clause-step : goal.returns-in-Err-clause-step
 returns-in-Err-clause-step g c =
     executes_refused c.args.engine.now c.range.follows.lender-at-none c.args.s (Range (key_bytes c.args.range.lo) (end_bytes c.args.range.hi) c.args.limit) _ c.range.result c.in-Err.fault _ c.write_read_fault.result tt c.in-Err.is c.range.follows.holds-at-none.0 c.write_read_fault.ensures.written
+
+pub returns-in-Ok-clause-short : goal.returns-in-Ok-clause-short
+returns-in-Ok-clause-short g c =
+    let few = c.in-Ok.ensures.few in
+    written_short c.args.out.now.items c.write_pairs.new.out.items (reply_text (Pairs (row_pairs c.in-Ok.rows))) range_reply_max c.write_pairs.result c.requires.empty (c.write_pairs.ensures.ok (row_pairs c.in-Ok.rows) (sym c.len.ensures.len, c.len.ensures.gives)) c.write_pairs.ensures.err
+    (pairs_short (row_pairs c.in-Ok.rows) c.in-Ok.ensures.in_bounds (omega (arith, few, c.requires.limit)))

@@ -1,5 +1,6 @@
 use Rattle.std.proofs.Common.{◌≡◌, ◌≤◌, length, take, drop}
 use Rattle.model.specs.KeyBytes.{end_bytes}
+use Rattle.model.specs.Map.{IsInBounds}
 use Rattle.model.specs.PrivateCopy.{last_key}
 use Rattle.snapshot.specs.Ahead.{merged_pairs}
 use Rattle.snapshot.proofs.first_pairs.find_page.Given as goal
@@ -11,4 +12,5 @@ invariant-loop-k l = record {
   within : l.len ≤ length (merged_pairs l.fn.pairs);
   gone : drop l.len (merged_pairs l.fn.pairs) ≡ merged_pairs l.rest;
   ends : end_bytes l.last ≡ last_key (take l.len (merged_pairs l.fn.pairs));
+  in_bounds : IsInBounds (take l.len (merged_pairs l.fn.pairs));
 }

@@ -60,7 +60,7 @@ returns-in-Blocked-serve_one g c =
           let total : c.saturating_add-sent.result ≡ c.requests.sent + length c.pending-owed.result.now = omega (arith, c.saturating_add-sent.ensures) in
           let flushed =
           flushes_out c.runs_follow.ensures.follow c.args.hub.now c.requests.hub c.write_out.new.hub c.args.s g.S.Stream.tells (g.S.Stream.traffic c.args.stream.now) (g.S.Stream.traffic c.requests.stream) (g.S.Stream.traffic c.write_out.new.stream)
-          c.requests._served c.requests.sent (length c.pending-owed.result.now) c.saturating_add-sent.result (λ h stands. ap length (c.pending-owed.ensures h stands)) total c.requests.invariant c.in-Empty.ensures.written in
+          c.requests._served c.requests.sent (length c.pending-owed.result.now) c.saturating_add-sent.result (λ h stands. ap length (c.pending-owed.ensures.bytes h stands)) total c.requests.invariant c.in-Empty.ensures.written in
           tells_then c.args.s g.S.Stream.tells c.runs_follow.ensures.follow c.args.hub.now c.write_out.new.hub c.serve_one.new.hub _ _ _ _ _ _ flushed c.in-Blocked-serve_one.ensures.served (λ h l p. p.driven.carried)
           (λ h l m stands p r.
           waits_to_read c.args.s g.S.Stream.tells h (g.S.Stream.traffic c.args.stream.now) l (g.S.Stream.traffic c.write_out.new.stream) m (g.S.Stream.traffic c.serve_one.new.stream) c.requests._served p.driven
@@ -76,7 +76,7 @@ returns-in_default-serve_one g c =
           let total : c.saturating_add-sent.result ≡ c.requests.sent + length c.pending-owed.result.now = omega (arith, c.saturating_add-sent.ensures) in
           let flushed =
           flushes_out c.runs_follow.ensures.follow c.args.hub.now c.requests.hub c.write_out.new.hub c.args.s g.S.Stream.tells (g.S.Stream.traffic c.args.stream.now) (g.S.Stream.traffic c.requests.stream) (g.S.Stream.traffic c.write_out.new.stream)
-          c.requests._served c.requests.sent (length c.pending-owed.result.now) c.saturating_add-sent.result (λ h stands. ap length (c.pending-owed.ensures h stands)) total c.requests.invariant c.in-Empty.ensures.written in
+          c.requests._served c.requests.sent (length c.pending-owed.result.now) c.saturating_add-sent.result (λ h stands. ap length (c.pending-owed.ensures.bytes h stands)) total c.requests.invariant c.in-Empty.ensures.written in
           rw c.depart-in_default-serve_one.ensures.answer
           (tells_three c.args.s g.S.Stream.tells c.runs_follow.ensures.follow c.args.hub.now c.write_out.new.hub c.serve_one.new.hub c.depart-in_default-serve_one.new.hub _ _ _ _ _ _ _ _ flushed c.serve_one.ensures.served
           (tells_still c.args.s g.S.Stream.tells c.serve_one.new.hub c.depart-in_default-serve_one.new.hub _ _ c.depart-in_default-serve_one.ensures.left) (λ h l p. p.driven.carried) (λ l m r. r.carried)
@@ -133,7 +133,7 @@ requests-preserved g c =
     let total : c.saturating_add-sent.result ≡ c.requests.sent + length c.pending-owed.result.now = omega (arith, c.saturating_add-sent.ensures) in
     let flushed =
     flushes_out c.runs_follow.ensures.follow c.args.hub.now c.requests.hub c.write_out.new.hub c.args.s g.S.Stream.tells (g.S.Stream.traffic c.args.stream.now) (g.S.Stream.traffic c.requests.stream) (g.S.Stream.traffic c.write_out.new.stream)
-    c.requests._served c.requests.sent (length c.pending-owed.result.now) c.saturating_add-sent.result (λ h stands. ap length (c.pending-owed.ensures h stands)) total c.requests.invariant c.in-Empty.ensures.written in
+    c.requests._served c.requests.sent (length c.pending-owed.result.now) c.saturating_add-sent.result (λ h stands. ap length (c.pending-owed.ensures.bytes h stands)) total c.requests.invariant c.in-Empty.ensures.written in
     elim c.in-Served.is [
       | inl e ↦
           tells_two_at c.args.s g.S.Stream.tells c.runs_follow.ensures.follow c.args.hub.now c.write_out.new.hub c.serve_one.new.hub _ _ _ _ _ _ flushed (rw e at c.serve_one.ensures.served) (λ h l p. p.driven.carried)
@@ -152,7 +152,7 @@ returns-then-sent-ge-OUTPUT_MAX g c = record {
       let enough : 262144 ≤ c.requests.sent + length c.pending-owed.result.now = omega (arith, c.saturating_add-sent.ensures, c.if-sent-ge-OUTPUT_MAX.true) in
       tells_map c.args.s g.S.Stream.tells c.args.hub.now c.write_out.new.hub _ _ _ _
       (flushes_out c.runs_follow.ensures.follow c.args.hub.now c.requests.hub c.write_out.new.hub c.args.s g.S.Stream.tells (g.S.Stream.traffic c.args.stream.now) (g.S.Stream.traffic c.requests.stream) (g.S.Stream.traffic c.write_out.new.stream)
-      c.requests._served c.requests.sent (length c.pending-owed.result.now) (c.requests.sent + length c.pending-owed.result.now) (λ h stands. ap length (c.pending-owed.ensures h stands)) refl c.requests.invariant c.in-Empty.ensures.written)
+      c.requests._served c.requests.sent (length c.pending-owed.result.now) (c.requests.sent + length c.pending-owed.result.now) (λ h stands. ap length (c.pending-owed.ensures.bytes h stands)) refl c.requests.invariant c.in-Empty.ensures.written)
       (λ h l stands p.
       again_full c.args.s g.S.Stream.tells h (g.S.Stream.traffic c.args.stream.now) l (g.S.Stream.traffic c.write_out.new.stream) l (g.S.Stream.traffic c.write_out.new.stream) c.requests._served _ p below enough (sym (c.in-Open.ensures l.hub stands)));
 }

@@ -9,7 +9,7 @@ use Rattle.stream_driver.proofs.Sends.{begins_taken, tells_call}
 use Rattle.stream_driver.proofs.driving.write_some.Goals as goal
 
 pub write-answer-requires : goal.write-answer-requires
-write-answer-requires g c = ∥∥₁_elim c.requires le_prop (λ w. subst (λ l. 0 < length l) (sym (c.pending.ensures w.0 w.1)) w.2.1)
+write-answer-requires g c = ∥∥₁_elim c.requires le_prop (λ w. subst (λ l. 0 < length l) (sym (c.pending.ensures.bytes w.0 w.1)) w.2.1)
 
 pub returns-in-Moved : goal.returns-in-Moved
 returns-in-Moved g c =
@@ -17,11 +17,11 @@ returns-in-Moved g c =
       written =
           tells_call c.args.s g.S.Stream.tells c.args.hub.now c.step.new.self (g.S.Stream.traffic c.args.stream.now) (g.S.Stream.traffic c.write-answer.new.self) _ c.runs_follow.ensures.none
           (wrote_moved c.args.hub.now c.step.new.self c.args.s g.S.Stream.tells (g.S.Stream.traffic c.args.stream.now) (g.S.Stream.traffic c.write-answer.new.self) c.in-Moved.n c.in-Moved.ensures.within.0 c.step.result c.step.ensures.step c.step.ensures.ran c.step.ensures.device
-          (λ h stands. (present_at c.args.hub.now c.args.s h stands _ c.requires (λ k p. p.0), subst (λ l. c.in-Moved.n ≤ length l) (c.pending.ensures h stands) c.in-Moved.ensures.within.1))
-          (λ h stands t. c.in-Moved.ensures.taken t ∙ ap (λ l. (g.S.Stream.traffic c.args.stream.now).taken ++ take c.in-Moved.n l) (c.pending.ensures h stands))
+          (λ h stands. (present_at c.args.hub.now c.args.s h stands _ c.requires (λ k p. p.0), subst (λ l. c.in-Moved.n ≤ length l) (c.pending.ensures.bytes h stands) c.in-Moved.ensures.within.1))
+          (λ h stands t. c.in-Moved.ensures.taken t ∙ ap (λ l. (g.S.Stream.traffic c.args.stream.now).taken ++ take c.in-Moved.n l) (c.pending.ensures.bytes h stands))
           c.in-Moved.ensures.given c.in-Moved.ensures.answered)
           (g.D.Sectors.moment c.device.result.now) (ap (λ d. g.D.Sectors.moment d) c.device.ensures) c.in-Moved.ensures.departed
-          (λ h stands t. (take c.in-Moved.n (pending_at h c.args.s), begins_taken c.in-Moved.n (pending_at h c.args.s), c.in-Moved.ensures.taken t ∙ ap (λ l. (g.S.Stream.traffic c.args.stream.now).taken ++ take c.in-Moved.n l) (c.pending.ensures h stands)));
+          (λ h stands t. (take c.in-Moved.n (pending_at h c.args.s), begins_taken c.in-Moved.n (pending_at h c.args.s), c.in-Moved.ensures.taken t ∙ ap (λ l. (g.S.Stream.traffic c.args.stream.now).taken ++ take c.in-Moved.n l) (c.pending.ensures.bytes h stands)));
     }
 
 pub returns-in_default : goal.returns-in_default
@@ -35,6 +35,6 @@ returns-in_default g c =
           (λ h stands t. (
             take (bytes_written c.write-answer.result) (pending_at h c.args.s),
             begins_taken (bytes_written c.write-answer.result) (pending_at h c.args.s),
-            c.write-answer.ensures.taken t ∙ ap (λ l. (g.S.Stream.traffic c.args.stream.now).taken ++ take (bytes_written c.write-answer.result) l) (c.pending.ensures h stands),
+            c.write-answer.ensures.taken t ∙ ap (λ l. (g.S.Stream.traffic c.args.stream.now).taken ++ take (bytes_written c.write-answer.result) l) (c.pending.ensures.bytes h stands),
           ));
     }

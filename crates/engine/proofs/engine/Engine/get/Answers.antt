@@ -22,7 +22,7 @@ returns-in-Ok g c =
           refl,
         ),
       ),
-      record { known = λ m h t r k. refl; after = tt },
+      record { known = λ m h t r k. refl; short = c.in-Ok.ensures.short; after = tt },
     )
 
 pub returns-in-Err : goal.returns-in-Err
@@ -40,7 +40,7 @@ returns-in-Err g c =
           refl,
         ),
       ),
-      record { known = λ m h t r k. c.in-Err.ensures.known (known_key c.args.self.now c.args.s c.in-Some.transaction.now (sym c.in-Some.ensures.value) c.args.key.bytes.now m h t r k); after = tt },
+      record { known = λ m h t r k. c.in-Err.ensures.known (known_key c.args.self.now c.args.s c.in-Some.transaction.now (sym c.in-Some.ensures.value) c.args.key.bytes.now m h t r k); short = tt; after = tt },
     )
 
 pub returns-in-None : goal.returns-in-None
@@ -50,5 +50,5 @@ returns-in-None g c = (
     λ _. tt,
     (refused_outside c.args.self.now _ c.args.s (Get c.args.key.bytes.now) _ NotOpen (record { log = refl; history = refl }) (ap (λ n. n.entries) c.get_mut.follows.holds-at-none) (sym c.in-None.ensures.value) (λ m h. refl), refl),
   ),
-  record { known = λ m h t r k. known_nowhere c.args.self.now c.args.s (sym c.in-None.ensures.value) m h t r; after = tt },
+  record { known = λ m h t r k. known_nowhere c.args.self.now c.args.s (sym c.in-None.ensures.value) m h t r; short = tt; after = tt },
 )

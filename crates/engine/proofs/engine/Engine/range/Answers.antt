@@ -23,7 +23,7 @@ returns-in-Ok g c =
           refl,
         ),
       ),
-      record { known = λ m h t r k. refl; after = tt },
+      record { known = λ m h t r k. refl; few = c.in-Ok.ensures.few; in_bounds = c.in-Ok.ensures.in_bounds; after = tt },
     )
 
 pub returns-in-Err : goal.returns-in-Err
@@ -41,7 +41,7 @@ returns-in-Err g c =
           refl,
         ),
       ),
-      record { known = λ m h t r k. known_range c.args.self.now c.args.s c.in-Some.transaction.now (sym c.in-Some.ensures.value) c.versions-versions.result.now c.args.range.lo.bytes.now (option_map (λ k. k.bytes.now) c.args.range.hi) c.args.limit c.versions-versions.ensures c.in-Err.ensures.known m h t r k; after = tt },
+      record { known = λ m h t r k. known_range c.args.self.now c.args.s c.in-Some.transaction.now (sym c.in-Some.ensures.value) c.versions-versions.result.now c.args.range.lo.bytes.now (option_map (λ k. k.bytes.now) c.args.range.hi) c.args.limit c.versions-versions.ensures c.in-Err.ensures.known m h t r k; few = tt; in_bounds = tt; after = tt },
     )
 
 pub returns-in-None : goal.returns-in-None
@@ -51,5 +51,5 @@ returns-in-None g c = (
     λ _. tt,
     (refused_outside c.args.self.now _ c.args.s (Range c.args.range.lo.bytes.now (option_map (λ k. k.bytes.now) c.args.range.hi) c.args.limit) _ NotOpen (record { log = refl; history = refl }) (ap (λ n. n.entries) c.get_mut.follows.holds-at-none) (sym c.in-None.ensures.value) (λ m h. refl), refl),
   ),
-  record { known = λ m h t r k. known_nowhere c.args.self.now c.args.s (sym c.in-None.ensures.value) m h t r; after = tt },
+  record { known = λ m h t r k. known_nowhere c.args.self.now c.args.s (sym c.in-None.ensures.value) m h t r; few = tt; in_bounds = tt; after = tt },
 )

@@ -33,7 +33,7 @@ returns g c here is_at =
       at = record { hub = subst (λ k. StandsFor c.step.new.self k) (ap (λ r. r.0) (sends_alike done s (length reply) leads.0 (granted More false))) (reached c.serve.new.hub c.step.new.self (Sends s (length reply)) c.step.result leads done served.stands).stands; labels = is_at.labels };
       prints = subst (λ st. PrintsIn st here s line (record { hub = after done (Sends s (length reply)); labels = here.labels }) (printed_line line.label reply)) (sym opened) (
         reply,
-        record { front = served.front; failed = served.failed; possible = served.possible; reply_is = c.pending-pending.ensures done served.stands; new_is = refl },
+        record { front = served.front; failed = served.failed; possible = served.possible; reply_is = c.pending-pending.ensures.bytes done served.stands; new_is = refl },
         refl,
         refl,
       );
@@ -75,7 +75,7 @@ returns-in_err-write_out g c here is_at =
       rest = why.1.1;
       prints = subst (λ st. PrintsIn st here s line next (why.1.0 ++ why.1.1)) (sym opened) (
         reply,
-        record { front = served.front; failed = served.failed; possible = served.possible; reply_is = c.pending-pending.ensures done served.stands; new_is = refl },
+        record { front = served.front; failed = served.failed; possible = served.possible; reply_is = c.pending-pending.ensures.bytes done served.stands; new_is = refl },
         refl,
         sym why.1.2 ∙ printed,
       );

@@ -13,7 +13,8 @@ returns-in-Ok c =
       record {
         known = λ t. refl;
         full = ok_iff c.peek.result room;
-        reply = λ m qs is h. get-value t m qs k c.peek.result room (c.peek.ensures ∙ read-after_get t c.mark_key.new.self c.args.versions.now k c.in-Ok.ensures.ok ∙ ap (λ (n : KeyMap). value_read t n k) is) h;
+        short = c.peek.ensures.short;
+        reply = λ m qs is h. get-value t m qs k c.peek.result room (c.peek.ensures.value ∙ read-after_get t c.mark_key.new.self c.args.versions.now k c.in-Ok.ensures.ok ∙ ap (λ (n : KeyMap). value_read t n k) is) h;
         after = tt;
       },
     )
@@ -26,6 +27,7 @@ returns-in-Err c =
       record {
         known = λ t. c.in-Err.ensures.known t;
         full = err_iff c.in-Err.ensures.full;
+        short = tt;
         reply = λ m qs is h. get-fault t m qs k c.in-Err.fault (never_of c.in-Err.ensures.never) (fault_iff c.in-Err.ensures.full) h;
         after = tt;
       },

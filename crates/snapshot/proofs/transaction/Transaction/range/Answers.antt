@@ -10,7 +10,7 @@ use Rattle.snapshot.specs.declared.faults.SnapshotFault.TheVariants.{FullMarks}
 use Rattle.snapshot.specs.View.{View}
 use Rattle.snapshot.specs.Ahead.{merged_pairs}
 use Rattle.snapshot.proofs.Copies.{err_iff, fault_iff, ok_iff, room_of, never_of}
-use Rattle.snapshot.proofs.Pages.{taken_length, taken_within}
+use Rattle.snapshot.proofs.Pages.{taken_few, taken_length, taken_within}
 use Rattle.snapshot.proofs.Ranges.{range-reply, range-leaves, range-fault, range-known, looked-rows, rows_now, page_above, full_now, known_now, after_now, unmarked}
 use Rattle.snapshot.proofs.transaction.Transaction.range.Goals as goal
 
@@ -39,11 +39,14 @@ returns-in-Ok c =
     (c.within-writes.ensures ∙ ap (where_key (slice_cmp nat_cmp) (is_in_range lo hi)) c.entries.ensures.writes) c.range.ensures in
     let room = sym (full_now t now v lo hi c.args.limit all c.self.view_is same) ∙ room_of c.in-Ok.ensures.full in
     let after = after_now t now v lo hi c.args.limit all c.self.view_is same c.mark_page.new.marks c.in-Ok.ensures.ok in
-    let rows = c.new.ensures ∙ ap (λ n. take n all) c.in-Ok.ensures.len ∙ taken_length c.args.limit all ∙ rows_now t now v lo hi c.args.limit all c.self.view_is same in (
+    let page = c.new.ensures ∙ ap (λ n. take n all) c.in-Ok.ensures.len ∙ taken_length c.args.limit all in
+    let rows = page ∙ rows_now t now v lo hi c.args.limit all c.self.view_is same in (
       (refl, λ _. tt, (after, range-leaves now (map_seen v now.begin) lo hi c.args.limit _ room after)),
       record {
         known = λ m qs is h k. refl;
         full = ok_iff c.new.result room;
+        few = rw page (taken_few c.args.limit all);
+        in_bounds = rw page c.in-Ok.ensures.in_bounds;
         reply = λ m qs is h. range-reply now v m qs lo hi c.args.limit is h _ room rows;
         after = tt;
       },
@@ -64,6 +67,8 @@ returns-in-Err c =
       record {
         known = λ m qs is h k. c.in-Err.ensures.known (subst (λ b. IsTrue b) (sym (known_now t now v lo hi c.args.limit all c.self.view_is same)) (range-known now v m qs lo hi c.args.limit is h k));
         full = err_iff full;
+        few = tt;
+        in_bounds = tt;
         reply = λ m qs is h. range-fault now v m qs lo hi c.args.limit is h c.in-Err.fault (never_of c.in-Err.ensures.never) (fault_iff full);
         after = tt;
       },
