@@ -1,14 +1,14 @@
 -- A transaction's writes and marks against its private copy.
 use Rattle.std.proofs.lemmas.Grind.{common_steps}
-use Rattle.std.proofs.Common.{◌≡◌, ◌≢◌, ℕ, suc, Bool, true, false, T, cond, ◌||◌, List, [], ◌∷◌, ◌++◌, length, Option, Some, None, Result, Ok, Err, refl, sym, ap, subst, ◌∙◌, arith, inl, inr}
+use Rattle.std.proofs.Common.{◌≡◌, ◌≢◌, ℕ, suc, Bool, true, false, T, cond, List, [], ◌∷◌, ◌++◌, length, Option, Some, None, Result, Ok, Err, refl, sym, ap, subst, ◌∙◌, arith, inl, inr}
 use Rattle.std.specs.Prelude.{is_some, IsTrue, ◌↔◌, option_copied, if◌then◌else◌}
 use Rattle.std.specs.Borrow.{Bor}
 use Rattle.std.specs.List.{AllByRecursion, list_any}
 use Rattle.std.specs.BTreeSet.{insert_key}
-use Rattle.std.specs.declared.cmp.Ordering.TheVariants.{Less, Equal, Greater}
+use Rattle.std.specs.declared.cmp.Ordering.TheVariants.{Less}
 use Rattle.std.specs.Ordering.{is_eq, nat_cmp}
 use Rattle.std.specs.Cmp.Lexicographic.{slice_cmp, nat_list_cmp_total}
-use Rattle.std.specs.FinMap.Entries.{put, is_sorted, below_all, by_order, find-put, is_sorted-put}
+use Rattle.std.specs.FinMap.Entries.{put, is_sorted, below_all, find-put, is_sorted-put}
 use Rattle.std.proofs.lemmas.Bool.{both_ways, cases_Bool, not-true, not-false}
 use Rattle.model.specs.declared.refusals.Refusal.TheVariants as refusal
 use Rattle.model.specs.Map.{Bytes, KeyMap, KeyWrite, IsMap, key_cmp, is_same_key, value_at, after_write, after_writes}
@@ -39,16 +39,14 @@ use Rattle.versions.specs.Meaning.{map_seen}
 pub value_held : (ws : List KeyWrite) (m : KeyMap) (q : Bytes) → T (is_sorted (slice_cmp nat_cmp) ws) → value_at (after_writes m ws) q ≡ or_else (written ws q) (value_at m q)
 value_held [] m q h = refl
 value_held (w ∷ ws) m q h =
-    let p = parts _ _ h in
-    value_held ws (after_write m w.0 w.1) q p.1 ∙ ap (or_else (written ws q)) (value_after_write m w.0 w.1 q)
-    ∙ elim (is_same_key q w.0) as (λ b. is_same_key q w.0 ≡ b → or_else (written ws q) (cond b w.1 (value_at m q)) ≡ or_else (cond b (Some w.1) (written ws q)) (value_at m q)) [
-      | true ↦ λ t. ap (λ o. or_else o w.1) (ap (written ws) (same_key q w.0 t) ∙ find_none key_cmp w.0 ws p.0)
-      | false ↦ λ t. refl
-    ] refl
+    let p = parts (below_all (slice_cmp nat_cmp) w.0 ws) (is_sorted (slice_cmp nat_cmp) ws) h in
+    let rest = value_held ws (after_write m w.0 w.1) q p.1 in
+    let none = find_none key_cmp w.0 ws p.0 in
+    grind (arith, common_steps, value_after_write m w.0 w.1 q, same_key q w.0)
 
 pub any_keys : (k : Bytes) (ws : List KeyWrite) → list_any (is_same_key k) (keys_of ws) ≡ is_some (written ws k)
 any_keys k [] = refl
-any_keys k (w ∷ ws) = elim (is_same_key k w.0) as (λ b. (b || list_any (is_same_key k) (keys_of ws)) ≡ is_some (cond b (Some w.1) (written ws k))) [ true ↦ refl | false ↦ any_keys k ws ]
+any_keys k (w ∷ ws) = grind (arith, common_steps, any_keys k ws)
 
 pub length-keys_of : (ws : List KeyWrite) → length (keys_of ws) ≡ length ws
 length-keys_of [] = refl
@@ -61,25 +59,16 @@ keys-put k v (w ∷ ws) = grind (arith, common_steps, keys-put k v ws)
 keys-put_same : (k : Bytes) (v : Option Bytes) (ws : List KeyWrite) → T (is_sorted (slice_cmp nat_cmp) ws) → is_some (written ws k) ≡ true → keys_of (put (slice_cmp nat_cmp) k v ws) ≡ keys_of ws
 keys-put_same k v [] h e = absurd (both_ways _ refl e)
 keys-put_same k v (w ∷ ws) h e =
-    let p = parts _ _ h in
-    elim (key_cmp k w.0) as (λ o. key_cmp k w.0 ≡ o → is_some (cond (is_eq o) (Some w.1) (written ws k)) ≡ true → keys_of (by_order o ((k, v) ∷ w ∷ ws) ((w.0, v) ∷ ws) (w ∷ put (slice_cmp nat_cmp) k v ws)) ≡ w.0 ∷ keys_of ws) [
-      | Less ↦ λ o t. absurd (both_ways _ (ap is_some (find_none key_cmp k ws (below_later nat_list_cmp_total k w.0 ws o p.0))) t)
-      | Equal ↦ λ o t. refl
-      | Greater ↦ λ o t. ap (λ l. w.0 ∷ l) (keys-put_same k v ws p.1 t)
-    ] refl e
-
-through : (b : Bool) (w : Option Bytes) (o : Option (Option Bytes)) (v : Option Bytes) → or_else (cond b (Some w) o) v ≡ cond b w (or_else o v)
-through true w o v = refl
-through false w o v = refl
+    let p = parts (below_all (slice_cmp nat_cmp) w.0 ws) (is_sorted (slice_cmp nat_cmp) ws) h in
+    let below = λ (o : key_cmp k w.0 ≡ Less). find_none key_cmp k ws (below_later nat_list_cmp_total k w.0 ws o p.0) in
+    grind (arith, common_steps, keys-put_same k v ws p.1, below)
 
 pub contents-put : (m : KeyMap) (k : Bytes) (v : Option Bytes) (ws : List KeyWrite) → IsMap m → T (is_sorted (slice_cmp nat_cmp) ws) → after_writes m (put (slice_cmp nat_cmp) k v ws) ≡ after_write (after_writes m ws) k v
 contents-put m k v ws h s = same_map (after_writes m (put (slice_cmp nat_cmp) k v ws)) (after_write (after_writes m ws) k v)
-    (IsMap-after_writes m (put (slice_cmp nat_cmp) k v ws) h) (IsMap-after_write (after_writes m ws) k v (IsMap-after_writes m ws h))
-    (λ q. value_held (put (slice_cmp nat_cmp) k v ws) m q (is_sorted-put (slice_cmp nat_cmp) nat_list_cmp_total k v ws s)
-    ∙ ap (λ o. or_else o (value_at m q)) (find-put (slice_cmp nat_cmp) nat_list_cmp_total q k v ws)
-    ∙ through (is_same_key q k) v (written ws q) (value_at m q)
-    ∙ ap (cond (is_same_key q k) v) (sym (value_held ws m q s))
-    ∙ sym (value_after_write (after_writes m ws) k v q))
+    (IsMap-after_writes m (put (slice_cmp nat_cmp) k v ws) h) (IsMap-after_write (after_writes m ws) k v (IsMap-after_writes m ws h)) (λ q.
+    let found = find-put (slice_cmp nat_cmp) nat_list_cmp_total q k v ws in
+    let held = value_held (put (slice_cmp nat_cmp) k v ws) m q (is_sorted-put (slice_cmp nat_cmp) nat_list_cmp_total k v ws s) in
+    grind (arith, common_steps, value_held ws m q s, value_after_write (after_writes m ws) k v q))
 
 -- ---- a mark
 
@@ -194,8 +183,7 @@ write-full a0 a1 a2 a3 a4 a5 = grind (arith, common_steps)
 
 -- the mark of a read changes no answer
 pub read-after_get : (t u : View) (v : ChainsValue) (k : Bytes) → u ≡ after_get t k → value_read u (map_seen v u.begin) k ≡ value_read t (map_seen v t.begin) k
-read-after_get t u v k e = ap (λ (u : View). value_read u (map_seen v u.begin) k) e
-    ∙ elim (is_some (written t.writes k)) as (λ b. value_read (if b then t else marked t (OfKey k)) (map_seen v (if b then t else marked t (OfKey k)).begin) k ≡ value_read t (map_seen v t.begin) k) [ true ↦ refl | false ↦ refl ]
+read-after_get t u v k e = let same = ap (λ (u : View). value_read u (map_seen v u.begin) k) e in grind (arith, common_steps)
 
 pub room_of : {B : Type 0} {x : B} {b : Bool} → ((◌≡◌ {A = Result B SnapshotFault} (Ok x) (Err FullMarks)) ↔ IsTrue b) → b ≡ false
 room_of {B} {x} {b} iff = elim (cases_Bool b) [ inl t ↦ let e = iff.1 t in cc | inr f ↦ f ]

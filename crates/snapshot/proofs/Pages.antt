@@ -5,6 +5,7 @@ use Rattle.std.specs.List.{AllByRecursion}
 use Rattle.std.specs.Ordering.{is_le, nat_cmp}
 use Rattle.std.specs.Cmp.Lexicographic.{slice_cmp}
 use Rattle.std.specs.FinMap.Entries.{where_key}
+use Rattle.std.proofs.lemmas.List.{take_all}
 use Rattle.std.proofs.lemmas.Bool.{and_parts, eqb-true}
 use Rattle.model.specs.Key.{IsKey, IsValue}
 use Rattle.model.specs.Map.{Bytes, KeyMap, KeyWrite, IsInBounds, key_cmp, is_in_range, is_below, pairs_in_range}
@@ -115,11 +116,5 @@ pub record IsShort (n limit : ℕ) (all : KeyMap) : Type 0 where
   pub many : n ≡ length (take limit all)
   pub ends : None ≡ page_end limit (take limit all)
 
-all_taken : (n : ℕ) (xs : KeyMap) → length xs ≤ n → take n xs ≡ xs
-all_taken zero [] h = refl
-all_taken zero (x ∷ xs) h = absurd (omega arith)
-all_taken (suc n) [] h = refl
-all_taken (suc n) (x ∷ xs) h = ap (λ l. x ∷ l) (all_taken n xs (omega arith))
-
 pub short_page : (n limit : ℕ) (all : KeyMap) → drop n all ≡ [] → n ≤ length all → n < limit → IsShort n limit all
-short_page n limit all none within less = grind (arith, common_steps, none_left, all_taken, eqb-true)
+short_page n limit all none within less = grind (arith, common_steps, none_left, take_all, eqb-true)

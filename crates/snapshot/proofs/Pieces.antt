@@ -50,12 +50,10 @@ above-with j k (Some v) ps o h = both _ _ (is_less _ o) h
 above_one : (j : Bytes) (w : KeyWrite) (f : KeyMap → KeyMap) → ((ps : KeyMap) → IsAbove j ps → IsAbove j (f ps)) → key_cmp j w.0 ≡ Less → (ps : KeyMap) → IsAbove j ps → IsAbove j (merged_one w f ps)
 above_one j w f h o [] g = above-with j w.0 w.1 (f []) o (h [] g)
 above_one j w f h o (p ∷ ps) g =
-    let y = parts _ _ g in
-    elim (key_cmp w.0 p.0) as (λ r. IsAbove j (by_order r (with_value w.0 w.1 (f (p ∷ ps))) (with_value w.0 w.1 (f ps)) (p ∷ merged_one w f ps))) [
-      | Less ↦ above-with j w.0 w.1 (f (p ∷ ps)) o (h (p ∷ ps) g)
-      | Equal ↦ above-with j w.0 w.1 (f ps) o (h ps y.1)
-      | Greater ↦ both _ _ y.0 (above_one j w f h o ps y.1)
-    ]
+    let y = parts (is_lt (key_cmp j p.0)) (below_all (slice_cmp nat_cmp) j ps) g in
+    let before = above-with j w.0 w.1 (f (p ∷ ps)) o (h (p ∷ ps) g) in
+    let here = above-with j w.0 w.1 (f ps) o (h ps y.1) in
+    grind (arith, common_steps, both, above_one j w f h o ps y.1)
 
 above-merged : (j : Bytes) (ws : List KeyWrite) (ps : KeyMap) → IsAbove j ws → IsAbove j ps → IsAbove j (merged ws ps)
 above-merged j [] ps h g = g
@@ -84,17 +82,7 @@ is_map_one w ws f r (p ∷ ps) h =
 
 -- a write before what f leaves
 found-with : (q : Bytes) (w : KeyWrite) (ws : List KeyWrite) (l : KeyMap) (v : Option Bytes) → IsAbove w.0 ws → IsAbove w.0 l → value_at l q ≡ or_else (written ws q) v → value_at (with_value w.0 w.1 l) q ≡ or_else (cond (is_same_key q w.0) (Some w.1) (written ws q)) v
-found-with q w ws l v a b e =
-    elim (is_same_key q w.0) as (λ t. is_same_key q w.0 ≡ t → value_at (with_value w.0 w.1 l) q ≡ or_else (cond t (Some w.1) (written ws q)) v) [
-      | true ↦ λ t. elim w.1 as (λ o. value_at (with_value w.0 o l) q ≡ o) [
-        | None ↦ ap (value_at l) (same_key q w.0 t) ∙ find_none key_cmp w.0 l b
-        | Some x ↦ ap (λ c. cond c (Some x) (value_at l q)) t
-      ]
-      | false ↦ λ t. elim w.1 as (λ o. value_at (with_value w.0 o l) q ≡ or_else (written ws q) v) [
-        | None ↦ e
-        | Some x ↦ ap (λ c. cond c (Some x) (value_at l q)) t ∙ e
-      ]
-    ] refl
+found-with q w ws l v a b e = grind (arith, common_steps, same_key q w.0, find_none key_cmp w.0 l b)
 
 through : (b : Bool) (o : Option (Option Bytes)) (v : Bytes) (w : Option Bytes) → (b ≡ true → o ≡ None) → cond b (Some v) (or_else o w) ≡ or_else o (cond b (Some v) w)
 through true o v w h = sym (ap (λ o. or_else o (Some v)) (h refl))
@@ -131,10 +119,6 @@ merging (w ∷ ws) h =
     let r : Rest w ws (merged ws) = record { above = λ j ps x z. above-merged j ws ps x z; maps = m.maps; found = m.found; first = y.0 } in
     record { maps = is_map_one w ws (merged ws) r; found = λ q. found_one q w ws (merged ws) r }
 
-either_in : (b : Bool) (o : Option (Option Bytes)) (v : Option Bytes) → or_else (cond b o None) (cond b v None) ≡ cond b (or_else o v) None
-either_in true o v = refl
-either_in false o v = refl
-
 -- the merged pairs of a range are those of the map with the writes in it
 pub merged-range : (m : KeyMap) (ws : List KeyWrite) (lo : Bytes) (hi : Option Bytes) → IsMap m → T (is_sorted (slice_cmp nat_cmp) ws)
     → merged (where_key (slice_cmp nat_cmp) (is_in_range lo hi) ws) (pairs_in_range m lo hi) ≡ pairs_in_range (after_writes m ws) lo hi
@@ -142,10 +126,8 @@ merged-range m ws lo hi h s =
     let us = where_key (slice_cmp nat_cmp) (is_in_range lo hi) ws in
     let inside : IsMap (pairs_in_range m lo hi) = sorted-where (is_in_range lo hi) m h in
     let g = merging us (sorted-where (is_in_range lo hi) ws s) in
-    same_map (merged us (pairs_in_range m lo hi)) (pairs_in_range (after_writes m ws) lo hi) (g.maps (pairs_in_range m lo hi) inside) (sorted-where (is_in_range lo hi) (after_writes m ws) (IsMap-after_writes m ws h))
-    (λ q. g.found q (pairs_in_range m lo hi) inside
-    ∙ ap (λ o. or_else o (value_at (pairs_in_range m lo hi) q)) (find-where_key (slice_cmp nat_cmp) (is_in_range lo hi) q (λ x t. ap (is_in_range lo hi) (sym (exact_bytes q x t))) ws)
-    ∙ ap (or_else (cond (is_in_range lo hi q) (written ws q) None)) (value_in_range m lo hi q)
-    ∙ either_in (is_in_range lo hi q) (written ws q) (value_at m q)
-    ∙ ap (λ v. cond (is_in_range lo hi q) v None) (sym (value_held ws m q s))
-    ∙ sym (value_in_range (after_writes m ws) lo hi q))
+    let whole = sorted-where (is_in_range lo hi) (after_writes m ws) (IsMap-after_writes m ws h) in
+    same_map (merged us (pairs_in_range m lo hi)) (pairs_in_range (after_writes m ws) lo hi) (g.maps (pairs_in_range m lo hi) inside) whole (λ q.
+    let own = find-where_key (slice_cmp nat_cmp) (is_in_range lo hi) q (λ x t. ap (is_in_range lo hi) (sym (exact_bytes q x t))) ws in
+    let found = g.found q (pairs_in_range m lo hi) inside in
+    grind (arith, common_steps, value_in_range m lo hi q, value_held ws m q s, value_in_range (after_writes m ws) lo hi q))

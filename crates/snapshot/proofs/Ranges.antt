@@ -1,8 +1,7 @@
 -- A read of a range against the private copy.
 use Rattle.std.proofs.lemmas.Grind.{common_steps}
-use Rattle.std.proofs.Common.{arith, ◌≡◌, ◌≢◌, ℕ, zero, suc, true, false, not, cond, ◌&&◌, ◌||◌, List, [], ◌∷◌, ◌++◌, take, Option, Some, None, refl, sym, ap, subst, ◌∙◌}
+use Rattle.std.proofs.Common.{arith, ◌≡◌, ◌≢◌, ℕ, zero, suc, true, false, not, ◌&&◌, ◌||◌, List, [], ◌∷◌, ◌++◌, take, Option, Some, None, refl, sym, ap, subst, ◌∙◌}
 use Rattle.std.specs.Prelude.{IsTrue, ◌↔◌, if◌then◌else◌}
-use Rattle.std.specs.declared.cmp.Ordering.TheVariants.{Less, Equal, Greater}
 use Rattle.std.specs.Ordering.{is_lt, is_le, nat_cmp}
 use Rattle.std.specs.Cmp.Lexicographic.{slice_cmp, nat_list_cmp_total}
 use Rattle.std.specs.FinMap.Entries.{where_key}
@@ -33,15 +32,7 @@ use Rattle.snapshot.proofs.Pages.{end_above}
 
 -- no key lies in an empty range
 nothing_between : (lo h q : Bytes) → is_lt (key_cmp lo h) ≡ false → (is_le (key_cmp lo q) && is_lt (key_cmp q h)) ≡ false
-nothing_between lo h q e = elim (key_cmp lo q) as (λ o. key_cmp lo q ≡ o → (is_le o && is_lt (key_cmp q h)) ≡ false) [
-  | Less ↦ λ low. elim (key_cmp q h) as (λ o. key_cmp q h ≡ o → is_lt o ≡ false) [
-    | Less ↦ λ high. absurd (both_ways _ e (ap is_lt (nat_list_cmp_total.trans lo q h low high)))
-    | Equal ↦ λ high. refl
-    | Greater ↦ λ high. refl
-  ] refl
-  | Equal ↦ λ same. ap (λ k. is_lt (key_cmp k h)) (sym (exact_bytes lo q same)) ∙ e
-  | Greater ↦ λ high. refl
-] refl
+nothing_between lo h q e = grind (arith, common_steps, nat_list_cmp_total.trans lo q h, exact_bytes lo q)
 
 none_in : (lo : Bytes) (hi : Option Bytes) (q : Bytes) → is_empty_range lo hi ≡ true → is_in_range lo hi q ≡ false
 none_in lo None q e = absurd (both_ways false refl e)
@@ -49,7 +40,7 @@ none_in lo (Some h) q e = nothing_between lo h q (not-true (is_lt (key_cmp lo h)
 
 no_pairs : (lo : Bytes) (hi : Option Bytes) (m : KeyMap) → is_empty_range lo hi ≡ true → pairs_in_range m lo hi ≡ []
 no_pairs lo hi [] e = refl
-no_pairs lo hi (p ∷ ps) e = ap (λ b. cond b (p ∷ pairs_in_range ps lo hi) (pairs_in_range ps lo hi)) (none_in lo hi p.0 e) ∙ no_pairs lo hi ps e
+no_pairs lo hi (p ∷ ps) e = grind (arith, common_steps, none_in lo hi p.0 e, no_pairs lo hi ps e)
 
 take_none : (n : ℕ) → ◌≡◌ {A = KeyMap} (take n []) []
 take_none zero = refl

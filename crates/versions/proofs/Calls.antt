@@ -1,25 +1,27 @@
 -- What the calls answer, from where the search ended.
-use Rattle.std.proofs.Common.{◌≡◌, ℕ, zero, suc, ◌+◌, ◌-◌, ◌<◌, ◌≤◌, Bool, true, false, T, List, [], ◌∷◌, ◌++◌, length, take, get_or, Option, Some, None, refl, sym, ap, subst, ◌∙◌, arith}
-use Rattle.std.specs.Prelude.{option_map, nat_le, if◌then◌else◌}
+use Rattle.std.proofs.Common.{◌≡◌, ℕ, ◌+◌, ◌-◌, ◌<◌, ◌≤◌, true, T, List, [], ◌∷◌, ◌++◌, length, take, get_or, Option, Some, None, refl, sym, ap, subst, ◌∙◌, arith}
+use Rattle.std.specs.Prelude.{option_map}
 use Rattle.std.specs.List.{AllByRecursion}
 use Rattle.std.proofs.Math.Seq.{take-append_seam}
 use Rattle.std.proofs.lemmas.List.{append_assoc, take_more}
 use Rattle.std.specs.Ordering.{nat_cmp}
 use Rattle.std.specs.Cmp.Lexicographic.{slice_cmp}
 use Rattle.std.specs.FinMap.Entries.{put, is_sorted}
-use Rattle.model.specs.Map.{Bytes, KeyMap, KeyWrite, IsMap, value_at}
-use Rattle.versions.specs.Chains.{ChainValue, Chains, ChainsValue, find_chain, seen_in, visible, IsKept, IsRisingChain, IsRoomier, HasPlace, HasRoom, added, stamped, fresh_chain, IsReady, base_chains}
+use Rattle.model.specs.Map.{Bytes, key_cmp, KeyMap, KeyWrite, IsMap, value_at}
+use Rattle.versions.specs.Chains.{ChainValue, Chains, ChainsValue, find_chain, seen_in, visible, IsKept, IsRoomier, HasPlace, HasRoom, added, stamped, fresh_chain, IsReady, base_chains}
 use Rattle.versions.specs.StandsFor.{StandsFor}
 use Rattle.versions.specs.Witnesses.{AreUnderWitnesses, IsAddedTo}
 use Rattle.sorted_pages.specs.Pages.{Page, room_at}
-use Rattle.versions.specs.Listings.{AreSeenFrom, IsFollowed, is_in, is_listed, IsListed, unwitnessed, followed}
+use Rattle.versions.specs.Listings.{is_seen_from, AreSeenFrom, IsFollowed, is_in, is_listed, IsListed, unwitnessed, followed}
 use Rattle.versions.specs.Groups.{GroupValue, Listed}
-use Rattle.versions.specs.Meaning.{kept_in, writes_of, AreInstalled}
+use Rattle.versions.specs.Meaning.{kept_in, writes_of}
 use Rattle.std.proofs.lemmas.Bool.{or_right}
 use Rattle.std.proofs.lemmas.Bool.Decides.{nat_tests}
-use Rattle.model.proofs.Entries.{IsSorted, IsBelowAll, parts}
+use Rattle.model.proofs.Entries.{IsSorted}
+use Rattle.model.proofs.InOrder.{parts, sorted_left}
 use Rattle.versions.proofs.Visibles.{value-visible}
-use Rattle.versions.proofs.Stores.{HavePlaces, both, sorted_base, find-roomier, room-more, room-roomier, room_roomier, places-more, place-roomier, places-roomier, places-apart, written_map, written_number, ready-apart, maps-step, newest-step, kept-step, ready-prepared, kept-put, rising_one, visible-base, newest-base}
+use Rattle.versions.proofs.Stores.{HavePlaces, sorted_base, find-roomier, room-more, room-roomier, room_roomier, places-more, place-roomier, places-roomier, places-apart, written_map, written_number, ready-apart, maps-step, newest-step, kept-step, ready-prepared, kept-put, rising_one, visible-base, newest-base}
+use Rattle.versions.proofs.Elements.{all-append, all-each, all-get}
 use Rattle.versions.proofs.Listings.{groups-found, listed-write}
 use Rattle.versions.proofs.UnderWitnesses.{added-put, added-refl, added-trans, followed-write}
 
@@ -47,16 +49,8 @@ preparing n ws i w k es fs ps qs lt is key more rooms p room place =
       places = places-more n (take i ws) fs qs w (places-roomier n (take i ws) es fs ps qs more rooms p.places) s;
     })
 
-pub take_all : {X : Type 0} (xs : List X) (n : ℕ) → length xs ≤ n → take n xs ≡ xs
-take_all [] zero h = refl
-take_all [] (suc n) h = refl
-take_all (x ∷ xs) zero h = absurd (omega arith)
-take_all (x ∷ xs) (suc n) h = ap (λ l. x ∷ l) (take_all xs n (omega arith))
-
 all_at : {X : Type 0} (P : X → Type 0) (xs : List X) (i : ℕ) (x : X) → i < length xs → x ≡ get_or xs i x → AllByRecursion P xs → P x
-all_at P [] i x lt is h = absurd (omega arith)
-all_at P (y ∷ xs) zero x lt is h = subst P (sym is) h.0
-all_at P (y ∷ xs) (suc i) x lt is h = all_at P xs i x (omega arith) is h.1
+all_at P xs i x lt is h = subst P (sym is) (all-get P xs i x lt h)
 
 -- where the writes were prepared before, there is room in each chain
 pub has_chain_room : (ws : List KeyWrite) (i : ℕ) (w : KeyWrite) (k : Bytes) (es fs : Chains) → i < length ws → w ≡ get_or ws i w → k ≡ w.0 → IsRoomier es fs → AllByRecursion (λ w. HasRoom (find_chain w.0 es)) ws → HasRoom (find_chain k fs)
@@ -97,10 +91,6 @@ followed_seen : (n : ℕ) (k : Bytes) (o : Option ChainValue) → IsReady n o �
 followed_seen n k None r = tt
 followed_seen n k (Some c) r = ((let below = r.0 in grind (arith, nat_tests)), tt)
 
-seen-append : (n : ℕ) (us vs : List Listed) → AreSeenFrom n us → AreSeenFrom n vs → AreSeenFrom n (us ++ vs)
-seen-append n [] vs h g = g
-seen-append n (u ∷ us) vs h g = (h.0, seen-append n us vs h.1 g)
-
 pub installing-step : (n : ℕ) (from es fs : Chains) (ps qs : List (Page ChainValue)) (ls us : List Listed) (room room' : ℕ) (all ws vs : List KeyWrite) (w : KeyWrite) (own : ℕ) → vs ≡ w ∷ ws → Installing n from es ps ls room all vs
     → fs ≡ put (slice_cmp nat_cmp) w.0 (added (find_chain w.0 es) (stamped n w.1) own) es → ((q : Bytes) → room_at q ps ≤ room_at q qs + 1) → us ≡ ls ++ followed (find_chain w.0 es) w.0 n → room ≤ room' + 1 → Installing n from fs qs us room' all ws
 installing-step n from es fs ps qs ls us room room' all ws vs w own next g is more list more' =
@@ -119,30 +109,15 @@ installing-step n from es fs ps qs ls us room room' all ws vs w own next g is mo
       listed = λ gs from_listed. subst (λ (l : List Listed). IsListed fs (unwitnessed l ∷ gs)) (sym list) (subst (λ (l : Chains). IsListed l (unwitnessed (ls ++ followed (find_chain w.0 es) w.0 n) ∷ gs)) (sym is) (listed-write w.0 n w.1 own es ls gs (h.listed gs from_listed)));
       added = λ k. added-trans n (find_chain k from) (find_chain k es) (find_chain k fs) (h.added k) (subst (λ (l : Chains). IsAddedTo n (find_chain k es) (find_chain k l)) (sym is) (added-put n w.0 k w.1 own es));
       followed = subst (AllByRecursion (IsFollowed n fs)) (sym list) (subst (λ (l : Chains). AllByRecursion (IsFollowed n l) (ls ++ followed (find_chain w.0 es) w.0 n)) (sym is) (followed-write n w.0 w.1 own es ls h.ready.0 h.followed));
-      seen = subst (AreSeenFrom (n - 1)) (sym list) (seen-append (n - 1) ls (followed (find_chain w.0 es) w.0 n) h.seen (followed_seen n w.0 (find_chain w.0 es) h.ready.0));
+      seen = (let last = followed_seen n w.0 (find_chain w.0 es) h.ready.0 in
+          subst (AreSeenFrom (n - 1)) (sym list) (all-append (λ v. is_seen_from (n - 1) v ≡ true) ls _ h.seen last));
     }
 
-same_either : {A : Type 0} (b : Bool) (x : A) → (if b then x else x) ≡ x
-same_either true x = refl
-same_either false x = refl
-
-nothing : (ws : List KeyWrite) → length ws ≡ 0 → ws ≡ []
-nothing [] e = refl
-nothing (w ∷ ws) e = absurd (omega arith)
-
-pub installed-end : (n : ℕ) (from es : Chains) (ps : List (Page ChainValue)) (ls : List Listed) (room : ℕ) (all ws : List KeyWrite) → length ws ≡ 0 → Installing n from es ps ls room all ws → AreInstalled from es n all
-installed-end n from es ps ls room all ws no_more h = let none = nothing ws no_more in record {
-  maps = λ m. sym (ap (λ l. written_map n m l (visible m es)) none ∙ same_either (nat_le n m) (visible m es)) ∙ h.maps m;
-  newest = λ k. sym (ap (λ l. written_number n l k (number_in k es)) none) ∙ h.newest k;
-  kept = λ k. (let e : kept_in (find_chain k es) + 0 ≡ kept_in (find_chain k from) + writes_of all k = sym (ap (λ l. kept_in (find_chain k es) + writes_of l k) none) ∙ h.kept k in omega arith);
-}
-
 kept_later : (es : Chains) (last n : ℕ) → last ≤ n → IsKept es last → IsKept es n
-kept_later es last n le h = record { sorted = h.sorted; rising = each es h.rising }
-  where
-    each : (fs : Chains) → AllByRecursion (λ e. IsRisingChain last e.1) fs → AllByRecursion (λ e. IsRisingChain n e.1) fs
-    each [] g = tt
-    each (f ∷ fs) g = ((g.0.0, omega (arith, g.0.1)), each fs g.1)
+kept_later es last n le h = record {
+  sorted = h.sorted;
+  rising = all-each _ _ es (λ e g. (g.0, omega (arith, g.1, le))) h.rising;
+}
 
 -- before the first of the writes
 pub installing-begun : (n last : ℕ) (es : Chains) (ps : List (Page ChainValue)) (ls : List Listed) (room : ℕ) (ws us : List KeyWrite) → IsKept es last → last < n → T (is_sorted (slice_cmp nat_cmp) ws)
@@ -164,20 +139,12 @@ installing-begun n last es ps ls room ws us kept lt rising rooms fits list none 
 
 -- ---- an opened map
 
-below_left : (k : Bytes) (xs ys : Chains) → IsBelowAll k (xs ++ ys) → IsBelowAll k xs
-below_left k [] ys h = tt
-below_left k (x ∷ xs) ys h = let p = parts _ _ h in both _ _ p.0 (below_left k xs ys p.1)
-
-sorted_left : (xs ys : Chains) → IsSorted (xs ++ ys) → IsSorted xs
-sorted_left [] ys h = tt
-sorted_left (x ∷ xs) ys h = let p = parts _ _ h in both _ _ (below_left x.0 xs ys p.0) (sorted_left xs ys p.1)
-
 -- the chain of the map's next pair stands above those that were made
 pub base-next : (es : Chains) (m rest next : KeyMap) (p : Bytes × Bytes) → IsMap m → rest ≡ p ∷ next → es ++ base_chains rest ≡ base_chains m → IsSorted (es ++ (p.0, fresh_chain (stamped 0 (Some p.1)) 0) ∷ [])
 base-next es m rest next p h is all =
     let e : Bytes × ChainValue = (p.0, fresh_chain (stamped 0 (Some p.1)) 0) in
     let whole : (es ++ e ∷ []) ++ base_chains next ≡ base_chains m = append_assoc es (e ∷ []) (base_chains next) ∙ ap (λ (l : KeyMap). es ++ base_chains l) (sym is) ∙ all in
-    sorted_left (es ++ e ∷ []) (base_chains next) (subst IsSorted (sym whole) (sorted_base m h))
+    sorted_left key_cmp (es ++ e ∷ []) (base_chains next) (subst IsSorted (sym whole) (sorted_base m h))
 
 pub stands-opened : (v : ChainsValue) (m : KeyMap) → IsMap m → v.chains ≡ base_chains m → v.last ≡ 0 → v.groups ≡ [] → StandsFor v (λ _. true) m []
 stands-opened v m is_map is last none = record {

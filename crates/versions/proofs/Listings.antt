@@ -1,16 +1,17 @@
 -- Each older version is listed: where chains are made, get more room, a version more, or are reclaimed.
-use Rattle.std.proofs.Common.{◌≡◌, ℕ, ◌+◌, ◌-◌, ◌≤◌, Bool, true, false, cond, ◌&&◌, List, [], ◌∷◌, ◌++◌, length, Option, Some, None, refl, sym, ap, subst, ◌∙◌, arith, inl, inr}
-use Rattle.std.specs.Prelude.{option_map, nat_le, if◌then◌else◌, ◌==◌, not, ◌⊎◌, IfSome}
+use Rattle.std.proofs.Common.{◌≡◌, ℕ, ◌+◌, ◌-◌, ◌≤◌, Bool, true, false, cond, List, [], ◌∷◌, ◌++◌, length, Option, Some, None, refl, sym, ap, subst, ◌∙◌, arith, inl, inr}
+use Rattle.std.specs.Prelude.{option_map, if◌then◌else◌, ◌==◌, IfSome}
 use Rattle.std.specs.List.{AllByRecursion, list_any}
 use Rattle.std.proofs.lemmas.List.Folds.{list_any-append}
 use Rattle.std.specs.Ordering.{nat_cmp}
 use Rattle.std.specs.Cmp.Lexicographic.{slice_cmp}
 use Rattle.std.specs.FinMap.Entries.{put}
-use Rattle.std.proofs.lemmas.Bool.{cases_Bool, both_ways, or_cases, or_left, or_right, eq-eqb}
+use Rattle.std.proofs.lemmas.Bool.{or_left, or_right, eq-eqb, cond_both}
+use Rattle.versions.proofs.Elements.{all-each}
 use Rattle.std.proofs.lemmas.Bool.Decides.{nat_tests}
 use Rattle.model.specs.Map.{Bytes, KeyMap, is_same_key}
 use Rattle.model.proofs.Lookups.{same_key, same_key_itself}
-use Rattle.versions.specs.Chains.{Stamped, ChainValue, Chains, find_chain, added, fresh_chain, stamped, first_number, is_between, seen_by, reclaimed, room_left, base_chains, IsKept, IsRisingTo, IsRisingChain, IsReclaimedAt, IsRoomier}
+use Rattle.versions.specs.Chains.{Stamped, ChainValue, Chains, find_chain, added, stamped, first_number, is_between, seen_by, reclaimed, room_left, base_chains, IsKept, IsRisingTo, IsRisingChain, IsReclaimedAt, IsRoomier}
 use Rattle.versions.specs.Listings.{is_of, is_in, is_listed, AreListed, IsListedChain, IsListed, AreFound, unwitnessed, followed, has_version, AreNeeded, IsNeededChain, IsSettled, IsPartReclaimed, AreKept}
 use Rattle.versions.specs.Groups.{GroupValue, Listed}
 use Rattle.versions.proofs.ChainLaws.{any-weaker, between-wider, first_rises}
@@ -34,16 +35,12 @@ groups-found es gs hs more h k = chain-found gs hs more k (find_chain k es) (h k
 
 pub listed-base : (m : KeyMap) (gs : List GroupValue) → IsListed (base_chains m) gs
 listed-base [] gs k = tt
-listed-base (p ∷ ps) gs k = elim (is_same_key k p.0) as (λ b. IsListedChain gs k (cond b (Some (fresh_chain (stamped 0 (Some p.1)) 0)) (find_chain k (base_chains ps)))) [
-  | true ↦ tt
-  | false ↦ listed-base ps gs k
-]
+listed-base (p ∷ ps) gs k = cond_both (is_same_key k p.0) _ _ (IsListedChain gs k) (λ t. tt) (λ f. listed-base ps gs k)
 
 chain-roomier : (gs : List GroupValue) (k : Bytes) (o p : Option ChainValue) → RoomierFound o p → IsListedChain gs k o → IsListedChain gs k p
 chain-roomier gs k None None r h = tt
-chain-roomier gs k None (Some d) r h = absurd r
-chain-roomier gs k (Some c) None r h = absurd r
 chain-roomier gs k (Some c) (Some d) r h = subst (λ (p : List Stamped × Stamped). AreListed gs k p.1.number p.0) {x = (c.older, c.newest)} {y = (d.older, d.newest)} (λ i. (sym r.older i, sym r.newest i)) h
+chain-roomier gs k _ _ r h = absurd r
 
 pub listed-roomier : (es fs : Chains) (gs : List GroupValue) → IsRoomier es fs → IsListed es gs → IsListed fs gs
 listed-roomier es fs gs more h k = chain-roomier gs k (find_chain k es) (find_chain k fs) (find-roomier k es fs more) (h k)
@@ -71,26 +68,16 @@ listed-put k v room es gs hs more h l q =
     ] refl)
 
 found-push : (ls us : List Listed) (gs : List GroupValue) → AreFound (unwitnessed ls ∷ gs) (unwitnessed (ls ++ us) ∷ gs)
-found-push ls us gs k n high t = elim (or_cases (is_in ls k n high) (is_listed gs k n high) t) [
-  | inl e ↦ or_left (is_in (ls ++ us) k n high) (is_listed gs k n high) (list_any-append (is_of k n high) ls us ∙ or_left (is_in ls k n high) (is_in us k n high) e)
-  | inr e ↦ or_right (is_in (ls ++ us) k n high) (is_listed gs k n high) e
-]
+found-push ls us gs k n high t = grind (arith, list_any-append (is_of k n high) ls us)
 
 is_itself : (k : Bytes) (n high : ℕ) → is_of k n high (record { key = k; number = n; next = high }) ≡ true
-is_itself k n high = ap (λ b. b && (n == n && nat_le high high)) (same_key_itself k) ∙ grind (arith, nat_tests)
+is_itself k n high = let same = same_key_itself k in grind (arith, nat_tests)
 
 listed-followed : (ls : List Listed) (gs : List GroupValue) (k : Bytes) (n : ℕ) (o : Option ChainValue) (c : ChainValue) → o ≡ Some c → is_listed (unwitnessed (ls ++ followed o k n) ∷ gs) k c.newest.number n ≡ true
-listed-followed ls gs k n None c e = absurd (not_some e)
-  where
-    not_some : ◌≡◌ {A = Option ChainValue} None (Some c) → ⊥
-    not_some e = cc
+listed-followed ls gs k n None c e = cc
 listed-followed ls gs k n (Some d) c e =
     let same : d ≡ c = cc in
-    or_left (is_in (ls ++ followed (Some d) k n) k c.newest.number n) (is_listed gs k c.newest.number n)
-    (list_any-append (is_of k c.newest.number n) ls (followed (Some d) k n)
-    ∙ or_right (is_in ls k c.newest.number n) (is_in (followed (Some d) k n) k c.newest.number n)
-    (or_left (is_of k c.newest.number n (record { key = k; number = d.newest.number; next = n })) false
-    (ap (λ (x : ChainValue). is_of k c.newest.number n (record { key = k; number = x.newest.number; next = n })) same ∙ is_itself k c.newest.number n)))
+    grind (arith, list_any-append (is_of k c.newest.number n) ls (followed (Some d) k n), is_itself k c.newest.number n)
 
 -- a write comes in
 pub listed-write : (k : Bytes) (n : ℕ) (value : Option Bytes) (room : ℕ) (es : Chains) (ls : List Listed) (gs : List GroupValue) → IsListed es (unwitnessed ls ∷ gs)
@@ -102,11 +89,7 @@ listed-write k n value room es ls gs h =
 -- the list becomes the last of the groups
 pub found-last : (gs : List GroupValue) (vs : List Listed) (g : GroupValue) → g.versions ≡ vs → AreFound (unwitnessed vs ∷ gs) (gs ++ g ∷ [])
 found-last gs vs g e k n high t =
-    list_any-append (λ (g : GroupValue). is_in g.versions k n high) gs (g ∷ [])
-    ∙ elim (or_cases (is_in vs k n high) (is_listed gs k n high) t) [
-      | inl own ↦ or_right (is_listed gs k n high) (is_listed (g ∷ []) k n high) (or_left (is_in g.versions k n high) false (ap (λ l. is_in l k n high) e ∙ own))
-      | inr other ↦ or_left (is_listed gs k n high) (is_listed (g ∷ []) k n high) other
-    ]
+    grind (arith, list_any-append (λ (g : GroupValue). is_in g.versions k n high) gs (g ∷ []), ap (λ l. is_in l k n high) e)
 
 -- ---- a reclaim of one chain
 
@@ -138,7 +121,7 @@ needed-chain bs (Some c) last h = needed-seen bs c.newest.number c.older h.0
 -- where all are needed, none goes
 needed-same : (bs : List ℕ) (n : ℕ) (vs : List Stamped) → AreNeeded bs n vs → seen_by bs n vs ≡ vs
 needed-same bs n [] h = refl
-needed-same bs n (v ∷ vs) h = ap (λ b. if b then v ∷ seen_by bs n vs else seen_by bs n vs) h.0 ∙ ap (λ l. v ∷ l) (needed-same bs n vs h.1)
+needed-same bs n (v ∷ vs) h = let first = h.0 in grind (arith, needed-same bs n vs h.1)
 
 reclaimed-same : (bs : List ℕ) (c : ChainValue) (us : List Stamped) → us ≡ c.older → ◌≡◌ {A = ChainValue} (record { older = us; newest = c.newest; room = room_left c us }) c
 reclaimed-same bs c us e = ap (λ (l : List Stamped). record { older = l; newest = c.newest; room = room_left c l }) e
@@ -152,38 +135,21 @@ reclaimed-needed bs (Some c) h = ap Some (reclaimed-same bs c (seen_by bs c.newe
 
 any-seen : (p : Stamped → Bool) (bs : List ℕ) (n : ℕ) (vs : List Stamped) → list_any p (seen_by bs n vs) ≡ true → list_any p vs ≡ true
 any-seen p bs n [] t = t
-any-seen p bs n (v ∷ vs) t =
-    elim (is_between bs v.number (first_number vs n)) as (λ b. list_any p (if b then v ∷ seen_by bs n vs else seen_by bs n vs) ≡ true → list_any p (v ∷ vs) ≡ true) [
-      | true ↦ λ e. elim (or_cases (p v) (list_any p (seen_by bs n vs)) e) [ inl a ↦ or_left (p v) (list_any p vs) a | inr a ↦ or_right (p v) (list_any p vs) (any-seen p bs n vs a) ]
-      | false ↦ λ e. or_right (p v) (list_any p vs) (any-seen p bs n vs e)
-    ] t
+any-seen p bs n (v ∷ vs) t = grind (arith, any-seen p bs n vs)
 
 has_reclaimed : (bs : List ℕ) (n : ℕ) (o : Option ChainValue) → has_version n o ≡ false → has_version n (option_map (reclaimed bs) o) ≡ false
 has_reclaimed bs n None e = refl
-has_reclaimed bs n (Some c) e = elim (cases_Bool (has_version n (option_map (reclaimed bs) (Some c)))) [
-  | inl t ↦ absurd (both_ways _ e (any-seen (λ (v : Stamped). v.number == n) bs c.newest.number c.older t))
-  | inr f ↦ f
-]
+has_reclaimed bs n (Some c) e = grind (arith, any-seen (λ (v : Stamped). v.number == n) bs c.newest.number c.older)
 
 -- ---- chains that were reclaimed in part
 
-pub part-refl : (bs : List ℕ) (es : Chains) → IsPartReclaimed bs es es
-part-refl bs es k = inl refl
-
 pub part-at : (bs : List ℕ) (k : Bytes) (now new : Chains) → IsReclaimedAt bs k now new → IsPartReclaimed bs now new
-part-at bs k now new r q = elim (is_same_key q k) as (λ b. is_same_key q k ≡ b → (find_chain q new ≡ find_chain q now) ⊎ (find_chain q new ≡ option_map (reclaimed bs) (find_chain q now))) [
-  | true ↦ λ t. inr (r.found q ∙ ap (λ b. if b then option_map (reclaimed bs) (find_chain k now) else find_chain q now) t ∙ ap (λ (j : Bytes). option_map (reclaimed bs) (find_chain j now)) (sym (same_key q k t)))
-  | false ↦ λ f. inl (r.found q ∙ ap (λ b. if b then option_map (reclaimed bs) (find_chain k now) else find_chain q now) f)
-] refl
+part-at bs k now new r q = grind (arith, r.found q, same_key q k)
 
 pub part-trans : (bs : List ℕ) (old now new : Chains) (last : ℕ) → IsKept old last → IsPartReclaimed bs old now → IsPartReclaimed bs now new → IsPartReclaimed bs old new
-part-trans bs old now new last kept a b k = elim (a k) [
-  | inl x ↦ elim (b k) [ inl y ↦ inl (y ∙ x) | inr y ↦ inr (y ∙ ap (option_map (reclaimed bs)) x) ]
-  | inr x ↦ elim (b k) [
-    | inl y ↦ inr (y ∙ x)
-    | inr y ↦ inr (y ∙ ap (option_map (reclaimed bs)) x ∙ twice bs (find_chain k old) (rising_older last (find_chain k old) (rising_found k old last kept)))
-  ]
-]
+part-trans bs old now new last kept a b k =
+    let same = twice bs (find_chain k old) (rising_older last (find_chain k old) (rising_found k old last kept)) in
+    grind (arith, a k, b k)
 
 needed-part : (bs : List ℕ) (k : Bytes) (now new : Chains) → IsPartReclaimed bs now new → IsNeededChain bs (find_chain k now) → IsNeededChain bs (find_chain k new)
 needed-part bs k now new p h = elim (p k) [
@@ -193,10 +159,7 @@ needed-part bs k now new p h = elim (p k) [
 
 -- what is needed goes no more
 has-part : (bs : List ℕ) (n : ℕ) (k : Bytes) (now new : Chains) → IsPartReclaimed bs now new → IsNeededChain bs (find_chain k now) → has_version n (find_chain k now) ≡ true → has_version n (find_chain k new) ≡ true
-has-part bs n k now new p h t = elim (p k) [
-  | inl x ↦ ap (has_version n) x ∙ t
-  | inr x ↦ ap (has_version n) (x ∙ reclaimed-needed bs (find_chain k now) h) ∙ t
-]
+has-part bs n k now new p h t = let same = reclaimed-needed bs (find_chain k now) h in grind (arith, p k)
 
 pub settled-part : (bs : List ℕ) (now new : Chains) → IsPartReclaimed bs now new → (v : Listed) → IsSettled bs now v → IsSettled bs new v
 settled-part bs now new p v h = elim h [
@@ -205,24 +168,13 @@ settled-part bs now new p v h = elim h [
 ]
 
 pub all-settled-part : (bs : List ℕ) (now new : Chains) → IsPartReclaimed bs now new → (vs : List Listed) → AllByRecursion (IsSettled bs now) vs → AllByRecursion (IsSettled bs new) vs
-all-settled-part bs now new p [] h = tt
-all-settled-part bs now new p (v ∷ vs) h = (settled-part bs now new p v h.0, all-settled-part bs now new p vs h.1)
+all-settled-part bs now new p vs h = all-each (IsSettled bs now) (IsSettled bs new) vs (settled-part bs now new p) h
 
 gone-part : (bs : List ℕ) (k : Bytes) (n : ℕ) (now new : Chains) → IsPartReclaimed bs now new → has_version n (find_chain k now) ≡ false → has_version n (find_chain k new) ≡ false
-gone-part bs k n now new p f = elim (p k) [
-  | inl x ↦ ap (has_version n) x ∙ f
-  | inr x ↦ ap (has_version n) x ∙ has_reclaimed bs n (find_chain k now) f
-]
-
-not_false : (b : Bool) → not b ≡ true → b ≡ false
-not_false true t = absurd (both_ways _ refl t)
-not_false false t = refl
+gone-part bs k n now new p f = grind (arith, p k, has_reclaimed bs n (find_chain k now))
 
 pub left-part : (bs : List ℕ) (now new : Chains) (os us : List Listed) → IsPartReclaimed bs now new → AreKept os us now → AreKept os us new
-left-part bs now new os us p h k n high t = elim (or_cases (is_in us k n high) (not (has_version n (find_chain k now))) (h k n high t)) [
-  | inl e ↦ or_left (is_in us k n high) (not (has_version n (find_chain k new))) e
-  | inr e ↦ or_right (is_in us k n high) (not (has_version n (find_chain k new))) (ap not (gone-part bs k n now new p (not_false (has_version n (find_chain k now)) e)))
-]
+left-part bs now new os us p h k n high t = grind (arith, h k n high t, gone-part bs k n now new p)
 
 -- ---- the listing after a reclaim
 

@@ -1,37 +1,34 @@
 -- All chains: what is made, what more room leaves, what an install adds and what a reclaim leaves.
-use Rattle.std.proofs.Common.{◌≡◌, ℕ, zero, suc, ◌+◌, ◌-◌, ◌<◌, ◌≤◌, Bool, true, false, T, cond, ◌&&◌, ◌||◌, List, [], ◌∷◌, ◌++◌, length, take, get_or, set, Option, Some, None, IsSome, Result, Ok, Err, refl, sym, ap, subst, ◌∙◌, arith, inl, inr, length-append}
-use Rattle.std.specs.Prelude.{option_map, nat_le, is_some, if◌then◌else◌, ◌⊎◌, IfSome, OnOk, option_copied, swap_remove}
+use Rattle.std.proofs.Common.{◌≡◌, ℕ, suc, ◌+◌, ◌-◌, ◌<◌, ◌≤◌, true, false, T, cond, ◌||◌, List, [], ◌∷◌, ◌++◌, length, take, set, Option, Some, None, IsSome, Result, Ok, Err, refl, sym, ap, subst, ◌∙◌, arith}
+use Rattle.std.specs.Prelude.{option_map, nat_le, is_some, if◌then◌else◌, IfSome, OnOk, option_copied, swap_remove}
 use Rattle.std.specs.Borrow.{Bor}
 use Rattle.std.specs.List.{AllByRecursion}
-use Rattle.std.specs.declared.cmp.Ordering.{Ordering}
 use Rattle.std.specs.declared.cmp.Ordering.TheVariants.{Less, Equal, Greater}
 use Rattle.std.specs.Ordering.{is_eq, is_lt, nat_cmp, ordering_reverse}
 use Rattle.std.specs.Cmp.Lexicographic.{slice_cmp}
 use Rattle.std.specs.FinMap.Entries.{put, below_all, by_order}
-use Rattle.std.proofs.lemmas.Bool.{both_ways, cases_Bool, le-leb, leb-true}
+use Rattle.std.proofs.lemmas.Bool.{both_ways}
 use Rattle.std.proofs.lemmas.Map.Lookups.{exact_bytes}
 use Rattle.sorted_pages.specs.Pages.{Page, room_at}
 use Rattle.sorted_pages.specs.Trims.{put_some, changed_at}
-use Rattle.model.specs.Map.{Bytes, KeyMap, KeyWrite, IsMap, key_cmp, is_same_key, value_at, after_write, after_writes}
+use Rattle.model.specs.Map.{Bytes, KeyMap, KeyWrite, IsMap, key_cmp, is_same_key, value_at, after_writes}
 use Rattle.model.proofs.Lookups.{same_key, same_key_itself, same_key_comm, same_map}
 use Rattle.versions.specs.Chains.{Stamped, ChainValue, Chains, ChainsValue, find_chain, seen, seen_in, version_at, value_of, visible, with_value, added, stamped, fresh_chain, IsReady, HasPlace, HasRoom, IsPrepared, reclaimed, IsReclaimedAt, base_chains, IsKept, IsRisingChain, IsRisingTo, IsRoomier, IsRoomierChain}
 use Rattle.versions.specs.Meaning.{kept_in, is_written_by, is_among, due_of, lists_a_reclaim, IsSameMeaning, IsReclaimed, IsTightChain, writes_of}
 use Rattle.versions.specs.Listings.{IsPartReclaimed}
 use Rattle.versions.proofs.ChainLaws.{seen-added, rising-added, version_at-reclaimed, version_at-newest, tight-reclaimed, rising-seen_by, reclaimed_twice}
-use Rattle.model.proofs.Entries.{IsSorted, IsBelowAll, turned, parts}
+use Rattle.model.proofs.Entries.{IsSorted, IsBelowAll, turned}
+use Rattle.model.proofs.InOrder.{both, less, parts}
+use Rattle.std.proofs.lemmas.Grind.{common_steps}
+use Rattle.std.proofs.lemmas.List.{get_or_default}
+use Rattle.std.proofs.lemmas.Bool.Decides.{nat_tests}
+use Rattle.versions.proofs.Elements.{all-append, all-each}
 use Rattle.versions.proofs.Visibles.{IsMap-visible, value-visible, visible-put, visible-put_same, find_chain-put, sorted-put}
-
-pub both : (a b : Bool) → T a → T b → T (a && b)
-both true b h g = g
-both false b h g = h
 
 -- ---- a fact of all chains
 
 pub all-find : (P : ChainValue → Type 0) (k : Bytes) (c : ChainValue) (es : Chains) → AllByRecursion (λ e. P e.1) es → find_chain k es ≡ Some c → P c
-all-find P k c [] h e = absurd (not_some e)
-  where
-    not_some : ◌≡◌ {A = Option ChainValue} None (Some c) → ⊥
-    not_some e = cc
+all-find P k c [] h e = cc
 all-find P k c (f ∷ es) h e = elim (is_same_key k f.0) as (λ b. cond b (Some f.1) (find_chain k es) ≡ Some c → P c) [
   | true ↦ λ is. let same : f.1 ≡ c = cc in subst P same h.0
   | false ↦ λ is. all-find P k c es h.1 is
@@ -47,6 +44,12 @@ all-put P k c (f ∷ es) p h = elim (key_cmp k f.0) as (λ o. AllByRecursion (λ
 
 pub kept-put : (k : Bytes) (c : ChainValue) (es : Chains) (last : ℕ) → IsKept es last → IsRisingChain last c → IsKept (put (slice_cmp nat_cmp) k c es) last
 kept-put k c es last h p = record { sorted = sorted-put k c es h.sorted; rising = all-put (IsRisingChain last) k c es p h.rising }
+
+pub rising_found : (k : Bytes) (es : Chains) (last : ℕ) → IsKept es last → IfSome (find_chain k es) (λ c. IsRisingChain last c)
+rising_found k es last h = elim (find_chain k es) as (λ o. find_chain k es ≡ o → IfSome o (λ c. IsRisingChain last c)) [
+  | None ↦ λ e. tt
+  | Some c ↦ λ e. all-find (IsRisingChain last) k c es h.rising e
+] refl
 
 -- ---- the chains of a map
 
@@ -67,14 +70,11 @@ kept-base m h = record { sorted = sorted_base m h; rising = rising_base m }
 
 pub visible-base : (n : ℕ) (m : KeyMap) → visible n (base_chains m) ≡ m
 visible-base n [] = refl
-visible-base n (p ∷ ps) = ap (λ b. with_value p.0 (value_of (if b then Some (stamped 0 (Some p.1)) else None)) (visible n (base_chains ps))) (le-leb 0 n (omega arith)) ∙ ap (λ l. p ∷ l) (visible-base n ps)
+visible-base n (p ∷ ps) = grind (arith, nat_tests, visible-base n ps)
 
 pub newest-base : (k : Bytes) (m : KeyMap) → option_map (λ (c : ChainValue). c.newest.number) (find_chain k (base_chains m)) ≡ option_map (λ _. 0) (value_at m k)
 newest-base k [] = refl
-newest-base k (p ∷ ps) = elim (is_same_key k p.0) as (λ b. option_map (λ (c : ChainValue). c.newest.number) (cond b (Some (fresh_chain (stamped 0 (Some p.1)) 0)) (find_chain k (base_chains ps))) ≡ option_map (λ _. 0) (cond b (Some p.1) (value_at ps k))) [
-  | true ↦ refl
-  | false ↦ newest-base k ps
-]
+newest-base k (p ∷ ps) = grind (arith, newest-base k ps)
 
 -- ---- more room
 
@@ -83,32 +83,22 @@ roomier-refl [] = tt
 roomier-refl (e ∷ es) = (refl, record { older = refl; newest = refl; room = omega arith }, roomier-refl es)
 
 pub roomier-trans : (es fs gs : Chains) → IsRoomier es fs → IsRoomier fs gs → IsRoomier es gs
-roomier-trans [] [] [] h g = tt
-roomier-trans [] [] (x ∷ gs) h g = g
-roomier-trans [] (f ∷ fs) gs h g = absurd h
-roomier-trans (e ∷ es) [] gs h g = absurd h
-roomier-trans (e ∷ es) (f ∷ fs) [] h g = g
+roomier-trans [] [] gs h g = g
 roomier-trans (e ∷ es) (f ∷ fs) (x ∷ gs) h g =
     let a = h.1 in let b = g.1 in
     (g.0 ∙ h.0, record { older = b.older ∙ a.older; newest = b.newest ∙ a.newest; room = omega (arith, a.room, b.room) }, roomier-trans es fs gs h.2 g.2)
-
-less : (o : Ordering) → T (is_lt o) → o ≡ Less
-less Less h = refl
-less Equal h = absurd h
-less Greater h = absurd h
+roomier-trans (e ∷ es) (f ∷ fs) [] h g = g
+roomier-trans _ _ _ h g = absurd h
 
 found_above : (x k : Bytes) (es : Chains) → IsBelowAll x es → IsSome (find_chain k es) → key_cmp x k ≡ Less
 found_above x k [] h s = absurd (both_ways false refl s)
 found_above x k (e ∷ es) h s =
-    let p = parts _ _ h in
-    elim (key_cmp k e.0) as (λ o. key_cmp k e.0 ≡ o → is_some (cond (is_eq o) (Some e.1) (find_chain k es)) ≡ true → key_cmp x k ≡ Less) [
-      | Less ↦ λ g t. found_above x k es p.1 t
-      | Equal ↦ λ g t. subst (λ (q : Bytes). key_cmp x q ≡ Less) (sym (exact_bytes k e.0 g)) (less _ p.0)
-      | Greater ↦ λ g t. found_above x k es p.1 t
-    ] refl s
+    let p = parts (is_lt (key_cmp x e.0)) (below_all (slice_cmp nat_cmp) x es) h in
+    let first = less (key_cmp x e.0) p.0 in
+    grind (arith, found_above x k es p.1, exact_bytes k e.0)
 
 pub find-put_itself : (k : Bytes) (c : ChainValue) (es : Chains) → find_chain k (put (slice_cmp nat_cmp) k c es) ≡ Some c
-find-put_itself k c es = find_chain-put k k c es ∙ ap (λ b. cond b (Some c) (find_chain k es)) (same_key_itself k)
+find-put_itself k c es = grind (arith, find_chain-put k k c es, same_key_itself k)
 
 -- what is lent is there
 pub present : (o : Option (Bor ChainValue)) (f : Option ChainValue) → option_copied o ≡ f → is_some o ≡ true → is_some f ≡ true
@@ -117,10 +107,7 @@ present (Some x) f e h = sym (ap is_some e)
 
 -- the key's chain with more room in its place
 pub roomier-put : (k : Bytes) (c d : ChainValue) (es : Chains) → IsSorted es → find_chain k es ≡ Some c → IsRoomierChain c d → IsRoomier es (put (slice_cmp nat_cmp) k d es)
-roomier-put k c d [] h e r = absurd (not_some e)
-  where
-    not_some : ◌≡◌ {A = Option ChainValue} None (Some c) → ⊥
-    not_some e = cc
+roomier-put k c d [] h e r = cc
 roomier-put k c d (f ∷ es) h e r =
     let p = parts _ _ h in
     elim (key_cmp k f.0) as (λ o. key_cmp k f.0 ≡ o → cond (is_eq o) (Some f.1) (find_chain k es) ≡ Some c → IsRoomier (f ∷ es) (by_order o ((k, d) ∷ f ∷ es) ((f.0, d) ∷ es) (f ∷ put (slice_cmp nat_cmp) k d es))) [
@@ -134,9 +121,8 @@ same_version n c d r = λ i. value_of (if nat_le (r.newest i).number n then Some
 
 pub visible-roomier : (n : ℕ) (es fs : Chains) → IsRoomier es fs → visible n fs ≡ visible n es
 visible-roomier n [] [] h = refl
-visible-roomier n [] (f ∷ fs) h = absurd h
-visible-roomier n (e ∷ es) [] h = absurd h
 visible-roomier n (e ∷ es) (f ∷ fs) h = λ i. with_value (h.0 i) (same_version n e.1 f.1 h.1 i) (visible-roomier n es fs h.2 i)
+visible-roomier n _ _ h = absurd h
 
 -- the chain that is found, with no less room
 abbrev pub RoomierFound : Option ChainValue → Option ChainValue → Type 0
@@ -146,29 +132,25 @@ RoomierFound _ _ = ⊥
 
 pub find-roomier : (k : Bytes) (es fs : Chains) → IsRoomier es fs → RoomierFound (find_chain k es) (find_chain k fs)
 find-roomier k [] [] h = tt
-find-roomier k [] (f ∷ fs) h = absurd h
-find-roomier k (e ∷ es) [] h = absurd h
 find-roomier k (e ∷ es) (f ∷ fs) h =
     subst (λ (q : Bytes). RoomierFound (find_chain k (e ∷ es)) (cond (is_same_key k q) (Some f.1) (find_chain k fs))) (sym h.0)
     (elim (is_same_key k e.0) as (λ b. RoomierFound (cond b (Some e.1) (find_chain k es)) (cond b (Some f.1) (find_chain k fs))) [ true ↦ h.1 | false ↦ find-roomier k es fs h.2 ])
+find-roomier k _ _ h = absurd h
 
 number_roomier : (o p : Option ChainValue) → RoomierFound o p → option_map (λ (c : ChainValue). c.newest.number) p ≡ option_map (λ (c : ChainValue). c.newest.number) o
 number_roomier None None h = refl
-number_roomier None (Some d) h = absurd h
-number_roomier (Some c) None h = absurd h
 number_roomier (Some c) (Some d) h = ap (λ (v : Stamped). Some v.number) h.newest
+number_roomier _ _ h = absurd h
 
 kept_roomier : (o p : Option ChainValue) → RoomierFound o p → kept_in p ≡ kept_in o
 kept_roomier None None h = refl
-kept_roomier None (Some d) h = absurd h
-kept_roomier (Some c) None h = absurd h
 kept_roomier (Some c) (Some d) h = ap (λ l. length l + 1) h.older
+kept_roomier _ _ h = absurd h
 
 pub room_roomier : (o p : Option ChainValue) → RoomierFound o p → HasRoom o → HasRoom p
 room_roomier None None h r = tt
-room_roomier None (Some d) h r = absurd h
-room_roomier (Some c) None h r = absurd h
 room_roomier (Some c) (Some d) h r = omega (arith, h.room)
+room_roomier _ _ h r = absurd h
 
 pub same-roomier : (old new : ChainsValue) → IsRoomier old.chains new.chains → new.last ≡ old.last → IsSameMeaning old new
 same-roomier old new h e = record {
@@ -180,38 +162,35 @@ same-roomier old new h e = record {
 
 below_roomier : (k : Bytes) (es fs : Chains) → IsRoomier es fs → IsBelowAll k es → IsBelowAll k fs
 below_roomier k [] [] h g = tt
-below_roomier k [] (f ∷ fs) h g = absurd h
-below_roomier k (e ∷ es) [] h g = absurd h
 below_roomier k (e ∷ es) (f ∷ fs) h g = let p = parts _ _ g in both _ _ (subst (λ (q : Bytes). T (is_lt (key_cmp k q))) (sym h.0) p.0) (below_roomier k es fs h.2 p.1)
+below_roomier k _ _ h g = absurd h
 
 sorted_roomier : (es fs : Chains) → IsRoomier es fs → IsSorted es → IsSorted fs
 sorted_roomier [] [] h g = tt
-sorted_roomier [] (f ∷ fs) h g = absurd h
-sorted_roomier (e ∷ es) [] h g = absurd h
-sorted_roomier (e ∷ es) (f ∷ fs) h g = let p = parts _ _ g in
+sorted_roomier (e ∷ es) (f ∷ fs) h g =
+    let p = parts _ _ g in
     both _ _ (subst (λ (q : Bytes). IsBelowAll q fs) (sym h.0) (below_roomier e.0 es fs h.2 p.0)) (sorted_roomier es fs h.2 p.1)
+sorted_roomier _ _ h g = absurd h
 
 rising_roomier : (last : ℕ) (es fs : Chains) → IsRoomier es fs → AllByRecursion (λ e. IsRisingChain last e.1) es → AllByRecursion (λ e. IsRisingChain last e.1) fs
 rising_roomier last [] [] h g = tt
-rising_roomier last [] (f ∷ fs) h g = absurd h
-rising_roomier last (e ∷ es) [] h g = absurd h
 rising_roomier last (e ∷ es) (f ∷ fs) h g =
     let r = h.1 in
     (subst (λ (p : List Stamped × Stamped). IsRisingTo p.0 p.1.number × (p.1.number ≤ last)) {x = (e.1.older, e.1.newest)} {y = (f.1.older, f.1.newest)} (λ i. (sym r.older i, sym r.newest i)) g.0, rising_roomier last es fs h.2 g.1)
+rising_roomier last _ _ h g = absurd h
 
 pub kept-roomier : (es fs : Chains) (last : ℕ) → IsRoomier es fs → IsKept es last → IsKept fs last
 kept-roomier es fs last h g = record { sorted = sorted_roomier es fs h g.sorted; rising = rising_roomier last es fs h g.rising }
 
 -- what was made for the writes is still there
 pub room-roomier : (ws : List KeyWrite) (es fs : Chains) → IsRoomier es fs → AllByRecursion (λ w. HasRoom (find_chain w.0 es)) ws → AllByRecursion (λ w. HasRoom (find_chain w.0 fs)) ws
-room-roomier [] es fs h g = tt
-room-roomier (w ∷ ws) es fs h g = (room_roomier (find_chain w.0 es) (find_chain w.0 fs) (find-roomier w.0 es fs h) g.0, room-roomier ws es fs h g.1)
+room-roomier ws es fs h g =
+    all-each _ _ ws (λ w r. room_roomier (find_chain w.0 es) (find_chain w.0 fs) (find-roomier w.0 es fs h) r) g
 
 place_roomier : (n r s : ℕ) (o p : Option ChainValue) → RoomierFound o p → r ≤ s → HasPlace n r o → HasPlace n s p
 place_roomier n r s None None h le g = omega arith
-place_roomier n r s None (Some d) h le g = absurd h
-place_roomier n r s (Some c) None h le g = absurd h
 place_roomier n r s (Some c) (Some d) h le g = tt
+place_roomier n r s _ _ h le g = absurd h
 
 pub place-found : (n r : ℕ) (o p : Option ChainValue) → RoomierFound o p → is_some o ≡ true → HasPlace n r p
 place-found n r None p h t = absurd (both_ways false refl t)
@@ -229,17 +208,14 @@ pub place-roomier : (n : ℕ) (k : Bytes) (es fs : Chains) (ps qs : List (Page C
 place-roomier n k es fs ps qs h more g = place_roomier n (room_at k ps) (room_at k qs) (find_chain k es) (find_chain k fs) (find-roomier k es fs h) (more k) g
 
 pub places-roomier : (n : ℕ) (ws : List KeyWrite) (es fs : Chains) (ps qs : List (Page ChainValue)) → IsRoomier es fs → ((q : Bytes) → room_at q ps ≤ room_at q qs) → HavePlaces n es ps ws → HavePlaces n fs qs ws
-places-roomier n [] es fs ps qs h more g = tt
-places-roomier n (w ∷ ws) es fs ps qs h more g = (place-roomier n w.0 es fs ps qs h more g.0, places-roomier n ws es fs ps qs h more g.1)
+places-roomier n ws es fs ps qs h more g = all-each _ _ ws (λ w r. place-roomier n w.0 es fs ps qs h more r) g
 
 -- one more of the writes
 pub room-more : (ws : List KeyWrite) (es : Chains) (w : KeyWrite) → AllByRecursion (λ w. HasRoom (find_chain w.0 es)) ws → HasRoom (find_chain w.0 es) → AllByRecursion (λ w. HasRoom (find_chain w.0 es)) (ws ++ w ∷ [])
-room-more [] es w h r = (r, tt)
-room-more (x ∷ ws) es w h r = (h.0, room-more ws es w h.1 r)
+room-more ws es w h r = all-append (λ w. HasRoom (find_chain w.0 es)) ws (w ∷ []) h (r, tt)
 
 pub places-more : (n : ℕ) (ws : List KeyWrite) (es : Chains) (ps : List (Page ChainValue)) (w : KeyWrite) → HavePlaces n es ps ws → HasPlace n (room_at w.0 ps) (find_chain w.0 es) → HavePlaces n es ps (ws ++ w ∷ [])
-places-more n [] es ps w h r = (r, tt)
-places-more n (x ∷ ws) es ps w h r = (h.0, places-more n ws es ps w h.1 r)
+places-more n ws es ps w h r = all-append (λ w. HasPlace n (room_at w.0 ps) (find_chain w.0 es)) ws (w ∷ []) h (r, tt)
 
 -- ---- an install
 
@@ -248,23 +224,19 @@ ready_one n last None h lt r = tt
 ready_one n last (Some c) h lt r = (omega (arith, (h c refl).1), r)
 
 pub ready-prepared : (n last : ℕ) (es : Chains) (ws : List KeyWrite) → IsKept es last → last < n → AllByRecursion (λ w. HasRoom (find_chain w.0 es)) ws → AllByRecursion (λ w. IsReady n (find_chain w.0 es)) ws
-ready-prepared n last es [] h lt r = tt
-ready-prepared n last es (w ∷ ws) h lt r = (ready_one n last (find_chain w.0 es) (λ c e. all-find (IsRisingChain last) w.0 c es h.rising e) lt r.0, ready-prepared n last es ws h lt r.1)
+ready-prepared n last es ws h lt r =
+    all-each _ _ ws (λ w q. ready_one n last (find_chain w.0 es) (λ c e. all-find (IsRisingChain last) w.0 c es h.rising e) lt q) r
 
 pub rising_one : (n last : ℕ) (es : Chains) (k : Bytes) (v : Option Bytes) (room : ℕ) → IsKept es last → IsReady n (find_chain k es) → n ≤ last → IsRisingChain last (added (find_chain k es) (stamped n v) room)
-rising_one n last es k v room h r le = elim (find_chain k es) as (λ o. find_chain k es ≡ o → IsReady n o → IsRisingChain last (added o (stamped n v) room)) [
-  | None ↦ λ e g. rising-added None (stamped n v) room last tt le
-  | Some c ↦ λ e g. rising-added (Some c) (stamped n v) room last ((all-find (IsRisingChain last) k c es h.rising e).0, g.0) le
-] refl r
+rising_one n last es k v room h r le = below (find_chain k es) (rising_found k es last h) r
+  where
+    below : (o : Option ChainValue) → IfSome o (λ c. IsRisingChain last c) → IsReady n o → IsRisingChain last (added o (stamped n v) room)
+    below None g q = rising-added None (stamped n v) room last tt le
+    below (Some c) g q = rising-added (Some c) (stamped n v) room last (g.0, q.0) le
 
 -- keys above k are not k
 apart : (k q : Bytes) → T (is_lt (key_cmp k q)) → is_same_key q k ≡ false
-apart k q h = same_key_comm q k ∙ at (key_cmp k q) h
-  where
-    at : (o : Ordering) → T (is_lt o) → is_eq o ≡ false
-    at Less g = refl
-    at Equal g = absurd g
-    at Greater g = absurd g
+apart k q h = same_key_comm q k ∙ ap is_eq (less _ h)
 
 find_apart : (k : Bytes) (c : ChainValue) (es : Chains) (q : Bytes) → T (is_lt (key_cmp k q)) → find_chain q (put (slice_cmp nat_cmp) k c es) ≡ find_chain q es
 find_apart k c es q h = find_chain-put q k c es ∙ ap (λ b. cond b (Some c) (find_chain q es)) (apart k q h)
@@ -297,12 +269,9 @@ pub maps-step : (n m : ℕ) (w : KeyWrite) (ws : List KeyWrite) (room : ℕ) (es
 maps-step n m w ws room es h =
     let c = added (find_chain w.0 es) (stamped n w.1) room in
     let sees = seen-added m (find_chain w.0 es) (stamped n w.1) room in
-    elim (nat_le n m) as (λ b. nat_le n m ≡ b → (if b then after_writes (visible m (put (slice_cmp nat_cmp) w.0 c es)) ws else visible m (put (slice_cmp nat_cmp) w.0 c es)) ≡ (if b then after_writes (after_write (visible m es) w.0 w.1) ws else visible m es)) [
-      | true ↦ λ t. ap (λ l. after_writes l ws) (visible-put m w.0 c es h ∙ ap (after_write (visible m es) w.0) (sees ∙ ap (λ b. if b then w.1 else seen_in m (find_chain w.0 es)) t))
-      | false ↦ λ t. visible-put_same m w.0 c es h (sees ∙ ap (λ b. if b then w.1 else seen_in m (find_chain w.0 es)) t)
-    ] refl
+    grind (arith, visible-put m w.0 c es h, visible-put_same m w.0 c es h)
 
-number_added : (o : Option ChainValue) (v : Stamped) (room : ℕ) → (added o v room).newest ≡ v
+pub number_added : (o : Option ChainValue) (v : Stamped) (room : ℕ) → (added o v room).newest ≡ v
 number_added None v room = refl
 number_added (Some c) v room = refl
 
@@ -311,29 +280,13 @@ pub newest-step : (n : ℕ) (k : Bytes) (w : KeyWrite) (ws : List KeyWrite) (roo
     ≡ written_number n (w ∷ ws) k (option_map (λ (c : ChainValue). c.newest.number) (find_chain k es))
 newest-step n k w ws room es =
     let c = added (find_chain w.0 es) (stamped n w.1) room in
-    ap (λ o. written_number n ws k (option_map (λ (c : ChainValue). c.newest.number) o)) (find_chain-put k w.0 c es)
-    ∙ elim (is_same_key k w.0) as (λ b. written_number n ws k (option_map (λ (c : ChainValue). c.newest.number) (cond b (Some c) (find_chain k es))) ≡ (if (b || is_written_by ws k) then Some n else option_map (λ (c : ChainValue). c.newest.number) (find_chain k es))) [
-      | true ↦ ap (λ (v : Stamped). written_number n ws k (Some v.number)) (number_added (find_chain w.0 es) (stamped n w.1) room) ∙ either (is_written_by ws k)
-      | false ↦ refl
-    ]
-  where
-    either : (b : Bool) → (if b then Some n else Some n) ≡ Some n
-    either true = refl
-    either false = refl
-
-kept_added : (o : Option ChainValue) (v : Stamped) (room : ℕ) → kept_in (Some (added o v room)) ≡ kept_in o + 1
-kept_added None v room = refl
-kept_added (Some c) v room = ap (λ n. n + 1) (length-append c.older (c.newest ∷ []))
+    grind (arith, find_chain-put k w.0 c es, number_added (find_chain w.0 es) (stamped n w.1) room)
 
 pub kept-step : (n : ℕ) (k : Bytes) (w : KeyWrite) (ws : List KeyWrite) (room : ℕ) (es : Chains)
     → kept_in (find_chain k (put (slice_cmp nat_cmp) w.0 (added (find_chain w.0 es) (stamped n w.1) room) es)) + writes_of ws k ≡ kept_in (find_chain k es) + writes_of (w ∷ ws) k
 kept-step n k w ws room es =
     let c = added (find_chain w.0 es) (stamped n w.1) room in
-    ap (λ o. kept_in o + writes_of ws k) (find_chain-put k w.0 c es)
-    ∙ elim (is_same_key k w.0) as (λ b. is_same_key k w.0 ≡ b → kept_in (cond b (Some c) (find_chain k es)) + writes_of ws k ≡ kept_in (find_chain k es) + ((if b then 1 else 0) + writes_of ws k)) [
-      | true ↦ λ t. (let more : kept_in (Some c) ≡ kept_in (find_chain k es) + 1 = kept_added (find_chain w.0 es) (stamped n w.1) room ∙ ap (λ (j : Bytes). kept_in (find_chain j es) + 1) (sym (same_key k w.0 t)) in omega arith)
-      | false ↦ λ f. omega arith
-    ] refl
+    grind (arith, common_steps, find_chain-put k w.0 c es, same_key k w.0)
 
 -- ---- a reclaim
 
@@ -341,62 +294,35 @@ pub twice : (bs : List ℕ) (o : Option ChainValue) → IfSome o (λ c. IsRising
 twice bs None h = refl
 twice bs (Some c) h = ap Some (reclaimed_twice bs c h)
 
-pub rising_found : (k : Bytes) (es : Chains) (last : ℕ) → IsKept es last → IfSome (find_chain k es) (λ c. IsRisingChain last c)
-rising_found k es last h = elim (find_chain k es) as (λ o. find_chain k es ≡ o → IfSome o (λ c. IsRisingChain last c)) [
-  | None ↦ λ e. tt
-  | Some c ↦ λ e. all-find (IsRisingChain last) k c es h.rising e
-] refl
-
 pub rising_older : (last : ℕ) (o : Option ChainValue) → IfSome o (λ c. IsRisingChain last c) → IfSome o (λ c. IsRisingTo c.older c.newest.number)
 rising_older last None h = tt
 rising_older last (Some c) h = h.0
 
 -- which default is named makes no difference
 pub swap_remove-default : {X : Type 0} (xs : List X) (i : ℕ) (d e : X) → 0 < length xs → swap_remove xs i d ≡ swap_remove xs i e
-swap_remove-default {X} xs i d e lt = let last : length xs - 1 < length xs = omega arith in ap (λ y. take (length xs - 1) (set xs i y)) (any_default xs (length xs - 1) last)
-  where
-    any_default : (ys : List X) (j : ℕ) → j < length ys → get_or ys j d ≡ get_or ys j e
-    any_default [] j h = absurd (omega arith)
-    any_default (y ∷ ys) zero h = refl
-    any_default (y ∷ ys) (suc j) h = any_default ys j (omega arith)
-
--- which numbers see what they saw
-sees_same : (bs : List ℕ) (last n : ℕ) (c : ChainValue) → c.newest.number ≤ last → (is_among bs n || nat_le last n) ≡ true → seen n (reclaimed bs c) ≡ seen n c
-sees_same bs last n c le h = elim (cases_Bool (is_among bs n)) [
-  | inl t ↦ ap value_of (version_at-reclaimed bs c n t)
-  | inr f ↦ ap value_of (version_at-newest bs c n (let above = leb-true last n (sym (ap (λ b. b || nat_le last n) f) ∙ h) in omega arith))
-]
+swap_remove-default xs i d e lt = ap (λ y. take (length xs - 1) (set xs i y)) (get_or_default xs (length xs - 1) d e (omega arith))
 
 sees_found : (bs : List ℕ) (last n : ℕ) (o : Option ChainValue) → IfSome o (λ c. IsRisingChain last c) → (is_among bs n || nat_le last n) ≡ true → seen_in n (option_map (reclaimed bs) o) ≡ seen_in n o
 sees_found bs last n None h t = refl
-sees_found bs last n (Some c) h t = sees_same bs last n c h.1 t
-
-number_reclaimed : (bs : List ℕ) (o : Option ChainValue) → option_map (λ (c : ChainValue). c.newest.number) (option_map (reclaimed bs) o) ≡ option_map (λ (c : ChainValue). c.newest.number) o
-number_reclaimed bs None = refl
-number_reclaimed bs (Some c) = refl
+sees_found bs last n (Some c) h t = let low = h.1 in grind (arith, nat_tests, version_at-reclaimed bs c n, version_at-newest bs c n)
 
 tight_found : (bs : List ℕ) (last : ℕ) (o : Option ChainValue) (c : ChainValue) → IfSome o (λ c. IsRisingChain last c) → option_map (reclaimed bs) o ≡ Some c → IsTightChain bs c
-tight_found bs last None c h e = absurd (not_some e)
-  where
-    not_some : ◌≡◌ {A = Option ChainValue} None (Some c) → ⊥
-    not_some e = cc
+tight_found bs last None c h e = cc
 tight_found bs last (Some d) c h e = let same : reclaimed bs d ≡ c = cc in subst (IsTightChain bs) same (tight-reclaimed bs d h.0)
-
-part-same : {A : Type 0} (f : Option ChainValue → A) (bs : List ℕ) (o p : Option ChainValue) → f (option_map (reclaimed bs) o) ≡ f o → (p ≡ o) ⊎ (p ≡ option_map (reclaimed bs) o) → f p ≡ f o
-part-same f bs o p same (inl e) = ap f e
-part-same f bs o p same (inr e) = ap f e ∙ same
 
 pub reclaimed-whole : (old new : ChainsValue) (bs : List ℕ) → IsKept old.chains old.last → IsKept new.chains new.last → new.last ≡ old.last → due_of bs new ≡ due_of bs old - lists_a_reclaim → IsPartReclaimed bs old.chains new.chains
     → (due_of bs new ≡ 0 → (k : Bytes) → find_chain k new.chains ≡ option_map (reclaimed bs) (find_chain k old.chains)) → IsReclaimed old new bs
 reclaimed-whole old new bs h g e due part is = record {
-  maps = λ n t. same_map (visible n new.chains) (visible n old.chains) (IsMap-visible n new.chains g.sorted) (IsMap-visible n old.chains h.sorted)
-      (λ q. value-visible n q new.chains g.sorted ∙ part-same (seen_in n) bs (find_chain q old.chains) (find_chain q new.chains) (sees_found bs old.last n (find_chain q old.chains) (rising_found q old.chains old.last h) t) (part q)
-      ∙ sym (value-visible n q old.chains h.sorted));
-  newest = λ k. part-same (option_map (λ (c : ChainValue). c.newest.number)) bs (find_chain k old.chains) (find_chain k new.chains) (number_reclaimed bs (find_chain k old.chains)) (part k);
+  maps = λ n t. same_map _ _ (IsMap-visible n new.chains g.sorted) (IsMap-visible n old.chains h.sorted) (λ q.
+      let sees = sees_found bs old.last n (find_chain q old.chains) (rising_found q old.chains old.last h) t in
+      grind (arith, value-visible n q new.chains g.sorted, value-visible n q old.chains h.sorted, part q));
+  newest = λ k. grind (arith, part k);
   last = e;
   due = due;
-  needed = λ k. part-same (λ o. kept_in (option_map (reclaimed bs) o)) bs (find_chain k old.chains) (find_chain k new.chains) (ap kept_in (twice bs (find_chain k old.chains) (rising_older old.last (find_chain k old.chains) (rising_found k old.chains old.last h)))) (part k);
-  kept = λ k. elim (part k) [ inl x ↦ inl (ap kept_in x) | inr x ↦ inr (ap kept_in x) ];
+  needed = λ k. (
+      let rising = rising_older old.last (find_chain k old.chains) (rising_found k old.chains old.last h) in
+      grind (arith, part k, twice bs (find_chain k old.chains) rising));
+  kept = λ k. grind (arith, part k);
   none_left = λ none k. ap kept_in (is none k);
   tight = λ none k c f. tight_found bs old.last (find_chain k old.chains) c (rising_found k old.chains old.last h) (sym (is none k) ∙ f);
 }
@@ -404,18 +330,12 @@ reclaimed-whole old new bs h g e due part is = record {
 -- one chain reclaimed in its place
 pub reclaimed-put : (bs : List ℕ) (k : Bytes) (c : ChainValue) (es fs : Chains) → find_chain k es ≡ Some c → fs ≡ put (slice_cmp nat_cmp) k (reclaimed bs c) es → IsReclaimedAt bs k es fs
 reclaimed-put bs k c es fs there whole = record {
-  found = λ q. ap (find_chain q) whole ∙ find_chain-put q k (reclaimed bs c) es ∙ ap (λ o. if is_same_key q k then option_map (reclaimed bs) o else find_chain q es) (sym there);
+  found = λ q. grind (arith, ap (find_chain q) whole, find_chain-put q k (reclaimed bs c) es);
   kept = λ last h. subst (λ (l : Chains). IsKept l last) (sym whole) (kept-put k (reclaimed bs c) es last h (let r = all-find (IsRisingChain last) k c es h.rising there in (rising-seen_by bs c.newest.number c.older r.0, r.1)));
 }
 
 pub reclaimed-none : (bs : List ℕ) (k : Bytes) (es : Chains) → find_chain k es ≡ None → IsReclaimedAt bs k es es
-reclaimed-none bs k es none = record {
-  found = λ q. elim (is_same_key q k) as (λ b. is_same_key q k ≡ b → find_chain q es ≡ (if b then option_map (reclaimed bs) (find_chain k es) else find_chain q es)) [
-    | true ↦ λ t. ap (λ (j : Bytes). find_chain j es) (same_key q k t) ∙ none ∙ ap (option_map (reclaimed bs)) (sym none)
-    | false ↦ λ f. refl
-  ] refl;
-  kept = λ last h. h;
-}
+reclaimed-none bs k es none = record { found = λ q. grind (arith, same_key q k); kept = λ last h. h }
 
 pub reclaimed-at : (bs : List ℕ) (k : Bytes) (es fs : Chains) → fs ≡ changed_at (reclaimed bs) k es → IsReclaimedAt bs k es fs
 reclaimed-at bs k es fs whole = by (find_chain k es) refl

@@ -1,58 +1,36 @@
 -- Under which numbers the older versions are listed, from call to call.
-use Rattle.std.proofs.Common.{◌≡◌, ℕ, ◌-◌, ◌<◌, ◌≤◌, Bool, true, false, cond, ◌&&◌, ◌||◌, List, [], ◌∷◌, ◌++◌, Option, Some, None, refl, sym, ap, subst, ◌∙◌, arith, inl, inr}
+use Rattle.std.proofs.Common.{◌≡◌, ℕ, ◌-◌, ◌<◌, ◌≤◌, Bool, true, false, ◌&&◌, List, [], ◌∷◌, ◌++◌, Option, Some, None, refl, sym, ap, subst, ◌∙◌, arith, inl, inr}
 use Rattle.std.specs.Prelude.{option_map, nat_le, nat_lt, max, fold, ◌==◌, ◌⊎◌, IsTrue, if◌then◌else◌}
 use Rattle.std.specs.List.{AllByRecursion, list_all, list_any}
-use Rattle.std.proofs.lemmas.Bool.{cases_Bool, both_ways, or_cases, leb-true}
+use Rattle.std.proofs.lemmas.Bool.{and_parts, cases_lt, both_ways, or_cases}
 use Rattle.std.proofs.lemmas.Bool.Decides.{nat_tests}
 use Rattle.std.specs.Ordering.{nat_cmp}
 use Rattle.std.specs.Cmp.Lexicographic.{slice_cmp}
 use Rattle.std.specs.FinMap.Entries.{put}
-use Rattle.model.specs.Map.{Bytes, is_same_key}
+use Rattle.model.specs.Map.{Bytes}
 use Rattle.model.proofs.Lookups.{same_key}
 use Rattle.versions.specs.Chains.{Stamped, ChainValue, Chains, ChainsValue, added, find_chain, last_at, reclaimed, stamped, IsKept, IsReady, IsRisingChain, IsRisingTo, IsRoomier, IsRoomierChain}
 use Rattle.versions.specs.Groups.{GroupValue, Listed}
 use Rattle.versions.specs.Meaning.{is_among}
-use Rattle.versions.specs.Listings.{followed, greatest_below, has_version, is_seen_from, witness_for, witnesses, AreAmong, AreMixedSettled, AreNeeded, IsFollowed, IsNeededChain, IsPartReclaimed, IsSettled, IsTrulyMixed, IsUnmixed}
+use Rattle.versions.specs.Listings.{followed, has_version, is_seen_from, witness_for, witnesses, AreAmong, AreMixedSettled, AreNeeded, IsFollowed, IsNeededChain, IsPartReclaimed, IsSettled, IsTrulyMixed, IsUnmixed}
 use Rattle.versions.specs.Witnesses.{number_at, number_seen, AreUnderWitnesses, IsAddedTo, IsUnderChain, IsUnderWitness}
-use Rattle.versions.proofs.ChainLaws.{above_first, last_at-push, le_false, le_true, some_between, stays, version_at-reclaimed}
-use Rattle.versions.proofs.Stores.{RoomierFound, all-find, find-put_itself, find-roomier}
+use Rattle.versions.proofs.ChainLaws.{above_first, last_at-push, le_false, some_between, stays, version_at-reclaimed}
+use Rattle.versions.proofs.Stores.{RoomierFound, all-find, find-put_itself, find-roomier, number_added}
+use Rattle.versions.proofs.Elements.{all-append, all-each}
 use Rattle.versions.proofs.Visibles.{find_chain-put}
 
-not_some : {A : Type 0} (x : A) → ◌≡◌ {A = Option A} None (Some x) → ⊥
-not_some x e = cc
+-- the group's versions are under its witness
+abbrev pub IsUnder : (ℕ → Bool) → ChainsValue → GroupValue → Type 0
+IsUnder held v g = AllByRecursion (IsUnderWitness held v g.witness) g.versions × AllByRecursion (IsUnderWitness held v g.witness) g.mixed
 
 -- ---- each of the groups' versions
 
-all-each : {X : Type 0} (P Q : X → Type 0) (xs : List X) → ((x : X) → P x → Q x) → AllByRecursion P xs → AllByRecursion Q xs
-all-each P Q [] f h = tt
-all-each P Q (x ∷ xs) f h = (f x h.0, all-each P Q xs f h.1)
-
 pub groups-under : (more held : ℕ → Bool) (v u : ChainsValue) (gs : List GroupValue) → ((w : ℕ) (x : Listed) → IsUnderWitness more v w x → IsUnderWitness held u w x) → AreUnderWitnesses more v gs → AreUnderWitnesses held u gs
-groups-under more held v u [] f h = tt
-groups-under more held v u (g ∷ gs) f h =
-    let each = λ (xs : List Listed). all-each (IsUnderWitness more v g.witness) (IsUnderWitness held u g.witness) xs (f g.witness) in
-    ((each g.versions h.0.0, each g.mixed h.0.1), groups-under more held v u gs f h.1)
+groups-under more held v u gs f h =
+    let each = λ (w : ℕ) (xs : List Listed). all-each (IsUnderWitness more v w) (IsUnderWitness held u w) xs (f w) in
+    all-each (IsUnder more v) (IsUnder held u) gs (λ g q. (each g.witness g.versions q.0, each g.witness g.mixed q.1)) h
 
 -- ---- other numbers are held
-
-pub under-held : (held fewer : ℕ → Bool) (v : ChainsValue) → ((n : ℕ) → IsTrue (fewer n) → IsTrue (held n || nat_le v.last n)) → (w : ℕ) (x : Listed) → IsUnderWitness held v w x → IsUnderWitness fewer v w x
-under-held held fewer v h w x u = record {
-  before = u.before;
-  rises = u.rises;
-  installed = u.installed;
-  between = λ b t low high. elim (or_cases (held b) (nat_le v.last b) (h b t)) [
-    | inl e ↦ u.between b e low high
-    | inr l ↦ absurd (let le = leb-true v.last b l in let most = u.installed in omega (arith, le, high, most))
-  ];
-  chain = λ c found. (let r = u.chain c found in record {
-    behind = r.behind;
-    installed = r.installed;
-    sees = λ b t high is. elim (or_cases (held b) (nat_le v.last b) (h b t)) [
-      | inl e ↦ r.sees b e high is
-      | inr l ↦ absurd (let le = leb-true v.last b l in let most = r.installed in omega (arith, le, high, most))
-    ];
-  });
-}
 
 -- ---- more room
 
@@ -60,20 +38,22 @@ under-held held fewer v h w x u = record {
 under-chain : (more held : ℕ → Bool) (last last' w w' n : ℕ) (c d : ChainValue) → d.newest ≡ c.newest → last ≤ last' → ((b : ℕ) → IsTrue (held b) → IsTrue (more b) × (number_at b d ≡ number_at b c) × (b ≤ w → b ≤ w'))
     → IsUnderChain more last w n c → IsUnderChain held last' w' n d
 under-chain more held last last' w w' n c d same le each u =
-    let e : d.newest.number ≡ c.newest.number = ap (λ (v : Stamped). v.number) same in record {
-      behind = (let lt = u.behind in omega (arith, e, lt));
-      installed = (let most = u.installed in omega (arith, e, most, le));
-      sees = λ b t high is. (let r = each b t in r.2 (u.sees b r.0 (omega (arith, e, high)) (sym r.1 ∙ is)));
+    let behind = u.behind in
+    let most = u.installed in
+    let sees = u.sees in
+    record {
+      behind = grind arith;
+      installed = grind arith;
+      sees = λ b t high is. (let r = each b t in r.2 (u.sees b r.0 (grind arith) (sym r.1 ∙ is)));
     }
 
 number_roomier : (b : ℕ) (c d : ChainValue) → IsRoomierChain c d → number_at b d ≡ number_at b c
 number_roomier b c d r = λ i. option_map (λ (v : Stamped). v.number) (if nat_le (r.newest i).number b then Some (r.newest i) else last_at b None (r.older i))
 
 roomier_before : (o p : Option ChainValue) (d : ChainValue) → RoomierFound o p → p ≡ Some d → (c : ChainValue) × (o ≡ Some c) × IsRoomierChain c d
-roomier_before None None d r e = absurd (not_some d e)
-roomier_before None (Some f) d r e = absurd r
-roomier_before (Some c) None d r e = absurd r
+roomier_before None None d r e = cc
 roomier_before (Some c) (Some f) d r e = let same : f ≡ d = cc in (c, refl, subst (IsRoomierChain c) same r)
+roomier_before _ _ d r e = absurd r
 
 pub under-roomier : (held : ℕ → Bool) (v u : ChainsValue) → IsRoomier v.chains u.chains → u.last ≡ v.last → (w : ℕ) (x : Listed) → IsUnderWitness held v w x → IsUnderWitness held u w x
 under-roomier held v u more last w x h = record {
@@ -86,10 +66,9 @@ under-roomier held v u more last w x h = record {
 }
 
 roomier_behind : (o p : Option ChainValue) (c : ChainValue) → RoomierFound o p → o ≡ Some c → (d : ChainValue) × (p ≡ Some d) × IsRoomierChain c d
-roomier_behind None None c r e = absurd (not_some c e)
-roomier_behind None (Some f) c r e = absurd r
-roomier_behind (Some f) None c r e = absurd r
+roomier_behind None None c r e = cc
 roomier_behind (Some f) (Some d) c r e = let same : f ≡ c = cc in (d, refl, subst (λ (g : ChainValue). IsRoomierChain g d) same r)
+roomier_behind _ _ c r e = absurd r
 
 -- and so it was before there was more room
 pub under-roomy : (held : ℕ → Bool) (v u : ChainsValue) → IsRoomier v.chains u.chains → u.last ≡ v.last → (w : ℕ) (x : Listed) → IsUnderWitness held u w x → IsUnderWitness held v w x
@@ -106,57 +85,33 @@ under-roomy held v u more last w x h = record {
 
 greatest_low : (high : ℕ) (bs : List ℕ) (m : ℕ) → m ≤ high → fold (λ greatest b. if nat_lt b high then max greatest b else greatest) m bs ≤ high
 greatest_low high [] m le = le
-greatest_low high (b ∷ bs) m le = greatest_low high bs (if nat_lt b high then max m b else m) (elim (nat_lt b high) as (λ t. nat_lt b high ≡ t → (if t then max m b else m) ≤ high) [
-  | true ↦ λ t. grind (arith, nat_tests, t, le)
-  | false ↦ λ t. le
-] refl)
+greatest_low high (b ∷ bs) m le = greatest_low high bs (if nat_lt b high then max m b else m) (grind (arith, nat_tests))
 
 greatest_rises : (high : ℕ) (bs : List ℕ) (m : ℕ) → m ≤ fold (λ greatest b. if nat_lt b high then max greatest b else greatest) m bs
 greatest_rises high [] m = omega arith
-greatest_rises high (b ∷ bs) m = elim (nat_lt b high) as (λ t. m ≤ fold (λ greatest b. if nat_lt b high then max greatest b else greatest) (if t then max m b else m) bs) [
-  | true ↦ let rest = greatest_rises high bs (max m b) in omega (arith, rest)
-  | false ↦ greatest_rises high bs m
-]
+greatest_rises high (b ∷ bs) m = grind (arith, nat_tests, greatest_rises high bs (if nat_lt b high then max m b else m))
 
 -- the greatest is at least each of them
 greatest_most : (high b : ℕ) (bs : List ℕ) (m : ℕ) → is_among bs b ≡ true → b < high → b ≤ fold (λ greatest b. if nat_lt b high then max greatest b else greatest) m bs
 greatest_most high b [] m t lt = absurd (both_ways _ refl t)
-greatest_most high b (x ∷ bs) m t lt = elim (or_cases (x == b) (is_among bs b) t) [
-  | inl e ↦ (let same : x ≡ b = grind (arith, nat_tests, e) in
-      let low : nat_lt x high ≡ true = grind (arith, nat_tests, same, lt) in
-      let rest = greatest_rises high bs (if nat_lt x high then max m x else m) in
-      let first : (if nat_lt x high then max m x else m) ≡ max m x = ap (λ c. if c then max m x else m) low in
-      omega (arith, same, first, rest))
-  | inr r ↦ greatest_most high b bs (if nat_lt x high then max m x else m) r lt
-]
+greatest_most high b (x ∷ bs) m t lt =
+    let next = if nat_lt x high then max m x else m in
+    grind (arith, nat_tests, greatest_rises high bs next, greatest_most high b bs next)
 
 witness_low : (bs : List ℕ) (w : ℕ) → witness_for bs w ≤ w
-witness_low bs w = elim (is_among bs w) as (λ t. (if t then w else greatest_below bs w) ≤ w) [
-  | true ↦ omega arith
-  | false ↦ greatest_low w bs 0 (omega arith)
-]
+witness_low bs w = let low = greatest_low w bs 0 (omega arith) in grind arith
 
 witness_most : (bs : List ℕ) (w b : ℕ) → is_among bs b ≡ true → b ≤ w → b ≤ witness_for bs w
-witness_most bs w b t le = elim (is_among bs w) as (λ q. is_among bs w ≡ q → b ≤ (if q then w else greatest_below bs w)) [
-  | true ↦ λ e. le
-  | false ↦ λ e. elim (cases_Bool (nat_lt b w)) [
-    | inl l ↦ greatest_most w b bs 0 t (grind (arith, nat_tests, l))
-    | inr f ↦ absurd (let same : b ≡ w = grind (arith, nat_tests, f, le) in both_ways _ e (sym (ap (is_among bs) same) ∙ t))
-  ]
-] refl
+witness_most bs w b t le = let most = greatest_most w b bs 0 t in grind (arith, nat_tests)
 
 reclaimed_before : (bs : List ℕ) (o p : Option ChainValue) (d : ChainValue) → (p ≡ o) ⊎ (p ≡ option_map (reclaimed bs) o) → p ≡ Some d
     → (c : ChainValue) × (o ≡ Some c) × (d.newest ≡ c.newest) × ((b : ℕ) → is_among bs b ≡ true → number_at b d ≡ number_at b c)
 reclaimed_before bs o p d (inl e) is = (d, sym e ∙ is, refl, λ b t. refl)
-reclaimed_before bs None p d (inr e) is = absurd (not_some d (sym e ∙ is))
+reclaimed_before bs None p d (inr e) is = cc
 reclaimed_before bs (Some c) p d (inr e) is =
     let there : ◌≡◌ {A = Option ChainValue} (Some (reclaimed bs c)) (Some d) = sym e ∙ is in
     let same : reclaimed bs c ≡ d = cc in
     (c, refl, sym (ap (λ (y : ChainValue). y.newest) same), λ b t. ap (number_at b) (sym same) ∙ ap (option_map (λ (v : Stamped). v.number)) (version_at-reclaimed bs c b t))
-
-both_true : (a b : Bool) → (a && b) ≡ true → (a ≡ true) × (b ≡ true)
-both_true true b t = (refl, t)
-both_true false b t = absurd (both_ways _ refl t)
 
 pub under-reclaimed : (held : ℕ → Bool) (bs : List ℕ) (v u : ChainsValue) → IsPartReclaimed bs v.chains u.chains → u.last ≡ v.last
     → (w : ℕ) (x : Listed) → IsUnderWitness held v w x → IsUnderWitness (λ n. held n && is_among bs n) u (witness_for bs w) x
@@ -164,10 +119,10 @@ under-reclaimed held bs v u part last w x h = record {
   before = (let lt = h.before in let low = witness_low bs w in omega (arith, lt, low));
   rises = h.rises;
   installed = subst (λ n. x.next ≤ n) (sym last) h.installed;
-  between = λ b t low high. (let r = both_true (held b) (is_among bs b) t in witness_most bs w b r.1 (h.between b r.0 low high));
+  between = λ b t low high. (let r = and_parts (held b) (is_among bs b) t in witness_most bs w b r.1 (h.between b r.0 low high));
   chain = λ d found. (let r = reclaimed_before bs (find_chain x.key v.chains) (find_chain x.key u.chains) d (part x.key) found in
       under-chain held (λ n. held n && is_among bs n) v.last u.last w (witness_for bs w) x.number r.0 d r.2 (omega (arith, last))
-      (λ b t. (let q = both_true (held b) (is_among bs b) t in (q.0, r.3 b q.1, witness_most bs w b q.1))) (h.chain r.0 r.1));
+      (λ b t. (let q = and_parts (held b) (is_among bs b) t in (q.0, r.3 b q.1, witness_most bs w b q.1))) (h.chain r.0 r.1));
 }
 
 -- ---- no list stays mixed
@@ -178,17 +133,10 @@ needed_seen : (bs : List ℕ) (next m : ℕ) (vs : List Stamped) → IsRisingTo 
 needed_seen bs next m [] rising needed t = absurd (both_ways _ refl t)
 needed_seen bs next m (v ∷ vs) rising needed t = elim (or_cases (v.number == m) (list_any (λ v. v.number == m) vs) t) [
   | inl e ↦
-      let same : v.number ≡ m = grind (arith, nat_tests, e) in
       let s = some_between bs v.number _ needed.0 in
       let a = above_first s.0 next vs rising.2 s.3 in
-      let low = s.2 in (
-        s.0,
-        s.1,
-        omega (arith, same, low),
-        a.1,
-        λ d. ap (λ q. option_map (λ (v : Stamped). v.number) (last_at s.0 (if q then Some v else d) vs)) (le_true v.number s.0 s.2)
-            ∙ ap (option_map (λ (v : Stamped). v.number)) (stays s.0 v vs a.0) ∙ ap Some same,
-      )
+      let low = s.2 in
+      (s.0, s.1, grind (arith, nat_tests), a.1, λ d. grind (arith, nat_tests, stays s.0 v vs a.0))
   | inr e ↦ let r = needed_seen bs next m vs rising.2 needed.1 e in (r.0, r.1, r.2, r.3, λ d. r.4 (if nat_le v.number r.0 then Some v else d))
 ]
 
@@ -213,20 +161,15 @@ module _ (bs : List ℕ) (held : ℕ → Bool) (u : ChainsValue) (last : ℕ) (a
       let low = r.2 in
       let high = r.3 in
       let lt = h.0.before in
-      let first : is_seen_from w x ≡ true = grind (arith, nat_tests, low, high, lt) in
-      ap (λ b. b && list_all (is_seen_from w) xs) first ∙ all_seen w xs h.1 s.1
+      grind (arith, nat_tests, all_seen w xs h.1 s.1)
 
   -- a witness with a settled version under it is one of the numbers
   seen_among : (w : ℕ) (x : Listed) → is_among (0 ∷ bs) w ≡ true → IsUnderWitness held u w x → IsSettled bs u.chains x → is_among bs w ≡ true
-  seen_among w x t h s = elim (or_cases (0 == w) (is_among bs w) t) [
-    | inl e ↦
-        let r = settled_seen bs held u last w x all kept h s in
-        let high = r.3 in
-        let none : 0 ≡ w = grind (arith, nat_tests, e) in
-        let same : r.0 ≡ w = omega (arith, high, none) in
-        ap (is_among bs) (sym same) ∙ r.1
-    | inr e ↦ e
-  ]
+  seen_among w x t h s =
+      let r = settled_seen bs held u last w x all kept h s in
+      let among = r.1 in
+      let high = r.3 in
+      grind (arith, nat_tests)
 
   unmixed_list : (w : ℕ) (xs : List Listed) → is_among (0 ∷ bs) w ≡ true → AllByRecursion (IsUnderWitness held u w) xs → AllByRecursion (IsSettled bs u.chains) xs → (is_among bs w && list_all (is_seen_from w) xs) ≡ false → xs ≡ []
   unmixed_list w [] t h s f = refl
@@ -243,65 +186,33 @@ pub added-refl : (n : ℕ) (o : Option ChainValue) → IsAddedTo n o o
 added-refl n o = record { below = λ b lt. refl; newest = inl refl }
 
 pub added-trans : (n : ℕ) (o p q : Option ChainValue) → IsAddedTo n o p → IsAddedTo n p q → IsAddedTo n o q
-added-trans n o p q a b = record {
-  below = λ m lt. b.below m lt ∙ a.below m lt;
-  newest = elim b.newest [
-    | inl e ↦ elim a.newest [ inl f ↦ inl (e ∙ f) | inr f ↦ inr (ap (option_map (λ (c : ChainValue). c.newest.number)) e ∙ f) ]
-    | inr e ↦ inr e
-  ];
-}
+added-trans n o p q a b = grind (arith, a.below, b.below)
 
 -- a version of number n more is not seen below n
 seen_added : (n : ℕ) (o : Option ChainValue) (value : Option Bytes) (room b : ℕ) → b < n → number_at b (added o (stamped n value) room) ≡ number_seen b o
-seen_added n None value room b lt = ap (λ q. option_map (λ (v : Stamped). v.number) (if q then Some (stamped n value) else None)) (le_false n b lt)
-seen_added n (Some c) value room b lt =
-    ap (λ q. option_map (λ (v : Stamped). v.number) (if q then Some (stamped n value) else last_at b None (c.older ++ c.newest ∷ []))) (le_false n b lt)
-    ∙ ap (option_map (λ (v : Stamped). v.number)) (last_at-push b None c.older c.newest)
-
-newest_added : (n : ℕ) (o : Option ChainValue) (value : Option Bytes) (room : ℕ) → (added o (stamped n value) room).newest.number ≡ n
-newest_added n None value room = refl
-newest_added n (Some c) value room = refl
+seen_added n None value room b lt = grind (arith, nat_tests)
+seen_added n (Some c) value room b lt = grind (arith, nat_tests, last_at-push b None c.older c.newest)
 
 -- a write with number n
 pub added-put : (n : ℕ) (k q : Bytes) (value : Option Bytes) (room : ℕ) (es : Chains) → IsAddedTo n (find_chain q es) (find_chain q (put (slice_cmp nat_cmp) k (added (find_chain k es) (stamped n value) room) es))
 added-put n k q value room es =
-    let c = added (find_chain k es) (stamped n value) room in
-    subst (IsAddedTo n (find_chain q es)) (sym (find_chain-put q k c es))
-    (elim (is_same_key q k) as (λ b. is_same_key q k ≡ b → IsAddedTo n (find_chain q es) (cond b (Some c) (find_chain q es))) [
-      | true ↦ λ t. record {
-        below = λ b lt. seen_added n (find_chain k es) value room b lt ∙ ap (λ (j : Bytes). number_seen b (find_chain j es)) (sym (same_key q k t));
-        newest = inr (ap Some (newest_added n (find_chain k es) value room));
-      }
-      | false ↦ λ f. added-refl n (find_chain q es)
-    ] refl)
+    let own = stamped n value in
+    let put = find_chain-put q k (added (find_chain k es) own room) es in
+    grind (arith, seen_added n (find_chain k es) value room, same_key q k, number_added (find_chain k es) own room)
 
 -- what was followed by number n still is
 followed_later : (n : ℕ) (k : Bytes) (value : Option Bytes) (room : ℕ) (es : Chains) (x : Listed) → IsFollowed n es x → IsFollowed n (put (slice_cmp nat_cmp) k (added (find_chain k es) (stamped n value) room) es) x
-followed_later n k value room es x h = record {
-  number = h.number;
-  next = h.next;
-  newest = λ d found. (let c = added (find_chain k es) (stamped n value) room in
-      elim (is_same_key x.key k) as (λ b. cond b (Some c) (find_chain x.key es) ≡ Some d → d.newest.number ≡ n) [
-        | true ↦ λ e. (let same : c ≡ d = cc in ap (λ (y : ChainValue). y.newest.number) (sym same) ∙ newest_added n (find_chain k es) value room)
-        | false ↦ λ e. h.newest d e
-      ] (sym (find_chain-put x.key k c es) ∙ found));
-}
+followed_later n k value room es x h =
+    let c = added (find_chain k es) (stamped n value) room in
+    let number = number_added (find_chain k es) (stamped n value) room in
+    record { number = h.number; next = h.next; newest = λ d found. grind (arith, find_chain-put x.key k c es, h.newest d) }
 
 followed_own : (n : ℕ) (k : Bytes) (value : Option Bytes) (room : ℕ) (es : Chains) (o : Option ChainValue) → IsReady n o → AllByRecursion (IsFollowed n (put (slice_cmp nat_cmp) k (added (find_chain k es) (stamped n value) room) es)) (followed o k n)
 followed_own n k value room es None ready = tt
-followed_own n k value room es (Some c) ready = (
-  record {
-    number = ready.0;
-    next = refl;
-    newest = λ d found. (let own = added (find_chain k es) (stamped n value) room in
-        let same : own ≡ d = (let e = sym (find-put_itself k own es) ∙ found in cc) in ap (λ (y : ChainValue). y.newest.number) (sym same) ∙ newest_added n (find_chain k es) value room);
-  },
-  tt,
-)
-
-all-append : {X : Type 0} (P : X → Type 0) (xs ys : List X) → AllByRecursion P xs → AllByRecursion P ys → AllByRecursion P (xs ++ ys)
-all-append P [] ys h g = g
-all-append P (x ∷ xs) ys h g = (h.0, all-append P xs ys h.1 g)
+followed_own n k value room es (Some c) ready =
+    let own = added (find_chain k es) (stamped n value) room in
+    let number = number_added (find_chain k es) (stamped n value) room in
+    (record { number = ready.0; next = refl; newest = λ d found. grind (arith, find-put_itself k own es) }, tt)
 
 pub followed-write : (n : ℕ) (k : Bytes) (value : Option Bytes) (room : ℕ) (es : Chains) (ls : List Listed) → IsReady n (find_chain k es) → AllByRecursion (IsFollowed n es) ls
     → AllByRecursion (IsFollowed n (put (slice_cmp nat_cmp) k (added (find_chain k es) (stamped n value) room) es)) (ls ++ followed (find_chain k es) k n)
@@ -316,18 +227,15 @@ under_added held last n w m o d lt low h u = elim h.newest [
   | inr e ↦ (let is : d.newest.number ≡ n = cc in record {
     behind = omega (arith, is, low);
     installed = omega (arith, is);
-    sees = λ b t high sees. (let below : b < n = omega (arith, is, high) in old o u b t (sym (h.below b below) ∙ sees));
+    sees = λ b t high sees. old o u b t (sym (h.below b (omega (arith, is, high))) ∙ sees);
   })
 ]
   where
     old : (p : Option ChainValue) → ((c : ChainValue) → p ≡ Some c → IsUnderChain held last w m c) → (b : ℕ) → IsTrue (held b) → number_seen b p ≡ Some m → b ≤ w
-    old None g b t e = absurd (not_some m e)
-    old (Some c) g b t e = (let r = g c refl in elim (cases_Bool (nat_le c.newest.number b)) [
-      | inl le ↦ absurd (let first : Some c.newest.number ≡ number_at b c = sym (ap (λ q. option_map (λ (v : Stamped). v.number) (if q then Some c.newest else last_at b None c.older)) le) in
-          let same : c.newest.number ≡ m = (let all = first ∙ e in cc) in
-          let behind = r.behind in
-          omega (arith, same, behind))
-      | inr gt ↦ r.sees b t (let lt : b < c.newest.number = grind (arith, nat_tests, gt) in lt) e
+    old None g b t e = cc
+    old (Some c) g b t e = (let r = g c refl in elim (cases_lt b c.newest.number) [
+      | inl below ↦ r.sees b t below e
+      | inr above ↦ (let behind = r.behind in grind (arith, nat_tests))
     ])
 
 pub under-installed : (held : ℕ → Bool) (v u : ChainsValue) (n : ℕ) → v.last < n → u.last ≡ n → ((k : Bytes) → IsAddedTo n (find_chain k v.chains) (find_chain k u.chains)) → (w : ℕ) (x : Listed) → IsUnderWitness held v w x → IsUnderWitness held u w x
@@ -346,22 +254,14 @@ under-installed held v u n lt last chains w x h =
 under-followed : (held : ℕ → Bool) (u : ChainsValue) (n : ℕ) → 0 < n → u.last ≡ n → (x : Listed) → IsFollowed n u.chains x → IsUnderWitness held u (n - 1) x
 under-followed held u n some last x h =
     let next = h.next in
-    let number = h.number in record {
-      before = omega (arith, next, some);
-      rises = omega (arith, next, number);
-      installed = omega (arith, next, last);
-      between = λ b t low high. omega (arith, next, high);
-      chain = λ c found. (let is = h.newest c found in record {
-        behind = omega (arith, is, number);
-        installed = omega (arith, is, last);
-        sees = λ b t high sees. omega (arith, is, high);
-      });
-    }
+    let number = h.number in
+    grind (arith, h.newest)
 
 -- one group more
 groups-last : (held : ℕ → Bool) (u : ChainsValue) (gs : List GroupValue) (g : GroupValue) → AreUnderWitnesses held u gs → AllByRecursion (IsUnderWitness held u g.witness) g.versions → g.mixed ≡ [] → AreUnderWitnesses held u (gs ++ g ∷ [])
-groups-last held u [] g h own none = ((own, subst (AllByRecursion (IsUnderWitness held u g.witness)) (sym none) tt), tt)
-groups-last held u (x ∷ gs) g h own none = (h.0, groups-last held u gs g h.1 own none)
+groups-last held u gs g h own none =
+    let mixed = subst (AllByRecursion (IsUnderWitness held u g.witness)) (sym none) tt in
+    all-append (IsUnder held u) gs (g ∷ []) h ((own, mixed), tt)
 
 pub groups-installed : (held : ℕ → Bool) (v u : ChainsValue) (n : ℕ) (g : GroupValue) (ls : List Listed) → v.last < n → u.last ≡ n → ((k : Bytes) → IsAddedTo n (find_chain k v.chains) (find_chain k u.chains)) → u.groups ≡ v.groups ++ g ∷ []
     → g.witness ≡ n - 1 → g.mixed ≡ [] → g.versions ≡ ls → AllByRecursion (IsFollowed n u.chains) ls → AreUnderWitnesses held v v.groups → AreUnderWitnesses held u u.groups

@@ -2,17 +2,12 @@ use Rattle.std.specs.List.{AllByRecursion}
 use Rattle.std.proofs.Common.{◌+◌, List, take, sym, ap, subst, refl, ◌∙◌, arith}
 use Rattle.versions.specs.Groups.{GroupValue}
 use Rattle.versions.specs.Witnesses.{AreUnderWitnesses}
-use Rattle.versions.specs.Listings.{AreAmong, AreApart, AreFound, AreMixedSettled, IsSettled, IsTrulyMixed, lists_in, witnesses}
-use Rattle.versions.proofs.Calls.{take_all}
-use Rattle.versions.proofs.Groups.{IsUnder, all-remove, due-empty, found-remove, found-trans}
-use Rattle.versions.proofs.Witnesses.{apart-none, apart-next, among-remove, take-remove, lists-remove, length-map}
+use Rattle.versions.specs.Listings.{AreAmong, AreApart, AreMixedSettled, IsSettled, IsTrulyMixed, lists_in, witnesses}
+use Rattle.versions.proofs.Elements.{all-remove}
+use Rattle.versions.proofs.Groups.{due-empty, found-remove}
+use Rattle.versions.proofs.UnderWitnesses.{IsUnder}
+use Rattle.versions.proofs.Witnesses.{apart-next, among-remove, take-remove, lists-remove}
 use Rattle.versions.proofs.reclaiming.join_groups.Goals as goal
-
-pub loop-i-init : goal.loop-i-init
-loop-i-init c = record { found = λ k n high t. t; due = λ bs. refl; apart = apart-none (witnesses c.args.groups.now.items); held = λ bs h. h; truly = λ bs h. h; lists = omega arith; each = λ held v h. h; mixed = λ bs es h. h }
-
-pub join-requires-clause-few : goal.join-requires-clause-few
-join-requires-clause-few c = omega (arith, c.requires, c.loop-i.invariant.lists)
 
 pub loop-i-preserved-then-is_empty : goal.loop-i-preserved-then-is_empty
 loop-i-preserved-then-is_empty c =
@@ -20,8 +15,8 @@ loop-i-preserved-then-is_empty c =
     let i = c.loop-i.i in
     let less = c.remove.ensures.items in
     record {
-      found = found-trans c.args.groups.now.items gs c.remove.new.self.items c.loop-i.invariant.found
-          (subst (λ l. AreFound gs l) (sym less) (found-remove gs i c.index.result.now (omega arith) c.index.ensures (c.if-is_empty.ensures.none refl)));
+      found = λ k n high t.
+          found-remove gs _ i c.index.result.now (omega arith) c.index.ensures less (c.if-is_empty.ensures.none refl) k n high (c.loop-i.invariant.found k n high t);
       due = λ bs. due-empty bs gs c.remove.new.self.items i c.index.result.now (omega arith) c.index.ensures less (c.if-is_empty.ensures.due refl bs) ∙ c.loop-i.invariant.due bs;
       apart = subst AreApart (sym (ap (λ (l : List GroupValue). take i (witnesses l)) less ∙ take-remove (λ (g : GroupValue). g.witness) gs i)) c.loop-i.invariant.apart;
       held = λ bs h. subst (λ (l : List GroupValue). AreAmong bs (witnesses l)) (sym less) (among-remove bs gs i (c.loop-i.invariant.held bs h));
@@ -33,7 +28,7 @@ loop-i-preserved-then-is_empty c =
 
 pub loop-i-preserved : goal.loop-i-preserved
 loop-i-preserved c = record {
-  found = found-trans c.args.groups.now.items c.loop-i.groups.items c.join.new.groups.items c.loop-i.invariant.found c.join.ensures.found;
+  found = λ k n high t. c.join.ensures.found k n high (c.loop-i.invariant.found k n high t);
   due = λ bs. c.join.ensures.due bs ∙ c.loop-i.invariant.due bs;
   apart = subst AreApart (sym c.join.ensures.first) c.loop-i.invariant.apart;
   held = λ bs h. c.join.ensures.held bs (c.loop-i.invariant.held bs h);
@@ -48,7 +43,7 @@ loop-i-preserved-then-not-join c =
     let same = c.if-not-join.ensures.same refl in
     let inv = c.loop-i.invariant in
     record {
-      found = found-trans c.args.groups.now.items c.loop-i.groups.items c.join.new.groups.items inv.found c.join.ensures.found;
+      found = λ k n high t. c.join.ensures.found k n high (inv.found k n high t);
       due = λ bs. c.join.ensures.due bs ∙ inv.due bs;
       apart = subst (λ (l : List GroupValue). AreApart (take (c.loop-i.i + 1) (witnesses l))) (sym same) (apart-next c.loop-i.groups.items c.loop-i.i (omega arith) inv.apart (c.if-not-join.ensures.other refl));
       held = λ bs h. c.join.ensures.held bs (inv.held bs h);
@@ -57,23 +52,3 @@ loop-i-preserved-then-not-join c =
       each = λ held v h. c.join.ensures.each held v (inv.each held v h);
       mixed = λ bs es h. c.join.ensures.mixed bs es (inv.mixed bs es h);
     }
-
-pub returns-clause-apart : goal.returns-clause-apart
-returns-clause-apart c =
-    let gs = c.loop-i.groups.items in
-    subst AreApart (take_all (witnesses gs) c.loop-i.i (omega (arith, length-map (λ (g : GroupValue). g.witness) gs))) c.loop-i.invariant.apart
-
-pub returns-clause-held : goal.returns-clause-held
-returns-clause-held c = c.loop-i.invariant.held
-
-pub returns-clause-truly : goal.returns-clause-truly
-returns-clause-truly c = c.loop-i.invariant.truly
-
-pub returns-clause-lists : goal.returns-clause-lists
-returns-clause-lists c = c.loop-i.invariant.lists
-
-pub returns-clause-each : goal.returns-clause-each
-returns-clause-each c = c.loop-i.invariant.each
-
-pub returns-clause-mixed : goal.returns-clause-mixed
-returns-clause-mixed c = c.loop-i.invariant.mixed

@@ -1,9 +1,12 @@
-use Rattle.std.proofs.Common.{◌≡◌, ◌-◌, ◌≤◌, ◌∷◌, sym, ap, ◌∙◌, subst, arith}
+use Rattle.std.proofs.Common.{◌≡◌, ◌-◌, ◌≤◌, ◌∷◌, length, sym, ap, ◌∙◌, subst, arith}
 use Rattle.sorted_pages.specs.Pages.{entries}
 use Rattle.versions.specs.Groups.{GroupValue}
-use Rattle.versions.specs.Listings.{AreKept, witness_for}
+use Rattle.versions.specs.Listings.{AreKept, AreMixedSettled, IsTrulyMixed, witness_for}
 use Rattle.versions.specs.Meaning.{due_for, is_among}
-use Rattle.versions.proofs.Groups.{StaysUnder, settling-settled, settling-due, settling-each, settling-ended, settling-held, settling-mixed, settling-truly}
+use Rattle.std.specs.List.{AllByRecursion}
+use Rattle.std.proofs.lemmas.List.{take_all}
+use Rattle.versions.specs.Witnesses.{AreUnderWitnesses}
+use Rattle.versions.proofs.Groups.{StaysUnder, settling-settled, settling-due, settling-ended, settling-held}
 use Rattle.versions.proofs.Witnesses.{witness-among}
 use Rattle.versions.proofs.reclaiming.reclaim_groups.Goals as goal
 
@@ -24,20 +27,24 @@ loop-i-preserved c =
     (omega (arith, c.loop-i-test.true, c.loop-i.auto.groups)) c.index-groups-i.is c.requires.kept.1 c.reclaim-most.ensures.part c.reclaim-most.ensures.kept spare due c.reclaim-most.ensures.settled left
     (ap (is_among (0 ∷ bs)) c.reclaim-most.ensures.witness ∙ witness-among bs _) c.reclaim-most.ensures.truly counted witness stays c.reclaim-most.ensures.mixed c.loop-i.invariant
 
-pub returns-clause-all : goal.returns-clause-all
-returns-clause-all c = settling-ended c.args.begins.now (entries c.args.chains.now) (entries c.loop-i.chains) c.args.groups.now c.loop-i.groups c.loop-i.i c.loop-i.most (omega (arith, c.loop-i.auto.groups, c.loop-i-test.false)) c.loop-i.invariant
-
-pub returns-clause-due : goal.returns-clause-due
-returns-clause-due c = settling-due c.args.begins.now (entries c.args.chains.now) (entries c.loop-i.chains) c.args.groups.now c.loop-i.groups c.loop-i.i c.loop-i.most (omega (arith, c.loop-i.auto.groups, c.loop-i-test.false)) c.loop-i.invariant
-
-pub returns-clause-held : goal.returns-clause-held
-returns-clause-held c = settling-held c.args.begins.now (entries c.args.chains.now) (entries c.loop-i.chains) c.args.groups.now c.loop-i.groups c.loop-i.i c.loop-i.most (omega (arith, c.loop-i.auto.groups, c.loop-i-test.false)) c.loop-i.invariant
-
-pub returns-clause-truly : goal.returns-clause-truly
-returns-clause-truly c = settling-truly c.args.begins.now (entries c.args.chains.now) (entries c.loop-i.chains) c.args.groups.now c.loop-i.groups c.loop-i.i c.loop-i.most (omega (arith, c.loop-i.auto.groups, c.loop-i-test.false)) c.loop-i.invariant
-
-pub returns-clause-each : goal.returns-clause-each
-returns-clause-each c = settling-each c.args.begins.now (entries c.args.chains.now) (entries c.loop-i.chains) c.args.groups.now c.loop-i.groups c.loop-i.i c.loop-i.most (omega (arith, c.loop-i.auto.groups, c.loop-i-test.false)) c.loop-i.invariant
-
-pub returns-clause-mixed : goal.returns-clause-mixed
-returns-clause-mixed c = settling-mixed c.args.begins.now (entries c.args.chains.now) (entries c.loop-i.chains) c.args.groups.now c.loop-i.groups c.loop-i.i c.loop-i.most (omega (arith, c.loop-i.auto.groups, c.loop-i-test.false)) c.loop-i.invariant
+pub returns : goal.returns
+returns c =
+    let bs = c.args.begins.now in
+    let old = entries c.args.chains.now in
+    let now = entries c.loop-i.chains in
+    let gs = c.loop-i.groups in
+    let inv = c.loop-i.invariant in
+    let end : length gs ≤ c.loop-i.i = omega (arith, c.loop-i.auto.groups, c.loop-i-test.false) in
+    let all = take_all c.loop-i.i gs end in
+    record {
+      due = settling-due bs old now c.args.groups.now gs c.loop-i.i c.loop-i.most end inv;
+      part = inv.part;
+      all = settling-ended bs old now c.args.groups.now gs c.loop-i.i c.loop-i.most end inv;
+      kept = inv.kept;
+      listed = inv.listed;
+      held = settling-held bs old now c.args.groups.now gs c.loop-i.i c.loop-i.most end inv;
+      lists = inv.lists;
+      truly = subst (AllByRecursion (IsTrulyMixed bs)) all inv.truly;
+      each = λ more held v u stands under. subst (AreUnderWitnesses held u) all (inv.each more held v u stands under);
+      mixed = subst (AreMixedSettled bs now) all inv.mixed;
+    }

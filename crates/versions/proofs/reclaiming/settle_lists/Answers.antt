@@ -3,7 +3,7 @@ use Rattle.std.proofs.lemmas.List.{append-nil, length-append}
 use Rattle.std.specs.List.{AllByRecursion}
 use Rattle.sorted_pages.specs.Pages.{entries}
 use Rattle.versions.specs.Witnesses.{IsUnderWitness}
-use Rattle.versions.specs.Listings.{AreKept, AreSeenFrom, versions_in}
+use Rattle.versions.specs.Listings.{AreSeenFrom, versions_in}
 use Rattle.versions.proofs.Lists.{in-append, in-empty, in-none, one-less, settled-list}
 use Rattle.versions.proofs.reclaiming.settle_lists.Goals.{then-not-are_empty, else-not-are_empty}
 use Rattle.versions.proofs.reclaiming.settle_lists.Goals as goal
@@ -30,9 +30,6 @@ loop-preserved c =
       settled = settled-list c.args.begins.now (entries c.args.chains.now) (entries c.loop.chains) (entries c.settle_first.new.chains) (versions_in c.args.lists.now) c.loop.lists c.if-not-are_empty.lists c.loop.rest c.take_front-first.result left c.take_front-first.new.lists
           c.requires.kept.0 c.requires.kept.1 c.take_front-first.ensures.front c.take_front-first.ensures.rest is c.settle_first.ensures.part c.settle_first.ensures.kept c.settle_first.ensures.settled c.settle_first.ensures.left c.settle_first.ensures.seen c.settle_first.ensures.each c.loop.invariant.settled;
     }
-
-pub returns-clause-left : goal.returns-clause-left
-returns-clause-left c = subst (λ l. AreKept (versions_in c.args.lists.now) l (entries c.loop.chains)) (in-none (versions_in c.loop.lists) c.loop.rest (omega arith)) c.loop.invariant.settled.left_out
 
 pub returns-clause-seen : goal.returns-clause-seen
 returns-clause-seen c = λ n h. subst (AreSeenFrom n) (in-none (versions_in c.loop.lists) c.loop.rest (omega arith)) (c.loop.invariant.settled.seen n h)

@@ -1,48 +1,43 @@
-use Rattle.std.proofs.Common.{◌≡◌, Some, Err, sym, ap, subst, ◌∙◌, ◌↔◌, IsTrue, OnOk}
+use Rattle.std.proofs.Common.{◌≡◌, arith, Option, Some, Err, sym, ap, subst, ◌∙◌, ◌↔◌, IsTrue, OnOk}
+use Rattle.std.proofs.lemmas.Grind.{common_steps}
+use Rattle.model.specs.Map.{Bytes}
 use Rattle.model.specs.PrivateCopy.{answer}
 use Rattle.write_buffer.specs.Buffered.{is_full_for}
 use Rattle.write_buffer.specs.declared.faults.WritesFault.{WritesFault}
 use Rattle.snapshot.specs.declared.faults.SnapshotFault.TheVariants.{FullWrites}
 use Rattle.snapshot.specs.View.{View}
 use Rattle.snapshot.specs.Made.{HasMade, MakesOneMore, IsDoneReply}
-use Rattle.snapshot.proofs.Copies.{write-reply, write-made, write-full, write_of, as_fault}
+use Rattle.snapshot.proofs.Copies.{Answered, write-reply, write-made, write-full, write_of, as_fault}
 use Rattle.snapshot.proofs.transaction.Transaction.put.Goals as goal
 use Rattle.snapshot.proofs.transaction.Transaction.put.Goals.{in-Ok, in-Err-FullWrites, in-Err-Memory}
 
 pub invariant_of-self : goal.invariant_of-self
 invariant_of-self c = c.put.ensures.entries
 
-pub returns-clause-reply : goal.returns-clause-reply
-returns-clause-reply c = λ m qs h.
+pub returns : goal.returns
+returns c =
     let t : View = record { begin = c.self.inside.begin; writes = c.self.inside.buffer; marks = c.self.inside.marks } in
     let k = c.args.key.bytes.now in
-    let reply = write-reply c.put.result t c.put.new.self m qs k (Some c.args.value.now) (record { ok = c.put.ensures.ok; err = c.put.ensures.err; entries = c.put.ensures.entries; full = c.put.ensures.full }) (subst (λ (u : View). HasMade u m qs) (sym c.self.view_is) h) in
-    elim c.match-put.branch [
-      | in-Ok w ↦ subst (λ r. IsDoneReply r (answer m qs (write_of k (Some c.args.value.now)))) (ap as_fault w.in-Ok.is ∙ sym w.result-is) reply
-      | in-Err-FullWrites w ↦ subst (λ r. IsDoneReply r (answer m qs (write_of k (Some c.args.value.now)))) (ap as_fault w.in-Err-FullWrites.is ∙ ap (λ (e : WritesFault). as_fault (Err e)) w.in-Err-FullWrites.field-0-is ∙ sym w.result-is) reply
-      | in-Err-Memory w ↦ subst (λ r. IsDoneReply r (answer m qs (write_of k (Some c.args.value.now)))) (ap as_fault w.in-Err-Memory.is ∙ ap (λ (e : WritesFault). as_fault (Err e)) w.in-Err-Memory.field-0-is ∙ sym w.result-is) reply
-    ]
-
-pub returns-clause-made : goal.returns-clause-made
-returns-clause-made c =
-    let t : View = record { begin = c.self.inside.begin; writes = c.self.inside.buffer; marks = c.self.inside.marks } in
-    let k = c.args.key.bytes.now in
-    let P = MakesOneMore c.args.self.now (record t { writes = c.put.new.self }) (write_of k (Some c.args.value.now)) in
-    let made = subst (λ (u : View). OnOk (as_fault c.put.result) (MakesOneMore u (record t { writes = c.put.new.self }) (write_of k (Some c.args.value.now)))) c.self.view_is
-    (write-made c.put.result t c.put.new.self k (Some c.args.value.now) (record { ok = c.put.ensures.ok; err = c.put.ensures.err; entries = c.put.ensures.entries; full = c.put.ensures.full })) in
-    elim c.match-put.branch [
-      | in-Ok w ↦ subst (λ r. OnOk r P) (ap as_fault w.in-Ok.is ∙ sym w.result-is) made
-      | in-Err-FullWrites w ↦ subst (λ r. OnOk r P) (ap as_fault w.in-Err-FullWrites.is ∙ ap (λ (e : WritesFault). as_fault (Err e)) w.in-Err-FullWrites.field-0-is ∙ sym w.result-is) made
-      | in-Err-Memory w ↦ subst (λ r. OnOk r P) (ap as_fault w.in-Err-Memory.is ∙ ap (λ (e : WritesFault). as_fault (Err e)) w.in-Err-Memory.field-0-is ∙ sym w.result-is) made
-    ]
-
-pub returns-clause-full : goal.returns-clause-full
-returns-clause-full c =
-    let k = c.args.key.bytes.now in
-    let full = subst (λ (u : View). (as_fault c.put.result ≡ Err FullWrites) ↔ IsTrue (is_full_for u.writes k)) c.self.view_is
-    (write-full c.put.result c.self.inside.buffer c.put.new.self k (Some c.args.value.now) (record { ok = c.put.ensures.ok; err = c.put.ensures.err; entries = c.put.ensures.entries; full = c.put.ensures.full })) in
-    elim c.match-put.branch [
-      | in-Ok w ↦ subst (λ r. (r ≡ Err FullWrites) ↔ IsTrue (is_full_for c.args.self.now.writes k)) (ap as_fault w.in-Ok.is ∙ sym w.result-is) full
-      | in-Err-FullWrites w ↦ subst (λ r. (r ≡ Err FullWrites) ↔ IsTrue (is_full_for c.args.self.now.writes k)) (ap as_fault w.in-Err-FullWrites.is ∙ ap (λ (e : WritesFault). as_fault (Err e)) w.in-Err-FullWrites.field-0-is ∙ sym w.result-is) full
-      | in-Err-Memory w ↦ subst (λ r. (r ≡ Err FullWrites) ↔ IsTrue (is_full_for c.args.self.now.writes k)) (ap as_fault w.in-Err-Memory.is ∙ ap (λ (e : WritesFault). as_fault (Err e)) w.in-Err-Memory.field-0-is ∙ sym w.result-is) full
-    ]
+    let v : Option Bytes = Some c.args.value.now in
+    let did = c.put.ensures in
+    let after : View = record t { writes = c.put.new.self } in
+    let answered : Answered c.put.result t.writes c.put.new.self k v =
+    record { ok = did.ok; err = did.err; entries = did.entries; full = did.full } in
+    let of = λ (e : WritesFault). as_fault (Err e) in
+    let is : as_fault c.put.result ≡ c.match-put.result = elim c.match-put.branch [
+      | in-Ok w ↦ ap as_fault w.in-Ok.is ∙ sym w.result-is
+      | in-Err-FullWrites w ↦ ap as_fault w.in-Err-FullWrites.is ∙ ap of w.in-Err-FullWrites.field-0-is ∙ sym w.result-is
+      | in-Err-Memory w ↦ ap as_fault w.in-Err-Memory.is ∙ ap of w.in-Err-Memory.field-0-is ∙ sym w.result-is
+    ] in
+    let full = write-full c.put.result c.self.inside.buffer c.put.new.self k v answered in
+    let made = write-made c.put.result t c.put.new.self k v answered in
+    record {
+      ok = grind (arith, common_steps);
+      err = grind (arith, common_steps);
+      full = subst (λ (u : View). (c.match-put.result ≡ Err FullWrites) ↔ IsTrue (is_full_for u.writes k)) c.self.view_is
+          (subst (λ r. (r ≡ Err FullWrites) ↔ IsTrue (is_full_for c.self.inside.buffer k)) is full);
+      reply = λ m qs h. subst (λ r. IsDoneReply r (answer m qs (write_of k v))) is
+          (write-reply c.put.result t c.put.new.self m qs k v answered (subst (λ (u : View). HasMade u m qs) (sym c.self.view_is) h));
+      made = subst (λ (u : View). OnOk c.match-put.result (MakesOneMore u after (write_of k v))) c.self.view_is
+          (subst (λ r. OnOk r (MakesOneMore t after (write_of k v))) is made);
+    }

@@ -3,20 +3,10 @@ use Rattle.std.specs.List.{AllByRecursion}
 use Rattle.sorted_pages.specs.Pages.{entries}
 use Rattle.versions.specs.Groups.{GroupValue, Listed}
 use Rattle.versions.specs.Witnesses.{IsUnderWitness}
-use Rattle.versions.specs.Listings.{AreKept, IsSettled, IsTakenIn, versions_in}
+use Rattle.versions.specs.Listings.{IsSettled, IsTakenIn, versions_in}
 use Rattle.std.proofs.lemmas.Bool.{eqb-true}
-use Rattle.versions.proofs.Parts.{all-parts, all-three, due-taken, kept-put_back, no-versions, parts-settled}
+use Rattle.versions.proofs.Parts.{all-parts, all-three, due-taken, no-versions, parts-settled}
 use Rattle.versions.proofs.listing.Group.look_at_mixed.Goals as goal
-
-pub returns-clause-left : goal.returns-clause-left
-returns-clause-left c =
-    let es = entries c.settle_lists.new.chains in
-    let looked = subst (λ l. AreKept (versions_in l) (versions_in c.settle_lists.new.lists) es) c.replace-mixed.ensures.value c.settle_lists.ensures.left in
-    subst (λ (g : GroupValue). AreKept g.versions c.keep.new.self.versions es) c.self.view_is
-    (kept-put_back (versions_in c.self.inside.lists) (versions_in c.self.inside.due) (versions_in c.self.inside.mixed) (versions_in c.replace-mixed.new.dest) (versions_in c.settle_lists.new.lists) c.keep.new.self.versions es looked c.keep.ensures.found c.keep.ensures.kept)
-
-pub returns-clause-due : goal.returns-clause-due
-returns-clause-due c = due-taken c.args.begins.now c.keep.new.self c.keep.ensures.taken_in ∙ c.keep.ensures.due ∙ ap (λ (g : GroupValue). g.due) c.self.view_is
 
 pub returns-clause-settled : goal.returns-clause-settled
 returns-clause-settled c = λ none.

@@ -4,13 +4,13 @@ use Rattle.std.specs.List.{AllByRecursion}
 use Rattle.model.specs.Map.{Bytes, KeyWrite}
 use Rattle.sorted_pages.specs.Pages.{entries}
 use Rattle.versions.specs.Chains.{ChainsValue, find_chain}
-use Rattle.versions.specs.Listings.{AreSeenFrom, HasFewLists, IsFollowed, IsListed, lists_in, unwitnessed, versions_in}
+use Rattle.versions.specs.Listings.{HasFewLists, IsFollowed, IsListed, lists_in, unwitnessed, versions_in}
 use Rattle.versions.specs.Groups.{GroupValue, Listed}
 use Rattle.versions.specs.Meaning.{AreInstalled, IsInstalled}
 use Rattle.versions.specs.Witnesses.{AreUnderWitnesses, IsAddedTo}
 use Rattle.versions.proofs.Lists.{in-first, in-filled}
 use Rattle.versions.proofs.Listings.{groups-found, found-last}
-use Rattle.versions.proofs.Groups.{length-set}
+use Rattle.std.proofs.lemmas.List.{length-set}
 use Rattle.versions.proofs.Witnesses.{lists-push}
 use Rattle.versions.proofs.Histories.{stands-installed}
 use Rattle.versions.proofs.UnderWitnesses.{groups-installed}
@@ -21,10 +21,6 @@ whole old inside new n ws same h last = subst (λ (v : ChainsValue). IsInstalled
 
 pub add_all-requires-clause-none : goal.add_all-requires-clause-none
 add_all-requires-clause-none c = in-first c.replace-listed.result c.in-Some.list.now (ap versions_in c.replace-listed.ensures.value ∙ c.self.invariant.2) (c.in-Some.ensures.variant.0 refl) c.in-Some.ensures.value
-
-pub new-requires-2 : goal.new-requires-2
-new-requires-2 c =
-    subst (AreSeenFrom (c.args.n - 1)) (sym (in-filled c.replace-listed.result c.add_all.new.listed (ap versions_in c.replace-listed.ensures.value ∙ c.self.invariant.2) (c.in-Some.ensures.variant.0 refl))) c.add_all.ensures.seen
 
 -- one list more, for the commit
 few : {Z : Type 0} (last n : ℕ) (gs : List GroupValue) (g : GroupValue) (hs : List GroupValue) (next : List (Vec Listed Z)) → hs ≡ gs ++ g ∷ [] → lists_in gs ≤ last → last < n → n < 2 ^ 63 → g.lists ≤ 1 → next ≡ [] → HasFewLists hs next n

@@ -7,7 +7,8 @@ use Rattle.versions.specs.StandsFor.{StandsFor}
 use Rattle.model.specs.Map.{KeyMap}
 use Rattle.model.specs.History.{Record}
 use Rattle.versions.proofs.Stores.{roomier-refl, roomier-trans, same-roomier}
-use Rattle.versions.proofs.Calls.{Preparing, preparing, take_all, has_chain_room, has_place}
+use Rattle.std.proofs.lemmas.List.{take_all}
+use Rattle.versions.proofs.Calls.{Preparing, preparing, has_chain_room, has_place}
 use Rattle.versions.proofs.Histories.{stands-same}
 use Rattle.versions.proofs.versions.Versions.prepare.Goals as goal
 
@@ -84,7 +85,7 @@ returns-clause-stands c = stands c.args.self.now c.loop-write.self _ c.loop-writ
 pub returns-clause-prepared : goal.returns-clause-prepared
 returns-clause-prepared c =
     let n = length c.args.writes.now in
-    let p = subst (λ l. Preparing n c.loop-write.self.chains c.loop-write.self.pages l) (take_all c.args.writes.now c.loop-write.write-index c.loop-write-test.false) c.loop-write.invariant.prepared in
+    let p = subst (λ l. Preparing n c.loop-write.self.chains c.loop-write.self.pages l) (take_all c.loop-write.write-index c.args.writes.now c.loop-write-test.false) c.loop-write.invariant.prepared in
     let q = subst (λ (v : ChainsValue). Preparing n v.chains v.pages c.args.writes.now) (sym c.self.view_is) p in
     let listed = c.in_ok-reserve_list.ensures.made in
     let groups = c.in_ok-reserve.ensures.ok in

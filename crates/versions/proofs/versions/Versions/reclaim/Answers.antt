@@ -15,9 +15,6 @@ whole : (old inside new : ChainsValue) (bs : List ℕ) → inside ≡ old → Is
     → (due_of bs new ≡ 0 → (k : Bytes) → find_chain k new.chains ≡ option_map (reclaimed bs) (find_chain k inside.chains)) → IsReclaimed old new bs
 whole old inside new bs same kept kept' last due part all = subst (λ (v : ChainsValue). IsReclaimed v new bs) same (reclaimed-whole inside new bs kept kept' last due part all)
 
-pub reclaim_versions-requires-clause-kept : goal.reclaim_versions-requires-clause-kept
-reclaim_versions-requires-clause-kept c = (c.self.inside.last, c.self.invariant.0)
-
 pub invariant_of-self : goal.invariant_of-self
 invariant_of-self c = (c.reclaim_versions.ensures.kept c.self.inside.last c.self.invariant.0, c.reclaim_versions.ensures.listed, c.self.invariant.2, record { lists = omega (arith, c.self.invariant.3.lists, c.reclaim_versions.ensures.lists); ready = c.self.invariant.3.ready; fits = c.self.invariant.3.fits })
 
@@ -44,6 +41,3 @@ returns-clause-unmixed c = λ held base history s all.
     let bs = c.args.begins.now in
     groups-unmixed bs (λ n. held n && is_among bs n) _ c.self.inside.last (left held bs all) (c.reclaim_versions.ensures.kept c.self.inside.last c.self.invariant.0) c.reclaim_versions.new.groups.items
     c.reclaim_versions.ensures.held (returns-clause-stands c held base history s).witnessed c.reclaim_versions.ensures.mixed c.reclaim_versions.ensures.truly
-
-pub reclaim_versions-requires-clause-few : goal.reclaim_versions-requires-clause-few
-reclaim_versions-requires-clause-few c = omega (arith, c.self.invariant.3.lists, c.self.invariant.3.fits)
