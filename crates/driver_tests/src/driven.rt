@@ -1,0 +1,40 @@
+//! A hub with clients in memory.
+ghost use Rattle.stream_driver.specs.Sessions.{Stands};
+
+use hub_tests::new_hub;
+use sector::MemSectors;
+use sessions::{Event, Hub, Status};
+use std::alloc::Global;
+use std::test::Fail;
+use stream_driver::{Progress, Stream, drive};
+
+/// A hub that stands for some state: the driver wants its session to be present in one.
+#[derive(Drop)]
+pub(crate) struct Driven {
+    pub(crate) hub: Hub<MemSectors>,
+    ghost stands: { Stands hub },
+}
+
+impl Driven {
+    pub(crate) fn new(alloc: Global) -> Result<Driven, Fail> {
+        Ok(Driven {
+            hub: new_hub(alloc, 4096)?,
+        })
+    }
+
+    pub(crate) fn join(&mut self, session: u64) {
+        let _ = self.hub.step(&Event::Joined(session));
+    }
+
+    pub(crate) fn is_present(&self, session: u64) -> bool {
+        self.hub.status(session) != Status::Absent
+    }
+
+    /// Drives a session, and tells of one that is not present that it is gone.
+    pub(crate) fn drive<S: Stream>(&mut self, session: u64, stream: &mut S) -> Progress {
+        if self.hub.status(session) == Status::Absent {
+            return Progress::Gone;
+        }
+        drive(&mut self.hub, session, stream)
+    }
+}

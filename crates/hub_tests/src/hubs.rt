@@ -1,0 +1,70 @@
+//! Hubs over devices in memory.
+ghost use Rattle.std.specs.Prelude.{◌≤◌, IfOk};
+ghost use Rattle.stream_driver.specs.Sessions.{Stands};
+ghost use Rattle.sessions.specs.Lives.{IsOpened};
+ghost use Rattle.event_loop.specs.Tables.{HasNobody};
+
+use commit_log::format;
+use model::Memory;
+use rows::Store;
+use sector::{MemSectors, Sectors};
+use sessions::{Event, Hub, Outcome};
+use std::alloc::Global;
+use std::test::Fail;
+
+/// A hub over a formatted device of so many sectors.
+pub fn new_hub(alloc: Global, sectors: u64) -> Result<Hub<MemSectors>, Fail>
+    requires { sectors ≤ 65536 }
+    ensures stands { IfOk result (λ hub. Stands hub) }
+    ensures nobody { IfOk result (λ hub. HasNobody hub) }
+    ensures opened { IfOk result (λ hub. IsOpened hub) }
+{
+    let mut device = MemSectors::new(alloc, sectors)?;
+    format(&mut device)?;
+    opened(alloc, device)
+}
+
+/// A hub over a formatted device.
+pub fn opened<D: Sectors>(alloc: Global, device: D) -> Result<Hub<D>, Fail>
+    ensures stands { IfOk result (λ hub. Stands hub) }
+    ensures nobody { IfOk result (λ hub. HasNobody hub) }
+    ensures opened { IfOk result (λ hub. IsOpened hub) }
+{
+    let hub = Hub::open(alloc, device)?;
+    Ok(hub)
+}
+
+/// A hub whose sessions 1 to 70 have joined. Requests come in pieces of `size` bytes.
+#[derive(Drop)]
+pub struct Pieces {
+    /// The hub.
+    pub hub: Hub<MemSectors>,
+    /// The bytes of a piece.
+    pub size: usize,
+}
+
+impl Pieces {
+    /// Over this hub, which these sessions join. The hub's table grows.
+    pub fn new(mut hub: Hub<MemSectors>, size: usize) -> Pieces {
+        for session in 1..=70u64 {
+            let _ = hub.step(&Event::Joined(session));
+        }
+        Pieces { hub, size }
+    }
+}
+
+impl Store for Pieces {
+    fn answer(&mut self, session: u64, frame: &[u8], out: &mut Vec<u8>) -> Result<(), Memory> {
+        for piece in frame.chunks(self.size.max(1)) {
+            let _ = self.hub.step(&Event::Bytes(session, piece));
+        }
+        if let Outcome::Memory = self.hub.step(&Event::Serve(session)) {
+            return Err(Memory);
+        }
+        let pending = self.hub.pending(session);
+        let sent = pending.len();
+        out.extend_from_slice(pending)?;
+        let _ = self.hub.step(&Event::Sent(session, sent));
+        Ok(())
+    }
+}
