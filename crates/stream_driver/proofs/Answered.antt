@@ -33,20 +33,12 @@ ends_same call a b ends = ends.0.5 ∙ by call
   where
     by : (call : Call) → (after_call call a).connection ≡ a.connection
     by (Read (Moved n)) = refl
-    by (Read Blocked) = refl
-    by (Read Failed) = refl
-    by (Read Ended) = refl
     by (Write (Wrote n)) = refl
-    by (Write WriteBlocked) = refl
-    by (Write WriteFailed) = refl
+    by _ = refl
 
 -- counts of a call, with what a stream moved
 module _ (given taken : List ℕ) (departed : List Departure) (connection : ℕ) (later_given later_taken : List ℕ) (later_departed : List Departure) (later : ℕ) (same : later ≡ connection) (old new : Counts) where
   pub ends_counted : (call : Call) → EndsWith call (counted old) (counted new) → EndsWith call (counted_with old given taken departed connection) (counted_with new later_given later_taken later_departed later)
   ends_counted (Read (Moved n)) ((p, q, r, t, u, v), last) = ((p, q, r, t, u, same), last)
-  ends_counted (Read Blocked) ((p, q, r, t, u, v), last) = ((p, q, r, t, u, same), last)
-  ends_counted (Read Failed) ((p, q, r, t, u, v), last) = ((p, q, r, t, u, same), last)
-  ends_counted (Read Ended) ((p, q, r, t, u, v), last) = ((p, q, r, t, u, same), last)
   ends_counted (Write (Wrote n)) ((p, q, r, t, u, v), last) = ((p, q, r, t, u, same), last)
-  ends_counted (Write WriteBlocked) ((p, q, r, t, u, v), last) = ((p, q, r, t, u, same), last)
-  ends_counted (Write WriteFailed) ((p, q, r, t, u, v), last) = ((p, q, r, t, u, same), last)
+  ends_counted _ ((p, q, r, t, u, v), last) = ((p, q, r, t, u, same), last)

@@ -28,8 +28,7 @@ empty_room h e =
 
 pub room_after : {T : Type 0} (traffic : T → Traffic) (answer : Flushed) (a b : BufferedStream T) → WhyFlushed traffic a answer b → WhyRoom traffic a answer b
 room_after traffic All a b e = (empty_room b.held e.0, e.1)
-room_after traffic Blocked a b e = e
-room_after traffic Failed a b e = e
+room_after traffic _ a b e = e
 
 pub not_less : (n len : ℕ) (b : Bool) → len ≤ n → b ≡ nat_lt n len → b ≡ false
 not_less n len b le is = grind (arith, nat_tests)
@@ -51,9 +50,6 @@ some_length (x ∷ xs) some = omega arith
 
 pub beginning_then : (bytes all more later : List ℕ) → IsBeginning bytes all → later ≡ all ++ more → IsBeginning bytes later
 beginning_then bytes all more later b e = record { rest = b.rest ++ more; all_is = e ∙ ap (λ l. l ++ more) b.all_is ∙ append_assoc bytes b.rest more }
-
-pub begins_with_none : (all : List ℕ) → IsBeginning all all
-begins_with_none all = record { rest = []; all_is = sym (append-nil all) }
 
 pub beginnings_then : (moment : ℕ) (all more later : List ℕ) → later ≡ all ++ more → (ds : List Departure) → AllByRecursion (λ d. (d.moment ≡ moment) × IsBeginning d.bytes all) ds
     → AllByRecursion (λ d. (d.moment ≡ moment) × IsBeginning d.bytes later) ds
@@ -110,9 +106,8 @@ module _ {T : Type 0} where
 
   -- where there was no room, what is held was written
   pub room_flushed : (a : BufferedStream T) (answer : Flushed) (b : BufferedStream T) → room_in a.held ≡ 0 → FlushFails a answer b → RoomFails a answer b
-  room_flushed a All b none s = elim s [ inl x ↦ inl x.1 | inr y ↦ inr (none, y.1) ]
-  room_flushed a Blocked b none s = elim s [ inl x ↦ inl x.1 | inr y ↦ inr (none, y.1) ]
   room_flushed a Failed b none s = s
+  room_flushed a _ b none s = elim s [ inl x ↦ inl x.1 | inr y ↦ inr (none, y.1) ]
 
   pub write_fails : (old mid new : BufferedStream T) (answer : WriteAnswer) → StaysWithRoom old mid → held_in new.held ≡ [] → new.has_failed ≡ mid.has_failed → WriteFails old answer new
   write_fails old mid new answer s none same = by answer
@@ -121,9 +116,8 @@ module _ {T : Type 0} where
       stays = elim s [ inl x ↦ inl (same ∙ x) | inr y ↦ inr (y.0, same ∙ y.1) ]
 
       by : (answer : WriteAnswer) → WriteFails old answer new
-      by (Wrote n) = stays
-      by WriteBlocked = stays
       by WriteFailed = inr (none, stays)
+      by _ = stays
 
   pub read_fails : (old mid new : BufferedStream T) (answer : ReadAnswer) → StaysFailed old mid → held_in mid.held ≡ [] → held_in new.held ≡ held_in mid.held → new.has_failed ≡ mid.has_failed → ReadFails old answer new
   read_fails old mid new answer s none held same = by answer
@@ -132,17 +126,13 @@ module _ {T : Type 0} where
       stays = stays_on old mid new s held same
 
       by : (answer : ReadAnswer) → ReadFails old answer new
-      by (Moved n) = stays
-      by ReadBlocked = stays
       by ReadFailed = inr (held ∙ none, stays)
-      by Ended = stays
+      by _ = stays
 
   -- a read that moved nothing
   pub short_still : (old new : BufferedStream T) (len : ℕ) (answer : ReadAnswer) → ((n : ℕ) → answer ≢ Moved n) → new.is_short ≡ old.is_short → ShortAfter old len answer new
   short_still old new len (Moved n) differs same = absurd (differs n refl)
-  short_still old new len ReadBlocked differs same = same
-  short_still old new len ReadFailed differs same = same
-  short_still old new len Ended differs same = same
+  short_still old new len _ differs same = same
 
   -- a call of a buffered stream is of the connection of the stream behind
   module _ (traffic : T → Traffic) (old new : BufferedStream T) where
@@ -150,15 +140,13 @@ module _ {T : Type 0} where
     ends_behind call ends = ends_same call (traffic old.inner) (traffic new.inner) ends
 
     pub gave_same : (answer : ReadAnswer) → WhyGave traffic old answer new → (traffic new.inner).connection ≡ (traffic old.inner).connection
-    gave_same (Moved n) why = ends_behind (Read (Moved n)) why.2
-    gave_same Ended why = ends_behind (Read Ended) why.2
     gave_same ReadFailed why = elim why [ inl read ↦ ends_behind (Read ReadFailed) read.2 | inr ends ↦ ends_behind (Write WriteFailed) ends ]
     gave_same ReadBlocked why = elim why [ inl read ↦ ends_behind (Read ReadBlocked) read.2 | inr other ↦ elim other [ inl ends ↦ ends_behind (Write WriteBlocked) ends | inr none ↦ none.2.5 ] ]
+    gave_same answer why = ends_behind (Read answer) why.2
 
     pub took_same : (answer : WriteAnswer) → WhyTook traffic old answer new → (traffic new.inner).connection ≡ (traffic old.inner).connection
     took_same (Wrote n) why = why.5
-    took_same WriteBlocked why = ends_behind (Write WriteBlocked) why
-    took_same WriteFailed why = ends_behind (Write WriteFailed) why
+    took_same answer why = ends_behind (Write answer) why
 
     pub flushed_same : (answer : Flushed) → WhyFlushed traffic old answer new → (traffic new.inner).connection ≡ (traffic old.inner).connection
     flushed_same All why = why.1.5
@@ -185,9 +173,6 @@ module _ {T : Type 0} where
     flushed_none b = (record { given = λ t. refl; taken = λ t. refl; departed = λ t. none_departed moment (traffic_through traffic b) (traffic_through traffic b) refl; counts = refl; short = refl; drained = refl; reads_on = refl }, stays_same b, none_called (traffic b.inner))
 
     module _ (a b : BufferedStream T) (so_far : FlushedSoFar a b) where
-      pub flushed_all : held_in b.held ≡ [] → Flushes tells traffic moment a All b
-      flushed_all none = record { kept = so_far.0; why = (none, so_far.2); failed = so_far.1 }
-
       pub flushed_more : (n : ℕ) (c : BufferedStream T) → WritesHeld tells traffic moment b (Wrote n) c → FlushedSoFar a c
       flushed_more n c w = (kept_then a b c so_far.0 w.kept, stays_moved a b c n so_far.1 w.why.0 w.why.1 w.why.2 w.why.3, moved_then (traffic a.inner) (traffic b.inner) (traffic c.inner) so_far.2 w.why.4)
 
@@ -244,15 +229,13 @@ module _ {T : Type 0} where
     left_then a b c more p t taken q = departed_then moment (traffic_through traffic a) (traffic_through traffic b) (traffic_through traffic c) more taken (p.departed t) (left_behind b c q)
 
     why_gave : (old new : BufferedStream T) (answer : ReadAnswer) → WasRead traffic old answer new → WhyGave traffic old answer new
-    why_gave old new (Moved n) read = read
     why_gave old new ReadBlocked read = inl read
     why_gave old new ReadFailed read = inl read
-    why_gave old new Ended read = read
+    why_gave old new _ read = read
 
     why_took : (old new : BufferedStream T) (answer : WriteAnswer) → BehindEnds traffic (Write answer) old new → WhyTook traffic old answer new
     why_took old new (Wrote n) ends = ends.0
-    why_took old new WriteBlocked ends = ends
-    why_took old new WriteFailed ends = ends
+    why_took old new _ ends = ends
 
     -- the stream behind was read once nothing was held
     pub gives_some : (old mid : BufferedStream T) (inner : T) (short : Bool) (before after : List ℕ) (answer : ReadAnswer) → Flushes tells traffic moment old All mid → ReadsWithin answer (length before)

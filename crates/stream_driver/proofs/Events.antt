@@ -1,5 +1,5 @@
 -- What one event does to the history of its session.
-use Rattle.std.proofs.Common.{◌≡◌, ◌≢◌, ℕ, ◌+◌, ◌≤◌, Bool, nat_le, nat_lt, true, false, if◌then◌else◌, [], ◌∷◌, ◌++◌, length, take, drop, Option, Some, None, refl, sym, ap, subst, ◌∙◌, arith}
+use Rattle.std.proofs.Common.{◌≡◌, ◌≢◌, ℕ, ◌+◌, ◌≤◌, Bool, nat_le, nat_lt, true, false, if◌then◌else◌, List, [], ◌∷◌, ◌++◌, length, take, drop, Option, Some, None, refl, sym, ap, subst, ◌∙◌, arith}
 use Rattle.std.specs.List.{flat_map}
 use Rattle.std.specs.Map.{lookup, set_value}
 use Rattle.std.proofs.lemmas.Bool.Decides.{nat_tests}
@@ -7,10 +7,11 @@ use Rattle.std.proofs.lemmas.List.{append-nil, take-append-drop}
 use Rattle.model.specs.Map.{Bytes}
 use Rattle.model.specs.Machine.{State, step}
 use Rattle.model.specs.Grammar.{IsProperBeginning}
+use Rattle.model.specs.Operations.{Response}
 use Rattle.model.specs.ReplyText.{reply_text}
 use Rattle.sessions.specs.declared.events.Status.TheVariants.{Absent, Open, Ending, Refused}
 use Rattle.sessions.specs.declared.events.Outcome.TheVariants.{Done, Memory, Idle}
-use Rattle.sessions.specs.SessionStreams.{HubState, IsServed, SessionState, SessionStream, HubEvent, Joins, Receives, Serves, Sends, Leaves, Front, Whole, More, Bad, IsFront, Choice, Effect, IsPossible, IsServePossible, hub_step, stream_of, with_stream, with_effect, is_open, may_serve, serve_front, out_of_memory, served_with, no_effect, broken_frame, asks, room}
+use Rattle.sessions.specs.SessionStreams.{HubState, IsServed, SessionState, SessionStream, HubEvent, Joins, Receives, Serves, Sends, Leaves, Front, Whole, More, Bad, IsFront, Choice, Effect, IsPossible, IsServePossible, hub_step, stream_of, with_stream, with_effect, depart, is_open, may_serve, serve_front, out_of_memory, served_with, no_effect, broken_frame, asks, room}
 use Rattle.sessions.specs.StandsFor.{status_in}
 use Rattle.sessions.specs.Laws.{failures_in}
 use Rattle.engine.specs.Meaning.{has_risen}
@@ -24,19 +25,28 @@ found (Some st) here = (st, refl)
 pub open_present : (h : HubState) (s : ℕ) → status_at h s ≡ Open → IsPresentIn h s
 open_present h s is = λ gone. (let bad : Open ≡ Absent = sym is ∙ gone in cc)
 
+-- each list of the history grows by so much
+abbrev pub grows_by : (first last : SessionStream) (received : Bytes) (served : List (List Bytes)) (replies : List Response) (sent : Bytes)
+    → last.received ≡ first.received ++ received → last.served ≡ first.served ++ served → last.replies ≡ first.replies ++ replies
+    → last.sent ≡ first.sent ++ sent → sent ++ last.now.pending ≡ first.now.pending ++ flat_map reply_text replies → GoesOn first last
+grows_by first last received served replies sent received_is served_is replies_is sent_is texts = record {
+  received = received;
+  received_is = received_is;
+  served = served;
+  served_is = served_is;
+  replies = replies;
+  replies_is = replies_is;
+  sent = sent;
+  sent_is = sent_is;
+  texts = texts;
+}
+
+abbrev pub still : {A : Type 0} (xs : List A) → xs ≡ xs ++ []
+still xs = sym (append-nil xs)
+
 -- nothing has happened
 abbrev pub same_history : (st : SessionStream) → GoesOn st st
-same_history st = record {
-  received = [];
-  received_is = sym (append-nil st.received);
-  served = [];
-  served_is = sym (append-nil st.served);
-  replies = [];
-  replies_is = sym (append-nil st.replies);
-  sent = [];
-  sent_is = sym (append-nil st.sent);
-  texts = sym (append-nil st.now.pending);
-}
+same_history st = grows_by st st [] [] [] [] (still st.received) (still st.served) (still st.replies) (still st.sent) (still st.now.pending)
 
 abbrev pub adds_none : (p : Point) → Adds p [] p
 adds_none p = record { run_is = refl; events_are = sym (append-nil p.events) }
@@ -100,17 +110,8 @@ unfolding hub_step
 receives h s piece c st is opened fits = let test : nat_lt (room st.now) (length piece) ≡ false = grind (arith, nat_tests) in rw (is, opened, test) refl
 
 abbrev pub bytes_came : (st : SessionStream) (piece : Bytes) → GoesOn st (received_by st piece)
-bytes_came st piece = record {
-  received = piece;
-  received_is = refl;
-  served = [];
-  served_is = sym (append-nil st.served);
-  replies = [];
-  replies_is = sym (append-nil st.replies);
-  sent = [];
-  sent_is = sym (append-nil st.sent);
-  texts = sym (append-nil st.now.pending);
-}
+bytes_came st piece =
+    grows_by st (received_by st piece) piece [] [] [] refl (still st.served) (still st.replies) (still st.sent) (still st.now.pending)
 
 -- ---- bytes are sent
 
@@ -122,17 +123,9 @@ unfolding hub_step
 sends h s n c st is fits = let test : nat_le n (length st.now.pending) ≡ true = grind (arith, nat_tests) in rw (is, test) refl
 
 abbrev pub bytes_went : (st : SessionStream) (n : ℕ) → GoesOn st (sent_from st n)
-bytes_went st n = record {
-  received = [];
-  received_is = sym (append-nil st.received);
-  served = [];
-  served_is = sym (append-nil st.served);
-  replies = [];
-  replies_is = sym (append-nil st.replies);
-  sent = take n st.now.pending;
-  sent_is = refl;
-  texts = take-append-drop n st.now.pending ∙ sym (append-nil st.now.pending);
-}
+bytes_went st n =
+    grows_by st (sent_from st n) [] [] [] (take n st.now.pending) (still st.received) (still st.served) (still st.replies) refl
+    (take-append-drop n st.now.pending ∙ still st.now.pending)
 
 -- ---- a request is looked for
 
@@ -157,17 +150,9 @@ effect_texts More c m s n nothing = nothing
 effect_texts Bad c m s n nothing = sym (append-nil _)
 
 abbrev pub was_served : (st : SessionStream) (e : Effect) → st.now.pending ≡ [] → e.now.pending ≡ flat_map reply_text e.replies → GoesOn st (after_effect st e)
-was_served st e nothing texts = record {
-  received = [];
-  received_is = sym (append-nil st.received);
-  served = e.served;
-  served_is = refl;
-  replies = e.replies;
-  replies_is = refl;
-  sent = [];
-  sent_is = sym (append-nil st.sent);
-  texts = texts ∙ sym (ap (λ l. l ++ flat_map reply_text e.replies) nothing);
-}
+was_served st e nothing texts =
+    grows_by st (after_effect st e) [] e.served e.replies [] (still st.received) refl refl (still st.sent)
+    (texts ∙ sym (ap (λ l. l ++ flat_map reply_text e.replies) nothing))
 
 -- what a request that is looked for comes to
 pub data Comes (n : SessionState) (e : Effect) : Type 0 where
@@ -229,8 +214,5 @@ module _ (s : ℕ) (p : Point) (c : Choice) (count : ℕ) (st : SessionStream) (
 
 pub leaves_others : (h : HubState) (s : ℕ) (c : Choice) (t : ℕ) → t ≢ s → stream_of (hub_step h (Leaves s) c).0 t ≡ stream_of h t
 unfolding hub_step
-leaves_others h s c t apart = by (stream_of h s)
-  where
-    by : (o : Option SessionStream) → stream_of (Rattle.sessions.specs.SessionStreams.depart o h s).0 t ≡ stream_of h t
-    by None = refl
-    by (Some st) = remove-other h.present t s apart
+leaves_others h s c t apart =
+    elim (stream_of h s) as (λ o. stream_of (depart o h s).0 t ≡ stream_of h t) [ None ↦ refl | Some st ↦ remove-other h.present t s apart ]

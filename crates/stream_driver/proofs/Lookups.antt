@@ -1,21 +1,16 @@
 -- Sessions in the list of those that are present, after one of them has changed, come or gone.
-use Rattle.std.proofs.Common.{◌≡◌, ℕ, Bool, true, false, cond, List, [], ◌∷◌, Some, None, option_map, refl, sym, ap, ◌∙◌, nat_cmp, arith}
+use Rattle.std.proofs.Common.{◌≡◌, ℕ, Bool, true, false, cond, List, [], ◌∷◌, Some, None, refl, sym, ap, ◌∙◌, nat_cmp, arith}
 use Rattle.std.specs.Map.{lookup, remove_entry, set_value}
 use Rattle.std.specs.BTreeMap.{is_at}
 use Rattle.std.proofs.lemmas.Bool.Decides.{nat_tests}
+use Rattle.std.proofs.lemmas.Grind.{common_steps}
 use Rattle.sessions.specs.SessionStreams.{SessionStream}
-use Rattle.sessions.specs.StandsFor.{at_hand}
 
 abbrev pub test : ℕ → ℕ → Bool
 test s = is_at (nat_cmp s)
 
 same_number : (q s x : ℕ) → test q x ≡ true → test s x ≡ true → q ≡ s
 same_number q s x a b = grind (arith, nat_tests)
-
-pub lookup-at_hand : (s : ℕ) (es : List (ℕ × SessionStream)) → lookup (test s) (at_hand es) ≡ option_map (λ st. st.now) (lookup (test s) es)
-lookup-at_hand s [] = refl
-lookup-at_hand s (e ∷ es) =
-    elim (test s e.0) as (λ b. cond b (Some e.1.now) (lookup (test s) (at_hand es)) ≡ option_map (λ st. st.now) (cond b (Some e.1) (lookup (test s) es))) [ true ↦ refl | false ↦ lookup-at_hand s es ]
 
 module _ (s : ℕ) (w : SessionStream) where
   pub set-same : (es : List (ℕ × SessionStream)) (v : SessionStream) → lookup (test s) es ≡ Some v → lookup (test s) (set_value (test s) es w) ≡ Some w
@@ -39,9 +34,4 @@ module _ (s : ℕ) (w : SessionStream) where
 
 pub remove-other : (es : List (ℕ × SessionStream)) (q s : ℕ) → (q ≡ s → ⊥) → lookup (test q) (remove_entry (test s) es) ≡ lookup (test q) es
 remove-other [] q s apart = refl
-remove-other (e ∷ es) q s apart = by (test s e.0) (test q e.0) (remove-other es q s apart) refl refl
-  where
-    by : (a b : Bool) → lookup (test q) (remove_entry (test s) es) ≡ lookup (test q) es → test s e.0 ≡ a → test q e.0 ≡ b → lookup (test q) (cond a es (e ∷ remove_entry (test s) es)) ≡ cond b (Some e.1) (lookup (test q) es)
-    by true true rec ta tb = absurd (apart (same_number q s e.0 tb ta))
-    by true false rec ta tb = ap (λ b. cond b (Some e.1) (lookup (test q) es)) (sym tb) ∙ ap (λ b. cond b (Some e.1) (lookup (test q) es)) tb
-    by false b rec ta tb = ap (λ b. cond b (Some e.1) (lookup (test q) (remove_entry (test s) es))) tb ∙ ap (λ o. cond b (Some e.1) o) rec
+remove-other (e ∷ es) q s apart = grind (arith, common_steps, same_number, nat_tests, remove-other es q s apart)

@@ -15,16 +15,20 @@ use Rattle.sessions.specs.declared.hub.Hub.{Hub}
 use Rattle.sessions.specs.Laws.{RunsAlone}
 use Rattle.sessions.specs.StandsFor.{StandsFor, HubLeads, status_in, pending_in, room_in, failures}
 use Rattle.stream_driver.specs.declared.answers.Call.TheVariants.{Read, Write}
+use Rattle.stream_driver.specs.declared.answers.ReadAnswer.{ReadAnswer}
+use Rattle.stream_driver.specs.declared.answers.WriteAnswer.{WriteAnswer}
 use Rattle.stream_driver.specs.declared.answers.ReadAnswer.TheVariants.{Moved, Blocked, Failed, Ended}
 use Rattle.stream_driver.specs.declared.answers.WriteAnswer.TheVariants.{Moved as Wrote, Blocked as WriteBlocked, Failed as WriteFailed}
+use Rattle.stream_driver.specs.declared.answers.Progress.{Progress}
 use Rattle.stream_driver.specs.declared.answers.Progress.TheVariants.{Waiting, Again, Gone}
+use Rattle.stream_driver.specs.declared.driving.Flush.{Flush}
 use Rattle.stream_driver.specs.declared.driving.Flush.TheVariants.{Empty, Blocked as FlushBlocked, Failed as FlushFailed}
 use Rattle.stream_driver.specs.declared.driving.Exchange.{Exchange}
 use Rattle.stream_driver.specs.declared.driving.Exchange.TheVariants.{Served, Broke as ExchangeBroke, Starved as ExchangeStarved, Blocked as ExchangeBlocked, Failed as ExchangeFailed, Ended as ExchangeEnded}
-use Rattle.stream_driver.specs.Traffic.{Traffic, AllMoved}
+use Rattle.stream_driver.specs.Traffic.{Traffic, AllMoved, EndsWith}
 use Rattle.stream_driver.specs.Sessions.{Point, Runs, AwaitsMore, status_at, pending_at, room_at, inbox_at, inbox_in, IsPresentIn}
-use Rattle.stream_driver.specs.Drives.{Carried, ComeWithin, Drove, Departs}
-use Rattle.stream_driver.specs.Calls.{Moves, WritesSome, ReadsSome, Flushes, Exchanges, WrittenSoFar, ReadSoFar, DrivenSoFar, DrivenOut, served_in}
+use Rattle.stream_driver.specs.Drives.{Carried, ComeWithin, Departs, Drove, EndsAs, Why}
+use Rattle.stream_driver.specs.Calls.{Moves, WritesSome, ReadsSome, Flushes, Exchanges, WhyExchanged, WhyFlushed, WrittenSoFar, ReadSoFar, DrivenSoFar, DrivenOut, served_in}
 use Rattle.stream_driver.specs.Sends.{LeadsTelling}
 use Rattle.stream_driver.proofs.States.{Follow}
 use Rattle.stream_driver.proofs.Sends.{tells_step, tells_two_at}
@@ -84,17 +88,17 @@ module _ (s : ℕ) (tells : Type 0) where
       pub written_within : (n : ℕ) → WritesSome s tells mid between (Wrote n) new after → n ≤ owed
       written_within n q = let was = p.owed_is in let left = q.why.1 in omega arith
 
-      pub written_blocked : 0 < owed → WritesSome s tells mid between WriteBlocked new after → Flushes s tells old before FlushBlocked new after
-      written_blocked some q = record {
-        moves = moves_then p.moves q.moves;
-        why = (ends_then (Write WriteBlocked) before between after p.moved q.answered, λ none. some_more (pending_at mid.hub s) owed p.owed_is some (sym q.why ∙ none));
-      }
-
-      pub written_failed : 0 < owed → WritesSome s tells mid between WriteFailed new after → Flushes s tells old before FlushFailed new after
-      written_failed some q = record {
-        moves = moves_then p.moves q.moves;
-        why = (ends_then (Write WriteFailed) before between after p.moved q.answered, λ none. some_more (pending_at mid.hub s) owed p.owed_is some (sym q.why ∙ none));
-      }
+      -- the stream stopped
+      pub written_stopped : (answer : WriteAnswer) (flush : Flush) → 0 < owed → (q : WritesSome s tells mid between answer new after)
+          → pending_at new.hub s ≡ pending_at mid.hub s
+          → (EndsWith (Write answer) before after × (pending_at new.hub s ≢ []) → WhyFlushed s new.hub before after flush)
+          → Flushes s tells old before flush new after
+      written_stopped answer flush some q same why =
+          let owing = some_more (pending_at mid.hub s) owed p.owed_is some in
+          record {
+            moves = moves_then p.moves q.moves;
+            why = why (ends_then (Write answer) before between after p.moved q.answered, λ none. owing (sym same ∙ none));
+          }
 
     module _ (room : ℕ) (p : ReadSoFar s tells old before mid between room) where
       pub read_then : (n : ℕ) → ReadsSome s tells mid between (Moved n) new after → ReadSoFar s tells old before new after (room - n)
@@ -110,35 +114,22 @@ module _ (s : ℕ) (tells : Type 0) where
       pub read_within : (n : ℕ) → ReadsSome s tells mid between (Moved n) new after → n ≤ room
       read_within n q = let was = p.room_is in let left = q.why.1 in omega arith
 
-      abbrev so_far : Moves s tells mid between new after → Moves s tells old before new after
-      so_far q = moves_then p.moves q
-
-      pub read_blocked : AwaitsMore mid.hub s → ReadsSome s tells mid between Blocked new after → Exchanges s tells old before ExchangeBlocked new after
-      read_blocked more q = record {
-        carried = (so_far q.moves).carried;
-        few = let none = (so_far q.moves).none_served in omega arith;
-        one_reply = none_is_few (so_far q.moves).carried.runs.history.replies (so_far q.moves).none_replied;
-        none_sent = none_in_both p.moves.carried.runs.history.sent q.moves.carried.runs.history.sent p.none_sent q.none_sent;
-        why = (ends_then (Read Blocked) before between after p.moved q.answered, subst (λ v. AwaitsMore v s) (sym q.why) more);
-      }
-
-      pub read_failed : AwaitsMore mid.hub s → ReadsSome s tells mid between Failed new after → Exchanges s tells old before ExchangeFailed new after
-      read_failed more q = record {
-        carried = (so_far q.moves).carried;
-        few = let none = (so_far q.moves).none_served in omega arith;
-        one_reply = none_is_few (so_far q.moves).carried.runs.history.replies (so_far q.moves).none_replied;
-        none_sent = none_in_both p.moves.carried.runs.history.sent q.moves.carried.runs.history.sent p.none_sent q.none_sent;
-        why = (ends_then (Read Failed) before between after p.moved q.answered, subst (λ v. AwaitsMore v s) (sym q.why) more);
-      }
-
-      pub read_ended : AwaitsMore mid.hub s → ReadsSome s tells mid between Ended new after → Exchanges s tells old before ExchangeEnded new after
-      read_ended more q = record {
-        carried = (so_far q.moves).carried;
-        few = let none = (so_far q.moves).none_served in omega arith;
-        one_reply = none_is_few (so_far q.moves).carried.runs.history.replies (so_far q.moves).none_replied;
-        none_sent = none_in_both p.moves.carried.runs.history.sent q.moves.carried.runs.history.sent p.none_sent q.none_sent;
-        why = (ends_then (Read Ended) before between after p.moved q.answered, subst (λ v. AwaitsMore v s) (sym q.why) more);
-      }
+      -- the stream stopped
+      pub read_stopped : (answer : ReadAnswer) (exchange : Exchange) → AwaitsMore mid.hub s
+          → (q : ReadsSome s tells mid between answer new after) → new.hub ≡ mid.hub
+          → ((served : ℕ) → EndsWith (Read answer) before after × AwaitsMore new.hub s
+          → WhyExchanged s new.hub before after served exchange)
+          → Exchanges s tells old before exchange new after
+      read_stopped answer exchange more q same why =
+          let all : Moves s tells old before new after = moves_then p.moves q.moves in
+          let ends = ends_then (Read answer) before between after p.moved q.answered in
+          record {
+            carried = all.carried;
+            few = let none = all.none_served in omega arith;
+            one_reply = none_is_few all.carried.runs.history.replies all.none_replied;
+            none_sent = none_in_both p.moves.carried.runs.history.sent q.moves.carried.runs.history.sent p.none_sent q.none_sent;
+            why = why (served_in all.carried) (ends, subst (λ v. AwaitsMore v s) (sym same) more);
+          }
 
   pub written_all : (old : Point) (before : Traffic) (new : Point) (after : Traffic) (owed : ℕ) → WrittenSoFar s tells old before new after owed → owed ≡ 0 → Flushes s tells old before Empty new after
   written_all old before new after owed p none = record { moves = p.moves; why = (p.moved, no_more (pending_at new.hub s) (sym none ∙ p.owed_is)) }
@@ -301,103 +292,76 @@ module _ (s : ℕ) (tells : Type 0) where
       bounded = bounded_more q.carried q.one_reply below;
     }
 
-    few_flushed : count ≤ 64 → (q : Moves s tells mid between new after) → served_in (further q.carried) ≤ 64
-    few_flushed le q = let all = total q.carried in let none = q.none_served in omega (arith, p.few)
-
-    few_served : count < 64 → (q : Carried s tells mid between new after) → served_in q ≤ 1 → served_in (further q) ≤ 64
-    few_served lt q few = let all = more q few in omega arith
-
-    pub waits_to_write : count ≤ 64 → Flushes s tells mid between FlushBlocked new after → Drove s tells old before Waiting new after
-    waits_to_write le q = record {
-      last = new;
-      carried = further q.moves.carried;
-      few = few_flushed le q.moves;
-      bounded = still q.moves;
-      ends = refl;
-      why = inl (ends_then (Write WriteBlocked) before between after p.moved q.why.0, q.why.1);
-    }
-
-    pub waits_to_read : IsBelow → count < 64 → Exchanges s tells mid between ExchangeBlocked new after → Drove s tells old before Waiting new after
-    waits_to_read below lt q = record {
+    -- the drive ends after a write of the output
+    drove_flushed : (answer : Progress) (end : Point) → count ≤ 64 → (q : Moves s tells mid between new after) → EndsAs s new end answer
+        → Why s new.hub before after (served_in (further q.carried)) (length (further q.carried).runs.history.sent) answer
+        → Drove s tells old before answer end after
+    drove_flushed answer end le q ends why = record {
       last = new;
       carried = further q.carried;
-      few = few_served lt q.carried q.few;
-      bounded = bounded_more q.carried q.one_reply below;
-      ends = refl;
-      why = inr (ends_then (Read Blocked) before between after p.moved q.why.0, q.why.1);
+      few = let all = total q.carried in let none = q.none_served in omega (arith, p.few);
+      bounded = still q;
+      ends = ends;
+      why = why;
     }
+
+    -- the drive ends after a request was looked for
+    drove_served : (answer : Progress) (end : Point) → IsBelow → count < 64 → (exchange : Exchange)
+        → (q : Exchanges s tells mid between exchange new after) → EndsAs s new end answer
+        → Why s new.hub before after (served_in (further q.carried)) (length (further q.carried).runs.history.sent) answer
+        → Drove s tells old before answer end after
+    drove_served answer end below lt exchange q ends why = record {
+      last = new;
+      carried = further q.carried;
+      few = let all = more q.carried q.few in omega arith;
+      bounded = bounded_more q.carried q.one_reply below;
+      ends = ends;
+      why = why;
+    }
+
+    pub waits_to_write : count ≤ 64 → Flushes s tells mid between FlushBlocked new after → Drove s tells old before Waiting new after
+    waits_to_write le q =
+        drove_flushed Waiting new le q.moves refl (inl (ends_then (Write WriteBlocked) before between after p.moved q.why.0, q.why.1))
+
+    pub waits_to_read : IsBelow → count < 64 → Exchanges s tells mid between ExchangeBlocked new after
+        → Drove s tells old before Waiting new after
+    waits_to_read below lt q =
+        drove_served Waiting new below lt ExchangeBlocked q refl
+        (inr (ends_then (Read Blocked) before between after p.moved q.why.0, q.why.1))
+
+    -- why the session is gone, by the answer
+    gone_why : (answer : Exchange) → answer ≢ Served → answer ≢ ExchangeBroke → answer ≢ ExchangeBlocked
+        → (requests : ℕ) → WhyExchanged s new.hub between after requests answer → Why s new.hub before after 0 0 Gone
+    gone_why Served a b c requests why = absurd (a refl)
+    gone_why ExchangeBroke a b c requests why = absurd (b refl)
+    gone_why ExchangeBlocked a b c requests why = absurd (c refl)
+    gone_why ExchangeStarved a b c requests why = inr (inr (inr (moved_then before between after p.moved why.0, inl why.1)))
+    gone_why ExchangeFailed a b c requests why = inl (ends_then (Read Failed) before between after p.moved why.0, why.1)
+    gone_why ExchangeEnded a b c requests why =
+        inr (inr (inl (ends_then (Read Ended) before between after p.moved why.0, why.1)))
 
     module _ (gone : Point) (departs : Departs s new gone) where
       pub gone_writing : count ≤ 64 → Flushes s tells mid between FlushFailed new after → Drove s tells old before Gone gone after
-      gone_writing le q = record {
-        last = new;
-        carried = further q.moves.carried;
-        few = few_flushed le q.moves;
-        bounded = still q.moves;
-        ends = departs;
-        why = inr (inl (ends_then (Write WriteFailed) before between after p.moved q.why.0, q.why.1));
-      }
+      gone_writing le q =
+          drove_flushed Gone gone le q.moves departs
+          (inr (inl (ends_then (Write WriteFailed) before between after p.moved q.why.0, q.why.1)))
 
-      module _ (below : IsBelow) (lt : count < 64) where
-        gone_reading : Exchanges s tells mid between ExchangeFailed new after → Drove s tells old before Gone gone after
-        gone_reading q = record {
-          last = new;
-          carried = further q.carried;
-          few = few_served lt q.carried q.few;
-          bounded = bounded_more q.carried q.one_reply below;
-          ends = departs;
-          why = inl (ends_then (Read Failed) before between after p.moved q.why.0, q.why.1);
-        }
-
-        gone_at_end : Exchanges s tells mid between ExchangeEnded new after → Drove s tells old before Gone gone after
-        gone_at_end q = record {
-          last = new;
-          carried = further q.carried;
-          few = few_served lt q.carried q.few;
-          bounded = bounded_more q.carried q.one_reply below;
-          ends = departs;
-          why = inr (inr (inl (ends_then (Read Ended) before between after p.moved q.why.0, q.why.1)));
-        }
-
-        gone_starved : Exchanges s tells mid between ExchangeStarved new after → Drove s tells old before Gone gone after
-        gone_starved q = record {
-          last = new;
-          carried = further q.carried;
-          few = few_served lt q.carried q.few;
-          bounded = bounded_more q.carried q.one_reply below;
-          ends = departs;
-          why = inr (inr (inr (moved_then before between after p.moved q.why.0, inl q.why.1)));
-        }
-
-        -- which of these, by the answer
-        pub gone_serving : (answer : Exchange) → answer ≢ Served → answer ≢ ExchangeBroke → answer ≢ ExchangeBlocked → Exchanges s tells mid between answer new after → Drove s tells old before Gone gone after
-        gone_serving Served a b c q = absurd (a refl)
-        gone_serving ExchangeBroke a b c q = absurd (b refl)
-        gone_serving ExchangeBlocked a b c q = absurd (c refl)
-        gone_serving ExchangeStarved a b c q = gone_starved q
-        gone_serving ExchangeFailed a b c q = gone_reading q
-        gone_serving ExchangeEnded a b c q = gone_at_end q
+      pub gone_serving : IsBelow → count < 64 → (answer : Exchange) → answer ≢ Served → answer ≢ ExchangeBroke → answer ≢ ExchangeBlocked
+          → Exchanges s tells mid between answer new after → Drove s tells old before Gone gone after
+      gone_serving below lt answer a b c q =
+          drove_served Gone gone below lt answer q departs (gone_why answer a b c (served_in q.carried) q.why)
 
       -- nothing is pending, and the session is no longer open
       pub gone_closed : count ≤ 64 → Flushes s tells mid between Empty new after → status_at new.hub s ≢ Open → Drove s tells old before Gone gone after
-      gone_closed le q is_closed = record {
-        last = new;
-        carried = further q.moves.carried;
-        few = few_flushed le q.moves;
-        bounded = still q.moves;
-        ends = departs;
-        why = inr (inr (inr (moved_then before between after p.moved q.why.0, closed_kinds (status_at new.hub s) q.moves.carried.runs.present is_closed q.why.1)));
-      }
+      gone_closed le q is_closed =
+          let closed = closed_kinds (status_at new.hub s) q.moves.carried.runs.present is_closed q.why.1 in
+          drove_flushed Gone gone le q.moves departs (inr (inr (inr (moved_then before between after p.moved q.why.0, closed))))
 
     pub again : Flushes s tells mid between Empty new after → count ≡ 64 → status_at new.hub s ≡ Open → Drove s tells old before Again new after
-    again q all is_open = record {
-      last = new;
-      carried = further q.moves.carried;
-      few = few_flushed (omega arith) q.moves;
-      bounded = still q.moves;
-      ends = refl;
-      why = (moved_then before between after p.moved q.why.0, inl ((driven_flushed q.moves q.why.0).served_is is_open ∙ all), is_open, q.why.1);
-    }
+    again q all is_open =
+        let served = (driven_flushed q.moves q.why.0).served_is is_open ∙ all in
+        drove_flushed Again new (omega arith) q.moves refl
+        (moved_then before between after p.moved q.why.0, inl served, is_open, q.why.1)
 
 -- ---- a request, once what was pending has left
 

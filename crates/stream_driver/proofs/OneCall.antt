@@ -99,13 +99,13 @@ module _ {D : Type 0} {g : Ghosts D} (hub : Hub D g) (none : NoneRuns hub) (s : 
       → (from : List ℕ) → (tells → a.given ≡ b.given) → (tells → a.taken ≡ b.taken ++ take (bytes_written answer) from) → EndsWith (Write answer) b a
       → Leads hub hub (λ h k. WritesSome s tells h b answer k a)
   wrote_none (Wrote n) differs here from given taken calls = absurd (differs n refl)
-  wrote_none WriteBlocked differs here from given taken calls = leads_none hub none _ (λ h stands. record {
-    moves = record { carried = answered s tells h b a (here h.hub stands.state) (λ t. given t ∙ sym (append-nil b.given)) taken; none_served = refl; none_replied = refl; status = refl };
-    answered = calls;
-    why = refl;
-  })
-  wrote_none WriteFailed differs here from given taken calls = leads_none hub none _ (λ h stands. record {
-    moves = record { carried = answered s tells h b a (here h.hub stands.state) (λ t. given t ∙ sym (append-nil b.given)) taken; none_served = refl; none_replied = refl; status = refl };
+  wrote_none answer differs here from given taken calls = leads_none hub none _ (λ h stands. record {
+    moves = record {
+      carried = answered s tells h b a (here h.hub stands.state) (λ t. given t ∙ sym (append-nil b.given)) taken;
+      none_served = refl;
+      none_replied = refl;
+      status = refl;
+    };
     answered = calls;
     why = refl;
   })
@@ -114,22 +114,13 @@ module _ {D : Type 0} {g : Ghosts D} (hub : Hub D g) (none : NoneRuns hub) (s : 
     pub read_none : (answer : ReadAnswer) → ((n : ℕ) → answer ≢ Moved n) → (tells → a.given ≡ b.given ++ take (bytes_read answer) into) → EndsWith (Read answer) b a
         → Leads hub hub (λ h k. AwaitsMore h.hub s → ReadsSome s tells h b answer k a)
     read_none (Moved n) differs given calls = absurd (differs n refl)
-    read_none Blocked differs given calls = leads_none hub none _ (λ h stands. λ awaits. record {
-      moves = record { carried = answered s tells h b a (open_present h.hub s (here h.hub stands.state)) given (λ t. taken t ∙ sym (append-nil b.taken)); none_served = refl; none_replied = refl; status = refl };
-      none_sent = refl;
-      pending = refl;
-      answered = calls;
-      why = refl;
-    })
-    read_none Failed differs given calls = leads_none hub none _ (λ h stands. λ awaits. record {
-      moves = record { carried = answered s tells h b a (open_present h.hub s (here h.hub stands.state)) given (λ t. taken t ∙ sym (append-nil b.taken)); none_served = refl; none_replied = refl; status = refl };
-      none_sent = refl;
-      pending = refl;
-      answered = calls;
-      why = refl;
-    })
-    read_none Ended differs given calls = leads_none hub none _ (λ h stands. λ awaits. record {
-      moves = record { carried = answered s tells h b a (open_present h.hub s (here h.hub stands.state)) given (λ t. taken t ∙ sym (append-nil b.taken)); none_served = refl; none_replied = refl; status = refl };
+    read_none answer differs given calls = leads_none hub none _ (λ h stands. λ awaits. record {
+      moves = record {
+        carried = answered s tells h b a (open_present h.hub s (here h.hub stands.state)) given (λ t. taken t ∙ sym (append-nil b.taken));
+        none_served = refl;
+        none_replied = refl;
+        status = refl;
+      };
       none_sent = refl;
       pending = refl;
       answered = calls;

@@ -16,34 +16,21 @@ use Rattle.stream_driver.specs.Entries.{DrivenIn, state_after}
 use Rattle.stream_driver.proofs.Events.{leaves_others}
 
 pub ends_other : (s : ℕ) (last new : Point) (answer : Progress) (t : ℕ) → t ≢ s → EndsAs s last new answer → stream_of new.hub t ≡ stream_of last.hub t
-ends_other s last new Waiting t d e = ap (λ p. stream_of p.hub t) e
-ends_other s last new Again t d e = ap (λ p. stream_of p.hub t) e
 ends_other s last new Gone t d e = ap (λ h. stream_of h t) e.adds.run_is ∙ leaves_others last.hub s e.choice t d
-
-pub ends_present : (s : ℕ) (last new : Point) (answer : Progress) → answer ≢ Gone → EndsAs s last new answer → IsPresentIn last.hub s → IsPresentIn new.hub s
-ends_present s last new Waiting d e p = subst (λ v. IsPresentIn v.hub s) (sym e) p
-ends_present s last new Again d e p = subst (λ v. IsPresentIn v.hub s) (sym e) p
-ends_present s last new Gone d e p = absurd (d refl)
+ends_other s last new _ t d e = ap (λ p. stream_of p.hub t) e
 
 -- a session that wasn't to leave is where its run led
 pub ends_last : (s : ℕ) (last new : Point) (answer : Progress) → answer ≢ Gone → EndsAs s last new answer → new ≡ last
-ends_last s last new Waiting differs e = e
-ends_last s last new Again differs e = e
 ends_last s last new Gone differs e = absurd (differs refl)
+ends_last s last new _ differs e = e
 
 module _ {T : Type 0} (tells : Type 0) (traffic : T → Traffic) where
-  -- the session that an entry holds is the one that it held, and it was not gone
-  pub entry_session : (state : EntryState) (earlier : Point) (old : Entry T) (later : Point) (new : Entry T) → old.state ≡ state → DrivenIn tells traffic state earlier old later new → new.state ≢ EntryGone
-      → (new.session ≡ old.session) × (old.state ≢ EntryGone)
-  entry_session Ready earlier old later new is d alive = (d.session, λ gone. (let bad : Ready ≡ EntryGone = sym is ∙ gone in cc))
-  entry_session Idle earlier old later new is d alive = (rw d.0 refl, λ gone. (let bad : Idle ≡ EntryGone = sym is ∙ gone in cc))
-  entry_session EntryGone earlier old later new is d alive = absurd (alive (rw d.0 is))
-
   pub entry_present : (state : EntryState) (earlier : Point) (old : Entry T) (later : Point) (new : Entry T) → old.state ≡ state → DrivenIn tells traffic state earlier old later new → new.state ≢ EntryGone
       → IsPresentIn earlier.hub old.session → IsPresentIn later.hub new.session
   entry_present Ready earlier old later new is d alive p =
       let going : d.answer ≢ Gone = λ gone. alive (d.state ∙ ap state_after gone) in
-      rw d.session (ends_present old.session d.drove.last later d.answer going d.drove.ends d.drove.carried.runs.present)
+      let last = ends_last old.session d.drove.last later d.answer going d.drove.ends in
+      rw d.session (subst (λ v. IsPresentIn v.hub old.session) (sym last) d.drove.carried.runs.present)
   entry_present Idle earlier old later new is d alive p = rw (d.0, d.1) p
   entry_present EntryGone earlier old later new is d alive p = absurd (alive (rw d.0 is))
 
@@ -53,8 +40,7 @@ module _ {T : Type 0} (tells : Type 0) (traffic : T → Traffic) where
   entry_other Ready earlier old later new is d t differs =
       let apart : t ≢ old.session = differs (λ gone. (let bad : Ready ≡ EntryGone = sym is ∙ gone in cc)) in
       ends_other old.session d.drove.last later d.answer t apart d.drove.ends ∙ d.drove.carried.runs.others t apart
-  entry_other Idle earlier old later new is d t differs = rw d.1 refl
-  entry_other EntryGone earlier old later new is d t differs = rw d.1 refl
+  entry_other _ earlier old later new is d t differs = rw d.1 refl
 
 module _ {T : Type 0} where
   pub some_inj : {a b : Entry T} → Some a ≡ Some b → a ≡ b

@@ -192,28 +192,16 @@ module _ {D : Type 0} {g : Ghosts D} (s : ℕ) (tells : Type 0) where
       → ((h k : Point) → P h k → Carried s tells h t k u) → ((h k l : Point) → StandsFor c l.hub → P h k → Q k l → R h l) → LeadsTelling s tells a t c v R
   tells_then follow a b c t u v P Q R p q carried f = tells_two_at follow a b c t u v P Q R p q carried (λ h k l was stands x y. f h k l stands x y)
 
-  pub tells_three_at : Follow D g → (a b c d : Hub D g) (t u v w : Traffic) (P Q R S : Point → Point → Type 0) → LeadsTelling s tells a t b u P → LeadsTelling s tells b u c v Q → LeadsTelling s tells c v d w R
-      → ((h k : Point) → P h k → Carried s tells h t k u) → ((k l : Point) → Q k l → Carried s tells k u l v)
-      → ((h k l m : Point) → StandsFor b k.hub → StandsFor c l.hub → P h k → Q k l → R l m → S h m) → LeadsTelling s tells a t d w S
-  tells_three_at follow a b c d t u v w P Q R S p q r one two f =
-      tells_two_at follow a c d t v w (λ h l. (k : Point) × StandsFor b k.hub × StandsFor c l.hub × P h k × Q k l) R S
-      (tells_two_at follow a b c t u v P Q (λ h l. (k : Point) × StandsFor b k.hub × StandsFor c l.hub × P h k × Q k l) p q one (λ h k l was stands x y. (k, was, stands, x, y))) r
-      (λ h l x. and_then s tells h t x.0 u l v (one h x.0 x.3) (two x.0 l x.4))
-      (λ h l m stands last x z. f h x.0 l m x.1 x.2 x.3 x.4 z)
-
-  pub tells_three : Follow D g → (a b c d : Hub D g) (t u v w : Traffic) (P Q R S : Point → Point → Type 0) → LeadsTelling s tells a t b u P → LeadsTelling s tells b u c v Q → LeadsTelling s tells c v d w R
+  pub tells_three : Follow D g → (a b c d : Hub D g) (t u v w : Traffic) (P Q R S : Point → Point → Type 0) → LeadsTelling s tells a t b u P
+      → LeadsTelling s tells b u c v Q → LeadsTelling s tells c v d w R
       → ((h k : Point) → P h k → Carried s tells h t k u) → ((k l : Point) → Q k l → Carried s tells k u l v)
       → ((h k l m : Point) → StandsFor c l.hub → P h k → Q k l → R l m → S h m) → LeadsTelling s tells a t d w S
-  tells_three follow a b c d t u v w P Q R S p q r one two f = tells_three_at follow a b c d t u v w P Q R S p q r one two (λ h k l m was stands x y z. f h k l m stands x y z)
-
-  pub tells_four : Follow D g → (a b c d e : Hub D g) (t u v w x : Traffic) (P Q R S U : Point → Point → Type 0) → LeadsTelling s tells a t b u P → LeadsTelling s tells b u c v Q → LeadsTelling s tells c v d w R
-      → LeadsTelling s tells d w e x S → ((h k : Point) → P h k → Carried s tells h t k u) → ((k l : Point) → Q k l → Carried s tells k u l v) → ((l m : Point) → R l m → Carried s tells l v m w)
-      → ((h k l m n : Point) → P h k → Q k l → R l m → S m n → U h n) → LeadsTelling s tells a t e x U
-  tells_four follow a b c d e t u v w x P Q R S U p q r z one two three f =
-      tells_two_at follow a d e t w x (λ h m. (k : Point) × (l : Point) × P h k × Q k l × R l m) S U
-      (tells_three_at follow a b c d t u v w P Q R (λ h m. (k : Point) × (l : Point) × P h k × Q k l × R l m) p q r one two (λ h k l m was stands i j y. (k, l, i, j, y))) z
-      (λ h m y. and_then s tells h t y.1 v m w (and_then s tells h t y.0 u y.1 v (one h y.0 y.2) (two y.0 y.1 y.3)) (three y.1 m y.4))
-      (λ h m n was stands y i. f h y.0 y.1 m n y.2 y.3 y.4 i)
+  tells_three follow a b c d t u v w P Q R S p q r one two f =
+      tells_two_at follow a c d t v w (λ h l. (k : Point) × StandsFor c l.hub × P h k × Q k l) R S
+      (tells_then follow a b c t u v P Q (λ h l. (k : Point) × StandsFor c l.hub × P h k × Q k l) p q one
+      (λ h k l stands x y. (k, stands, x, y))) r
+      (λ h l x. and_then s tells h t x.0 u l v (one h x.0 x.2) (two x.0 l x.3))
+      (λ h l m stands last x z. f h x.0 l m x.1 x.2 x.3 z)
 
   -- and then an event of the hub
   pub tells_step : Follow D g → (a b c : Hub D g) (t u : Traffic) (P R : Point → Point → Type 0) (e : HubEvent) (outcome : Outcome) → LeadsTelling s tells a t b u P → HubLeads b c e outcome → RunsAlone b c e

@@ -14,11 +14,12 @@ use Rattle.sessions.specs.declared.hub.Hub.{Hub}
 use Rattle.sessions.specs.SessionStreams.{HubState, SessionState, HubEvent, Choice, hub_step, SessionStream, stream_of}
 use Rattle.sessions.specs.StandsFor.{StandsFor, HubLeads, status_in, room_in, pending_in, failures}
 use Rattle.sessions.specs.Laws.{HasRun, NoneRuns, Ran, RunsAlone}
+use Rattle.sessions.proofs.EventSteps.{lookup-at_hand}
 use Rattle.sessions.proofs.Reached.{reached}
 use Rattle.stream_driver.specs.Sessions.{InSomeState, Point, StandsAt, Leads, IsPresentIn, status_at, pending_at, room_at}
 use Rattle.stream_driver.proofs.Events.{Happens, adds_none, point_after}
 use Rattle.stream_driver.proofs.Carry.{adds_then}
-use Rattle.stream_driver.proofs.Lookups.{test, lookup-at_hand}
+use Rattle.stream_driver.proofs.Lookups.{test}
 
 alike : {D : Type 0} {g : Ghosts D} (hub : Hub D g) (h k : HubState) (s : ℕ) → StandsFor hub h → StandsFor hub k → option_map (λ st. st.now) (stream_of h s) ≡ option_map (λ st. st.now) (stream_of k s)
 alike hub h k s p q = sym (lookup-at_hand s h.present) ∙ ap (lookup (test s)) (sym p.sessions ∙ q.sessions) ∙ lookup-at_hand s k.present
@@ -47,9 +48,7 @@ room_alike (Some p) (Some q) e = ap (λ o. room_of o) e
 
 stable_open : (v : Status) → ((v ≡ Open → ⊥) → ⊥) → v ≡ Open
 stable_open Open f = refl
-stable_open Absent f = absurd (f (λ e. cc))
-stable_open Ending f = absurd (f (λ e. cc))
-stable_open Refused f = absurd (f (λ e. cc))
+stable_open _ f = absurd (f (λ e. cc))
 
 stable_nil : (xs : List ℕ) → ((xs ≡ [] → ⊥) → ⊥) → xs ≡ []
 stable_nil [] f = refl

@@ -35,8 +35,7 @@ module _ {T : Type 0} (tells : Type 0) (traffic : T → Traffic) where
     where
       by : (state : EntryState) → state ≢ Ready → (h : Point) → DrivenIn tells traffic state h old h old
       by Ready d h = absurd (d refl)
-      by Idle d h = (refl, refl)
-      by EntryGone d h = (refl, refl)
+      by _ d h = (refl, refl)
 
   pub driven_more : (earlier : Point) (xs : List (Option (Entry T))) (mid : Point) (ys : List (Option (Entry T))) (x : Option (Entry T)) (later : Point) (y : Option (Entry T))
       → DrivenAll tells traffic earlier xs mid ys → DrivenSlot tells traffic mid x later y → DrivenAll tells traffic earlier (xs ++ x ∷ []) later (ys ++ y ∷ [])

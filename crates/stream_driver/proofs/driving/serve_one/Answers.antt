@@ -2,7 +2,7 @@ use Rattle.std.proofs.Common.{◌≤◌, ◌+◌, ◌-◌, arith, sym, ◌∙◌
 use Rattle.sessions.specs.StandsFor.{failures}
 use Rattle.stream_driver.proofs.States.{open_at, nothing_at, leads_none, leads_then, some_after, le_after}
 use Rattle.stream_driver.proofs.Sends.{tells_step, tells_still, tells_then}
-use Rattle.stream_driver.proofs.Loops.{read_nothing, read_then, read_within, read_blocked, read_failed, read_ended, serve_starved, serve_open, serve_closed, waits}
+use Rattle.stream_driver.proofs.Loops.{read_nothing, read_then, read_within, read_stopped, serve_starved, serve_open, serve_closed, waits}
 use Rattle.stream_driver.proofs.driving.serve_one.Goals as goal
 
 pub loop-hub-init : goal.loop-hub-init
@@ -74,7 +74,7 @@ returns-in-Blocked g c =
       served =
           tells_then c.args.s g.S.Stream.tells c.runs_follow.ensures.follow c.args.hub.now c.step.new.self c.read_some.new.hub _ _ _ _ _ _
           (waits c.runs_follow.ensures.follow c.args.hub.now c.loop-hub.hub c.step.new.self c.args.s g.S.Stream.tells (g.S.Stream.traffic c.args.stream.now) (g.S.Stream.traffic c.loop-hub.stream) c.loop-hub.room c.step.result c.loop-hub.invariant c.step.ensures.step c.step.ensures.ran c.step.ensures.device c.in_default.not-Done c.in_default.not-Memory) c.in-Blocked.ensures.read (λ h k p. p.0.moves.carried)
-          (λ h k l stands p q. read_blocked c.args.s g.S.Stream.tells h (g.S.Stream.traffic c.args.stream.now) k (g.S.Stream.traffic c.loop-hub.stream) l (g.S.Stream.traffic c.read_some.new.stream) c.loop-hub.room p.0 p.1 (q p.1));
+          (λ h k l stands p q. read_stopped c.args.s g.S.Stream.tells h (g.S.Stream.traffic c.args.stream.now) k (g.S.Stream.traffic c.loop-hub.stream) l (g.S.Stream.traffic c.read_some.new.stream) c.loop-hub.room p.0 _ _ p.1 (q p.1) (q p.1).why (λ served why. why));
     }
 
 pub returns-in-Failed : goal.returns-in-Failed
@@ -83,7 +83,7 @@ returns-in-Failed g c =
       served =
           tells_then c.args.s g.S.Stream.tells c.runs_follow.ensures.follow c.args.hub.now c.step.new.self c.read_some.new.hub _ _ _ _ _ _
           (waits c.runs_follow.ensures.follow c.args.hub.now c.loop-hub.hub c.step.new.self c.args.s g.S.Stream.tells (g.S.Stream.traffic c.args.stream.now) (g.S.Stream.traffic c.loop-hub.stream) c.loop-hub.room c.step.result c.loop-hub.invariant c.step.ensures.step c.step.ensures.ran c.step.ensures.device c.in_default.not-Done c.in_default.not-Memory) c.in-Failed.ensures.read (λ h k p. p.0.moves.carried)
-          (λ h k l stands p q. read_failed c.args.s g.S.Stream.tells h (g.S.Stream.traffic c.args.stream.now) k (g.S.Stream.traffic c.loop-hub.stream) l (g.S.Stream.traffic c.read_some.new.stream) c.loop-hub.room p.0 p.1 (q p.1));
+          (λ h k l stands p q. read_stopped c.args.s g.S.Stream.tells h (g.S.Stream.traffic c.args.stream.now) k (g.S.Stream.traffic c.loop-hub.stream) l (g.S.Stream.traffic c.read_some.new.stream) c.loop-hub.room p.0 _ _ p.1 (q p.1) (q p.1).why (λ served why. why));
     }
 
 pub returns-in-Ended : goal.returns-in-Ended
@@ -92,5 +92,5 @@ returns-in-Ended g c =
       served =
           tells_then c.args.s g.S.Stream.tells c.runs_follow.ensures.follow c.args.hub.now c.step.new.self c.read_some.new.hub _ _ _ _ _ _
           (waits c.runs_follow.ensures.follow c.args.hub.now c.loop-hub.hub c.step.new.self c.args.s g.S.Stream.tells (g.S.Stream.traffic c.args.stream.now) (g.S.Stream.traffic c.loop-hub.stream) c.loop-hub.room c.step.result c.loop-hub.invariant c.step.ensures.step c.step.ensures.ran c.step.ensures.device c.in_default.not-Done c.in_default.not-Memory) c.in-Ended.ensures.read (λ h k p. p.0.moves.carried)
-          (λ h k l stands p q. read_ended c.args.s g.S.Stream.tells h (g.S.Stream.traffic c.args.stream.now) k (g.S.Stream.traffic c.loop-hub.stream) l (g.S.Stream.traffic c.read_some.new.stream) c.loop-hub.room p.0 p.1 (q p.1));
+          (λ h k l stands p q. read_stopped c.args.s g.S.Stream.tells h (g.S.Stream.traffic c.args.stream.now) k (g.S.Stream.traffic c.loop-hub.stream) l (g.S.Stream.traffic c.read_some.new.stream) c.loop-hub.room p.0 _ _ p.1 (q p.1) (q p.1).why (λ served why. why));
     }

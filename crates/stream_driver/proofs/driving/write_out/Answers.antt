@@ -1,7 +1,7 @@
 use Rattle.std.proofs.Common.{◌≡◌, ◌≤◌, length, arith}
 use Rattle.stream_driver.proofs.States.{present_at, leads_none, leads_then, some_after, le_after}
 use Rattle.stream_driver.proofs.Sends.{tells_map, tells_still, tells_then}
-use Rattle.stream_driver.proofs.Loops.{written_none, written_then, written_within, written_blocked, written_failed, written_all}
+use Rattle.stream_driver.proofs.Loops.{written_none, written_then, written_within, written_stopped, written_all}
 use Rattle.stream_driver.proofs.driving.write_out.Goals as goal
 
 pub loop-owed-init : goal.loop-owed-init
@@ -42,7 +42,7 @@ returns-in-Blocked g c =
     record {
       written =
           tells_then c.args.s g.S.Stream.tells c.runs_follow.ensures.follow c.args.hub.now c.loop-owed.hub c.write_some.new.hub _ _ _ _ _ _ c.loop-owed.invariant c.in-Blocked.ensures.written (λ h k p. p.moves.carried)
-          (λ h k l stands p q. written_blocked c.args.s g.S.Stream.tells h (g.S.Stream.traffic c.args.stream.now) k (g.S.Stream.traffic c.loop-owed.stream) l (g.S.Stream.traffic c.write_some.new.stream) c.loop-owed.owed p c.loop-owed-test.true q);
+          (λ h k l stands p q. written_stopped c.args.s g.S.Stream.tells h (g.S.Stream.traffic c.args.stream.now) k (g.S.Stream.traffic c.loop-owed.stream) l (g.S.Stream.traffic c.write_some.new.stream) c.loop-owed.owed p _ _ c.loop-owed-test.true q q.why (λ why. why));
     }
 
 pub returns-in-Failed : goal.returns-in-Failed
@@ -50,7 +50,7 @@ returns-in-Failed g c =
     record {
       written =
           tells_then c.args.s g.S.Stream.tells c.runs_follow.ensures.follow c.args.hub.now c.loop-owed.hub c.write_some.new.hub _ _ _ _ _ _ c.loop-owed.invariant c.in-Failed.ensures.written (λ h k p. p.moves.carried)
-          (λ h k l stands p q. written_failed c.args.s g.S.Stream.tells h (g.S.Stream.traffic c.args.stream.now) k (g.S.Stream.traffic c.loop-owed.stream) l (g.S.Stream.traffic c.write_some.new.stream) c.loop-owed.owed p c.loop-owed-test.true q);
+          (λ h k l stands p q. written_stopped c.args.s g.S.Stream.tells h (g.S.Stream.traffic c.args.stream.now) k (g.S.Stream.traffic c.loop-owed.stream) l (g.S.Stream.traffic c.write_some.new.stream) c.loop-owed.owed p _ _ c.loop-owed-test.true q q.why (λ why. why));
     }
 
 pub returns : goal.returns
