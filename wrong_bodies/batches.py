@@ -6,6 +6,7 @@ that callee's edit. What stands outside a function, such as a constant, is tried
 repository; `--gate` tries those of the crates' own folders `must-fail` as well.
 
 Prints each wrong body that isn't refused, and ends with status 1 where there is one. `BAD` is one that doesn't compile, or of which nothing is said.
+`FORM` is one that is refused, but by the form of a proof alone: it names a fact of the real body that the wrong one lacks.
 """
 import re
 import shutil
@@ -17,7 +18,9 @@ from pathlib import Path
 TOP = Path(__file__).resolve().parent.parent
 REPORT = re.compile(r"^(?:fn|impl|struct|enum) (\S+): (.*)$", re.MULTILINE)
 FUNCTION = re.compile(r"( *)(?:pub(?:\([a-z]+\))? )?(?:const )?fn (\w+)")
-BLOCK = re.compile(r"impl\b(?:<.*?>)? (?:(?P<trait>\w+)(?:<.*>)? for )?(?:&(?:'\w+ )?)?(?P<type>\w+)")
+BLOCK = re.compile(r"(?:pub )?(?:trait|impl\b(?:<.*?>)?) (?:(?P<trait>\w+)(?:<.*>)? for )?(?:&(?:'\w+ )?)?(?P<type>\w+)")
+# What is said where a proof names a fact of the real body that the wrong one lacks: that the contract refuses it isn't shown by that.
+NAMED = re.compile(r"has no field|\(nearest: |that can be named from here")
 
 
 def pairs_of(edit):
@@ -52,6 +55,15 @@ def name_of(block):
     return block["type"] + (block["trait"] or "")
 
 
+def by_form(function, printed):
+    """Whether all that is said against the function is that its proof names what the body lacks."""
+    folder = "./proofs/" + "/".join(function.split("::")[1:]) + "/"
+    lines = printed.split("\n")
+    errors = [it for it in lines if it.startswith(folder) and ": error: " in it]
+    searched = any(it.startswith(f"fn {function}: ") and "did not prove" in it for it in lines)
+    return bool(errors) and not searched and all(NAMED.search(it) for it in errors)
+
+
 class Crate:
     """The wrong bodies of a crate, on a copy of the repository."""
 
@@ -60,6 +72,7 @@ class Crate:
         self.edits = edits
         self.functions = {edit: self.function_of(edit) for edit in edits}
         self.verdicts, self.calls = {}, {}
+        self.formal = set()
 
     def function_of(self, edit):
         """The one function that it changes, or None."""
@@ -81,12 +94,14 @@ class Crate:
     def alone(self, edit):
         """Tries one by itself."""
         function = self.functions[edit]
-        found = self.check([edit], [function])[0] if function else {}
-        found = found or self.check([edit], [])[0]
+        found, printed = self.check([edit], [function]) if function else ({}, "")
+        found, printed = (found, printed) if found else self.check([edit], [])
         if not found or any("could not tell" in it for it in found.values()):
             self.verdicts[edit] = "BAD"
         else:
+            against = [it for it, said in found.items() if not said.startswith(("proved", "assumed")) and "calls" not in said]
             self.verdicts[edit] = "refused" if any(not it.startswith(("proved", "assumed")) for it in found.values()) else "PROVED"
+            self.formal |= {edit} if against and all(by_form(it, printed) for it in against) else set()
 
     def below(self, function):
         """The functions that it is known to call, at any distance."""
@@ -109,7 +124,7 @@ class Crate:
 
     def judge(self, chosen):
         """Tries these at once: those of which nothing can be said yet stay."""
-        found, _ = self.check(chosen.values(), chosen)
+        found, printed = self.check(chosen.values(), chosen)
         if not found and len(chosen) > 1:
             items = list(chosen.items())
             self.judge(dict(items[:len(items) // 2]))
@@ -120,6 +135,7 @@ class Crate:
         told = {edit: found.get(function, "nothing") for function, edit in chosen.items()}
         clear = {edit: said for edit, said in told.items() if said.startswith(("proved", "not proved", "no proof")) and "calls" not in said}
         self.verdicts.update({edit: "PROVED" if said.startswith("proved") else "refused" for edit, said in clear.items()})
+        self.formal |= {edit for function, edit in chosen.items() if edit in clear and by_form(function, printed)}
         for edit in [] if clear else told:
             self.alone(edit)
 
@@ -132,7 +148,10 @@ class Crate:
         wrong = {edit: said for edit, said in self.verdicts.items() if said != "refused"}
         for edit, said in wrong.items():
             print(f"{said}: {edit.relative_to(TOP)}", flush=True)
-        print(f"{self.name}: {len(self.verdicts)} wrong bodies, {len(self.verdicts) - len(wrong)} refused", flush=True)
+        for edit in sorted(self.formal - set(wrong)):
+            print(f"FORM: {edit.relative_to(TOP)}", flush=True)
+        refused = len(self.verdicts) - len(wrong)
+        print(f"{self.name}: {len(self.verdicts)} wrong bodies, {refused} refused, {len(self.formal)} of them by form alone", flush=True)
         return not wrong
 
 
