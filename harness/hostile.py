@@ -121,11 +121,11 @@ BROKEN = (b"*0", b"*5", b"*11", b"*1\n", b"PING\r\n", b"*1\r\n$%d" % (VALUE_MAX 
 
 
 def broken_frames(siege):
-    """Bytes that begin no request, whole and one by one, in a transaction: one reply, and the session ends."""
+    """Bytes that begin no request, whole and one by one, in a transaction: one reply, and the end of the session, which is told at once."""
     for data in (*BROKEN, *(PING + data for data in BROKEN)):
         due = OK + PONG * data.startswith(PING) + BROKEN_FRAME
         for size in (len(data), 1):
-            with siege.join() as client:
+            with siege.join(timeout=SLOWEST_REPLY) as client:
                 client.send(BEGIN)
                 for at in range(0, len(data), size):
                     client.send(data[at:at + size])
@@ -310,6 +310,22 @@ def never_reads(siege):
         client.send(BEGIN + LARGEST_RANGE * 50)
     time.sleep(siege.times(2.0, 20.0))
     close_all(clients)
+
+
+LATE_REPLIES = 8    # 17 MB, which is more than the buffers of a connection hold
+
+
+def reads_late(siege):
+    """A peer that asks for the largest ranges, and for more where nothing can be written to it, before it reads: it's answered still."""
+    due = pairs([(key, VALUE) for key in KEYS])
+    with siege.join(receive_buffer=4_096) as client:
+        client.send(BEGIN + LARGEST_RANGE * LATE_REPLIES)
+        for _ in range(20):
+            time.sleep(0.1)
+            client.send(PING)
+        expect(client.reply() == OK, "another reply")
+        for _ in range(LATE_REPLIES):
+            expect(client.reply() == due, "another reply")
 
 
 def resets(siege):
@@ -515,7 +531,7 @@ def judge_memory(tally, peak, idle, commits):
 SCENES = (
     half_a_frame, one_byte_at_a_time, urgent_bytes, broken_frames, broken_frame_behind_much, value_above_the_bound,
     held_behind_broken_frames, without_end_behind_a_broken_frame, flood_of_transactions, replies_of_two_turns, flood_before_reading,
-    flood_of_commits, never_reads, resets, two_hundred_connections, burst, random_bytes, every_session_at_its_limits)
+    flood_of_commits, never_reads, reads_late, resets, two_hundred_connections, burst, random_bytes, every_session_at_its_limits)
 
 
 def play(tally, siege, scene):
