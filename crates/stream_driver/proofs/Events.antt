@@ -11,7 +11,7 @@ use Rattle.model.specs.Operations.{Response}
 use Rattle.model.specs.ReplyText.{reply_text}
 use Rattle.sessions.specs.declared.events.Status.TheVariants.{Absent, Open, Ending, Refused}
 use Rattle.sessions.specs.declared.events.Outcome.TheVariants.{Done, Memory, Idle}
-use Rattle.sessions.specs.SessionStreams.{HubState, IsServed, SessionState, SessionStream, HubEvent, Joins, Receives, Serves, Sends, Leaves, Front, Whole, More, Bad, IsFront, Choice, Effect, IsPossible, IsServePossible, hub_step, stream_of, with_stream, with_effect, depart, is_open, may_serve, serve_front, out_of_memory, served_with, no_effect, broken_frame, asks, room}
+use Rattle.sessions.specs.SessionStreams.{HubState, IsServed, SessionState, SessionStream, HubEvent, Receives, Serves, Sends, Leaves, Front, Whole, More, Bad, IsFront, Choice, Effect, IsPossible, IsServePossible, hub_step, stream_of, with_stream, with_effect, depart, may_serve, serve_front, out_of_memory, served_with, no_effect, asks, room}
 use Rattle.sessions.specs.StandsFor.{status_in}
 use Rattle.sessions.specs.Laws.{failures_in}
 use Rattle.engine.specs.Meaning.{has_risen}

@@ -12,9 +12,9 @@ use Rattle.sessions.specs.SessionStreams.{HubState, Receives, Sends, hub_step, w
 use Rattle.sessions.specs.StandsFor.{StandsFor, HubLeads, status_in, pending_in, room_in, failures}
 use Rattle.stream_driver.specs.declared.answers.Call.TheVariants.{Read, Write}
 use Rattle.stream_driver.specs.declared.answers.ReadAnswer.{ReadAnswer}
-use Rattle.stream_driver.specs.declared.answers.ReadAnswer.TheVariants.{Moved, Blocked, Failed, Ended}
+use Rattle.stream_driver.specs.declared.answers.ReadAnswer.TheVariants.{Moved}
 use Rattle.stream_driver.specs.declared.answers.WriteAnswer.{WriteAnswer}
-use Rattle.stream_driver.specs.declared.answers.WriteAnswer.TheVariants.{Moved as Wrote, Blocked as WriteBlocked, Failed as WriteFailed}
+use Rattle.stream_driver.specs.declared.answers.WriteAnswer.TheVariants.{Moved as Wrote}
 use Rattle.stream_driver.specs.Traffic.{Traffic, EndsWith, bytes_read, bytes_written}
 use Rattle.stream_driver.specs.Sessions.{AwaitsMore, Leads, Runs, status_at, pending_at, room_at, IsPresentIn}
 use Rattle.stream_driver.specs.Calls.{WritesSome, ReadsSome}

@@ -10,11 +10,11 @@ use Rattle.sessions.specs.SessionStreams.{HubState, HubEvent, Choice, SessionStr
 use Rattle.sessions.specs.StandsFor.{StandsFor, HubLeads, device, failures, pending_in}
 use Rattle.stream_driver.specs.Drives.{Carried}
 use Rattle.stream_driver.specs.Sends.{IsAnswered, IsToldBefore, AreToldBefore, HasSent, LeadsTelling}
-use Rattle.stream_driver.specs.Sessions.{Leads, Point, StandsAt, pending_at}
+use Rattle.stream_driver.specs.Sessions.{Leads, Point, pending_at}
 use Rattle.stream_driver.specs.Traffic.{Departure, DepartAt, IsBeginning, Traffic}
 use Rattle.stream_driver.proofs.Carry.{all_then, and_then, grown, one_history, run_then}
 use Rattle.stream_driver.proofs.Events.{Happens, point_after}
-use Rattle.stream_driver.proofs.States.{Follow, at_point, leads_event, leads_map, leads_none, leads_two_at, point_of}
+use Rattle.stream_driver.proofs.States.{Follow, at_point, leads_event, leads_map, leads_two_at, point_of}
 
 module _ (s : ℕ) (h : HubState) (es fs : List (HubEvent × Choice)) (bytes : List ℕ) where
   -- what was answered stays so

@@ -6,7 +6,7 @@ use Rattle.std.proofs.Math.Bridge.{le_prop}
 use Rattle.model.specs.Bounds.{inbox_max}
 use Rattle.model.proofs.Leading.{compose, weaken}
 use Rattle.sessions.specs.declared.events.Status.{Status}
-use Rattle.sessions.specs.declared.events.Status.TheVariants.{Absent, Open, Ending, Refused}
+use Rattle.sessions.specs.declared.events.Status.TheVariants.{Open}
 use Rattle.sessions.specs.declared.events.Outcome.{Outcome}
 use Rattle.engine.specs.Meaning.{has_risen}
 use Rattle.sector.specs.declared.device.Sectors.{Ghosts}

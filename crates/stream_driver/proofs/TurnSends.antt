@@ -3,7 +3,7 @@ use Rattle.std.proofs.Common.{◌≡◌, ◌≢◌, ◌⊎◌, inl, inr, ℕ, �
 use Rattle.sector.specs.declared.device.Sectors.{Ghosts}
 use Rattle.sessions.specs.declared.hub.Hub.{Hub}
 use Rattle.sessions.specs.Laws.{NoneRuns}
-use Rattle.sessions.specs.SessionStreams.{HubState, stream_of, run}
+use Rattle.sessions.specs.SessionStreams.{HubState, run}
 use Rattle.sessions.specs.StandsFor.{StandsFor}
 use Rattle.stream_driver.specs.declared.answers.Progress.TheVariants.{Gone}
 use Rattle.stream_driver.specs.declared.entries.EntryState.{EntryState}

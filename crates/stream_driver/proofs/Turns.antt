@@ -8,7 +8,7 @@ use Rattle.sessions.specs.Laws.{NoneRuns}
 use Rattle.sessions.specs.StandsFor.{status_in}
 use Rattle.stream_driver.specs.declared.answers.Progress.{Progress}
 use Rattle.stream_driver.specs.declared.entries.EntryState.{EntryState}
-use Rattle.stream_driver.specs.declared.entries.EntryState.TheVariants.{Idle, Ready, Gone as EntryGone}
+use Rattle.stream_driver.specs.declared.entries.EntryState.TheVariants.{Ready, Gone as EntryGone}
 use Rattle.stream_driver.specs.declared.entries.Entry.{Entry}
 use Rattle.stream_driver.specs.Traffic.{Traffic}
 use Rattle.stream_driver.specs.Sessions.{Point, Leads, IsPresent, IsPresentIn}

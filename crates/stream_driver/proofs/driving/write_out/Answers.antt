@@ -1,4 +1,4 @@
-use Rattle.std.proofs.Common.{◌≡◌, ◌≤◌, length, arith}
+use Rattle.std.proofs.Common.{◌≡◌, ◌≤◌, arith}
 use Rattle.stream_driver.proofs.States.{present_at, leads_none, leads_then, some_after, le_after}
 use Rattle.stream_driver.proofs.Sends.{tells_map, tells_still, tells_then}
 use Rattle.stream_driver.proofs.Loops.{written_none, written_then, written_within, written_stopped, written_all}
