@@ -21,7 +21,7 @@ use Rattle.model.proofs.Entries.{IsSorted}
 use Rattle.model.proofs.InOrder.{parts, sorted_left}
 use Rattle.versions.proofs.Visibles.{value-visible}
 use Rattle.versions.proofs.Stores.{HavePlaces, sorted_base, find-roomier, room-more, room-roomier, room_roomier, places-more, place-roomier, places-roomier, places-apart, written_map, written_number, ready-apart, maps-step, newest-step, kept-step, ready-prepared, kept-put, rising_one, visible-base, newest-base}
-use Rattle.versions.proofs.Elements.{all-append, all-each, all-get}
+use Rattle.model.proofs.Elements.{all-append, all-each, all-get}
 use Rattle.versions.proofs.Listings.{groups-found, listed-write}
 use Rattle.versions.proofs.UnderWitnesses.{added-put, added-refl, added-trans, followed-write}
 

@@ -4,7 +4,7 @@ use Rattle.std.specs.Prelude.{nat_le, nat_lt, if◌then◌else◌, ◌==◌}
 use Rattle.std.specs.List.{AllByRecursion, list_any}
 use Rattle.std.proofs.lemmas.Bool.{both_ways, or_cases, or_right}
 use Rattle.std.proofs.lemmas.Bool.Decides.{nat_tests}
-use Rattle.versions.proofs.Elements.{all-append, all-each}
+use Rattle.model.proofs.Elements.{all-append, all-each}
 use Rattle.versions.specs.Chains.{Stamped, ChainValue, last_at, version_at, value_of, seen, seen_in, added, first_number, is_between, seen_by, reclaimed, IsRisingTo, IsRisingChain}
 use Rattle.versions.specs.Meaning.{is_among, IsSeen, IsTightChain}
 

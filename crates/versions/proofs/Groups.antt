@@ -19,7 +19,7 @@ use Rattle.std.proofs.lemmas.List.{take_all, take_more_set}
 use Rattle.std.proofs.lemmas.List.Folds.{list_all-append}
 use Rattle.std.proofs.lemmas.List.Recursion.{is_sum_by}
 use Rattle.std.specs.List.{sum_by}
-use Rattle.versions.proofs.Elements.{all-each, all-get, all-here, all-map, all-more, all-next, all-remove, all-rest, all-set, all-take, any-remove, any-set}
+use Rattle.model.proofs.Elements.{all-each, all-get, all-here, all-map, all-more, all-next, all-remove, all-rest, all-set, all-take, any-remove, any-set}
 use Rattle.versions.proofs.Witnesses.{lists-fewer}
 use Rattle.versions.proofs.UnderWitnesses.{IsUnder}
 use Rattle.versions.proofs.ChainLaws.{any-weaker, between-wider}

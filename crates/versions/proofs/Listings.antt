@@ -7,7 +7,7 @@ use Rattle.std.specs.Ordering.{nat_cmp}
 use Rattle.std.specs.Cmp.Lexicographic.{slice_cmp}
 use Rattle.std.specs.FinMap.Entries.{put}
 use Rattle.std.proofs.lemmas.Bool.{or_left, or_right, eq-eqb, cond_both}
-use Rattle.versions.proofs.Elements.{all-each}
+use Rattle.model.proofs.Elements.{all-each}
 use Rattle.std.proofs.lemmas.Bool.Decides.{nat_tests}
 use Rattle.model.specs.Map.{Bytes, KeyMap, is_same_key}
 use Rattle.model.proofs.Lookups.{same_key, same_key_itself}

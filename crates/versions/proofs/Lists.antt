@@ -12,7 +12,7 @@ use Rattle.versions.specs.Chains.{Chains, ChainsValue, IsKept}
 use Rattle.versions.specs.Listings.{is_seen_from, AreSeenFrom, is_of, IsSettled, IsPartReclaimed, AreKept, versions_in}
 use Rattle.versions.specs.Groups.{Listed}
 use Rattle.versions.specs.Witnesses.{IsUnderWitness}
-use Rattle.versions.proofs.Elements.{all-append, all-back, all-front, all-pass}
+use Rattle.model.proofs.Elements.{all-append, all-back, all-front, all-pass}
 use Rattle.versions.proofs.Listings.{part-trans, all-settled-part, left-part}
 
 -- ---- lists, one after the other

@@ -10,7 +10,7 @@ use Rattle.versions.specs.Groups.{Listed, GroupValue}
 use Rattle.versions.specs.Chains.{Chains}
 use Rattle.versions.specs.Meaning.{is_among, due_for}
 use Rattle.versions.specs.Listings.{AreIn, AreKept, AreSeenFrom, IsSettled, IsTakenIn, IsPartReclaimed, is_of, versions_in}
-use Rattle.versions.proofs.Elements.{all-append, all-back, all-front}
+use Rattle.model.proofs.Elements.{all-append, all-back, all-front}
 use Rattle.versions.proofs.Listings.{left-part}
 use Rattle.versions.proofs.Groups.{all-between}
 

@@ -22,7 +22,7 @@ use Rattle.model.proofs.InOrder.{both, less, parts}
 use Rattle.std.proofs.lemmas.Grind.{common_steps}
 use Rattle.std.proofs.lemmas.List.{get_or_default}
 use Rattle.std.proofs.lemmas.Bool.Decides.{nat_tests}
-use Rattle.versions.proofs.Elements.{all-append, all-each}
+use Rattle.model.proofs.Elements.{all-append, all-each}
 use Rattle.versions.proofs.Visibles.{IsMap-visible, value-visible, visible-put, visible-put_same, find_chain-put, sorted-put}
 
 -- ---- a fact of all chains

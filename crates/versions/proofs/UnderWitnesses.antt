@@ -16,7 +16,7 @@ use Rattle.versions.specs.Listings.{followed, has_version, is_seen_from, witness
 use Rattle.versions.specs.Witnesses.{number_at, number_seen, AreUnderWitnesses, IsAddedTo, IsUnderChain, IsUnderWitness}
 use Rattle.versions.proofs.ChainLaws.{above_first, last_at-push, le_false, some_between, stays, version_at-reclaimed}
 use Rattle.versions.proofs.Stores.{RoomierFound, all-find, find-put_itself, find-roomier, number_added}
-use Rattle.versions.proofs.Elements.{all-append, all-each}
+use Rattle.model.proofs.Elements.{all-append, all-each}
 use Rattle.versions.proofs.Visibles.{find_chain-put}
 
 -- the group's versions are under its witness

@@ -12,7 +12,7 @@ use Rattle.std.proofs.lemmas.List.Edits.{get_or-remove_below, length-remove}
 use Rattle.std.proofs.lemmas.List.Quantifiers.{position-Some}
 use Rattle.std.proofs.lemmas.List.Recursion.{is_sum_by}
 use Rattle.versions.specs.Groups.{GroupValue}
-use Rattle.versions.proofs.Elements.{all-each}
+use Rattle.model.proofs.Elements.{all-each}
 use Rattle.versions.specs.Meaning.{is_among}
 use Rattle.versions.specs.Listings.{witness_for, witnesses, AreApart, AreAmong, CanJoin, lists_in}
 

@@ -3,7 +3,7 @@ use Rattle.std.proofs.Common.{◌+◌, List, take, sym, ap, subst, refl, ◌∙�
 use Rattle.versions.specs.Groups.{GroupValue}
 use Rattle.versions.specs.Witnesses.{AreUnderWitnesses}
 use Rattle.versions.specs.Listings.{AreAmong, AreApart, AreMixedSettled, IsSettled, IsTrulyMixed, lists_in, witnesses}
-use Rattle.versions.proofs.Elements.{all-remove}
+use Rattle.model.proofs.Elements.{all-remove}
 use Rattle.versions.proofs.Groups.{due-empty, found-remove}
 use Rattle.versions.proofs.UnderWitnesses.{IsUnder}
 use Rattle.versions.proofs.Witnesses.{apart-next, among-remove, take-remove, lists-remove}

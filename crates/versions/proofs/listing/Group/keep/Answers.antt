@@ -5,7 +5,7 @@ use Rattle.std.specs.List.{AllByRecursion, list_all}
 use Rattle.versions.specs.Witnesses.{IsUnderWitness}
 use Rattle.versions.specs.Listings.{AreSeenFrom, IsSettled, is_seen_from, versions_in}
 use Rattle.versions.specs.Meaning.{is_among}
-use Rattle.versions.proofs.Elements.{all-append}
+use Rattle.model.proofs.Elements.{all-append}
 use Rattle.versions.proofs.Lists.{in-append, in-seen}
 use Rattle.versions.proofs.Groups.{unheld, unseen, unseen-put}
 use Rattle.versions.proofs.Parts.{all-seen_more}

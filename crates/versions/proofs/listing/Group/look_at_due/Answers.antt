@@ -4,7 +4,7 @@ use Rattle.sorted_pages.specs.Pages.{entries}
 use Rattle.versions.specs.Witnesses.{IsUnderWitness}
 use Rattle.versions.specs.Groups.{GroupValue}
 use Rattle.versions.specs.Listings.{AreKept, versions_in}
-use Rattle.versions.proofs.Elements.{all-back, all-front}
+use Rattle.model.proofs.Elements.{all-back, all-front}
 use Rattle.versions.proofs.Parts.{all-parts, all-three, kept-due}
 use Rattle.versions.proofs.Lists.{in-split}
 use Rattle.versions.proofs.listing.Group.look_at_due.Goals as goal
