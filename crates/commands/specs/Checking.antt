@@ -11,15 +11,15 @@ use Rattle.commit_log.specs.declared.faults.LogFault.{LogFault}
 use Rattle.commit_log.specs.declared.faults.LogFault.TheVariants.{NotALog, Damaged, OldFormat}
 use Rattle.commit_log.specs.declared.formats.LogFormat.{LogFormat}
 use Rattle.commit_log.specs.declared.formats.LogFormat.TheVariants.{One}
-use Rattle.commands.specs.Counts.{counts_of, line_of}
+use Rattle.commands.specs.LogCounts.{counts_of, line_of}
 use Rattle.commands.specs.Faults.{of_log}
 use Rattle.commands.specs.Printing.{IsToldAs, EndsAs}
-use Rattle.commands.specs.declared.data.Counts.{Counts}
+use Rattle.commands.specs.declared.data.LogCounts.{LogCounts}
 use Rattle.commands.specs.declared.faults.Fault.{Fault}
 use Rattle.commands.specs.declared.faults.Fault.TheVariants.{File}
 
 -- what counting the log of a device came to, by what the device holds
-pub record Counting {D : Type 0} (g : Ghosts D) (device : D) (result : Result Counts LogFault) : Type 0 where
+pub record Counting {D : Type 0} (g : Ghosts D) (device : D) (result : Result LogCounts LogFault) : Type 0 where
   pub found : g.keeps_model → (disk : List (List ℕ)) (lists : List (List KeyWrite)) → length disk ≡ g.size device → ReadsAs (g.may_read device) disk → IsLogImage current lists disk
       → MatchResult result (λ counts. counts ≡ counts_of lists (g.size device)) IsDeviceOrMemory
   pub damaged : g.keeps_model → (disk : List (List ℕ)) (lists : List (List KeyWrite)) → length disk ≡ g.size device → ReadsAs (g.may_read device) disk → IsDamaged current lists disk
@@ -33,7 +33,7 @@ pub record Counting {D : Type 0} (g : Ghosts D) (device : D) (result : Result Co
 -- Counting the log of a device and printing the line of its counts, which no fault of the log comes with.
 pub data Checks {D O : Type 0} (g : Ghosts D) (writes : O → List ℕ → Result (Unit {0}) Error → O → Type 0) (device : D) (out : O) : Result (Unit {0}) Fault → O → Type 0 where
   NotCounted : (fault : LogFault) → Counting g device (Err fault) → Checks g writes device out (Err (of_log fault)) out
-  Counted : (counts : Counts) (outcome : Result (Unit {0}) Error) (result : Result (Unit {0}) Fault) (printed : O) → Counting g device (Ok counts)
+  Counted : (counts : LogCounts) (outcome : Result (Unit {0}) Error) (result : Result (Unit {0}) Fault) (printed : O) → Counting g device (Ok counts)
       → writes out (line_of counts) outcome printed → EndsAs outcome result → Checks g writes device out result printed
 
 -- Checking a data file: it is opened, counted, and its line printed. Nothing else is called.

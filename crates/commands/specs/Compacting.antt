@@ -12,7 +12,7 @@ use Rattle.commit_log.specs.Opening.{CanSettle}
 use Rattle.commit_log.specs.Reading.{FaultIs}
 use Rattle.commit_log.specs.declared.faults.LogFault.{LogFault}
 use Rattle.commit_log.specs.declared.faults.LogFault.TheVariants.{Full}
-use Rattle.commands.specs.Counts.{log_line}
+use Rattle.commands.specs.LogCounts.{log_line}
 use Rattle.commands.specs.Faults.{of_log}
 use Rattle.commands.specs.Making.{HoldsLog}
 use Rattle.commands.specs.Notices.{copying_line}

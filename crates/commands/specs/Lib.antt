@@ -1,7 +1,7 @@
 pub mod Faults
 pub mod Checking
 pub mod Compacting
-pub mod Counts
+pub mod LogCounts
 pub mod Endings
 pub mod Making
 pub mod Notices

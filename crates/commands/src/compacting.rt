@@ -6,11 +6,11 @@ ghost use Rattle.commit_log.specs.LogImage.{IsLogImage};
 ghost use Rattle.commit_log.specs.Copying.{write_sets_of, copy_size, IsCopyFault};
 ghost use Rattle.commit_log.specs.Reading.{FaultIs};
 ghost use Rattle.commands.specs.Compacting.{copy_count, Compacting, Copies, HasTooFew, MayTell};
-ghost use Rattle.commands.specs.Counts.{counts_of, log_line};
+ghost use Rattle.commands.specs.LogCounts.{counts_of, log_line};
 ghost use Rattle.commands.specs.Faults.{IsFromOutput};
 ghost use Rattle.commands.specs.Notices.{copying_line};
 
-use crate::data::{Counts, print_counts};
+use crate::data::{LogCounts, print_counts};
 use crate::faults::Fault;
 use crate::system::{DataFiles, Lines};
 use commit_log::{LogFault, copy_into, copy_sectors, read_map};
@@ -115,7 +115,7 @@ pub fn copy_device<D: Sectors, O: Lines>(
 }
 
 // Writes the log of a map on a device, and counts what it then holds.
-fn copy_counts<D: Sectors>(alloc: Global, device: &mut D, map: &Map) -> Result<Counts, LogFault>
+fn copy_counts<D: Sectors>(alloc: Global, device: &mut D, map: &Map) -> Result<LogCounts, LogFault>
     ensures fault { FaultIs (D.failures device.old) (D.failures device.new) result }
     ensures errors { IfErr result IsCopyFault }
     ensures size { D.size device.new ≡ D.size device.old }
@@ -128,7 +128,7 @@ fn copy_counts<D: Sectors>(alloc: Global, device: &mut D, map: &Map) -> Result<C
         return Err(LogFault::Full);
     };
     let records = copy_into(alloc, device, map)?;
-    Ok(Counts {
+    Ok(LogCounts {
         records,
         keys: map.len(),
         used,

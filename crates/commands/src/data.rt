@@ -10,7 +10,7 @@ ghost use Rattle.commit_log.specs.Format.{current};
 ghost use Rattle.commit_log.specs.LogImage.{IsLogImage, IsDamaged, HasHead, IsNoLog};
 ghost use Rattle.commit_log.specs.Reading.{ReadsAs};
 ghost use Rattle.commands.specs.Checking.{Checking, Checks};
-ghost use Rattle.commands.specs.Counts.{counts_of, line_of, log_line};
+ghost use Rattle.commands.specs.LogCounts.{counts_of, line_of, log_line};
 ghost use Rattle.commands.specs.Faults.{IsFromDevice, IsFromOutput, IsFromOutside, DeviceIs};
 ghost use Rattle.commands.specs.Making.{Creating};
 
@@ -98,7 +98,7 @@ pub fn check_device<D: Sectors, O: Lines>(
 
 // What the log of a device holds.
 #[derive(Clone, Copy, PartialEq, Eq, Debug)]
-pub(crate) struct Counts {
+pub(crate) struct LogCounts {
     pub records: u64,
     pub keys: usize,
     pub used: u64,
@@ -106,7 +106,7 @@ pub(crate) struct Counts {
 }
 
 // Opens the log of a device and counts what it holds.
-fn count_device<D: Sectors>(alloc: Global, device: D) -> Result<Counts, LogFault>
+fn count_device<D: Sectors>(alloc: Global, device: D) -> Result<LogCounts, LogFault>
     ensures found { D.keeps_model → (disk : List (List ℕ)) (lists : List (List KeyWrite)) → length disk ≡ D.size device → ReadsAs (D.may_read device) disk → IsLogImage current lists disk
         → MatchResult result (λ counts. counts ≡ counts_of lists (D.size device)) IsDeviceOrMemory }
     ensures damaged { D.keeps_model → (disk : List (List ℕ)) (lists : List (List KeyWrite)) → length disk ≡ D.size device → ReadsAs (D.may_read device) disk → IsDamaged current lists disk
@@ -119,7 +119,7 @@ fn count_device<D: Sectors>(alloc: Global, device: D) -> Result<Counts, LogFault
 {
     let count = device.count();
     let (log, map) = Log::open(alloc, device)?;
-    Ok(Counts {
+    Ok(LogCounts {
         records: log.records(),
         keys: map.len(),
         used: log.used(),
@@ -128,7 +128,7 @@ fn count_device<D: Sectors>(alloc: Global, device: D) -> Result<Counts, LogFault
 }
 
 // Prints the line of these counts, in one write.
-pub(crate) fn print_counts<O: Lines>(counts: Counts, out: &mut O) -> io::Result<()>
+pub(crate) fn print_counts<O: Lines>(counts: LogCounts, out: &mut O) -> io::Result<()>
     ensures { O.writes out.old (line_of counts) result out.new }
 {
     let line = counts_line(counts);
@@ -136,7 +136,7 @@ pub(crate) fn print_counts<O: Lines>(counts: Counts, out: &mut O) -> io::Result<
 }
 
 // The line of these counts.
-fn counts_line(counts: Counts) -> Line
+fn counts_line(counts: LogCounts) -> Line
     ensures { result.items ≡ line_of counts }
 {
     let mut line = Line::new();

@@ -1,116 +1,130 @@
--- The two phases of an append: until the body is settled each crash leaves the log from before it; from then on the body and
--- a closed gate stand behind its gate, whatever that gate holds.
+-- The order of writes. A device is made an empty log: the gate is closed and settled before the head is written. An append has two
+-- phases: until the body is settled each crash leaves the log from before it; from then on the body and a closed gate stand behind
+-- its gate, whatever that gate holds.
 use Rattle.std.proofs.lemmas.Grind.{common_steps}
-use Rattle.std.proofs.Common.{◌≡◌, ◌≢◌, inl, ⊎_elim, ℕ, ◌<◌, ◌≤◌, ◌+◌, ◌*◌, ◌/◌, true, false, List, [], ◌∷◌, ◌++◌, length, take, drop, slice_get, Some, sym, ◌∙◌, ap, subst, arith}
+use Rattle.std.proofs.Common.{◌≡◌, inl, ℕ, suc, ◌≤◌, List, [], ◌∷◌, get_or, set, slice_get, Some, sym, ◌∙◌, ap, arith, ◌≢◌, ⊎_elim, ◌<◌, ◌+◌, ◌*◌, ◌/◌, true, false, ◌++◌, length, take, drop, subst, ◌↔◌, Bool, IsTrue, length-append}
+use Rattle.std.proofs.lemmas.List.{set-get_or, take-set-le}
+use Rattle.std.proofs.lemmas.Bool.{cases_lt}
 use Rattle.sector.specs.declared.device.Sectors.{Ghosts}
-use Rattle.sector.specs.SectorModel.{FollowsWrite, Settles, Elapses, LeavesOnly, IsSettled}
+use Rattle.sector.specs.SectorModel.{IsSameElsewhere, FollowsWrite, Settles, LeavesOnly, IsSettled}
 use Rattle.sector.proofs.Crashes.{of_none, of_one_more}
 use Rattle.model.specs.Map.{KeyWrite}
-use Rattle.commit_log.specs.RecordFormat.{IsWriteSet, is_open, first_digest, sectors_of, padded_body}
-use Rattle.commit_log.specs.LogImage.{IsLogImage, span, last_digest, next_index}
-use Rattle.commit_log.specs.Staging.{IsStaged}
-use Rattle.commit_log.specs.LogState.{IsNextRecord, IsBeforeOrAfter, IsSameBefore}
-use Rattle.commit_log.proofs.Records.{same_log, image_staged-set, image_staged_gate, image_staged_open, image_staged_from, slice_get_there}
-use Rattle.std.proofs.lemmas.List.{take-set-le}
+use Rattle.commit_log.specs.RecordFormat.{closed_gate, IsWriteSet, is_open, sectors_of, padded_body, record_digest}
+use Rattle.commit_log.specs.LogState.{IsBeingMade, IsNextRecord, IsBeforeOrAfter, IsSameBefore, StandsFor}
 use Rattle.commit_log.specs.Format.{current}
+use Rattle.commit_log.specs.LogImage.{IsLogImage, span}
+use Rattle.commit_log.specs.Staging.{IsStaged}
+use Rattle.commit_log.specs.Opening.{IsOpened}
+use Rattle.commit_log.specs.declared.log.Log.{Log}
+use Rattle.commit_log.specs.declared.read.Found.{Found}
+use Rattle.commit_log.proofs.Calls.{Leaves, Passes}
+use Rattle.commit_log.proofs.Records.{slice_get_there, same_log, staged-set, image_staged_gate, image_staged_open, image_staged_from, span-append, next_index-is, last_digest-push}
+
+-- a sector that was set
+set_there : (l : List (List ℕ)) (i : ℕ) (s t : List ℕ) → slice_get (set l i s) i ≡ Some t → s ≡ t
+set_there (x ∷ l) (suc i) s t at = set_there l i s t at
+set_there b0 b1 s t at = cc
+
+module _ {D : Type 0} (S : Ghosts D) (start : D) where
+  -- so far, where a crash leaves what has P
+  abbrev pub Making : D → (List (List ℕ) → List (List ℕ) → Type 0) → Type 0
+  Making now P = Leaves S start (IsBeingMade (S.may_leave start)) now (λ c. (d : List (List ℕ)) × S.may_leave start d × P d c)
+
+  pub gate_written : (next : D) → ((c : List (List ℕ)) → S.left_since start (S.moment start) c → S.may_leave start c) → FollowsWrite 1 (S.may_leave start) (S.may_leave next)
+      → Passes S start next → Making next (IsSameElsewhere 1)
+  gate_written next only_now follows time =
+      let none_yet : LeavesOnly S.moment S.left_since start start (IsBeingMade (S.may_leave start)) = of_none (λ c left. (c, only_now c left, inl (get_or c 1 [], sym (set-get_or c 1 [])))) in
+      grind (arith, common_steps, of_one_more)
+
+  -- the sync that settles the gate
+  pub gate_settled : (now next : D) (size : ℕ) → 2 ≤ size → ((s : List ℕ) → S.may_read now 1 s → s ≡ closed_gate) → Making now (IsSameElsewhere 1)
+      → Settles size (S.may_read now) (S.may_read next) (S.may_leave now) (S.may_leave next) → Passes S now next → Making next (λ d c. c ≡ set d 1 closed_gate)
+  gate_settled now next size some written so_far settles time =
+      let image = settles.image in
+      let from = so_far.left image settles.was_left in
+      let there : (s : List ℕ) × (slice_get image 1 ≡ Some s) = slice_get_there image 1 (omega (arith, settles.settled.size_is)) in
+      let closed : there.0 ≡ closed_gate = written there.0 (settles.was_read 1 there.0 there.1) in
+      let gate : from.2.0 ≡ there.0 = set_there from.0 1 from.2.0 there.0 (ap (λ (l : List (List ℕ)). slice_get l 1) (sym from.2.1) ∙ there.1) in
+      let is : image ≡ set from.0 1 closed_gate = from.2.1 ∙ ap (λ (s : List ℕ). set from.0 1 s) (gate ∙ closed) in
+      grind (arith, common_steps, of_one_more)
+
+  pub head_written : (now next : D) → Making now (λ d c. c ≡ set d 1 closed_gate) → FollowsWrite 0 (S.may_leave now) (S.may_leave next)
+      → Passes S now next → Making next (λ d c. IsSameElsewhere 0 (set d 1 closed_gate) c)
+  head_written now next so_far follows time = grind (arith, common_steps, of_one_more)
 
 module _ {D : Type 0} (S : Ghosts D) (lists : List (List KeyWrite)) (writes : List KeyWrite) (start : D) where
   -- a crash leaves the old log, and has so far left the old one or the new one
-  pub record Writing (now : D) : Type 0 where
-    pub left : (c : List (List ℕ)) → S.may_leave now c → IsLogImage current lists c
-    pub time : LeavesOnly S.moment S.left_since start now (IsBeforeOrAfter lists writes)
+  abbrev pub Writing : D → Type 0
+  Writing now = Leaves S start (IsBeforeOrAfter lists writes) now (IsLogImage current lists)
 
   -- the body is settled
-  pub record Opening (now : D) : Type 0 where
-    pub left : (c : List (List ℕ)) → S.may_leave now c → IsStaged current lists writes c
-    pub time : LeavesOnly S.moment S.left_since start now (IsBeforeOrAfter lists writes)
+  abbrev pub Opening : D → Type 0
+  Opening now = Leaves S start (IsBeforeOrAfter lists writes) now (IsStaged current lists writes)
 
-module _ {D : Type 0} (S : Ghosts D) (lists : List (List KeyWrite)) (writes : List KeyWrite) (start : D) where
-  -- before the gate is written
-  pub not_opened : IsWriteSet current writes → ((c : List (List ℕ)) → S.may_leave start c → IsStaged current lists writes c) → ((c : List (List ℕ)) → S.left_since start (S.moment start) c → S.may_leave start c) → Opening S lists writes start start
-  not_opened proper here only_now = grind (arith, common_steps, of_none, image_staged_gate)
-
-module _ {D : Type 0} (S : Ghosts D) (lists : List (List KeyWrite)) (writes : List KeyWrite) (start now next : D) where
-  pub after_body : (at : ℕ) → at ≡ 2 + span lists → ((c : List (List ℕ)) → S.may_leave start c → IsLogImage current lists c)
+  pub after_body : (next : D) (at : ℕ) → at ≡ 2 + span lists → ((c : List (List ℕ)) → S.may_leave start c → IsLogImage current lists c)
       → ((c : List (List ℕ)) → S.may_leave next c → IsSameBefore at (S.may_leave start) c)
-      → LeavesOnly S.moment S.left_since start next (IsSameBefore at (S.may_leave start)) → Writing S lists writes start next
-  after_body at is here follows time = grind (arith, common_steps, same_log, ⊎_elim)
+      → LeavesOnly S.moment S.left_since start next (IsSameBefore at (S.may_leave start)) → Writing next
+  after_body next at is here follows time = grind (arith, common_steps, same_log, ⊎_elim)
 
-  pub after_gate : (at : ℕ) → 2 + span lists ≤ at → Writing S lists writes start now → FollowsWrite at (S.may_leave now) (S.may_leave next)
-      → Elapses (S.moment now) (S.moment next) (S.left_since now) (S.left_since next) (S.may_leave next) → Writing S lists writes start next
-  after_gate at le so_far follows time =
-      let kept : (c : List (List ℕ)) → S.may_leave next c → IsLogImage current lists c = λ c left.
-      let from = follows c left in
-      same_log current lists (2 + span lists) c from.0 (omega arith)
-      (ap (λ (l : List (List ℕ)). take (2 + span lists) l) from.2.1 ∙ take-set-le (2 + span lists) from.0 at from.2.0 le) (so_far.left from.0 from.1) in
-      record {
-        left = kept;
-        time = of_one_more so_far.time time (λ c left. inl (kept c left));
-      }
+  pub after_gate : (now next : D) (at : ℕ) → 2 + span lists ≤ at → Writing now → FollowsWrite at (S.may_leave now) (S.may_leave next) → Passes S now next → Writing next
+  after_gate now next at le so_far follows time = grind (arith, common_steps, of_one_more, same_log current lists (2 + span lists), take-set-le {A = List ℕ} (2 + span lists))
 
-  -- a sync that failed
-  pub after_sync : Writing S lists writes start now → ((c : List (List ℕ)) → S.may_leave next c → S.may_leave now c)
-      → Elapses (S.moment now) (S.moment next) (S.left_since now) (S.left_since next) (S.may_leave next) → Writing S lists writes start next
-  after_sync so_far fewer time = grind (arith, common_steps, of_one_more)
+  pub after_open : (next : D) (gate : ℕ) → gate ≡ 1 + span lists → IsWriteSet current writes → ((c : List (List ℕ)) → S.may_leave start c → IsStaged current lists writes c)
+      → ((c : List (List ℕ)) → S.left_since start (S.moment start) c → S.may_leave start c) → FollowsWrite gate (S.may_leave start) (S.may_leave next) → Passes S start next → Opening next
+  after_open next gate at proper here only_now follows time =
+      let begun : Opening start = grind (arith, common_steps, of_none, image_staged_gate) in
+      grind (arith, common_steps, staged-set, of_one_more, image_staged_gate)
+
+module _ {D : Type 0} (S : Ghosts D) (lists : List (List KeyWrite)) (writes : List KeyWrite) (now next : D) (gate size : ℕ) (settles : Settles size (S.may_read now) (S.may_read next) (S.may_leave now) (S.may_leave next)) where
+  there : (i : ℕ) → i < size → (s : List ℕ) × (slice_get settles.image i ≡ Some s) × S.may_read now i s
+  there i lt =
+      let found = slice_get_there settles.image i (omega (arith, settles.settled.size_is)) in
+      (found.0, found.1, settles.was_read i found.0 found.1)
 
   -- the sync that settles the body
-  pub settled : (gate size : ℕ) (bytes shut : List ℕ) → gate ≡ 1 + span lists → bytes ≡ padded_body (last_digest lists 0 first_digest) (next_index lists 0) writes
-      → gate + 1 + sectors_of writes < size
-      → ((k : ℕ) (s : List ℕ) → k < sectors_of writes → S.may_read now (gate + 1 + k) s → s ≡ take 512 (drop (512 * k) bytes))
-      → ((s : List ℕ) → S.may_read now (gate + 1 + sectors_of writes) s → s ≡ shut) → is_open shut ≡ false
-      → Writing S lists writes start now → Settles size (S.may_read now) (S.may_read next) (S.may_leave now) (S.may_leave next)
-      → Elapses (S.moment now) (S.moment next) (S.left_since now) (S.left_since next) (S.may_leave next) → Opening S lists writes start next
-  settled gate size bytes shut at is room body behind closed so_far settles time =
-      let image = settles.image in
-      let read : (i : ℕ) → i < size → (s : List ℕ) × (slice_get image i ≡ Some s) = λ i lt. slice_get_there image i (omega (arith, settles.settled.size_is)) in
-      let staged : IsStaged current lists writes image =
-      image_staged_from current lists writes image bytes shut is (so_far.left image settles.was_left)
-      (λ k lt.
-      let place : gate + 1 + k ≡ 1 + span lists + 1 + k = omega arith in
-      let there = read (gate + 1 + k) (omega arith) in
-      ap (λ (i : ℕ). slice_get image i) (sym place) ∙ there.1
-      ∙ ap (λ (s : List ℕ). Some s) (body k there.0 lt (settles.was_read (gate + 1 + k) there.0 there.1)))
-      (
-      let place : gate + 1 + sectors_of writes ≡ 1 + span lists + 1 + sectors_of writes = omega arith in
-      let there = read (gate + 1 + sectors_of writes) (omega arith) in
-      ap (λ (i : ℕ). slice_get image i) (sym place) ∙ there.1
-      ∙ ap (λ (s : List ℕ). Some s) (behind there.0 (settles.was_read (gate + 1 + sectors_of writes) there.0 there.1)))
-      closed in
-      record {
-        left = λ c left. let only : c ≡ image = settles.settled.left c left in rw only staged;
-        time = grind (arith, common_steps, of_one_more);
-      }
-
-  pub after_open : (gate : ℕ) → gate ≡ 1 + span lists → IsWriteSet current writes → Opening S lists writes start now → FollowsWrite gate (S.may_leave now) (S.may_leave next)
-      → Elapses (S.moment now) (S.moment next) (S.left_since now) (S.left_since next) (S.may_leave next) → Opening S lists writes start next
-  after_open gate at proper so_far follows time = grind (arith, common_steps, image_staged-set, of_one_more, image_staged_gate)
-
-  pub after_last_sync : IsWriteSet current writes → Opening S lists writes start now → ((c : List (List ℕ)) → S.may_leave next c → S.may_leave now c)
-      → Elapses (S.moment now) (S.moment next) (S.left_since now) (S.left_since next) (S.may_leave next) → Opening S lists writes start next
-  after_last_sync proper so_far fewer time = grind (arith, common_steps, of_one_more, image_staged_gate)
+  pub staged_by : (mid : D) (bytes shut : List ℕ) → IsNextRecord lists writes gate bytes → gate + 1 + length bytes / 512 < size
+      → ((k : ℕ) (s : List ℕ) → k < length bytes / 512 → S.may_read mid (gate + 1 + k) s → s ≡ take 512 (drop (512 * k) bytes))
+      → ((i : ℕ) (s : List ℕ) → i ≢ gate + 1 + length bytes / 512 → S.may_read now i s → S.may_read mid i s)
+      → ((s : List ℕ) → S.may_read now (gate + 1 + length bytes / 512) s → s ≡ shut) → is_open shut ≡ false
+      → ((c : List (List ℕ)) → S.may_leave now c → IsLogImage current lists c) → (c : List (List ℕ)) → S.may_leave next c → IsStaged current lists writes c
+  staged_by mid bytes shut is room body others behind closed here c left =
+      subst (IsStaged current lists writes) (sym (settles.settled.left c left))
+      (image_staged_from current lists writes settles.image bytes shut is.bytes_are (here settles.image settles.was_left)
+      (λ k i lt at.
+      let place : i ≡ gate + 1 + k = omega (arith, is.gate_is) in
+      let found = there i (omega (arith, is.sectors)) in
+      let was = others i found.0 (omega (arith, is.sectors)) found.2 in
+      found.1 ∙ ap (λ (s : List ℕ). Some s) (body k found.0 (omega (arith, is.sectors)) (subst (λ (n : ℕ). S.may_read mid n found.0) place was)))
+      (λ i at.
+      let place : i ≡ gate + 1 + length bytes / 512 = omega (arith, is.gate_is, is.sectors) in
+      let found = there i (omega arith) in
+      found.1 ∙ ap (λ (s : List ℕ). Some s) (behind found.0 (subst (λ (n : ℕ). S.may_read now n found.0) place found.2)))
+      closed)
 
   -- the sync that settles the gate
-  pub acknowledged : (gate size : ℕ) (opened : List ℕ) → gate ≡ 1 + span lists → IsWriteSet current writes → gate < size → ((s : List ℕ) → S.may_read now gate s → s ≡ opened) → is_open opened ≡ true
-      → Opening S lists writes start now → Settles size (S.may_read now) (S.may_read next) (S.may_leave now) (S.may_leave next)
+  pub acknowledged : (opened : List ℕ) → gate ≡ 1 + span lists → IsWriteSet current writes → gate < size → ((s : List ℕ) → S.may_read now gate s → s ≡ opened) → is_open opened ≡ true
+      → ((c : List (List ℕ)) → S.may_leave now c → IsStaged current lists writes c)
       → (image : List (List ℕ)) × IsSettled size (S.may_read next) (S.may_leave next) image × IsLogImage current (lists ++ writes ∷ []) image
-  acknowledged gate size opened at proper room written is so_far settles =
+  acknowledged opened at proper room written is here =
       let image = settles.image in
-      let there : (s : List ℕ) × (slice_get image gate ≡ Some s) = slice_get_there image gate (omega (arith, settles.settled.size_is)) in
-      let found : there.0 ≡ opened = written there.0 (settles.was_read gate there.0 there.1) in
-      (image, settles.settled, image_staged_open current lists writes image gate there.0 at proper (so_far.left image settles.was_left) there.1 (ap is_open found ∙ is))
+      let found = there gate room in
+      (image, settles.settled, image_staged_open current lists writes image gate found.0 at proper (here image settles.was_left) found.1 (ap is_open (written found.0 found.2) ∙ is))
 
--- the same, by the writes before it
-pub staged_by : {D : Type 0} (S : Ghosts D) (lists : List (List KeyWrite)) (writes : List KeyWrite) (start mid now next : D) (gate size : ℕ) (bytes shut : List ℕ) → IsNextRecord lists writes gate bytes
-    → gate + 1 + length bytes / 512 < size
-    → ((k : ℕ) (s : List ℕ) → k < length bytes / 512 → S.may_read mid (gate + 1 + k) s → s ≡ take 512 (drop (512 * k) bytes))
-    → ((i : ℕ) (s : List ℕ) → i ≢ gate + 1 + length bytes / 512 → S.may_read now i s → S.may_read mid i s)
-    → ((s : List ℕ) → S.may_read now (gate + 1 + length bytes / 512) s → s ≡ shut) → is_open shut ≡ false
-    → Writing S lists writes start now → Settles size (S.may_read now) (S.may_read next) (S.may_leave now) (S.may_leave next)
-    → Elapses (S.moment now) (S.moment next) (S.left_since now) (S.left_since next) (S.may_leave next) → Opening S lists writes start next
-staged_by S lists writes start mid now next gate size bytes shut is room body others behind closed so_far settles time =
-    settled S lists writes start now next gate size bytes shut is.gate_is is.bytes_are (omega (arith, room, is.sectors))
-    (λ k s lt read.
-    let other : gate + 1 + k ≢ gate + 1 + length bytes / 512 = omega (arith, lt, is.sectors) in
-    body k s (omega (arith, lt, is.sectors)) (others (gate + 1 + k) s other read))
-    (λ s read. behind s (subst (λ (n : ℕ). S.may_read now (gate + 1 + n) s) (sym is.sectors) read))
-    closed so_far settles time
+pub no_room_if : (b : Bool) (m n : ℕ) → (IsTrue b ↔ (m < n)) → b ≡ false → n ≤ m
+no_room_if b m n means is = grind (arith, common_steps, cases_lt)
+
+-- the body that was made is that of the log's next record
+pub next_record : {D : Type 0} {g : Ghosts D} (log : Log D g) (lists : List (List KeyWrite)) (writes : List KeyWrite) (body bytes : List ℕ) → StandsFor log lists → IsWriteSet current writes
+    → body ≡ padded_body log.digest log.records writes → length body ≡ 512 * sectors_of writes → bytes ≡ body → IsNextRecord lists writes log.gate bytes
+next_record log lists writes body bytes stands proper is size same = grind (arith, common_steps, next_index-is)
+
+-- the log with a record more
+pub stands_after : {D : Type 0} {g : Ghosts D} (old new : Log D g) (lists : List (List KeyWrite)) (writes : List KeyWrite) → StandsFor old lists → new.stopped ≡ false
+    → new.gate ≡ old.gate + 1 + sectors_of writes → new.records ≡ old.records + 1 → new.digest ≡ record_digest old.digest old.records writes
+    → ((image : List (List ℕ)) × IsSettled (g.size new.device) (g.may_read new.device) (g.may_leave new.device) image × IsLogImage current (lists ++ writes ∷ []) image) → StandsFor new (lists ++ writes ∷ [])
+stands_after old new lists writes stands running gate records digest settled = grind (arith, common_steps, span-append, length-append, next_index-is, last_digest-push)
+
+-- a log made of what was found
+pub log_opened : {D : Type 0} {g : Ghosts D} (log : Log D g) (image : List (List ℕ)) (found : Found) (opened : IsOpened current (g.size log.device) (g.may_read log.device) (g.may_leave log.device) image found) → log.stopped ≡ false → log.gate ≡ found.gate → log.records ≡ found.records
+    → log.digest ≡ found.digest.bytes → StandsFor log opened.lists
+log_opened log image found opened running gate records digest = grind (arith, common_steps)

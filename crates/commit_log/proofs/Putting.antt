@@ -1,45 +1,37 @@
 -- The puts of a map's pairs, cut into write sets.
-use Rattle.std.proofs.Common.{◌≡◌, ℕ, zero, suc, ◌<◌, ◌≤◌, ◌+◌, ◌*◌, Bool, ◌&&◌, T, List, [], ◌∷◌, ◌++◌, length, take, drop, Some, All, min, refl, sym, ◌∙◌, ap, subst, arith, append_assoc, length-append, length-drop, Ordering}
-use Rattle.std.proofs.lemmas.List.{append-nil, length-take, take_min, take-append-drop, append_cancel_left}
 use Rattle.std.proofs.lemmas.Grind.{common_steps, flat_map-append}
+use Rattle.std.proofs.Common.{◌≡◌, ℕ, zero, suc, ◌<◌, ◌≤◌, ◌+◌, ◌*◌, Bool, ◌&&◌, T, List, [], ◌∷◌, ◌++◌, length, take, drop, Some, All, min, refl, sym, ◌∙◌, ap, subst, arith, append_assoc, length-drop}
+use Rattle.std.proofs.lemmas.List.{append-nil, length-take, take_all, drop_all, take-append-drop}
 use Rattle.std.specs.List.{flat_map}
 use Rattle.std.specs.Cmp.Lexicographic.{slice_cmp, nat_list_cmp_total}
 use Rattle.std.specs.Ordering.{nat_cmp, is_lt, ordering_reverse}
-use Rattle.std.specs.FinMap.Entries.{put, is_sorted, below_all, by_order}
+use Rattle.std.specs.FinMap.Entries.{put, is_sorted, below_all}
 use Rattle.std.specs.declared.cmp.Ordering.TheVariants.{Greater}
-use Rattle.byteorder.specs.Endian.{big_bytes}
-use Rattle.model.proofs.InOrder.{parts, less, sorted_take, sorted_drop}
-use Rattle.model.specs.Key.{IsKey, IsValue}
+use Rattle.model.proofs.InOrder.{parts, less, below_right, sorted_take, sorted_drop}
+use Rattle.model.specs.Key.{IsValue}
 use Rattle.model.specs.Map.{Bytes, KeyMap, KeyWrite, IsMap, IsInBounds, after_writes}
-use Rattle.model.specs.Machine.{payload_size, write_size}
+use Rattle.model.specs.Machine.{payload_size}
 use Rattle.commit_log.specs.Format.{current}
-use Rattle.commit_log.specs.RecordFormat.{IsWithinLimits, IsWriteSet, entry_bytes, payload_bytes}
+use Rattle.commit_log.specs.RecordFormat.{IsWithinLimits, IsWriteSet, entry_bytes}
 use Rattle.commit_log.specs.Recovery.{map_after}
 use Rattle.commit_log.specs.Copying.{puts, first_sets, set_count, write_sets_of}
-
-abbrev pub put_of : Bytes × Bytes → KeyWrite
-put_of p = (p.0, Some p.1)
+use Rattle.commit_log.proofs.Encoding.{payload_size-push}
 
 -- one pair more
 pub pair_more : (m : KeyMap) (i : ℕ) (p : Bytes × Bytes) (rest : KeyMap) → drop i m ≡ p ∷ rest → (take (i + 1) m ≡ take i m ++ p ∷ []) × (drop (i + 1) m ≡ rest)
-pair_more [] zero p rest is = absurd (cc is)
 pair_more [] (suc i) p rest is = absurd (cc is)
-pair_more (x ∷ m) zero p rest is = grind (arith, common_steps)
 pair_more (x ∷ m) (suc i) p rest is = grind (arith, common_steps, pair_more m i p rest is)
+pair_more m zero p rest is = grind (arith, common_steps)
 
 pub length-puts : (m : KeyMap) → length (puts m) ≡ length m
 length-puts [] = refl
 length-puts (p ∷ m) = ap suc (length-puts m)
 
-puts-push : (m : KeyMap) (p : Bytes × Bytes) → puts (m ++ p ∷ []) ≡ puts m ++ put_of p ∷ []
+puts-push : (m : KeyMap) (p : Bytes × Bytes) → puts (m ++ p ∷ []) ≡ puts m ++ (p.0, Some p.1) ∷ []
 puts-push [] p = refl
-puts-push (x ∷ m) p = ap (λ (l : List KeyWrite). put_of x ∷ l) (puts-push m p)
+puts-push (x ∷ m) p = ap (λ (l : List KeyWrite). (x.0, Some x.1) ∷ l) (puts-push m p)
 
-payload_size-push : (ws : List KeyWrite) (w : KeyWrite) → payload_size (ws ++ w ∷ []) ≡ payload_size ws + write_size w.0 w.1
-payload_size-push [] w = omega arith
-payload_size-push (x ∷ ws) w = omega (arith, payload_size-push ws w)
-
-bounds_drop : (i : ℕ) (m : KeyMap) → IsInBounds m → IsInBounds (drop i m)
+pub bounds_drop : (i : ℕ) (m : KeyMap) → IsInBounds m → IsInBounds (drop i m)
 bounds_drop (suc i) (p ∷ m) h = bounds_drop i m h.2
 bounds_drop b0 b1 h = h
 
@@ -47,49 +39,29 @@ bounds_take : (i : ℕ) (m : KeyMap) → IsInBounds m → IsInBounds (take i m)
 bounds_take (suc i) (p ∷ m) h = (h.0, h.1, bounds_take i m h.2)
 bounds_take b0 b1 h = tt
 
-pub bounds_behind : (i : ℕ) (m now : KeyMap) → now ≡ drop i m → IsInBounds m → IsInBounds now
-bounds_behind i m now is h = subst IsInBounds (sym is) (bounds_drop i m h)
-
 -- what the next pair makes of a run over pairs
 pub record NextPair (m : KeyMap) (i : ℕ) (next : KeyMap) (p : Bytes × Bytes) : Type 0 where
-  pub front : take (i + 1) m ≡ take i m ++ p ∷ []
   pub behind : next ≡ drop (i + 1) m
-  pub key : IsKey p.0
   pub value : IsValue p.1
   pub size : payload_size (puts (take (i + 1) m)) ≡ payload_size (puts (take i m)) + (7 + length p.0 + length p.1)
-  pub entries : flat_map entry_bytes (puts (take (i + 1) m)) ≡ flat_map entry_bytes (puts (take i m)) ++ entry_bytes (put_of p)
+  pub entries : flat_map entry_bytes (puts (take (i + 1) m)) ≡ flat_map entry_bytes (puts (take i m)) ++ entry_bytes (p.0, Some p.1)
 
 pub next_pair : (m : KeyMap) (i : ℕ) (now next : KeyMap) (p : Bytes × Bytes) → now ≡ drop i m → now ≡ p ∷ next → IsInBounds m → NextPair m i next p
 next_pair m i now next p at is h = grind (arith, common_steps, pair_more, bounds_drop, puts-push, payload_size-push, flat_map-append, append-nil)
 
-pub length-put_bytes : (p : Bytes × Bytes) → length (entry_bytes (put_of p)) ≡ 7 + length p.0 + length p.1
-length-put_bytes p = grind (arith, common_steps, length-append)
-
 -- there are more pairs
 pub not_none : (m now : KeyMap) (i n : ℕ) → now ≡ drop i m → now ≡ [] → i < n → n ≤ length m → ⊥
-not_none m now i n at is lt le =
-    let none : length (drop i m) ≡ 0 = ap length (sym at ∙ is) in
-    omega (arith, none, length-drop i m)
+not_none m now i n at is lt le = omega (arith, ap length (sym at ∙ is), length-drop i m)
 
 -- a part is no longer than the whole
-pub size_le : (m : KeyMap) (i n : ℕ) → i ≤ n → payload_size (puts (take i m)) ≤ payload_size (puts (take n m))
-size_le [] zero zero le = omega arith
-size_le [] zero (suc n) le = omega arith
-size_le [] (suc i) zero le = omega arith
-size_le [] (suc i) (suc n) le = omega arith
-size_le (p ∷ m) zero n le = at_least n
-  where
-    at_least : (n : ℕ) → 4 ≤ payload_size (puts (take n (p ∷ m)))
-    at_least a0 = grind (arith, common_steps)
-size_le (p ∷ m) (suc i) zero le = absurd (omega arith)
-size_le (p ∷ m) (suc i) (suc n) le = omega (arith, size_le m i n (omega arith))
+pub size_le : (i n : ℕ) (m : KeyMap) → i ≤ n → payload_size (puts (take i m)) ≤ payload_size (puts (take n m))
+size_le (suc i) (suc n) (p ∷ m) le = omega (arith, size_le i n m (omega arith))
+size_le zero (suc n) (p ∷ m) le = omega arith
+size_le i n m le = omega arith
 
 -- the pairs of the next write set
 pub next_set : (m : KeyMap) (n : ℕ) → n ≡ min (length m) 64 → (take n m ≡ take 64 m) × (drop n m ≡ drop 64 m)
-next_set m n is =
-    let swapped : n ≡ min 64 (length m) = omega arith in
-    let front : take n m ≡ take 64 m = ap (λ (k : ℕ). take k m) swapped ∙ take_min 64 m in
-    (front, append_cancel_left (take n m) (drop n m) (drop 64 m) (take-append-drop n m ∙ sym (take-append-drop 64 m) ∙ ap (λ (l : KeyMap). l ++ drop 64 m) (sym front)))
+next_set m n is = grind (arith, take_all n m, take_all 64 m, drop_all n m, drop_all 64 m)
 
 pub length-first_sets : (n : ℕ) (m : KeyMap) → length (first_sets n m) ≡ n
 length-first_sets zero m = refl
@@ -113,30 +85,19 @@ sets_split m some =
 put_last : (m : KeyMap) (p : Bytes × Bytes) (rest : KeyMap) → IsMap (m ++ p ∷ rest) → put (slice_cmp nat_cmp) p.0 p.1 m ≡ m ++ p ∷ []
 put_last [] p rest h = refl
 put_last (e ∷ m) p rest h =
-    let q = parts (below_all (slice_cmp nat_cmp) e.0 (m ++ p ∷ rest)) (is_sorted (slice_cmp nat_cmp) (m ++ p ∷ rest)) h in
-    let above : slice_cmp nat_cmp p.0 e.0 ≡ Greater = nat_list_cmp_total.antisymm p.0 e.0 ∙ ap ordering_reverse (less _ (reaches m q.0)) in
-    ap (λ (o : Ordering). by_order o (p ∷ e ∷ m) ((e.0, p.1) ∷ m) (e ∷ put (slice_cmp nat_cmp) p.0 p.1 m)) above
-    ∙ ap (λ (l : KeyMap). e ∷ l) (put_last m p rest q.1)
-  where
-    reaches : (l : KeyMap) → T (below_all (slice_cmp nat_cmp) e.0 (l ++ p ∷ rest)) → T (is_lt (slice_cmp nat_cmp e.0 p.0))
-    reaches [] t = (parts (is_lt (slice_cmp nat_cmp e.0 p.0)) (below_all (slice_cmp nat_cmp) e.0 rest) t).0
-    reaches (x ∷ l) t = reaches l (parts (is_lt (slice_cmp nat_cmp e.0 x.0)) (below_all (slice_cmp nat_cmp) e.0 (l ++ p ∷ rest)) t).1
+    let q = parts _ _ h in
+    let reached = parts _ _ (below_right (slice_cmp nat_cmp) e.0 m (p ∷ rest) q.0) in
+    let above : slice_cmp nat_cmp p.0 e.0 ≡ Greater = nat_list_cmp_total.antisymm p.0 e.0 ∙ ap ordering_reverse (less _ reached.0) in
+    rw above (ap (λ (l : KeyMap). e ∷ l) (put_last m p rest q.1))
 
 puts_give : (xs m rest : KeyMap) → IsMap (m ++ (xs ++ rest)) → after_writes m (puts xs) ≡ m ++ xs
 puts_give [] m rest h = sym (append-nil m)
-puts_give (p ∷ xs) m rest h =
-    let next : IsMap ((m ++ p ∷ []) ++ (xs ++ rest)) = subst IsMap (sym (append_assoc m (p ∷ []) (xs ++ rest))) h in
-    ap (λ (l : KeyMap). after_writes l (puts xs)) (put_last m p (xs ++ rest) h) ∙ puts_give xs (m ++ p ∷ []) rest next ∙ append_assoc m (p ∷ []) xs
+puts_give (p ∷ xs) m rest h = grind (arith, put_last m p (xs ++ rest) h, puts_give xs (m ++ p ∷ []) rest, append_assoc m (p ∷ []) (xs ++ rest), append_assoc m (p ∷ []) xs)
 
 sets_give : (n : ℕ) (m rest : KeyMap) → IsMap (m ++ rest) → length rest ≤ 64 * n → map_after m (first_sets n rest) ≡ m ++ rest
 sets_give zero m [] h le = sym (append-nil m)
 sets_give zero m (p ∷ rest) h le = absurd (omega arith)
-sets_give (suc n) m rest h le =
-    let whole : take 64 rest ++ drop 64 rest ≡ rest = take-append-drop 64 rest in
-    let first : after_writes m (puts (take 64 rest)) ≡ m ++ take 64 rest = puts_give (take 64 rest) m (drop 64 rest) (subst (λ (l : KeyMap). IsMap (m ++ l)) (sym whole) h) in
-    let joined : (m ++ take 64 rest) ++ drop 64 rest ≡ m ++ rest = append_assoc m (take 64 rest) (drop 64 rest) ∙ ap (λ (l : KeyMap). m ++ l) whole in
-    ap (λ (l : KeyMap). map_after l (first_sets n (drop 64 rest))) first
-    ∙ sets_give n (m ++ take 64 rest) (drop 64 rest) (subst IsMap (sym joined) h) (omega (arith, length-drop 64 rest)) ∙ joined
+sets_give (suc n) m rest h le = grind (arith, take-append-drop 64 rest, puts_give (take 64 rest) m (drop 64 rest), sets_give n (m ++ take 64 rest) (drop 64 rest), append_assoc m (take 64 rest) (drop 64 rest), length-drop 64 rest)
 
 -- the write sets of a map give it
 pub write_sets_give : (m : KeyMap) → IsMap m → map_after [] (write_sets_of m) ≡ m
@@ -154,8 +115,7 @@ below-puts k (p ∷ m) = ap (λ (b : Bool). is_lt (slice_cmp nat_cmp k p.0) && b
 
 sorted-puts : (m : KeyMap) → is_sorted (slice_cmp nat_cmp) (puts m) ≡ is_sorted (slice_cmp nat_cmp) m
 sorted-puts [] = refl
-sorted-puts (p ∷ m) =
-    ap (λ (b : Bool). b && is_sorted (slice_cmp nat_cmp) (puts m)) (below-puts p.0 m) ∙ ap (λ (b : Bool). below_all (slice_cmp nat_cmp) p.0 m && b) (sorted-puts m)
+sorted-puts (p ∷ m) = grind (arith, below-puts p.0 m, sorted-puts m)
 
 limits-puts : (m : KeyMap) → IsInBounds m → All (IsWithinLimits current) (puts m)
 limits-puts [] h k d lt = absurd (omega arith)

@@ -1,6 +1,8 @@
 -- Which faults a call of the log may answer.
 use Rattle.commit_log.specs.declared.faults.LogFault.{LogFault}
 use Rattle.commit_log.specs.declared.faults.LogFault.TheVariants.{NotALog, Damaged, Full, Device, Stopped, Memory, OldFormat}
+use Rattle.commit_log.specs.declared.faults.AppendFault.TheVariants as append
+use Rattle.commit_log.specs.declared.faults.AppendFault.{AppendFault}
 
 -- the device failed, or memory was refused
 abbrev pub IsDeviceOrMemory : LogFault → Type 0
@@ -24,6 +26,11 @@ IsAppendFault Device = Unit {0}
 IsAppendFault Stopped = Unit {0}
 IsAppendFault Memory = Unit {0}
 IsAppendFault other = ⊥
+
+-- what an append answers where none was added to a log that runs and has room
+abbrev pub of_append : AppendFault → LogFault
+of_append append.Device = Device
+of_append append.Memory = Memory
 
 -- a fault of reading the map of a log of either format
 abbrev pub IsReadMapFault : LogFault → Type 0

@@ -60,6 +60,40 @@ impl From<model::Memory> for LogFault {
     }
 }
 
+/// Why no record was added to a log that runs and has room for it.
+#[derive(Clone, Copy, Debug, PartialEq, Eq, Error)]
+pub enum AppendFault {
+    /// The device failed, and the log is stopped.
+    #[error("the device failed")]
+    Device,
+    /// Memory was refused. The log is as it was.
+    #[error("out of memory")]
+    Memory,
+}
+
+impl From<AllocError> for AppendFault {
+    ghost use Rattle.commit_log.specs.declared.faults.AppendFault.TheVariants.{Memory};
+
+    ghost from_gives = { λ _ e. e ≡ Memory };
+
+    fn from(_error: AllocError) -> Self {
+        AppendFault::Memory
+    }
+}
+
+impl From<AppendFault> for LogFault {
+    ghost use Rattle.commit_log.specs.LogFaults.{of_append};
+
+    ghost from_gives = { λ fault e. e ≡ of_append fault };
+
+    fn from(fault: AppendFault) -> Self {
+        match fault {
+            AppendFault::Device => LogFault::Device,
+            AppendFault::Memory => LogFault::Memory,
+        }
+    }
+}
+
 /// A device whose log could not be opened, and why. It becomes a `LogFault` by `?`, and the device is then given up.
 #[derive(Drop)]
 pub struct Unopened<D: Sectors> {

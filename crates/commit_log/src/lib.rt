@@ -21,7 +21,7 @@ mod state;
 
 pub use copying::{copy_into, copy_sectors};
 pub use encode::payload_len;
-pub use faults::{LogFault, Unopened};
+pub use faults::{AppendFault, LogFault, Unopened};
 pub use formats::LogFormat;
 pub use formatting::format;
 pub use laws::image_has_one_list;

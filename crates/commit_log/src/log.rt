@@ -2,7 +2,7 @@
 ghost use Rattle.std.specs.Prelude.{◌≡◌, ◌≢◌, ◌⊎◌, ℕ, length, MatchResult, IsErrAnd, ◌<◌, ◌≤◌, ◌^◌, ◌-◌, ◌+◌, ◌↔◌, true, false, List, [], ◌∷◌, ◌++◌, IsTrue, IfOk, IfErr, OnOk, OnErr, IsErrOf};
 
 use crate::encode::{encode, payload_len};
-use crate::faults::{LogFault, Unopened};
+use crate::faults::{AppendFault, LogFault, Unopened};
 use crate::read::read_log;
 use crate::record::write_record;
 use model::{Map, Write};
@@ -173,7 +173,7 @@ impl<D: Sectors> Log<D> {
         if !self.room(len) {
             return Err(LogFault::Full);
         }
-        self.append_in_room(alloc, writes, len)
+        Ok(self.append_in_room(alloc, writes, len)?)
     }
 
     /// Adds a record of these writes to a log that runs and has room for it, as `append` does, and answers its index. `len` is what
@@ -186,7 +186,7 @@ impl<D: Sectors> Log<D> {
         alloc: Global,
         writes: &[Write],
         len: u32,
-    ) -> Result<u64, LogFault>
+    ) -> Result<u64, AppendFault>
         requires proper { IsWriteSet current writes.now }
         requires running { is_stopped self.old ≡ false }
         requires room { used_sectors self.old + body_sectors writes.now < sector_count self.old }
@@ -198,11 +198,10 @@ impl<D: Sectors> Log<D> {
         ensures size { sector_count self.new ≡ sector_count self.old }
 
         // When each fault comes, and what it leaves.
-        ensures faults { IfErr result IsDeviceOrMemory }
-        ensures device { IsErrOf result LogFault.Device → Rose (failure_count self.old) (failure_count self.new) }
-        ensures stops { IsErrOf result LogFault.Device → is_stopped self.new ≡ true }
-        ensures same { IsErrOf result LogFault.Device → (record_count self.new ≡ record_count self.old) × (used_sectors self.new ≡ used_sectors self.old) }
-        ensures unchanged { IfErr result (λ e. e ≢ LogFault.Device → self.new ≡ self.old) }
+        ensures device { IsErrOf result AppendFault.Device → Rose (failure_count self.old) (failure_count self.new) }
+        ensures stops { IsErrOf result AppendFault.Device → is_stopped self.new ≡ true }
+        ensures same { IsErrOf result AppendFault.Device → (record_count self.new ≡ record_count self.old) × (used_sectors self.new ≡ used_sectors self.old) }
+        ensures unchanged { IfErr result (λ e. e ≢ AppendFault.Device → self.new ≡ self.old) }
         ensures no_fault { OnOk result (Stayed (failure_count self.old) (failure_count self.new)) }
 
         // At `Ok` the log stands for its write sets and this one: reads give them, and a crash leaves them.
@@ -221,7 +220,7 @@ impl<D: Sectors> Log<D> {
         match write_record(&mut self.device, self.gate, &body) {
             Err(_) => {
                 self.stopped = true;
-                Err(LogFault::Device)
+                Err(AppendFault::Device)
             }
             Ok(()) => {
                 let index = self.records;

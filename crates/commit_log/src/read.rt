@@ -216,7 +216,7 @@ pub(crate) fn format_of(sector: &Sector) -> Option<LogFormat>
 
 /// Settles a device, and reads the format of the log whose head its first sector is, if it is one and there is room for a gate behind
 /// it. Answers it with the number of sectors. Takes no memory.
-fn read_head<D: Sectors>(device: &mut D) -> Result<(Option<LogFormat>, u64), LogFault>
+fn settle_and_read_head<D: Sectors>(device: &mut D) -> Result<(Option<LogFormat>, u64), LogFault>
     ensures fault { FaultIs (D.failures device.old) (D.failures device.new) result }
     ensures no_fault { OnOk result (Stayed (D.failures device.old) (D.failures device.new)) }
     ensures errors { IfErr result (λ e. e ≡ LogFault.Device) }
@@ -263,7 +263,7 @@ pub(crate) fn read_log<D: Sectors>(alloc: Global, device: &mut D) -> Result<Foun
     ensures opened { D.keeps_model → IfOk result (λ found. (image : List (List ℕ)) × CanSettle (D.size device.old) (D.may_read device.old) (D.may_leave device.old) image × IsOpened current (D.size device.new) (D.may_read device.new) (D.may_leave device.new) image found) }
     ensures refused { D.keeps_model → IfErr result (λ e. IsDeviceOrMemory e ⊎ ((image : List (List ℕ)) × CanSettle (D.size device.old) (D.may_read device.old) (D.may_leave device.old) image × IsRefusal image e)) }
 {
-    let (head, count) = read_head(device)?;
+    let (head, count) = settle_and_read_head(device)?;
     match head {
         Some(LogFormat::Two) => read_records(alloc, device, LogFormat::Two, count),
         Some(LogFormat::One) => Err(LogFault::OldFormat),
@@ -292,7 +292,7 @@ pub fn read_map<D: Sectors>(alloc: Global, device: &mut D) -> Result<(Map, u8), 
         × IsSettled (D.size device.new) (D.may_read device.new) (D.may_leave device.new) image) }
     ensures refused { D.keeps_model → IfErr result (λ e. IsDeviceOrMemory e ⊎ ((image : List (List ℕ)) × CanSettle (D.size device.old) (D.may_read device.old) (D.may_leave device.old) image × IsMapRefusal image e)) }
 {
-    let (head, count) = read_head(device)?;
+    let (head, count) = settle_and_read_head(device)?;
     let Some(format) = head else {
         return Err(LogFault::NotALog);
     };

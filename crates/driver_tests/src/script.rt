@@ -2,7 +2,7 @@
 ghost use Rattle.std.specs.Prelude.{◌≡◌, ◌≤◌, ◌<◌, ◌+◌, length, vec_len};
 
 use sector::Sectors;
-use stream_driver::{Call, ReadAnswer, Stream, WriteAnswer};
+use stream_driver::{CallCounts, ReadAnswer, Stream, WriteAnswer};
 
 /// What goes wrong at one call of a stream.
 #[derive(Clone, Copy, PartialEq, Eq, Debug)]
@@ -25,12 +25,7 @@ pub struct Script {
     /// The calls that are left until there is trouble, this one included; 0 where there is none.
     left: u64,
     trouble: Trouble,
-    read_blocked: u64,
-    read_failed: u64,
-    read_ended: u64,
-    write_blocked: u64,
-    write_failed: u64,
-    last: Option<Call>,
+    counts: CallCounts,
     ghost within: { at ≤ vec_len input },
 }
 
@@ -44,12 +39,7 @@ impl Script {
             taken,
             left: nth,
             trouble,
-            read_blocked: 0,
-            read_failed: 0,
-            read_ended: 0,
-            write_blocked: 0,
-            write_failed: 0,
-            last: None,
+            counts: CallCounts::new(),
         }
     }
 
@@ -81,21 +71,11 @@ impl Script {
 
 impl Stream for Script {
     ghost use Rattle.std.specs.Prelude.{take, []};
+    ghost use Rattle.stream_driver.specs.Counts.{counted_with};
 
     ghost tells = { Unit {0} };
 
-    ghost traffic = { λ s. record {
-      given = take s.at s.input.items;
-      taken = s.taken.items;
-      departed = [];
-      read_blocked = s.read_blocked;
-      read_failed = s.read_failed;
-      read_ended = s.read_ended;
-      write_blocked = s.write_blocked;
-      write_failed = s.write_failed;
-      last = s.last;
-      connection = 0;
-    } };
+    ghost traffic = { λ s. counted_with s.counts (take s.at s.input.items) s.taken.items [] 0 };
 
     fn read<D: Sectors>(&mut self, device: &D, into: &mut [u8]) -> ReadAnswer {
         let _ = device;
@@ -103,25 +83,22 @@ impl Stream for Script {
             None => into.len(),
             Some(Trouble::Fewer) => 1,
             Some(Trouble::Blocked) => {
-                self.read_blocked = self.read_blocked.saturating_add(1);
-                self.last = Some(Call::Read(ReadAnswer::Blocked));
+                self.counts.note_read(ReadAnswer::Blocked);
                 return ReadAnswer::Blocked;
             }
             Some(Trouble::Failed) => {
-                self.read_failed = self.read_failed.saturating_add(1);
-                self.last = Some(Call::Read(ReadAnswer::Failed));
+                self.counts.note_read(ReadAnswer::Failed);
                 return ReadAnswer::Failed;
             }
         };
         let n = most.min(self.input.len() - self.at);
         if n == 0 {
-            self.read_ended = self.read_ended.saturating_add(1);
-            self.last = Some(Call::Read(ReadAnswer::Ended));
+            self.counts.note_read(ReadAnswer::Ended);
             return ReadAnswer::Ended;
         }
         into[..n].copy_from_slice(&self.input[self.at..self.at + n]);
         self.at += n;
-        self.last = Some(Call::Read(ReadAnswer::Moved(n)));
+        self.counts.note_read(ReadAnswer::Moved(n));
         ReadAnswer::Moved(n)
     }
 
@@ -131,22 +108,19 @@ impl Stream for Script {
             None => from.len(),
             Some(Trouble::Fewer) => 1,
             Some(Trouble::Blocked) => {
-                self.write_blocked = self.write_blocked.saturating_add(1);
-                self.last = Some(Call::Write(WriteAnswer::Blocked));
+                self.counts.note_write(WriteAnswer::Blocked);
                 return WriteAnswer::Blocked;
             }
             Some(Trouble::Failed) => {
-                self.write_failed = self.write_failed.saturating_add(1);
-                self.last = Some(Call::Write(WriteAnswer::Failed));
+                self.counts.note_write(WriteAnswer::Failed);
                 return WriteAnswer::Failed;
             }
         };
         if self.taken.extend_from_slice(&from[..n]).is_err() {
-            self.write_failed = self.write_failed.saturating_add(1);
-            self.last = Some(Call::Write(WriteAnswer::Failed));
+            self.counts.note_write(WriteAnswer::Failed);
             return WriteAnswer::Failed;
         }
-        self.last = Some(Call::Write(WriteAnswer::Moved(n)));
+        self.counts.note_write(WriteAnswer::Moved(n));
         WriteAnswer::Moved(n)
     }
 }

@@ -3,8 +3,3 @@ pub mod Steps
 pub mod Calls
 pub mod Requests
 pub mod Committing
-pub mod Joining
-pub mod Crashes
-pub mod Recovered
-pub mod Leasts
-pub mod Reclaims

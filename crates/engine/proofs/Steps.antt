@@ -1,31 +1,24 @@
 -- The machine's steps, case by case.
 use Rattle.std.proofs.lemmas.Grind.{common_steps}
-use Rattle.std.proofs.Common.{◌≡◌, ◌<◌, ◌≤◌, ◌+◌, ◌-◌, ◌^◌, ℕ, Bool, true, false, List, [], ◌∷◌, ◌++◌, Option, Some, None, refl, sym, ap, ◌∙◌, arith}
-use Rattle.std.specs.Prelude.{nat_le, if◌then◌else◌}
-use Rattle.std.specs.List.{AllByRecursion}
-use Rattle.std.proofs.lemmas.Bool.{le-leb, lt-leb, eq-eqb, ne_eqb, both_ways}
-use Rattle.model.specs.declared.refusals.Refusal.{Refusal}
-use Rattle.model.specs.declared.refusals.Refusal.TheVariants.{StoreStopped, FullNumbers, FullLog, StoreFault}
-use Rattle.model.specs.Map.{Bytes, KeyMap, KeyWrite, IsMap, after_writes}
+use Rattle.std.proofs.Common.{◌≡◌, ◌<◌, ◌≤◌, ◌+◌, ℕ, suc, Bool, true, false, List, [], ◌∷◌, ◌++◌, Option, refl, sym, ap, subst, ◌∙◌, length, length-append, arith}
+use Rattle.std.proofs.lemmas.Bool.{le-leb, lt-leb}
+use Rattle.std.proofs.lemmas.Bool.Decides.{nat_tests}
+use Rattle.model.specs.declared.refusals.Refusal.TheVariants.{FullLog, StoreFault}
+use Rattle.model.specs.Map.{KeyMap, KeyWrite, IsMap, after_writes}
 use Rattle.model.specs.Operations.{Operation, Response}
 use Rattle.model.specs.Operations.Response.{Refused}
-use Rattle.model.specs.PrivateCopy.{PrivateCopy, Mark, respond, after_read, after_put}
-use Rattle.model.specs.History.{Record, map_at}
-use Rattle.model.specs.Verdict.{verdict}
-use Rattle.model.specs.Machine.{State, Running, Input, opened, last, running_of, leave, record_to_commit, refuse, join_history, body_sectors, store, store_unless, commit, step_outside, step_inside, step_of, step, next, state_after, IsReached}
-use Rattle.model.specs.Machine.Input.{Asks, Leaves}
-use Rattle.model.proofs.Lookups.{IsMap-after_writes}
+use Rattle.model.specs.PrivateCopy.{PrivateCopy, respond}
+use Rattle.model.specs.History.{Record, map_at, IsNumberedFrom}
+use Rattle.model.specs.Machine.{State, Running, Input, opened, running_of, leave, refuse, join_history, body_sectors, store, step_of, step, next, state_after, IsReached}
+use Rattle.model.specs.Machine.Input.{Asks}
 use Rattle.model.proofs.Machines.{machine_law}
+use Rattle.versions.proofs.Histories.{map_at-push, maps-history}
 use Rattle.snapshot.specs.Made.{is_refused}
 use Rattle.engine.specs.Changes.{sectors_taken, HasLogRoom}
 
-pub step_without : (m : State) (s : ℕ) (q : Operation) (failed : Bool) → running_of m s ≡ None → step m s q failed ≡ step_outside m s q
+pub step_is : (m : State) (s : ℕ) (q : Operation) (failed : Bool) (o : Option Running) → running_of m s ≡ o → step m s q failed ≡ step_of o m s q failed
 unfolding step
-step_without m s q failed e = ap (λ o. step_of o m s q failed) e
-
-pub step_with : (m : State) (s : ℕ) (q : Operation) (failed : Bool) (t : Running) → running_of m s ≡ Some t → step m s q failed ≡ step_inside m s t q failed
-unfolding step
-step_with m s q failed t e = ap (λ o. step_of o m s q failed) e
+step_is m s q failed o e = ap (λ r. step_of r m s q failed) e
 
 -- ---- reached states
 
@@ -43,69 +36,38 @@ reached_next m i h = record {
   is = ap (λ st. next st i) h.is ∙ sym (after_append (opened h.contents h.sectors_used h.sectors) h.inputs i);
 }
 
-pub reached_step : (m : State) (s : ℕ) (q : Operation) (failed : Bool) → IsReached m → IsReached (step m s q failed).0
-reached_step m s q failed h = reached_next m (Asks s q failed) h
-
-pub reached_leave : (m : State) (s : ℕ) → IsReached m → IsReached (leave m s)
-reached_leave m s h = reached_next m (Leaves s) h
-
-pub reached_opened : (map : KeyMap) (used count : ℕ) → IsMap map → IsReached (opened map used count)
-reached_opened map used count h = record { contents = map; sectors_used = used; sectors = count; inputs = []; is_map = h; is = refl }
-
-IsMap-map_at : (base : KeyMap) (rs : List Record) (n : ℕ) → IsMap base → IsMap (map_at base rs n)
-IsMap-map_at base [] n h = h
-IsMap-map_at base (r ∷ rs) n h = IsMap-map_at (if nat_le r.commit n then after_writes base r.writes else base) rs n
-    (elim (nat_le r.commit n) as (λ b. IsMap (if b then after_writes base r.writes else base)) [ true ↦ IsMap-after_writes base r.writes h | false ↦ h ])
+pub reached_by : (m : State) (s : ℕ) (q : Operation) (failed : Bool) (after : State × Response) → step m s q failed ≡ after → IsReached m → IsReached after.0
+reached_by m s q failed after is h = subst (λ (p : State × Response). IsReached p.0) is (reached_next m (Asks s q failed) h)
 
 -- each map of a reached state is one
 pub reached_map : (m : State) (n : ℕ) → IsReached m → IsMap (map_at m.base m.history n)
-reached_map m n h = IsMap-map_at m.base m.history n ((machine_law m h).1.faithful.is_map)
+reached_map m n h = maps-history m.base m.history n ((machine_law m h).1.faithful.is_map)
 
--- ---- a request that is refused inside a transaction changes nothing
-
-refused_read : (c : PrivateCopy) (mark : Mark) (response : Response) → is_refused response ≡ false → is_refused (after_read c mark response).0 ≡ true → (after_read c mark response).1 ≡ c
-refused_read c mark response plain = grind (arith, common_steps, both_ways)
-
-refused_put : (c : PrivateCopy) (k : Bytes) (v : Option Bytes) → is_refused (after_put c k v).0 ≡ true → (after_put c k v).1 ≡ c
-refused_put c k v = grind (arith, common_steps)
-
+-- a request that is refused inside a transaction changes nothing
 pub refused_same : (c : PrivateCopy) (q : Operation) → is_refused (respond c q).0 ≡ true → (respond c q).1 ≡ c
-refused_same a0 a1 a2 = grind (arith, common_steps, refused_read, refused_put)
+refused_same a0 a1 a2 = grind (arith, common_steps)
 
--- ---- the cases of a commit
-
-module _ (m : State) (s : ℕ) (t : Running) (failed : Bool) where
-  pub commit_stopped : m.stopped ≡ true → commit m s t failed ≡ refuse m s StoreStopped
-  commit_stopped e = rw e refl
-
-  pub commit_numbers : m.stopped ≡ false → last m ≡ 2 ^ 63 - 1 → commit m s t failed ≡ refuse m s FullNumbers
-  commit_numbers e n = rw (e, eq-eqb (last m) (2 ^ 63 - 1) n) refl
-
-  pub commit_judged : m.stopped ≡ false → last m < 2 ^ 63 - 1 → (o : Option Refusal) → verdict m.history (record_to_commit m t) ≡ o →
-      commit m s t failed ≡ store_unless o m s (record_to_commit m t) failed
-  commit_judged e n o v = rw (e, ne_eqb (last m) (2 ^ 63 - 1) (λ k. omega arith), v) refl
+-- ---- what is stored by a commit without conflict
 
 module _ (m : State) (s : ℕ) (r : Record) where
   pub store_full : (ws : List KeyWrite) (failed : Bool) → (ws ≡ [] → ⊥) → m.count ≤ m.used + body_sectors ws → store m s r ws failed ≡ refuse m s FullLog
-  store_full [] failed e full = absurd (e refl)
-  store_full (w ∷ ws) failed e full = rw (le-leb m.count (m.used + body_sectors (w ∷ ws)) full) refl
+  store_full a0 a1 a2 a3 = grind (arith, common_steps, le-leb)
 
   pub store_fault : (ws : List KeyWrite) (failed : Bool) → (ws ≡ [] → ⊥) → m.used + body_sectors ws < m.count → failed ≡ true →
       store m s r ws failed ≡ (record (leave m s) { stopped = true }, Refused StoreFault)
-  store_fault [] failed e room f = absurd (e refl)
-  store_fault (w ∷ ws) failed e room f = rw (lt-leb m.count (m.used + body_sectors (w ∷ ws)) room, f) refl
+  store_fault a0 a1 a2 a3 a4 = grind (arith, common_steps, lt-leb)
 
   pub store_joined : (ws : List KeyWrite) (failed : Bool) → HasLogRoom m.used m.count ws → ((ws ≡ [] → ⊥) → failed ≡ false) → store m s r ws failed ≡ join_history m s r (sectors_taken ws)
   store_joined a0 a1 a2 a3 = grind (arith, common_steps, lt-leb)
 
 -- ---- maps under one more record
 
-pub map_at_push : (base : KeyMap) (rs : List Record) (r : Record) (n : ℕ) → map_at base (rs ++ r ∷ []) n ≡ (if nat_le r.commit n then after_writes (map_at base rs n) r.writes else map_at base rs n)
-map_at_push base [] r n = refl
-map_at_push base (x ∷ rs) r n = map_at_push (if nat_le x.commit n then after_writes base x.writes else base) rs r n
+map_at_all : (base : KeyMap) (xs : List Record) (n l k : ℕ) → IsNumberedFrom n xs → l ≡ n + length xs → l ≤ k → map_at base xs k ≡ map_at base xs l
+map_at_all base [] n l k h is le = refl
+map_at_all base (x ∷ xs) n l k h is le = let first = h.0 in grind (arith, nat_tests, map_at_all (after_writes base x.writes) xs (suc n) l k h.1 (omega arith) le)
 
-pub map_at_all : (base : KeyMap) (xs : List Record) (n k : ℕ) → AllByRecursion (λ r. r.commit ≤ n) xs → n ≤ k → map_at base xs k ≡ map_at base xs n
-map_at_all base [] n k h le = refl
-map_at_all base (x ∷ xs) n k h le =
-    let above : x.commit ≤ k = omega (arith, h.0) in
-    rw (le-leb x.commit k above, le-leb x.commit n h.0) (map_at_all (after_writes base x.writes) xs n k h.1 le)
+pub map_at_next : (base : KeyMap) (rs : List Record) (r : Record) → IsNumberedFrom 0 rs → r.commit ≡ suc (length rs) → map_at base (rs ++ r ∷ []) (length (rs ++ r ∷ [])) ≡ after_writes (map_at base rs (length rs)) r.writes
+map_at_next base rs r h commit =
+    let long = length-append rs (r ∷ []) in
+    let all = map_at_all base rs 0 (length rs) (length (rs ++ r ∷ [])) h (omega arith) (omega arith) in
+    grind (arith, nat_tests, map_at-push base rs r (length (rs ++ r ∷ [])))

@@ -2,7 +2,8 @@
 use crate::engine::Engine;
 use crate::faults::EngineFault;
 use crate::judging::{Judgement, judge};
-use crate::records::{StoreFault, carry_out};
+use crate::records::carry_out;
+use commit_log::AppendFault;
 use model::Refusal;
 use sector::Sectors;
 use snapshot::Transaction;
@@ -61,8 +62,8 @@ impl<D: Sectors> Engine<D> {
             payload,
         ) {
             Ok(()) => {}
-            Err(StoreFault::Memory) => return Err(EngineFault::Memory),
-            Err(StoreFault::Device) => return Err(self.refuse(s, Refusal::StoreFault)),
+            Err(AppendFault::Memory) => return Err(EngineFault::Memory),
+            Err(AppendFault::Device) => return Err(self.refuse(s, Refusal::StoreFault)),
         }
         let ended = self.end(s);
         Ok(self.history.join(ended, has_earlier_target))

@@ -9,19 +9,10 @@ ghost use Rattle.engine.specs.Judgements.{IsPayload};
 ghost use Rattle.engine.specs.Recovery.{HoldsMap, IsStored, IsInDoubt};
 
 use crate::history::History;
-use commit_log::{Log, LogFault};
+use commit_log::{AppendFault, Log};
 use sector::Sectors;
 use snapshot::Transaction;
 use std::alloc::Global;
-
-/// Why nothing was stored.
-#[derive(Clone, Copy, Debug, PartialEq, Eq)]
-pub(crate) enum StoreFault {
-    /// Memory was refused. The log is as it was.
-    Memory,
-    /// The device failed, and the log has stopped.
-    Device,
-}
 
 // Makes the memory that the commit of the transaction needs, and appends what it wrote, if it wrote anything, to a log with room for it.
 pub(crate) fn carry_out<D: Sectors>(
@@ -30,7 +21,7 @@ pub(crate) fn carry_out<D: Sectors>(
     alloc: Global,
     transaction: &Transaction,
     payload: Option<u32>,
-) -> Result<(), StoreFault>
+) -> Result<(), AppendFault>
     requires running { is_stopped log.old ≡ false }
     requires room { HasLogRoom (used_sectors log.old) (sector_count log.old) transaction.now.writes }
     requires payload { IsPayload transaction.now.writes payload }
@@ -38,28 +29,17 @@ pub(crate) fn carry_out<D: Sectors>(
     ensures ready { OnOk result (IsReady history.new transaction.now) }
     ensures logged { OnOk result (IsLogged log.old log.new transaction.now.writes) }
     ensures stored { D.keeps_model → (map : KeyMap) → IsStored log.old map → OnOk result (IsStored log.new (after_writes map transaction.now.writes)) }
-    ensures unchanged { IsErrOf result StoreFault.Memory → log.new ≡ log.old }
-    ensures stopped { IsErrOf result StoreFault.Device → IsLogStopped log.old log.new transaction.now.writes }
-    ensures left { IsErrOf result StoreFault.Device → D.keeps_model → (map : KeyMap) → IsStored log.old map → IsInDoubt map (D.may_leave (device_of log.new)) }
+    ensures unchanged { IsErrOf result AppendFault.Memory → log.new ≡ log.old }
+    ensures stopped { IsErrOf result AppendFault.Device → IsLogStopped log.old log.new transaction.now.writes }
+    ensures left { IsErrOf result AppendFault.Device → D.keeps_model → (map : KeyMap) → IsStored log.old map → IsInDoubt map (D.may_leave (device_of log.new)) }
     ensures crash { D.keeps_model → (map : KeyMap) → IsStored log.old map → LeavesOnly D.moment D.left_since (device_of log.old) (device_of log.new) (λ c. HoldsMap c map ⊎ HoldsMap c (after_writes map transaction.now.writes)) }
 {
     if history.prepare(transaction).is_err() {
-        return Err(StoreFault::Memory);
+        return Err(AppendFault::Memory);
     }
     let Some(len) = payload else {
         return Ok(());
     };
-    match log.append_in_room(alloc, transaction.entries(), len) {
-        Ok(_) => Ok(()),
-        Err(LogFault::Memory) => Err(StoreFault::Memory),
-        Err(LogFault::Device) => Err(StoreFault::Device),
-        Err(
-            LogFault::NotALog
-            | LogFault::Damaged(_)
-            | LogFault::Full
-            | LogFault::Stopped
-            | LogFault::OldFormat
-            | LogFault::NotEmpty,
-        ) => { unreachable!() }
-    }
+    log.append_in_room(alloc, transaction.entries(), len)?;
+    Ok(())
 }

@@ -1,51 +1,44 @@
--- What left over the connections stays told before as the loop goes on, and is kept.
-use Rattle.std.proofs.Common.{◌≡◌, ◌≢◌, ◌⊎◌, inl, inr, ℕ, ◌+◌, ◌-◌, ◌≤◌, ◌==◌, ◌||◌, Bool, true, false, cond, List, [], ◌∷◌, ◌++◌, Option, Some, None, length, append_assoc, take, drop, refl, sym, ap, subst, ◌∙◌, arith}
+-- What left over the connections stays told before as the loop goes on, and is kept, also where a turn takes a connection out or closes it.
+use Rattle.std.proofs.Common.{◌≡◌, ◌≢◌, ◌⊎◌, inl, inr, ℕ, ◌+◌, ◌-◌, ◌||◌, Bool, true, false, List, [], ◌∷◌, ◌++◌, Option, Some, None, length, append_assoc, drop, refl, sym, ap, subst, ◌∙◌, arith}
 use Rattle.std.proofs.lemmas.Bool.{cases_eq}
-use Rattle.std.proofs.lemmas.List.{append-nil, take-append-drop}
+use Rattle.std.proofs.lemmas.List.{append-nil}
+use Rattle.std.proofs.lemmas.List.Elements.{All-drop, All-from_recursion, recursion_from_All}
 use Rattle.std.proofs.Math.Logic.{∥∥₁_map}
 use Rattle.std.specs.List.{AllByRecursion}
-use Rattle.std.specs.declared.time.Instant.{Instant}
-use Rattle.mio.specs.declared.event.event.Event.{Event}
-use Rattle.mio.specs.Event.{event_token, is_priority, is_read_closed}
-use Rattle.sector.specs.declared.device.Sectors.{Ghosts}
-use Rattle.sessions.specs.declared.hub.Hub.{Hub}
+use Rattle.mio.specs.Events.{items}
+use Rattle.model.proofs.Elements.{all-append, all-each}
 use Rattle.sessions.specs.Laws.{IsSessionStream, IsSound, NoneRuns, Ran}
 use Rattle.sessions.specs.Life.{Holds, LosesNothing, MayFind}
 use Rattle.sessions.specs.Lives.{IsOpened, IsServed, Served}
-use Rattle.sessions.specs.SessionStreams.{HubState, HubEvent, Choice, SessionStream, replies_text, run, stream_of}
-use Rattle.sessions.specs.StandsFor.{StandsFor, device}
 use Rattle.sessions.proofs.LivesLaws.{lose_nothing}
 use Rattle.sessions.proofs.Runs.{CountsNow, OnlyNow, no_event, ran_parts, ran_stands, ran_then}
-use Rattle.stream_driver.specs.declared.buffered.BufferedStream.{BufferedStream}
-use Rattle.stream_driver.specs.declared.entries.Entry.{Entry}
-use Rattle.stream_driver.specs.declared.entries.EntryState.{EntryState}
-use Rattle.stream_driver.specs.declared.entries.EntryState.TheVariants.{Idle, Ready, Gone}
-use Rattle.stream_driver.specs.Buffers.{Finishes, fresh, held_in, traffic_through}
-use Rattle.stream_driver.specs.Entries.{DrivenAll, EndsDrive, EndsIn, HaveSessions, KeepSessions, is_over}
-use Rattle.stream_driver.specs.Sends.{AreToldBefore, DrivesTelling, HaveSent, IsAnswered}
-use Rattle.stream_driver.specs.Traffic.{Departure, DepartAt, IsBeginning, Traffic}
-use Rattle.stream_driver.proofs.Buffering.{flushed_same}
-use Rattle.stream_driver.proofs.Carry.{all_then, run_then}
+use Rattle.stream_driver.specs.declared.entries.EntryState.TheVariants.{Ready, Gone}
+use Rattle.stream_driver.specs.Sends.{AreToldBefore, HasSent, HaveSent, IsAnswered}
+use Rattle.stream_driver.proofs.Carry.{run_then}
+use Rattle.model.proofs.Lookups.{some_same}
 use Rattle.stream_driver.proofs.Sends.{all_before, all_since, answered_since, answered_then, begins_through}
 use Rattle.stream_driver.proofs.States.{at_point, point_of}
-use Rattle.event_loop.specs.declared.socket.Socket.{Socket}
 use Rattle.event_loop.specs.declared.lingering.Dropped.{Dropped}
 use Rattle.event_loop.specs.declared.lingering.Lingerer.{Lingerer}
 use Rattle.event_loop.specs.declared.lingering.TheConstants.{LINGERING_MAX}
-use Rattle.event_loop.specs.Departures.{EntriesTell, HoldsAtEnds, IsCommitted, IsKept, IsServing, IsTold, KeepsWhatLeft, LingerersTell, Serving, Tells, first_state, present_state}
+use Rattle.event_loop.specs.Departures.{EntriesTell, HoldsAtEnds, IsCommitted, IsKept, IsServing, IsTold, KeepsWhatLeft, LingerersTell, Serving, Tells, first_state, present_state, AreKept}
 use Rattle.event_loop.specs.Leavings.{EndAll, EndEach, LeavesAs, LeavesIf}
 use Rattle.event_loop.specs.Leavings.EndEach.{NoneEnded, OneMore as OneEnded}
-use Rattle.event_loop.specs.Lingerings.{AllTurned, AreTurned, DropsIf, Leaves, Lingerers}
-use Rattle.event_loop.specs.Numbers.{AreBelow}
+use Rattle.event_loop.specs.Lingerings.{AllTurned, AreTurned, DropsIf, Leaves, Lingerers, lingerers_of}
 use Rattle.event_loop.specs.Sockets.{IsNewSocket, SocketsTell, session_of, traffic_of}
 use Rattle.event_loop.specs.TableBytes.{HaveBytes, SocketsHaveBytes}
-use Rattle.event_loop.specs.Tables.{Admits, AdmitsEach, ComeEach, EndsTurn, after_event, after_poll, joins_of, slot_at, told, told_slot}
 use Rattle.event_loop.specs.Tables.AdmitsEach.{Nobody, OneMore}
-use Rattle.event_loop.proofs.SameNumbers.{driven_same}
-use Rattle.event_loop.proofs.Entries.{no_entry, some_inj}
-use Rattle.event_loop.proofs.TableBytes.{drives_bytes, polled_bytes}
+use Rattle.event_loop.specs.declared.connections.TheConstants.{LINGERER}
+use Rattle.event_loop.specs.declared.server.EventLoop.{EventLoop}
+use Rattle.event_loop.specs.Turns.{Accepted, DrivesReady, IsTurn, KeepsWhatLeaves, accepts_now, is_told_of}
+use Rattle.event_loop.proofs.Words.{Instant, Event, Ghosts, Hub, HubState, HubEvent, Choice, SessionStream, replies_text, run, stream_of, StandsFor, device}
+use Rattle.event_loop.proofs.Words.{BufferedStream, Entry, held_in, traffic_through, DrivenAll, EndsDrive, HaveSessions, is_over, Adds, Point, StandsAt, Departure, DepartAt, IsBeginning, Traffic, Socket, AdmitsEach, ComeEach, EndsTurn, joins_of, slot_at}
+use Rattle.event_loop.proofs.Tables.{TableStands}
+use Rattle.event_loop.proofs.Entries.{no_entry, polled_sessions}
+use Rattle.event_loop.proofs.Polled.{each_rest, was_driven, was_polled}
+use Rattle.event_loop.proofs.TableBytes.{driven_was, drives_bytes, finished, polled_bytes}
 use Rattle.event_loop.proofs.Committed.{answered_committed}
-use Rattle.event_loop.proofs.WholeTurns.{all_found, sockets_come}
+use Rattle.event_loop.proofs.WholeTurns.{all_found, each_bytes, new_begins}
 
 abbrev Connection : Type 0
 Connection = Entry (BufferedStream Socket)
@@ -59,23 +52,25 @@ through = traffic_through traffic_of
 abbrev HaveTheirBytes : HubState → Slots → Type 0
 HaveTheirBytes = HaveBytes SocketsTell through
 
-all_second : {X : Type 0} (P : X → Type 0) (xs ys : List X) → AllByRecursion P (xs ++ ys) → AllByRecursion P ys
-all_second P [] ys all = all
-all_second P (x ∷ xs) ys all = all_second P xs ys all.1
-
 all_drop : {X : Type 0} (P : X → Type 0) (n : ℕ) (xs : List X) → AllByRecursion P xs → AllByRecursion P (drop n xs)
-all_drop {X} P n xs all = all_second P (take n xs) (drop n xs) (subst (λ (l : List X). AllByRecursion P l) (sym (take-append-drop n xs)) all)
-
--- the entries at the keys that come are as they were
-each_rest : {time : Option Instant} {moment : ℕ} {slots : Slots} {old : Lingerers} {key : ℕ} {new : Slots} {later : Lingerers} → EndEach time moment slots old key new later → (other : ℕ) → key ≤ other → slot_at new other ≡ slot_at slots other
-each_rest NoneEnded other le = refl
-each_rest (OneEnded key between new mid later each at) other le = at.others other (λ same. absurd (omega arith)) ∙ each_rest each other (omega arith)
+all_drop P n xs all = recursion_from_All P (drop n xs) (All-drop P n xs (All-from_recursion P xs all))
 
 -- ---- the run goes on
 
 pub last_sound : {D : Type 0} {g : Ghosts D} (old new : Hub D g) (es : List (HubEvent × Choice)) → Ran old new es → IsSound new
 last_sound old new [] r = r.1
 last_sound old new (e ∷ es) r = last_sound r.1 new es r.3
+
+-- what was told to be sent was answered
+sent_answered : (s : ℕ) (h : HubState) (es : List (HubEvent × Choice)) (t : Traffic) → HasSent s h t → IsAnswered s h es t.taken
+sent_answered s h es t has = record {
+  by = [];
+  since = es;
+  events_are = refl;
+  stream = has.stream;
+  stream_is = has.stream_is;
+  answered = record { rest = has.stream.now.pending; all_is = ap (λ l. l ++ has.stream.now.pending) (sym has.taken) };
+}
 
 module _ {D : Type 0} {g : Ghosts D} {hub : Hub D g} (served : Served hub) where
   pub stands_now : StandsFor hub (present_state served)
@@ -97,22 +92,26 @@ module _ {D : Type 0} {g : Ghosts D} {hub : Hub D g} (served : Served hub) where
     }
 
     lingerers_on : (all : List Lingerer) → LingerersTell served all → LingerersTell served_on all
-    lingerers_on [] tells = tells
-    lingerers_on (l ∷ all) tells = (tells_on (session_of l.socket) (traffic_of l.socket) tells.0, lingerers_on all tells.1)
+    lingerers_on all tells = all-each _ _ all (λ l. tells_on (session_of l.socket) (traffic_of l.socket)) tells
 
     -- a stream was called in a drive, or left alone
     driven_tells : (s : ℕ) (t u : Traffic) → u.connection ≡ t.connection → AreToldBefore s (present_state served) hub later fs t u → (u.taken ≡ t.taken) ⊎ IsAnswered s (present_state served) fs u.taken → Tells served s t → Tells served_on s u
     driven_tells s t u same_number left took e =
         let on = tells_on s t e in
         let told : AllByRecursion (IsTold served_on s) (t.departed ++ left.departures) =
-        all_then (IsTold served_on s) t.departed left.departures on.told (all_before s (first_state served) ran_then served.first hub later served.choices fs served.ran left.departures left.each) in
-        let answered : IsAnswered s (first_state served) (served.choices ++ fs) u.taken = elim took [
-          | inl same ↦ subst (λ (bytes : List ℕ). IsAnswered s (first_state served) (served.choices ++ fs) bytes) (sym same) on.answered
-          | inr since ↦ answered_then s (first_state served) served.choices fs u.taken since
-        ] in
-        record { number = same_number ∙ e.number; told = subst (λ (ds : List Departure). AllByRecursion (IsTold served_on s) ds) (sym left.departed_are) told; answered = answered }
+        all-append (IsTold served_on s) t.departed left.departures on.told (all_before s (first_state served) ran_then served.first hub later served.choices fs served.ran left.departures left.each) in
+        record {
+          number = same_number ∙ e.number;
+          told = subst (λ (ds : List Departure). AllByRecursion (IsTold served_on s) ds) (sym left.departed_are) told;
+          answered = elim took [ inl same ↦ rw same on.answered | inr since ↦ answered_then s (first_state served) served.choices fs u.taken since ];
+        }
 
 -- ---- what a stream holds leaves
+
+-- what begins an answer was answered too
+answered_part : (s : ℕ) (h : HubState) (es : List (HubEvent × Choice)) (less bytes : List ℕ) → IsBeginning less bytes → IsAnswered s h es bytes → IsAnswered s h es less
+answered_part s h es less bytes begins a =
+    record { by = a.by; since = a.since; events_are = a.events_are; stream = a.stream; stream_is = a.stream_is; answered = begins_through less bytes (a.stream.sent ++ a.stream.now.pending) begins a.answered }
 
 module _ {D : Type 0} {g : Ghosts D} {hub : Hub D g} (served : Served hub) where
   -- no more has left than the connection took
@@ -120,14 +119,7 @@ module _ {D : Type 0} {g : Ghosts D} {hub : Hub D g} (served : Served hub) where
   inner_tells s b e = record {
     number = e.number;
     told = e.told;
-    answered = record {
-      by = e.answered.by;
-      since = e.answered.since;
-      events_are = e.answered.events_are;
-      stream = e.answered.stream;
-      stream_is = e.answered.stream_is;
-      answered = begins_through (traffic_of b.inner).taken (through b).taken (e.answered.stream.sent ++ e.answered.stream.now.pending) (record { rest = held_in b.held; all_is = refl }) e.answered.answered;
-    };
+    answered = answered_part s (first_state served) served.choices (traffic_of b.inner).taken (through b).taken (record { rest = held_in b.held; all_is = refl }) e.answered;
   }
 
   -- the session is that of the number
@@ -136,71 +128,43 @@ module _ {D : Type 0} {g : Ghosts D} {hub : Hub D g} (served : Served hub) where
 
   module _ (none : NoneRuns hub) (moment : ℕ) (now : moment ≡ g.moment (device hub)) where
     leaves_now : (s : ℕ) (took : List ℕ) → IsAnswered s (first_state served) served.choices took → (ds : List Departure) → AllByRecursion (λ d. (d.moment ≡ moment) × IsBeginning d.bytes took) ds → AllByRecursion (IsTold served s) ds
-    leaves_now s took a [] all = all
-    leaves_now s took a (d ∷ ds) all = (
-      record {
-        before = served.choices;
-        since = [];
-        events_are = sym (append-nil served.choices);
-        hub = hub;
-        came = served.ran;
-        goes_on = none;
-        moment_is = all.0.0 ∙ now;
-        told = record {
-          by = a.by;
-          since = a.since;
-          events_are = a.events_are;
-          stream = a.stream;
-          stream_is = a.stream_is;
-          answered = begins_through d.bytes took (a.stream.sent ++ a.stream.now.pending) all.0.1 a.answered;
-        };
-      },
-      leaves_now s took a ds all.1,
-    )
+    leaves_now s took a ds all = all-each (λ d. (d.moment ≡ moment) × IsBeginning d.bytes took) (IsTold served s) ds (λ d left. record {
+      before = served.choices;
+      since = [];
+      events_are = sym (append-nil served.choices);
+      hub = hub;
+      came = served.ran;
+      goes_on = none;
+      moment_is = left.0 ∙ now;
+      told = answered_part s (first_state served) served.choices d.bytes took left.1 a;
+    }) all
 
     -- it took nothing, and what left leaves now
     departs_tells : (s : ℕ) (t u : Traffic) → u.connection ≡ t.connection → u.taken ≡ t.taken → DepartAt moment t u → Tells served s t → Tells served s u
     departs_tells s t u same_number same departs e =
         let answered : IsAnswered s (first_state served) served.choices u.taken = subst (λ (bytes : List ℕ). IsAnswered s (first_state served) served.choices bytes) (sym same) e.answered in
-        let told : AllByRecursion (IsTold served s) (t.departed ++ departs.departures) = all_then (IsTold served s) t.departed departs.departures e.told (leaves_now s u.taken answered departs.departures departs.each) in
+        let told : AllByRecursion (IsTold served s) (t.departed ++ departs.departures) = all-append (IsTold served s) t.departed departs.departures e.told (leaves_now s u.taken answered departs.departures departs.each) in
         record { number = same_number ∙ e.number; told = subst (λ (ds : List Departure). AllByRecursion (IsTold served s) ds) (sym departs.departed_are) told; answered = answered }
-
-    finished_tells : SocketsTell → (s : ℕ) (old new : BufferedStream Socket) → Finishes SocketsTell traffic_of moment (fresh old) new → Tells served s (through old) → Tells served s (through new)
-    finished_tells t s old new f e = elim f [
-      | inl x ↦ subst (λ (b : BufferedStream Socket). Tells served s (through b)) (sym x.1) e
-      | inr y ↦ departs_tells s (through old) (through new) (flushed_same traffic_of (fresh old) new y.1 y.2.why) (y.2.kept.taken t) (y.2.kept.departed t) e
-    ]
-
-    ended_tells : SocketsTell → (s : ℕ) (state : EntryState) (old new : BufferedStream Socket) → EndsIn SocketsTell traffic_of moment state old new → Tells served s (through old) → Tells served s (through new)
-    ended_tells t s Idle old new ends e = subst (λ (b : BufferedStream Socket). Tells served s (through b)) (sym ends) e
-    ended_tells t s Ready old new ends e = finished_tells t s old new ends e
-    ended_tells t s Gone old new ends e = finished_tells t s old new ends e
 
     -- the end of an entry's drive
     end_tells : SocketsTell → (was entry : Connection) → EndsDrive SocketsTell traffic_of moment was entry → Tells served was.session (through was.stream) → Tells served entry.session (through entry.stream)
-    end_tells t was entry ends e = subst (λ (s : ℕ). Tells served s (through entry.stream)) (sym ends.session) (ended_tells t was.session was.state was.stream entry.stream ends.stream e)
-
-    unless_tells : SocketsTell → (b : Bool) (was mid entry : Connection) → EndsDrive SocketsTell traffic_of moment was mid → cond b None (Some mid) ≡ Some entry → Tells served was.session (through was.stream) → Tells served entry.session (through entry.stream)
-    unless_tells t true was mid entry ends e tells = absurd (let bad : None ≡ Some entry = e in cc)
-    unless_tells t false was mid entry ends e tells = subst (λ (x : Connection). Tells served x.session (through x.stream)) (some_inj e) (end_tells t was mid ends tells)
-
-    slot_tells : SocketsTell → (slot after : Option Connection) → EndsTurn SocketsTell traffic_of moment slot after → ((was : Connection) → slot ≡ Some was → Tells served was.session (through was.stream)) → (entry : Connection) → after ≡ Some entry
-        → Tells served entry.session (through entry.stream)
-    slot_tells t None after none tells entry e = absurd (let bad : None ≡ Some entry = sym none ∙ e in cc)
-    slot_tells t (Some was) after (mid, ends, is) tells entry e = unless_tells t (is_over mid) was mid entry ends (sym is ∙ e) (tells was refl)
+    end_tells t was entry ends e =
+        let f = finished SocketsTell traffic_of moment was.state was.stream entry.stream ends.stream in
+        subst (λ (s : ℕ). Tells served s (through entry.stream)) (sym ends.session)
+        (departs_tells was.session (through was.stream) (through entry.stream) f.connection (f.taken t) (f.departed t) e)
 
     -- ---- those that linger
 
-    one_lingers : (lingerers : Option Instant) (socket : Socket) (old new : Lingerers) → Leaves lingerers socket old new → (s : ℕ) → Tells served s (traffic_of socket) → LingerersTell served old.all → LingerersTell served new.all
-    one_lingers None socket old new leaves s e tells = elim leaves [ inl x ↦ subst (λ (l : Lingerers). LingerersTell served l.all) (sym x.1) tells | inr x ↦ absurd x.0 ]
+    one_lingers : (time : Option Instant) (socket : Socket) (old new : Lingerers) → Leaves time socket old new → (s : ℕ) → Tells served s (traffic_of socket) → LingerersTell served old.all → LingerersTell served new.all
+    one_lingers None socket old new leaves s e tells = elim leaves [ inl x ↦ rw x.1 tells | inr x ↦ absurd x.0 ]
     one_lingers (Some time) socket old new leaves s e tells = elim leaves [
-      | inl x ↦ subst (λ (l : Lingerers). LingerersTell served l.all) (sym x.1) tells
+      | inl x ↦ rw x.1 tells
       | inr x ↦ elim x.1 [
-        | inl refused ↦ subst (λ (l : Lingerers). LingerersTell served l.all) (sym refused) tells
+        | inl refused ↦ rw refused tells
         | inr begun ↦
             subst (λ (l : Lingerers). LingerersTell served l.all) (sym begun.2)
             (all_drop (λ (l : Lingerer). Tells served (session_of l.socket) (traffic_of l.socket)) (length old.all + 1 - LINGERING_MAX) (old.all ++ begun.0 ∷ [])
-            (all_then (λ (l : Lingerer). Tells served (session_of l.socket) (traffic_of l.socket)) old.all (begun.0 ∷ []) tells (subst (λ (x : Socket). Tells served (session_of x) (traffic_of x)) (sym begun.1.socket_is) (own_tells s socket e), tt)))
+            (all-append (λ (l : Lingerer). Tells served (session_of l.socket) (traffic_of l.socket)) old.all (begun.0 ∷ []) tells (subst (λ (x : Socket). Tells served (session_of x) (traffic_of x)) (sym begun.1.socket_is) (own_tells s socket e), tt)))
       ]
     ]
 
@@ -232,80 +196,57 @@ module _ {D : Type 0} {g : Ghosts D} {hub : Hub D g} (served : Served hub) where
           subst (λ (l : List Lingerer). LingerersTell served l) (sym is) (own_tells (session_of first.socket) later.socket (drops_tells t reads first dropped later stays.0 (session_of first.socket) tells.0), turned_lingers t time reads others rest of_rest all tells.1)
     ]
 
-    -- as they end
-    all_end : SocketsTell → (reads : Bool) (all : List Lingerer) → LingerersTell served all
-        → AllByRecursion (λ l. (dropped : Dropped) (later : Lingerer) → DropsIf moment reads l dropped later → Tells served (session_of l.socket) (traffic_of later.socket)) all
-    all_end t reads [] tells = tells
-    all_end t reads (l ∷ all) tells = (λ dropped later drops. drops_tells t reads l dropped later drops (session_of l.socket) tells.0, all_end t reads all tells.1)
-
--- ---- the poll tells of entries
-
--- what the entry was before: its session and its stream's traffic are the same
-abbrev Still : Option Connection → Connection → Type 0
-Still slot entry = (before : Connection) × (slot ≡ Some before) × (entry.session ≡ before.session) × (through entry.stream ≡ through before.stream)
-
-told_still : (b on : Bool) (slot : Option Connection) (entry : Connection) → told_slot b on slot ≡ Some entry → Still slot entry
-told_still true on None entry f = absurd (let bad : None ≡ Some entry = f in cc)
-told_still true on (Some was) entry f = let same : told on was ≡ entry = some_inj f in (was, refl, sym (ap (λ (x : Connection). x.session) same), sym (ap (λ (x : Connection). through x.stream) same))
-told_still false on slot entry f = (entry, f, refl, refl)
-
-polled_still : (events : List Event) (key : ℕ) (slot : Option Connection) (entry : Connection) → after_poll events key slot ≡ Some entry → Still slot entry
-polled_still [] key slot entry e = (entry, e, refl, refl)
-polled_still (event ∷ events) key slot entry e =
-    let mid = polled_still events key (after_event event key slot) entry e in
-    let was = told_still ((event_token event).0 == key) (is_priority event || is_read_closed event) slot mid.0 mid.1 in
-    (was.0, was.1, mid.2 ∙ was.2, mid.3 ∙ was.3)
-
-still_tells : {D : Type 0} {g : Ghosts D} {hub : Hub D g} (served : Served hub) (before entry : Connection) → entry.session ≡ before.session → through entry.stream ≡ through before.stream → Tells served before.session (through before.stream)
-    → Tells served entry.session (through entry.stream)
-still_tells served before entry session same e = subst (λ (s : ℕ). Tells served s (through entry.stream)) (sym session) (subst (λ (t : Traffic). Tells served before.session t) (sym same) e)
-
 -- ---- the drives of a turn
 
 have_sent : (h : HubState) (slots : Slots) → SocketsTell → HaveTheirBytes h slots → HaveSent through h slots
 have_sent h slots t has key entry e alive = let b = has key entry e alive in record { stream = b.0; stream_is = b.1; taken = (b.2 t).1 }
 
-module _ {D : Type 0} {g : Ghosts D} (hub later : Hub D g) (moment : ℕ) (now : moment ≡ g.moment (device later)) (slots ready driven new : Slots) (events : List Event) (polled : (key : ℕ) → slot_at ready key ≡ after_poll events key (slot_at slots key))
-    (sessions : HaveSessions hub ready) (drives : DrivesTelling through SocketsTell hub ready later driven (λ h k. DrivenAll SocketsTell through h ready k driven)) (numbers : KeepSessions ready driven)
-    (ended : (key : ℕ) → EndsTurn SocketsTell traffic_of moment (slot_at driven key) (slot_at new key)) (time : Option Instant) (old later_all : Lingerers) (left : EndAll time moment driven old new later_all) where
-  -- what the drives told is told still
-  driven_tell : (s : Serving hub slots old.all) → SocketsTell → EntriesTell (served_on s.served later drives.leads.choices drives.leads.ran) driven
-  driven_tell s t key mid e =
-      let h = present_state s.served in
-      let stands = stands_now s.served in
-      let to = drives.leads.to (point_of hub h) (at_point hub h stands) in
-      let was = numbers key mid e in
-      let before = polled_still events key (slot_at slots key) was.0 (sym (polled key) ∙ was.1) in
-      let sent = have_sent h ready t (polled_bytes SocketsTell traffic_of moment slots ready events polled h s.bytes) in
-      subst (λ (n : ℕ). Tells (served_on s.served later drives.leads.choices drives.leads.ran) n (through mid.stream)) (sym was.2)
-      (driven_tells s.served later drives.leads.choices drives.leads.ran was.0.session (through was.0.stream) (through mid.stream) (driven_same SocketsTell through (point_of hub h) ready to.0 driven to.2.1 key was.0 mid was.1 e) (drives.telling t h stands sent key was.0 mid was.1 e) (drives.answered t h stands sent key was.0 mid was.1 e)
-      (still_tells s.served before.0 was.0 before.2 before.3 (s.tells t key before.0 before.1)))
+module _ {D : Type 0} {g : Ghosts D} (hub later : Hub D g) (slots new : Slots) (events : List Event) (d : DrivesReady SocketsTell traffic_of events hub slots later new) (sessions : HaveSessions hub slots)
+    (time : Option Instant) (old later_all : Lingerers) (left : EndAll time (g.moment (device later)) d.driven old new later_all) where
+  none_runs : NoneRuns later
+  none_runs = no_event later (last_sound hub later d.drives.leads.choices d.drives.leads.ran)
 
-  driven_serves : Serving hub slots old.all → Serving later new later_all.all
-  driven_serves s =
-      let h = present_state s.served in
-      let to = drives.leads.to (point_of hub h) (at_point hub h (stands_now s.served)) in
-      let none : NoneRuns later = no_event later (last_sound hub later drives.leads.choices drives.leads.ran) in
-      let on : Served later = served_on s.served later drives.leads.choices drives.leads.ran in
-      record {
-        served = on;
-        bytes = bytes_on s.served later drives.leads.choices drives.leads.ran new
-            (subst (λ (x : HubState). HaveTheirBytes x new) to.2.0.run_is (drives_bytes SocketsTell traffic_of moment slots ready driven new events polled sessions.own ended (point_of hub h) to.0 to.2.1 s.bytes));
-        tells = λ t key. slot_tells on none moment now t (slot_at driven key) (slot_at new key) (ended key) (driven_tell s t key);
-        lingerers_tell = λ t. each_lingers on none moment now t time left.each (driven_tell s t) (lingerers_on s.served later drives.leads.choices drives.leads.ran old.all (s.lingerers_tell t));
-      }
+  module _ (s : Serving hub slots old.all) where
+    abbrev on : Served later
+    on = served_on s.served later d.drives.leads.choices d.drives.leads.ran
 
-  -- so it is of each connection as the turn leaves it
-  pub ends_tell : (reads : Bool) (s : Serving hub slots old.all) → SocketsTell → HoldsAtEnds (Tells (served_on s.served later drives.leads.choices drives.leads.ran)) moment reads driven old.all later_all.all
-  ends_tell reads s t =
-      let none : NoneRuns later = no_event later (last_sound hub later drives.leads.choices drives.leads.ran) in
-      let on : Served later = served_on s.served later drives.leads.choices drives.leads.ran in
-      let lingered : LingerersTell on old.all = lingerers_on s.served later drives.leads.choices drives.leads.ran old.all (s.lingerers_tell t) in
-      record {
-        entries = λ key was entry e ends. inner_tells on entry.session entry.stream (end_tells on none moment now t was entry ends (driven_tell s t key was e));
-        linger = lingered;
-        ends = all_end on none moment now t reads later_all.all (each_lingers on none moment now t time left.each (driven_tell s t) lingered);
-      }
+    abbrev to : (k : Point) × StandsAt later k × (Adds (point_of hub (present_state s.served)) d.drives.leads.choices k × DrivenAll SocketsTell through (point_of hub (present_state s.served)) d.ready k d.driven)
+    to = d.drives.leads.to (point_of hub (present_state s.served)) (at_point hub (present_state s.served) (stands_now s.served))
+
+    -- what the drives told is told still
+    driven_tell : SocketsTell → EntriesTell on d.driven
+    driven_tell t key mid e =
+        let h = present_state s.served in
+        let was = driven_was SocketsTell through (point_of hub h) d.ready to.0 d.driven to.2.1 key mid e in
+        let before = was_polled traffic_of slots d.ready events d.told key was.0 was.1 in
+        let sent = have_sent h d.ready t (polled_bytes SocketsTell traffic_of (g.moment (device later)) slots d.ready events d.told h s.bytes) in
+        subst (λ (n : ℕ). Tells on n (through mid.stream)) (sym was.2)
+        (driven_tells s.served later d.drives.leads.choices d.drives.leads.ran was.0.session (through was.0.stream) (through mid.stream) was.3
+        (d.drives.telling t h (stands_now s.served) sent key was.0 mid was.1 e) (d.drives.answered t h (stands_now s.served) sent key was.0 mid was.1 e)
+        (subst (λ (n : ℕ). Tells s.served n (through was.0.stream)) (sym before.2.session) (subst (λ (x : Traffic). Tells s.served before.0.session x) (sym before.2.through) (s.tells t key before.0 before.1))))
+
+    lingered : SocketsTell → LingerersTell on old.all
+    lingered t = lingerers_on s.served later d.drives.leads.choices d.drives.leads.ran old.all (s.lingerers_tell t)
+
+    driven_serves : Serving later new later_all.all
+    driven_serves = record {
+      served = on;
+      bytes = bytes_on s.served later d.drives.leads.choices d.drives.leads.ran new
+          (subst (λ (x : HubState). HaveTheirBytes x new) to.2.0.run_is (drives_bytes SocketsTell traffic_of (g.moment (device later)) slots d.ready d.driven new events d.told (polled_sessions slots d.ready events d.told hub sessions).own d.ended (point_of hub (present_state s.served)) to.0 to.2.1 s.bytes));
+      tells = λ t key entry e.
+          let was = was_driven SocketsTell traffic_of (g.moment (device later)) (slot_at d.driven key) (slot_at new key) entry (d.ended key) e in
+          end_tells on none_runs (g.moment (device later)) refl t was.0 entry was.2 (driven_tell t key was.0 was.1);
+      lingerers_tell = λ t. each_lingers on none_runs (g.moment (device later)) refl t time left.each (driven_tell t) (lingered t);
+    }
+
+    -- so it is of each connection as the turn leaves it
+    pub ends_tell : (reads : Bool) → SocketsTell → HoldsAtEnds (Tells on) (g.moment (device later)) reads d.driven old.all later_all.all
+    ends_tell reads t = record {
+      entries = λ key was entry e ends. inner_tells on entry.session entry.stream (end_tells on none_runs (g.moment (device later)) refl t was entry ends (driven_tell t key was e));
+      linger = lingered t;
+      ends = all-each _ _ later_all.all (λ l e dropped after drops. drops_tells on none_runs (g.moment (device later)) refl t reads l dropped after drops (session_of l.socket) e)
+          (each_lingers on none_runs (g.moment (device later)) refl t time left.each (driven_tell t) (lingered t));
+    }
 
   pub drives_serve : IsServing hub slots old.all → IsServing later new later_all.all
   drives_serve some = ∥∥₁_map some driven_serves
@@ -313,24 +254,15 @@ module _ {D : Type 0} {g : Ghosts D} (hub later : Hub D g) (moment : ℕ) (now :
 -- ---- those that linger are turned, or closed
 
 module _ {D : Type 0} {g : Ghosts D} (hub : Hub D g) (slots : Slots) where
-  turn_tells : (moment : ℕ) → moment ≡ g.moment (device hub) → (time : Option Instant) (is_told : Bool) (old new : Lingerers) → AreTurned time moment is_told old new → Serving hub slots old.all → Serving hub slots new.all
-  turn_tells moment now time is_told old new turned s = record {
-    served = s.served;
-    bytes = s.bytes;
-    tells = s.tells;
-    lingerers_tell = λ t. turned_lingers s.served (no_event hub (last_sound s.served.first hub s.served.choices s.served.ran)) moment now t time (is_told || old.has_more) old.all new.all new.has_more turned.turned (s.lingerers_tell t);
-  }
+  relingers : (old new : List Lingerer) → (SocketsTell → (served : Served hub) → LingerersTell served old → LingerersTell served new) → IsServing hub slots old → IsServing hub slots new
+  relingers old new f some = ∥∥₁_map some (λ s. record { served = s.served; bytes = s.bytes; tells = s.tells; lingerers_tell = λ t. f t s.served (s.lingerers_tell t) })
 
   pub turns_serve : (moment : ℕ) → moment ≡ g.moment (device hub) → (time : Option Instant) (is_told : Bool) (old new : Lingerers) → AreTurned time moment is_told old new → IsServing hub slots old.all → IsServing hub slots new.all
-  turns_serve moment now time is_told old new turned some = ∥∥₁_map some (turn_tells moment now time is_told old new turned)
+  turns_serve moment now time is_told old new turned = relingers old.all new.all (λ t served.
+      turned_lingers served (no_event hub (last_sound served.first hub served.choices served.ran)) moment now t time (is_told || old.has_more) old.all new.all new.has_more turned.turned)
 
   pub closed_serves : (old new : List Lingerer) → new ≡ [] → IsServing hub slots old → IsServing hub slots new
-  closed_serves old new is some = ∥∥₁_map some (λ s. record {
-    served = s.served;
-    bytes = s.bytes;
-    tells = s.tells;
-    lingerers_tell = λ t. subst (λ (l : List Lingerer). LingerersTell s.served l) (sym is) tt;
-  })
+  closed_serves old new is = relingers old new (λ t served tells. rw is tt)
 
 -- ---- connections come
 
@@ -339,53 +271,40 @@ abbrev IsOldOrNew : Slots → ℕ → Connection → Type 0
 IsOldOrNew slots key entry = (slot_at slots key ≡ Some entry) ⊎ (IsNewSocket entry.session entry.stream × (entry.state ≢ Gone))
 
 module _ {D : Type 0} {g : Ghosts D} where
-  admits_from : (hub : Hub D g) (next : ℕ) (slots : Slots) (later : Hub D g) (then : ℕ) (new : Slots) → Admits IsNewSocket hub next slots later then new → (key : ℕ) (entry : Connection) → slot_at new key ≡ Some entry → IsOldOrNew slots key entry
-  admits_from hub next slots later then new admits key entry e = elim admits [
-    | inl away ↦ inl (ap (λ (l : Slots). slot_at l key) (sym away.slots_are) ∙ e)
-    | inr within ↦ elim (cases_eq key within.key) [
-      | inl at ↦
-          let which : within.entry ≡ entry = some_inj (sym within.changed ∙ ap (slot_at new) (sym at) ∙ e) in
-          inr (subst (λ (x : Connection). IsNewSocket x.session x.stream) which within.fresh, λ gone. (let bad : Ready ≡ Gone = sym within.state ∙ ap (λ (x : Connection). x.state) which ∙ gone in cc))
-      | inr differs ↦ inl (sym (within.others key differs) ∙ e)
-    ]
-  ]
-
   each_from : {hub : Hub D g} {next : ℕ} {slots : Slots} {count : ℕ} {later : Hub D g} {then : ℕ} {new : Slots} → AdmitsEach IsNewSocket hub next slots count later then new → (key : ℕ) (entry : Connection) → slot_at new key ≡ Some entry
       → IsOldOrNew slots key entry
   each_from Nobody key entry e = inl e
-  each_from (OneMore count mid later number then between new each admits) key entry e = elim (admits_from mid number between later then new admits key entry e) [
-    | inl was ↦ each_from each key entry was
-    | inr fresh ↦ inr fresh
+  each_from (OneMore count mid later number then between new each admits) key entry e = elim admits [
+    | inl away ↦ each_from each key entry (ap (λ (l : Slots). slot_at l key) (sym away.slots_are) ∙ e)
+    | inr within ↦ elim (cases_eq key within.key) [
+      | inl at ↦
+          let which : within.entry ≡ entry = some_same (sym within.changed ∙ ap (slot_at new) (sym at) ∙ e) in
+          inr (subst (λ (x : Connection). IsNewSocket x.session x.stream) which within.fresh, λ gone. (let bad : Ready ≡ Gone = sym within.state ∙ ap (λ (x : Connection). x.state) which ∙ gone in cc))
+      | inr differs ↦ each_from each key entry (sym (within.others key differs) ∙ e)
+    ]
   ]
 
 -- nothing left over a new connection
 new_tells : {D : Type 0} {g : Ghosts D} {hub : Hub D g} (served : Served hub) (slots : Slots) → SocketsTell → HaveTheirBytes (present_state served) slots → (key : ℕ) (entry : Connection) → slot_at slots key ≡ Some entry → IsNewSocket entry.session entry.stream → entry.state ≢ Gone
     → Tells served entry.session (through entry.stream)
 new_tells served slots t has key entry e fresh alive =
-    let b = has key entry e alive in
     let none : (through entry.stream).departed ≡ [] = ap (λ (x : Socket). (traffic_of x).departed) fresh.2.inner_is ∙ fresh.1.departed t in
     record {
       number = ap (λ (x : Socket). session_of x) fresh.2.inner_is ∙ fresh.1.counts.5;
       told = subst (λ (ds : List Departure). AllByRecursion (IsTold served entry.session) ds) (sym none) tt;
-      answered = record {
-        by = served.choices;
-        since = [];
-        events_are = sym (append-nil served.choices);
-        stream = b.0;
-        stream_is = b.1;
-        answered = record { rest = b.0.now.pending; all_is = ap (λ (bytes : List ℕ). bytes ++ b.0.now.pending) (sym (b.2 t).1) };
-      };
+      answered = subst (λ (es : List (HubEvent × Choice)). IsAnswered entry.session (first_state served) es (through entry.stream).taken) (append-nil served.choices)
+          (answered_then entry.session (first_state served) served.choices [] (through entry.stream).taken (sent_answered entry.session (present_state served) [] (through entry.stream) (have_sent (present_state served) slots t has key entry e alive)));
     }
 
-module _ {D : Type 0} {g : Ghosts D} (hub later : Hub D g) (next then count refused counted : ℕ) (slots new : Slots) (lingerers : List Lingerer) (numbers : AreBelow next slots) (come : ComeEach IsNewSocket hub next slots refused count later then new counted) where
-  come_serves : Serving hub slots lingerers → Serving later new lingerers
-  come_serves s =
+module _ {D : Type 0} {g : Ghosts D} (hub later : Hub D g) (next then count refused counted : ℕ) (slots new : Slots) (lingerers : List Lingerer) (holds : TableStands hub next slots) (come : ComeEach IsNewSocket hub next slots refused count later then new counted) where
+  pub accepts_serve : IsServing hub slots lingerers → IsServing later new lingerers
+  accepts_serve some = ∥∥₁_map some (λ s.
       let h = present_state s.served in
       let leads = come.1 in
       let to = leads.to (point_of hub h) (at_point hub h (stands_now s.served)) in
       let same : run h (joins_of come.0) ≡ run h leads.choices = sym to.2.1.run_is ∙ to.2.0.run_is in
       let bytes : HaveTheirBytes (present_state (served_on s.served later leads.choices leads.ran)) new =
-      bytes_on s.served later leads.choices leads.ran new (subst (λ (x : HubState). HaveTheirBytes x new) same (sockets_come come.0 h (stands_now s.served) numbers s.bytes)) in
+      bytes_on s.served later leads.choices leads.ran new (subst (λ (x : HubState). HaveTheirBytes x new) same (each_bytes SocketsTell through IsNewSocket new_begins come.0 h (stands_now s.served) holds s.bytes).2) in
       record {
         served = served_on s.served later leads.choices leads.ran;
         bytes = bytes;
@@ -394,10 +313,7 @@ module _ {D : Type 0} {g : Ghosts D} (hub later : Hub D g) (next then count refu
           | inr (fresh, alive) ↦ new_tells (served_on s.served later leads.choices leads.ran) new t bytes key entry e fresh alive
         ];
         lingerers_tell = λ t. lingerers_on s.served later leads.choices leads.ran lingerers (s.lingerers_tell t);
-      }
-
-  pub accepts_serve : IsServing hub slots lingerers → IsServing later new lingerers
-  accepts_serve some = ∥∥₁_map some come_serves
+      })
 
 -- ---- it rests, and begins
 
@@ -415,7 +331,7 @@ begins_serving hub start none slots is lingerers nobody = let served : Served hu
   served = served;
   bytes = λ key entry e alive. absurd (no_entry slots is key entry e);
   tells = λ t key entry e. absurd (no_entry slots is key entry e);
-  lingerers_tell = λ t. subst (λ (l : List Lingerer). LingerersTell served l) (sym nobody) tt;
+  lingerers_tell = λ t. rw nobody tt;
 } ∣₁
 
 -- ---- what follows
@@ -448,19 +364,54 @@ module _ {D : Type 0} {g : Ghosts D} (hub : Hub D g) (slots : Slots) (lingerers 
           told = t;
           texts = texts_begin served t.told.by (t.told.since ++ t.since) (t.events_are ∙ ap (λ (es : List (HubEvent × Choice)). es ++ t.since) events ∙ append_assoc t.told.by t.told.since t.since) s t.told.stream t.told.stream_is d.bytes t.told.answered;
           committed = subst (λ (es : List (HubEvent × Choice)). AllByRecursion (IsCommitted (run (first_state served) es).machine.history) t.told.stream.replies) (sym events)
-              (answered_committed (first_state served) t.told.by t.told.since s t.told.stream tt t.told.stream_is);
+              (answered_committed (first_state served) t.told.by t.told.since s t.told.stream refl t.told.stream_is);
           left = left;
           found = λ keeps lives follow. lose_nothing hub only_now counts_now keeps lives (g.left_since (device hub) d.moment) (MayFind (first_state served) served.choices (length t.before))
               (λ c l. (let z = left keeps c l in (z.0, z.2, z.1))) follow;
         }
 
     pub all_kept : (served : Served hub) (s : ℕ) (ds : List Departure) → AllByRecursion (IsTold served s) ds → AllByRecursion (IsKept served s) ds
-    all_kept served s [] all = all
-    all_kept served s (d ∷ ds) all = (is_kept served s d all.0, all_kept served s ds all.1)
-
-    lingerers_kept : (served : Served hub) (all : List Lingerer) → LingerersTell served all → AllByRecursion (λ l. AllByRecursion (IsKept served (session_of l.socket)) (traffic_of l.socket).departed) all
-    lingerers_kept served [] tells = tells
-    lingerers_kept served (l ∷ all) tells = (all_kept served (session_of l.socket) (traffic_of l.socket).departed tells.0.told, lingerers_kept served all tells.1)
+    all_kept served s ds all = all-each (IsTold served s) (IsKept served s) ds (is_kept served s) all
 
     pub keeps_what_left : SocketsTell → KeepsWhatLeft hub slots lingerers
-    keeps_what_left t = ∥∥₁_map some (λ s. (s.served, λ key entry e. (let told = s.tells t key entry e in (told.number, all_kept s.served entry.session (through entry.stream).departed told.told)), lingerers_kept s.served lingerers (s.lingerers_tell t)))
+    keeps_what_left t = ∥∥₁_map some (λ s. (
+      s.served,
+      λ key entry e. (let told = s.tells t key entry e in (told.number, all_kept s.served entry.session (through entry.stream).departed told.told)),
+      all-each _ _ lingerers (λ l told. all_kept s.served (session_of l.socket) (traffic_of l.socket).departed told.told) (s.lingerers_tell t),
+    ))
+
+-- ---- what leaves in a turn
+
+holds_map : (P Q : ℕ → Traffic → Type 0) → ((s : ℕ) (t : Traffic) → P s t → Q s t) → (moment : ℕ) (reads : Bool) (driven : List (Option (Entry (BufferedStream Socket)))) (lingered turned : List Lingerer) → HoldsAtEnds P moment reads driven lingered turned
+    → HoldsAtEnds Q moment reads driven lingered turned
+holds_map P Q f moment reads driven lingered turned x = record {
+  entries = λ key was entry e ends. f entry.session (traffic_of entry.stream.inner) (x.entries key was entry e ends);
+  linger = all-each _ _ lingered (λ l p. f (session_of l.socket) (traffic_of l.socket) p) x.linger;
+  ends = all-each _ _ turned (λ l p dropped later drops. f (session_of l.socket) (traffic_of later.socket) (p dropped later drops)) x.ends;
+}
+
+module _ {D : Type 0} {g : Ghosts D} where
+  -- the joins of the accepts are a run
+  joins_ran : (driven accepted : EventLoop D g) → NoneRuns driven.hub → (due : Bool) → Accepted due driven accepted → (fs : List (HubEvent × Choice)) × Ran driven.hub accepted.hub fs
+  joins_ran driven accepted none true accepts = (accepts.became.1.choices, accepts.became.1.ran)
+  joins_ran driven accepted none false untouched = ([], subst (λ (h : Hub D g). Ran driven.hub h []) (sym untouched.hub) none)
+
+  module _ (old new : EventLoop D g) (turn : IsTurn SocketsTell traffic_of old new) (crash : LosesNothing new.hub) (only_now : OnlyNow D g) (counts_now : CountsNow D g) where
+    pub keeps_what_leaves : SocketsTell → KeepsWhatLeaves old new turn
+    keeps_what_leaves t = ∥∥₁_map old.serving (λ s.
+        let d = turn.drives in
+        let leads = d.drives.leads in
+        let reads : Bool = is_told_of LINGERER (items new.poller.events) || turn.linger.begun.has_more in
+        let moment : ℕ = g.moment (device turn.driven.hub) in
+        let driven : Served turn.driven.hub = served_on s.served turn.driven.hub leads.choices leads.ran in
+        let ends : HoldsAtEnds (Tells driven) moment reads d.driven old.lingering.queue.items turn.linger.begun.all =
+        ends_tell old.hub turn.driven.hub old.table.slots turn.driven.table.slots (items new.poller.events) d old.sessions new.poller.time (lingerers_of old.lingering) turn.linger.begun turn.linger.left s reads t in
+        let joins = joins_ran turn.driven turn.accepted (no_event turn.driven.hub (last_sound old.hub turn.driven.hub leads.choices leads.ran)) (accepts_now old.backlog (items new.poller.events)) turn.accepts in
+        let accepted : Served turn.accepted.hub = served_on driven turn.accepted.hub joins.0 joins.1 in
+        let now : Served new.hub = served_on accepted new.hub [] turn.gives_back.hub.ran in (
+          now,
+          holds_map (Tells driven) (AreKept now)
+              (λ n u e. all_kept new.hub new.table.slots new.lingering.queue.items new.serving crash only_now counts_now now n u.departed
+              (tells_on accepted new.hub [] turn.gives_back.hub.ran n u (tells_on driven turn.accepted.hub joins.0 joins.1 n u e)).told)
+              moment reads d.driven old.lingering.queue.items turn.linger.begun.all ends,
+        ))

@@ -1,29 +1,23 @@
--- The parts of a turn make it.
-use Rattle.std.proofs.Common.{◌≡◌, Bool, true, false, List, Option, refl, subst}
-use Rattle.std.specs.declared.time.Instant.{Instant}
-use Rattle.mio.specs.declared.event.event.Event.{Event}
+-- The parts of a turn make it, and those of its wait.
+use Rattle.std.proofs.Common.{◌≡◌, Bool, true, false, List, Option, Result, Ok, Err, refl, sym, subst}
+use Rattle.std.specs.declared.time.Duration.{Duration}
 use Rattle.mio.specs.Events.{items}
-use Rattle.sector.specs.declared.device.Sectors.{Ghosts}
-use Rattle.sessions.specs.StandsFor.{device}
-use Rattle.stream_driver.specs.Buffers.{traffic_through}
-use Rattle.stream_driver.specs.Entries.{DrivenAll}
-use Rattle.stream_driver.specs.Sessions.{Adds, Leads, Point}
-use Rattle.stream_driver.specs.Traffic.{Traffic}
 use Rattle.event_loop.specs.declared.connections.Backlog.{Backlog}
-use Rattle.event_loop.specs.declared.connections.Backlog.TheVariants.{Empty, Full, Failed}
+use Rattle.event_loop.specs.declared.connections.Backlog.TheVariants.{Empty}
 use Rattle.event_loop.specs.declared.connections.TheConstants.{LINGERER}
 use Rattle.event_loop.specs.declared.polling.Poller.{Poller}
 use Rattle.event_loop.specs.declared.server.EventLoop.{EventLoop}
-use Rattle.event_loop.specs.declared.socket.Socket.{Socket}
 use Rattle.event_loop.specs.Leavings.{LingerOn}
 use Rattle.event_loop.specs.Lingerings.{Lingerers, lingerers_of, unless_failed}
-use Rattle.event_loop.specs.Turns.{Accepted, DrivesReady, IsGivenBack, IsTurn, accepted_joins, accepts_now, is_told_of}
+use Rattle.event_loop.specs.Polls.{Looked, NothingRead, after_wait, polls_of}
+use Rattle.event_loop.specs.Turns.{Accepted, DrivesReady, IsGivenBack, IsTurn, Waits, accepted_joins, accepts_now, is_told_of, turn_waits}
+use Rattle.event_loop.specs.Waits.{nanos_of}
+use Rattle.event_loop.proofs.Words.{Instant, Event, Ghosts, device, traffic_through, DrivenAll, Adds, Leads, Point, Traffic, Socket}
 
 -- where a turn doesn't accept, none of those that linger is closed
 pub none_closed : (backlog : Backlog) (events : List Event) (all : Lingerers) → accepts_now backlog events ≡ false → all ≡ unless_failed backlog all
 none_closed Empty events all e = refl
-none_closed Full events all e = absurd (let bad : true ≡ false = e in cc)
-none_closed Failed events all e = absurd (let bad : true ≡ false = e in cc)
+none_closed _ events all e = absurd (let bad : true ≡ false = e in cc)
 
 module _ {D : Type 0} {g : Ghosts D} (tells : Type 0) (traffic : Socket → Traffic) (old driven accepted new : EventLoop D g) (next_is : driven.next ≡ old.next) (port_is : driven.port ≡ old.port) (backlog_is : driven.backlog ≡ old.backlog)
     (refused_is : driven.refused ≡ old.refused) (lingerers_are : lingerers_of accepted.lingering ≡ unless_failed accepted.backlog (lingerers_of driven.lingering)) (given : IsGivenBack accepted new) where
@@ -55,3 +49,14 @@ module _ {D : Type 0} {g : Ghosts D} (tells : Type 0) (traffic : Socket → Traf
         gives_back = given;
         run = run;
       }) accepts run) drives (subst (Linger poller drives poller.time) told_is (subst (λ (time : Option Instant). Linger poller drives time told) now_is linger)) accepts run
+
+-- ---- its wait
+
+module _ {D A E : Type 0} {g : Ghosts D} (timeout : Option Duration) (old new : EventLoop D g) (before : Poller) (looked : Looked old.poller before) (polled : Poller) (unread : NothingRead before polled) (waited : nanos_of polled.waited ≡ turn_waits old before.time timeout) where
+  pub wait_failed : (result : Result A E) (fault : E) → result ≡ Err fault → polls_of polled ≡ after_wait {A = A} {E = E} (Err fault) (polls_of before) → new.poller ≡ polled → Waits timeout old result new
+  wait_failed result fault is told same =
+      subst (λ (r : Result A E). Waits timeout old r new) (sym is) (record { before = before; looked = looked; polled = polled; told = told; waited = waited; unread = unread; again = same; room = new.room })
+
+  pub wait_told : (value : A) → polls_of polled ≡ after_wait {A = A} {E = E} (Ok value) (polls_of before) → (after : Poller) → Looked polled after → new.poller ≡ after → Waits {A = A} {E = E} timeout old (Ok value) new
+  wait_told value told after again same =
+      record { before = before; looked = looked; polled = polled; told = told; waited = waited; unread = unread; again = subst (λ (p : Poller). Looked polled p) (sym same) again; room = new.room }

@@ -1,22 +1,28 @@
--- What a poll and the end of a turn make of a slot.
-use Rattle.std.proofs.Common.{◌≡◌, ◌≢◌, inl, inr, ℕ, ◌+◌, ◌<◌, ◌≤◌, ◌==◌, ◌||◌, Bool, true, false, cond, List, [], ◌∷◌, ◌++◌, map, length, set, get_or, Option, Some, None, refl, sym, ap, subst, ◌∙◌, arith}
-use Rattle.std.proofs.lemmas.Bool.{cases_lt, cases_eq}
-use Rattle.std.proofs.lemmas.Bool.Decides.{nat_tests}
+-- What a poll and the end of a turn make of a slot, and what becomes of its connection.
+use Rattle.std.proofs.Common.{◌≡◌, ◌≢◌, inl, inr, ℕ, ◌<◌, ◌≤◌, ◌==◌, ◌||◌, Bool, true, false, cond, List, [], ◌∷◌, ◌++◌, map, set, Option, Some, None, option_map, refl, sym, ap, subst, ◌∙◌, arith}
+use Rattle.std.proofs.lemmas.Bool.{and_parts, cases_eq, cases_lt, eqb-false, eqb-true}
 use Rattle.std.proofs.lemmas.List.{get_or-set_same, get_or-set_other}
 use Rattle.std.proofs.Math.ListN.{get_or-eq_default}
-use Rattle.mio.specs.declared.event.event.Event.{Event}
 use Rattle.mio.specs.Event.{event_token, is_priority, is_read_closed}
-use Rattle.stream_driver.specs.declared.buffered.BufferedStream.{BufferedStream}
-use Rattle.stream_driver.specs.declared.entries.Entry.{Entry}
-use Rattle.stream_driver.specs.Traffic.{Traffic}
-use Rattle.stream_driver.specs.Entries.{EndsDrive, is_over}
-use Rattle.event_loop.specs.Tables.{EndsTurn, after_event, after_poll, slot_at, told, told_slot}
+use Rattle.stream_driver.specs.declared.entries.EntryState.TheVariants.{Idle, Ready, Gone}
+use Rattle.model.proofs.Lookups.{some_same}
+use Rattle.stream_driver.proofs.OneEntry.{below}
+use Rattle.event_loop.specs.Leavings.{EndAll, EndEach, EndsAt, LeavesAs, LeavesIf}
+use Rattle.event_loop.specs.Leavings.EndEach.{NoneEnded, OneMore}
+use Rattle.event_loop.specs.Lingerings.{Lingerers}
+use Rattle.event_loop.specs.Sockets.{SocketsTell, traffic_of}
+use Rattle.event_loop.proofs.Words.{Instant, Event, BufferedStream, Entry, EntryState, is_settled, traffic_through, EndsDrive, is_gone, is_over, Traffic, Socket, EndsTurn, after_event, after_poll, readied, slot_at, told, told_slot, Slots}
 
-same_test : (a b : ℕ) → a ≡ b → (a == b) ≡ true
-same_test a b e = grind (arith, nat_tests)
+mapped_some : {A B : Type 0} (f : A → B) (o p : Option A) (y : A) → option_map f p ≡ option_map f o → p ≡ Some y → (x : A) × (o ≡ Some x) × (f y ≡ f x)
+mapped_some f None p y same is = absurd (cc (ap (option_map f) is))
+mapped_some f (Some x) p y same is = (x, refl, cc (ap (option_map f) is))
 
-other_test : (a b : ℕ) → a ≢ b → (a == b) ≡ false
-other_test a b e = grind (arith, nat_tests)
+gone_at : (state : EntryState) → is_gone state ≡ true → state ≡ Gone
+gone_at Gone is = refl
+gone_at _ is = absurd (cc)
+
+pub gone_as : (a b : EntryState) → is_gone a ≡ is_gone b → a ≡ Gone → b ≡ Gone
+gone_as a b same gone = gone_at b (sym same ∙ ap is_gone gone)
 
 module _ {T : Type 0} where
   poll_more : {R : Type 0} (now : R → Event) (yielded : List R) (event : R) (key : ℕ) (slot : Option (Entry (BufferedStream T)))
@@ -24,39 +30,20 @@ module _ {T : Type 0} where
   poll_more now [] event key slot = refl
   poll_more now (e ∷ es) event key slot = poll_more now es event key (after_event (now e) key slot)
 
-  below : (slots : List (Option (Entry (BufferedStream T)))) (key : ℕ) (old : Entry (BufferedStream T)) → get_or slots key None ≡ Some old → key < length slots
-  below slots key old e = elim (cases_lt key (length slots)) [
-    | inl lt ↦ lt
-    | inr ge ↦ absurd (let bad : None ≡ Some old = sym (get_or-eq_default slots None ge) ∙ e in cc)
-  ]
-
-  pub put_there : (slots : List (Option (Entry (BufferedStream T)))) (key : ℕ) (old entry : Entry (BufferedStream T)) → slot_at slots key ≡ Some old → slot_at (set slots key (Some entry)) key ≡ Some entry
+  pub put_there : (slots : Slots (BufferedStream T)) (key : ℕ) (old entry : Entry (BufferedStream T)) → slot_at slots key ≡ Some old → slot_at (set slots key (Some entry)) key ≡ Some entry
   put_there slots key old entry e = get_or-set_same slots key (Some entry) None (below slots key old e)
 
-  polled_some : (slots : List (Option (Entry (BufferedStream T)))) (t : ℕ) (on : Bool) (entry marked : Entry (BufferedStream T)) (key : ℕ) → slot_at slots t ≡ Some entry → marked ≡ told on entry
-      → slot_at (set slots t (Some marked)) key ≡ told_slot (t == key) on (slot_at slots key)
-  polled_some slots t on entry marked key is same = elim (cases_eq key t) [
-    | inl at ↦
-        ap (λ (k : ℕ). get_or (set slots t (Some marked)) k None) at ∙ get_or-set_same slots t (Some marked) None (below slots t entry is) ∙ ap (λ (x : Entry (BufferedStream T)). Some x) same
-        ∙ ap (told_slot true on) (sym (ap (λ (k : ℕ). get_or slots k None) at ∙ is)) ∙ ap (λ b. told_slot b on (slot_at slots key)) (sym (same_test t key (sym at)))
-    | inr differs ↦ get_or-set_other slots t key (Some marked) None differs ∙ ap (λ b. told_slot b on (slot_at slots key)) (sym (other_test t key (λ e. differs (sym e))))
-  ]
+  -- a slot was told of, and the others are as they were
+  poll_step : (slots new : Slots (BufferedStream T)) (t : ℕ) (on : Bool) → slot_at new t ≡ told_slot true on (slot_at slots t) → ((other : ℕ) → other ≢ t → slot_at new other ≡ slot_at slots other)
+      → (key : ℕ) → slot_at new key ≡ told_slot (t == key) on (slot_at slots key)
+  poll_step slots new t on here others key = elim (t == key) as (λ b. (t == key) ≡ b → slot_at new key ≡ told_slot b on (slot_at slots key)) [
+    | true ↦ λ at. subst (λ (k : ℕ). slot_at new k ≡ told_slot true on (slot_at slots k)) (eqb-true t key at) here
+    | false ↦ λ differs. others key (λ at. eqb-false t key differs (sym at))
+  ] refl
 
-  polled_none : (slots : List (Option (Entry (BufferedStream T)))) (t : ℕ) (on : Bool) (key : ℕ) → slot_at slots t ≡ None → slot_at slots key ≡ told_slot (t == key) on (slot_at slots key)
-  polled_none slots t on key is = elim (cases_eq key t) [
-    | inl at ↦
-        let none : slot_at slots key ≡ None = ap (λ (k : ℕ). get_or slots k None) at ∙ is in
-        none ∙ sym (ap (told_slot (t == key) on) none ∙ by (t == key))
-    | inr differs ↦ ap (λ b. told_slot b on (slot_at slots key)) (sym (other_test t key (λ e. differs (sym e))))
-  ]
-    where
-      by : (b : Bool) → told_slot {T = T} b on None ≡ None
-      by true = refl
-      by false = refl
-
-  module _ {R : Type 0} (now : R → Event) (yielded : List R) (event : R) (initial slots : List (Option (Entry (BufferedStream T)))) (t : ℕ) (names : t ≡ (event_token (now event)).0)
+  module _ {R : Type 0} (now : R → Event) (yielded : List R) (event : R) (initial slots : Slots (BufferedStream T)) (t : ℕ) (names : t ≡ (event_token (now event)).0)
       (before : (key : ℕ) → slot_at slots key ≡ after_poll (map now yielded) key (slot_at initial key)) where
-    more : (on : Bool) → on ≡ (is_priority (now event) || is_read_closed (now event)) → (key : ℕ) (new : List (Option (Entry (BufferedStream T))))
+    more : (on : Bool) → on ≡ (is_priority (now event) || is_read_closed (now event)) → (key : ℕ) (new : Slots (BufferedStream T))
         → slot_at new key ≡ told_slot (t == key) on (slot_at slots key) → slot_at new key ≡ after_poll (map now (yielded ++ event ∷ [])) key (slot_at initial key)
     more on on_is key new step =
         step ∙ ap (λ s. told_slot (t == key) on s) (before key) ∙ ap (λ (n : ℕ). told_slot (n == key) on (after_poll (map now yielded) key (slot_at initial key))) names
@@ -64,37 +51,111 @@ module _ {T : Type 0} where
 
     pub polled_more_some : (on : Bool) → on ≡ (is_priority (now event) || is_read_closed (now event)) → (entry marked : Entry (BufferedStream T)) → slot_at slots t ≡ Some entry → marked ≡ told on entry
         → (key : ℕ) → slot_at (set slots t (Some marked)) key ≡ after_poll (map now (yielded ++ event ∷ [])) key (slot_at initial key)
-    polled_more_some on on_is entry marked is same key = more on on_is key (set slots t (Some marked)) (polled_some slots t on entry marked key is same)
+    polled_more_some on on_is entry marked is same key =
+        let here : slot_at (set slots t (Some marked)) t ≡ told_slot true on (slot_at slots t) = put_there slots t entry marked is ∙ ap (λ (x : Entry (BufferedStream T)). Some x) same ∙ ap (told_slot true on) (sym is) in
+        more on on_is key (set slots t (Some marked)) (poll_step slots (set slots t (Some marked)) t on here (λ other differs. get_or-set_other slots t other (Some marked) None differs) key)
 
     pub polled_more_none : slot_at slots t ≡ None → (key : ℕ) → slot_at slots key ≡ after_poll (map now (yielded ++ event ∷ [])) key (slot_at initial key)
-    polled_more_none is key = more (is_priority (now event) || is_read_closed (now event)) refl key slots (polled_none slots t (is_priority (now event) || is_read_closed (now event)) key is)
+    polled_more_none is key =
+        let on = is_priority (now event) || is_read_closed (now event) in
+        more on refl key slots (poll_step slots slots t on (is ∙ ap (told_slot true on) (sym is)) (λ other differs. refl) key)
+
+  -- what a poll leaves of an entry: its session, whether it is gone, and what its stream has moved
+  module _ (traffic : T → Traffic) where
+    abbrev left : Entry (BufferedStream T) → ℕ × Bool × Traffic
+    left entry = (entry.session, is_gone entry.state, traffic_through traffic entry.stream)
+
+    told_left : (b on : Bool) (slot : Option (Entry (BufferedStream T))) → option_map left (told_slot b on slot) ≡ option_map left slot
+    told_left true on None = refl
+    told_left true on (Some entry) =
+        ap (λ gone. Some (entry.session, gone, traffic_through traffic entry.stream)) (elim entry.state as (λ state. is_gone (readied state) ≡ is_gone state) [ Idle ↦ refl | Ready ↦ refl | Gone ↦ refl ])
+    told_left false on slot = refl
+
+    poll_left : (events : List Event) (key : ℕ) (slot : Option (Entry (BufferedStream T))) → option_map left (after_poll events key slot) ≡ option_map left slot
+    poll_left [] key slot = refl
+    poll_left (event ∷ events) key slot = poll_left events key (after_event event key slot) ∙ told_left ((event_token event).0 == key) (is_priority event || is_read_closed event) slot
+
+    -- so one entry is as the other was, or will be
+    pub record IsLeft (entry other : Entry (BufferedStream T)) : Type 0 where
+      pub session : entry.session ≡ other.session
+      pub gone : is_gone entry.state ≡ is_gone other.state
+      pub through : traffic_through traffic entry.stream ≡ traffic_through traffic other.stream
+
+    is_left : (o p : Option (Entry (BufferedStream T))) (entry : Entry (BufferedStream T)) → option_map left p ≡ option_map left o → p ≡ Some entry → (other : Entry (BufferedStream T)) × (o ≡ Some other) × IsLeft entry other
+    is_left o p entry same is =
+        let m = mapped_some left o p entry same is in
+        (m.0, m.1, record { session = ap (λ (x : ℕ × Bool × Traffic). x.0) m.2; gone = ap (λ (x : ℕ × Bool × Traffic). x.1) m.2; through = ap (λ (x : ℕ × Bool × Traffic). x.2) m.2 })
+
+    module _ (old new : Slots (BufferedStream T)) (events : List Event) (polled : (key : ℕ) → slot_at new key ≡ after_poll events key (slot_at old key)) where
+      pub was_polled : (key : ℕ) (entry : Entry (BufferedStream T)) → slot_at new key ≡ Some entry → (before : Entry (BufferedStream T)) × (slot_at old key ≡ Some before) × IsLeft entry before
+      was_polled key entry e = is_left (slot_at old key) (slot_at new key) entry (ap (option_map left) (polled key) ∙ poll_left events key (slot_at old key)) e
+
+      pub then_polled : (key : ℕ) (entry : Entry (BufferedStream T)) → slot_at old key ≡ Some entry → (after : Entry (BufferedStream T)) × (slot_at new key ≡ Some after) × IsLeft entry after
+      then_polled key entry e = is_left (slot_at new key) (slot_at old key) entry (sym (ap (option_map left) (polled key) ∙ poll_left events key (slot_at old key))) e
 
   -- ---- the end of a turn
 
-  -- the keys below this one were looked at
-  pub record EndedSoFar (tells : Type 0) (traffic : T → Traffic) (moment key : ℕ) (initial slots : List (Option (Entry (BufferedStream T)))) : Type 0 where
-    pub looked_at : (k : ℕ) → k < key → EndsTurn tells traffic moment (slot_at initial k) (slot_at slots k)
-    pub rest : (k : ℕ) → key ≤ k → slot_at slots k ≡ slot_at initial k
+  module _ (tells : Type 0) (traffic : T → Traffic) (moment : ℕ) where
+    -- what an entry was before the end of its drive
+    pub was_driven : (slot after : Option (Entry (BufferedStream T))) (entry : Entry (BufferedStream T)) → EndsTurn tells traffic moment slot after → after ≡ Some entry
+        → (was : Entry (BufferedStream T)) × (slot ≡ Some was) × EndsDrive tells traffic moment was entry
+    was_driven None after entry none e = absurd (let bad : None ≡ Some entry = sym none ∙ e in cc)
+    was_driven (Some was) after entry (mid, ends, is) e =
+        elim (is_over mid) as (λ b. after ≡ cond b None (Some mid) → (x : Entry (BufferedStream T)) × (Some was ≡ Some x) × EndsDrive tells traffic moment x entry) [
+          | true ↦ λ none. absurd (let bad : None ≡ Some entry = sym none ∙ e in cc)
+          | false ↦ λ there. (was, refl, subst (λ (x : Entry (BufferedStream T)). EndsDrive tells traffic moment was x) (some_same (sym there ∙ e)) ends)
+        ] is
 
-  module _ (tells : Type 0) (traffic : T → Traffic) (moment key : ℕ) (initial slots : List (Option (Entry (BufferedStream T)))) (before : EndedSoFar tells traffic moment key initial slots) where
-    -- one more
-    pub ended_one : (new : List (Option (Entry (BufferedStream T)))) → EndsTurn tells traffic moment (slot_at slots key) (slot_at new key) → ((other : ℕ) → other ≢ key → slot_at new other ≡ slot_at slots other)
-        → EndedSoFar tells traffic moment (key + 1) initial new
-    ended_one new this others = record {
-      looked_at = λ k lt. elim (cases_eq k key) [
-        | inl at ↦
-            subst (λ (n : ℕ). EndsTurn tells traffic moment (slot_at initial n) (slot_at new n)) (sym at)
-            (subst (λ slot. EndsTurn tells traffic moment slot (slot_at new key)) (before.rest key (omega arith)) this)
-        | inr differs ↦ subst (λ slot. EndsTurn tells traffic moment (slot_at initial k) slot) (sym (others k differs)) (before.looked_at k (omega arith))
-      ];
-      rest = λ k le. others k (omega arith) ∙ before.rest k (omega arith);
-    }
+    -- it was gone where it is taken out, or is gone
+    pub gone_before : (was : Entry (BufferedStream T)) (after : Option (Entry (BufferedStream T))) → EndsTurn tells traffic moment (Some was) after
+        → ((entry : Entry (BufferedStream T)) → after ≡ Some entry → entry.session ≡ was.session → entry.state ≡ Gone) → was.state ≡ Gone
+    gone_before was after (mid, ends, is) without = sym ends.state ∙ elim (is_over mid) as (λ b. is_over mid ≡ b → after ≡ cond b None (Some mid) → mid.state ≡ Gone) [
+      | true ↦ λ over none. gone_at mid.state (and_parts (is_gone mid.state) (is_settled mid.stream) over).0
+      | false ↦ λ lasts there. without mid there ends.session
+    ] refl is
 
-  module _ (tells : Type 0) (traffic : T → Traffic) (moment : ℕ) (slots new : List (Option (Entry (BufferedStream T)))) (key : ℕ) where
-    pub ended_none : slot_at slots key ≡ None → slot_at new key ≡ None → EndsTurn tells traffic moment (slot_at slots key) (slot_at new key)
-    ended_none was is = subst (λ slot. EndsTurn tells traffic moment slot (slot_at new key)) (sym was) is
+module _ {time : Option Instant} {moment : ℕ} {slots : Slots (BufferedStream Socket)} {old : Lingerers} where
+  -- the entries at the keys that come are as they were, and the drives of the others have ended
+  pub each_rest : {key : ℕ} {new : Slots (BufferedStream Socket)} {later : Lingerers} → EndEach time moment slots old key new later → (other : ℕ) → key ≤ other → slot_at new other ≡ slot_at slots other
+  each_rest NoneEnded other le = refl
+  each_rest (OneMore key between new mid later each at) other le = at.others other (λ same. absurd (omega arith)) ∙ each_rest each other (omega arith)
 
-    pub ended_some : (old entry : Entry (BufferedStream T)) → slot_at slots key ≡ Some old → EndsDrive tells traffic moment old entry → (over : Bool) → over ≡ is_over entry → slot_at new key ≡ cond over None (Some entry)
-        → EndsTurn tells traffic moment (slot_at slots key) (slot_at new key)
-    ended_some old entry was ends over over_is is =
-        subst (λ slot. EndsTurn tells traffic moment slot (slot_at new key)) (sym was) (entry, ends, is ∙ ap (λ b. cond b None (Some entry)) over_is)
+  each_ended : {key : ℕ} {new : Slots (BufferedStream Socket)} {later : Lingerers} → EndEach time moment slots old key new later → (other : ℕ) → other < key → EndsTurn SocketsTell traffic_of moment (slot_at slots other) (slot_at new other)
+  each_ended NoneEnded other lt = absurd (omega arith)
+  each_ended (OneMore key between new mid later each at) other lt = elim (cases_eq other key) [
+    | inl same ↦
+        subst (λ (k : ℕ). EndsTurn SocketsTell traffic_of moment (slot_at slots k) (slot_at new k)) (sym same)
+        (subst (λ slot. EndsTurn SocketsTell traffic_of moment slot (slot_at new key)) (each_rest each key (omega arith)) at.ended)
+    | inr differs ↦ subst (λ slot. EndsTurn SocketsTell traffic_of moment (slot_at slots other) slot) (sym (at.others other differs)) (each_ended each other (omega arith))
+  ]
+
+  pub all_ended : (new : Slots (BufferedStream Socket)) (later : Lingerers) → EndAll time moment slots old new later → (key : ℕ) → EndsTurn SocketsTell traffic_of moment (slot_at slots key) (slot_at new key)
+  all_ended new later all key = elim (cases_lt key all.keys) [
+    | inl lt ↦ each_ended all.each key lt
+    | inr le ↦
+        let none : slot_at slots key ≡ None = get_or-eq_default slots None (omega (arith, all.all, le)) in
+        subst (λ slot. EndsTurn SocketsTell traffic_of moment slot (slot_at new key)) (sym none) (each_rest all.each key le ∙ none)
+  ]
+
+-- ---- what becomes of the connection at a key
+
+module _ (now : Option Instant) (moment key : ℕ) (slots new : Slots (BufferedStream Socket)) (others : (other : ℕ) → other ≢ key → slot_at new other ≡ slot_at slots other) where
+  -- at the slot alone
+  Ends : Option (Entry (BufferedStream Socket)) → Lingerers → Lingerers → Type 0
+  Ends slot old later = (ended : EndsTurn SocketsTell traffic_of moment slot (slot_at new key)) × LeavesAs now moment slot (slot_at new key) ended old later
+
+  ends : (slot : Option (Entry (BufferedStream Socket))) (old later : Lingerers) → slot_at slots key ≡ slot → Ends slot old later → EndsAt now moment key slots old new later
+  unfolding Ends
+  ends slot old later was here =
+      let there = subst (λ slot. Ends slot old later) (sym was) here in
+      record { ended = there.0; others = others; leaves = there.1 }
+
+  pub vacant : (old : Lingerers) → slot_at slots key ≡ None → slot_at new key ≡ None → EndsAt now moment key slots old new old
+  unfolding Ends
+  vacant old was is = ends None old old was (is, refl)
+
+  pub there : (old later : Lingerers) (before entry : Entry (BufferedStream Socket)) → slot_at slots key ≡ Some before → EndsDrive SocketsTell traffic_of moment before entry → (over : Bool) → over ≡ is_over entry
+      → slot_at new key ≡ cond over None (Some entry) → LeavesIf now moment over entry.stream.inner old later → EndsAt now moment key slots old new later
+  unfolding Ends
+  there old later before entry was drove over over_is is leaves =
+      ends (Some before) old later was ((entry, drove, is ∙ ap (λ b. cond b None (Some entry)) over_is), subst (λ b. LeavesIf now moment b entry.stream.inner old later) over_is leaves)

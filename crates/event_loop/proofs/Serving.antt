@@ -1,7 +1,7 @@
 -- A hub that was opened.
 use Rattle.std.proofs.Common.{refl}
-use Rattle.sector.specs.declared.device.Sectors.{Ghosts}
 use Rattle.model.specs.Machine.{opened}
+use Rattle.sector.specs.declared.device.Sectors.{Ghosts}
 use Rattle.sessions.specs.declared.hub.Hub.{Hub}
 use Rattle.sessions.specs.Lives.{IsOpened}
 use Rattle.sessions.specs.SessionStreams.{hub_over}

@@ -8,11 +8,9 @@ use Rattle.socket_calls.specs.HappenedCalls.{SendsAtOnce, WasReceived, WasSent}
 use Rattle.socket_calls.specs.declared.counted.CountedSocket.{CountedSocket}
 use Rattle.stream_driver.specs.declared.answers.ReadAnswer.{ReadAnswer}
 use Rattle.stream_driver.specs.declared.answers.WriteAnswer.{WriteAnswer}
-use Rattle.stream_driver.specs.declared.buffered.BufferedStream.{BufferedStream}
-use Rattle.stream_driver.specs.Buffers.{IsNew}
-use Rattle.stream_driver.specs.Traffic.{DepartAt, IsUncalled, Traffic, bytes_read, bytes_written}
-use Rattle.event_loop.specs.declared.socket.Socket.{Socket}
+use Rattle.stream_driver.proofs.Buffering.{none_departed}
 use Rattle.event_loop.specs.Sockets.{IsNewSocket, SocketsTell, departure_of, traffic_of}
+use Rattle.event_loop.proofs.Words.{BufferedStream, IsNew, DepartAt, IsUncalled, Traffic, bytes_read, bytes_written, Socket}
 
 latest-append : (none : List ℕ) (ds : List (List ℕ × ℕ)) (d : List ℕ × ℕ) → latest none (ds ++ d ∷ []) ≡ d.0
 latest-append none [] d = refl
@@ -22,67 +20,53 @@ none_moved : {E : Type 0} (outcome : Result ℕ E) → IsErr outcome → moved o
 none_moved (Ok n) failed = absurd (cc)
 none_moved (Err e) failed = refl
 
-none_taken : (bytes none : List ℕ) (n : ℕ) → n ≡ 0 → none ≡ none ++ take n bytes
-none_taken bytes none n is = sym (append-nil none) ∙ ap (λ n. none ++ take n bytes) (sym is)
-
--- nothing left
-still_departs : (moment : ℕ) (before after : Traffic) → after.departed ≡ before.departed → DepartAt moment before after
-still_departs moment before after same = record { departures = []; departed_are = same ∙ sym (append-nil before.departed); each = tt }
-
 module _ {E : Type 0} (old mid new : CountedSocket) (bytes : List ℕ) (outcome : Result ℕ E) (called : mid ≡ next old) (kept : new ≡ mid) (over : old.calls ≡ 2 ^ 64 - 1 → IsErr outcome) where
-  -- of a socket of which as many calls were made as can be counted no more is made
-  uncalled : old.calls ≡ 2 ^ 64 - 1 → new ≡ old
-  uncalled last = kept ∙ called ∙ ap (λ n. record old { calls = n }) (rw last refl)
+  abbrev went : List ℕ
+  went = take (moved outcome) bytes
 
-  none_moves : old.calls ≡ 2 ^ 64 - 1 → moved outcome ≡ 0
-  none_moves last = none_moved outcome (over last)
+  -- of a socket of which as many calls were made as can be counted no more is made, and none moves
+  by_calls : (P : CountedSocket → List ℕ → Type 0) → P old [] → (old.calls ≢ 2 ^ 64 - 1 → P (next old) went) → P new went
+  by_calls P none one = elim (cases_eq old.calls (2 ^ 64 - 1)) [
+    | inl last ↦
+        let same : new ≡ old = kept ∙ called ∙ ap (λ n. record old { calls = n }) (rw last refl) in
+        subst (λ (s : CountedSocket). P s went) (sym same) (subst (λ n. P old (take n bytes)) (sym (none_moved outcome (over last))) none)
+    | inr fewer ↦ subst (λ (s : CountedSocket). P s went) (sym (kept ∙ called)) (one fewer)
+  ]
 
-  module _ (happened : old.calls ≢ 2 ^ 64 - 1 → WasReceived old (take (moved outcome) bytes)) where
+  module _ (happened : old.calls ≢ 2 ^ 64 - 1 → WasReceived old went) where
     pub given_read : (answer : ReadAnswer) → bytes_read answer ≡ moved outcome → SocketsTell → given new ≡ given old ++ take (bytes_read answer) bytes
-    given_read answer count tells = elim (cases_eq old.calls (2 ^ 64 - 1)) [
-      | inl last ↦ ap given (uncalled last) ∙ none_taken bytes (given old) (bytes_read answer) (count ∙ none_moves last)
-      | inr fewer ↦ ap given (kept ∙ called) ∙ (tells.received old (take (moved outcome) bytes) (happened fewer)).0 ∙ ap (λ n. given old ++ take n bytes) (sym count)
-    ]
+    given_read answer count tells =
+        by_calls (λ s gone. given s ≡ given old ++ gone) (sym (append-nil (given old))) (λ fewer. (tells.received old went (happened fewer)).0)
+        ∙ ap (λ n. given old ++ take n bytes) (sym count)
 
-    none_departed : SocketsTell → departed new ≡ departed old
-    none_departed tells = elim (cases_eq old.calls (2 ^ 64 - 1)) [
-      | inl last ↦ ap departed (uncalled last)
-      | inr fewer ↦ ap departed (kept ∙ called) ∙ (tells.received old (take (moved outcome) bytes) (happened fewer)).1
-    ]
+    none_left : SocketsTell → departed new ≡ departed old
+    none_left tells = by_calls (λ s gone. departed s ≡ departed old) refl (λ fewer. (tells.received old went (happened fewer)).1)
 
     pub taken_read : SocketsTell → taken new ≡ taken old
-    taken_read tells = ap (λ l. latest [] l) (none_departed tells)
+    taken_read tells = ap (λ l. latest [] l) (none_left tells)
 
     pub departed_read : (moment : ℕ) (before after : Traffic) → before.departed ≡ map departure_of (departed old) → after.departed ≡ map departure_of (departed new) → SocketsTell → DepartAt moment before after
-    departed_read moment before after was is tells = still_departs moment before after (is ∙ ap (λ l. map departure_of l) (none_departed tells) ∙ sym was)
+    departed_read moment before after was is tells = none_departed (is ∙ ap (λ l. map departure_of l) (none_left tells) ∙ sym was)
 
-  module _ (moment : ℕ) (happened : old.calls ≢ 2 ^ 64 - 1 → WasSent old (take (moved outcome) bytes) moment) where
+  module _ (moment : ℕ) (happened : old.calls ≢ 2 ^ 64 - 1 → WasSent old went moment) where
     pub given_written : SocketsTell → given new ≡ given old
-    given_written tells = elim (cases_eq old.calls (2 ^ 64 - 1)) [
-      | inl last ↦ ap given (uncalled last)
-      | inr fewer ↦ ap given (kept ∙ called) ∙ (tells.sent old (take (moved outcome) bytes) moment (happened fewer)).0
-    ]
+    given_written tells = by_calls (λ s gone. given s ≡ given old) refl (λ fewer. (tells.sent old went moment (happened fewer)).0)
 
-    all_departed : old.calls ≢ 2 ^ 64 - 1 → SocketsTell → departed new ≡ departed old ++ (taken old ++ take (moved outcome) bytes, moment) ∷ []
-    all_departed fewer tells = ap departed (kept ∙ called) ∙ (tells.sent old (take (moved outcome) bytes) moment (happened fewer)).1
-
-    all_taken : SocketsTell → taken new ≡ taken old ++ take (moved outcome) bytes
-    all_taken tells = elim (cases_eq old.calls (2 ^ 64 - 1)) [
-      | inl last ↦ ap taken (uncalled last) ∙ none_taken bytes (taken old) (moved outcome) (none_moves last)
-      | inr fewer ↦ ap (λ l. latest [] l) (all_departed fewer tells) ∙ latest-append [] (departed old) (taken old ++ take (moved outcome) bytes, moment)
-    ]
+    all_taken : SocketsTell → taken new ≡ taken old ++ went
+    all_taken tells = by_calls (λ s gone. taken s ≡ taken old ++ gone) (sym (append-nil (taken old))) (λ fewer.
+        ap (λ l. latest [] l) (tells.sent old went moment (happened fewer)).1 ∙ latest-append [] (departed old) (taken old ++ went, moment))
 
     pub departed_written : (before after : Traffic) → before.departed ≡ map departure_of (departed old) → after.departed ≡ map departure_of (departed new) → after.taken ≡ taken new → SocketsTell → DepartAt moment before after
-    departed_written before after was is took tells = elim (cases_eq old.calls (2 ^ 64 - 1)) [
-      | inl last ↦ still_departs moment before after (is ∙ ap (λ s. map departure_of (departed s)) (uncalled last) ∙ sym was)
-      | inr fewer ↦ record {
-        departures = departure_of (taken old ++ take (moved outcome) bytes, moment) ∷ [];
-        departed_are =
-            is ∙ ap (λ l. map departure_of l) (all_departed fewer tells) ∙ map-append departure_of (departed old) ((taken old ++ take (moved outcome) bytes, moment) ∷ [])
-            ∙ ap (λ l. l ++ departure_of (taken old ++ take (moved outcome) bytes, moment) ∷ []) (sym was);
-        each = ((refl, record { rest = []; all_is = took ∙ all_taken tells ∙ sym (append-nil (taken old ++ take (moved outcome) bytes)) }), tt);
-      }
-    ]
+    departed_written before after was is took tells =
+        by_calls (λ s gone. after.departed ≡ map departure_of (departed s) → after.taken ≡ taken old ++ gone → DepartAt moment before after)
+        (λ is took. none_departed (is ∙ sym was))
+        (λ fewer is took. record {
+          departures = departure_of (taken old ++ went, moment) ∷ [];
+          departed_are =
+              is ∙ ap (λ l. map departure_of l) (tells.sent old went moment (happened fewer)).1 ∙ map-append departure_of (departed old) ((taken old ++ went, moment) ∷ [])
+              ∙ ap (λ l. l ++ departure_of (taken old ++ went, moment) ∷ []) (sym was);
+          each = ((refl, record { rest = []; all_is = took ∙ sym (append-nil (taken old ++ went)) }), tt);
+        }) is (took ∙ all_taken tells)
 
     pub taken_written : (answer : WriteAnswer) → bytes_written answer ≡ moved outcome → SocketsTell → taken new ≡ taken old ++ take (bytes_written answer) bytes
     taken_written answer count tells = all_taken tells ∙ ap (λ n. taken old ++ take n bytes) (sym count)

@@ -1,22 +1,24 @@
--- The table keeps a session of its own for each entry, under a number that is below the next.
-use Rattle.std.proofs.Common.{◌≡◌, ◌≢◌, ◌⊎◌, inl, inr, ℕ, ◌+◌, ◌<◌, List, get_or, sym, ap, subst, ◌∙◌, arith, Option, Some, None, unwrap_or}
+-- The table keeps a session of its own for each entry, under a number that is below the next, as a connection comes too; and what leads a hub on as they come.
+use Rattle.std.proofs.Common.{◌≡◌, ◌≢◌, ◌⊎◌, inl, inr, ℕ, ◌+◌, ◌<◌, get_or, sym, ap, subst, ◌∙◌, arith, Some, None, ◌≤◌, ◌-◌, ◌^◌, min, max, Bool, false, cond, [], ◌∷◌, ◌++◌, count_by, is_some, refl}
 use Rattle.std.proofs.lemmas.Bool.{cases_eq}
 use Rattle.std.proofs.Math.Logic.{∥∥₁_map}
 use Rattle.slab.specs.Slab.{Slab, Updates}
-use Rattle.sector.specs.declared.device.Sectors.{Ghosts}
 use Rattle.sessions.specs.declared.events.Status.TheVariants.{Absent, Open}
-use Rattle.sessions.specs.declared.events.Outcome.{Outcome}
 use Rattle.sessions.specs.declared.events.Outcome.TheVariants.{Done}
-use Rattle.sessions.specs.declared.hub.Hub.{Hub}
-use Rattle.sessions.specs.SessionStreams.{Joins, hub_step}
-use Rattle.sessions.specs.StandsFor.{HubLeads, status_in}
+use Rattle.sessions.specs.Laws.{NoneRuns, RunsAlone}
 use Rattle.sessions.proofs.Reached.{reached}
-use Rattle.stream_driver.specs.declared.entries.Entry.{Entry}
-use Rattle.stream_driver.specs.Sessions.{Point, Stands, IsPresent, Leads}
-use Rattle.stream_driver.specs.Entries.{HaveSessions, KeepSessions}
+use Rattle.stream_driver.specs.declared.entries.EntryState.TheVariants.{Ready, Gone}
+use Rattle.model.proofs.Lookups.{some_same}
+use Rattle.stream_driver.proofs.States.{some_after, Follow, leads_event, leads_none, leads_then}
+use Rattle.stream_driver.proofs.Events.{adds_none}
+use Rattle.stream_driver.proofs.Carry.{adds_then}
 use Rattle.event_loop.specs.Numbers.{AreBelow}
-use Rattle.event_loop.proofs.Joins.{joins_other, joins_same}
-use Rattle.stream_driver.proofs.States.{some_after}
+use Rattle.event_loop.specs.Accepts.{Accepts, after_taken, more}
+use Rattle.event_loop.specs.Tables.AdmitsEach.{Nobody, OneMore}
+use Rattle.event_loop.proofs.Words.{Ghosts, Outcome, Hub, Joins, hub_step, HubLeads, status_in}
+use Rattle.event_loop.proofs.Words.{Entry, HaveSessions, KeepSessions, Point, Stands, IsPresent, Leads, status_at, Admits, LetsIn, HaveEntries, IsTried, IsWithoutEntry, slot_at, Slots, HubEvent, failures, Adds, one_more, ComeEach, Comes, join_of, joins_of, refusals_in, refusals_of}
+use Rattle.event_loop.proofs.Present.{joins_other, joins_same, joins_not}
+use Rattle.event_loop.proofs.Entries.{absent_in_each}
 
 pub stands_after : {D : Type 0} {g : Ghosts D} (a b : Hub D g) (P : Point → Point → Type 0) → Stands a → Leads a b P → Stands b
 stands_after a b P some leads = some_after a b _ P _ some leads (λ h k is related. tt)
@@ -30,18 +32,8 @@ module _ {D : Type 0} {g : Ghosts D} (hub later : Hub D g) (s : ℕ) (outcome : 
   still t apart has = ∥∥₁_map has (λ w. (let there = reached hub later (Joins s) outcome leads w.0 w.1 in ((hub_step w.0 (Joins s) leads.0).0, there.stands, λ gone. w.2 (sym (ap status_in (joins_other w.0 s leads.0 t apart)) ∙ gone))))
 
 module _ {T : Type 0} where
-  some_inj : {a b : Entry T} → Some a ≡ Some b → a ≡ b
-  some_inj {a} e = ap (λ (o : Option (Entry T)). unwrap_or o a) e
-
-  pub below_after : (next : ℕ) (old new : List (Option (Entry T))) → AreBelow next old → KeepSessions old new → AreBelow next new
+  pub below_after : (next : ℕ) (old new : Slots T) → AreBelow next old → KeepSessions old new → AreBelow next new
   below_after next old new numbers kept = λ key entry e. let was = kept key entry e in subst (λ s. s < next) (sym was.2) (numbers key was.0 was.1)
-
-  module _ {D : Type 0} {g : Ghosts D} (hub later : Hub D g) (s : ℕ) (outcome : Outcome) (leads : HubLeads hub later (Joins s) outcome) where
-    pub unjoined : (slots : List (Option (Entry T))) → AreBelow s slots → HaveSessions hub slots → HaveSessions later slots
-    unjoined slots numbers has = record {
-      present = λ key entry e alive. still hub later s outcome leads entry.session (λ same. (let lt : entry.session < s = numbers key entry e in omega arith)) (has.present key entry e alive);
-      own = has.own;
-    }
 
   -- a new entry, whose session has just joined
   module _ {D : Type 0} {g : Ghosts D} (hub later : Hub D g) (old new : Slab (Entry T)) (key : ℕ) (entry : Entry T) (up : Updates old new key (Some entry)) (leads : HubLeads hub later (Joins entry.session) Done) where
@@ -53,7 +45,7 @@ module _ {T : Type 0} where
 
     back : (other : ℕ) (another : Entry T) → get_or new.slots other None ≡ Some another → ((other ≡ key) × (another ≡ entry)) ⊎ ((other ≢ key) × (get_or old.slots other None ≡ Some another))
     back other another e = elim (cases_eq other key) [
-      | inl at ↦ inl (at, some_inj (sym e ∙ ap (λ (k : ℕ). get_or new.slots k None) at ∙ up.changed))
+      | inl at ↦ inl (at, some_same (sym e ∙ ap (λ (k : ℕ). get_or new.slots k None) at ∙ up.changed))
       | inr differs ↦ inr (differs, sym (up.others other differs) ∙ e)
     ]
 
@@ -66,14 +58,8 @@ module _ {T : Type 0} where
             | inr (differs, was) ↦ still hub later entry.session Done leads another.session (apart other another was) (has.present other another was alive)
           ];
           own = λ one two first second e f alive too same. elim (back one first e) [
-            | inl (at, which) ↦ elim (back two second f) [
-              | inl (at_too, _) ↦ at ∙ sym at_too
-              | inr (_, was) ↦ absurd (apart two second was (sym same ∙ ap (λ (x : Entry T). x.session) which))
-            ]
-            | inr (_, was) ↦ elim (back two second f) [
-              | inl (_, which) ↦ absurd (apart one first was (same ∙ ap (λ (x : Entry T). x.session) which))
-              | inr (_, was_too) ↦ has.own one two first second was was_too alive too same
-            ]
+            | inl (at, which) ↦ elim (back two second f) [ inl (too_at, _) ↦ at ∙ sym too_at | inr (_, was) ↦ absurd (apart two second was (sym same ∙ ap (λ (x : Entry T). x.session) which)) ]
+            | inr (_, was) ↦ elim (back two second f) [ inl (_, which) ↦ absurd (apart one first was (same ∙ ap (λ (x : Entry T). x.session) which)) | inr (_, then) ↦ has.own one two first second was then alive too same ]
           ];
         }
 
@@ -82,3 +68,120 @@ module _ {T : Type 0} where
       | inl (at, which) ↦ subst (λ (x : Entry T). x.session < entry.session + 1) (sym which) (omega arith)
       | inr (differs, was) ↦ (let lt : another.session < entry.session = numbers other another was in omega arith)
     ]
+
+-- ---- a connection that comes
+
+module _ {T D : Type 0} {g : Ghosts D} where
+  -- what holds of a hub, the number of the next session and a table
+  pub record TableStands (hub : Hub D g) (next : ℕ) (slots : Slots T) : Type 0 where
+    pub stands : Stands hub
+    pub sessions : HaveSessions hub slots
+    pub numbers : AreBelow next slots
+    pub entries : HaveEntries hub slots
+
+  module _ (hub later : Hub D g) (next then : ℕ) (slots new : Slots T) where
+    -- a session was to join, or nothing was to happen
+    tried_table : (later ≡ hub) ⊎ IsTried hub later next → TableStands hub next slots → TableStands later next slots
+    tried_table how h = elim how [
+      | inl same ↦ subst (λ (x : Hub D g). TableStands x next slots) (sym same) h
+      | inr j ↦ record {
+        stands = joined_stands hub later next j.0 j.2 h.stands;
+        sessions = record {
+          present = λ key entry e alive. still hub later next j.0 j.2 entry.session (λ same. (let lt : entry.session < next = h.numbers key entry e in omega arith)) (h.sessions.present key entry e alive);
+          own = h.sessions.own;
+        };
+        numbers = h.numbers;
+        entries = λ k stands s without.
+            absent_in_each later s
+            (∥∥₁_map h.stands (λ w. (
+              (hub_step w.0 (Joins next) j.2.0).0,
+              (reached hub later (Joins next) j.0 j.2 w.0 w.1).stands,
+              ap (λ x. status_at x s) (joins_not w.0 next j.2.0 (λ done. j.1 ((reached hub later (Joins next) j.0 j.2 w.0 w.1).outcome_is ∙ done)))
+                  ∙ h.entries w.0 w.1 s without,
+            ))) k stands;
+      }
+    ]
+
+    module _ (IsNew : ℕ → T → Type 0) where
+      -- a connection was let in
+      in_table : LetsIn IsNew hub next slots later then new → TableStands hub next slots → TableStands later then new
+      in_table l h =
+          let slab : Slots T → Slab (Entry T) = λ slots. record { slots = slots; vacant_key = 0; capacity = 0 } in
+          let up : Updates (slab slots) (slab new) l.key (Some l.entry) = record { changed = l.changed; others = l.others } in
+          let leads : HubLeads hub later (Joins l.entry.session) Done = subst (λ s. HubLeads hub later (Joins s) Done) (sym l.session) l.joined in
+          let numbers : AreBelow l.entry.session slots = subst (λ s. AreBelow s slots) (sym l.session) h.numbers in
+          record {
+            stands = joined_stands hub later next Done l.joined h.stands;
+            sessions = joined_sessions hub later (slab slots) (slab new) l.key l.entry up leads h.stands numbers h.sessions;
+            numbers = subst (λ s. AreBelow s new) (ap (λ s. s + 1) l.session ∙ sym l.next_is) (joined_numbers hub later (slab slots) (slab new) l.key l.entry up leads numbers);
+            entries = λ k stands s without.
+                let apart : s ≢ next = λ same. (let bad : Ready ≡ Gone = sym l.state ∙ without l.key l.entry l.changed (l.session ∙ sym same) in cc) in
+                let before : IsWithoutEntry s slots = λ key entry e same. without key entry (l.others key (λ at. (let bad : None ≡ Some entry = sym l.vacant ∙ ap (slot_at slots) (sym at) ∙ e in cc)) ∙ e) same in
+                absent_in_each later s
+                (∥∥₁_map h.stands (λ w. (
+                  (hub_step w.0 (Joins next) l.joined.0).0,
+                  (reached hub later (Joins next) Done l.joined w.0 w.1).stands,
+                  ap status_in (joins_other w.0 next l.joined.0 s apart) ∙ h.entries w.0 w.1 s before,
+                ))) k stands;
+          }
+
+      pub admits_table : Admits IsNew hub next slots later then new → TableStands hub next slots → TableStands later then new
+      admits_table admits h = elim admits [
+        | inl away ↦ subst (λ l. TableStands later then l) (sym away.slots_are) (subst (λ n. TableStands later n slots) (sym away.next_is) (tried_table away.hub_is h))
+        | inr within ↦ in_table within h
+      ]
+
+-- ---- counts that stay at their highest
+
+with_top : (M c m n : ℕ) → max (max c (min (c + m) M)) (min (max c (min (c + m) M) + n) M) ≡ max c (min (c + (m + n)) M)
+with_top M c m n = omega arith
+
+none_yet : (M c : ℕ) → c ≡ max c (min (c + 0) M)
+none_yet M c = omega arith
+
+pub more_none : (c : ℕ) → c ≡ more 0 c
+more_none c = none_yet (2 ^ 64 - 1) c
+
+more_more : (m n c : ℕ) → more n (more m c) ≡ more (m + n) c
+more_more m n c = with_top (2 ^ 64 - 1) c m n
+
+pub taken_none : (a : Accepts) → a ≡ after_taken 0 a
+taken_none a = ap (λ t. record a { taken = t }) (more_none a.taken)
+
+pub taken_one : (n : ℕ) (a b c : Accepts) → b ≡ after_taken n a → c ≡ record b { taken = one_more b.taken } → c ≡ after_taken (n + 1) a
+taken_one n a b c is step = step ∙ ap (λ (b : Accepts). record b { taken = one_more b.taken }) is ∙ ap (λ t. record a { taken = t }) (more_more n 1 a.taken)
+
+-- ---- connections that come
+
+-- one event
+pub leads_one : {D : Type 0} {g : Ghosts D} (old new : Hub D g) (e : HubEvent) (outcome : Outcome) (q : HubLeads old new e outcome) → RunsAlone old new e → failures old ≤ failures new → Leads old new (λ h k. Adds h ((e, q.0) ∷ []) k)
+leads_one old new e outcome q alone counted = leads_event old new _ e outcome q alone counted (λ h stands happens is after. record { run_is = refl; events_are = refl })
+
+module _ {T D : Type 0} {g : Ghosts D} (IsNew : ℕ → T → Type 0) (hub : Hub D g) (next : ℕ) (slots : Slots T) (refused : ℕ) where
+  pub none_come : NoneRuns hub → ComeEach IsNew hub next slots refused 0 hub next slots refused
+  none_come none = (Nobody, leads_none hub none _ (λ h stands. adds_none h), more_none refused)
+
+  pub one_comes : Follow D g → (count : ℕ) (mid later : Hub D g) (number then : ℕ) (between new : Slots T) (so_far counted : ℕ) → ComeEach IsNew hub next slots refused count mid number between so_far
+      → Comes IsNew mid number between so_far later then new counted → ComeEach IsNew hub next slots refused (count + 1) later then new counted
+  one_comes follow count mid later number then between new so_far counted each comes = (
+    OneMore count mid later number then between new each.0 comes.0,
+    leads_then follow hub mid later _ _ (λ h k. Adds h (joins_of each.0 ++ join_of IsNew mid number between later then new comes.0) k) each.1 comes.1
+        (λ h k l last p q. adds_then h k l (joins_of each.0) (join_of IsNew mid number between later then new comes.0) p q),
+    comes.2 ∙ ap (more (refusals_in IsNew mid number between later then new comes.0)) each.2 ∙ more_more (refusals_of each.0) (refusals_in IsNew mid number between later then new comes.0) refused,
+  )
+
+-- ---- one that comes
+
+module _ {T D : Type 0} {g : Ghosts D} (IsNew : ℕ → T → Type 0) (hub : Hub D g) (next : ℕ) (slots new : Slots T) (same : new ≡ slots) (refused : ℕ) where
+  -- it is turned away before its session is to join
+  pub away : NoneRuns hub → (is_refused : Bool) → (is_refused ≡ false → (128 ≤ count_by is_some slots) ⊎ ((next ≡ 2 ^ 64 - 1) ⊎ IsTried hub hub next)) → Comes IsNew hub next slots refused hub next new (more (cond is_refused 1 0) refused)
+  away none is_refused why = (inl (record { slots_are = same; next_is = refl; hub_is = inl refl; is_refused = is_refused; why = why }), leads_none hub none _ (λ h stands. adds_none h), refl)
+
+  -- its session could not join
+  pub away_tried : (later : Hub D g) (outcome : Outcome) → outcome ≢ Done → HubLeads hub later (Joins next) outcome → RunsAlone hub later (Joins next) → failures hub ≤ failures later
+      → Comes IsNew hub next slots refused later next new refused
+  away_tried later outcome differs q alone counted = (
+    inl (record { slots_are = same; next_is = refl; hub_is = inr (outcome, differs, q); is_refused = false; why = λ is. inr (inr (outcome, differs, q)) }),
+    leads_one hub later (Joins next) outcome q alone counted,
+    more_none refused,
+  )

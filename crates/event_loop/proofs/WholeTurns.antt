@@ -1,47 +1,39 @@
--- Drives, accepts and turns keep the bytes of the connections those of their sessions.
-use Rattle.std.proofs.Common.{◌≡◌, ◌≢◌, ◌⊎◌, inl, inr, ℕ, ◌<◌, true, false, cond, List, [], ◌∷◌, ◌++◌, Option, Some, None, sym, ap, subst, ◌∙◌, arith}
+-- Drives, accepts and turns keep the bytes of the connections those of their sessions, and so does a hub that rests as it gives back what nobody needs.
+use Rattle.std.proofs.Common.{◌≡◌, ◌≢◌, ◌⊎◌, inl, inr, ℕ, ◌<◌, List, [], ◌++◌, Some, IfSome, sym, ap, subst, ◌∙◌, arith, Bool, true, false, refl}
 use Rattle.std.proofs.lemmas.Bool.{cases_eq}
 use Rattle.std.proofs.lemmas.List.{append-nil}
+use Rattle.std.proofs.lemmas.List.Elements.{All-from_recursion}
+use Rattle.std.proofs.lemmas.Map.Entries.{All-lookup}
 use Rattle.std.proofs.Math.Logic.{∥∥₁_map}
 use Rattle.std.specs.List.{AllByRecursion}
 use Rattle.std.specs.Map.{lookup}
-use Rattle.mio.specs.declared.event.event.Event.{Event}
-use Rattle.sector.specs.declared.device.Sectors.{Ghosts}
-use Rattle.sessions.specs.declared.events.Outcome.{Outcome}
+use Rattle.slab.specs.Slab.{Slab}
 use Rattle.sessions.specs.declared.events.Outcome.TheVariants.{Done}
-use Rattle.sessions.specs.declared.hub.Hub.{Hub}
-use Rattle.sessions.specs.Laws.{IsLawful, IsSessionStream}
-use Rattle.sessions.specs.SessionStreams.{HubState, SessionStream, Joins, hub_step, new_stream, run, stream_of}
-use Rattle.sessions.specs.StandsFor.{StandsFor, HubLeads}
+use Rattle.sessions.specs.Laws.{IsLawful, IsSessionStream, Ran}
 use Rattle.sessions.proofs.Reached.{reached}
-use Rattle.stream_driver.specs.declared.buffered.BufferedStream.{BufferedStream}
-use Rattle.stream_driver.specs.declared.entries.Entry.{Entry}
-use Rattle.stream_driver.specs.Buffers.{traffic_through}
-use Rattle.stream_driver.specs.Entries.{DrivenAll, HaveSessions}
-use Rattle.stream_driver.specs.Sessions.{Leads}
-use Rattle.stream_driver.specs.Traffic.{Traffic}
 use Rattle.stream_driver.proofs.Carry.{run_then}
-use Rattle.stream_driver.proofs.States.{Follow, leads_map, leads_two_at}
-use Rattle.event_loop.specs.declared.socket.Socket.{Socket}
+use Rattle.stream_driver.proofs.Events.{test}
+use Rattle.model.proofs.Lookups.{some_same}
+use Rattle.stream_driver.proofs.States.{Follow, leads_map, leads_two_at, leads_then}
+use Rattle.stream_driver.proofs.Events.{adds_none}
 use Rattle.event_loop.specs.Numbers.{AreBelow}
 use Rattle.event_loop.specs.Sockets.{IsNewSocket, SocketsTell, traffic_of}
 use Rattle.event_loop.specs.TableBytes.{ConnectionsSpeak, HaveBytes, KeepBytes, SocketsHaveBytes}
-use Rattle.event_loop.specs.Tables.{Admits, AdmitsEach, ComeEach, EndsTurn, LetsIn, after_poll, join_of, join_tried, joins_of, slot_at}
 use Rattle.event_loop.specs.Tables.AdmitsEach.{Nobody, OneMore}
-use Rattle.event_loop.proofs.Admits.{admits_numbers}
-use Rattle.event_loop.proofs.Entries.{some_inj}
-use Rattle.event_loop.proofs.Joins.{joins_not, joins_other, joins_same}
-use Rattle.event_loop.proofs.Present.{test}
-use Rattle.event_loop.proofs.TableBytes.{drives_bytes}
+use Rattle.event_loop.specs.declared.server.EventLoop.{EventLoop}
+use Rattle.event_loop.specs.Turns.{Accepted, IsGivenBack, accepted_joins}
+use Rattle.event_loop.proofs.Words.{Ghosts, Outcome, Hub, HubState, SessionStream, Joins, hub_step, new_stream, run, stream_of, StandsFor, HubLeads, BufferedStream, Entry, traffic_through, Leads, Adds, InSomeState, Point, Traffic, Socket, Admits, AdmitsEach, LetsIn, join_of, join_tried, joins_of, slot_at, Slots}
+use Rattle.event_loop.proofs.Tables.{TableStands, admits_table}
+use Rattle.event_loop.proofs.Present.{joins_not, joins_other, joins_same}
 
 -- ---- a connection that comes
 
 module _ {T D : Type 0} {g : Ghosts D} (tells : Type 0) (traffic : T → Traffic) (IsNew : ℕ → T → Type 0) (begins : (s : ℕ) (stream : T) → IsNew s stream → tells → ((traffic stream).given ≡ []) × ((traffic stream).taken ≡ [])) where
-  module _ (hub later : Hub D g) (next then : ℕ) (slots new : List (Option (Entry T))) (h : HubState) (stands : StandsFor hub h) (numbers : AreBelow next slots) (has : HaveBytes tells traffic h slots) where
+  module _ (hub later : Hub D g) (next then : ℕ) (slots new : Slots T) (h : HubState) (stands : StandsFor hub h) (numbers : AreBelow next slots) (has : HaveBytes tells traffic h slots) where
     in_bytes : (l : LetsIn IsNew hub next slots later then new) → HaveBytes tells traffic (hub_step h (Joins next) l.joined.0).0 new
     in_bytes l key entry e alive = elim (cases_eq key l.key) [
       | inl at ↦
-          let which : l.entry ≡ entry = some_inj (sym l.changed ∙ ap (slot_at new) (sym at) ∙ e) in
+          let which : l.entry ≡ entry = some_same (sym l.changed ∙ ap (slot_at new) (sym at) ∙ e) in
           let session : entry.session ≡ next = ap (λ (x : Entry T). x.session) (sym which) ∙ l.session in
           let fresh : IsNew entry.session entry.stream = subst (λ (x : Entry T). IsNew x.session x.stream) which l.fresh in (
             new_stream,
@@ -65,71 +57,80 @@ module _ {T D : Type 0} {g : Ghosts D} (tells : Type 0) (traffic : T → Traffic
     come_bytes (inr within) = ((reached hub later (Joins next) Done within.joined h stands).stands, in_bytes within)
 
   -- and more of them
-  pub each_bytes : {hub : Hub D g} {next : ℕ} {slots : List (Option (Entry T))} {count : ℕ} {later : Hub D g} {then : ℕ} {new : List (Option (Entry T))} (each : AdmitsEach IsNew hub next slots count later then new) (h : HubState)
-      → StandsFor hub h → AreBelow next slots → HaveBytes tells traffic h slots → StandsFor later (run h (joins_of each)) × AreBelow then new × HaveBytes tells traffic (run h (joins_of each)) new
-  each_bytes Nobody h stands numbers has = (stands, numbers, has)
-  each_bytes (OneMore count mid later number then between new each admits) h stands numbers has =
-      let before = each_bytes each h stands numbers has in
-      let now = come_bytes mid later number then between new (run h (joins_of each)) before.0 before.1 before.2 admits in
+  pub each_bytes : {hub : Hub D g} {next : ℕ} {slots : Slots T} {count : ℕ} {later : Hub D g} {then : ℕ} {new : Slots T} (each : AdmitsEach IsNew hub next slots count later then new) (h : HubState)
+      → StandsFor hub h → TableStands hub next slots → HaveBytes tells traffic h slots → StandsFor later (run h (joins_of each)) × TableStands later then new × HaveBytes tells traffic (run h (joins_of each)) new
+  each_bytes Nobody h stands holds has = (stands, holds, has)
+  each_bytes (OneMore count mid later number then between new each admits) h stands holds has =
+      let before = each_bytes each h stands holds has in
+      let now = come_bytes mid later number then between new (run h (joins_of each)) before.0 before.1.numbers before.2 admits in
       let joined = run_then h (joins_of each) (join_of IsNew mid number between later then new admits) in (
         subst (λ (x : HubState). StandsFor later x) (sym joined) now.0,
-        admits_numbers mid later number then between new IsNew admits before.1,
+        admits_table mid later number then between new IsNew admits before.1,
         subst (λ (x : HubState). HaveBytes tells traffic x new) (sym joined) now.1,
       )
 
 -- ---- sockets
 
 -- nothing has moved through a new connection
-new_begins : (s : ℕ) (b : BufferedStream Socket) → IsNewSocket s b → SocketsTell → ((traffic_through traffic_of b).given ≡ []) × ((traffic_through traffic_of b).taken ≡ [])
+pub new_begins : (s : ℕ) (b : BufferedStream Socket) → IsNewSocket s b → SocketsTell → ((traffic_through traffic_of b).given ≡ []) × ((traffic_through traffic_of b).taken ≡ [])
 new_begins s b n t = (
   ap (λ (s : Socket). (traffic_of s).given) n.2.inner_is ∙ n.1.given t,
   ap (λ l. (traffic_of b.inner).taken ++ l) n.2.nothing ∙ append-nil (traffic_of b.inner).taken ∙ ap (λ (s : Socket). (traffic_of s).taken) n.2.inner_is ∙ n.1.taken t,
 )
 
-module _ {D : Type 0} {g : Ghosts D} (hub later : Hub D g) where
-  module _ (moment : ℕ) (slots ready driven new : List (Option (Entry (BufferedStream Socket)))) (events : List Event) (polled : (key : ℕ) → slot_at ready key ≡ after_poll events key (slot_at slots key)) (sessions : HaveSessions hub ready)
-      (ended : (key : ℕ) → EndsTurn SocketsTell traffic_of moment (slot_at driven key) (slot_at new key)) (leads : Leads hub later (λ h k. DrivenAll SocketsTell (traffic_through traffic_of) h ready k driven)) where
-    pub drives_keep : KeepBytes hub slots later new
-    drives_keep = leads_map hub later _ _ leads (λ h k stands d has. drives_bytes SocketsTell traffic_of moment slots ready driven new events polled sessions.own ended h k d has)
-
--- and so it is of the connections that come
-pub sockets_come : {D : Type 0} {g : Ghosts D} {hub : Hub D g} {next : ℕ} {slots : List (Option (Entry (BufferedStream Socket)))} {count : ℕ} {later : Hub D g} {then : ℕ} {new : List (Option (Entry (BufferedStream Socket)))}
-    (each : AdmitsEach IsNewSocket hub next slots count later then new) (h : HubState) → StandsFor hub h → AreBelow next slots → HaveBytes SocketsTell (traffic_through traffic_of) h slots → HaveBytes SocketsTell (traffic_through traffic_of) (run h (joins_of each)) new
-sockets_come each h stands numbers has = (each_bytes SocketsTell (traffic_through traffic_of) IsNewSocket new_begins each h stands numbers has).2
-
--- the drives of a turn, and then its accepts
-module _ {D : Type 0} {g : Ghosts D} (follow : Follow D g) (hub mid later : Hub D g) (next then count refused counted : ℕ) (slots between new : List (Option (Entry (BufferedStream Socket)))) (come : ComeEach IsNewSocket mid next between refused count later then new counted)
-    (numbers : AreBelow next between) where
-  pub turn_keeps : KeepBytes hub slots mid between → KeepBytes hub slots later new
-  turn_keeps keeps =
-      leads_two_at follow hub mid later _ _ _ keeps come.1
-      (λ h k l stands last kept adds has.
-      subst (λ (x : HubState). HaveBytes SocketsTell (traffic_through traffic_of) x new) (sym adds.run_is)
-      (each_bytes SocketsTell (traffic_through traffic_of) IsNewSocket new_begins come.0 k.hub stands numbers (kept has)).2)
-
 -- ---- what the connections say
 
 pub all_found : (s : ℕ) (es : List (ℕ × SessionStream)) (st : SessionStream) → AllByRecursion (λ e. IsSessionStream e.1) es → lookup (test s) es ≡ Some st → IsSessionStream st
-all_found s [] st all e = absurd (let bad : None ≡ Some st = e in cc)
-all_found s (x ∷ xs) st all e =
-    elim (test s x.0) as (λ b. cond b (Some x.1) (lookup (test s) xs) ≡ Some st → IsSessionStream st) [
-      | true ↦ λ k. let same : x.1 ≡ st = cc in subst IsSessionStream same all.0
-      | false ↦ λ k. all_found s xs st all.1 k
-    ] e
+all_found s es st all e = subst (λ o. IfSome o IsSessionStream) e (All-lookup IsSessionStream (test s) es (All-from_recursion (λ x. IsSessionStream x.1) es all))
 
-pub they_speak : {D : Type 0} {g : Ghosts D} (hub : Hub D g) (slots : List (Option (Entry (BufferedStream Socket)))) → ((h : HubState) → StandsFor hub h → IsLawful h) → SocketsHaveBytes hub slots → SocketsTell → ConnectionsSpeak hub slots
-they_speak hub slots laws some tells = ∥∥₁_map some (λ w. (
+pub they_speak : {D : Type 0} {g : Ghosts D} (hub : Hub D g) (slots : Slots (BufferedStream Socket)) → ((h : HubState) → StandsFor hub h → IsLawful h) → SocketsHaveBytes hub slots → SocketsTell → ConnectionsSpeak hub slots
+they_speak hub slots laws some tells = ∥∥₁_map some (λ w.
     let lawful = laws w.0 w.1 in (
       w.0,
       w.1,
       (
         lawful,
-        λ key entry e alive. (
+        λ key entry e alive.
             let has = w.2 key entry e alive in
             let is : IsSessionStream has.0 = all_found entry.session w.0.present has.0 lawful.present has.1 in
             let carried = has.2 tells in
-            (has.0, has.1, record { rest = is.rest; inbox = is.inbox; came = carried.0 ∙ is.input; went = is.output ∙ ap (λ l. l ++ has.0.now.pending) (sym carried.1) })
-            ),
+            (has.0, has.1, record { rest = is.rest; inbox = is.inbox; came = carried.0 ∙ is.input; went = is.output ∙ ap (λ l. l ++ has.0.now.pending) (sym carried.1) }),
       ),
-    )
     ))
+
+-- ---- the end of a turn
+
+pub in_some : {D : Type 0} {g : Ghosts D} (hub later : Hub D g) → Ran hub later [] → (P : HubState → Type 0) → InSomeState hub P → InSomeState later P
+in_some hub later ran P some = ∥∥₁_map some (λ w. (w.0, ran.2.stands w.0 w.1, w.2))
+
+module _ {D : Type 0} {g : Ghosts D} (follow : Follow D g) (old : Hub D g) (driven accepted : EventLoop D g) where
+  -- what led to the hub before it accepted, if it did, and then its joins
+  pub then_accepts : (P : Point → Point → Type 0) → Leads old driven.hub P → (due : Bool) (accepts : Accepted due driven accepted) → Leads old accepted.hub (λ h l. (k : Point) × P h k × Adds k (accepted_joins due driven accepted accepts) l)
+  then_accepts P leads true accepts = leads_then follow old driven.hub accepted.hub P _ _ leads accepts.became.1 (λ h k l last p q. (k, p, q))
+  then_accepts P leads false untouched =
+      subst (λ (x : Hub D g). Leads old x (λ h l. (k : Point) × P h k × Adds k [] l)) (sym untouched.hub) (leads_map old driven.hub P _ leads (λ h k last p. (k, p, adds_none k)))
+
+  pub accepts_keep : (slots : Slots (BufferedStream Socket)) → KeepBytes old slots driven.hub driven.table.slots → (due : Bool) → Accepted due driven accepted → KeepBytes old slots accepted.hub accepted.table.slots
+  accepts_keep slots keeps true accepts =
+      let holds : TableStands driven.hub driven.next driven.table.slots = record { stands = driven.stands; sessions = driven.sessions; numbers = driven.numbers; entries = driven.entries } in
+      leads_two_at follow old driven.hub accepted.hub _ _ _ keeps accepts.became.1 (λ h k l stands last kept adds has.
+      subst (λ (x : HubState). HaveBytes SocketsTell (traffic_through traffic_of) x accepted.table.slots) (sym adds.run_is)
+      (each_bytes SocketsTell (traffic_through traffic_of) IsNewSocket new_begins accepts.became.0 k.hub stands holds (kept has)).2)
+  accepts_keep slots keeps false untouched =
+      subst (λ (t : Slab (Entry (BufferedStream Socket))). KeepBytes old slots accepted.hub t.slots) (sym untouched.table)
+      (subst (λ (x : Hub D g). KeepBytes old slots x driven.table.slots) (sym untouched.hub) keeps)
+
+-- what led to the hub before it rested leads to it
+module _ {D : Type 0} {g : Ghosts D} (follow : Follow D g) (old : Hub D g) (accepted new : EventLoop D g) (given : IsGivenBack accepted new) where
+  pub rest_leads : (P : Point → Point → Type 0) → Leads old accepted.hub P → Leads old new.hub P
+  rest_leads P leads =
+      let ran = given.hub.ran in
+      let rests : Leads accepted.hub new.hub (λ h k. k ≡ h) = record {
+        choices = [];
+        ran = ran;
+        to = λ h at. (h, record { state = ran.2.stands h.hub at.state; count = at.count ∙ sym (ap (λ (d : D). g.failures d) ran.2.device_is) }, (adds_none h, refl));
+      } in
+      leads_then follow old accepted.hub new.hub P _ P leads rests (λ h k l stands p same. subst (λ (x : Point). P h x) (sym same) p)
+
+  pub rest_keeps : (slots : Slots (BufferedStream Socket)) → KeepBytes old slots accepted.hub accepted.table.slots → KeepBytes old slots new.hub new.table.slots
+  rest_keeps slots keeps = subst (λ (t : Slab (Entry (BufferedStream Socket))). KeepBytes old slots new.hub t.slots) (sym given.table) (rest_leads _ keeps)

@@ -5,6 +5,7 @@ use Rattle.socket_calls.specs.HappenedCalls.{SendsAtOnce, WasReceived, WasSent}
 use Rattle.socket_calls.specs.declared.counted.CountedSocket.{CountedSocket}
 use Rattle.stream_driver.specs.declared.buffered.BufferedStream.{BufferedStream}
 use Rattle.stream_driver.specs.Buffers.{IsNew}
+use Rattle.stream_driver.specs.Counts.{counted_with}
 use Rattle.stream_driver.specs.Traffic.{Departure, Traffic, IsUncalled}
 use Rattle.event_loop.specs.declared.socket.Socket.{Socket}
 
@@ -25,18 +26,7 @@ session_of s = s.socket.connection
 
 -- the bytes of a socket's connection, what left at which moment, its counts, its last call, and its number
 abbrev pub traffic_of : Socket → Traffic
-traffic_of s = record {
-  given = given s.socket;
-  taken = taken s.socket;
-  departed = map departure_of (departed s.socket);
-  read_blocked = s.read_blocked;
-  read_failed = s.read_failed;
-  read_ended = s.read_ended;
-  write_blocked = s.write_blocked;
-  write_failed = s.write_failed;
-  last = s.last;
-  connection = s.socket.connection;
-}
+traffic_of s = counted_with s.counts (given s.socket) (taken s.socket) (map departure_of (departed s.socket)) s.socket.connection
 
 -- the stream of a connection for this session, of which no call was made, of which nothing is held, and which sends what it takes at once
 abbrev pub IsNewSocket : ℕ → BufferedStream Socket → Type 0

@@ -12,23 +12,18 @@ use mio::{Poll, Token};
 use sector::Sectors;
 use socket_calls::CountedSocket;
 use std::io::{self, ErrorKind};
-use stream_driver::{Call, ReadAnswer, Stream, WriteAnswer};
+use stream_driver::{CallCounts, ReadAnswer, Stream, WriteAnswer};
 
 /// A TCP connection as a stream. That its calls move the bytes that its traffic tells is a premise of whoever relies on it: neither
 /// claimed here nor denied. An interrupted call, and a write that takes no byte, are `Failed`; a read that gives none is `Ended`.
 #[derive(Drop)]
 pub struct Socket {
     socket: CountedSocket,
-    read_blocked: u64,
-    read_failed: u64,
-    read_ended: u64,
-    write_blocked: u64,
-    write_failed: u64,
-    last: Option<Call>,
+    counts: CallCounts,
 }
 
 impl Socket {
-    ghost use Rattle.stream_driver.specs.Traffic.{EndsWith, IsUncalled};
+    ghost use Rattle.stream_driver.specs.Traffic.{IsUncalled};
     ghost use Rattle.std.specs.Prelude.{OnOk};
     ghost use Rattle.socket_calls.specs.HappenedCalls.{SendsAtOnce};
     ghost use Rattle.event_loop.specs.Lingerings.{IsInOrder};
@@ -40,12 +35,7 @@ impl Socket {
     {
         Socket {
             socket: CountedSocket::new(stream, connection),
-            read_blocked: 0,
-            read_failed: 0,
-            read_ended: 0,
-            write_blocked: 0,
-            write_failed: 0,
-            last: None,
+            counts: CallCounts::new(),
         }
     }
 
@@ -60,7 +50,8 @@ impl Socket {
     pub(crate) fn is_in_order(&self) -> bool
         ensures { (result ≡ true) ↔ IsInOrder (traffic_of self.now) }
     {
-        self.read_failed == 0 && self.read_ended == 0 && self.write_failed == 0
+        let counts = &self.counts;
+        counts.read_failed == 0 && counts.read_ended == 0 && counts.write_failed == 0
     }
 
     /// Shuts the connection down for writing once what was written has gone, and has the poll tell under this token of what still comes.
@@ -68,33 +59,6 @@ impl Socket {
         ensures { self.new ≡ self.old }
     {
         self.socket.half_close(poll, token)
-    }
-
-    // One more read, with this answer.
-    fn note_read(&mut self, answer: ReadAnswer)
-        ensures noted { EndsWith (Call.Read answer) (traffic_of self.old) (traffic_of self.new) }
-        ensures socket { self.new.socket ≡ self.old.socket }
-    {
-        match answer {
-            ReadAnswer::Moved(_) => {}
-            ReadAnswer::Blocked => self.read_blocked = self.read_blocked.saturating_add(1),
-            ReadAnswer::Failed => self.read_failed = self.read_failed.saturating_add(1),
-            ReadAnswer::Ended => self.read_ended = self.read_ended.saturating_add(1),
-        }
-        self.last = Some(Call::Read(answer));
-    }
-
-    // One more write, with this answer.
-    fn note_write(&mut self, answer: WriteAnswer)
-        ensures noted { EndsWith (Call.Write answer) (traffic_of self.old) (traffic_of self.new) }
-        ensures socket { self.new.socket ≡ self.old.socket }
-    {
-        match answer {
-            WriteAnswer::Moved(_) => {}
-            WriteAnswer::Blocked => self.write_blocked = self.write_blocked.saturating_add(1),
-            WriteAnswer::Failed => self.write_failed = self.write_failed.saturating_add(1),
-        }
-        self.last = Some(Call::Write(answer));
     }
 }
 
@@ -143,13 +107,13 @@ impl Stream for Socket {
     fn read<D: Sectors>(&mut self, device: &D, into: &mut [u8]) -> ReadAnswer {
         let _ = device;
         let answer = read_answer(self.socket.read(into));
-        self.note_read(answer);
+        self.counts.note_read(answer);
         answer
     }
 
     fn write<D: Sectors>(&mut self, device: &D, from: &[u8]) -> WriteAnswer {
         let answer = write_answer(self.socket.write(device, from));
-        self.note_write(answer);
+        self.counts.note_write(answer);
         answer
     }
 }

@@ -1,117 +1,79 @@
 -- How far runs are merged: laws of runs of any kind with sizes.
-use Rattle.std.proofs.Common.{◌≡◌, ◌+◌, ◌≤◌, ◌<◌, ℕ, zero, suc, Bool, true, false, cond, List, [], ◌∷◌, ◌++◌, length, get_or, take, drop, map, refl, sym, ap, ◌∙◌, arith}
-use Rattle.std.specs.Prelude.{nat_lt, ◌||◌}
+use Rattle.std.proofs.Common.{◌≡◌, ◌+◌, ◌≤◌, ◌<◌, ℕ, zero, suc, Bool, true, false, List, [], ◌∷◌, ◌++◌, length, get_or, take, drop, map, refl, sym, ap, ◌∙◌, arith}
+use Rattle.std.specs.Prelude.{◌||◌}
 use Rattle.std.specs.List.{remove}
 use Rattle.std.proofs.Math.ListN.{set}
-use Rattle.std.proofs.lemmas.Bool.{lt-ltb, le-ltb, both_ways}
+use Rattle.std.proofs.Math.Seq.{drop-cons, drop-nil}
+use Rattle.std.proofs.lemmas.Bool.Decides.{nat_tests}
+use Rattle.std.proofs.lemmas.List.{append_assoc, at_drop_all, drop-drop, drop-map, get_or_at, get_or_read, length-map, length-take-le, map-append, nil_from_length, set_at, take-append-drop, take_more}
 use Rattle.last_readers.specs.RunSizes.{RunSize, left_above, has_alike, joined, IsBegun, lasts_of}
 
-pub sizes_added : {R : Type 0} (size : R → RunSize) (rs : List R) (r : R) → map size (rs ++ r ∷ []) ≡ map size rs ++ size r ∷ []
-sizes_added size [] r = refl
-sizes_added size (q ∷ rs) r = ap (λ l. size q ∷ l) (sizes_added size rs r)
-
 -- ---- two runs beside one another
+
+-- two looks at one place
+pub same_run : {R : Type 0} (rs : List R) (i : ℕ) (a b : R) → i < length rs → a ≡ get_or rs i a → b ≡ get_or rs i b → a ≡ b
+same_run rs i a b lt h g = get_or_read rs i a lt h b ∙ sym g
 
 -- one is made of them: `first` and `second` are what `a` and `b` are
 pub begun_at : {R : Type 0} (size : R → RunSize) (alike : RunSize → RunSize → Bool) (rs left : List R) (i j : ℕ) (a b first second is : R) → i ≡ suc j → i < length rs → a ≡ get_or rs j a → b ≡ get_or rs i b → left ≡ remove rs i → second ≡ get_or rs i second → first ≡ get_or left j first
     → alike (size a) (size b) ≡ true → size is ≡ joined (size first) (size second) → IsBegun alike (map size rs) (map size (set left j is))
 begun_at {R} size alike rs left i j a b first second is next lt a_is b_is without second_is first_is are whole =
-    let same : map size (set left j is) ≡ map size (set (remove rs (suc j)) j is) = (λ k. map size (set (without k) j is)) ∙ ap (λ n. map size (set (remove rs n) j is)) next in
-    let b = by rs j (omega arith) a_is (b_is ∙ ap (λ n. get_or rs n b) next) (second_is ∙ ap (λ n. get_or rs n second) next) (first_is ∙ (λ k. get_or (without k) j first) ∙ ap (λ n. get_or (remove rs n) j first) next) in
-    record { earlier = b.earlier; first = b.first; second = b.second; later = b.later; are = b.are; was = b.was; is = same ∙ b.is }
-  where
-    by : (rs : List R) (j : ℕ) → suc j < length rs → a ≡ get_or rs j a → b ≡ get_or rs (suc j) b → second ≡ get_or rs (suc j) second → first ≡ get_or (remove rs (suc j)) j first → IsBegun alike (map size rs) (map size (set (remove rs (suc j)) j is))
-    by [] j lt a_at b_at s f = absurd (omega arith)
-    by (q ∷ []) j lt a_at b_at s f = absurd (omega arith)
-    by (q ∷ p ∷ l) zero lt a_at b_at s f = record {
-      earlier = [];
-      first = size q;
-      second = size p;
-      later = map size l;
-      was = refl;
-      are = (λ k. alike (size (sym a_at k)) (size (sym b_at k))) ∙ are;
-      is = ap (λ r. r ∷ map size l) (whole ∙ (λ k. joined (size (f k)) (size (s k))));
+    let front = take j rs in
+    let behind = drop (suc i) rs in
+    let more : i ≡ j + 1 = omega arith in
+    let taken : take i rs ≡ front ++ a ∷ [] = ap (λ n. take n rs) more ∙ take_more rs j a (omega arith) ∙ ap (λ r. front ++ r ∷ []) (sym a_is) in
+    let rest : drop i rs ≡ b ∷ behind = drop-cons rs i b lt ∙ ap (λ r. r ∷ behind) (sym b_is) in
+    let all : rs ≡ front ++ a ∷ b ∷ behind = sym (take-append-drop i rs) ∙ (λ k. taken k ++ rest k) ∙ append_assoc front (a ∷ []) (b ∷ behind) in
+    let out : left ≡ front ++ a ∷ behind = without ∙ ap (λ l. l ++ behind) taken ∙ append_assoc front (a ∷ []) behind in
+    let at : length front ≡ j = length-take-le j rs (omega arith) in
+    let one : first ≡ a = first_is ∙ ap (λ (l : List R). get_or l j first) out ∙ get_or_at front a behind first j at in
+    let two : second ≡ b = same_run rs i second b lt second_is b_is in
+    record {
+      earlier = map size front;
+      first = size a;
+      second = size b;
+      later = map size behind;
+      are = are;
+      was = ap (map size) all ∙ map-append size front (a ∷ b ∷ behind);
+      is = ap (map size) (ap (λ (l : List R). set l j is) out ∙ set_at front a behind is j at) ∙ map-append size front (is ∷ behind)
+          ∙ ap (λ s. map size front ++ s ∷ map size behind) (whole ∙ (λ k. joined (size (one k)) (size (two k))));
     }
-    by (q ∷ p ∷ l) (suc j) lt a_at b_at s f =
-        let rest = by (p ∷ l) j (omega arith) a_at b_at s f in
-        record {
-          earlier = size q ∷ rest.earlier;
-          first = rest.first;
-          second = rest.second;
-          later = rest.later;
-          are = rest.are;
-          was = ap (λ l. size q ∷ l) rest.was;
-          is = ap (λ l. size q ∷ l) rest.is;
-        }
 
 -- they aren't alike
 pub unlike_at : {R : Type 0} (size : R → RunSize) (alike : RunSize → RunSize → Bool) (rs : List R) (i j : ℕ) (first second : R) → i ≡ suc j → i < length rs → first ≡ get_or rs j first → second ≡ get_or rs i second
     → alike (size first) (size second) ≡ false → has_alike alike (take 2 (drop j (map size rs))) ≡ false
-unlike_at {R} size alike rs i j first second next lt first_is second_is unlike = ap (has_alike alike) (by rs j (omega arith) first_is (second_is ∙ ap (λ n. get_or rs n second) next)) ∙ ap (λ b. b || (false || false)) unlike
-  where
-    by : (rs : List R) (j : ℕ) → suc j < length rs → first ≡ get_or rs j first → second ≡ get_or rs (suc j) second → take 2 (drop j (map size rs)) ≡ size first ∷ size second ∷ []
-    by [] j lt f s = absurd (omega arith)
-    by (q ∷ []) j lt f s = absurd (omega arith)
-    by (q ∷ p ∷ l) zero lt f s = (λ k. size (sym f k) ∷ size (sym s k) ∷ [])
-    by (q ∷ p ∷ l) (suc j) lt f s = by (p ∷ l) j (omega arith) f s
+unlike_at {R} size alike rs i j first second next lt first_is second_is unlike =
+    let one = drop-cons rs j first (omega arith) in
+    let two = drop-cons rs (suc j) second (omega arith) in
+    let at = ap (λ (l : List R). has_alike alike (take 2 (map size l))) (one ∙ ap (λ l. get_or rs j first ∷ l) two) in
+    ap (λ l. has_alike alike (take 2 l)) (drop-map size j rs) ∙ at
+    ∙ (λ k. alike (size (sym first_is k)) (size (sym (rw next at second_is) k)) || (false || false)) ∙ ap (λ b. b || (false || false)) unlike
 
 -- nor are two of those behind them
 pub unlike_from : (alike : RunSize → RunSize → Bool) (rs : List RunSize) (i j : ℕ) → i ≡ suc j → has_alike alike (take 2 (drop j rs)) ≡ false → has_alike alike (drop i rs) ≡ false → has_alike alike (drop j rs) ≡ false
-unlike_from alike rs i j next here behind = by rs j here (ap (λ n. has_alike alike (drop n rs)) (sym next) ∙ behind)
+unlike_from alike rs i j next here behind =
+    let more : j + 1 ≡ i = omega arith in
+    by (drop j rs) here (ap (has_alike alike) (drop-drop 1 j rs ∙ ap (λ n. drop n rs) more) ∙ behind)
   where
-    by : (rs : List RunSize) (j : ℕ) → has_alike alike (take 2 (drop j rs)) ≡ false → has_alike alike (drop (suc j) rs) ≡ false → has_alike alike (drop j rs) ≡ false
-    by [] zero h g = refl
-    by [] (suc j) h g = refl
-    by (q ∷ []) zero h g = refl
-    by (q ∷ p ∷ l) zero h g = each (alike q p) h
-      where
-        each : (b : Bool) → (b || (false || false)) ≡ false → (b || has_alike alike (p ∷ l)) ≡ false
-        each true e = absurd (both_ways true e refl)
-        each false e = g
-    by (q ∷ l) (suc j) h g = by l j h g
+    by : (rs : List RunSize) → has_alike alike (take 2 rs) ≡ false → has_alike alike (drop 1 rs) ≡ false → has_alike alike rs ≡ false
+    by [] h g = refl
+    by (q ∷ []) h g = refl
+    by (q ∷ p ∷ l) h g = grind arith
 
 -- of one run there are no two
 pub none_alike : {R : Type 0} (size : R → RunSize) (alike : RunSize → RunSize → Bool) (rs : List R) (i : ℕ) → length rs ≤ i + 1 → has_alike alike (drop i (map size rs)) ≡ false
-none_alike size alike [] zero le = refl
-none_alike size alike [] (suc i) le = refl
-none_alike size alike (q ∷ []) zero le = refl
-none_alike size alike (q ∷ p ∷ l) zero le = absurd (omega arith)
-none_alike size alike (q ∷ l) (suc i) le = none_alike size alike l i (omega arith)
+none_alike size alike [] i le = ap (has_alike alike) (drop-nil i)
+none_alike size alike (q ∷ rs) zero le = ap (λ l. has_alike alike (size q ∷ map size l)) (nil_from_length rs (omega arith))
+none_alike size alike (q ∷ rs) (suc i) le = none_alike size alike rs i (omega arith)
 
 -- ---- what is left to move
-
--- two looks at one place
-pub same_run : {R : Type 0} (rs : List R) (i : ℕ) (a b : R) → i < length rs → a ≡ get_or rs i a → b ≡ get_or rs i b → a ≡ b
-same_run [] i a b lt h g = absurd (omega arith)
-same_run (q ∷ rs) zero a b lt h g = h ∙ sym g
-same_run (q ∷ rs) (suc i) a b lt h g = same_run rs i a b (omega arith) h g
-
-abbrev part_of : ℕ → RunSize → ℕ
-part_of o s = cond (nat_lt o s.last) s.left 0
-
-whole_part : (o : ℕ) (s : RunSize) → o < s.last → part_of o s ≡ s.left
-whole_part o s lt = ap (λ b. cond b s.left 0) (lt-ltb o s.last lt)
-
-no_part : (o : ℕ) (s : RunSize) → s.last ≤ o → part_of o s ≡ 0
-no_part o s le = ap (λ b. cond b s.left 0) (le-ltb o s.last le)
 
 -- another in the place of a run
 pub left_changed : {R : Type 0} (size : R → RunSize) (o : ℕ) (rs : List R) (i : ℕ) (was is : R) → i < length rs → was ≡ get_or rs i was → o < (size was).last → (size is).last ≡ (size was).last
     → left_above o (map size (set rs i is)) + (size was).left ≡ left_above o (map size rs) + (size is).left
-left_changed {R} size o rs i was is lt at above same =
-    ap (λ n. left_above o (map size (set rs i is)) + n) (sym (whole_part o (size was) above)) ∙ by rs i lt at ∙ ap (λ n. left_above o (map size rs) + n) (whole_part o (size is) (omega arith))
-  where
-    by : (rs : List R) (i : ℕ) → i < length rs → was ≡ get_or rs i was → left_above o (map size (set rs i is)) + part_of o (size was) ≡ left_above o (map size rs) + part_of o (size is)
-    by [] i lt at = absurd (omega arith)
-    by (q ∷ rs) zero lt at =
-        let n = part_of o (size is) in
-        let m = left_above o (map size rs) in
-        let turn : (n + m) + part_of o (size was) ≡ (part_of o (size was) + m) + n = omega arith in
-        turn ∙ (λ k. (part_of o (size (at k)) + m) + n)
-    by (q ∷ rs) (suc i) lt at =
-        let n = part_of o (size q) in
-        let rest = by rs i (omega arith) at in
-        omega (arith, rest)
+left_changed size o [] i was is lt at above same = absurd (omega arith)
+left_changed size o (q ∷ rs) zero was is lt at above same = grind (arith, nat_tests, ap size at)
+left_changed size o (q ∷ rs) (suc i) was is lt at above same = let rest = left_changed size o rs i was is (omega arith) at above same in omega (arith, rest)
 
 -- a number of the run's size that stays
 pub number_kept : {R : Type 0} (size : R → RunSize) (number : RunSize → ℕ) (rs : List R) (i : ℕ) (was is : R) → i < length rs → was ≡ get_or rs i was → number (size is) ≡ number (size was) → map number (map size (set rs i is)) ≡ map number (map size rs)
@@ -124,36 +86,27 @@ lasts_changed size rs i was is lt at same = number_kept size (λ r. r.last) rs i
 
 -- nothing is left in a run, nor in those behind it
 pub none_left : {R : Type 0} (size : R → RunSize) (o : ℕ) (rs : List R) (i j : ℕ) (is : R) → j ≡ suc i → (size is).left ≡ 0 → left_above o (drop j (map size rs)) ≡ 0 → left_above o (drop i (map size (set rs i is))) ≡ 0
-none_left {R} size o rs i j is next none behind = by rs i (ap (λ n. left_above o (drop n (map size rs))) (sym next) ∙ behind)
+none_left {R} size o rs i j is next none behind = by rs i (rw next at behind)
   where
-    nothing : (b : Bool) → cond b (size is).left 0 ≡ 0
-    nothing true = none
-    nothing false = refl
-
     by : (rs : List R) (i : ℕ) → left_above o (drop (suc i) (map size rs)) ≡ 0 → left_above o (drop i (map size (set rs i is))) ≡ 0
-    by [] zero h = refl
-    by [] (suc i) h = refl
-    by (q ∷ rs) zero h = let z = nothing (nat_lt o (size is).last) in omega arith
+    by [] i h = ap (left_above o) (drop-nil i)
+    by (q ∷ rs) zero h = grind (arith, none)
     by (q ∷ rs) (suc i) h = by rs i h
 
 -- a run without numbers above that one is passed over
 pub passed_left : {R : Type 0} (size : R → RunSize) (o : ℕ) (rs : List R) (i j : ℕ) (r : R) → j ≡ suc i → r ≡ get_or rs i r → (size r).last ≤ o → left_above o (drop j (map size rs)) ≡ 0 → left_above o (drop i (map size rs)) ≡ 0
-passed_left {R} size o rs i j r next at old behind = by rs i at (ap (λ n. left_above o (drop n (map size rs))) (sym next) ∙ behind)
+passed_left {R} size o rs i j r next at old behind = by rs i at (rw next at behind)
   where
     by : (rs : List R) (i : ℕ) → r ≡ get_or rs i r → left_above o (drop (suc i) (map size rs)) ≡ 0 → left_above o (drop i (map size rs)) ≡ 0
-    by [] zero at h = refl
-    by [] (suc i) at h = refl
-    by (q ∷ rs) zero at h = let z : part_of o (size q) ≡ 0 = sym (ap (λ p. part_of o (size p)) at) ∙ no_part o (size r) old in omega arith
+    by [] i at h = ap (left_above o) (drop-nil i)
+    by (q ∷ rs) zero at h = grind (arith, nat_tests, ap size at)
     by (q ∷ rs) (suc i) at h = by rs i at h
 
 pub past_left : {R : Type 0} (size : R → RunSize) (o : ℕ) (rs : List R) (i : ℕ) → length rs ≤ i → left_above o (drop i (map size rs)) ≡ 0
-past_left size o [] zero le = refl
-past_left size o [] (suc i) le = refl
-past_left size o (q ∷ rs) zero le = absurd (omega arith)
-past_left size o (q ∷ rs) (suc i) le = past_left size o rs i (omega arith)
+past_left size o rs i le = at_drop_all (left_above o) (map size rs) i (omega (arith, length-map rs size))
 
 -- such a run is taken out
 pub left_without : {R : Type 0} (size : R → RunSize) (o : ℕ) (rs : List R) (i : ℕ) (r : R) → i < length rs → r ≡ get_or rs i r → (size r).last ≤ o → left_above o (map size (remove rs i)) ≡ left_above o (map size rs)
 left_without size o [] i r lt at old = absurd (omega arith)
-left_without size o (q ∷ rs) zero r lt at old = let z : part_of o (size q) ≡ 0 = sym (ap (λ p. part_of o (size p)) at) ∙ no_part o (size r) old in omega arith
-left_without size o (q ∷ rs) (suc i) r lt at old = ap (λ n. part_of o (size q) + n) (left_without size o rs i r (omega arith) at old)
+left_without size o (q ∷ rs) zero r lt at old = grind (arith, nat_tests, ap size at)
+left_without size o (q ∷ rs) (suc i) r lt at old = let rest = left_without size o rs i r (omega arith) at old in omega (arith, rest)

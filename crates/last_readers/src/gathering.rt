@@ -8,7 +8,7 @@ ghost use Rattle.last_readers.specs.Steps.{StepValue, number_at, steps_rise, spa
 
 use crate::merging::merge;
 use crate::step::Step;
-use marks::{Held, MarkRef};
+use marks::{MarkRef, OwnedMark};
 use model::{Key, KeyRef, Memory};
 use std::alloc::Global;
 use std::cmp::Ordering;
@@ -73,7 +73,7 @@ fn steps_of_mark(alloc: Global, mark: MarkRef<'_>) -> Result<VecDeque<Step>, Mem
 }
 
 // The same for the first mark, if there is one, and no other.
-fn steps_of_first(alloc: Global, marks: &[Held]) -> Result<VecDeque<Step>, Memory>
+fn steps_of_first(alloc: Global, marks: &[OwnedMark]) -> Result<VecDeque<Step>, Memory>
     requires { length marks.now ≤ 1 }
     ensures rising { IfOk result (λ v. IsTrue (steps_rise v.items)) }
     ensures covers { IfOk result (λ v. (k : Bytes) → number_at v.items k ≡ (if is_covered (marks_of marks.now) k then 1 else 0)) }
@@ -85,7 +85,7 @@ fn steps_of_first(alloc: Global, marks: &[Held]) -> Result<VecDeque<Step>, Memor
 }
 
 // 1 at the keys that some mark covers, 0 at the others: each half of the marks by itself, and then both as one.
-pub(crate) fn steps_of(alloc: Global, marks: &[Held]) -> Result<VecDeque<Step>, Memory>
+pub(crate) fn steps_of(alloc: Global, marks: &[OwnedMark]) -> Result<VecDeque<Step>, Memory>
     ensures rising { IfOk result (λ v. IsTrue (steps_rise v.items)) }
     ensures covers { IfOk result (λ v. (k : Bytes) → number_at v.items k ≡ (if is_covered (marks_of marks.now) k then 1 else 0)) }
 {

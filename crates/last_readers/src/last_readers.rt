@@ -9,7 +9,7 @@ ghost use Rattle.last_readers.specs.Inside.{held_of, size_of};
 
 use crate::gathering::steps_of;
 use crate::merges::{add_run, greatest_in, is_one_old, move_runs, open_last, take_old};
-use crate::run::{Ready, Run};
+use crate::run::{ReadRun, Ready};
 use crate::stale::Stale;
 use marks::Marks;
 use model::{KeyRef, Memory};
@@ -35,7 +35,7 @@ const GIVEN_BACK_MAX: usize = 1_024;
 /// both runs do, so that no commit is long; it takes the places of both runs until it has ended.
 #[derive(Drop)]
 pub struct LastReaders {
-    runs: Vec<Run>,
+    runs: Vec<ReadRun>,
     oldest: u64,
     // the steps of the marks that are noted next
     ready: Option<Ready>,
@@ -143,7 +143,7 @@ impl LastReaders {
         };
         let count = ready.steps.len();
         if count > 0 {
-            add_run(&mut self.runs, Run::numbered(ready, n));
+            add_run(&mut self.runs, ReadRun::numbered(ready, n));
         }
         count
     }
@@ -179,7 +179,7 @@ impl LastReaders {
     }
 
     // Takes out a run all of whose numbers are forgotten, if there is one.
-    fn take_old(&mut self) -> Option<Run>
+    fn take_old(&mut self) -> Option<ReadRun>
         ensures same { (key : Bytes) → last_reader self.new.readers key ≡ last_reader self.old.readers key }
         ensures oldest { self.new.readers.oldest ≡ self.old.readers.oldest }
         ensures due { due_of self.old ≡ size_of result + due_of self.new }
@@ -213,7 +213,7 @@ impl LastReaders {
     }
 
     // Gives back so much at most of a run that was taken out, the whole of it at once where that is enough.
-    fn give_back_run(&mut self, run: Run, most: usize) -> usize
+    fn give_back_run(&mut self, run: ReadRun, most: usize) -> usize
         requires none { self.old.held.taken ≡ 0 }
         requires some { 0 < most }
         requires most { most ≤ given_a_forget }

@@ -10,12 +10,12 @@ ghost use Rattle.last_readers.specs.Held.{size_upto};
 ghost use Rattle.last_readers.specs.RunSizes.{IsEnded, IsMoved, IsTried, are_alike, has_alike, lasts_of, left_above, one_more};
 ghost use Rattle.last_readers.specs.Inside.{runs_in, held_in, size_of, sizes_of, sizes_in};
 
-use crate::run::Run;
+use crate::run::ReadRun;
 use model::KeyRef;
 use std::collections::VecDeque;
 
 // The greatest number that a run has at the key, where it is above `begin`. Runs without such a number are passed over.
-pub(crate) fn greatest_in(runs: &[Run], key: KeyRef<'_>, begin: u64) -> u64
+pub(crate) fn greatest_in(runs: &[ReadRun], key: KeyRef<'_>, begin: u64) -> u64
     ensures { cut begin result ≡ cut begin (greatest_at (runs_in runs.now) key.entry.bytes.now) }
 {
     let mut greatest = 0;
@@ -28,7 +28,7 @@ pub(crate) fn greatest_in(runs: &[Run], key: KeyRef<'_>, begin: u64) -> u64
 }
 
 // Adds a run in the room that is there.
-pub(crate) fn add_run(runs: &mut Vec<Run>, run: Run)
+pub(crate) fn add_run(runs: &mut Vec<ReadRun>, run: ReadRun)
     requires { vec_len runs.old < vec_capacity runs.old }
     ensures sizes { sizes_in runs.new.items ≡ sizes_in runs.old.items ++ sizes_of run ∷ [] }
     ensures numbers { (k : Bytes) → greatest_at (runs_in runs.new.items) k ≡ max (greatest_at (runs_in runs.old.items) k) (merged_at run.first.items run.second.items run.made.items k) }
@@ -40,21 +40,21 @@ pub(crate) fn add_run(runs: &mut Vec<Run>, run: Run)
 }
 
 // The place of the first run that has no number above `oldest`.
-fn first_old(runs: &[Run], oldest: u64) -> Option<usize>
+fn first_old(runs: &[ReadRun], oldest: u64) -> Option<usize>
     ensures { result ≡ position (λ r. nat_le r.last oldest) runs.now }
 {
     runs.iter().position(|run| run.last <= oldest)
 }
 
 // Has some run no number above `oldest`?
-pub(crate) fn is_one_old(runs: &[Run], oldest: u64) -> bool
+pub(crate) fn is_one_old(runs: &[ReadRun], oldest: u64) -> bool
     ensures { result ≡ nat_lt 0 (size_upto oldest (held_in runs.now)) }
 {
     first_old(runs, oldest).is_some()
 }
 
 // Takes out a run that has no number above `oldest`, if there is one.
-pub(crate) fn take_old(runs: &mut Vec<Run>, oldest: u64) -> Option<Run>
+pub(crate) fn take_old(runs: &mut Vec<ReadRun>, oldest: u64) -> Option<ReadRun>
     ensures same { (k : Bytes) → cut oldest (greatest_at (runs_in runs.new.items) k) ≡ cut oldest (greatest_at (runs_in runs.old.items) k) }
     ensures none { result ≡ None → size_upto oldest (held_in runs.new.items) ≡ 0 }
     ensures size { size_upto oldest (held_in runs.old.items) ≡ size_of result + size_upto oldest (held_in runs.new.items) }
@@ -67,7 +67,7 @@ pub(crate) fn take_old(runs: &mut Vec<Run>, oldest: u64) -> Option<Run>
 }
 
 // Are both at rest, of a like size, and with numbers above `oldest`?
-fn are_alike(first: &Run, second: &Run, oldest: u64) -> bool
+fn are_alike(first: &ReadRun, second: &ReadRun, oldest: u64) -> bool
     ensures alike { result ≡ are_alike oldest (sizes_of first.now) (sizes_of second.now) }
     ensures first { result ≡ true → deque_len first.now.first + deque_len first.now.second ≡ 0 }
     ensures second { result ≡ true → deque_len second.now.first + deque_len second.now.second ≡ 0 }
@@ -80,7 +80,7 @@ fn are_alike(first: &Run, second: &Run, oldest: u64) -> bool
 
 // Begins to make one run of that at the place and the one before it, where they are alike. It takes memory; where that is refused, it counts
 // the refusal, and the runs stay. Are they alike?
-fn open_at(runs: &mut Vec<Run>, place: usize, oldest: u64, refused: &mut u64) -> bool
+fn open_at(runs: &mut Vec<ReadRun>, place: usize, oldest: u64, refused: &mut u64) -> bool
     requires some { 0 < place }
     requires within { place < vec_len runs.old }
     ensures numbers { (k : Bytes) → greatest_at (runs_in runs.new.items) k ≡ greatest_at (runs_in runs.old.items) k }
@@ -107,7 +107,7 @@ fn open_at(runs: &mut Vec<Run>, place: usize, oldest: u64, refused: &mut u64) ->
 
 // Begins to make one run of the last two beside one another that are alike. It takes memory; where that is refused, it counts the refusal, and
 // the runs stay.
-pub(crate) fn open_last(runs: &mut Vec<Run>, oldest: u64, refused: &mut u64)
+pub(crate) fn open_last(runs: &mut Vec<ReadRun>, oldest: u64, refused: &mut u64)
     ensures numbers { (k : Bytes) → greatest_at (runs_in runs.new.items) k ≡ greatest_at (runs_in runs.old.items) k }
     ensures tried { IsTried (are_alike oldest) (sizes_in runs.old.items) (sizes_in runs.new.items) refused.old refused.new }
 {
@@ -120,7 +120,7 @@ pub(crate) fn open_last(runs: &mut Vec<Run>, oldest: u64, refused: &mut u64)
 }
 
 // Moves so many steps at most of the run at the place, where there is one with numbers above `oldest`: how many moves are left.
-fn move_at(runs: &mut Vec<Run>, place: usize, oldest: u64, most: usize) -> usize
+fn move_at(runs: &mut Vec<ReadRun>, place: usize, oldest: u64, most: usize) -> usize
     ensures same { (k : Bytes) → cut oldest (greatest_at (runs_in runs.new.items) k) ≡ cut oldest (greatest_at (runs_in runs.old.items) k) }
     ensures most { result ≤ most }
     ensures lasts { lasts_of (sizes_in runs.new.items) ≡ lasts_of (sizes_in runs.old.items) }
@@ -139,7 +139,7 @@ fn move_at(runs: &mut Vec<Run>, place: usize, oldest: u64, most: usize) -> usize
 }
 
 // Moves so many steps at most of the runs that are being made of two, of the last runs first: these are the shortest.
-pub(crate) fn move_runs(runs: &mut Vec<Run>, oldest: u64, most: usize)
+pub(crate) fn move_runs(runs: &mut Vec<ReadRun>, oldest: u64, most: usize)
     ensures numbers { (k : Bytes) → cut oldest (greatest_at (runs_in runs.new.items) k) ≡ cut oldest (greatest_at (runs_in runs.old.items) k) }
     ensures moved { IsMoved oldest most (sizes_in runs.old.items) (sizes_in runs.new.items) }
 {

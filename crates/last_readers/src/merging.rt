@@ -49,7 +49,7 @@ fn take_one(first: &mut VecDeque<Step>, second: &VecDeque<Step>, oldest: u64) ->
         unreachable!()
     };
     let at = later(oldest, step.at(), beyond);
-    let above = later(oldest, step.above(), beyond);
+    let above = later(oldest, step.number_above(), beyond);
     Step::new(step.into_key(), at, above)
 }
 
@@ -69,7 +69,7 @@ fn take_both(first: &mut VecDeque<Step>, second: &mut VecDeque<Step>, oldest: u6
         unreachable!()
     };
     let at = later(oldest, x.at(), y.at());
-    let above = later(oldest, x.above(), y.above());
+    let above = later(oldest, x.number_above(), y.number_above());
     Step::new(x.into_key(), at, above)
 }
 

@@ -21,7 +21,7 @@ pub(crate) struct Ready {
 /// For each key the number of its last reader among commits that came one after another, and a number that none is above. It is at rest,
 /// with all its steps in `made`, or is being made of two runs. Then it has places for what is left of them.
 #[derive(Drop)]
-pub(crate) struct Run {
+pub(crate) struct ReadRun {
     pub(crate) last: u64,
     // what is left of the two runs that it is made of
     pub(crate) first: VecDeque<Step>,
@@ -43,11 +43,11 @@ fn renumber(steps: &mut VecDeque<Step>, number: u64)
     }
 }
 
-impl Run {
+impl ReadRun {
     ghost use Rattle.last_readers.specs.Inside.{held_of};
 
     // What was made ready, read by the commit with this number.
-    pub(crate) fn numbered(ready: Ready, number: u64) -> Run
+    pub(crate) fn numbered(ready: Ready, number: u64) -> ReadRun
         ensures numbers { (k : Bytes) → merged_at result.first.items result.second.items result.made.items k ≡ in_place_of number (number_at ready.steps.items k) }
         ensures last { result.last ≡ number }
         ensures left { deque_len result.first + deque_len result.second ≡ 0 }
@@ -56,7 +56,7 @@ impl Run {
         let Ready { steps: mut made } = ready;
         renumber(&mut made, number);
         let alloc = *made.allocator();
-        Run {
+        ReadRun {
             last: number,
             first: VecDeque::new(alloc),
             second: VecDeque::new(alloc),
@@ -92,7 +92,7 @@ impl Run {
     }
 
     // Begins to make one run of this and a later one, both at rest, in the places that were made for it.
-    pub(crate) fn join(&mut self, second: Run, places: VecDeque<Step>)
+    pub(crate) fn join(&mut self, second: ReadRun, places: VecDeque<Step>)
         requires first { deque_len self.old.first + deque_len self.old.second ≡ 0 }
         requires second { deque_len second.first + deque_len second.second ≡ 0 }
         requires none { deque_len places ≡ 0 }
@@ -102,7 +102,7 @@ impl Run {
         ensures made { deque_len self.new.made ≡ 0 }
         ensures numbers { (k : Bytes) → merged_at self.new.first.items self.new.second.items self.new.made.items k ≡ max (merged_at self.old.first.items self.old.second.items self.old.made.items k) (merged_at second.first.items second.second.items second.made.items k) }
     {
-        let Run { last, made, .. } = second;
+        let ReadRun { last, made, .. } = second;
         self.last = self.last.max(last);
         self.second = made;
         self.first = mem::replace(&mut self.made, places);

@@ -2,7 +2,7 @@
 ghost use Rattle.std.specs.Prelude.{◌≡◌, ◌≤◌, ◌<◌, ◌+◌};
 ghost use Rattle.std.specs.VecDeque.{deque_len};
 
-use crate::run::Run;
+use crate::run::ReadRun;
 use crate::step::Step;
 use std::collections::VecDeque;
 
@@ -27,12 +27,12 @@ fn shorten(steps: &mut VecDeque<Step>, most: usize) -> usize
 }
 
 impl Stale {
-    pub(crate) fn of(run: Run) -> Stale
+    pub(crate) fn of(run: ReadRun) -> Stale
         ensures first { result.first ≡ run.first }
         ensures second { result.second ≡ run.second }
         ensures made { result.made ≡ run.made }
     {
-        let Run {
+        let ReadRun {
             first,
             second,
             made,

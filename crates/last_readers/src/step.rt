@@ -51,7 +51,7 @@ impl Step {
         self.at
     }
 
-    pub(crate) fn above(&self) -> u64
+    pub(crate) fn number_above(&self) -> u64
         ensures { result ≡ self.now.above }
     {
         self.above
@@ -97,7 +97,7 @@ pub(crate) fn end_of(steps: &VecDeque<Step>) -> u64
 {
     match steps.back() {
         None => 0,
-        Some(step) => step.above(),
+        Some(step) => step.number_above(),
     }
 }
 

@@ -1,19 +1,19 @@
 -- The marks that are held, and what one more does.
 use Rattle.std.specs.Prelude.{List, [], ◌∷◌, ◌++◌, Bool, length, nat_lt, if◌then◌else◌, not, ◌&&◌, option_map}
 use Rattle.std.specs.List.{list_any}
-use Rattle.marks.specs.declared.held.Held.{Held}
-use Rattle.marks.specs.declared.held.Held.TheVariants.{Key, Range, ClosedRange}
+use Rattle.marks.specs.declared.owned.OwnedMark.{OwnedMark}
+use Rattle.marks.specs.declared.owned.OwnedMark.TheVariants.{Key, Range, ClosedRange}
 use Rattle.model.specs.declared.ranges.RangeRef.{RangeRef}
 use Rattle.model.specs.Map.{Bytes}
 use Rattle.model.specs.PrivateCopy.{Mark, is_same_mark}
 use Rattle.model.specs.PrivateCopy.Mark.{OfKey, OfRange, OfClosedRange}
 
-abbrev pub mark_of : Held → Mark
+abbrev pub mark_of : OwnedMark → Mark
 mark_of (Key k) = OfKey k
 mark_of (Range r) = OfRange r.lo r.hi
 mark_of (ClosedRange lo last) = OfClosedRange lo last
 
-abbrev pub marks_of : List Held → List Mark
+abbrev pub marks_of : List OwnedMark → List Mark
 marks_of [] = []
 marks_of (h ∷ hs) = mark_of h ∷ marks_of hs
 

@@ -5,11 +5,11 @@
 #![tactic(auto)]
 
 mod faults;
-mod held;
 mod lent;
 mod marks;
+mod owned;
 
 pub use faults::MarksFault;
-pub use held::Held;
 pub use lent::MarkRef;
 pub use marks::{MARKS_MAX, Marks};
+pub use owned::OwnedMark;

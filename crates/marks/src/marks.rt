@@ -7,7 +7,7 @@ ghost use Rattle.model.specs.PrivateCopy.Mark.{OfKey, OfClosedRange};
 ghost use Rattle.marks.specs.Marked.{has_mark, is_full_for, marks_of, with_mark, range_mark};
 
 use crate::faults::MarksFault;
-use crate::held::Held;
+use crate::owned::OwnedMark;
 use model::{Key, KeyRef, Memory, RangeRef};
 use std::alloc::Global;
 use std::marker::Model;
@@ -18,7 +18,7 @@ pub const MARKS_MAX: usize = 256;
 /// The marks of a transaction. A clause sees them in the order in which they were made.
 #[derive(Drop)]
 pub struct Marks {
-    held: Vec<Held>,
+    held: Vec<OwnedMark>,
 }
 
 impl Model for Marks {
@@ -44,7 +44,7 @@ impl Marks {
     }
 
     /// Lends the marks, in the order in which they were made. Takes no memory.
-    pub fn held(&self) -> &[Held]
+    pub fn held(&self) -> &[OwnedMark]
         ensures marks { marks_of result.now ≡ self.now }
         ensures few { length result.now ≤ 256 }
     {
@@ -78,7 +78,7 @@ impl Marks {
             return Err(MarksFault::FullMarks);
         }
         let alloc = *self.held.allocator();
-        let held = Held::Key(Key::from_ref(alloc, key)?);
+        let held = OwnedMark::Key(Key::from_ref(alloc, key)?);
         self.held.push(held)?;
         Ok(())
     }
@@ -98,7 +98,7 @@ impl Marks {
             return Err(MarksFault::FullMarks);
         }
         let alloc = *self.held.allocator();
-        let held = Held::from_range(alloc, range)?;
+        let held = OwnedMark::from_range(alloc, range)?;
         self.held.push(held)?;
         Ok(())
     }
@@ -120,7 +120,7 @@ impl Marks {
             return Err(MarksFault::FullMarks);
         }
         let alloc = *self.held.allocator();
-        let held = Held::from_ends(alloc, lo, last)?;
+        let held = OwnedMark::from_ends(alloc, lo, last)?;
         self.held.push(held)?;
         Ok(())
     }

@@ -1,16 +1,18 @@
--- A number that was answered before a BEGIN is at most its begin number.
-use Rattle.std.proofs.lemmas.Grind.{common_steps}
-use Rattle.std.proofs.Common.{◌≡◌, ℕ, ◌≤◌, Bool, List, [], ◌∷◌, Option, Some, None, arith}
-use Rattle.std.proofs.lemmas.List.{length-append}
-use Rattle.model.specs.declared.refusals.Refusal.{Refusal}
-use Rattle.model.specs.Map.{KeyWrite}
-use Rattle.model.specs.Operations.{Response}
-use Rattle.model.specs.Operations.Operation.{Begin, Commit}
-use Rattle.model.specs.Operations.Response.{Number, Refused}
-use Rattle.model.specs.Machine.{State, Running, Input, last, running_of, record_to_commit, join_history, store, store_unless, commit, step, next, state_after}
-use Rattle.model.specs.Laws.{AnswersComeBefore}
-use Rattle.model.proofs.Steps.{running_of-with_running}
-use Rattle.model.proofs.Progress.{by_case}
+-- What is answered: to a COMMIT a number that is at most the begin number of a later BEGIN, and no conflict where no other has committed since its
+-- own; to a faulty request one of four faults.
+use Rattle.std.proofs.lemmas.{Grind.common_steps, Bool.both_ways, Bool.cases_lt}
+use Rattle.std.proofs.Common.{◌≡◌, ℕ, ◌≤◌, Bool, List, [], ◌∷◌, Option, Some, None, arith, ◌<◌, true, false, refl, sym, ap, ◌∙◌, if◌then◌else◌, inl, inr, length-append, nat_lt, find, le-ltb, length, Result, Ok, IfErr, ◌==◌}
+use Rattle.model.specs.{declared.refusals.Refusal.Refusal, Map.KeyWrite, Map.Bytes, Operations.Response, History.Record}
+use Rattle.model.specs.{Operations.Operation.Commit, Operations.Response.Number, Operations.Response.Refused}
+use Rattle.model.specs.Machine.{State, Running, Input, last, record_to_commit, store, store_unless, commit, step, next, state_after, step_of}
+use Rattle.model.specs.Laws.{AnswersComeBefore, LastMayCommit, ConflictsAreRecent, IsOfForm, FaultsAreOfForm}
+use Rattle.model.specs.Verdict.{verdict, is_conflict, conflict_of, HasNoDangerousPivot}
+use Rattle.model.specs.CommandTable.{◌>>=◌, arity, is_key, key_in, end_in, or_limit, alone_in, get_in, set_in, del_in, range_in, command_in}
+use Rattle.model.proofs.{Steps.running_of-with_running, Pivots.kept_above, Pivots.verdict_by_kept, SerialOrders.filter_none, Members.In, Members.at_in, Members.each_in}
+use Rattle.model.proofs.Machines.{Sound, IsTrueRunning, commit_low, reached_sound, at_found}
+
+pub by_case : {A : Type 0} (P : A → Type 0) (b : Bool) (x y : A) → P x → P y → P (if b then x else y)
+by_case P b x y p q = grind (arith, common_steps)
 
 -- ---- the history never gets shorter, and a number that is answered is the last
 
@@ -22,11 +24,8 @@ refused : (st st' : State) (refusal : Refusal) → last st ≤ last st' → Goes
 refused st st' refusal le = (le, λ n e. let bad : Refused refusal ≡ Number n = e in cc)
 
 module _ (st : State) (s : ℕ) (t : Running) (failed : Bool) where
-  joins : (sectors : ℕ) → GoesOn st (join_history st s (record_to_commit st t) sectors)
-  joins sectors = grind (arith, common_steps, length-append)
-
   stores : (ws : List KeyWrite) → GoesOn st (store st s (record_to_commit st t) ws failed)
-  stores ws = grind (arith, common_steps, joins, by_case, refused)
+  stores ws = grind (arith, common_steps, length-append, by_case, refused)
 
   judged : (o : Option Refusal) → GoesOn st (store_unless o st s (record_to_commit st t) failed)
   judged o = grind (arith, common_steps, refused, stores)
@@ -36,27 +35,85 @@ module _ (st : State) (s : ℕ) (t : Running) (failed : Bool) where
 
 -- ---- each input
 
-stays : (st : State) (i : Input) → last st ≤ last (next st i)
-unfolding step
-stays st i = grind (arith, common_steps)
-
 stays_over : (st : State) (inputs : List Input) → last st ≤ last (state_after st inputs)
+unfolding step
 stays_over st [] = omega arith
-stays_over st (i ∷ inputs) = let one = stays st i in let rest = stays_over (next st i) inputs in omega (arith, one, rest)
+stays_over st (i ∷ inputs) =
+    let one : last st ≤ last (next st i) = grind (arith, common_steps) in
+    let rest = stays_over (next st i) inputs in omega (arith, one, rest)
 
 -- ---- the number of a COMMIT, and the begin number of a BEGIN
 
-number_is_last : (st : State) (s n : ℕ) (failed : Bool) → (step st s Commit failed).1 ≡ Number n → n ≤ last (step st s Commit failed).0
-unfolding step
-number_is_last st s n failed e = grind (arith, common_steps, commits)
-
-begin_is_last : (st : State) (s : ℕ) (failed : Bool) (t : Running) → running_of st s ≡ None → running_of (step st s Begin failed).0 s ≡ Some t → t.begin ≡ last st
-unfolding step
-begin_is_last st s failed t none there = grind (arith, common_steps, by_case, running_of-with_running)
-
 pub answers_come_before : AnswersComeBefore
+unfolding step
 answers_come_before st s n failed e inputs s' failed' t none there =
-    let before = number_is_last st s n failed e in
+    let before : n ≤ last (step st s Commit failed).0 = grind (arith, common_steps, commits) in
     let grown = stays_over (step st s Commit failed).0 inputs in
-    let is = begin_is_last (state_after (step st s Commit failed).0 inputs) s' failed' t none there in
+    let is : t.begin ≡ last (state_after (step st s Commit failed).0 inputs) = grind (arith, common_steps, by_case, running_of-with_running) in
     omega (arith, before, grown, is)
+
+-- ---- where no other has committed since its begin, a COMMIT is refused for no conflict
+
+find_never : (ws : List KeyWrite) → find (λ (w : KeyWrite). false) ws ≡ None
+find_never [] = refl
+find_never (w ∷ ws) = find_never ws
+
+-- no record is left that could speak against it
+unopposed : (history : List Record) (r : Record) → r.begin < r.commit → ((h : Record) → In h history → h.commit ≤ r.begin) → HasNoDangerousPivot history → verdict history r ≡ None
+unopposed history r begins over no_pivot =
+    let none : kept_above r.begin history ≡ [] = filter_none (λ h. nat_lt r.begin h.commit) history (each_in _ history (λ h h_in. le-ltb r.begin h.commit (over h h_in))) in
+    verdict_by_kept history r r.begin (omega arith) (λ h h_in. let le = over h h_in in omega arith) no_pivot ∙ rw none (ap (λ o. conflict_of o None) (find_never r.writes))
+
+-- of a transaction that began at the last commit, or after it
+none_since : (st : State) → Sound st → (t : Running) → last st ≤ t.begin → t.begin ≤ last st → verdict st.history (record_to_commit st t) ≡ None
+none_since st k t low high = grind (arith, common_steps, unopposed, at_in, commit_low)
+
+pub last_may_commit : LastMayCommit
+last_may_commit st reached s t is since = none_since st (reached_sound st reached) t (omega (arith, since)) (omega (arith, since))
+
+-- ---- what COMMIT answers
+
+-- the answer names no conflict
+abbrev IsHarmless : State × Response → Type 0
+IsHarmless answer = (refusal : Refusal) → answer.1 ≡ Refused refusal → is_conflict refusal ≡ true → ⊥
+
+harmless : (st : State) (other : Refusal) → is_conflict other ≡ false → IsHarmless (st, Refused other)
+harmless st other plain refusal e named = let e' : Refused other ≡ Refused refusal = e in let same : other ≡ refusal = cc in both_ways (is_conflict refusal) (ap is_conflict (sym same) ∙ plain) named
+
+in_commit : (st : State) (s : ℕ) (t : Running) (failed : Bool) → verdict st.history (record_to_commit st t) ≡ None → IsHarmless (commit st s t failed)
+in_commit st s t failed none = grind (arith, common_steps, by_case, harmless)
+
+pub conflicts_are_recent : ConflictsAreRecent
+unfolding step
+conflicts_are_recent st reached s t there failed refusal e named = elim (cases_lt t.begin (last st)) [
+  | inl since ↦ since
+  | inr none ↦
+      let k = reached_sound st reached in
+      let is : IsTrueRunning st.base st.history t = at_found (IsTrueRunning st.base st.history) s st.running k.open_true t there in
+      let low = is.begins in
+      absurd (in_commit st s t failed (none_since st k t none low) refusal (ap (λ o. (step_of o st s Commit failed).1) (sym there) ∙ e) named)
+]
+
+-- ---- a request is faulty in its form for four faults alone
+
+abbrev Of : {A : Type 0} → Result A Refusal → Type 0
+Of r = IfErr r IsOfForm
+
+then_of : {A B : Type 0} (x : Result A Refusal) (f : A → Result B Refusal) → Of x → ((a : A) → Of (f a)) → Of (x >>= f)
+then_of x f first rest = grind (arith, common_steps)
+
+counts : (n : ℕ) (parts : List Bytes) → Of (arity n parts)
+counts n parts = by_case Of (length parts == n) _ _ tt tt
+
+keys : (bytes : Bytes) → Of (key_in bytes)
+keys bytes = by_case Of (is_key bytes) _ _ tt tt
+
+ends : (bytes : Bytes) → Of (end_in bytes)
+ends bytes = by_case Of (length bytes == 0) _ _ tt (then_of (key_in bytes) (λ key. Ok (Some key)) (keys bytes) (λ key. tt))
+
+limits : (o : Option ℕ) → Of (or_limit o)
+limits o = grind (arith, common_steps)
+
+pub faults_are_of_form : FaultsAreOfForm
+unfolding command_in alone_in get_in set_in del_in range_in
+faults_are_of_form parts = grind (arith, common_steps, by_case, then_of, counts, keys, ends, limits)

@@ -1,10 +1,8 @@
 -- A fact of each element of a list.
-use Rattle.std.proofs.Common.{◌≡◌, Bool, true, ◌||◌, ℕ, zero, suc, ◌+◌, ◌<◌, List, [], ◌∷◌, ◌++◌, length, map, take, drop, get_or, set, refl, sym, ap, subst, ◌∙◌, arith}
-use Rattle.std.specs.List.{AllByRecursion, list_all, list_any, remove}
-use Rattle.std.proofs.lemmas.Bool.{and_parts}
-use Rattle.std.proofs.Math.Seq.{drop-cons}
-use Rattle.std.proofs.lemmas.List.{drop-set-lt, drop_more, set-get_or, take_more_set}
-use Rattle.std.proofs.lemmas.List.Elements.{All-append, All-drop, All-from_recursion, All-get_or, All-map, All-set, All-take, All-weaker, recursion_from_All}
+use Rattle.std.proofs.Common.{filter, ◌≡◌, Bool, true, ◌||◌, ℕ, zero, suc, ◌+◌, ◌<◌, List, [], ◌∷◌, ◌++◌, length, map, take, drop, get_or, set, refl, sym, ap, subst, ◌∙◌, arith, remove, drop-cons, drop-set-lt}
+use Rattle.std.specs.List.{AllByRecursion, list_all, list_any}
+use Rattle.std.proofs.lemmas.{Bool.and_parts, List.drop_more, List.set-get_or, List.take_more_set}
+use Rattle.std.proofs.lemmas.List.Elements.{All-append, All-drop, All-filter, All-from_recursion, All-get_or, All-map, All-set, All-take, All-weaker, recursion_from_All}
 
 module _ {X : Type 0} (P : X → Type 0) where
   pub all-each : (Q : X → Type 0) (xs : List X) → ((x : X) → P x → Q x) → AllByRecursion P xs → AllByRecursion Q xs
@@ -29,6 +27,9 @@ module _ {X : Type 0} (P : X → Type 0) where
 
   pub all-get : (xs : List X) (i : ℕ) (d : X) → i < length xs → AllByRecursion P xs → P (get_or xs i d)
   all-get xs i d lt h = All-get_or P xs i d lt (All-from_recursion P xs h)
+
+  pub all-filter : (p : X → Bool) (xs : List X) → AllByRecursion P xs → AllByRecursion P (filter p xs)
+  all-filter p xs h = recursion_from_All P (filter p xs) (All-filter p P xs (All-from_recursion P xs h))
 
   pub all-remove : (xs : List X) (i : ℕ) → AllByRecursion P xs → AllByRecursion P (remove xs i)
   all-remove xs i h =

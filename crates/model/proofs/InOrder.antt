@@ -1,13 +1,7 @@
 -- Entries by strictly rising key, whatever the keys and their order: parts of such a list, and what it has at a key.
 use Rattle.std.proofs.lemmas.Grind.{common_steps}
-use Rattle.std.proofs.Common.{◌≡◌, ℕ, suc, ◌<◌, ◌≤◌, Bool, T, cond, ◌&&◌, List, [], ◌∷◌, ◌++◌, length, take, drop, get_or, None, Some, refl, sym, ap, subst, ◌∙◌, arith}
-use Rattle.std.specs.declared.cmp.Ordering.{Ordering}
-use Rattle.std.specs.declared.cmp.Ordering.TheVariants.{Less, Equal}
-use Rattle.std.specs.Cmp.{IsTotalOrder}
-use Rattle.std.specs.List.Sorted.{IsNonDecreasingBy}
-use Rattle.std.specs.Ordering.{is_eq, is_lt, ordering_index}
-use Rattle.std.specs.FinMap.Entries.{find, below_all, is_sorted}
-use Rattle.std.proofs.lemmas.List.{take-append-drop}
+use Rattle.std.proofs.Common.{◌≡◌, ℕ, suc, ◌<◌, ◌≤◌, Bool, T, cond, ◌&&◌, List, [], ◌∷◌, ◌++◌, length, take, drop, get_or, None, Some, refl, sym, ap, subst, ◌∙◌, arith, Ordering, Less, Equal, is_eq, is_lt, take-append-drop}
+use Rattle.std.specs.{Cmp.IsTotalOrder, List.Sorted.IsNonDecreasingBy, Ordering.ordering_index, FinMap.Entries.find, FinMap.Entries.below_all, FinMap.Entries.is_sorted}
 
 pub parts : (a b : Bool) → T (a && b) → T a × T b
 parts a b h = grind (arith, common_steps)

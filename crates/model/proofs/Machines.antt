@@ -1,29 +1,20 @@
 -- The machine keeps its history faithful, without dangerous pivots and without concurrent writers of one key.
-use Rattle.std.proofs.lemmas.Grind.{common_steps}
-use Rattle.std.proofs.Common.{◌≡◌, ◌⊎◌, ℕ, suc, ◌+◌, ◌-◌, ◌^◌, ◌<◌, ◌≤◌, Bool, true, false, cond, ◌&&◌, List, [], ◌∷◌, ◌++◌, Option, Some, None, refl, sym, ap, ◌∙◌, length, length-append, arith, inl, inr}
-use Rattle.std.specs.Prelude.{not, IsTrue, nat_lt, nat_le, ◌==◌}
-use Rattle.std.specs.Ordering.{nat_cmp}
-use Rattle.std.specs.List.{AllByRecursion}
-use Rattle.std.specs.FinMap.Entries.{find as value_of, put, where_key}
-use Rattle.std.proofs.lemmas.Bool.{and_parts, and_from, lt-leb, false_from_ne_true}
-use Rattle.std.proofs.lemmas.List.Elements.{All-contains, All-from_recursion}
-use Rattle.model.specs.declared.refusals.Refusal.{Refusal}
-use Rattle.model.specs.declared.refusals.Refusal.TheVariants.{StoreStopped, FullNumbers, FullTransactions}
-use Rattle.model.specs.Map.{KeyMap, KeyWrite, is_same_key, after_writes}
-use Rattle.model.specs.Operations.{Operation, Response}
-use Rattle.model.specs.Operations.Operation.{Begin, Get, Set, Del, Range, Commit, Abort, Ping, Faulty}
-use Rattle.model.specs.Operations.Response.{Done, Refused}
+use Rattle.std.proofs.lemmas.{Grind.common_steps, Bool.Decides.nat_tests, Bool.and_parts, Bool.and_from, Bool.cond_both, Bool.lt-leb, Bool.false_from_ne_true}
+use Rattle.std.proofs.lemmas.List.Elements.{All-contains, All-from_recursion, All-push}
+use Rattle.std.proofs.Common.{◌≡◌, ◌⊎◌, ℕ, suc, ◌+◌, ◌-◌, ◌<◌, ◌≤◌, Bool, true, false, cond, ◌&&◌, List, [], ◌∷◌, ◌++◌, Option, Some, None, refl, sym, ap, subst, ◌∙◌, length, length-append, arith, inl, inr, not, IsTrue, nat_lt, nat_le, ◌==◌, nat_cmp, ◌^◌, ◌≢◌}
+use Rattle.std.specs.{List.AllByRecursion, FinMap.Entries.find as value_of, FinMap.Entries.put, FinMap.Entries.where_key}
+use Rattle.model.specs.{declared.refusals.Refusal.Refusal, Machine.Input.Asks, Machine.Input.Leaves, Laws.MachineLaw, Laws.VerdictHolds}
+use Rattle.model.specs.{Map.KeyMap, Map.KeyWrite, Map.is_same_key, Map.after_writes, Operations.Operation, Operations.Response}
+use Rattle.model.specs.Operations.Operation.{Begin, Commit, Abort}
 use Rattle.model.specs.PrivateCopy.{PrivateCopy, copy_of, copy_after, respond, responses}
 use Rattle.model.specs.History.{Record, record_of, map_at, IsNumberedFrom, IsFaithful, IsTrueRecord}
 use Rattle.model.specs.Dependency.{is_concurrent, writes_key, write_alike, is_dangerous_pivot, NoConcurrentWriters}
-use Rattle.model.specs.Verdict.{verdict, is_overwritten, HasNoDangerousPivot}
-use Rattle.model.specs.Machine.{Running, State, Input, IsReached, last, snapshot, running_of, with_running, record_to_commit, refuse, store, store_unless, commit, step_outside, own_step, step_inside, step_of, step, next, state_after}
-use Rattle.model.specs.Machine.Input.{Asks, Leaves}
-use Rattle.model.specs.SerialOrder.{serial_order}
-use Rattle.model.specs.Laws.{MachineLaw, VerdictHolds}
-use Rattle.model.proofs.Lookups.{same_key_comm}
+use Rattle.model.specs.{Verdict.verdict, Verdict.is_overwritten, Verdict.HasNoDangerousPivot, Restarts.ReplaysFollow, Restarts.HaveOneOrder, Restarts.RestartLaw}
+use Rattle.model.specs.Machine.{Running, State, Input, IsReached, last, snapshot, running_of, store, commit, step_outside, own_step, step_inside, step_of, step, next, state_after, store_unless, record_to_commit}
+use Rattle.model.specs.SerialOrder.{serial_order, IsSerialOrder, replay, ReplaysReplies}
+use Rattle.model.proofs.{Elements.all-each, Elements.all-filter, Lookups.same_key_comm, SerialOrders.replay_law}
+pub use Rattle.model.proofs.Members.{commit_low}
 use Rattle.model.proofs.Members.{In, in_from_Contains, Contains-from_in, at_in, each_in, any_from_in, any_witness, none_found}
-use Rattle.model.proofs.SerialOrders.{replay_law}
 
 -- ---- lists
 
@@ -41,10 +32,6 @@ each_inserted : {X : Type 0} (P : ℕ × X → Type 0) (es : List (ℕ × X)) (s
 each_inserted P [] s x h g = (h s, tt)
 each_inserted P (e ∷ es) s x h g = grind (arith, common_steps, each_inserted P es s x h g.1)
 
-each_left : {X : Type 0} (P : ℕ × X → Type 0) (test : ℕ → Bool) (es : List (ℕ × X)) → AllByRecursion P es → AllByRecursion P (where_key nat_cmp test es)
-each_left P test [] g = tt
-each_left P test (e ∷ es) g = grind (arith, common_steps, each_left P test es g.1)
-
 pub at_found : {X : Type 0} (P : X → Type 0) (s : ℕ) (es : List (ℕ × X)) → AllByRecursion (λ e. P e.1) es → (x : X) → value_of nat_cmp s es ≡ Some x → P x
 at_found P s [] g x e = cc
 at_found P s (f ∷ es) g x e = grind (arith, common_steps, at_found P s es g.1 x)
@@ -58,10 +45,6 @@ map_at-append base (s ∷ rs) r n h = map_at-append (cond (nat_le s.commit n) (a
 pub numbered-append : (n : ℕ) (rs : List Record) (r : Record) → IsNumberedFrom n rs → r.commit ≡ suc (n + length rs) → IsNumberedFrom n (rs ++ r ∷ [])
 numbered-append n [] r h e = (omega arith, tt)
 numbered-append n (s ∷ rs) r h e = (h.0, numbered-append (suc n) rs r h.1 (omega arith))
-
-pub commit_low : (n : ℕ) (rs : List Record) → IsNumberedFrom n rs → AllByRecursion (λ r. r.commit ≤ n + length rs) rs
-commit_low n [] h = tt
-commit_low n (r ∷ rs) h = (let e = h.0 in omega arith, each_in (λ s. s.commit ≤ n + suc (length rs)) rs (λ s s_in. let low : s.commit ≤ suc n + length rs = at_in (λ u. u.commit ≤ suc n + length rs) rs s (commit_low (suc n) rs h.1) s_in in omega arith))
 
 pub responses-append : (c : PrivateCopy) (qs : List Operation) (q : Operation) → responses c (qs ++ q ∷ []) ≡ responses c qs ++ (respond (copy_after c qs) q).0 ∷ []
 responses-append c [] q = refl
@@ -103,26 +86,18 @@ module _ (base : KeyMap) (history : List Record) where
     abbrev joining : Record
     joining = record_of t.begin (suc (length history)) (map_at base history t.begin) t.requests t.replies
 
-    joining_true : IsTrueRecord base (history ++ joining ∷ []) joining
-    joining_true = true_after joining refl joining true_t.begins (record { begins_before = (let low = true_t.begins in omega arith); replies = true_t.replies; reads = refl; writes = refl })
-
-    commits_low : (s : Record) → In s history → s.commit ≤ length history
-    commits_low s s_in = let low : s.commit ≤ 0 + length history = at_in (λ r. r.commit ≤ 0 + length history) history s (commit_low 0 history kept.faithful.numbered) s_in in omega arith
-
     old_true : (s : Record) → In s history → IsTrueRecord base (history ++ joining ∷ []) s
     old_true s s_in =
         let is : IsTrueRecord base history s = All-contains (IsTrueRecord base history) history s kept.faithful.records (Contains-from_in history s s_in) in
-        let begins : s.begin < s.commit = is.begins_before in
-        let low = commits_low s s_in in true_after joining refl s (omega arith) is
-
-    all_true : (s : Record) → In s (history ++ joining ∷ []) → IsTrueRecord base (history ++ joining ∷ []) s
-    all_true s s_in = grind (arith, common_steps, in_append_cases, old_true, joining_true)
+        let low = at_in (λ r. r.commit ≤ 0 + length history) history s (commit_low 0 history kept.faithful.numbered) s_in in
+        let begins = is.begins_before in true_after joining refl s (omega (arith, low, begins)) is
 
     joined_faithful : IsFaithful base (history ++ joining ∷ [])
-    joined_faithful = record {
+    joined_faithful = let low = true_t.begins in record {
       is_map = kept.faithful.is_map;
       numbered = numbered-append 0 history joining kept.faithful.numbered (omega arith);
-      records = All-from_recursion (IsTrueRecord base (history ++ joining ∷ [])) (history ++ joining ∷ []) (each_in (IsTrueRecord base (history ++ joining ∷ [])) (history ++ joining ∷ []) all_true);
+      records = All-push (IsTrueRecord base (history ++ joining ∷ [])) history joining (All-from_recursion _ history (each_in (IsTrueRecord base (history ++ joining ∷ [])) history old_true))
+          (true_after joining refl joining low (record { begins_before = omega arith; replies = true_t.replies; reads = refl; writes = refl }));
     }
 
     module _ (clear : IsClear history joining) where
@@ -135,21 +110,14 @@ module _ (base : KeyMap) (history : List Record) where
           let w = any_witness (λ w. writes_key a w.0) joining.writes alike in
           clear.not_overwritten w.at w.member (any_from_in (λ r. writes_key r w.at.0 && nat_lt joining.begin r.commit) history a a_in (and_from _ _ w.passes (and_parts _ _ conc).0))
 
-      concurrent_comm : (a b : Record) → is_concurrent a b ≡ true → is_concurrent b a ≡ true
-      concurrent_comm a b h = let p = and_parts (nat_lt a.begin b.commit) (nat_lt b.begin a.commit) h in and_from _ _ p.1 p.0
+      apart_from : (a b : Record) → In a history ⊎ (a ≡ joining) → In b history ⊎ (b ≡ joining) → a.commit ≢ b.commit → IsTrue (is_concurrent a b) → ¬ IsTrue (write_alike a b)
+      apart_from a b (inl a_old) (inl b_old) other conc alike = kept.apart a b (Contains-from_in history a a_old) (Contains-from_in history b b_old) other conc alike
+      apart_from a b (inl a_old) (inr b_is) other conc alike = no_overwriter a a_old (subst (λ x. IsTrue (is_concurrent x a)) b_is (grind (arith, nat_tests))) (subst (λ x. IsTrue (write_alike x a)) b_is (write_alike_comm a b alike))
+      apart_from a b (inr a_is) (inl b_old) other conc alike = no_overwriter b b_old (subst (λ x. IsTrue (is_concurrent x b)) a_is conc) (subst (λ x. IsTrue (write_alike x b)) a_is alike)
+      apart_from a b (inr a_is) (inr b_is) other conc alike = other (ap (λ (x : Record). x.commit) (a_is ∙ sym b_is))
 
       joined_apart : NoConcurrentWriters (history ++ joining ∷ [])
-      joined_apart a b a_in b_in other conc alike =
-          elim (in_append_cases history joining a (in_from_Contains (history ++ joining ∷ []) a a_in)) [
-            | inl a_old ↦ elim (in_append_cases history joining b (in_from_Contains (history ++ joining ∷ []) b b_in)) [
-              | inl b_old ↦ kept.apart a b (Contains-from_in history a a_old) (Contains-from_in history b b_old) other conc alike
-              | inr b_is ↦ no_overwriter a a_old (ap (λ x. is_concurrent x a) (sym b_is) ∙ concurrent_comm a b conc) (ap (λ x. write_alike x a) (sym b_is) ∙ write_alike_comm a b alike)
-            ]
-            | inr a_is ↦ elim (in_append_cases history joining b (in_from_Contains (history ++ joining ∷ []) b b_in)) [
-              | inl b_old ↦ no_overwriter b b_old (ap (λ x. is_concurrent x b) (sym a_is) ∙ conc) (ap (λ x. write_alike x b) (sym a_is) ∙ alike)
-              | inr b_is ↦ other (ap (λ (x : Record). x.commit) a_is ∙ sym (ap (λ (x : Record). x.commit) b_is))
-            ]
-          ]
+      joined_apart a b a_in b_in = apart_from a b (in_append_cases history joining a (in_from_Contains _ a a_in)) (in_append_cases history joining b (in_from_Contains _ b b_in))
 
       joined : Kept base (history ++ joining ∷ []) running
       joined = grind (arith, common_steps, joined_faithful, joined_no_pivot, joined_apart, each_in, running_after, at_in)
@@ -160,7 +128,7 @@ abbrev pub Sound : State → Type 0
 Sound st = Kept st.base st.history st.running
 
 leave_kept : (base : KeyMap) (history : List Record) (running : List (ℕ × Running)) (s : ℕ) → Kept base history running → Kept base history (where_key nat_cmp (λ x. not (x == s)) running)
-leave_kept base history running s k = record { faithful = k.faithful; no_pivot = k.no_pivot; apart = k.apart; open_true = each_left (λ e. IsTrueRunning base history e.1) (λ x. not (x == s)) running k.open_true }
+leave_kept base history running s k = record { faithful = k.faithful; no_pivot = k.no_pivot; apart = k.apart; open_true = all-filter (λ e. IsTrueRunning base history e.1) (λ e. not (e.0 == s)) running k.open_true }
 
 open_kept : (base : KeyMap) (history : List Record) (running : List (ℕ × Running)) (s : ℕ) (t : Running) → IsTrueRunning base history t → Kept base history running → Kept base history (put nat_cmp s t running)
 open_kept base history running s t h k = record { faithful = k.faithful; no_pivot = k.no_pivot; apart = k.apart; open_true = each_inserted (λ e. IsTrueRunning base history e.1) running s t (λ _. h) k.open_true }
@@ -170,13 +138,9 @@ store_kept st s r ws failed k j = grind (arith, common_steps, leave_kept)
 
 commit_kept : (st : State) (s : ℕ) (t : Running) (failed : Bool) → Sound st → IsTrueRunning st.base st.history t → Sound (commit st s t failed).0
 commit_kept st s t failed k h =
-    elim st.stopped as (λ b. Sound (cond b (refuse st s StoreStopped) (cond (last st == 2 ^ 63 - 1) (refuse st s FullNumbers) (store_unless (verdict st.history (record_to_commit st t)) st s (record_to_commit st t) failed))).0) [
-      | true ↦ leave_kept st.base st.history st.running s k
-      | false ↦ elim (last st == 2 ^ 63 - 1) as (λ b. Sound (cond b (refuse st s FullNumbers) (store_unless (verdict st.history (record_to_commit st t)) st s (record_to_commit st t) failed)).0) [
-        | true ↦ leave_kept st.base st.history st.running s k
-        | false ↦ decided (verdict st.history (record_to_commit st t)) refl
-      ]
-    ]
+    cond_both st.stopped _ _ (λ (a : State × Response). Sound a.0) (λ _. leave_kept st.base st.history st.running s k)
+    (λ _. cond_both (last st == 2 ^ 63 - 1) _ _ (λ (a : State × Response). Sound a.0) (λ _. leave_kept st.base st.history st.running s k)
+    (λ _. decided (verdict st.history (record_to_commit st t)) refl))
   where
     decided : (o : Option Refusal) → verdict st.history (record_to_commit st t) ≡ o → Sound (store_unless o st s (record_to_commit st t) failed).0
     decided o e = grind (arith, common_steps, leave_kept, store_kept, joined, clear_from)
@@ -188,23 +152,12 @@ own_kept st s t q k h = open_kept st.base st.history st.running s (record { begi
 inside_kept : (st : State) (s : ℕ) (t : Running) (q : Operation) (failed : Bool) → Sound st → IsTrueRunning st.base st.history t → Sound (step_inside st s t q failed).0
 inside_kept st s t Commit failed k h = commit_kept st s t failed k h
 inside_kept st s t Abort failed k h = leave_kept st.base st.history st.running s k
-inside_kept st s t Begin failed k h = own_kept st s t Begin k h
-inside_kept st s t (Get x) failed k h = own_kept st s t (Get x) k h
-inside_kept st s t (Set x v) failed k h = own_kept st s t (Set x v) k h
-inside_kept st s t (Del x) failed k h = own_kept st s t (Del x) k h
-inside_kept st s t (Range lo hi limit) failed k h = own_kept st s t (Range lo hi limit) k h
-inside_kept st s t Ping failed k h = own_kept st s t Ping k h
-inside_kept st s t (Faulty refusal) failed k h = own_kept st s t (Faulty refusal) k h
+inside_kept st s t q failed k h = own_kept st s t q k h
 
 outside_kept : (st : State) (s : ℕ) (q : Operation) → Sound st → Sound (step_outside st s q).0
 outside_kept st s Begin k =
-    elim st.stopped as (λ b. Sound (cond {A = State × Response} b (st, Refused StoreStopped) (cond (nat_lt (length st.running) 64) (with_running st s (record { begin = last st; requests = []; replies = [] }), Done) (st, Refused FullTransactions))).0) [
-      | true ↦ k
-      | false ↦ elim (nat_lt (length st.running) 64) as (λ b. Sound (cond {A = State × Response} b (with_running st s (record { begin = last st; requests = []; replies = [] }), Done) (st, Refused FullTransactions)).0) [
-        | true ↦ open_kept st.base st.history st.running s (record { begin = last st; requests = []; replies = [] }) (record { begins = omega arith; replies = refl }) k
-        | false ↦ k
-      ]
-    ]
+    cond_both st.stopped _ _ (λ (a : State × Response). Sound a.0) (λ _. k) (λ _. cond_both (nat_lt (length st.running) 64) _ _ (λ (a : State × Response). Sound a.0)
+    (λ _. open_kept st.base st.history st.running s (record { begin = last st; requests = []; replies = [] }) (record { begins = omega arith; replies = refl }) k) (λ _. k))
 outside_kept st s q k = grind (arith, common_steps)
 
 next_kept : (st : State) (i : Input) → Sound st → Sound (next st i)
@@ -232,6 +185,22 @@ pub machine_law : MachineLaw
 machine_law st reached =
     let k = reached_sound st reached in (
       All-from_recursion (λ e. e.1.replies ≡ responses (copy_of (snapshot st e.1)) e.1.requests) st.running
-          (each_in (λ e. e.1.replies ≡ responses (copy_of (snapshot st e.1)) e.1.requests) st.running (λ e e_in. let is = at_in (λ f. IsTrueRunning st.base st.history f.1) st.running e k.open_true e_in in is.replies)),
+          (all-each (λ e. IsTrueRunning st.base st.history e.1) _ st.running (λ e is. is.replies) k.open_true),
       record { faithful = k.faithful; order = serial_order st.history; serial = replay_law st.base st.history k.faithful k.no_pivot k.apart },
     )
+
+-- ---- serial orders of several lives, one after another, are one order
+
+pub replays_follow : ReplaysFollow
+replays_follow map [] second these those = (those, refl)
+replays_follow map (r ∷ rs) second these those = grind (arith, common_steps, replays_follow (copy_after (copy_of map) r.requests).contents rs second these.1 those)
+
+pub restart_law : RestartLaw
+restart_law map [] found follow = record { order = []; is = refl; replies = tt; final_map = sym follow }
+restart_law map (st ∷ states) found follow = joined (machine_law st follow.0).1.order (machine_law st follow.0).1.serial (restart_law (map_at st.base st.history (last st)) states found follow.2)
+  where
+    joined : (own : List Record) → IsSerialOrder st.base st.history own → HaveOneOrder (map_at st.base st.history (last st)) states found → HaveOneOrder map (st ∷ states) found
+    joined own serial rest =
+        let ends : replay map own ≡ map_at st.base st.history (last st) = ap (λ m. replay m own) (sym follow.1) ∙ serial.final_map in
+        let both = replays_follow map own rest.order (subst (λ m. ReplaysReplies m own) follow.1 serial.replies) (subst (λ m. ReplaysReplies m rest.order) (sym ends) rest.replies) in
+        grind (arith, common_steps)

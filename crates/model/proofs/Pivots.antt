@@ -1,13 +1,11 @@
 -- What the check of a commit may keep of a history: for each record, whether it has a read-write dependency to a concurrent one that
 -- committed before it. It is fixed once the record has committed.
-use Rattle.std.proofs.lemmas.Grind.{common_steps}
-use Rattle.std.proofs.Common.{◌≡◌, ℕ, ◌<◌, ◌≤◌, Bool, true, false, not, cond, ◌&&◌, ◌||◌, List, [], ◌∷◌, ◌++◌, Some, refl, sym, ap, ◌∙◌, arith}
-use Rattle.std.specs.Prelude.{nat_lt, nat_le, ◌==◌, find}
-use Rattle.std.specs.List.{list_any, filter, AllByRecursion}
-use Rattle.std.proofs.lemmas.Bool.{both_ways, and_left, and_right, and_parts, or_cases, or_left, or_right, le-leb, le-ltb, lt-ltb, ltb-true, eq-eqb, not_from_true, cases_lt, false_from_ne_true}
-use Rattle.model.specs.declared.refusals.Refusal.TheVariants.{PivotSelf}
-use Rattle.model.specs.History.{Record}
-use Rattle.model.specs.Dependency.{is_concurrent, concurrent_read_write, makes_pivot, makes_dangerous_pivot, is_dangerous_pivot}
+use Rattle.std.proofs.lemmas.{Grind.common_steps, Bool.Decides.nat_tests}
+use Rattle.std.proofs.Common.{◌≡◌, ℕ, ◌<◌, ◌≤◌, Bool, true, false, not, cond, ◌&&◌, ◌||◌, List, [], ◌∷◌, ◌++◌, Some, refl, sym, ap, ◌∙◌, arith, nat_lt, nat_le, ◌==◌, find, filter, le-ltb, lt-ltb, ltb-true, eq-eqb}
+use Rattle.std.specs.List.{list_any, AllByRecursion}
+use Rattle.std.proofs.lemmas.Bool.{both_ways, and_left, and_right, and_parts, or_cases, or_left, or_right, not_from_true, cases_lt, false_from_ne_true}
+use Rattle.model.specs.{declared.refusals.Refusal.TheVariants.PivotSelf, History.Record}
+use Rattle.model.specs.Dependency.{is_concurrent, concurrent_read_write, makes_dangerous_pivot, is_dangerous_pivot}
 use Rattle.model.specs.Verdict.{verdict, conflict_of, pivot_refusal, is_overwritten, HasNoDangerousPivot}
 use Rattle.model.proofs.Members.{In, each_in, Contains-from_in}
 
@@ -58,60 +56,49 @@ stands_between history t = list_any (λ x. concurrent_read_write x t && list_any
 pub no_read_write_itself : (t : Record) → concurrent_read_write t t ≡ false
 no_read_write_itself t = and_left _ (is_concurrent t t) (and_right _ (not (t.commit == t.commit)) (not_from_true (t.commit == t.commit) (eq-eqb t.commit t.commit refl)))
 
-without_fourth : (a b c d : Bool) → d ≡ true → (a && b && (c && d)) ≡ (a && (b && c))
-without_fourth a b c d e = grind (arith, common_steps)
-
-without_third : (a b c d : Bool) → c ≡ true → (a && b && (c && d)) ≡ (a && (b && d))
-without_third a b c d e = grind (arith, common_steps)
-
-and_true : (a b : Bool) → b ≡ true → (a && b) ≡ a
-and_true a b e = grind (arith, common_steps)
-
 -- the flag stays
 pub earlier_target-push : (history : List Record) (t p : Record) → p.commit ≤ t.commit → has_earlier_target (history ++ t ∷ []) p ≡ has_earlier_target history p
 earlier_target-push history t p le = grind (arith, common_steps, any-append, and_right, le-ltb, or_false)
 
+-- whether x stands before t, and has committed no earlier than one behind t
+abbrev is_over : List Record → Record → Record → Bool
+is_over history t x = concurrent_read_write x t && list_any (λ y. concurrent_read_write t y && nat_le y.commit x.commit) history
+
 module _ (history : List Record) (t : Record) (first : (r : Record) → In r history → r.commit < t.commit) where
   -- the flag of the one that commits last
   pub own_earlier_target : has_earlier_target (history ++ t ∷ []) t ≡ list_any (λ y. concurrent_read_write t y) history
-  own_earlier_target = grind (arith, common_steps, earlier_target-push, any_same, each_in, and_true, lt-ltb)
+  own_earlier_target =
+      earlier_target-push history t t (omega arith)
+      ∙ any_same _ (λ y. concurrent_read_write t y) history (each_in _ history (λ y y_in. let less = first y y_in in grind (arith, nat_tests)))
 
   -- the last is no target of a dangerous pivot, but it may be the one before it
   pub pivot-push : (p : Record) → In p history → is_dangerous_pivot (history ++ t ∷ []) p ≡ (is_dangerous_pivot history p || (concurrent_read_write t p && has_earlier_target history p))
   pivot-push p p_in =
-      any_alike (λ x. list_any (λ y. makes_dangerous_pivot x p y) (history ++ t ∷ [])) (λ x. list_any (λ y. makes_dangerous_pivot x p y) history) targets (history ++ t ∷ [])
+      any_same _ (λ x. list_any (λ y. makes_dangerous_pivot x p y) history) (history ++ t ∷ []) (each_in _ (history ++ t ∷ []) (λ x _. targets x))
       ∙ any-append (λ x. list_any (λ y. makes_dangerous_pivot x p y) history) history t
       ∙ ap (λ b. is_dangerous_pivot history p || b) last_before
     where
-      no_target : (x : Record) → makes_dangerous_pivot x p t ≡ false
-      no_target x = and_right (makes_pivot x p t) _ (and_left (nat_lt t.commit p.commit) (nat_le t.commit x.commit) (le-ltb t.commit p.commit (let h = first p p_in in omega arith)))
-
       targets : (x : Record) → list_any (λ y. makes_dangerous_pivot x p y) (history ++ t ∷ []) ≡ list_any (λ y. makes_dangerous_pivot x p y) history
-      targets x = any-append (λ y. makes_dangerous_pivot x p y) history t ∙ ap (λ b. list_any (λ y. makes_dangerous_pivot x p y) history || b) (no_target x) ∙ or_false (list_any (λ y. makes_dangerous_pivot x p y) history)
+      targets x = let less = first p p_in in grind (arith, nat_tests, any-append (λ y. makes_dangerous_pivot x p y) history t)
 
       last_before : list_any (λ y. makes_dangerous_pivot t p y) history ≡ (concurrent_read_write t p && has_earlier_target history p)
       last_before =
-          any_same (λ y. makes_dangerous_pivot t p y) (λ y. concurrent_read_write t p && (concurrent_read_write p y && nat_lt y.commit p.commit)) history
-          (each_in (λ y. makes_dangerous_pivot t p y ≡ (concurrent_read_write t p && (concurrent_read_write p y && nat_lt y.commit p.commit))) history
-          (λ y y_in. without_fourth (concurrent_read_write t p) (concurrent_read_write p y) (nat_lt y.commit p.commit) (nat_le y.commit t.commit) (le-leb y.commit t.commit (let h = first y y_in in omega arith))))
+          any_same _ (λ y. concurrent_read_write t p && (concurrent_read_write p y && nat_lt y.commit p.commit)) history (each_in _ history (λ y y_in. let less = first y y_in in grind (arith, nat_tests)))
           ∙ any-and_left (concurrent_read_write t p) (λ y. concurrent_read_write p y && nat_lt y.commit p.commit) history
 
   -- whether the last is a dangerous pivot itself
   pub own_pivot : is_dangerous_pivot (history ++ t ∷ []) t ≡ stands_between history t
   own_pivot =
-      any_alike (λ x. list_any (λ y. makes_dangerous_pivot x t y) (history ++ t ∷ [])) (λ x. concurrent_read_write x t && list_any (λ y. concurrent_read_write t y && nat_le y.commit x.commit) history) targets (history ++ t ∷ [])
-      ∙ any-append (λ x. concurrent_read_write x t && list_any (λ y. concurrent_read_write t y && nat_le y.commit x.commit) history) history t
+      any_same _ (is_over history t) (history ++ t ∷ []) (each_in _ (history ++ t ∷ []) (λ x _. targets x))
+      ∙ any-append (is_over history t) history t
       ∙ ap (λ b. stands_between history t || b) (and_left (concurrent_read_write t t) _ (no_read_write_itself t))
       ∙ or_false (stands_between history t)
     where
-      targets : (x : Record) → list_any (λ y. makes_dangerous_pivot x t y) (history ++ t ∷ []) ≡ (concurrent_read_write x t && list_any (λ y. concurrent_read_write t y && nat_le y.commit x.commit) history)
+      targets : (x : Record) → list_any (λ y. makes_dangerous_pivot x t y) (history ++ t ∷ []) ≡ is_over history t x
       targets x =
-          any-append (λ y. makes_dangerous_pivot x t y) history t
-          ∙ ap (λ b. list_any (λ y. makes_dangerous_pivot x t y) history || b) (and_left (makes_pivot x t t) _ (and_right (concurrent_read_write x t) (concurrent_read_write t t) (no_read_write_itself t)))
-          ∙ or_false (list_any (λ y. makes_dangerous_pivot x t y) history)
+          grind (arith, common_steps, any-append (λ y. makes_dangerous_pivot x t y) history t, no_read_write_itself t)
           ∙ any_same (λ y. makes_dangerous_pivot x t y) (λ y. concurrent_read_write x t && (concurrent_read_write t y && nat_le y.commit x.commit)) history
-          (each_in (λ y. makes_dangerous_pivot x t y ≡ (concurrent_read_write x t && (concurrent_read_write t y && nat_le y.commit x.commit))) history
-          (λ y y_in. without_third (concurrent_read_write x t) (concurrent_read_write t y) (nat_lt y.commit t.commit) (nat_le y.commit x.commit) (lt-ltb y.commit t.commit (first y y_in))))
+          (each_in _ history (λ y y_in. let less = first y y_in in grind (arith, nat_tests)))
           ∙ any-and_left (concurrent_read_write x t) (λ y. concurrent_read_write t y && nat_le y.commit x.commit) history
 
 -- ---- the verdict over the records that may be kept
@@ -135,24 +122,14 @@ verdict_by_kept history t oldest low first no_pivot = λ i. conflict_of (overwri
     overwritten : find (λ w. is_overwritten history t w.0) t.writes ≡ find (λ w. is_overwritten (kept_above oldest history) t w.0) t.writes
     overwritten = grind (arith, common_steps, find_alike, any_filter, ltb-true, and_parts, lt-ltb)
 
-    from_t : (y : Record) → concurrent_read_write t y ≡ true → nat_lt oldest y.commit ≡ true
-    from_t y h = read_write_kept oldest t y low (or_left (concurrent_read_write t y) (concurrent_read_write y t) h)
-
-    into_t : (x : Record) → concurrent_read_write x t ≡ true → nat_lt oldest x.commit ≡ true
-    into_t x h = read_write_kept oldest t x low (or_right (concurrent_read_write t x) (concurrent_read_write x t) h)
-
     self : is_dangerous_pivot (history ++ t ∷ []) t ≡ stands_between (kept_above oldest history) t
     self = own_pivot history t first
-        ∙ sym (any_filter (λ x. concurrent_read_write x t && list_any (λ y. concurrent_read_write t y && nat_le y.commit x.commit) history) (λ r. nat_lt oldest r.commit)
-        (λ x h. into_t x (and_parts (concurrent_read_write x t) _ h).0) history)
-        ∙ any_alike (λ x. concurrent_read_write x t && list_any (λ y. concurrent_read_write t y && nat_le y.commit x.commit) history)
-        (λ x. concurrent_read_write x t && list_any (λ y. concurrent_read_write t y && nat_le y.commit x.commit) (kept_above oldest history))
-        (λ x. ap (λ b. concurrent_read_write x t && b) (sym (any_filter (λ y. concurrent_read_write t y && nat_le y.commit x.commit) (λ r. nat_lt oldest r.commit) (λ y h. from_t y (and_parts (concurrent_read_write t y) (nat_le y.commit x.commit) h).0) history)))
-        (kept_above oldest history)
+        ∙ sym (any_filter (is_over history t) (λ r. nat_lt oldest r.commit) (λ x h. read_write_kept oldest t x low (or_right (concurrent_read_write t x) _ (and_parts (concurrent_read_write x t) _ h).0)) history)
+        ∙ any_same (is_over history t) (is_over (kept_above oldest history) t) (kept_above oldest history) (each_in _ (kept_above oldest history)
+        (λ x _. ap (λ b. concurrent_read_write x t && b) (sym (any_filter (λ y. concurrent_read_write t y && nat_le y.commit x.commit) (λ r. nat_lt oldest r.commit) (λ y h. read_write_kept oldest t y low (or_left (concurrent_read_write t y) _ (and_parts (concurrent_read_write t y) _ h).0)) history))))
 
     others : find (is_dangerous_pivot (history ++ t ∷ [])) history ≡ find (λ p. concurrent_read_write t p && has_earlier_target history p) (kept_above oldest history)
     others =
-        find_same (is_dangerous_pivot (history ++ t ∷ [])) (λ p. concurrent_read_write t p && has_earlier_target history p) history
-        (each_in (λ p. is_dangerous_pivot (history ++ t ∷ []) p ≡ (concurrent_read_write t p && has_earlier_target history p)) history
-        (λ p p_in. pivot-push history t first p p_in ∙ ap (λ b. b || (concurrent_read_write t p && has_earlier_target history p)) (no_pivot p (Contains-from_in history p p_in))))
-        ∙ sym (find_filter (λ p. concurrent_read_write t p && has_earlier_target history p) (λ r. nat_lt oldest r.commit) (λ p h. from_t p (and_parts (concurrent_read_write t p) (has_earlier_target history p) h).0) history)
+        find_same _ (λ p. concurrent_read_write t p && has_earlier_target history p) history
+        (each_in _ history (λ p p_in. pivot-push history t first p p_in ∙ ap (λ b. b || (concurrent_read_write t p && has_earlier_target history p)) (no_pivot p (Contains-from_in history p p_in))))
+        ∙ sym (find_filter (λ p. concurrent_read_write t p && has_earlier_target history p) (λ r. nat_lt oldest r.commit) (λ p h. read_write_kept oldest t p low (or_left (concurrent_read_write t p) _ (and_parts (concurrent_read_write t p) _ h).0)) history)

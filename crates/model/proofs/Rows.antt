@@ -3,4 +3,3 @@ pub mod Words
 pub mod Snapshots
 pub mod Conflicts
 pub mod Limits
-pub mod Ranges

@@ -1,8 +1,6 @@
 -- The text of each reply. The forms are RESP2's: simple string, error, integer, bulk string, null bulk string, array. The words of
 -- the errors are this project's own.
-use Rattle.std.specs.Prelude.{ℕ, ◌*◌, ◌/◌, ◌%◌, List, [], ◌∷◌, ◌++◌, length, slice_index, codes, Some, None}
-use Rattle.std.specs.List.{flat_map}
-use Rattle.std.specs.Fmt.{decimal}
+use Rattle.std.specs.Prelude.{ℕ, ◌*◌, ◌/◌, ◌%◌, List, [], ◌∷◌, ◌++◌, length, slice_index, codes, Some, None, flat_map, decimal}
 use Rattle.model.specs.Grammar.{crlf, bulk}
 use Rattle.model.specs.Operations.{Response}
 use Rattle.model.specs.Operations.Response.{Done, Pong, Number, Value, Pairs, Refused}

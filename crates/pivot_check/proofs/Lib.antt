@@ -4,7 +4,6 @@ pub mod Ends
 pub mod Histories
 pub mod LastSources
 pub mod Writers
-pub mod Adding
 pub mod Passing
 pub mod Looking
 pub mod Walks

@@ -1,15 +1,15 @@
 -- Marks by their places, in whatever order.
-use Rattle.std.proofs.Common.{◌≡◌, ◌≤◌, ◌<◌, ℕ, zero, suc, Bool, true, false, ◌&&◌, ◌||◌, List, [], ◌∷◌, ◌++◌, Option, None, length, get_or, take, drop, refl, sym, ap, ◌∙◌, add-one, arith}
+use Rattle.std.proofs.Common.{◌≡◌, ◌≤◌, ◌<◌, ◌+◌, ℕ, zero, suc, Bool, false, ◌&&◌, ◌||◌, List, [], ◌∷◌, Option, None, length, get_or, take, drop, refl, sym, ap, ◌∙◌, add-one, arith}
 use Rattle.std.specs.Prelude.{IsPermutation}
 use Rattle.std.specs.List.{list_any}
 use Rattle.std.proofs.Math.Seq.{take-add}
-use Rattle.std.proofs.lemmas.List.{take_all, drop_all, take-append-le}
+use Rattle.std.proofs.lemmas.List.{take_all, drop_all, at_drop_all, at_drop_more}
 use Rattle.std.proofs.lemmas.List.Folds.{list_any-append}
 use Rattle.std.proofs.lemmas.List.Sorted.{list_any-IsPermutation}
 use Rattle.model.specs.Map.{Bytes}
 use Rattle.model.specs.PrivateCopy.{Mark, covers, is_covered}
 use Rattle.model.proofs.Pivots.{or_false}
-use Rattle.marks.specs.declared.held.Held.{Held}
+use Rattle.marks.specs.declared.owned.OwnedMark.{OwnedMark}
 use Rattle.marks.specs.Marked.{mark_of, marks_of}
 use Rattle.marks.proofs.MarkLaws.{length-marks_of}
 use Rattle.pivot_check.specs.Postings.{Posting, least, lesser, is_asked, asked_of, covered_of}
@@ -28,7 +28,7 @@ upto_covered ms k (suc n) =
     ∙ ap (λ l. is_covered l k) (sym (take-add n 1 ms) ∙ ap (λ j. take j ms) (add-one n))
 
 -- in whatever order the places of all marks stand, these cover the same
-pub in_any_order : (hs : List Held) (places : List ℕ) → IsPermutation (places_upto (length hs)) places → AreAllPlaces (marks_of hs) places
+pub in_any_order : (hs : List OwnedMark) (places : List ℕ) → IsPermutation (places_upto (length hs)) places → AreAllPlaces (marks_of hs) places
 in_any_order hs places all k =
     let long : length (marks_of hs) ≤ length hs = omega (arith, length-marks_of hs) in
     sym (list_any-IsPermutation (λ i. is_covered (take 1 (drop i (marks_of hs))) k) (places_upto (length hs)) places all)
@@ -40,24 +40,21 @@ all_places ms places all b flagged ps = least_alike _ _ (λ p. ap (λ x. x && is
 
 -- ---- one place
 
-covers_at : (hs : List Held) (i : ℕ) (h : Held) (k : Bytes) → i < length hs → h ≡ get_or hs i h → is_covered (take 1 (drop i (marks_of hs))) k ≡ covers (mark_of h) k
+covers_at : (hs : List OwnedMark) (i : ℕ) (h : OwnedMark) (k : Bytes) → i < length hs → h ≡ get_or hs i h → is_covered (take 1 (drop i (marks_of hs))) k ≡ covers (mark_of h) k
 covers_at [] i h k lt is = absurd (omega arith)
-covers_at (x ∷ hs) zero h k lt is = or_false (covers (mark_of x) k) ∙ ap (λ (y : Held). covers (mark_of y) k) (sym is)
+covers_at (x ∷ hs) zero h k lt is = or_false (covers (mark_of x) k) ∙ ap (λ (y : OwnedMark). covers (mark_of y) k) (sym is)
 covers_at (x ∷ hs) (suc i) h k lt is = covers_at hs i h k (omega arith) is
 
 -- what is asked at a place is asked of the mark that stands there
-pub asked_at : (hs : List Held) (i : ℕ) (h : Held) (b : ℕ) (flagged : Bool) (ps : List Posting) → i < length hs → h ≡ get_or hs i h
+pub asked_at : (hs : List OwnedMark) (i : ℕ) (h : OwnedMark) (b : ℕ) (flagged : Bool) (ps : List Posting) → i < length hs → h ≡ get_or hs i h
     → least (covered_at (marks_of hs) (i ∷ []) b flagged) ps ≡ least (asked_of (mark_of h) b flagged) ps
 asked_at hs i h b flagged ps lt is = least_alike _ _ (λ p. ap (λ x. x && is_asked b flagged p) (or_false _ ∙ covers_at hs i h p.key lt is)) ps
 
-none_at : (hs : List Held) (i : ℕ) (k : Bytes) → length hs ≤ i → is_covered (take 1 (drop i (marks_of hs))) k ≡ false
-none_at [] zero k le = refl
-none_at [] (suc i) k le = refl
-none_at (h ∷ hs) zero k le = absurd (omega arith)
-none_at (h ∷ hs) (suc i) k le = none_at hs i k (omega arith)
+none_at : (hs : List OwnedMark) (i : ℕ) (k : Bytes) → length hs ≤ i → is_covered (take 1 (drop i (marks_of hs))) k ≡ false
+none_at hs i k le = ap (λ ms. is_covered (take 1 ms) k) (drop_all i (marks_of hs) (omega (arith, length-marks_of hs)))
 
 -- nothing is asked where no mark stands
-pub asked_past : (hs : List Held) (i : ℕ) (b : ℕ) (flagged : Bool) (ps : List Posting) → length hs ≤ i → least (covered_at (marks_of hs) (i ∷ []) b flagged) ps ≡ None
+pub asked_past : (hs : List OwnedMark) (i : ℕ) (b : ℕ) (flagged : Bool) (ps : List Posting) → length hs ≤ i → least (covered_at (marks_of hs) (i ∷ []) b flagged) ps ≡ None
 asked_past hs i b flagged ps le = least_alike _ _ (λ p. ap (λ x. x && is_asked b flagged p) (or_false _ ∙ none_at hs i p.key le)) ps ∙ none_asked (is_asked b flagged) ps
 
 -- ---- a walk over places
@@ -65,25 +62,15 @@ asked_past hs i b flagged ps le = least_alike _ _ (λ p. ap (λ x. x && is_asked
 pub no_place_left : (ms : List Mark) (places : List ℕ) (i : ℕ) (b : ℕ) (flagged : Bool) (ps : List Posting) (found whole : Option ℕ) → length places ≤ i
     → lesser found (least (covered_at ms (drop i places) b flagged) ps) ≡ whole → found ≡ whole
 no_place_left ms places i b flagged ps found whole le known =
-    sym (lesser_none found)
-    ∙ ap (lesser found) (sym (ap (λ l. least (covered_at ms l b flagged) ps) (drop_all i places le) ∙ none_asked (is_asked b flagged) ps))
-    ∙ known
+    sym (lesser_none found) ∙ ap (lesser found) (sym (at_drop_all (λ l. least (covered_at ms l b flagged) ps) places i le ∙ none_asked (is_asked b flagged) ps)) ∙ known
 
 pub next_place : (ms : List Mark) (places : List ℕ) (i : ℕ) (b : ℕ) (flagged : Bool) (ps : List Posting) (found next whole : Option ℕ) → i < length places
     → next ≡ lesser found (least (covered_at ms (get_or places i 0 ∷ []) b flagged) ps) → lesser found (least (covered_at ms (drop i places) b flagged) ps) ≡ whole
-    → lesser next (least (covered_at ms (drop (suc i) places) b flagged) ps) ≡ whole
-next_place ms [] i b flagged ps found next whole lt more known = absurd (omega arith)
-next_place ms (x ∷ places) zero b flagged ps found next whole lt more known =
-    ap (λ o. lesser o (least (covered_at ms places b flagged) ps)) more
-    ∙ lesser_assoc found (least (covered_at ms (x ∷ []) b flagged) ps) (least (covered_at ms places b flagged) ps)
-    ∙ ap (λ o. lesser found (lesser o (least (covered_at ms places b flagged) ps))) (least_alike _ _ (λ p. ap (λ y. y && is_asked b flagged p) (or_false (is_covered (take 1 (drop x ms)) p.key))) ps)
-    ∙ ap (lesser found) (sym (least-or (λ p. is_covered (take 1 (drop x ms)) p.key) (λ p. is_covered_at ms places p.key) (is_asked b flagged) ps))
-    ∙ known
-next_place ms (x ∷ places) (suc i) b flagged ps found next whole lt more known = next_place ms places i b flagged ps found next whole (omega arith) more known
-
--- ---- places that were sorted where they stood
-
-pub written_back : (old new : List ℕ) → length new ≡ length old → take (length old) (new ++ drop (length new) old) ≡ new
-written_back old new long =
-    let fits : length old ≤ length new = omega (arith, long) in
-    take-append-le {A = ℕ} (length old) new (drop (length new) old) fits ∙ take_all (length old) new (omega (arith, long))
+    → lesser next (least (covered_at ms (drop (i + 1) places) b flagged) ps) ≡ whole
+next_place ms places i b flagged ps found next whole lt more known =
+    let x = get_or places i 0 in
+    let left = least (covered_at ms (drop (i + 1) places) b flagged) ps in
+    let here = least-or (λ p. is_covered (take 1 (drop x ms)) p.key) (λ p. is_covered_at ms (drop (i + 1) places) p.key) (is_asked b flagged) ps in
+    let alone = least_alike _ _ (λ p. ap (λ y. y && is_asked b flagged p) (or_false (is_covered (take 1 (drop x ms)) p.key))) ps in
+    ap (λ o. lesser o left) (more ∙ ap (lesser found) alone) ∙ lesser_assoc found _ left
+    ∙ ap (lesser found) (sym (at_drop_more (λ l. least (covered_at ms l b flagged) ps) places i 0 lt ∙ here)) ∙ known

@@ -1,5 +1,5 @@
 -- What is kept of committed transactions, so that a commit can be checked once older ones are forgotten.
-use Rattle.std.specs.Prelude.{◌≡◌, ℕ, ◌<◌, ◌≤◌, nat_le, Bool, false, ◌&&◌, List, [], ◌∷◌, Option, Some, None, find, option_map, map, length, drop, max, ◌+◌, ◌-◌, if◌then◌else◌}
+use Rattle.std.specs.Prelude.{◌≡◌, ℕ, ◌<◌, ◌≤◌, nat_le, Bool, false, ◌&&◌, List, [], ◌∷◌, Option, Some, None, find, option_map, map, max, ◌+◌, ◌-◌, if◌then◌else◌}
 use Rattle.std.specs.List.{list_any}
 use Rattle.model.specs.Map.{Bytes, KeyWrite, is_same_key}
 use Rattle.model.specs.PrivateCopy.{Mark, is_covered}
@@ -18,12 +18,6 @@ pub record KeptRecord : Type 0 where
   pub keys : List Bytes
   pub has_earlier_target : Bool
 
--- the records with a commit number above `oldest`, in the order of their commits, and the last commit number
-pub record KeptFacts : Type 0 where
-  pub records : List KeptRecord
-  pub oldest : ℕ
-  pub last : ℕ
-
 -- what is kept of committed transactions: of each key the last one that has read it, of those with a number above `oldest`; the keys that they wrote, and perhaps some that older ones wrote; and the last commit number
 pub record Facts : Type 0 where
   pub readers : Readers
@@ -36,10 +30,6 @@ key_of w = w.0
 
 abbrev pub keys_of : List KeyWrite → List Bytes
 keys_of ws = map key_of ws
-
--- the records that committed after `begin`: the commit numbers of the records kept are the last ones, without gaps
-abbrev pub since : KeptFacts → ℕ → List KeptRecord
-since f begin = drop (length f.records - (f.last - begin)) f.records
 
 -- whether one of the records has written the key
 abbrev pub is_written : List KeptRecord → Bytes → Bool
@@ -125,10 +115,6 @@ pub record IsEmpty (f : Facts) : Type 0 where
 
 -- a transaction that may ask: it began with a commit number that was given, and with none that was forgotten
 pub record IsInReach (f : Facts) (t : View) : Type 0 where
-  pub begun : t.begin ≤ f.last
-  pub held : f.oldest ≤ t.begin
-
-pub record IsKeptReach (f : KeptFacts) (t : View) : Type 0 where
   pub begun : t.begin ≤ f.last
   pub held : f.oldest ≤ t.begin
 

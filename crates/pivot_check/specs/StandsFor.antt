@@ -12,7 +12,7 @@ use Rattle.model.specs.Dependency.{concurrent_read_write}
 use Rattle.model.specs.Verdict.{verdict, HasNoDangerousPivot}
 use Rattle.snapshot.specs.View.{View}
 use Rattle.last_readers.specs.Readers.{cut, last_reader}
-use Rattle.pivot_check.specs.Kept.{KeptRecord, KeptFacts, Facts, keys_of}
+use Rattle.pivot_check.specs.Kept.{KeptRecord, Facts, keys_of}
 use Rattle.pivot_check.specs.Postings.{Posting, postings_by, least}
 
 -- what is kept of a record of the history, the whole of which decides its flag
@@ -28,14 +28,6 @@ kept_of history r = record {
 -- what is kept of the history: its records with a commit number above `oldest`
 abbrev pub kept_above : ℕ → List Record → List KeptRecord
 kept_above oldest history = map (kept_of history) (filter (λ r. nat_lt oldest r.commit) history)
-
--- the records stand for the history
-pub record KeptStandsFor (f : KeptFacts) (history : List Record) : Type 0 where
-  pub numbered : IsNumberedFrom 0 history
-  pub begun : All (λ r. r.begin < r.commit) history
-  pub no_pivot : HasNoDangerousPivot history
-  pub last : f.last ≡ length history
-  pub records : f.records ≡ kept_above f.oldest history
 
 -- the greatest commit number of the records that pass, 0 where none does
 abbrev pub greatest : (Record → Bool) → List Record → ℕ

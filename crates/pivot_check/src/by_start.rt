@@ -4,20 +4,20 @@ ghost use Rattle.marks.specs.Marked.{marks_of};
 ghost use Rattle.pivot_check.specs.Places.{places_upto, AreAllPlaces};
 
 use arrayvec::ArrayVec;
-use marks::{Held, MARKS_MAX};
+use marks::{MARKS_MAX, OwnedMark};
 use std::cmp::Ordering;
 
 /// Marks, and their places by rising start of the marks. So what one mark covers in a run begins where that of the one before begins or
 /// behind it.
 #[derive(Drop)]
 pub(crate) struct ByStart<'a> {
-    pub(crate) marks: &'a [Held],
+    pub(crate) marks: &'a [OwnedMark],
     pub(crate) places: ArrayVec<u8, MARKS_MAX>,
     ghost all: { AreAllPlaces (marks_of marks.now) places.items },
 }
 
 // Which of the marks at two places starts first.
-fn order_at(marks: &[Held], first: u8, second: u8) -> Ordering {
+fn order_at(marks: &[OwnedMark], first: u8, second: u8) -> Ordering {
     match (marks.get(first as usize), marks.get(second as usize)) {
         (Some(first), Some(second)) => first.lend().start().order(second.lend().start()),
         _ => Ordering::Equal,
@@ -38,7 +38,7 @@ fn places_of(count: usize) -> ArrayVec<u8, MARKS_MAX>
 
 impl<'a> ByStart<'a> {
     // Takes no memory.
-    pub(crate) fn of(marks: &'a [Held]) -> ByStart<'a>
+    pub(crate) fn of(marks: &'a [OwnedMark]) -> ByStart<'a>
         requires { length marks.now ≤ 256 }
         ensures { result.marks.now ≡ marks.now }
     {

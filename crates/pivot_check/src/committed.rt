@@ -13,7 +13,7 @@ ghost use Rattle.pivot_check.specs.Inside.{held_of, size_of};
 use crate::by_start::ByStart;
 use crate::merges::{move_runs, open_last};
 use crate::ready::Ready;
-use crate::run::Run;
+use crate::run::WrittenRun;
 use crate::runs::{add_run, first_overwritten, is_one_old, least_covered, take_old};
 use crate::sources::last_source;
 use crate::stale::Stale;
@@ -44,7 +44,7 @@ const GIVEN_BACK_MAX: usize = 1_024;
 #[derive(Drop)]
 pub struct Committed {
     readers: LastReaders,
-    runs: Vec<Run>,
+    runs: Vec<WrittenRun>,
     oldest: u64,
     last: u64,
     // what the next commit needs
@@ -275,7 +275,7 @@ impl Committed {
     }
 
     // Takes out a run that has no number for which one may ask, if there is one.
-    fn take_old(&mut self) -> Option<Run>
+    fn take_old(&mut self) -> Option<WrittenRun>
         ensures stands_for { (h : List Record) → StandsFor self.old.facts h → StandsFor self.new.facts h }
         ensures readers { self.new.facts.readers ≡ self.old.facts.readers }
         ensures oldest { self.new.facts.oldest ≡ self.old.facts.oldest }
@@ -313,7 +313,7 @@ impl Committed {
     }
 
     // Gives back so much at most of a run that was taken out, the whole of it at once where that is enough.
-    fn give_back_run(&mut self, run: Run, most: usize) -> usize
+    fn give_back_run(&mut self, run: WrittenRun, most: usize) -> usize
         requires none { self.old.held.written.taken ≡ 0 }
         requires some { 0 < most }
         requires most { most ≤ given_a_forget }

@@ -8,7 +8,7 @@ ghost use Rattle.pivot_check.specs.Inside.{postings_in, sizes_of, sizes_in};
 ghost use Rattle.pivot_check.specs.Merged.{IsMovedBy, fit_one, wholes_of};
 
 use crate::bound::{BLOCK, Bound};
-use crate::run::Run;
+use crate::run::WrittenRun;
 use crate::written::Written;
 use std::alloc::Global;
 
@@ -16,7 +16,7 @@ use std::alloc::Global;
 const MERGED_MAX: usize = 131_072;
 
 // Are both at rest, of a like size, with numbers above `oldest`, and not too long for one?
-fn are_alike(first: &Run, second: &Run, oldest: u64) -> bool
+fn are_alike(first: &WrittenRun, second: &WrittenRun, oldest: u64) -> bool
     ensures alike { result ≡ fit_one oldest (sizes_of first.now) (sizes_of second.now) }
     ensures first { result ≡ true → left first.now.first + left first.now.second ≡ 0 }
     ensures second { result ≡ true → left second.now.first + left second.now.second ≡ 0 }
@@ -29,7 +29,7 @@ fn are_alike(first: &Run, second: &Run, oldest: u64) -> bool
 }
 
 // Places for the postings of both runs.
-fn places_for(alloc: Global, first: &Run, second: &Run) -> Option<Vec<Written>>
+fn places_for(alloc: Global, first: &WrittenRun, second: &WrittenRun) -> Option<Vec<Written>>
     ensures none { IfSome result (λ v. length v.items ≡ 0) }
     ensures room { IfSome result (λ v. left first.now.made + left second.now.made ≤ vec_capacity v) }
 {
@@ -51,7 +51,7 @@ fn bounds_for(alloc: Global, count: usize) -> Vec<Bound>
 
 // Begins to make one run of that at the place and the one before it, where they are alike. It takes memory; where that is refused, it counts
 // the refusal, and the runs stay. Are they alike?
-fn open_at(runs: &mut Vec<Run>, place: usize, oldest: u64, refused: &mut u64) -> bool
+fn open_at(runs: &mut Vec<WrittenRun>, place: usize, oldest: u64, refused: &mut u64) -> bool
     requires some { 0 < place }
     requires within { place < vec_len runs.old }
     ensures same { (c : Posting → Bool) → least c (postings_in runs.new.items) ≡ least c (postings_in runs.old.items) }
@@ -76,7 +76,7 @@ fn open_at(runs: &mut Vec<Run>, place: usize, oldest: u64, refused: &mut u64) ->
 
 // Begins to make one run of the last two beside one another that are alike. It takes memory; where that is refused, it counts the refusal, and
 // the runs stay.
-pub(crate) fn open_last(runs: &mut Vec<Run>, oldest: u64, refused: &mut u64)
+pub(crate) fn open_last(runs: &mut Vec<WrittenRun>, oldest: u64, refused: &mut u64)
     ensures same { (c : Posting → Bool) → least c (postings_in runs.new.items) ≡ least c (postings_in runs.old.items) }
     ensures tried { IsTried (fit_one oldest) (sizes_in runs.old.items) (sizes_in runs.new.items) refused.old refused.new }
 {
@@ -89,7 +89,7 @@ pub(crate) fn open_last(runs: &mut Vec<Run>, oldest: u64, refused: &mut u64)
 }
 
 // Moves so many postings at most of the run at the place, where there is one with numbers above `oldest`: how many moves are left.
-fn move_at(runs: &mut Vec<Run>, place: usize, oldest: u64, most: usize) -> usize
+fn move_at(runs: &mut Vec<WrittenRun>, place: usize, oldest: u64, most: usize) -> usize
     ensures same { (c : Posting → Bool) → least c (postings_in runs.new.items) ≡ least c (postings_in runs.old.items) }
     ensures most { result ≤ most }
     ensures lasts { lasts_of (sizes_in runs.new.items) ≡ lasts_of (sizes_in runs.old.items) }
@@ -108,7 +108,7 @@ fn move_at(runs: &mut Vec<Run>, place: usize, oldest: u64, most: usize) -> usize
 }
 
 // Moves so many postings at most of the runs that are being made of two, of the last runs first: these are the shortest.
-pub(crate) fn move_runs(runs: &mut Vec<Run>, oldest: u64, most: usize)
+pub(crate) fn move_runs(runs: &mut Vec<WrittenRun>, oldest: u64, most: usize)
     ensures same { (c : Posting → Bool) → least c (postings_in runs.new.items) ≡ least c (postings_in runs.old.items) }
     ensures moved { IsMovedBy oldest most (sizes_in runs.old.items) (sizes_in runs.new.items) }
 {

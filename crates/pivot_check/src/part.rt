@@ -11,7 +11,7 @@ ghost use Rattle.pivot_check.specs.Places.{covered_at};
 use crate::bound::{BLOCK, Bound};
 use crate::by_start::ByStart;
 use crate::written::{Span, Written, covered, least_number};
-use marks::{Held, MarkRef};
+use marks::{MarkRef, OwnedMark};
 use std::alloc::Global;
 
 /// Written keys by rising key. Those before `start` were taken: their numbers and flags stay, so that the bounds stay true. The bounds of
@@ -199,7 +199,7 @@ impl Part {
     // Looks at the postings that the mark at a place covers, if there is one.
     fn look_at(
         &self,
-        marks: &[Held],
+        marks: &[OwnedMark],
         place: u8,
         looked: Looked,
         begin: u64,

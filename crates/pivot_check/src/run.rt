@@ -19,7 +19,7 @@ use std::mem;
 /// run for several commits. It is at rest, with all of it in `made`, or is being made of two runs. Then it has places for what is left of
 /// them.
 #[derive(Drop)]
-pub(crate) struct Run {
+pub(crate) struct WrittenRun {
     pub(crate) last: u64,
     // what is left of the two runs that it is made of
     pub(crate) first: Part,
@@ -39,11 +39,11 @@ fn nothing(alloc: Global) -> Part
     Part::of(Vec::new(alloc), Vec::new(alloc))
 }
 
-impl Run {
+impl WrittenRun {
     ghost use Rattle.pivot_check.specs.Inside.{held_of};
 
     // These postings, none of which has a number above `last`.
-    pub(crate) fn of(written: Vec<Written>, last: u64) -> Run
+    pub(crate) fn of(written: Vec<Written>, last: u64) -> WrittenRun
         requires rising { IsTrue (keys_rise written.items) }
         requires upto { IsTrue (are_upto last written.items) }
         ensures same { (c : Posting → Bool) → least c (live_in result.made result.first result.second) ≡ least c written.items }
@@ -52,7 +52,7 @@ impl Run {
         ensures made { left result.made ≡ length written.items }
     {
         let alloc = *written.allocator();
-        Run {
+        WrittenRun {
             last,
             first: nothing(alloc),
             second: nothing(alloc),
@@ -112,7 +112,7 @@ impl Run {
     }
 
     // Begins to make one run of this and a later one, both at rest, in the places that were made for it.
-    pub(crate) fn join(&mut self, second: Run, places: Vec<Written>, bounds: Vec<Bound>)
+    pub(crate) fn join(&mut self, second: WrittenRun, places: Vec<Written>, bounds: Vec<Bound>)
         requires first { left self.old.first + left self.old.second ≡ 0 }
         requires second { left second.first + left second.second ≡ 0 }
         requires none { length places.items ≡ 0 }
@@ -123,7 +123,7 @@ impl Run {
         ensures made { left self.new.made ≡ 0 }
         ensures same { (c : Posting → Bool) → least c (live_in self.new.made self.new.first self.new.second) ≡ lesser (least c (live_in self.old.made self.old.first self.old.second)) (least c (live_in second.made second.first second.second)) }
     {
-        let Run { last, made, .. } = second;
+        let WrittenRun { last, made, .. } = second;
         self.last = self.last.max(last);
         self.second = made;
         self.first = mem::replace(&mut self.made, Part::of(places, bounds));

@@ -3,7 +3,7 @@ ghost use Rattle.std.specs.Prelude.{◌≡◌, ◌≤◌, ◌<◌, ◌+◌};
 ghost use Rattle.std.specs.Vec.{vec_len};
 
 use crate::part::Part;
-use crate::run::Run;
+use crate::run::WrittenRun;
 use crate::written::Written;
 
 /// The written keys of a run of which nothing is asked any more. Each of them has memory of its own where its key is long, so that a run
@@ -35,12 +35,12 @@ fn shorten(written: &mut Vec<Written>, most: usize) -> usize
 }
 
 impl Stale {
-    pub(crate) fn of(run: Run) -> Stale
+    pub(crate) fn of(run: WrittenRun) -> Stale
         ensures first { result.first ≡ run.first.written }
         ensures second { result.second ≡ run.second.written }
         ensures made { result.made ≡ run.made.written }
     {
-        let Run {
+        let WrittenRun {
             first,
             second,
             made,

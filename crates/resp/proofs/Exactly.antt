@@ -10,7 +10,7 @@ one_more : (more : List ℕ) → 1 ≤ length more → (rest : List ℕ) → res
 one_more more some rest e = let none : length (rest ++ more) ≡ 0 = ap length e in omega (arith, length-append rest more)
 
 -- a request stands at the front
-module _ (input text rest : List ℕ) (parts : List (List ℕ)) (used : ℕ) (spells : Spells text parts) (is : input ≡ text ++ rest) (long : used ≡ length input - length rest) where
+module _ {input text : List ℕ} (rest : List ℕ) {parts : List (List ℕ)} {used : ℕ} (spells : Spells text parts) (is : input ≡ text ++ rest) (long : used ≡ length input - length rest) where
   text_len : used ≡ length text
   text_len = omega (arith, ap length is, length-append text rest)
 

@@ -21,9 +21,7 @@ given_front steps view s [] (x ∷ xs) t h y = absurd (h x y.0 y.1)
 given_front steps view s (a ∷ all) (x ∷ xs) t h y =
     let next = h.1 x y.0 y.1 in
     let others = given_front steps view y.0 all xs t next.1 y.2 in
-    let first = next.0 in
-    let rest = others.1 in
-    (others.0, cc)
+    (others.0, grind arith)
 
 -- the line and the pairs so far
 abbrev pub pairs_text : ℕ → List (KeyRef × Bor (List ℕ)) → List ℕ
@@ -44,5 +42,4 @@ same_given steps view s [] (x ∷ xs) t u h y last = absurd (h x y.0 y.1)
 same_given steps view s (a ∷ all) (x ∷ xs) t u h y last =
     let next = h.1 x y.0 y.1 in
     let others = same_given steps view y.0 all xs t u next.1 y.2 last in
-    let first = next.0 in
-    cc
+    grind arith

@@ -1,9 +1,8 @@
 -- The number whose decimal some digits are.
 use Rattle.std.proofs.lemmas.Grind.{common_steps}
-use Rattle.std.proofs.Common.{◌≡◌, ℕ, zero, suc, ◌<◌, ◌≤◌, ◌^◌, List, Bool, false, cond, Some, None, refl, sym, ap, ◌∙◌, arith, inl, inr}
+use Rattle.std.proofs.Common.{◌≡◌, ℕ, zero, suc, ◌<◌, ◌≤◌, ◌^◌, List, Some, None, refl, sym, ap, ◌∙◌, arith}
 use Rattle.std.specs.Prelude.{Result, Ok, Err}
 use Rattle.std.specs.Fmt.{decimal}
-use Rattle.std.specs.Str.{bytes_eq}
 use Rattle.std.proofs.lemmas.Fmt.{decimal_injective}
 use Rattle.std.proofs.lemmas.Slice.Eq.{bytes_eq-Decides}
 use Rattle.std.proofs.lemmas.Bool.{cases_Bool}
@@ -15,15 +14,7 @@ number_found : (most n : ℕ) (digits : List ℕ) → most < 2 ^ 64 → 1 ≤ n 
 unfolding number_up_to
 number_found zero n digits small some le e = absurd (omega arith)
 number_found (suc most) n digits small some le e =
-    elim (cases_Bool (bytes_eq digits (decimal (suc most)))) [
-      | inl same ↦ let is : suc most ≡ n = decimal_injective (suc most) n small (omega arith) (sym ((bytes_eq-Decides digits (decimal (suc most))).0 same) ∙ e) in ap (λ (b : Bool). cond b (Some (suc most)) (number_up_to most digits)) same ∙ ap (λ (k : ℕ). Some k) is
-      | inr other ↦
-          let differ : n ≡ suc most → ⊥ = λ is. differs other (e ∙ ap decimal is) in
-          ap (λ (b : Bool). cond b (Some (suc most)) (number_up_to most digits)) other ∙ number_found most n digits (omega arith) some (omega arith) e
-    ]
-  where
-    differs : bytes_eq digits (decimal (suc most)) ≡ false → digits ≡ decimal (suc most) → ⊥
-    differs other is = let same = (bytes_eq-Decides digits (decimal (suc most))).1 is in cc
+    grind (arith, common_steps, cases_Bool, bytes_eq-Decides, decimal_injective, number_found most n digits (omega arith) some)
 
 number_absent : (most : ℕ) (digits : List ℕ) → ((n : ℕ) → 1 ≤ n → n ≤ most → digits ≡ decimal n → ⊥) → number_up_to most digits ≡ None
 unfolding number_up_to

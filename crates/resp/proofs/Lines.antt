@@ -5,10 +5,8 @@ use Rattle.std.specs.Fmt.{decimal}
 use Rattle.std.proofs.lemmas.Fmt.{decimal_digit, decimal_injective}
 use Rattle.std.proofs.lemmas.List.{append-nil, take_rest}
 use Rattle.model.specs.Bounds.{value_max}
-use Rattle.resp.specs.declared.decoding.Stop.{Stop}
-use Rattle.resp.specs.declared.decoding.Stop.TheVariants.{More, Bad}
 use Rattle.model.specs.Grammar.{crlf}
-use Rattle.resp.specs.Reading.{Stops, Only, CountLine, LengthLine}
+use Rattle.resp.specs.Reading.{Stop, More, Bad, Stops, Only, CountLine, LengthLine}
 use Rattle.resp.proofs.Behind.{stops_behind}
 use Rattle.resp.proofs.Digits.{IsDigit, AreDigits, same_digits, is_front, decimal_digits, front_of_decimal}
 
@@ -32,10 +30,7 @@ digit_text : (d : ℕ) → 48 ≤ d → d ≤ 57 → decimal (d - 48) ≡ d ∷ 
 digit_text d low high = let is : 48 + (d - 48) ≡ d = omega arith in decimal_digit (d - 48) (omega arith) ∙ ap (λ (x : ℕ). x ∷ []) is
 
 pub nothing_of_count : (bytes : List ℕ) → length bytes < 1 → Stops CountLine bytes More
-nothing_of_count [] none = (decimal 1 ++ crlf, 1, lit, (omega arith, omega arith, refl))
-  where
-    lit : 1 ≤ length (decimal 1 ++ crlf)
-    lit = rw (decimal_digit 1 (omega arith)) (omega arith)
+nothing_of_count [] none = (decimal 1 ++ crlf, 1, rw (decimal_digit 1 (omega arith)) (omega arith), (omega arith, omega arith, refl))
 nothing_of_count (x ∷ bytes) none = absurd (omega arith)
 
 pub no_count : (bytes : List ℕ) → 1 ≤ length bytes → (49 ≤ get_or bytes 0 0 → get_or bytes 0 0 ≤ 52 → ⊥) → Stops CountLine bytes Bad
@@ -57,10 +52,7 @@ count_text bytes rest d is low high =
 -- ---- the length of a part
 
 pub nothing_of_length : (bytes : List ℕ) → length bytes ≡ 0 → Stops LengthLine bytes More
-nothing_of_length [] none = (decimal 0 ++ crlf, 0, lit, (omega arith, refl))
-  where
-    lit : 1 ≤ length (decimal 0 ++ crlf)
-    lit = rw (decimal_digit 0 (omega arith)) (omega arith)
+nothing_of_length [] none = (decimal 0 ++ crlf, 0, rw (decimal_digit 0 (omega arith)) (omega arith), (omega arith, refl))
 nothing_of_length (x ∷ bytes) none = absurd (omega arith)
 
 -- no digit stands at the front

@@ -8,10 +8,8 @@ use Rattle.std.proofs.lemmas.List.Concat.{flat_map-append}
 use Rattle.std.proofs.lemmas.List.Elements.{All-append, All-replicate, All-nil, All-cons, All-head, All-tail}
 use Rattle.model.specs.Bounds.{value_max}
 use Rattle.model.proofs.Fronts.{same_front}
-use Rattle.resp.specs.declared.decoding.Stop.{Stop}
-use Rattle.resp.specs.declared.decoding.Stop.TheVariants.{More}
 use Rattle.model.specs.Grammar.{crlf, bulk, array_of_bulks, IsPart, IsRequest, Spells}
-use Rattle.resp.specs.Reading.{Stops, Only, CountLine, LengthLine, PartText}
+use Rattle.resp.specs.Reading.{Stop, More, Stops, Only, CountLine, LengthLine, PartText}
 use Rattle.resp.proofs.Behind.{stops_behind}
 use Rattle.resp.proofs.Lines.{line_one_form}
 
@@ -44,14 +42,11 @@ part_mark bytes e stopped =
 pub part_length : (bytes rest : List ℕ) (e : Stop) → bytes ≡ 36 ∷ rest → Stops LengthLine rest e → Stops PartText bytes e
 part_length bytes rest e is stopped =
     stops_behind LengthLine PartText (36 ∷ []) rest bytes e is (decimal 0 ++ crlf, 0, (omega arith, refl))
-    (λ t n h. (replicate n 0 ++ crlf, replicate n 0, (zeros_part n h.0, made t n h.1)))
+    (λ t n h. (replicate n 0 ++ crlf, replicate n 0, (zeros_part n h.0, rw (h.1, length-replicate {A = ℕ} n 0) (ap (λ (xs : List ℕ). 36 ∷ xs) (sym (append_assoc (decimal n ++ crlf) (replicate n 0) crlf))))))
     (λ some text more others p h joined.
     let spelled : 36 ∷ (rest ++ more) ≡ 36 ∷ ((decimal (length p) ++ crlf) ++ (p ++ (crlf ++ others))) = joined ∙ ap (λ (xs : List ℕ). xs ++ others) h.1 ∙ bulk_text p others in
     (decimal (length p) ++ crlf, p ++ (crlf ++ others), length p, (h.0.short, refl), cc))
     stopped
-  where
-    made : (t : List ℕ) (n : ℕ) → t ≡ decimal n ++ crlf → (36 ∷ []) ++ (t ++ (replicate n 0 ++ crlf)) ≡ bulk (replicate n 0)
-    made t n same = rw (same, length-replicate {A = ℕ} n 0) (ap (λ (xs : List ℕ). 36 ∷ xs) (sym (append_assoc (decimal n ++ crlf) (replicate n 0) crlf)))
 
 pub part_short : (bytes line rest : List ℕ) (len : ℕ) → bytes ≡ 36 ∷ (line ++ rest) → LengthLine line len → length rest < len → All (λ b. b < 256) rest → Stops PartText bytes More
 part_short bytes line rest len is h less bytes_fit =
@@ -59,22 +54,16 @@ part_short bytes line rest len is h less bytes_fit =
     let whole : List ℕ = rest ++ replicate gap 0 in
     let whole_len : length whole ≡ len = omega (arith, length-append rest (replicate gap 0), length-replicate {A = ℕ} gap 0) in
     let fits : IsPart whole = record { short = omega (arith, h.0); bytes = All-append (λ b. b < 256) rest (replicate gap 0) bytes_fit (All-replicate (λ b. b < 256) gap 0 (omega arith)) } in
-    (replicate gap 0 ++ crlf, whole, omega (arith, length-append (replicate gap 0) crlf), (fits, made bytes line rest gap len is h.1 whole_len))
-  where
-    made : (bytes line rest : List ℕ) (gap len : ℕ) → bytes ≡ 36 ∷ (line ++ rest) → line ≡ decimal len ++ crlf → length (rest ++ replicate gap 0) ≡ len → bytes ++ (replicate gap 0 ++ crlf) ≡ bulk (rest ++ replicate gap 0)
-    made bytes line rest gap len is same whole_len = rw (is, same, whole_len) (joined_text (decimal len) rest (replicate gap 0))
+    (replicate gap 0 ++ crlf, whole, omega (arith, length-append (replicate gap 0) crlf), (fits, rw (is, h.1, whole_len) (joined_text (decimal len) rest (replicate gap 0))))
 
 pub part_end : (bytes line part rest : List ℕ) (len : ℕ) (e : Stop) → bytes ≡ 36 ∷ (line ++ (part ++ rest)) → LengthLine line len → length part ≡ len → All (λ b. b < 256) part → Stops (Only crlf) rest e → Stops PartText bytes e
 part_end bytes line part rest len e is h same_len bytes_fit stopped =
     let fits : IsPart part = record { short = omega (arith, h.0); bytes = bytes_fit } in
     stops_behind (Only crlf) PartText (36 ∷ (line ++ part)) rest bytes e (is ∙ ap (λ (xs : List ℕ). 36 ∷ xs) (sym (append_assoc line part rest))) (crlf, tt, refl)
-    (λ t v same. ([], part, (fits, rw (append-nil t, same) (made line part len h.1 same_len))))
+    (λ t v same. ([], part, (fits, rw (append-nil t, same, h.1, same_len) refl)))
     (λ some text more others p g joined. (crlf, others, tt, refl, behind line part len p rest more others h fits same_len g.0 (joined ∙ ap (λ (xs : List ℕ). xs ++ others) g.1)))
     stopped
   where
-    made : (line part : List ℕ) (len : ℕ) → line ≡ decimal len ++ crlf → length part ≡ len → (36 ∷ (line ++ part)) ++ crlf ≡ bulk part
-    made line part len same same_len = rw (same, same_len) refl
-
     behind : (line part : List ℕ) (len : ℕ) (p rest more others : List ℕ) → LengthLine line len → IsPart part → length part ≡ len → IsPart p → (36 ∷ (line ++ part)) ++ (rest ++ more) ≡ bulk p ++ others → rest ++ more ≡ crlf ++ others
     behind line part len p rest more others h fits same_len ip joined = grind (arith, common_steps, append_assoc, bulk_text, line_one_form, same_front)
 
@@ -92,10 +81,7 @@ parts_one_form : (ps qs : List (List ℕ)) (a b : List ℕ) → length ps ≡ le
 parts_one_form [] [] a b len ips iqs e = (refl, e)
 parts_one_form (p ∷ ps) (q ∷ qs) a b len ips iqs e =
     let one = bulk_one_form p q (flat_map bulk ps ++ a) (flat_map bulk qs ++ b) (All-head IsPart p ps ips) (All-head IsPart q qs iqs) (sym (append_assoc (bulk p) (flat_map bulk ps) a) ∙ e ∙ append_assoc (bulk q) (flat_map bulk qs) b) in
-    let others = parts_one_form ps qs a b (omega arith) (All-tail IsPart p ps ips) (All-tail IsPart q qs iqs) one.1 in
-    let first = one.0 in
-    let rest = others.0 in
-    (cc, others.1)
+    grind (arith, one, parts_one_form ps qs a b (omega arith) (All-tail IsPart p ps ips) (All-tail IsPart q qs iqs) one.1)
 parts_one_form b0 b1 a b len ips iqs e = absurd (omega arith)
 
 -- one request's text doesn't begin another's
@@ -119,24 +105,18 @@ empty_request n some few = record { some = omega (arith, length-replicate {A = L
 pub request_mark : (bytes : List ℕ) (e : Stop) → Stops (Only (42 ∷ [])) bytes e → Stops Spells bytes e
 request_mark bytes e stopped =
     stops_behind (Only (42 ∷ [])) Spells [] bytes bytes e refl (42 ∷ [], tt, refl)
-    (λ t v is. ((decimal 1 ++ crlf) ++ flat_map bulk ([] ∷ []), [] ∷ [], (one_part, ap (λ (xs : List ℕ). xs ++ ((decimal 1 ++ crlf) ++ flat_map bulk ([] ∷ []))) is)))
+    (λ t v is. ((decimal 1 ++ crlf) ++ flat_map bulk ([] ∷ []), [] ∷ [], (record { some = omega arith; few = omega arith; each = All-cons IsPart [] [] empty_part (All-nil IsPart) }, ap (λ (xs : List ℕ). xs ++ ((decimal 1 ++ crlf) ++ flat_map bulk ([] ∷ []))) is)))
     (λ some text more others ps h joined. (42 ∷ [], (decimal (length ps) ++ crlf) ++ (flat_map bulk ps ++ others), tt, refl, joined ∙ ap (λ (xs : List ℕ). xs ++ others) h.1 ∙ array_text ps others))
     stopped
-  where
-    one_part : IsRequest ([] ∷ [])
-    one_part = record { some = omega arith; few = omega arith; each = All-cons IsPart [] [] empty_part (All-nil IsPart) }
 
 pub request_count : (bytes rest : List ℕ) (e : Stop) → bytes ≡ 42 ∷ rest → Stops CountLine rest e → Stops Spells bytes e
 request_count bytes rest e is stopped =
     stops_behind CountLine Spells (42 ∷ []) rest bytes e is (decimal 1 ++ crlf, 1, (omega arith, omega arith, refl))
-    (λ t n h. (flat_map bulk (replicate n []), replicate n [], (empty_request n h.0 h.1, made t n h.2)))
+    (λ t n h. (flat_map bulk (replicate n []), replicate n [], (empty_request n h.0 h.1, rw (h.2, length-replicate {A = List ℕ} n []) refl)))
     (λ some text more others ps h joined.
     let spelled : 42 ∷ (rest ++ more) ≡ 42 ∷ ((decimal (length ps) ++ crlf) ++ (flat_map bulk ps ++ others)) = joined ∙ ap (λ (xs : List ℕ). xs ++ others) h.1 ∙ array_text ps others in
     (decimal (length ps) ++ crlf, flat_map bulk ps ++ others, length ps, (h.0.some, h.0.few, refl), cc))
     stopped
-  where
-    made : (t : List ℕ) (n : ℕ) → t ≡ decimal n ++ crlf → (42 ∷ []) ++ (t ++ flat_map bulk (replicate n [])) ≡ array_of_bulks (replicate n [])
-    made t n same = rw (same, length-replicate {A = List ℕ} n []) refl
 
 -- a request's line, and the parts so far
 abbrev pub request_front : ℕ → List (List ℕ) → List ℕ

@@ -4,8 +4,8 @@ use Rattle.std.specs.Borrow.{Bor}
 use Rattle.std.specs.Fmt.{decimal}
 use Rattle.model.specs.Bounds.{value_max}
 use Rattle.model.specs.Grammar.{crlf, bulk, IsPart}
-use Rattle.resp.specs.declared.decoding.Stop.{Stop}
-use Rattle.resp.specs.declared.decoding.Stop.TheVariants.{More, Bad}
+pub use Rattle.resp.specs.declared.decoding.Stop.{Stop}
+pub use Rattle.resp.specs.declared.decoding.Stop.TheVariants.{More, Bad}
 
 -- which texts have which values
 abbrev pub Grammar : Type 0 → Type 1

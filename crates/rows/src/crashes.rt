@@ -3,7 +3,6 @@ ghost use Rattle.std.specs.Prelude.{◌≤◌};
 
 use crate::hub_store::HubStore;
 use crate::side_by_side::{OPENING, empty_log, opened};
-use crate::stopping::Stopping;
 use crate::stored::EngineStore;
 use crate::stores::{Decoding, Store, first_difference, reply_to};
 use crate::worked::Line;
@@ -15,6 +14,7 @@ use sessions::Hub;
 use std::alloc::Global;
 use std::process::Abort;
 use std::test::Fail;
+use test_devices::Stopping;
 
 const SECTORS: u64 = 16;
 

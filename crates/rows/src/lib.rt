@@ -15,8 +15,6 @@ mod plain;
 mod replays;
 #[cfg(test)]
 mod side_by_side;
-#[cfg(test)]
-mod stopping;
 mod stored;
 mod stores;
 #[cfg(test)]

@@ -1,17 +1,10 @@
 pub mod RequestSteps
-pub mod ServeEffects
 pub mod EventSteps
 pub mod StreamLaws
-pub mod OpenTransactions
-pub mod CrashSteps
 pub mod Reached
-pub mod RunLaws
 pub mod LifeLaws
 pub mod Runs
 pub mod LivesLaws
-pub mod OneOrders
-pub mod PrivateReplies
 pub mod HubEvents
-pub mod PiecesOfStreams
 pub mod Places
 pub mod ReplyLengths

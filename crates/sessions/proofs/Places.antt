@@ -1,12 +1,11 @@
 -- Where the place found last, or a binary search, stands among sessions by rising number.
 use Rattle.std.proofs.lemmas.Grind.{common_steps}
-use Rattle.std.proofs.Common.{◌≡◌, ℕ, zero, suc, ◌<◌, ◌≤◌, Bool, true, false, T, cond, List, [], ◌∷◌, length, get_or, set, insert, Option, Some, Result, Ok, Err, IfOk, IfErr, Ordering, Less, Equal, Greater, is_eq, nat_cmp, refl, sym, ap, subst, ◌∙◌, arith}
+use Rattle.std.proofs.Common.{◌≡◌, ℕ, zero, suc, ◌<◌, ◌≤◌, Bool, true, false, T, cond, List, [], ◌∷◌, length, get_or, set, insert, Some, Result, Ok, Err, IfOk, IfErr, Less, Equal, Greater, nat_cmp, refl, sym, ap, subst, ◌∙◌, arith}
 use Rattle.std.specs.List.Sorted.{IsSearchInRange, IsBinarySearchResult}
-use Rattle.std.specs.Ordering.{match_ordering, ordering_reverse}
+use Rattle.std.specs.Ordering.{is_lt, ordering_reverse}
 use Rattle.std.specs.FinMap.Entries.{put, below_all, is_sorted, is_sorted-put}
-use Rattle.std.specs.Map.{lookup, set_value, remove_entry}
+use Rattle.std.specs.Map.{lookup, remove_entry}
 use Rattle.std.specs.BTreeMap.{insert_entry, is_at}
-use Rattle.std.proofs.lemmas.Bool.Decides.{nat_tests}
 use Rattle.std.proofs.lemmas.Cmp.{nat_cmp_total, tied_itself}
 use Rattle.std.proofs.lemmas.Map.Lookups.{exact_unsigned}
 use Rattle.model.proofs.InOrder.{parts, both, below_at, rise}
@@ -17,71 +16,32 @@ module _ {X : Type 0} where
   IsRising es = T (is_sorted nat_cmp es)
 
   module _ (s : ℕ) where
-    -- what the number's place among e and es comes to, by how the number compares to that of e
-    look : ℕ × X → List (ℕ × X) → Ordering → Option X
-    look e es o = cond (is_eq o) (Some e.1) (lookup (is_at (nat_cmp s)) es)
-
-    write : ℕ × X → List (ℕ × X) → X → Ordering → List (ℕ × X)
-    write e es x o = cond (is_eq o) ((e.0, x) ∷ es) (e ∷ set_value (is_at (nat_cmp s)) es x)
-
-    take_out : ℕ × X → List (ℕ × X) → Ordering → List (ℕ × X)
-    take_out e es o = cond (is_eq o) es (e ∷ remove_entry (is_at (nat_cmp s)) es)
-
-    put_in : ℕ × X → List (ℕ × X) → X → Ordering → List (ℕ × X)
-    put_in e es x o = match_ordering o ((s, x) ∷ e ∷ es) ((e.0, x) ∷ es) (e ∷ insert_entry nat_cmp es s x)
-
     -- ---- the number is there
 
     pub is_place : (es : List (ℕ × X)) (i : ℕ) → IsRising es → i < length es → ((d : ℕ × X) → (get_or es i d).0 ≡ s) → IsPlace es s i
-    unfolding look write take_out put_in
     is_place [] i h lt number = absurd (omega arith)
     is_place (e ∷ es) zero h lt number =
         let level : nat_cmp s e.0 ≡ Equal = ap (λ k. nat_cmp k e.0) (sym (number e)) ∙ tied_itself nat_cmp_total e.0 in
-        record {
-          in_range = lt;
-          number = number;
-          found = λ d. ap (look e es) level;
-          written = λ x. ap (λ k. (k, x) ∷ es) (sym (number e)) ∙ sym (ap (write e es x) level);
-          inserted = λ x. ap (λ k. (k, x) ∷ es) (sym (number e)) ∙ sym (ap (put_in e es x) level);
-          removed = sym (ap (take_out e es) level);
-        }
+        let same = number e in grind (arith, common_steps)
     is_place (e ∷ es) (suc i) h lt number =
         let p = parts _ _ h in
         let above : nat_cmp s e.0 ≡ Greater = nat_cmp_total.antisymm s e.0 ∙ ap ordering_reverse (ap (nat_cmp e.0) (sym (number e)) ∙ below_at nat_cmp e.0 es i e p.0 (omega arith)) in
         let rest = is_place es i p.1 (omega arith) number in
-        record {
-          in_range = lt;
-          number = number;
-          found = λ d. ap (look e es) above ∙ rest.found d;
-          written = λ x. ap (λ l. e ∷ l) (rest.written x) ∙ sym (ap (write e es x) above);
-          inserted = λ x. ap (λ l. e ∷ l) (rest.inserted x) ∙ sym (ap (put_in e es x) above);
-          removed = ap (λ l. e ∷ l) rest.removed ∙ sym (ap (take_out e es) above);
-        }
+        grind (arith, common_steps)
 
     -- ---- it isn't
 
     is_gap : (es : List (ℕ × X)) (i : ℕ) → i ≤ length es → ((j : ℕ) (d : ℕ × X) → j < i → nat_cmp (get_or es j d).0 s ≡ Less) → ((j : ℕ) (d : ℕ × X) → i ≤ j → j < length es → nat_cmp (get_or es j d).0 s ≡ Greater) → IsGap es s i
-    unfolding look write take_out put_in
     is_gap [] zero le less more = record { in_range = le; absent = refl; unchanged = refl; inserted = λ x. refl }
     is_gap [] (suc i) le less more = absurd (omega arith)
     is_gap (e ∷ es) zero le less more =
         let below : nat_cmp s e.0 ≡ Less = nat_cmp_total.antisymm s e.0 ∙ ap ordering_reverse (more 0 e (omega arith) (omega arith)) in
         let rest = is_gap es 0 (omega arith) (λ j d lt. absurd (omega arith)) (λ j d le' lt. more (suc j) d (omega arith) (omega arith)) in
-        record {
-          in_range = le;
-          absent = ap (look e es) below ∙ rest.absent;
-          unchanged = ap (take_out e es) below ∙ ap (λ l. e ∷ l) rest.unchanged;
-          inserted = λ x. sym (ap (put_in e es x) below);
-        }
+        record { in_range = le; absent = rw below rest.absent; unchanged = rw below (ap (λ l. e ∷ l) rest.unchanged); inserted = λ x. rw below refl }
     is_gap (e ∷ es) (suc i) le less more =
         let above : nat_cmp s e.0 ≡ Greater = nat_cmp_total.antisymm s e.0 ∙ ap ordering_reverse (less 0 e (omega arith)) in
         let rest = is_gap es i (omega arith) (λ j d lt. less (suc j) d (omega arith)) (λ j d le' lt. more (suc j) d (omega arith) (omega arith)) in
-        record {
-          in_range = le;
-          absent = ap (look e es) above ∙ rest.absent;
-          unchanged = ap (take_out e es) above ∙ ap (λ l. e ∷ l) rest.unchanged;
-          inserted = λ x. ap (λ l. e ∷ l) (rest.inserted x) ∙ sym (ap (put_in e es x) above);
-        }
+        record { in_range = le; absent = rw above rest.absent; unchanged = rw above (ap (λ l. e ∷ l) rest.unchanged); inserted = λ x. rw above (ap (λ l. e ∷ l) (rest.inserted x)) }
 
     -- ---- where the binary search ends
 
@@ -117,25 +77,18 @@ module _ {X : Type 0} where
 
     put_is : (x : X) (es : List (ℕ × X)) → put nat_cmp s x es ≡ insert_entry nat_cmp es s x
     put_is x [] = refl
-    put_is x (e ∷ es) = grind (arith, common_steps, nat_tests, put_is x es)
-
-    inserted_rising : (x : X) (es : List (ℕ × X)) → IsRising es → IsRising (insert_entry nat_cmp es s x)
-    inserted_rising x es h = subst IsRising (put_is x es) (is_sorted-put nat_cmp nat_cmp_total s x es h)
+    put_is x (e ∷ es) = grind (arith, common_steps, put_is x es)
 
     removed_below : (k : ℕ) (es : List (ℕ × X)) → T (below_all nat_cmp k es) → T (below_all nat_cmp k (remove_entry (is_at (nat_cmp s)) es))
     removed_below k [] h = tt
-    removed_below k (e ∷ es) h =
-        let p = parts _ _ h in
-        elim (is_eq (nat_cmp s e.0)) as (λ b. T (below_all nat_cmp k (cond b es (e ∷ remove_entry (is_at (nat_cmp s)) es)))) [ true ↦ p.1 | false ↦ both _ _ p.0 (removed_below k es p.1) ]
+    removed_below k (e ∷ es) h = let p = parts (is_lt (nat_cmp k e.0)) (below_all nat_cmp k es) h in grind (arith, common_steps, both, removed_below k es p.1)
 
     pub removed_rising : (es : List (ℕ × X)) → IsRising es → IsRising (remove_entry (is_at (nat_cmp s)) es)
     removed_rising [] h = tt
-    removed_rising (e ∷ es) h =
-        let p = parts _ _ h in
-        elim (is_eq (nat_cmp s e.0)) as (λ b. IsRising (cond b es (e ∷ remove_entry (is_at (nat_cmp s)) es))) [ true ↦ p.1 | false ↦ both _ _ (removed_below e.0 es p.0) (removed_rising es p.1) ]
+    removed_rising (e ∷ es) h = let p = parts (below_all nat_cmp e.0 es) (is_sorted nat_cmp es) h in grind (arith, common_steps, both, removed_below e.0 es p.0, removed_rising es p.1)
 
     pub put_rising : (es xs : List (ℕ × X)) → IsRising es → (x : X) → xs ≡ insert_entry nat_cmp es s x → IsRising xs
-    put_rising es xs h x is = subst IsRising (sym is) (inserted_rising x es h)
+    put_rising es xs h x is = subst IsRising (put_is x es ∙ sym is) (is_sorted-put nat_cmp nat_cmp_total s x es h)
 
     pub inserted_or_not : (b : Bool) (es xs after : List (ℕ × X)) (i : ℕ) (x : X) → xs ≡ es → IsRising es → IsGap es s i → after ≡ cond b (insert xs i (s, x)) xs → IsRising after
     inserted_or_not true es xs after i x same h gap is = put_rising es after h x (is ∙ ap (λ (l : List (ℕ × X)). insert l i (s, x)) same ∙ gap.inserted x)

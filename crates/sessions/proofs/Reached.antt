@@ -1,12 +1,9 @@
 -- What an event led to, said of its step.
 use Rattle.std.proofs.lemmas.Grind.{common_steps}
 use Rattle.std.proofs.Common.{arith, ◌≡◌}
-use Rattle.sector.specs.declared.device.Sectors.{Ghosts}
 use Rattle.model.proofs.Leading.{stepped}
-use Rattle.sessions.specs.declared.events.Outcome.{Outcome}
-use Rattle.sessions.specs.declared.hub.Hub.{Hub}
-use Rattle.sessions.specs.SessionStreams.{HubState, HubEvent, Choice, IsPossible, hub_step}
-use Rattle.sessions.specs.StandsFor.{StandsFor, HubLeads}
+use Rattle.sessions.specs.SessionStreams.{Outcome, HubState, HubEvent, Choice, IsPossible, hub_step}
+use Rattle.sessions.specs.StandsFor.{Ghosts, Hub, StandsFor, HubLeads}
 
 pub record Reached {D : Type 0} {g : Ghosts D} (new : Hub D g) (h : HubState) (e : HubEvent) (c : Choice) (outcome : Outcome) : Type 0 where
   pub possible : IsPossible h e c

@@ -1,15 +1,12 @@
 -- How long the text of a reply is.
-use Rattle.std.proofs.Common.{◌≡◌, ℕ, ◌*◌, ◌≤◌, List, [], ◌∷◌, ◌++◌, length, Option, Some, None, Result, Ok, Err, OnOk, OnErr, arith, length-append}
-use Rattle.std.specs.Prelude.{IfSome, option_copied}
-use Rattle.std.specs.Borrow.{Bor}
-use Rattle.std.specs.List.{flat_map}
+use Rattle.std.proofs.Common.{◌≡◌, ℕ, ◌*◌, ◌≤◌, List, [], ◌∷◌, ◌++◌, length, Option, Some, None, Result, Ok, Err, OnOk, OnErr, arith, length-append, IfSome, option_copied, Bor, flat_map}
 use Rattle.std.proofs.lemmas.Fmt.{length-decimal-le}
 use Rattle.model.specs.declared.refusals.Memory.{Memory}
 use Rattle.model.specs.Bounds.{bulk_size, key_digits, key_max, part_max, range_reply_max}
 use Rattle.model.specs.Key.{IsKey, IsValue}
 use Rattle.model.specs.Map.{Bytes, KeyMap, IsInBounds}
 use Rattle.model.specs.Grammar.{bulk}
-use Rattle.model.specs.Operations.Response.{Value, Pairs}
+use Rattle.model.specs.Operations.{Value, Pairs}
 use Rattle.model.specs.ReplyText.{reply_text, pair_text}
 
 key_bulk : (key : Bytes) → IsKey key → length (bulk key) ≤ bulk_size key_digits key_max

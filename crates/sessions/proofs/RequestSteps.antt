@@ -1,29 +1,25 @@
--- How a request's parts make one step of the machine.
+-- How a request's parts make one step of the machine, and the parts of a Serve its effect.
 use Rattle.std.proofs.lemmas.Grind.{common_steps}
-use Rattle.std.proofs.Common.{◌≡◌, ◌≢◌, ℕ, Bool, true, false, cond, not, List, [], ◌∷◌, ◌++◌, Option, Some, None, Result, Ok, Err, OnOk, OnErr, IsOk, IsTrue, refl, sym, ap, subst, ◌∙◌, nat_cmp, arith}
+use Rattle.std.proofs.Common.{◌≡◌, ◌≢◌, ℕ, Bool, true, false, not, List, [], ◌∷◌, ◌++◌, Option, Some, None, Result, Ok, Err, OnOk, OnErr, IsTrue, refl, sym, ap, subst, ◌∙◌, nat_cmp, arith, length, drop, if◌then◌else◌, inl, inr, ◌==◌, Vec, Global}
 use Rattle.sector.specs.declared.device.Sectors.{Ghosts}
-use Rattle.std.specs.Prelude.{◌==◌, Vec}
-use Rattle.std.specs.declared.alloc.Global.{Global}
-use Rattle.std.specs.declared.cmp.Ordering.TheVariants.{Equal}
 use Rattle.std.specs.FinMap.Entries.{put, where_key}
-use Rattle.std.proofs.lemmas.Bool.Decides.{nat_tests}
 use Rattle.model.specs.declared.refusals.Memory.{Memory}
 use Rattle.model.specs.Map.{Bytes}
-use Rattle.model.specs.Operations.{Operation, Response}
-use Rattle.model.specs.Operations.Operation.{Get, Range, Commit}
-use Rattle.model.specs.Machine.{State, Running, step, step_of, leave, running_of, with_running}
+use Rattle.model.specs.Operations.{Operation, Response, Commit, Done, Refused as Refusing}
+use Rattle.model.specs.Machine.{State, step, leave}
 use Rattle.model.specs.ReplyText.{reply_text}
 use Rattle.model.proofs.Leading.{stepped}
 use Rattle.engine.specs.declared.engine.Engine.{Engine}
-use Rattle.engine.specs.Meaning.{StandsFor, Leads, StandsForSame, IsNotRefused, device_of, failures_of, has_risen}
+use Rattle.engine.specs.Meaning.{StandsFor, Leads, IsNotRefused, device_of, failures_of, has_risen, response_to, response_to_read, IsLeftByCommit}
 use Rattle.snapshot.specs.Made.{is_refused}
-use Rattle.engine.specs.Meaning.{response_to, response_to_read}
 use Rattle.engine.specs.declared.faults.EngineFault.{EngineFault}
 use Rattle.engine.specs.declared.faults.EngineFault.TheVariants.{Refused as RefusedFor, Memory as OutOfMemory}
-use Rattle.model.specs.Operations.Response.{Done, Refused as Refusing}
 use Rattle.engine.specs.declared.faults.ReadFault.{ReadFault}
-use Rattle.sessions.specs.Calls.{Writes, Executes, has_failed, refusal_to_read}
-use Rattle.sessions.specs.SessionStreams.{takes_memory}
+use Rattle.sessions.specs.Calls.{Writes, Executes, has_failed, refusal_to_read, LeavesSame, Aborts, HasEffect, ServesSession}
+use Rattle.sessions.specs.SessionStreams.{Open, Ending, Refused, Done as OfDone, Idle as OfIdle, Memory as OfMemory, Outcome, takes_memory, SessionState, Choice, IsServed, Whole, More, Bad, IsFront, asks, bad_frame, serve_front, may_serve}
+use Rattle.model.specs.Grammar.{IsProperBeginning, array_of_bulks}
+use Rattle.sector.specs.SectorModel.{LeavesOnly}
+use Rattle.sessions.specs.Crashes.{SurvivesCommit, SurvivesRequest, SurvivesFront}
 
 -- ---- the machine
 
@@ -34,51 +30,19 @@ is_commit other = false
 
 pub step_flag : (m : State) (s : ℕ) (q : Operation) (b : Bool) → is_commit q ≡ false → step m s q b ≡ step m s q false
 unfolding step
-step_flag m s q b e = grind (arith, common_steps, nat_tests)
+step_flag m s q b e = grind (arith, common_steps)
 
-abbrev others : {X : Type 0} → ℕ → List (ℕ × X) → List (ℕ × X)
-others s es = where_key nat_cmp (λ x. not (x == s)) es
-
-itself : (s : ℕ) → (s == s) ≡ true
-itself s = grind (arith, nat_tests)
-
-same_number : (s x : ℕ) → nat_cmp s x ≡ Equal → (x == s) ≡ true
-same_number s x e = grind (arith, nat_tests)
-
-module _ {X : Type 0} (s : ℕ) where
-  -- what is put there is among no others
-  pub others-put : (t : X) (es : List (ℕ × X)) → others s (put nat_cmp s t es) ≡ others s es
-  others-put t [] = ap (λ b. cond (not b) ((s, t) ∷ []) []) (itself s)
-  others-put t (e ∷ es) = grind (arith, common_steps, itself, same_number, nat_tests, others-put t es)
+-- what is put there is among no others
+others-put : {X : Type 0} (s : ℕ) (t : X) (es : List (ℕ × X)) → where_key nat_cmp (λ x. not (x == s)) (put nat_cmp s t es) ≡ where_key nat_cmp (λ x. not (x == s)) es
+others-put s t [] = grind (arith, common_steps)
+others-put s t (e ∷ es) = grind (arith, common_steps, others-put s t es)
 
 -- an own request, and then the session leaves
-abbrev pub IsRead : Operation → Type 0
-IsRead (Get k) = Unit {0}
-IsRead (Range lo hi limit) = Unit {0}
-IsRead other = ⊥
-
-read_takes : (q : Operation) → IsRead q → IsTrue (takes_memory q)
-read_takes a0 a1 = grind (arith, common_steps, nat_tests)
-
-pub leave-read : (m : State) (s : ℕ) (q : Operation) → IsRead q → leave (step m s q false).0 s ≡ leave m s
+leave-own : (m : State) (s : ℕ) (q : Operation) → is_commit q ≡ false → IsTrue (takes_memory q) → leave (step m s q false).0 s ≡ leave m s
 unfolding step
-leave-read m s q r = elim (running_of m s) as (λ o. leave (step_of o m s q false).0 s ≡ leave m s) [ None ↦ outside q r | Some t ↦ inside t q r ]
-  where
-    outside : (q : Operation) → IsRead q → leave (step_of None m s q false).0 s ≡ leave m s
-    outside a0 a1 = grind (arith, common_steps, nat_tests)
-
-    again : (t : Running) → leave (with_running m s t) s ≡ leave m s
-    again t = ap (λ rs. record m { running = rs }) (others-put s t m.running)
-
-    inside : (t : Running) (q : Operation) → IsRead q → leave (step_of (Some t) m s q false).0 s ≡ leave m s
-    inside a0 a1 a2 = grind (arith, common_steps, again, nat_tests)
+leave-own m s q no_commit takes = grind (arith, common_steps, others-put)
 
 -- ---- the parts of a request
-
--- a reply that is never refused was written to an empty output
-pub written : (response : Response) (before after : Bytes) (r : Result (Unit {0}) Memory) → before ≡ [] → OnOk r (after ≡ before ++ reply_text response) → IsOk r → Writes (Some response) after r
-written response before after (Ok done) empty ok is_ok = ok ∙ ap (λ xs. xs ++ reply_text response) empty
-written response before after (Err refused) empty ok is_ok = absurd (cc)
 
 module _ {D : Type 0} {g : Ghosts D} (old new : Engine D g) (s : ℕ) (q : Operation) (b : Bool) where
   -- a call that takes no memory, and then its response written
@@ -97,11 +61,6 @@ module _ {D : Type 0} {g : Ghosts D} (old new : Engine D g) (s : ℕ) (q : Opera
   executes_flag after (Ok done) e x = λ m h. rw (step_flag m s q b e) (x m h)
   executes_flag after (Err refused) e x = x
 
--- a call that makes none of the device, and then its response written
-pub executes_call : {D : Type 0} {g : Ghosts D} (old new : Engine D g) (s : ℕ) (q : Operation) (b : Bool) (response : Option Response) (after : Bytes) (r : Result (Unit {0}) Memory)
-    → is_commit q ≡ false → IsTrue (takes_memory q) → Leads old new s q false response → Writes response after r → Executes old new s q b after r
-executes_call old new s q b response after r no_commit takes leads said = executes_flag old new s q b after r no_commit (executes_from old new s q false response after r takes leads said)
-
 -- a call that takes no memory and a reclamation after it, and then its response written
 executes_kept : {D : Type 0} {g : Ghosts D} (old mid new : Engine D g) (s : ℕ) (q : Operation) (b : Bool) (response : Response) (after : Bytes) (r : Result (Unit {0}) Memory) → Leads old mid s q b (Some response)
     → ((m : State) → StandsFor mid m → StandsFor new m) → Writes (Some response) after r → Executes old new s q b after r
@@ -116,30 +75,25 @@ executes_commit {D} {g} old mid new s response after r same leads keeps said =
 
 module _ {D : Type 0} {g : Ghosts D} (old new : Engine D g) (s : ℕ) (q : Operation) where
   -- a read whose response may be too long
-  pub executes_read : (response : Response) (before after : Vec ℕ Global) (r : Result (Unit {0}) Memory) → IsRead q → Leads old new s q false (Some response) → is_refused response ≡ false → before.items ≡ []
+  pub executes_read : (response : Response) (before after : Vec ℕ Global) (r : Result (Unit {0}) Memory) → is_commit q ≡ false → IsTrue (takes_memory q) → Leads old new s q false (Some response) → is_refused response ≡ false → before.items ≡ []
       → OnOk r (after.items ≡ before.items ++ reply_text response) → OnErr r (after.items ≡ before.items) → Executes old new s q false after.items r
-  executes_read response before after (Ok done) read leads plain empty ok err = executes_always old new s q false response after.items (Ok done) leads (ok ∙ ap (λ xs. xs ++ reply_text response) empty)
-  executes_read response before after (Err refused) read leads plain empty ok err = (
-    read_takes q read,
-    λ m h. let n = leads m h in (n.0, n.1, ap (λ r. leave r.0 s) (sym n.2) ∙ leave-read m s q read),
+  executes_read response before after (Ok done) no_commit takes leads plain empty ok err = executes_always old new s q false response after.items (Ok done) leads (ok ∙ ap (λ xs. xs ++ reply_text response) empty)
+  executes_read response before after (Err refused) no_commit takes leads plain empty ok err = (
+    takes,
+    λ m h. let n = leads m h in (n.0, n.1, ap (λ r. leave r.0 s) (sym n.2) ∙ leave-own m s q no_commit takes),
     err ∙ empty,
     λ m h. ap (λ r. is_refused r.1) (leads m h).2 ∙ plain,
   )
 
 -- a read's refusal doesn't depend on what it reads
 same_refusal : {T : Type 0} (f : T → Response) (fault : ReadFault) → response_to_read f (Err fault) ≡ refusal_to_read fault
-same_refusal a0 a1 = grind (arith, common_steps, nat_tests)
+same_refusal f fault = grind (arith, common_steps)
 
 -- a read that was refused
 pub executes_refused : {T D : Type 0} {g : Ghosts D} (old new : Engine D g) (s : ℕ) (q : Operation) (f : T → Response) (result : Result T ReadFault) (fault : ReadFault) (after : Bytes) (r : Result (Unit {0}) Memory)
-    → IsRead q → result ≡ Err fault → Leads old new s q false (response_to_read f result) → Writes (refusal_to_read fault) after r → Executes old new s q false after r
-executes_refused old new s q f result fault after r read is leads said =
-    executes_from old new s q false (refusal_to_read fault) after r (read_takes q read) (subst (λ o. Leads old new s q false o) (ap (response_to_read f) is ∙ same_refusal f fault) leads) said
-
--- a call that was refused memory changes nothing, and isn't refused
-pub memory_same : {T D : Type 0} {g : Ghosts D} (old new : Engine D g) (s : ℕ) (q : Operation) (b : Bool) (f : T → Response) (result : Result T EngineFault)
-    → result ≡ Err OutOfMemory → Leads old new s q b (response_to f result) → StandsForSame old new × IsNotRefused old s q
-memory_same old new s q b f result is leads = subst (λ o. Leads old new s q b o) (ap (response_to f) is) leads
+    → IsTrue (takes_memory q) → result ≡ Err fault → Leads old new s q false (response_to_read f result) → Writes (refusal_to_read fault) after r → Executes old new s q false after r
+executes_refused old new s q f result fault after r takes is leads said =
+    executes_from old new s q false (refusal_to_read fault) after r takes (subst (λ o. Leads old new s q false o) (ap (response_to_read f) is ∙ same_refusal f fault) leads) said
 
 -- a call that takes no memory, and a reclamation after it
 pub executes_ended : {D : Type 0} {g : Ghosts D} (old mid new : Engine D g) (s : ℕ) (q : Operation) (answer : Result (Unit {0}) EngineFault) (after : Bytes) (r : Result (Unit {0}) Memory)
@@ -148,3 +102,68 @@ pub executes_ended : {D : Type 0} {g : Ghosts D} (old mid new : Engine D g) (s :
 executes_ended old mid new s q (Ok done) after r answered leads keeps said = executes_kept old mid new s q false Done after r leads keeps said
 executes_ended old mid new s q (Err (RefusedFor refusal)) after r answered leads keeps said = executes_kept old mid new s q false (Refusing refusal) after r leads keeps said
 executes_ended old mid new s q (Err OutOfMemory) after r answered leads keeps said = absurd (answered refl)
+
+-- ---- a Serve
+
+pub aborts_left : {D : Type 0} {g : Ghosts D} (old mid new : Engine D g) (s : ℕ) → LeavesSame old mid s → Aborts mid new s → Aborts old new s
+aborts_left old mid new s f a = λ m h. let x = f m h in let P : State → Type 0 = λ y. StandsFor new y in subst P x.2 (a x.0 x.1)
+
+pub is_open_there : (n : SessionState) → may_serve n ≡ true → n.status ≡ Open
+is_open_there n e = grind (arith, common_steps)
+
+pub nothing_pending : (opened : Bool) (xs : Bytes) → (if opened then length xs == 0 else false) ≡ true → xs ≡ []
+nothing_pending opened xs there = grind (arith, common_steps)
+
+module _ {D : Type 0} {g : Ghosts D} (old new : Engine D g) (s : ℕ) (before after : SessionState) (may : may_serve before ≡ true) where
+  effects : (c : Choice) (m : State) (outcome : Outcome) → IsServed m s before.inbox c → StandsFor new (serve_front c.front c m s before).machine → after ≡ (serve_front c.front c m s before).now → outcome ≡ (serve_front c.front c m s before).outcome
+      → HasEffect old new s c m before after outcome
+  effects c m outcome front stands now is = grind (arith, common_steps)
+
+  standing : (n : SessionState) → after.inbox ≡ n.inbox → after.pending ≡ n.pending → after.status ≡ n.status → after ≡ n
+  standing n inbox pending status = λ i. record { inbox = inbox i; pending = pending i; status = status i }
+
+  -- what is pending was written to the output
+  module _ (out : Bytes) (k : ℕ) (begun : k ≡ 0) (left : after.pending ≡ drop k out) where
+    pending : after.pending ≡ out
+    pending = left ∙ ap (λ n. drop n out) begun
+
+    pub whole : (parts : List Bytes) (used : ℕ) → IsFront before.inbox (Whole parts used)
+        → ((m : State) → StandsFor old m → StandsFor new (step m s (asks parts) (has_failed old new)).0 × (out ≡ reply_text (step m s (asks parts) (has_failed old new)).1))
+        → after.inbox ≡ drop used before.inbox → after.status ≡ before.status → ServesSession old new s before after OfDone
+    whole parts used front steps inbox status = (
+      Whole parts used,
+      λ m h. (let x = steps m h in effects _ m OfDone (front, λ wrong. absurd (cc)) x.0 (standing _ inbox (pending ∙ x.1) (status ∙ is_open_there before may)) refl),
+    )
+
+    pub more : IsFront before.inbox More → new ≡ old → out ≡ [] → after.inbox ≡ before.inbox → after.status ≡ before.status → ServesSession old new s before after OfIdle
+    more front same none inbox status = grind (arith, common_steps, pending, effects, standing, nothing_pending)
+
+    pub bad : IsFront before.inbox Bad → Aborts old new s → after.inbox ≡ [] → out ≡ reply_text bad_frame → after.status ≡ Ending → ServesSession old new s before after OfDone
+    bad front a inbox text status = (Bad, λ m h. effects _ m OfDone (front, λ wrong. absurd (cc)) (a m h) (standing _ inbox (pending ∙ text) status) refl)
+
+    pub refused_memory : (parts : List Bytes) (used : ℕ) → IsFront before.inbox (Whole parts used) → IsTrue (takes_memory (asks parts)) → Aborts old new s → after.inbox ≡ [] → out ≡ [] → IsNotRefused old s (asks parts) → after.status ≡ Refused
+        → ServesSession old new s before after OfMemory
+    refused_memory parts used front takes a inbox none due status =
+        (Whole parts used, λ m h. effects _ m OfMemory (front, λ _. (takes, due m h)) (a m h) (standing _ inbox (pending ∙ none) status) refl)
+
+-- nothing is the beginning of a request
+nothing_begins : IsProperBeginning []
+nothing_begins = (array_of_bulks ([] ∷ []), [] ∷ [], omega arith, (record { some = omega arith; few = omega arith; each = grind (arith, common_steps) }, refl))
+
+-- where nothing came in, nothing is done
+pub nothing_came : {D : Type 0} {g : Ghosts D} (e : Engine D g) (s : ℕ) (before : SessionState) → may_serve before ≡ true → before.inbox ≡ [] → ServesSession e e s before before OfIdle
+nothing_came e s before may none =
+    more e e s before before may before.pending 0 refl refl (subst IsProperBeginning (sym none) nothing_begins) refl (nothing_pending _ _ may) refl refl
+
+-- ---- what a crash during it leaves
+
+-- a call that leaves the device alone may follow
+pub survives_after : {D : Type 0} {g : Ghosts D} (old mid new : Engine D g) (s : ℕ) → device_of new ≡ device_of mid → SurvivesCommit old mid s → SurvivesCommit old new s
+survives_after {D} {g} old mid new s same crash keeps m h =
+    subst (λ (d : D). LeavesOnly g.moment g.left_since (device_of old) d (IsLeftByCommit old m s)) (sym same) (crash keeps m h)
+
+module _ {D : Type 0} {g : Ghosts D} (old mid new : Engine D g) (s : ℕ) (inbox : Bytes) (same : device_of new ≡ device_of mid) where
+  -- a request at the front of the inbox, and then calls that don't reach the device
+  pub survives_front : (parts : List Bytes) (used : ℕ) → IsFront inbox (Whole parts used) → SurvivesRequest old mid s (asks parts) → SurvivesFront old new s inbox
+  survives_front parts used front (inl unchanged) = inl (same ∙ unchanged)
+  survives_front parts used front (inr x) = inr (record { parts = parts; used = used; front = front; asked = x.0 }, survives_after old mid new s same x.1)

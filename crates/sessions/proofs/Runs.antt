@@ -1,21 +1,28 @@
 -- Runs, event by event.
 use Rattle.std.proofs.lemmas.Grind.{common_steps}
-use Rattle.std.proofs.Common.{◌≡◌, ◌≤◌, ◌+◌, ℕ, zero, suc, Bool, true, false, inl, inr, if◌then◌else◌, List, [], ◌∷◌, ◌++◌, take, length, refl, sym, ap, subst, ◌∙◌, arith}
+use Rattle.std.proofs.Common.{◌≡◌, ◌≤◌, ℕ, zero, suc, Bool, true, false, inl, inr, List, [], ◌∷◌, ◌++◌, take, length, refl, sym, subst, ◌∙◌, arith, ◌⊎◌}
 use Rattle.std.proofs.lemmas.Bool.{both_ways}
-use Rattle.sector.specs.declared.device.Sectors.{Ghosts}
-use Rattle.sessions.specs.declared.hub.Hub.{Hub}
-use Rattle.engine.specs.Meaning.{has_risen}
 use Rattle.sessions.specs.Calls.{has_failed}
 use Rattle.sector.specs.SectorModel.{LeavesOnly}
 use Rattle.model.specs.Laws.{MachineLaw}
-use Rattle.sessions.specs.Crashes.{HoldsBeforeOrAfter, IsLeftByEvent, IsStored, SurvivesCrash}
-use Rattle.sessions.specs.SessionStreams.{HubState, HubEvent, Choice, IsPossible, ArePossible, hub_step, run}
-use Rattle.sessions.specs.StandsFor.{StandsFor, device, failures, is_stopped}
-use Rattle.sessions.specs.Laws.{IsLawful, IsSound, LeadsTo, Ran, Steps, failures_in}
+use Rattle.sessions.specs.Crashes.{HoldsBeforeOrAfter, IsLeftByEvent, IsStored, SurvivesCrash, SurvivesEvent, ServesCommit, Commits}
+use Rattle.sessions.specs.SessionStreams.{HubState, HubEvent, Choice, IsPossible, hub_step, run, IsReachedHub}
+use Rattle.sessions.specs.StandsFor.{Ghosts, Hub, StandsFor, device, failures, is_stopped}
+use Rattle.sessions.specs.Laws.{IsLawful, IsSound, LeadsTo, Ran, Steps}
 use Rattle.sessions.specs.Life.{Holds}
-use Rattle.sessions.proofs.RunLaws.{choice_is, flag, hub-flagged, hub-stopped, lawful_at, possible-flag}
-use Rattle.sessions.proofs.LifeLaws.{Survives, goes_on, nothing, one_event, weaker}
-use Rattle.sessions.proofs.LifeLaws.{loses_nothing as survivors_lose_nothing}
+use Rattle.sessions.proofs.LifeLaws.{hub-stopped, Survives, goes_on, nothing, one_event, weaker, loses_nothing as survivors_lose_nothing}
+pub use Rattle.sessions.proofs.LifeLaws.{CountsNow, OnlyNow}
+use Rattle.model.specs.Operations.{Operation}
+use Rattle.model.specs.Machine.{State, step}
+use Rattle.sessions.proofs.StreamLaws.{always, machine_reached, are_streams}
+use Rattle.sessions.proofs.EventSteps.{stream-some}
+
+-- every state that events lead to is lawful
+pub lawful_at : MachineLaw → (h : HubState) → IsReachedHub h → IsLawful h
+lawful_at law h reached =
+    let machine = machine_reached h reached in
+    let streams = are_streams h reached in
+    record { reached = machine; isolated = (law h.machine machine).0; serializable = (law h.machine machine).1; transactions = (always h reached).ends; present = streams.present; gone = streams.gone }
 
 -- between two events
 pub sound : {D : Type 0} {g : Ghosts D} (hub : Hub D g) → MachineLaw → IsStored hub → IsSound hub
@@ -35,21 +42,7 @@ module _ {D : Type 0} {g : Ghosts D} where
   -- a hub that rests, and then runs
   rest_then : (old mid new : Hub D g) (fs : List (HubEvent × Choice)) → Ran old mid [] → Ran mid new fs → Ran old new fs
   rest_then old mid new [] p q = grind (arith, common_steps)
-  rest_then old mid new (e ∷ fs) p q =
-      let steps = q.2 in
-      let same : failures mid ≡ failures old = ap (λ (d : D). g.failures d) p.2.device_is in
-      let counted : failures mid ≤ failures q.1 = steps.counted in (
-        p.0,
-        q.1,
-        record {
-          leads = λ h s. steps.leads h (p.2.stands h s);
-          counted = omega arith;
-          failed = λ is. (let x = steps.failed is in (sym (ap (λ n. has_risen n (failures q.1)) same) ∙ x.0, sym p.2.stopped_is ∙ x.1, x.2));
-          crash = λ keeps h s up. subst (λ (d : D). LeavesOnly g.moment g.left_since d (device q.1) (HoldsBeforeOrAfter h e.0)) p.2.device_is (steps.crash keeps h (p.2.stands h s) up);
-          still = λ is. steps.still (p.2.stopped_is ∙ is) ∙ p.2.device_is;
-        },
-        q.3,
-      )
+  rest_then old mid new (e ∷ fs) p q = let rests = p.2 in let steps = q.2 in (p.0, q.1, grind (arith, common_steps), q.3)
 
   pub ran_then : (old mid new : Hub D g) (es fs : List (HubEvent × Choice)) → Ran old mid es → Ran mid new fs → Ran old new (es ++ fs)
   ran_then old mid new [] fs p q = rest_then old mid new fs p q
@@ -59,72 +52,75 @@ module _ {D : Type 0} {g : Ghosts D} where
   ran_parts old new [] fs r = (old, no_event old (first_sound old new fs r), r)
   ran_parts old new (e ∷ es) fs r = let x = ran_parts r.1 new es fs r.3 in (x.0, (r.0, r.1, r.2, x.1), x.2)
 
-  pub ran_counted : (old new : Hub D g) (es : List (HubEvent × Choice)) → Ran old new es → failures old ≤ failures new
-  ran_counted old new [] r = let same : failures new ≡ failures old = ap (λ (d : D). g.failures d) r.2.device_is in omega arith
-  ran_counted old new (e ∷ es) r = grind (arith, common_steps, ran_counted r.1 new es r.3)
-
   -- ---- what it leads to
 
   pub ran_stands : (old new : Hub D g) (es : List (HubEvent × Choice)) → Ran old new es → (h : HubState) → StandsFor old h → StandsFor new (run h es)
   ran_stands old new [] r h s = r.2.stands h s
   ran_stands old new (e ∷ es) r h s = ran_stands r.1 new es r.3 (hub_step h e.0 e.1).0 (r.2.leads h s).1
 
-  ran_possible : (old new : Hub D g) (es : List (HubEvent × Choice)) → Ran old new es → (h : HubState) → StandsFor old h → ArePossible h es
-  ran_possible old new [] r h s = tt
-  ran_possible old new (e ∷ es) r h s = ((r.2.leads h s).0, ran_possible r.1 new es r.3 (hub_step h e.0 e.1).0 (r.2.leads h s).1)
-
   ran_lawful : (old new : Hub D g) (es : List (HubEvent × Choice)) → Ran old new es → (h : HubState) → StandsFor old h → (n : ℕ) → IsLawful (run h (take n es))
-  ran_lawful old new [] r h s zero = r.0.lawful h s
   ran_lawful old new [] r h s (suc n) = r.0.lawful h s
-  ran_lawful old new (e ∷ es) r h s zero = r.0.lawful h s
+  ran_lawful old new es r h s zero = (first_sound old new es r).lawful h s
   ran_lawful old new (e ∷ es) r h s (suc n) = ran_lawful r.1 new es r.3 (hub_step h e.0 e.1).0 (r.2.leads h s).1 n
 
-  -- the device fails in no event once the store is stopped, and in one at most
-  ran_none : (old new : Hub D g) (es : List (HubEvent × Choice)) → Ran old new es → (h : HubState) → StandsFor old h → h.machine.stopped ≡ true → failures_in es ≡ 0
-  ran_none old new [] r h s stop = refl
-  ran_none old new (e ∷ es) r h s stop = grind (arith, common_steps, hub-stopped, both_ways, ran_none r.1 new es r.3 (hub_step h e.0 e.1).0 (r.2.leads h s).1 (hub-stopped h e.0 e.1 stop))
-
-  ran_once : (old new : Hub D g) (es : List (HubEvent × Choice)) → Ran old new es → (h : HubState) → StandsFor old h → failures_in es ≤ 1
-  ran_once old new [] r h s = omega arith
-  ran_once old new (e ∷ es) r h s =
-      let there : StandsFor r.1 (hub_step h e.0 e.1).0 = (r.2.leads h s).1 in
-      by_flag e.1.failed refl (ran_once r.1 new es r.3 (hub_step h e.0 e.1).0 there)
-      (λ stop. ran_none r.1 new es r.3 (hub_step h e.0 e.1).0 there (there.engine.stopped ∙ stop))
-    where
-      by_flag : (b : Bool) → e.1.failed ≡ b → failures_in es ≤ 1 → (is_stopped r.1 ≡ true → failures_in es ≡ 0) → (if b then failures_in es + 1 else failures_in es) ≤ 1
-      by_flag false is few none = few
-      by_flag true is few none = let zero_then : failures_in es ≡ 0 = none (r.2.failed is).2 in omega (arith, zero_then)
-
   pub leads_to : (old new : Hub D g) (es : List (HubEvent × Choice)) → Ran old new es → (h : HubState) → StandsFor old h → LeadsTo new h es
-  leads_to old new es r h s = record {
-    possible = ran_possible old new es r h s;
-    stands = ran_stands old new es r h s;
-    lawful = ran_lawful old new es r h s;
-    one_failure = ran_once old new es r h s;
-    none_then = ran_none old new es r h s;
-  }
+  leads_to old new [] r h s = record { possible = tt; stands = r.2.stands h s; lawful = ran_lawful old new [] r h s; one_failure = omega arith; none_then = λ stop. refl }
+  leads_to old new (e ∷ es) r h s =
+      let there : StandsFor r.1 (hub_step h e.0 e.1).0 = (r.2.leads h s).1 in
+      let rest = leads_to r.1 new es r.3 (hub_step h e.0 e.1).0 there in
+      let none = λ (stop : is_stopped r.1 ≡ true). rest.none_then (there.engine.stopped ∙ stop) in
+      record {
+        possible = ((r.2.leads h s).0, rest.possible);
+        stands = rest.stands;
+        lawful = ran_lawful old new (e ∷ es) r h s;
+        one_failure = grind (arith, common_steps, rest.one_failure, none, r.2.failed);
+        none_then = λ stop. grind (arith, common_steps, hub-stopped, both_ways, rest.none_then (hub-stopped h e.0 e.1 stop));
+      }
 
 -- ---- crashes
 
-abbrev pub OnlyNow : (D : Type 0) → Ghosts D → Type 0
-OnlyNow D g = g.keeps_model → (d : D) (c : List (List ℕ)) → g.left_since d (g.moment d) c → g.may_leave d c
-
-abbrev pub CountsNow : (D : Type 0) → Ghosts D → Type 0
-CountsNow D g = g.keeps_model → (d : D) (t : ℕ) (c : List (List ℕ)) → t ≤ g.moment d → g.may_leave d c → g.left_since d t c
-
 module _ {D : Type 0} {g : Ghosts D} (any : Hub D g) (only_now : OnlyNow D g) (counts_now : CountsNow D g) (keeps : g.keeps_model) where
   pub ran_survives : (old new : Hub D g) (es : List (HubEvent × Choice)) → Ran old new es → (h : HubState) → StandsFor old h → Survives old new h es
-  ran_survives old new [] r h s = nothing old new h r.2.device_is only_now s r.0.stored keeps
+  ran_survives old new [] r h s = nothing old new h r.2.device_is only_now s r.0 keeps
   ran_survives old new (e ∷ es) r h s =
       let there : StandsFor r.1 (hub_step h e.0 e.1).0 = (r.2.leads h s).1 in
       goes_on old r.1 new h ((e.0, e.1) ∷ []) es
-      (one_event old r.1 h e.0 e.1 counts_now s there r.2.still keeps r.2.crash (first_sound r.1 new es r.3).stored)
+      (one_event old r.1 h e.0 e.1 counts_now s r.2 keeps (first_sound r.1 new es r.3))
       (ran_survives r.1 new es r.3 (hub_step h e.0 e.1).0 there)
 
   pub loses_nothing : (old mid new : Hub D g) (es fs : List (HubEvent × Choice)) → Ran old mid es → Ran mid new fs → (h : HubState) → StandsFor old h → h.machine.stopped ≡ false
       → (c : List (List ℕ)) → g.left_since (device new) (g.moment (device mid)) c → Holds h (es ++ fs) (length es) c
   loses_nothing old mid new es fs p q h s up =
       survivors_lose_nothing old mid new h es fs (ran_survives old mid es p h s) (ran_survives mid new fs q (run h es) (ran_stands old mid es p h s)) only_now keeps up
+
+pub survives : {D : Type 0} {g : Ghosts D} (old new : Hub D g) (e : HubEvent) → OnlyNow D g → IsStored old → SurvivesEvent old new e → SurvivesCrash old new e
+survives old new e only_now stored (inl same) keeps h stands = grind (arith, common_steps)
+survives {D} {g} old new e only_now stored (inr x) keeps h stands =
+    let f = stream-some old h stands x.0 x.1 (sym x.3) in
+    let commits : Commits h e x.0 = record { is = x.2; stream = f.stream; present = f.is; serves = subst ServesCommit (sym f.now) x.4 } in
+    let run = x.5 keeps h.machine stands.engine in
+    grind (arith, common_steps, run, commits)
+
+-- ---- an event in which the device failed, or not
+
+-- the choice with this flag
+abbrev flag : Choice → Bool → Choice
+flag c b = record { front = c.front; refused = c.refused; failed = b }
+
+-- the flag makes no difference, or the store stops
+flagged : (m : State) (s : ℕ) (q : Operation) → (step m s q true ≡ step m s q false) ⊎ ((m.stopped ≡ false) × ((step m s q true).0.stopped ≡ true))
+unfolding step
+flagged m s q = grind (arith, common_steps)
+
+hub-flagged : (h : HubState) (e : HubEvent) (c : Choice) → (hub_step h e (flag c true) ≡ hub_step h e (flag c false)) ⊎ ((h.machine.stopped ≡ false) × ((hub_step h e (flag c true)).0.machine.stopped ≡ true))
+unfolding hub_step
+hub-flagged h e c = grind (arith, common_steps, flagged)
+
+possible-flag : (h : HubState) (e : HubEvent) (c : Choice) (b : Bool) → IsPossible h e c → IsPossible h e (flag c b)
+possible-flag h e c b possible = grind (arith, common_steps)
+
+choice_is : (c : Choice) (b : Bool) → c.failed ≡ b → c ≡ flag c b
+choice_is c b e = λ i. record { front = c.front; refused = c.refused; failed = e i }
 
 -- ---- one event
 
@@ -142,13 +138,7 @@ module _ {D : Type 0} {g : Ghosts D} (old new : Hub D g) (e : HubEvent) (sound_o
   by_choice : (d : Choice) → ((h : HubState) → StandsFor old h → (hub_step h e d).0 ≡ (hub_step h e c).0) → ((h : HubState) → StandsFor old h → IsPossible h e d)
       → (d.failed ≡ true → (has_failed old.engine new.engine ≡ true) × (is_stopped old ≡ false) × (is_stopped new ≡ true)) → Alone
   by_choice d same possible fails =
-      let steps : Steps old new e d = record {
-        leads = λ h s. (possible h s, subst (StandsFor new) (sym (same h s)) (leads h s).1);
-        counted = counted;
-        failed = fails;
-        crash = runs;
-        still = still;
-      } in
+      let steps : Steps old new e d = grind (arith, common_steps, runs) in
       (d, same, (sound_old, new, steps, no_event new sound_new))
 
   -- the device failed, and the store did not stop by it: so the flag makes no difference

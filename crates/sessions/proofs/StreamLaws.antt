@@ -1,21 +1,27 @@
 -- Every state that a hub stands for is lawful.
 use Rattle.std.proofs.lemmas.Grind.{common_steps}
-use Rattle.std.proofs.Common.{arith, ◌≡◌, ℕ, Bool, true, false, cond, not, List, [], ◌∷◌, ◌++◌, length, take, drop, Option, Some, None, IsTrue, refl, sym, ap, subst, ◌∙◌, nat_cmp, nat_le, nat_lt, if◌then◌else◌, append_assoc}
+use Rattle.std.proofs.Common.{arith, ◌≡◌, ℕ, Bool, true, false, not, length, List, [], ◌∷◌, ◌++◌, take, drop, Option, Some, None, IsTrue, refl, sym, ap, subst, ◌∙◌, nat_cmp, nat_le, nat_lt, if◌then◌else◌, map, inl, inr, append_assoc}
 use Rattle.std.specs.List.{AllByRecursion, flat_map}
+use Rattle.std.proofs.lemmas.List.Concat.{flat_map-append}
 use Rattle.std.specs.Map.{lookup, remove_entry, set_value}
 use Rattle.std.specs.BTreeMap.{insert_entry, is_at}
-use Rattle.std.proofs.lemmas.List.{append-nil, take-append-drop}
-use Rattle.std.proofs.lemmas.List.Concat.{flat_map-append}
+use Rattle.std.proofs.lemmas.List.{append-nil, take-append-drop, map-append}
 use Rattle.model.specs.Map.{Bytes}
-use Rattle.model.specs.Operations.{Operation, Response}
-use Rattle.model.specs.Machine.{State, Asks, Leaves as LeavesIt, IsReached, step, leave}
-use Rattle.model.specs.Grammar.{array_of_bulks}
+use Rattle.model.specs.Operations.{Operation, Response, Begin, Commit, Abort, Done}
+use Rattle.model.specs.Machine.{State, Asks, Leaves as LeavesIt, IsReached, step, leave, Running, step_of, running_of, snapshot}
 use Rattle.model.specs.ReplyText.{reply_text}
+use Rattle.model.proofs.Elements.{all-append}
 use Rattle.engine.proofs.Steps.{reached_next}
-use Rattle.sessions.specs.declared.events.Outcome.{Outcome}
-use Rattle.sessions.specs.SessionStreams.{HubState, SessionState, SessionStream, HubEvent, Joins, Receives, Serves, Sends, Leaves, Front, Whole, More, Bad, Choice, Effect, IsFront, IsServed, IsPossible, IsServePossible, hub_step, stream_of, new_stream, room, is_open, is_above, may_serve, serve, serve_front, out_of_memory, broken_frame, served_with, no_effect, asks, bad_frame, replies_text, requests_text, receive, serve_session, send, depart, IsReachedHub, Begun, Continued}
-use Rattle.sessions.specs.Laws.{IsSessionStream}
-use Rattle.sessions.proofs.ServeEffects.{is_open_there, nothing_pending}
+use Rattle.sessions.specs.SessionStreams.{Outcome, bad_frame, is_above, HubState, SessionState, SessionStream, HubEvent, Joins, Receives, Serves, Sends, Leaves, Front, Whole, More, Bad, Choice, Effect, IsFront, IsServed, IsPossible, IsServePossible, hub_step, stream_of, new_stream, is_open, may_serve, serve, serve_front, out_of_memory, broken_frame, served_with, no_effect, asks, replies_text, receive, serve_session, send, depart, IsReachedHub, Begun, Continued, with_stream}
+use Rattle.sessions.specs.Laws.{IsSessionStream, EndsStream, EndsItsStream, IsLawful, SameBytes, EndsOutput, own_bytes}
+use Rattle.sessions.proofs.RequestSteps.{is_open_there, nothing_pending}
+use Rattle.std.proofs.lemmas.Bool.{cases_eq, cond_both, not-false}
+use Rattle.std.specs.FinMap.Entries.{find, put}
+use Rattle.model.proofs.Lookups.{some_same}
+use Rattle.model.proofs.Steps.{running_of-with_running, running_of-leave}
+use Rattle.std.proofs.lemmas.List.Elements.{recursion_from_All}
+use Rattle.model.specs.Laws.{IsIsolated}
+use Rattle.model.specs.PrivateCopy.{copy_of, responses}
 
 -- ---- the machine of a hub
 
@@ -25,46 +31,32 @@ pub data Moved (c : Choice) (m : State) : State → Type 0 where
   Lets : (s : ℕ) → Moved c m (leave m s)
   Steps : (s : ℕ) (q : Operation) → Moved c m (step m s q c.failed).0
 
-pub served_moves : (c : Choice) (m : State) (s : ℕ) (n : SessionState) → Moved c m (serve c m s n).machine
-served_moves c m s n = elim (may_serve n) as (λ b. Moved c m (if b then serve_front c.front c m s n else no_effect m n).machine) [
-  | true ↦ found c.front
-  | false ↦ Rests
-]
-  where
-    found : (f : Front) → Moved c m (serve_front f c m s n).machine
-    found (Whole parts used) = elim c.refused as (λ b. Moved c m (if b then out_of_memory m s else served_with (step m s (asks parts) c.failed) n parts used).machine) [ true ↦ Lets s | false ↦ Steps s (asks parts) ]
-    found More = Rests
-    found Bad = Lets s
-
 -- a test whose two answers have P
 pub by_if : {A : Type 0} (P : A → Type 0) (b : Bool) (x y : A) → P x → P y → P (if b then x else y)
 by_if P true x y p q = p
 by_if P false x y p q = q
 
+served_moves : (c : Choice) (m : State) (s : ℕ) (n : SessionState) → Moved c m (serve c m s n).machine
+served_moves c m s n = let P : Effect → Type 0 = λ e. Moved c m e.machine in by_if P (may_serve n) _ _ (found c.front) Rests
+  where
+    found : (f : Front) → Moved c m (serve_front f c m s n).machine
+    found (Whole parts used) = let P : Effect → Type 0 = λ e. Moved c m e.machine in by_if P c.refused _ _ (Lets s) (Steps s (asks parts))
+    found More = Rests
+    found Bad = Lets s
+
+stays : (c : Choice) (m after : State) → after ≡ m → Moved c m after
+stays c m after same = subst (Moved c m) (sym same) Rests
+
 pub moved : (h : HubState) (e : HubEvent) (c : Choice) → Moved c h.machine (hub_step h e c).0.machine
 unfolding hub_step
-moved h (Joins s) c =
-    let P : HubState × Outcome → Type 0 = λ r. Moved c h.machine r.0.machine in
-    by_if P (not (is_above s h.latest)) _ _ Rests (by_if P (nat_le 128 (length h.present)) _ _ Rests (by_if P c.refused _ _ Rests Rests))
-moved h (Receives s piece) c = brought (stream_of h s)
-  where
-    brought : (o : Option SessionStream) → Moved c h.machine (receive o h s piece).0.machine
-    brought None = Rests
-    brought (Some st) =
-        let P : HubState × Outcome → Type 0 = λ r. Moved c h.machine r.0.machine in
-        by_if P (not (is_open st.now.status)) _ _ Rests (by_if P (nat_lt (room st.now) (length piece)) _ _ Rests Rests)
+moved h (Joins s) c = stays c h.machine _ (grind (arith, common_steps))
+moved h (Receives s piece) c = stays c h.machine _ (grind (arith, common_steps))
 moved h (Serves s) c = answered (stream_of h s)
   where
     answered : (o : Option SessionStream) → Moved c h.machine (serve_session o h s c).0.machine
     answered None = Rests
     answered (Some st) = served_moves c h.machine s st.now
-moved h (Sends s n) c = sent (stream_of h s)
-  where
-    sent : (o : Option SessionStream) → Moved c h.machine (send o h s n).0.machine
-    sent None = Rests
-    sent (Some st) =
-        let P : HubState × Outcome → Type 0 = λ r. Moved c h.machine r.0.machine in
-        by_if P (nat_le n (length st.now.pending)) _ _ Rests Rests
+moved h (Sends s n) c = stays c h.machine _ (grind (arith, common_steps))
 moved h (Leaves s) c = parted (stream_of h s)
   where
     parted : (o : Option SessionStream) → Moved c h.machine (depart o h s).0.machine
@@ -82,85 +74,66 @@ machine_reached h (Continued g e c possible r) = reached_moved c g.machine _ (ma
 
 -- ---- the streams of a hub
 
+abbrev AllStreams : List (ℕ × SessionStream) → Type 0
+AllStreams es = AllByRecursion (λ e. IsSessionStream e.1) es
+
 module _ (t : ℕ → Bool) where
-  all-lookup : (es : List (ℕ × SessionStream)) (st : SessionStream) → AllByRecursion (λ e. IsSessionStream e.1) es → lookup t es ≡ Some st → IsSessionStream st
+  all-lookup : (es : List (ℕ × SessionStream)) (st : SessionStream) → AllStreams es → lookup t es ≡ Some st → IsSessionStream st
   all-lookup [] st a e = absurd (cc)
-  all-lookup (x ∷ xs) st a e =
-      elim (t x.0) as (λ b. cond b (Some x.1) (lookup t xs) ≡ Some st → IsSessionStream st) [
-        | true ↦ λ k. let same : x.1 ≡ st = cc in subst IsSessionStream same a.0
-        | false ↦ λ k. all-lookup xs st a.1 k
-      ] e
+  all-lookup (x ∷ xs) st a e = grind (arith, common_steps, all-lookup xs st a.1)
 
-  all-set : (es : List (ℕ × SessionStream)) (st : SessionStream) → AllByRecursion (λ e. IsSessionStream e.1) es → IsSessionStream st → AllByRecursion (λ e. IsSessionStream e.1) (set_value t es st)
+  all-set : (es : List (ℕ × SessionStream)) (st : SessionStream) → AllStreams es → IsSessionStream st → AllStreams (set_value t es st)
   all-set [] st a h = tt
-  all-set (x ∷ xs) st a h =
-      elim (t x.0) as (λ b. AllByRecursion (λ e. IsSessionStream e.1) (cond b ((x.0, st) ∷ xs) (x ∷ set_value t xs st))) [ true ↦ (h, a.1) | false ↦ (a.0, all-set xs st a.1 h) ]
+  all-set (x ∷ xs) st a h = grind (arith, common_steps, all-set xs st a.1 h)
 
-  all-remove : (es : List (ℕ × SessionStream)) → AllByRecursion (λ e. IsSessionStream e.1) es → AllByRecursion (λ e. IsSessionStream e.1) (remove_entry t es)
+  all-remove : (es : List (ℕ × SessionStream)) → AllStreams es → AllStreams (remove_entry t es)
   all-remove [] a = tt
-  all-remove (x ∷ xs) a =
-      elim (t x.0) as (λ b. AllByRecursion (λ e. IsSessionStream e.1) (cond b xs (x ∷ remove_entry t xs))) [ true ↦ a.1 | false ↦ (a.0, all-remove xs a.1) ]
+  all-remove (x ∷ xs) a = grind (arith, common_steps, all-remove xs a.1)
 
-all-insert : (s : ℕ) (st : SessionStream) (es : List (ℕ × SessionStream)) → AllByRecursion (λ e. IsSessionStream e.1) es → IsSessionStream st → AllByRecursion (λ e. IsSessionStream e.1) (insert_entry nat_cmp es s st)
+all-insert : (s : ℕ) (st : SessionStream) (es : List (ℕ × SessionStream)) → AllStreams es → IsSessionStream st → AllStreams (insert_entry nat_cmp es s st)
 all-insert s st [] a h = (h, tt)
 all-insert s st (x ∷ xs) a h = grind (arith, common_steps, all-insert s st xs a.1 h)
 
-all-append : (es : List (ℕ × SessionStream)) (e : ℕ × SessionStream) → AllByRecursion (λ e. IsSessionStream e.1) es → IsSessionStream e.1 → AllByRecursion (λ e. IsSessionStream e.1) (es ++ e ∷ [])
-all-append [] e a h = (h, tt)
-all-append (x ∷ xs) e a h = (a.0, all-append xs e a.1 h)
-
 pub record AreStreams (h : HubState) : Type 0 where
-  pub present : AllByRecursion (λ e. IsSessionStream e.1) h.present
-  pub gone : AllByRecursion (λ e. IsSessionStream e.1) h.gone
-
-fresh : IsSessionStream new_stream
-fresh = record { rest = []; input = refl; inbox = λ _. refl; output = refl }
+  pub present : AllStreams h.present
+  pub gone : AllStreams h.gone
 
 brought_more : (st : SessionStream) (piece : Bytes) → IsSessionStream st → IsSessionStream (record st { now = record { inbox = st.now.inbox ++ piece; pending = st.now.pending; status = st.now.status }; received = st.received ++ piece })
-brought_more st piece h = grind (arith, common_steps, append_assoc)
+brought_more st piece h = grind (arith, common_steps)
 
 sent_some : (st : SessionStream) (n : ℕ) → IsSessionStream st → IsSessionStream (record st { now = record { inbox = st.now.inbox; pending = drop n st.now.pending; status = st.now.status }; sent = st.sent ++ take n st.now.pending })
-sent_some st n h = grind (arith, common_steps, take-append-drop, append_assoc)
-
-flat_map-push : {A : Type 0} (f : A → Bytes) (xs : List A) (x : A) → flat_map f (xs ++ x ∷ []) ≡ flat_map f xs ++ f x
-flat_map-push f xs x = flat_map-append f xs (x ∷ []) ∙ ap (λ ys. flat_map f xs ++ ys) (append-nil (f x))
+sent_some st n h = grind (arith, common_steps)
 
 abbrev pub after_effect : SessionStream → Effect → SessionStream
 after_effect st e = record st { now = e.now; served = st.served ++ e.served; replies = st.replies ++ e.replies }
 
 module _ (st : SessionStream) (h : IsSessionStream st) (c : Choice) (m : State) (s : ℕ) where
   idle : IsSessionStream (after_effect st (no_effect m st.now))
-  idle = grind (arith, common_steps, append-nil)
+  idle = grind (arith, common_steps)
 
   module _ (may : may_serve st.now ≡ true) where
     all_sent : replies_text st ≡ st.sent
     all_sent = h.output ∙ ap (λ xs. st.sent ++ xs) (nothing_pending (is_open st.now.status) st.now.pending may) ∙ append-nil st.sent
 
     one_more : (r : Response) → flat_map reply_text (st.replies ++ r ∷ []) ≡ st.sent ++ reply_text r
-    one_more r = flat_map-push reply_text st.replies r ∙ ap (λ xs. xs ++ reply_text r) all_sent
-
-    same_spelled : st.received ≡ flat_map array_of_bulks (st.served ++ []) ++ h.rest
-    same_spelled = h.input ∙ ap (λ xs. flat_map array_of_bulks xs ++ h.rest) (sym (append-nil st.served))
+    one_more r = flat_map-append reply_text st.replies (r ∷ []) ∙ ap (λ ys. flat_map reply_text st.replies ++ ys) (append-nil (reply_text r)) ∙ ap (λ xs. xs ++ reply_text r) all_sent
 
     whole : (parts : List Bytes) (used : ℕ) (answer : State × Response) → IsFront st.now.inbox (Whole parts used) → IsSessionStream (after_effect st (served_with answer st.now parts used))
     whole parts used answer front =
-        let rest_is : h.rest ≡ st.now.inbox = h.inbox (is_open_there st.now may) in
-        let inbox_is : st.now.inbox ≡ array_of_bulks parts ++ drop used st.now.inbox = sym (take-append-drop used st.now.inbox) ∙ ap (λ xs. xs ++ drop used st.now.inbox) front.1.1 in
-        let came : st.received ≡ flat_map array_of_bulks (st.served ++ parts ∷ []) ++ drop used st.now.inbox =
-        h.input ∙ ap (λ xs. requests_text st ++ xs) (rest_is ∙ inbox_is) ∙ sym (append_assoc (requests_text st) (array_of_bulks parts) (drop used st.now.inbox))
-        ∙ ap (λ xs. xs ++ drop used st.now.inbox) (sym (flat_map-push array_of_bulks st.served parts)) in
-        record { rest = drop used st.now.inbox; input = came; inbox = λ _. refl; output = one_more answer.1 }
+        let own = h.inbox (is_open_there st.now may) in
+        let read = front.1.1 in
+        record {
+          rest = drop used st.now.inbox;
+          input = grind (arith, common_steps, h.input, take-append-drop used st.now.inbox);
+          inbox = λ _. refl;
+          output = one_more answer.1;
+        }
 
     starving : IsSessionStream (after_effect st (out_of_memory m s))
-    starving = record {
-      rest = h.rest;
-      input = same_spelled;
-      inbox = λ bad. absurd (cc);
-      output = ap (flat_map reply_text) (append-nil st.replies) ∙ all_sent ∙ sym (append-nil st.sent);
-    }
+    starving = record { rest = h.rest; input = grind (arith, common_steps, h.input); inbox = λ bad. absurd (cc); output = grind (arith, common_steps, all_sent) }
 
     breaking : IsSessionStream (after_effect st (broken_frame m s))
-    breaking = record { rest = h.rest; input = same_spelled; inbox = λ bad. absurd (cc); output = one_more bad_frame }
+    breaking = record { rest = h.rest; input = grind (arith, common_steps, h.input); inbox = λ bad. absurd (cc); output = one_more bad_frame }
 
     found : (f : Front) → IsFront st.now.inbox f → IsSessionStream (after_effect st (serve_front f c m s st.now))
     found (Whole parts used) front =
@@ -170,36 +143,207 @@ module _ (st : SessionStream) (h : IsSessionStream st) (c : Choice) (m : State) 
     found Bad front = breaking
 
   pub serving : (IsTrue (may_serve st.now) → IsServed m s st.now.inbox c) → IsSessionStream (after_effect st (serve c m s st.now))
-  serving possible = elim (may_serve st.now) as (λ b. may_serve st.now ≡ b → IsSessionStream (after_effect st (if b then serve_front c.front c m s st.now else no_effect m st.now))) [
-    | true ↦ λ may. found may c.front (possible may).0
-    | false ↦ λ _. idle
-  ] refl
+  serving possible =
+      let P : Effect → Type 0 = λ e. IsSessionStream (after_effect st e) in
+      cond_both (may_serve st.now) _ _ P (λ may. found may c.front (possible may).0) (λ _. idle)
 
 pub streams_step : (h : HubState) (e : HubEvent) (c : Choice) → IsPossible h e c → AreStreams h → AreStreams (hub_step h e c).0
 unfolding hub_step
 streams_step h (Joins s) c possible a =
     let P : HubState × Outcome → Type 0 = λ r. AreStreams r.0 in
+    let fresh : IsSessionStream new_stream = record { rest = []; input = refl; inbox = λ _. refl; output = refl } in
     by_if P (not (is_above s h.latest)) _ _ a (by_if P (nat_le 128 (length h.present)) _ _ a (by_if P c.refused _ _ a (record { present = all-insert s new_stream h.present a.present fresh; gone = a.gone })))
 streams_step h (Receives s piece) c possible a = brought (stream_of h s) refl
   where
     brought : (o : Option SessionStream) → stream_of h s ≡ o → AreStreams (receive o h s piece).0
-    brought None e = a
-    brought (Some st) e = grind (arith, common_steps, all-lookup, by_if, nat_lt, all-set, brought_more)
+    brought o is = grind (arith, common_steps, all-lookup, by_if, nat_lt, all-set, brought_more)
 streams_step h (Serves s) c possible a = answered (stream_of h s) refl possible
   where
     answered : (o : Option SessionStream) → stream_of h s ≡ o → IsServePossible h.machine s o c → AreStreams (serve_session o h s c).0
-    answered a0 a1 a2 = grind (arith, common_steps, all-lookup, all-set, serving)
+    answered o is possible = grind (arith, common_steps, all-lookup, all-set, serving)
 streams_step h (Sends s n) c possible a = sent (stream_of h s) refl
   where
     sent : (o : Option SessionStream) → stream_of h s ≡ o → AreStreams (send o h s n).0
-    sent None e = a
-    sent (Some st) e = grind (arith, common_steps, all-lookup, by_if, nat_le, all-set, sent_some)
+    sent o is = grind (arith, common_steps, all-lookup, by_if, nat_le, all-set, sent_some)
 streams_step h (Leaves s) c possible a = parted (stream_of h s) refl
   where
     parted : (o : Option SessionStream) → stream_of h s ≡ o → AreStreams (depart o h s).0
     parted None e = a
-    parted (Some st) e = record { present = all-remove (is_at (nat_cmp s)) h.present a.present; gone = all-append h.gone (s, st) a.gone (all-lookup (is_at (nat_cmp s)) h.present st a.present e) }
+    parted (Some st) e =
+        let its = all-lookup (is_at (nat_cmp s)) h.present st a.present e in
+        record { present = all-remove (is_at (nat_cmp s)) h.present a.present; gone = all-append (λ e. IsSessionStream e.1) h.gone ((s, st) ∷ []) a.gone (its, tt) }
 
 pub are_streams : (h : HubState) → IsReachedHub h → AreStreams h
 are_streams h (Begun m r none) = record { present = tt; gone = tt }
 are_streams h (Continued g e c possible r) = streams_step g e c possible (are_streams g r)
+
+-- ---- the replies of an open transaction are the last ones of its session
+
+-- what a step does to the open transactions
+pub data Ran (m : State) (s : ℕ) (q : Operation) (a : State × Response) : Type 0 where
+  Kept : running_of m s ≡ None → a.0.running ≡ m.running → Ran m s q a
+  Opened : (t : Running) → q ≡ Begin → a.1 ≡ Done → t.requests ≡ [] → t.replies ≡ [] → a.0.running ≡ put nat_cmp s t m.running → Ran m s q a
+  Owned : (t after : Running) → running_of m s ≡ Some t → after.requests ≡ t.requests ++ q ∷ [] → after.replies ≡ t.replies ++ a.1 ∷ [] → a.0.running ≡ put nat_cmp s after m.running → Ran m s q a
+  Ended : a.0.running ≡ (leave m s).running → Ran m s q a
+
+pub ran : (m : State) (s : ℕ) (q : Operation) (f : Bool) → Ran m s q (step m s q f)
+unfolding step
+ran m s q f = by (running_of m s) q refl
+  where
+    by : (o : Option Running) (q : Operation) → running_of m s ≡ o → Ran m s q (step_of o m s q f)
+    by None Begin e = by_if (Ran m s Begin) m.stopped _ _ (Kept e refl) (by_if (Ran m s Begin) (nat_lt (length m.running) 64) _ _ (Opened _ refl refl refl refl refl) (Kept e refl))
+    by None other e = Kept e refl
+    by (Some t) Commit e = grind (arith, common_steps)
+    by (Some t) Abort e = Ended refl
+    by (Some t) other e = Owned t _ e refl refl refl
+
+-- ---- looking sessions up
+
+abbrev test : ℕ → ℕ → Bool
+test s = is_at (nat_cmp s)
+
+set-there : (es : List (ℕ × SessionStream)) (s : ℕ) (v x : SessionStream) → lookup (test s) es ≡ Some x → lookup (test s) (set_value (test s) es v) ≡ Some v
+set-there [] s v x e = absurd (cc)
+set-there (y ∷ ys) s v x e = grind (arith, common_steps, set-there ys s v x)
+
+set-apart : (es : List (ℕ × SessionStream)) (q s : ℕ) (v : SessionStream) → (q ≡ s → ⊥) → lookup (test q) (set_value (test s) es v) ≡ lookup (test q) es
+set-apart [] q s v apart = refl
+set-apart (y ∷ ys) q s v apart = grind (arith, common_steps, set-apart ys q s v apart)
+
+remove-apart : (es : List (ℕ × SessionStream)) (q s : ℕ) → (q ≡ s → ⊥) → lookup (test q) (remove_entry (test s) es) ≡ lookup (test q) es
+remove-apart [] q s apart = refl
+remove-apart (y ∷ ys) q s apart = grind (arith, common_steps, remove-apart ys q s apart)
+
+insert-apart : (es : List (ℕ × SessionStream)) (q s : ℕ) (v : SessionStream) → (q ≡ s → ⊥) → lookup (test q) (insert_entry nat_cmp es s v) ≡ lookup (test q) es
+insert-apart [] q s v apart = grind (arith, common_steps)
+insert-apart (y ∷ ys) q s v apart = grind (arith, common_steps, insert-apart ys q s v apart)
+
+-- ---- open transactions after a step
+
+put-apart : (m : State) (s q : ℕ) (t : Running) → (q ≡ s → ⊥) → find nat_cmp q (put nat_cmp s t m.running) ≡ running_of m q
+put-apart m s q t apart = grind (arith, common_steps, running_of-with_running)
+
+put-same : (m : State) (s : ℕ) (t : Running) → find nat_cmp s (put nat_cmp s t m.running) ≡ Some t
+put-same m s t = grind (arith, common_steps, running_of-with_running)
+
+left-some : (m : State) (s q : ℕ) (t : Running) → running_of (leave m s) q ≡ Some t → (q ≡ s → ⊥) × (running_of m q ≡ Some t)
+left-some m s q t e = grind (arith, common_steps, running_of-leave)
+
+-- ---- the requests and replies of open transactions stay the last ones
+
+pub record Invariant (h : HubState) : Type 0 where
+  pub known : (q : ℕ) (x : SessionStream) → stream_of h q ≡ Some x → is_above q h.latest ≡ false
+  pub ends : (q : ℕ) (t : Running) → running_of h.machine q ≡ Some t → EndsItsStream h q t
+
+module _ (h : HubState) (invariant : Invariant h) (s : ℕ) (st : SessionStream) (is : stream_of h s ≡ Some st) where
+  known_too : (q : ℕ) (x : SessionStream) → ((q ≡ s → ⊥) → stream_of h q ≡ Some x) → is_above q h.latest ≡ false
+  known_too q x there = elim (cases_eq q s) [
+    | inl same ↦ subst (λ (k : ℕ). is_above k h.latest ≡ false) (sym same) (invariant.known s st is)
+    | inr apart ↦ invariant.known q x (there apart)
+  ]
+
+  -- one session changed, and with it its transaction at most
+  changed : (v : SessionStream) (m : State) → ((q : ℕ) (t : Running) → (q ≡ s → ⊥) → running_of m q ≡ Some t → running_of h.machine q ≡ Some t)
+      → ((t : Running) → running_of m s ≡ Some t → EndsStream v t) → Invariant (record (with_stream h s v) { machine = m })
+  changed v m others its = record {
+    known = λ q x e. known_too q x (λ apart. sym (set-apart h.present q s v apart) ∙ e);
+    ends = λ q t e. elim (cases_eq q s) [
+      | inl same ↦
+          let L : ℕ → Type 0 = λ k. lookup (test k) (set_value (test s) h.present v) ≡ Some v in
+          (v, subst L (sym same) (set-there h.present s v st is), its t (ap (running_of m) (sym same) ∙ e))
+      | inr apart ↦ let o = invariant.ends q t (others q t apart e) in (o.0, set-apart h.present q s v apart ∙ o.1, o.2)
+    ];
+  }
+
+  -- what the session had
+  had : (t : Running) → running_of h.machine s ≡ Some t → EndsStream st t
+  had t e = let o = invariant.ends s t e in subst (λ (x : SessionStream). EndsStream x t) (some_same (sym o.1 ∙ is)) o.2
+
+  same_session : (v : SessionStream) → v.replies ≡ st.replies → v.served ≡ st.served → Invariant (with_stream h s v)
+  same_session v replies served = changed v h.machine (λ q t apart k. k) (λ t k. let o = had t k in grind (arith, common_steps))
+
+  ended : (v : SessionStream) → Invariant (record (with_stream h s v) { machine = leave h.machine s })
+  ended v = changed v (leave h.machine s) (λ q t apart e. (left-some h.machine s q t e).1) (λ t e. absurd ((left-some h.machine s s t e).0 refl))
+
+  stepped : (parts : List Bytes) (f : Bool) (v : SessionStream) → v.replies ≡ st.replies ++ (step h.machine s (asks parts) f).1 ∷ [] → v.served ≡ st.served ++ parts ∷ [] →
+      Invariant (record (with_stream h s v) { machine = (step h.machine s (asks parts) f).0 })
+  stepped parts f v replies served = by (ran h.machine s (asks parts) f)
+    where
+      asked_all : map asks v.served ≡ map asks st.served ++ asks parts ∷ []
+      asked_all = ap (map asks) served ∙ map-append asks st.served (parts ∷ [])
+
+      by : Ran h.machine s (asks parts) (step h.machine s (asks parts) f) → Invariant (record (with_stream h s v) { machine = (step h.machine s (asks parts) f).0 })
+      by (Kept none e) = changed v _ (λ q t apart k. sym (ap (find nat_cmp q) e) ∙ k) (λ t k. (let bad : None ≡ Some t = sym none ∙ sym (ap (find nat_cmp s) e) ∙ k in absurd (cc)))
+      by (Opened t0 begins answered no_requests no_replies e) = changed v _ (λ q t apart k. sym (put-apart h.machine s q t0 apart) ∙ sym (ap (find nat_cmp q) e) ∙ k) (λ t k.
+          let same : t0 ≡ t = some_same (sym (put-same h.machine s t0) ∙ sym (ap (find nat_cmp s) e) ∙ k) in grind (arith, common_steps, asked_all))
+      by (Owned t0 t1 was requests_are replies_are e) = changed v _ (λ q t apart k. sym (put-apart h.machine s q t1 apart) ∙ sym (ap (find nat_cmp q) e) ∙ k) (λ t k.
+          let same : t1 ≡ t = some_same (sym (put-same h.machine s t1) ∙ sym (ap (find nat_cmp s) e) ∙ k) in
+          let o = had t0 was in grind (arith, common_steps, asked_all))
+      by (Ended e) = changed v _ (λ q t apart k. (left-some h.machine s q t (sym (ap (find nat_cmp q) e) ∙ k)).1) (λ t k. absurd ((left-some h.machine s s t (sym (ap (find nat_cmp s) e) ∙ k)).0 refl))
+
+  served : (c : Choice) → Invariant (record (with_stream h s (after_effect st (serve c h.machine s st.now))) { machine = (serve c h.machine s st.now).machine })
+  served c = grind (arith, common_steps, by_if, after_effect, same_session, ended, stepped)
+
+  parted : Invariant (record { machine = leave h.machine s; present = remove_entry (test s) h.present; gone = h.gone ++ (s, st) ∷ []; latest = h.latest })
+  parted = grind (arith, common_steps, known_too, left-some, remove-apart)
+
+joined_too : (h : HubState) → Invariant h → (s : ℕ) → is_above s h.latest ≡ true → Invariant (record h { present = insert_entry nat_cmp h.present s new_stream; latest = Some s })
+joined_too h invariant s above = grind (arith, common_steps, cases_eq, insert-apart)
+
+pub invariant_step : (h : HubState) (e : HubEvent) (c : Choice) → Invariant h → Invariant (hub_step h e c).0
+unfolding hub_step
+invariant_step h (Joins s) c invariant =
+    let P : HubState × Outcome → Type 0 = λ r. Invariant r.0 in
+    let joined = λ (above : not (is_above s h.latest) ≡ false). joined_too h invariant s (not-false (is_above s h.latest) above) in
+    cond_both (not (is_above s h.latest)) _ _ P (λ _. invariant) (λ above. by_if P (nat_le 128 (length h.present)) _ _ invariant (by_if P c.refused _ _ invariant (joined above)))
+invariant_step h (Receives s piece) c invariant = brought (stream_of h s) refl
+  where
+    brought : (o : Option SessionStream) → stream_of h s ≡ o → Invariant (receive o h s piece).0
+    brought o is = grind (arith, common_steps, by_if, nat_lt, same_session)
+invariant_step h (Serves s) c invariant = answered (stream_of h s) refl
+  where
+    answered : (o : Option SessionStream) → stream_of h s ≡ o → Invariant (serve_session o h s c).0
+    answered None e = invariant
+    answered (Some st) e = served h invariant s st e c
+invariant_step h (Sends s n) c invariant = sent (stream_of h s) refl
+  where
+    sent : (o : Option SessionStream) → stream_of h s ≡ o → Invariant (send o h s n).0
+    sent o is = grind (arith, common_steps, by_if, nat_le, same_session)
+invariant_step h (Leaves s) c invariant = gone (stream_of h s) refl
+  where
+    gone : (o : Option SessionStream) → stream_of h s ≡ o → Invariant (depart o h s).0
+    gone None e = invariant
+    gone (Some st) e = parted h invariant s st e
+
+pub always : (h : HubState) → IsReachedHub h → Invariant h
+always h (Begun m r none) = grind (arith, common_steps)
+always h (Continued g e c possible r) = invariant_step g e c (always g r)
+
+-- ---- they are the private copy's
+
+all_find : (P : Running → Type 0) (s : ℕ) (es : List (ℕ × Running)) (t : Running) → AllByRecursion (λ e. P e.1) es → find nat_cmp s es ≡ Some t → P t
+all_find P s [] t a e = absurd (cc)
+all_find P s (x ∷ xs) t a e = grind (arith, common_steps, all_find P s xs t a.1)
+
+private_replies : (m : State) (s : ℕ) (t : Running) → IsIsolated m → running_of m s ≡ Some t → t.replies ≡ responses (copy_of (snapshot m t)) t.requests
+private_replies m s t isolated e =
+    let P : Running → Type 0 = λ x. x.replies ≡ responses (copy_of (snapshot m x)) x.requests in
+    all_find P s m.running t (recursion_from_All (λ (e : ℕ × Running). P e.1) m.running isolated) e
+
+-- the session's output ends with its transaction's replies
+ends_output : (h : HubState) (s : ℕ) (t : Running) → IsLawful h → running_of h.machine s ≡ Some t → EndsOutput h s (own_bytes t)
+ends_output h s t law e =
+    let o = law.transactions s t e in
+    let first = o.2.earlier ++ Done ∷ [] in
+    let apart = ap (flat_map reply_text) (o.2.replies ∙ sym (append_assoc o.2.earlier (Done ∷ []) t.replies)) ∙ flat_map-append reply_text first t.replies in
+    (o.0, flat_map reply_text first, o.1, apart)
+
+pub same_bytes : SameBytes
+same_bytes h k s r t u a b e f alike requests =
+    let same : t.replies ≡ u.replies =
+    private_replies h.machine s t a.isolated e ∙ ap (λ c. responses (copy_of c) t.requests) alike ∙ ap (λ qs. responses (copy_of (snapshot k.machine u)) qs) requests ∙ sym (private_replies k.machine r u b.isolated f) in
+    record {
+      replies = same;
+      first = ends_output h s t a e;
+      second = subst (EndsOutput k r) (sym (ap (flat_map reply_text) same)) (ends_output k r u b f);
+    }

@@ -4,20 +4,16 @@ use Rattle.sector.specs.declared.device.Sectors.{Ghosts}
 use Rattle.model.specs.declared.refusals.Memory.{Memory}
 use Rattle.model.specs.Leading.{LeadsBy}
 use Rattle.model.specs.Map.{Bytes}
-use Rattle.model.specs.Operations.{Operation, Response}
-use Rattle.model.specs.Operations.Response.{Done}
+use Rattle.model.specs.Operations.{Operation, Response, Done}
 use Rattle.model.specs.Machine.{State, step, leave}
 use Rattle.model.specs.ReplyText.{reply_text}
 use Rattle.engine.specs.declared.engine.Engine.{Engine}
-use Rattle.engine.specs.Meaning.{StandsFor, IsNotRefused}
+use Rattle.engine.specs.Meaning.{StandsFor, IsNotRefused, failures_of, has_risen, response_to_read}
 use Rattle.engine.specs.declared.faults.ReadFault.{ReadFault}
-use Rattle.engine.specs.Meaning.{failures_of, has_risen, response_to_read}
 use Rattle.sessions.specs.declared.buffer.Buffer.{Buffer}
-use Rattle.sessions.specs.declared.events.Outcome.{Outcome}
-use Rattle.sessions.specs.declared.events.Outcome.TheVariants.{Memory as OfMemory}
 use Rattle.sessions.specs.declared.requests.Served.{Served}
 use Rattle.sessions.specs.declared.requests.Served.TheVariants.{Answered, Incomplete, Broken, Refused}
-use Rattle.sessions.specs.SessionStreams.{SessionState, Front, Whole, More, Bad, IsFront, Choice, IsServed, asks, takes_memory, bad_frame, serve, may_serve}
+use Rattle.sessions.specs.SessionStreams.{Memory as OfMemory, Outcome, SessionState, Front, Whole, More, Bad, IsFront, Choice, IsServed, asks, takes_memory, bad_frame, serve, may_serve}
 
 -- the bytes that were not given out yet
 abbrev pub rest : Buffer → Bytes

@@ -3,18 +3,15 @@ use Rattle.std.specs.Prelude.{◌≡◌, ◌⊎◌, ℕ, false, true, List, Some
 use Rattle.std.specs.Map.{lookup}
 use Rattle.std.specs.BTreeMap.{is_at}
 use Rattle.std.specs.Ordering.{nat_cmp}
-use Rattle.sector.specs.declared.device.Sectors.{Ghosts}
 use Rattle.sector.specs.SectorModel.{LeavesOnly}
 use Rattle.model.specs.Map.{Bytes}
-use Rattle.model.specs.Operations.{Operation}
-use Rattle.model.specs.Operations.Operation.{Commit}
+use Rattle.model.specs.Operations.{Operation, Commit}
 use Rattle.model.specs.Machine.{State, step}
 use Rattle.engine.specs.declared.engine.Engine.{Engine}
 use Rattle.engine.specs.Meaning.{StandsFor as EngineStandsFor, device_of, IsLeftByCommit}
 use Rattle.engine.specs.Recovery.{HoldsMap, LeavesCommitted, committed_map}
-use Rattle.sessions.specs.declared.hub.Hub.{Hub}
 use Rattle.sessions.specs.SessionStreams.{HubState, HubEvent, Serves, SessionState, SessionStream, Whole, IsFront, asks, may_serve, stream_of}
-use Rattle.sessions.specs.StandsFor.{StandsFor, device}
+use Rattle.sessions.specs.StandsFor.{Ghosts, Hub, StandsFor, device}
 
 -- a crash at any moment of the session's COMMIT leaves the map from before it, or the one with the transaction's writes; of a store that
 -- was stopped, what it could have left before

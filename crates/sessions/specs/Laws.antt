@@ -1,7 +1,6 @@
 -- What holds of every state that a hub stands for.
 use Rattle.std.specs.Prelude.{◌≡◌, ◌≤◌, ◌+◌, if◌then◌else◌, ℕ, nat_lt, Bool, true, false, List, [], ◌∷◌, ◌++◌, map, take, Some}
 use Rattle.std.specs.List.{AllByRecursion, flat_map}
-use Rattle.sector.specs.declared.device.Sectors.{Ghosts}
 use Rattle.sector.specs.SectorModel.{LeavesOnly}
 use Rattle.engine.specs.Meaning.{committed_of, facts_of, versions_of}
 use Rattle.engine.specs.Recovery.{HoldsMap, committed_map}
@@ -9,17 +8,13 @@ use Rattle.pivot_check.specs.Kept.{HasForgotten, IsGivenBack, runs_due}
 use Rattle.versions.specs.Meaning.{IsReclaimed, due_of}
 use Rattle.model.specs.Map.{Bytes}
 use Rattle.model.specs.Laws.{IsIsolated, IsSerializable}
-use Rattle.model.specs.Operations.{Operation, Response}
-use Rattle.model.specs.Operations.Operation.{Begin}
-use Rattle.model.specs.Operations.Response.{Done}
+use Rattle.model.specs.Operations.{Operation, Response, Begin, Done}
 use Rattle.model.specs.Machine.{IsReached, Running, last, running_of, snapshot}
 use Rattle.model.specs.ReplyText.{reply_text}
-use Rattle.sessions.specs.declared.events.Status.TheVariants.{Open}
-use Rattle.sessions.specs.declared.hub.Hub.{Hub}
 use Rattle.sessions.specs.Calls.{has_failed}
 use Rattle.sessions.specs.Crashes.{HoldsBeforeOrAfter}
-use Rattle.sessions.specs.SessionStreams.{HubState, SessionStream, HubEvent, Choice, IsPossible, ArePossible, run, replies_text, requests_text, asks, stream_of, hub_step}
-use Rattle.sessions.specs.StandsFor.{StandsFor, device, failures, is_stopped}
+use Rattle.sessions.specs.SessionStreams.{Open, HubState, SessionStream, HubEvent, Choice, IsPossible, ArePossible, run, replies_text, requests_text, asks, stream_of, hub_step}
+use Rattle.sessions.specs.StandsFor.{Ghosts, Hub, StandsFor, device, failures, is_stopped}
 
 -- what came in is the spellings of the requests that were served and then the inbox, until it was emptied for good;
 -- the texts of the machine's replies are the bytes that were told to be sent and then those that are pending

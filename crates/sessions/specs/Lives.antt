@@ -1,6 +1,5 @@
 -- The lives of a store, one after another: each is opened over what the end of the one before left.
 use Rattle.std.specs.Prelude.{◌≡◌, ℕ, List, [], ◌∷◌, ◌++◌, length, Result, Ok, MatchResult, ⊤}
-use Rattle.sector.specs.declared.device.Sectors.{Ghosts}
 use Rattle.sector.specs.SectorModel.{IsSettled, LeavesOnly}
 use Rattle.model.specs.Map.{KeyMap}
 use Rattle.model.specs.Machine.{opened}
@@ -10,11 +9,10 @@ use Rattle.commit_log.specs.LogFaults.{IsDeviceOrMemory}
 use Rattle.commit_log.specs.LogImage.{IsLogImage}
 use Rattle.commit_log.specs.Reading.{ReadsAs}
 use Rattle.engine.specs.Recovery.{HoldsMap}
-use Rattle.sessions.specs.declared.hub.Hub.{Hub}
 use Rattle.sessions.specs.Laws.{Ran}
 use Rattle.sessions.specs.Life.{Holds, MayFind}
 use Rattle.sessions.specs.SessionStreams.{HubEvent, Choice, hub_over}
-use Rattle.sessions.specs.StandsFor.{StandsFor, device, device_after}
+use Rattle.sessions.specs.StandsFor.{Ghosts, Hub, StandsFor, device, device_after}
 
 -- the hub begins with this map
 pub record Begins {D : Type 0} {g : Ghosts D} (dev : D) (hub : Hub D g) (map : KeyMap) : Type 0 where

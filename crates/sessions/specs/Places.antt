@@ -1,6 +1,5 @@
 -- Where a session stands among the sessions that are present, or would stand, and what they end as where one is lent.
-use Rattle.std.specs.Prelude.{◌≡◌, ℕ, ◌<◌, ◌≤◌, List, length, Option, Some, None, slice_index_or, slice_set}
-use Rattle.std.specs.List.{insert, remove}
+use Rattle.std.specs.Prelude.{◌≡◌, ℕ, ◌<◌, ◌≤◌, List, length, Option, Some, None, slice_index_or, slice_set, insert, remove}
 use Rattle.std.specs.Map.{lookup, set_value, remove_entry}
 use Rattle.std.specs.BTreeMap.{insert_entry, is_at}
 use Rattle.std.specs.Borrow.{Lends, LendsIf, Fml, MutBor}

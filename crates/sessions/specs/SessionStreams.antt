@@ -1,6 +1,5 @@
 -- The byte streams of sessions over the machine, and what each event does to them.
-use Rattle.std.specs.Prelude.{◌≡◌, ℕ, ◌-◌, ◌≤◌, Bool, true, false, not, nat_le, nat_lt, ◌==◌, if◌then◌else◌, List, [], ◌∷◌, ◌++◌, length, take, drop, Option, Some, None, Result, Ok, Err, IsTrue, IsFalse, ⊤}
-use Rattle.std.specs.List.{flat_map}
+use Rattle.std.specs.Prelude.{◌≡◌, ℕ, ◌-◌, ◌≤◌, Bool, true, false, not, nat_le, nat_lt, ◌==◌, if◌then◌else◌, List, [], ◌∷◌, ◌++◌, length, take, drop, Option, Some, None, Result, Ok, Err, IsTrue, IsFalse, ⊤, flat_map}
 use Rattle.std.specs.Ordering.{nat_cmp}
 use Rattle.std.specs.Map.{lookup, remove_entry, set_value}
 use Rattle.std.specs.BTreeMap.{insert_entry, is_at}
@@ -11,15 +10,13 @@ use Rattle.model.specs.CommandTable.{command_in}
 use Rattle.model.specs.Grammar.{Spells, IsProperBeginning, array_of_bulks}
 use Rattle.model.specs.Machine.{State, step, leave, IsReached}
 use Rattle.model.specs.Map.{Bytes}
-use Rattle.model.specs.Operations.{Operation, Response}
-use Rattle.model.specs.Operations.Operation.{Abort, Ping, Faulty}
-use Rattle.model.specs.Operations.Response.{Refused as RefusedFor}
+use Rattle.model.specs.Operations.{Operation, Response, Abort, Ping, Faulty, Refused as RefusedFor}
 use Rattle.model.specs.ReplyText.{reply_text}
 use Rattle.snapshot.specs.Made.{is_refused}
-use Rattle.sessions.specs.declared.events.Status.{Status}
-use Rattle.sessions.specs.declared.events.Status.TheVariants.{Open, Ending, Refused}
-use Rattle.sessions.specs.declared.events.Outcome.{Outcome}
-use Rattle.sessions.specs.declared.events.Outcome.TheVariants.{Done, Unknown, Crowded, Idle, NoRoom, BadCount, Memory}
+pub use Rattle.sessions.specs.declared.events.Status.{Status}
+pub use Rattle.sessions.specs.declared.events.Status.TheVariants.{Open, Ending, Refused}
+pub use Rattle.sessions.specs.declared.events.Outcome.{Outcome}
+pub use Rattle.sessions.specs.declared.events.Outcome.TheVariants.{Done, Unknown, Crowded, Idle, NoRoom, BadCount, Memory}
 
 -- what a session has at hand: the bytes that came in and were not read yet, those that are to be sent, and its status
 pub record SessionState : Type 0 where

@@ -1,18 +1,15 @@
 -- Which states a hub stands for, and what an event does to them.
 use Rattle.std.specs.Prelude.{◌≡◌, ℕ, Bool, List, [], map, Option, Some, None, Result, Ok, Err}
-use Rattle.sector.specs.declared.device.Sectors.{Ghosts}
+pub use Rattle.sector.specs.declared.device.Sectors.{Ghosts}
 use Rattle.model.specs.Leading.{LeadsBy}
-use Rattle.engine.specs.Meaning.{StandsFor as EngineStandsFor}
-use Rattle.engine.specs.Meaning.{device_of, failures_of, is_stopped as has_engine_stopped}
+use Rattle.engine.specs.Meaning.{StandsFor as EngineStandsFor, device_of, failures_of, is_stopped as has_engine_stopped}
 use Rattle.commit_log.specs.declared.faults.Unopened.{Unopened}
-use Rattle.sessions.specs.declared.events.Status.{Status}
 use Rattle.sessions.specs.declared.events.Status.TheVariants.{Absent}
-use Rattle.sessions.specs.declared.events.Outcome.{Outcome}
 use Rattle.sessions.specs.declared.events.Event.{Event}
 use Rattle.sessions.specs.declared.events.Event.TheVariants.{Joined, Bytes, Serve, Sent, Left}
-use Rattle.sessions.specs.declared.hub.Hub.{Hub}
+pub use Rattle.sessions.specs.declared.hub.Hub.{Hub}
 use Rattle.sessions.specs.Calls.{is_memory, has_failed}
-use Rattle.sessions.specs.SessionStreams.{HubState, SessionState, SessionStream, HubEvent, Joins, Receives, Serves, Sends, Leaves, Choice, IsPossible, hub_step, room, IsReachedHub}
+use Rattle.sessions.specs.SessionStreams.{Status, Outcome, HubState, SessionState, SessionStream, HubEvent, Joins, Receives, Serves, Sends, Leaves, Choice, IsPossible, hub_step, room, IsReachedHub}
 
 abbrev pub event_of : Event → HubEvent
 event_of (Joined s) = Joins s

@@ -1,7 +1,7 @@
 -- Entries that are dealt to two vectors.
 use Rattle.std.proofs.lemmas.Grind.{common_steps}
-use Rattle.std.proofs.Common.{◌≡◌, ℕ, ◌+◌, ◌-◌, ◌<◌, ◌≤◌, List, [], ◌∷◌, ◌++◌, length, take, drop, refl, ap, sym, ◌∙◌, arith}
-use Rattle.std.proofs.lemmas.List.{append_assoc, append-nil, length-append, length-take, length-drop, take-append-drop}
+use Rattle.std.proofs.Common.{◌≡◌, ℕ, ◌+◌, ◌-◌, ◌<◌, ◌≤◌, List, [], ◌∷◌, ◌++◌, length, arith}
+use Rattle.std.proofs.lemmas.List.{append_assoc, length-append}
 
 -- the lower ones are the first of all, up to a place, the upper ones follow, and the rest is still to come
 pub record Dealt {E : Type 0} (at : ℕ) (all rest lower upper : List E) : Type 0 where
@@ -10,9 +10,6 @@ pub record Dealt {E : Type 0} (at : ℕ) (all rest lower upper : List E) : Type 
   pub full : 0 < length upper → length lower ≡ at
 
 module _ {E : Type 0} where
-  pub dealt-none : (at : ℕ) (all rest lower upper : List E) → rest ≡ all → lower ≡ [] → upper ≡ [] → Dealt at all rest lower upper
-  dealt-none at all rest lower upper same low up = grind (arith, common_steps)
-
   pub dealt-lower : (at : ℕ) (all rest rest' lower lower' upper : List E) (e : E) → rest ≡ e ∷ rest' → lower' ≡ lower ++ e ∷ [] → length lower < at → Dealt at all rest lower upper → Dealt at all rest' lower' upper
   dealt-lower at all rest rest' lower lower' upper e first more room d = grind (arith, common_steps, append_assoc, length-append)
 

@@ -1,23 +1,20 @@
 -- Entries by rising key in parts: what stands before a key and after it, and what `find` and `put` do in the middle.
 use Rattle.std.proofs.lemmas.Grind.{common_steps}
-use Rattle.std.proofs.Common.{◌≡◌, ◌<◌, true, false, cond, List, [], ◌∷◌, ◌++◌, length, Some, refl, ap, subst, ◌∙◌, arith}
+use Rattle.std.proofs.Common.{◌≡◌, ◌<◌, true, false, cond, List, [], ◌∷◌, ◌++◌, length, Some, refl, ap, ◌∙◌, arith}
 use Rattle.std.specs.declared.cmp.Ordering.TheVariants.{Less, Equal, Greater}
-use Rattle.std.specs.Ordering.{is_eq, is_le, nat_cmp, ordering_reverse}
-use Rattle.std.specs.Cmp.Lexicographic.{slice_cmp, nat_list_cmp_total}
+use Rattle.std.specs.Ordering.{is_eq, is_le}
+use Rattle.std.specs.Cmp.Lexicographic.{nat_list_cmp_total}
 use Rattle.std.specs.FinMap.Entries.{find, put, by_order}
 use Rattle.std.proofs.lemmas.Bool.{both_ways}
-use Rattle.std.proofs.lemmas.Map.Lookups.{exact_bytes}
 use Rattle.model.specs.Map.{Bytes, key_cmp}
+use Rattle.model.proofs.Elements.{all-each}
 use Rattle.model.proofs.Entries.{IsSorted, IsBelowAll, turned}
 use Rattle.model.proofs.InOrder.{parts, less, both, is_less, below_right, below_later, find_none}
+use Rattle.model.proofs.KeyOrder.{less_trans, same_keys, turned_less}
 use Rattle.sorted_pages.specs.Pages.{AreBelow, starts_by}
 
 pub below_trans : (y x k : Bytes) → key_cmp y x ≡ Less → is_le (key_cmp x k) ≡ true → key_cmp y k ≡ Less
-below_trans y x k lt le = elim (key_cmp x k) as (λ o. key_cmp x k ≡ o → is_le o ≡ true → key_cmp y k ≡ Less) [
-  | Less ↦ λ e t. nat_list_cmp_total.trans y x k lt e
-  | Equal ↦ λ e t. subst (λ (q : Bytes). key_cmp y q ≡ Less) (exact_bytes x k e) lt
-  | Greater ↦ λ e t. absurd (both_ways false refl t)
-] refl le
+below_trans y x k lt le = grind (arith, less_trans y x k, same_keys x k)
 
 -- a key that isn't at most k is above it
 pub above_it : (x k : Bytes) → is_le (key_cmp x k) ≡ false → key_cmp k x ≡ Less
@@ -30,8 +27,7 @@ module _ {X : Type 0} where
   apart (x ∷ xs) e ys h = let p = parts _ _ h in (less _ (parts _ _ (below_right key_cmp x.0 xs (e ∷ ys) p.0)).0, apart xs e ys p.1)
 
   weaker : (x k : Bytes) (es : List (Bytes × X)) → is_le (key_cmp x k) ≡ true → AreBelow x es → AreBelow k es
-  weaker x k [] le h = tt
-  weaker x k (e ∷ es) le h = (below_trans e.0 x k h.0 le, weaker x k es le h.1)
+  weaker x k es le h = all-each _ _ es (λ e lt. below_trans e.0 x k lt le) h
 
   -- the entries before a page that starts by k are below k
   pub below_of : (k : Bytes) (xs es rest : List (Bytes × X)) → IsSorted (xs ++ (es ++ rest)) → 0 < length es → starts_by k es ≡ true → AreBelow k xs
@@ -56,40 +52,39 @@ module _ {X : Type 0} where
   starts-append q lo up f = grind (arith, common_steps)
 
   -- an entry that comes in after the first leaves the first
-  pub starts-put : (q k : Bytes) (v : X) (es : List (Bytes × X)) → 0 < length es → starts_by k es ≡ true → starts_by q (put (slice_cmp nat_cmp) k v es) ≡ starts_by q es
+  pub starts-put : (q k : Bytes) (v : X) (es : List (Bytes × X)) → 0 < length es → starts_by k es ≡ true → starts_by q (put key_cmp k v es) ≡ starts_by q es
   starts-put q k v es f t = grind (arith, common_steps, both_ways, turned)
 
-  pub filled-put : (k : Bytes) (v : X) (es : List (Bytes × X)) → 0 < length (put (slice_cmp nat_cmp) k v es)
+  pub filled-put : (k : Bytes) (v : X) (es : List (Bytes × X)) → 0 < length (put key_cmp k v es)
   filled-put k v [] = omega arith
-  filled-put k v (e ∷ es) = elim (key_cmp k e.0) as (λ o. 0 < length (by_order o ((k, v) ∷ e ∷ es) ((e.0, v) ∷ es) (e ∷ put (slice_cmp nat_cmp) k v es))) [ Less ↦ omega arith | Equal ↦ omega arith | Greater ↦ omega arith ]
+  filled-put k v (e ∷ es) = elim (key_cmp k e.0) as (λ o. 0 < length (by_order o ((k, v) ∷ e ∷ es) ((e.0, v) ∷ es) (e ∷ put key_cmp k v es))) [ Less ↦ omega arith | Equal ↦ omega arith | Greater ↦ omega arith ]
 
   -- ---- in the middle
 
-  find_left : (k : Bytes) (m b : List (Bytes × X)) → IsBelowAll k b → find (slice_cmp nat_cmp) k (m ++ b) ≡ find (slice_cmp nat_cmp) k m
+  find_left : (k : Bytes) (m b : List (Bytes × X)) → IsBelowAll k b → find key_cmp k (m ++ b) ≡ find key_cmp k m
   find_left k [] b h = find_none key_cmp k b h
   find_left k (e ∷ m) b h = ap (λ r. cond (is_eq (key_cmp k e.0)) (Some e.1) r) (find_left k m b h)
 
-  pub find_middle : (k : Bytes) (a m b : List (Bytes × X)) → AreBelow k a → IsBelowAll k b → find (slice_cmp nat_cmp) k (a ++ (m ++ b)) ≡ find (slice_cmp nat_cmp) k m
-  find_middle k [] m b below above = find_left k m b above
-  find_middle k (e ∷ a) m b below above =
-      ap (λ o. cond (is_eq o) (Some e.1) (find (slice_cmp nat_cmp) k (a ++ (m ++ b)))) (turned e.0 k ∙ ap ordering_reverse below.0) ∙ find_middle k a m b below.1 above
+  pub find_behind : (k : Bytes) (a m : List (Bytes × X)) → AreBelow k a → find key_cmp k (a ++ m) ≡ find key_cmp k m
+  find_behind k [] m below = refl
+  find_behind k (e ∷ a) m below = ap (λ o. cond (is_eq o) (Some e.1) (find key_cmp k (a ++ m))) (turned_less e.0 k below.0) ∙ find_behind k a m below.1
 
-  put_first : (k : Bytes) (v : X) (es : List (Bytes × X)) → IsBelowAll k es → put (slice_cmp nat_cmp) k v es ≡ (k, v) ∷ es
+  pub find_middle : (k : Bytes) (a m b : List (Bytes × X)) → AreBelow k a → IsBelowAll k b → find key_cmp k (a ++ (m ++ b)) ≡ find key_cmp k m
+  find_middle k a m b below above = find_behind k a (m ++ b) below ∙ find_left k m b above
+
+  put_first : (k : Bytes) (v : X) (es : List (Bytes × X)) → IsBelowAll k es → put key_cmp k v es ≡ (k, v) ∷ es
   put_first k v [] h = refl
-  put_first k v (e ∷ es) h = ap (λ o. by_order o ((k, v) ∷ e ∷ es) ((e.0, v) ∷ es) (e ∷ put (slice_cmp nat_cmp) k v es)) (less _ (parts _ _ h).0)
+  put_first k v (e ∷ es) h = ap (λ o. by_order o ((k, v) ∷ e ∷ es) ((e.0, v) ∷ es) (e ∷ put key_cmp k v es)) (less _ (parts _ _ h).0)
 
-  put_left : (k : Bytes) (v : X) (m b : List (Bytes × X)) → IsBelowAll k b → put (slice_cmp nat_cmp) k v (m ++ b) ≡ put (slice_cmp nat_cmp) k v m ++ b
+  put_left : (k : Bytes) (v : X) (m b : List (Bytes × X)) → IsBelowAll k b → put key_cmp k v (m ++ b) ≡ put key_cmp k v m ++ b
   put_left k v [] b h = put_first k v b h
-  put_left k v (e ∷ m) b h =
-      elim (key_cmp k e.0) as (λ o. by_order o ((k, v) ∷ e ∷ (m ++ b)) ((e.0, v) ∷ (m ++ b)) (e ∷ put (slice_cmp nat_cmp) k v (m ++ b)) ≡ by_order o ((k, v) ∷ e ∷ m) ((e.0, v) ∷ m) (e ∷ put (slice_cmp nat_cmp) k v m) ++ b) [
-        | Less ↦ refl
-        | Equal ↦ refl
-        | Greater ↦ ap (λ l. e ∷ l) (put_left k v m b h)
-      ]
+  put_left k v (e ∷ m) b h = grind (arith, put_left k v m b h)
 
-  pub put_middle : (k : Bytes) (v : X) (a m b : List (Bytes × X)) → AreBelow k a → IsBelowAll k b → put (slice_cmp nat_cmp) k v (a ++ (m ++ b)) ≡ a ++ (put (slice_cmp nat_cmp) k v m ++ b)
-  put_middle k v [] m b below above = put_left k v m b above
-  put_middle k v (e ∷ a) m b below above =
-      let l = a ++ (m ++ b) in
-      ap (λ o. by_order o ((k, v) ∷ e ∷ l) ((e.0, v) ∷ l) (e ∷ put (slice_cmp nat_cmp) k v l)) (turned e.0 k ∙ ap ordering_reverse below.0)
-      ∙ ap (λ l. e ∷ l) (put_middle k v a m b below.1 above)
+  pub put_behind : (k : Bytes) (v : X) (a m : List (Bytes × X)) → AreBelow k a → put key_cmp k v (a ++ m) ≡ a ++ put key_cmp k v m
+  put_behind k v [] m below = refl
+  put_behind k v (e ∷ a) m below =
+      let l = a ++ m in
+      ap (λ o. by_order o ((k, v) ∷ e ∷ l) ((e.0, v) ∷ l) (e ∷ put key_cmp k v l)) (turned_less e.0 k below.0) ∙ ap (λ l. e ∷ l) (put_behind k v a m below.1)
+
+  pub put_middle : (k : Bytes) (v : X) (a m b : List (Bytes × X)) → AreBelow k a → IsBelowAll k b → put key_cmp k v (a ++ (m ++ b)) ≡ a ++ (put key_cmp k v m ++ b)
+  put_middle k v a m b below above = put_behind k v a (m ++ b) below ∙ ap (λ l. a ++ l) (put_left k v m b above)

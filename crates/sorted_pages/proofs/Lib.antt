@@ -1,8 +1,6 @@
-pub mod Blanks
 pub mod Deals
 pub mod Keys
 pub mod Placings
-pub mod Summaries
+pub mod Seen
 pub mod Tails
-pub mod Trims
 pub mod Values

@@ -4,70 +4,35 @@ use Rattle.std.proofs.Common.{◌≡◌, ℕ, zero, suc, max, ◌+◌, ◌-◌, 
 use Rattle.std.specs.Prelude.{if◌then◌else◌, ◌⊎◌}
 use Rattle.std.specs.List.{AllByRecursion, insert}
 use Rattle.std.specs.List.Sorted.{IsPartitionedBy, IsPartitionPoint}
-use Rattle.std.specs.Ordering.{is_le, nat_cmp}
-use Rattle.std.specs.Cmp.Lexicographic.{slice_cmp, nat_list_cmp_total}
+use Rattle.std.specs.Ordering.{is_le}
+use Rattle.std.specs.Cmp.Lexicographic.{nat_list_cmp_total}
 use Rattle.std.specs.FinMap.Entries.{find, put, is_sorted-put}
-use Rattle.std.proofs.lemmas.Bool.{both_ways}
+use Rattle.std.proofs.lemmas.Bool.{both_ways, cases_Bool}
 use Rattle.std.proofs.lemmas.List.Edits.{length-insert}
-use Rattle.std.proofs.lemmas.List.{append_assoc, append-nil, length-append, length-set, set_at, get_or_at, length-take, length-drop, take-append-drop}
+use Rattle.std.proofs.lemmas.List.{append_assoc, append-nil, length-append, length-set, set_at, get_or_at, get_or-drop, length-take, length-take-le, length-drop, take-append-drop}
+use Rattle.std.proofs.lemmas.List.Elements.{All-from_get_or, recursion_from_All}
+use Rattle.std.proofs.Math.Seq.{drop-cons}
 use Rattle.model.specs.Map.{Bytes, key_cmp}
+use Rattle.model.proofs.Elements.{all-append, all-front, all-back}
 use Rattle.model.proofs.Entries.{IsSorted, IsBelowAll}
 use Rattle.model.proofs.InOrder.{below_left, below_right, sorted_left, sorted_right, parts}
-use Rattle.sorted_pages.specs.Pages.{AreAllFull, AreFull, AreTight, Page, entries, starts_by, last_room, room_at, last_page, count_at, page_entries, stands_behind, IsHalved, IsLoose, AreLoose, IsFilled, AreRestFilled, IsInOrder, AreBelow, IsPlace, IsRoomier, StaysTight}
+use Rattle.sorted_pages.specs.Pages.{AreAllFull, AreFull, AreTight, Page, entries, starts_by, last_room, room_at, last_page, count_at, page_entries, stands_behind, IsHalved, AreLoose, IsFilled, AreRestFilled, IsInOrder, AreBelow, IsPlace, IsRoomier, StaysTight}
 use Rattle.sorted_pages.proofs.Keys.{below_of, above_of, first_of, starts_lower, starts-append, starts-put, filled-put, find_middle, put_middle}
 
 -- ---- lists
 
-pub all_right : {Y : Type 0} (P : Y → Type 0) (us bs : List Y) → AllByRecursion P (us ++ bs) → AllByRecursion P bs
-all_right P [] bs h = h
-all_right P (a ∷ us) bs h = all_right P us bs h.1
-
-module _ {Y : Type 0} (f : Y → Bool) where
-  all_from : (ps : List Y) → ((j : ℕ) (d : Y) → j < length ps → f (get_or ps j d) ≡ false) → AllByRecursion (λ p. f p ≡ false) ps
-  all_from [] h = tt
-  all_from (p ∷ ps) h = (h 0 p (omega arith), all_from ps (λ j d lt. h (suc j) d (omega arith)))
-
-  -- the last element that passes
-  pub record Cut (ps : List Y) (i : ℕ) : Type 0 where
-    pub before : List Y
-    pub page : Y
-    pub after : List Y
-    pub is : ps ≡ before ++ page ∷ after
-    pub index : length before ≡ i
-    pub passes : f page ≡ true
-    pub later : AllByRecursion (λ p. f p ≡ false) after
-
-  cut : (ps : List Y) (i : ℕ) → i < length ps → ((j : ℕ) (d : Y) → j < suc i → f (get_or ps j d) ≡ true) → ((j : ℕ) (d : Y) → suc i ≤ j → j < length ps → f (get_or ps j d) ≡ false) → Cut ps i
-  cut [] i lt pass fail = absurd (omega arith)
-  cut (p ∷ ps) zero lt pass fail = record { before = []; page = p; after = ps; is = refl; index = refl; passes = pass 0 p (omega arith); later = all_from ps (λ j d l. fail (suc j) d (omega arith) (omega arith)) }
-  cut (p ∷ ps) (suc i) lt pass fail =
-      let r = cut ps i (omega arith) (λ j d l. pass (suc j) d (omega arith)) (λ j d l m. fail (suc j) d (omega arith) (omega arith)) in
-      record { before = p ∷ r.before; page = r.page; after = r.after; is = ap (λ l. p ∷ l) r.is; index = ap suc r.index; passes = r.passes; later = r.later }
-
-choose : (a b : Bool) (p lo up n : ℕ) → p ≤ lo → p ≤ up → (b ≡ true → a ≡ true) → (if a then p else n) ≤ (if b then up else (if a then lo else n)) + 0
-choose a b p lo up n l u h = grind (arith, common_steps, both_ways)
+two_rooms : (a b c : Bool) (p lo up n : ℕ) → a ≡ b → p ≤ lo → p ≤ up → (c ≡ true → b ≡ true) → (if a then p else n) ≤ (if c then up else (if b then lo else n)) + 0
+two_rooms a b c p lo up n same l u h = grind (arith, common_steps, both_ways)
 
 -- a list in two parts, each with an element
-pub record Halves {E : Type 0} (es lo up : List E) : Type 0 where
-  pub same : es ≡ lo ++ up
-  pub lower : 0 < length lo
-  pub upper : 0 < length up
-
-pub halves : {E : Type 0} (es lo up : List E) (half : ℕ) → lo ≡ take half es → up ≡ drop half es → half ≤ length es - 1 → ¬ (half ≡ 0) → Halves es lo up
+pub halves : {E : Type 0} (es lo up : List E) (half : ℕ) → lo ≡ take half es → up ≡ drop half es → half ≤ length es - 1 → ¬ (half ≡ 0) → record { same : es ≡ lo ++ up; lower : 0 < length lo; upper : 0 < length up }
 halves es lo up half l u within some = grind (arith, common_steps, min, length-take, length-drop, take-append-drop)
 
 -- the lists are longer by the page that comes in
 pub one_longer : {E : Type 0} (old ps new : List E) (i n : ℕ) (lo up : E) → old ≡ ps → n ≡ i + 1 → i < length ps → new ≡ insert (set ps i lo) n up → length new ≡ length old + 1
 one_longer old ps new i n lo up same next lt is =
-    let a = ap length same in
-    let s : length (set ps i lo) ≡ length ps = length-set ps i lo in
-    let b : length (insert (set ps i lo) n up) ≡ length (set ps i lo) + 1 = length-insert (set ps i lo) n up (omega arith) in
-    let c = ap length is in
-    omega arith
-
--- what is read at an index below the length
-pub same_at : {E : Type 0} (ps : List E) (i : ℕ) (p q : E) → i < length ps → p ≡ get_or ps i p → q ≡ get_or ps i q → p ≡ q
-same_at ps i p q lt a b = grind (arith, common_steps)
+    let longer = length-insert (set ps i lo) n up (omega (arith, length-set ps i lo)) in
+    omega (arith, ap length same, ap length is, longer, length-set ps i lo)
 
 module _ {X : Type 0} where
   -- ---- all entries
@@ -87,11 +52,11 @@ module _ {X : Type 0} where
 
   after_filled : (before : List (Page X)) (page : Page X) (after : List (Page X)) → AreRestFilled (before ++ page ∷ after) → AllByRecursion IsFilled after
   after_filled [] page after h = h
-  after_filled (b ∷ before) page after h = (all_right IsFilled before (page ∷ after) h).1
+  after_filled (b ∷ before) page after h = (all-back IsFilled before (page ∷ after) h).1
 
   page_filled : (before : List (Page X)) (page : Page X) (after : List (Page X)) → 0 < length before → AreRestFilled (before ++ page ∷ after) → IsFilled page
   page_filled [] page after lt h = absurd (omega arith)
-  page_filled (b ∷ before) page after lt h = (all_right IsFilled before (page ∷ after) h).0
+  page_filled (b ∷ before) page after lt h = (all-back IsFilled before (page ∷ after) h).0
 
   -- ---- where a key stands
 
@@ -115,8 +80,11 @@ module _ {X : Type 0} where
   all_above k [] h f n = tt
   all_above k (p ∷ ps) h f n = above_of k p.0 (entries ps) h f.0 n.0
 
-  all_below : (k : Bytes) (before : List (Page X)) (page : Page X) (after : List (Page X)) → IsInOrder (before ++ page ∷ after) → starts_by k page.0 ≡ true → AreBelow k (entries before)
-  all_below k before page after h t = grind (arith, common_steps, below_of, sorted_parts, page_filled)
+  all_below : (k : Bytes) (before : List (Page X)) (page : Page X) (after : List (Page X)) → IsInOrder (before ++ page ∷ after) → (0 < length before → starts_by k page.0 ≡ true) → AreBelow k (entries before)
+  all_below k [] page after h t = tt
+  all_below k (b ∷ before) page after h t =
+      let filled = page_filled (b ∷ before) page after (omega arith) h.filled in
+      below_of k (entries (b ∷ before)) page.0 (entries after) (sorted_parts (b ∷ before) page after h.sorted) filled (t (omega arith))
 
   later_above : (k : Bytes) (before : List (Page X)) (page : Page X) (after : List (Page X)) → IsInOrder (before ++ page ∷ after) → AllByRecursion (λ (p : Page X). starts_by k p.0 ≡ false) after → IsBelowAll k (entries after)
   later_above k before page after h n = grind (arith, common_steps, all_above, sorted_right, sorted_parts, after_filled)
@@ -124,13 +92,29 @@ module _ {X : Type 0} where
   -- the last page that starts by k, and the first where none does
   pub placed : (k : Bytes) (ps : List (Page X)) (c i : ℕ) → IsInOrder ps → 0 < length ps → c ≤ length ps → i ≡ c - 1 → IsPartitionPoint (λ (p : Page X). starts_by k p.0 ≡ true) (λ (p : Page X). starts_by k p.0 ≡ false) ps c → IsPlace ps k i
   placed k [] c i h some le e point = absurd (omega arith)
-  placed k (p ∷ ps) zero i h some le e point =
-      let none = all_from (λ (p : Page X). starts_by k p.0) ps (λ j d lt. point.1 (suc j) d (omega arith) (omega arith)) in
-      record { before = []; page = p; after = ps; is = refl; index = omega arith; below = tt; starts = λ lt. absurd (omega arith); later = none; above = later_above k [] p ps h none }
-  placed k (p ∷ ps) (suc c) i h some le e point =
-      let r = cut (λ (p : Page X). starts_by k p.0) (p ∷ ps) c (omega arith) (λ j d lt. point.0 j d (omega arith) (omega arith)) (λ j d l m. point.1 j d (omega arith) m) in
-      let g : IsInOrder (r.before ++ r.page ∷ r.after) = subst (λ (l : List (Page X)). IsInOrder l) r.is h in
-      record { before = r.before; page = r.page; after = r.after; is = r.is; index = (let s = r.index in omega arith); below = all_below k r.before r.page r.after g r.passes; starts = λ lt. r.passes; later = r.later; above = later_above k r.before r.page r.after g r.later }
+  placed k (p ∷ rest) c i h some le e point =
+      let ps = p ∷ rest in
+      let f = λ (q : Page X). starts_by k q.0 in
+      let lt : i < length ps = omega arith in
+      let page = get_or ps i p in
+      let is : ps ≡ take i ps ++ page ∷ drop (suc i) ps = sym (take-append-drop i ps) ∙ ap (λ l. take i ps ++ l) (drop-cons ps i p lt) in
+      let g : IsInOrder (take i ps ++ page ∷ drop (suc i) ps) = subst (λ (l : List (Page X)). IsInOrder l) is h in
+      let index : length (take i ps) ≡ i = length-take-le i ps (omega arith) in
+      let starts : 0 < i → f page ≡ true = λ up. point.0 i p (omega arith) (omega arith) in
+      let fails = λ (q : Page X). f q ≡ false in
+      let behind = All-from_get_or fails (drop (suc i) ps) p (λ j l. ap f (get_or-drop (suc i) ps j p) ∙ point.1 (suc i + j) p (omega arith) (omega (arith, length-drop (suc i) ps))) in
+      let later = recursion_from_All fails (drop (suc i) ps) behind in
+      record {
+        before = take i ps;
+        page = page;
+        after = drop (suc i) ps;
+        is = is;
+        index = index;
+        below = all_below k (take i ps) page (drop (suc i) ps) g (λ up. starts (omega arith));
+        starts = starts;
+        later = later;
+        above = later_above k (take i ps) page (drop (suc i) ps) g later;
+      }
 
   -- ---- at a place
 
@@ -151,109 +135,86 @@ module _ {X : Type 0} where
   page_sorted ps k i p w is h = grind (arith, common_steps, page_is, sorted_page)
 
   -- the key is looked for in that page
-  pub find_at : (ps : List (Page X)) (k : Bytes) (i : ℕ) (p : Page X) (w : IsPlace ps k i) → p ≡ get_or ps i p → find (slice_cmp nat_cmp) k (entries ps) ≡ find (slice_cmp nat_cmp) k p.0
+  pub find_at : (ps : List (Page X)) (k : Bytes) (i : ℕ) (p : Page X) (w : IsPlace ps k i) → p ≡ get_or ps i p → find key_cmp k (entries ps) ≡ find key_cmp k p.0
   find_at ps k i p w is =
-      ap (find (slice_cmp nat_cmp) k) (entries_at ps k i w)
+      ap (find key_cmp k) (entries_at ps k i w)
       ∙ find_middle k (entries w.before) w.page.0 (entries w.after) w.below w.above
-      ∙ sym (ap (λ (q : Page X). find (slice_cmp nat_cmp) k q.0) (page_is ps k i p w is))
+      ∙ sym (ap (λ (q : Page X). find key_cmp k q.0) (page_is ps k i p w is))
 
   -- ---- rooms
 
-  last_room-append : (r : ℕ) (k : Bytes) (us bs : List (Page X)) → last_room r k (us ++ bs) ≡ last_room (last_room r k us) k bs
-  last_room-append r k [] bs = refl
-  last_room-append r k (p ∷ us) bs = last_room-append (if starts_by k p.0 then p.1 else r) k us bs
-
-  last_room-none : (r : ℕ) (k : Bytes) (ps : List (Page X)) → AllByRecursion (λ (p : Page X). starts_by k p.0 ≡ false) ps → last_room r k ps ≡ r
-  last_room-none r k [] h = refl
-  last_room-none r k (p ∷ ps) h = ap (λ b. last_room (if b then p.1 else r) k ps) h.0 ∙ last_room-none r k ps h.1
-
   last_room-more : (d r s : ℕ) (k : Bytes) (ps : List (Page X)) → r ≤ s + d → last_room r k ps ≤ last_room s k ps + d
   last_room-more d r s k [] h = h
-  last_room-more d r s k (p ∷ ps) h = elim (starts_by k p.0) as (λ b. last_room (if b then p.1 else r) k ps ≤ last_room (if b then p.1 else s) k ps + d) [
-    | true ↦ last_room-more d p.1 p.1 k ps (omega arith)
-    | false ↦ last_room-more d r s k ps h
-  ]
-
-  -- the room for k is that of the page where it stands
-  pub room_here : (k : Bytes) (before : List (Page X)) (page : Page X) (after : List (Page X)) → (0 < length before → starts_by k page.0 ≡ true) → AllByRecursion (λ (p : Page X). starts_by k p.0 ≡ false) after → room_at k (before ++ page ∷ after) ≡ page.1
-  room_here k [] page after s n = last_room-none page.1 k after n
-  room_here k (b ∷ before) page after s n =
-      last_room-append b.1 k before (page ∷ after)
-      ∙ ap (λ t. last_room (if t then page.1 else last_room b.1 k before) k after) (s (omega arith))
-      ∙ last_room-none page.1 k after n
-
-  pub room_of : (ps : List (Page X)) (k : Bytes) (i : ℕ) (p : Page X) (w : IsPlace ps k i) → p ≡ get_or ps i p → room_at k ps ≡ p.1
-  room_of ps k i p w is = grind (arith, common_steps, room_here, page_is)
-
-  last_page-append : (r : Page X) (k : Bytes) (us bs : List (Page X)) → last_page r k (us ++ bs) ≡ last_page (last_page r k us) k bs
-  last_page-append r k [] bs = refl
-  last_page-append r k (p ∷ us) bs = last_page-append (if starts_by k p.0 then p else r) k us bs
+  last_room-more d r s k (p ∷ ps) h = grind (arith, last_room-more d p.1 p.1 k ps, last_room-more d r s k ps)
 
   last_page-none : (r : Page X) (k : Bytes) (ps : List (Page X)) → AllByRecursion (λ (p : Page X). starts_by k p.0 ≡ false) ps → last_page r k ps ≡ r
   last_page-none r k [] h = refl
   last_page-none r k (p ∷ ps) h = ap (λ b. last_page (if b then p else r) k ps) h.0 ∙ last_page-none r k ps h.1
 
-  -- the entries that are counted for k are those of the page where it stands
+  page_here : (r : Page X) (k : Bytes) (before : List (Page X)) (page : Page X) (after : List (Page X)) → starts_by k page.0 ≡ true → AllByRecursion (λ (p : Page X). starts_by k p.0 ≡ false) after → last_page r k (before ++ page ∷ after) ≡ page
+  page_here r k [] page after t n = ap (λ b. last_page (if b then page else r) k after) t ∙ last_page-none page k after n
+  page_here r k (b ∷ before) page after t n = page_here (if starts_by k b.0 then b else r) k before page after t n
+
+  room-page : (r : Page X) (k : Bytes) (ps : List (Page X)) → last_room r.1 k ps ≡ (last_page r k ps).1
+  room-page r k [] = refl
+  room-page r k (p ∷ ps) = grind (arith, room-page p k ps, room-page r k ps)
+
+  -- what is asked of the last page that starts by k is that of the page where it stands
+  module _ {Y : Type 0} (F : Page X → Y) (at : List (Page X) → Y) (k : Bytes) (asks : (p : Page X) (ps : List (Page X)) → at (p ∷ ps) ≡ F (last_page p k ps)) where
+    asked_here : (before : List (Page X)) (page : Page X) (after : List (Page X)) → (0 < length before → starts_by k page.0 ≡ true) → AllByRecursion (λ (p : Page X). starts_by k p.0 ≡ false) after → at (before ++ page ∷ after) ≡ F page
+    asked_here [] page after s n = asks page after ∙ ap F (last_page-none page k after n)
+    asked_here (b ∷ before) page after s n = asks b (before ++ page ∷ after) ∙ ap F (page_here b k before page after (s (omega arith)) n)
+
+    asked_at : (ps : List (Page X)) (i : ℕ) (p : Page X) → IsPlace ps k i → p ≡ get_or ps i p → at ps ≡ F p
+    asked_at ps i p w is =
+        ap at w.is ∙ asked_here w.before w.page w.after (λ lt. w.starts (let e = w.index in omega arith)) w.later ∙ sym (ap F (page_is ps k i p w is))
+
+    -- with another page in its place that has the same entries
+    asked_changed : (ps : List (Page X)) (i : ℕ) (p r : Page X) → IsPlace ps k i → p ≡ get_or ps i p → r.0 ≡ p.0 → at (set ps i r) ≡ F r
+    asked_changed ps i p r w is same =
+        ap at (set_is ps k i r w)
+        ∙ asked_here w.before r w.after (λ lt. ap (starts_by k) (same ∙ ap (λ (q : Page X). q.0) (page_is ps k i p w is)) ∙ w.starts (let e = w.index in omega arith)) w.later
+
+  pub room_of : (ps : List (Page X)) (k : Bytes) (i : ℕ) (p : Page X) (w : IsPlace ps k i) → p ≡ get_or ps i p → room_at k ps ≡ p.1
+  room_of ps k i p w is = asked_at (λ q. q.1) (room_at k) k (λ q qs. room-page q k qs) ps i p w is
+
   count_here : (k : Bytes) (before : List (Page X)) (page : Page X) (after : List (Page X)) → (0 < length before → starts_by k page.0 ≡ true) → AllByRecursion (λ (p : Page X). starts_by k p.0 ≡ false) after → count_at k (before ++ page ∷ after) ≡ length page.0
-  count_here k [] page after s n = ap (λ (p : Page X). length p.0) (last_page-none page k after n)
-  count_here k (b ∷ before) page after s n =
-      ap (λ (p : Page X). length p.0) (last_page-append b k before (page ∷ after)
-      ∙ ap (λ t. last_page (if t then page else last_page b k before) k after) (s (omega arith))
-      ∙ last_page-none page k after n)
+  count_here k before page after s n = asked_here (λ q. length q.0) (count_at k) k (λ q qs. refl) before page after s n
 
   pub count_of : (ps : List (Page X)) (k : Bytes) (i : ℕ) (p : Page X) (w : IsPlace ps k i) → p ≡ get_or ps i p → count_at k ps ≡ length p.0
-  count_of ps k i p w is = grind (arith, common_steps, count_here, page_is)
+  count_of ps k i p w is = asked_at (λ q. length q.0) (count_at k) k (λ q qs. refl) ps i p w is
 
-  entries_here : (k : Bytes) (before : List (Page X)) (page : Page X) (after : List (Page X)) → (0 < length before → starts_by k page.0 ≡ true) → AllByRecursion (λ (p : Page X). starts_by k p.0 ≡ false) after → page_entries k (before ++ page ∷ after) ≡ page.0
-  entries_here k [] page after s n = ap (λ (p : Page X). p.0) (last_page-none page k after n)
-  entries_here k (b ∷ before) page after s n =
-      ap (λ (p : Page X). p.0) (last_page-append b k before (page ∷ after)
-      ∙ ap (λ t. last_page (if t then page else last_page b k before) k after) (s (omega arith))
-      ∙ last_page-none page k after n)
-
-  pub entries_of : (ps : List (Page X)) (k : Bytes) (i : ℕ) (p : Page X) (w : IsPlace ps k i) → p ≡ get_or ps i p → page_entries k ps ≡ p.0
-  entries_of ps k i p w is =
-      ap (page_entries k) w.is ∙ entries_here k w.before w.page w.after (λ lt. w.starts (let e = w.index in omega arith)) w.later ∙ sym (ap (λ (q : Page X). q.0) (page_is ps k i p w is))
+  behind_more : (d : ℕ) (q : Bytes) (xs ys : List (Page X)) → ((n : ℕ) → last_room n q xs ≤ last_room n q ys + d) → (n : ℕ) (before : List (Page X)) → last_room n q (before ++ xs) ≤ last_room n q (before ++ ys) + d
+  behind_more d q xs ys more n [] = more n
+  behind_more d q xs ys more n (b ∷ before) = behind_more d q xs ys more (if starts_by q b.0 then b.1 else n) before
 
   -- another page in its place, with d less room at most
   pub room-replaced : (d : ℕ) (q : Bytes) (before : List (Page X)) (p r : Page X) (after : List (Page X)) → p.1 ≤ r.1 + d → (0 < length before → starts_by q r.0 ≡ starts_by q p.0)
       → room_at q (before ++ p ∷ after) ≤ room_at q (before ++ r ∷ after) + d
   room-replaced d q [] p r after h s = last_room-more d p.1 r.1 q after h
   room-replaced d q (b ∷ before) p r after h s =
-      let n = last_room b.1 q before in
-      let old : last_room b.1 q (before ++ p ∷ after) ≡ last_room (if starts_by q p.0 then p.1 else n) q after = last_room-append b.1 q before (p ∷ after) in
-      let new : last_room b.1 q (before ++ r ∷ after) ≡ last_room (if starts_by q p.0 then r.1 else n) q after = last_room-append b.1 q before (r ∷ after) ∙ ap (λ t. last_room (if t then r.1 else n) q after) (s (omega arith)) in
-      let step : last_room (if starts_by q p.0 then p.1 else n) q after ≤ last_room (if starts_by q p.0 then r.1 else n) q after + d =
-      elim (starts_by q p.0) as (λ t. last_room (if t then p.1 else n) q after ≤ last_room (if t then r.1 else n) q after + d) [ true ↦ last_room-more d p.1 r.1 q after h | false ↦ last_room-more d n n q after (omega arith) ] in
-      omega (arith, old, new, step)
+      let same = s (omega arith) in
+      behind_more d q (p ∷ after) (r ∷ after) (λ n. last_room-more d (if starts_by q p.0 then p.1 else n) (if starts_by q r.0 then r.1 else n) q after (grind (arith, same, h))) b.1 before
 
   pub room-split : (q : Bytes) (before : List (Page X)) (p lo up : Page X) (after : List (Page X)) → p.1 ≤ lo.1 → p.1 ≤ up.1 → starts_by q p.0 ≡ starts_by q lo.0 → (starts_by q up.0 ≡ true → starts_by q lo.0 ≡ true)
       → room_at q (before ++ p ∷ after) ≤ room_at q (before ++ lo ∷ up ∷ after) + 0
-  room-split q [] p lo up after l u s t = last_room-more 0 p.1 (if starts_by q up.0 then up.1 else lo.1) q after (choose true (starts_by q up.0) p.1 lo.1 up.1 0 l u (λ _. refl))
+  room-split q [] p lo up after l u s t = last_room-more 0 p.1 (if starts_by q up.0 then up.1 else lo.1) q after (grind (arith, l, u))
   room-split q (b ∷ before) p lo up after l u s t =
-      let n = last_room b.1 q before in
-      let old : last_room b.1 q (before ++ p ∷ after) ≡ last_room (if starts_by q lo.0 then p.1 else n) q after = last_room-append b.1 q before (p ∷ after) ∙ ap (λ t. last_room (if t then p.1 else n) q after) s in
-      let new : last_room b.1 q (before ++ lo ∷ up ∷ after) ≡ last_room (if starts_by q up.0 then up.1 else (if starts_by q lo.0 then lo.1 else n)) q after = last_room-append b.1 q before (lo ∷ up ∷ after) in
-      let step = last_room-more 0 (if starts_by q lo.0 then p.1 else n) (if starts_by q up.0 then up.1 else (if starts_by q lo.0 then lo.1 else n)) q after (choose (starts_by q lo.0) (starts_by q up.0) p.1 lo.1 up.1 n l u t) in
-      omega (arith, old, new, step)
+      let here = λ (n : ℕ). two_rooms (starts_by q p.0) (starts_by q lo.0) (starts_by q up.0) p.1 lo.1 up.1 n s l u t in
+      behind_more 0 q (p ∷ after) (lo ∷ up ∷ after) (λ n. last_room-more 0 (if starts_by q p.0 then p.1 else n) (if starts_by q up.0 then up.1 else (if starts_by q lo.0 then lo.1 else n)) q after (here n)) b.1 before
 
   -- ---- a changed page
 
-  swap_all : (bs : List (Page X)) (p r : Page X) (after : List (Page X)) → (IsFilled p → IsFilled r) → AllByRecursion IsFilled (bs ++ p ∷ after) → AllByRecursion IsFilled (bs ++ r ∷ after)
-  swap_all [] p r after g h = (g h.0, h.1)
-  swap_all (b ∷ bs) p r after g h = (h.0, swap_all bs p r after g h.1)
-
   swap_filled : (before : List (Page X)) (p r : Page X) (after : List (Page X)) → (IsFilled p → IsFilled r) → AreRestFilled (before ++ p ∷ after) → AreRestFilled (before ++ r ∷ after)
   swap_filled [] p r after g h = h
-  swap_filled (b ∷ bs) p r after g h = swap_all bs p r after g h
-
-  two_all : (bs : List (Page X)) (p lo up : Page X) (after : List (Page X)) → IsFilled lo → IsFilled up → AllByRecursion IsFilled (bs ++ p ∷ after) → AllByRecursion IsFilled (bs ++ lo ∷ up ∷ after)
-  two_all [] p lo up after f g h = (f, (g, h.1))
-  two_all (b ∷ bs) p lo up after f g h = (h.0, two_all bs p lo up after f g h.1)
+  swap_filled (b ∷ bs) p r after g h =
+      let back = all-back IsFilled bs (p ∷ after) h in
+      all-append IsFilled bs (r ∷ after) (all-front IsFilled bs (p ∷ after) h) (g back.0, back.1)
 
   two_filled : (before : List (Page X)) (p lo up : Page X) (after : List (Page X)) → IsFilled lo → IsFilled up → AreRestFilled (before ++ p ∷ after) → AreRestFilled (before ++ lo ∷ up ∷ after)
   two_filled [] p lo up after f g h = (g, h)
-  two_filled (b ∷ bs) p lo up after f g h = two_all bs p lo up after f g h
+  two_filled (b ∷ bs) p lo up after f g h =
+      all-append IsFilled bs (lo ∷ up ∷ after) (all-front IsFilled bs (p ∷ after) h) (f, (g, (all-back IsFilled bs (p ∷ after) h).1))
 
   -- pages with more room
   pub record Grown (old new : List (Page X)) : Type 0 where
@@ -277,20 +238,18 @@ module _ {X : Type 0} where
   -- pages with an entry more
   pub record Inserted (k : Bytes) (v : X) (old new : List (Page X)) : Type 0 where
     pub order : IsInOrder new
-    pub entries : entries new ≡ put (slice_cmp nat_cmp) k v (entries old)
+    pub entries : entries new ≡ put key_cmp k v (entries old)
     pub rooms : (q : Bytes) → room_at q old ≤ room_at q new + 1
 
   inserted_parts : (k : Bytes) (v : X) (b : List (Page X)) (p r : Page X) (a : List (Page X)) → IsInOrder (b ++ p ∷ a) → AreBelow k (entries b) → IsBelowAll k (entries a) → (0 < length b → starts_by k p.0 ≡ true)
-      → r.0 ≡ put (slice_cmp nat_cmp) k v p.0 → p.1 ≤ r.1 + 1 → Inserted k v (b ++ p ∷ a) (b ++ r ∷ a)
+      → r.0 ≡ put key_cmp k v p.0 → p.1 ≤ r.1 + 1 → Inserted k v (b ++ p ∷ a) (b ++ r ∷ a)
   inserted_parts k v b p r a h below above starts same le =
-      let e : entries (b ++ r ∷ a) ≡ put (slice_cmp nat_cmp) k v (entries (b ++ p ∷ a)) =
-      entries-append b (r ∷ a)
-      ∙ ap (λ (l : List (Bytes × X)). entries b ++ (l ++ entries a)) same
-      ∙ sym (put_middle k v (entries b) p.0 (entries a) below above)
-      ∙ sym (ap (put (slice_cmp nat_cmp) k v) (entries-append b (p ∷ a))) in
+      let e : entries (b ++ r ∷ a) ≡ put key_cmp k v (entries (b ++ p ∷ a)) =
+      entries-append b (r ∷ a) ∙ ap (λ (l : List (Bytes × X)). entries b ++ (l ++ entries a)) same
+      ∙ sym (ap (put key_cmp k v) (entries-append b (p ∷ a)) ∙ put_middle k v (entries b) p.0 (entries a) below above) in
       record {
         order = record {
-          sorted = subst (λ (l : List (Bytes × X)). IsSorted l) (sym e) (is_sorted-put (slice_cmp nat_cmp) nat_list_cmp_total k v (entries (b ++ p ∷ a)) h.sorted);
+          sorted = subst (λ (l : List (Bytes × X)). IsSorted l) (sym e) (is_sorted-put key_cmp nat_list_cmp_total k v (entries (b ++ p ∷ a)) h.sorted);
           filled = swap_filled b p r a (λ f. subst (λ (l : List (Bytes × X)). 0 < length l) (sym same) (filled-put k v p.0)) h.filled;
         };
         entries = e;
@@ -299,32 +258,24 @@ module _ {X : Type 0} where
 
   -- ---- the same at a place
 
-  order_parts : (ps : List (Page X)) (k : Bytes) (i : ℕ) (w : IsPlace ps k i) → IsInOrder ps → IsInOrder (w.before ++ w.page ∷ w.after)
-  order_parts ps k i w h = subst (λ (l : List (Page X)). IsInOrder l) w.is h
-
   pub grown : (ps : List (Page X)) (k : Bytes) (i : ℕ) (p r : Page X) → IsPlace ps k i → p ≡ get_or ps i p → IsInOrder ps → r.0 ≡ p.0 → p.1 ≤ r.1 → Grown ps (set ps i r)
   grown ps k i p r w is h same le =
       let e = page_is ps k i p w is in
-      subst (λ (l : List (Page X)). Grown l (set ps i r)) (sym w.is) (subst (λ (l : List (Page X)). Grown (w.before ++ w.page ∷ w.after) l) (sym (set_is ps k i r w))
-      (grown_parts w.before w.page r w.after (order_parts ps k i w h) (same ∙ ap (λ (q : Page X). q.0) e) (subst (λ (q : Page X). q.1 ≤ r.1) e le)))
+      rw (set_is ps k i r w, w.is) (grown_parts w.before w.page r w.after (rw w.is at h) (same ∙ ap (λ (q : Page X). q.0) e) (subst (λ (q : Page X). q.1 ≤ r.1) e le))
 
   -- the room for the key is now that page's
   pub room_grown : (ps : List (Page X)) (k : Bytes) (i : ℕ) (p r : Page X) → IsPlace ps k i → p ≡ get_or ps i p → r.0 ≡ p.0 → room_at k (set ps i r) ≡ r.1
-  room_grown ps k i p r w is same =
-      ap (room_at k) (set_is ps k i r w)
-      ∙ room_here k w.before r w.after (λ lt. ap (starts_by k) (same ∙ ap (λ (q : Page X). q.0) (page_is ps k i p w is)) ∙ w.starts (let e = w.index in omega arith)) w.later
+  room_grown ps k i p r w is same = asked_changed (λ q. q.1) (room_at k) k (λ q qs. room-page q k qs) ps i p r w is same
 
   pub count_grown : (ps : List (Page X)) (k : Bytes) (i : ℕ) (p r : Page X) → IsPlace ps k i → p ≡ get_or ps i p → r.0 ≡ p.0 → count_at k (set ps i r) ≡ count_at k ps
   count_grown ps k i p r w is same =
-      ap (count_at k) (set_is ps k i r w)
-      ∙ count_here k w.before r w.after (λ lt. ap (starts_by k) (same ∙ ap (λ (q : Page X). q.0) (page_is ps k i p w is)) ∙ w.starts (let e = w.index in omega arith)) w.later
-      ∙ ap length same ∙ sym (count_of ps k i p w is)
+      asked_changed (λ q. length q.0) (count_at k) k (λ q qs. refl) ps i p r w is same ∙ ap length same ∙ sym (count_of ps k i p w is)
 
-  pub inserted : (ps : List (Page X)) (k : Bytes) (v : X) (i : ℕ) (p r : Page X) → IsPlace ps k i → p ≡ get_or ps i p → IsInOrder ps → r.0 ≡ put (slice_cmp nat_cmp) k v p.0 → p.1 ≤ r.1 + 1 → Inserted k v ps (set ps i r)
+  pub inserted : (ps : List (Page X)) (k : Bytes) (v : X) (i : ℕ) (p r : Page X) → IsPlace ps k i → p ≡ get_or ps i p → IsInOrder ps → r.0 ≡ put key_cmp k v p.0 → p.1 ≤ r.1 + 1 → Inserted k v ps (set ps i r)
   inserted ps k v i p r w is h same le =
       let e = page_is ps k i p w is in
-      subst (λ (l : List (Page X)). Inserted k v l (set ps i r)) (sym w.is) (subst (λ (l : List (Page X)). Inserted k v (w.before ++ w.page ∷ w.after) l) (sym (set_is ps k i r w))
-      (inserted_parts k v w.before w.page r w.after (order_parts ps k i w h) w.below w.above (λ lt. w.starts (let n = w.index in omega arith)) (same ∙ ap (λ (q : Page X). put (slice_cmp nat_cmp) k v q.0) e) (subst (λ (q : Page X). q.1 ≤ r.1 + 1) e le)))
+      rw (set_is ps k i r w, w.is)
+      (inserted_parts k v w.before w.page r w.after (rw w.is at h) w.below w.above (λ lt. w.starts (let n = w.index in omega arith)) (same ∙ ap (λ (q : Page X). put key_cmp k v q.0) e) (subst (λ (q : Page X). q.1 ≤ r.1 + 1) e le))
 
   insert_after : (b : List (Page X)) (lo up : Page X) (a : List (Page X)) → insert (b ++ lo ∷ a) (suc (length b)) up ≡ b ++ lo ∷ up ∷ a
   insert_after [] lo up a = refl
@@ -338,24 +289,20 @@ module _ {X : Type 0} where
   pub split : (ps : List (Page X)) (k : Bytes) (i n : ℕ) (p lo up : Page X) → IsPlace ps k i → p ≡ get_or ps i p → IsInOrder ps → n ≡ i + 1 → p.0 ≡ lo.0 ++ up.0 → IsFilled lo → IsFilled up → p.1 ≤ lo.1 → p.1 ≤ up.1 → Grown ps (insert (set ps i lo) n up)
   split ps k i n p lo up w is h at same f g l u =
       let e = page_is ps k i p w is in
-      subst (λ (l : List (Page X)). Grown l (insert (set ps i lo) n up)) (sym w.is) (subst (λ (l : List (Page X)). Grown (w.before ++ w.page ∷ w.after) l) (sym (split_is ps k i n lo up w at))
-      (split_parts w.before w.page lo up w.after (order_parts ps k i w h) (sym (ap (λ (q : Page X). q.0) e) ∙ same) f g (subst (λ (q : Page X). q.1 ≤ lo.1) e l) (subst (λ (q : Page X). q.1 ≤ up.1) e u)))
+      rw (split_is ps k i n lo up w at, w.is)
+      (split_parts w.before w.page lo up w.after (rw w.is at h) (sym (ap (λ (q : Page X). q.0) e) ∙ same) f g (subst (λ (q : Page X). q.1 ≤ lo.1) e l) (subst (λ (q : Page X). q.1 ≤ up.1) e u))
 
   -- the key stands in one part or the other
   pub split_count : (ps : List (Page X)) (k : Bytes) (i n : ℕ) (p lo up : Page X) → IsPlace ps k i → p ≡ get_or ps i p → n ≡ i + 1 → p.0 ≡ lo.0 ++ up.0 → IsFilled lo
       → (count_at k (insert (set ps i lo) n up) ≡ length lo.0) ⊎ (count_at k (insert (set ps i lo) n up) ≡ length up.0)
-  split_count ps k i n p lo up w is at same f = by (starts_by k up.0) refl
-    where
-      is_split : insert (set ps i lo) n up ≡ w.before ++ lo ∷ up ∷ w.after
-      is_split = split_is ps k i n lo up w at
-
-      starts_lo : 0 < length w.before → starts_by k lo.0 ≡ true
-      starts_lo lt =
-          sym (starts-append k lo.0 up.0 f) ∙ ap (starts_by k) (sym same) ∙ ap (λ (q : Page X). starts_by k q.0) (page_is ps k i p w is) ∙ w.starts (let e = w.index in omega arith)
-
-      by : (b : Bool) → starts_by k up.0 ≡ b → (count_at k (insert (set ps i lo) n up) ≡ length lo.0) ⊎ (count_at k (insert (set ps i lo) n up) ≡ length up.0)
-      by true t = inr (ap (count_at k) (is_split ∙ sym (append_assoc w.before (lo ∷ []) (up ∷ w.after))) ∙ count_here k (w.before ++ lo ∷ []) up w.after (λ lt. t) w.later)
-      by false t = inl (ap (count_at k) is_split ∙ count_here k w.before lo (up ∷ w.after) starts_lo (t, w.later))
+  split_count ps k i n p lo up w is at same f =
+      let is_split = split_is ps k i n lo up w at in
+      let starts_lo : 0 < length w.before → starts_by k lo.0 ≡ true = λ lt. sym (starts-append k lo.0 up.0 f) ∙ ap (starts_by k) (sym same)
+      ∙ ap (λ (q : Page X). starts_by k q.0) (page_is ps k i p w is) ∙ w.starts (let e = w.index in omega arith) in
+      elim (cases_Bool (starts_by k up.0)) [
+        | inl t ↦ inr (ap (count_at k) (is_split ∙ sym (append_assoc w.before (lo ∷ []) (up ∷ w.after))) ∙ count_here k (w.before ++ lo ∷ []) up w.after (λ lt. t) w.later)
+        | inr t ↦ inl (ap (count_at k) is_split ∙ count_here k w.before lo (up ∷ w.after) starts_lo (t, w.later))
+      ]
 
   -- a page that is cut in the middle
   pub halved : (ps old new : List (Page X)) (k : Bytes) (i n cut : ℕ) (p lo up : Page X) → old ≡ ps → new ≡ insert (set ps i lo) n up → IsPlace ps k i → p ≡ get_or ps i p → n ≡ i + 1 → p.0 ≡ lo.0 ++ up.0 → IsFilled lo
@@ -365,7 +312,7 @@ module _ {X : Type 0} where
       let b : length p.0 ≡ length lo.0 + length up.0 = ap length same ∙ length-append lo.0 up.0 in
       let before : count_at k old ≡ length p.0 = ap (count_at k) was ∙ count_of ps k i p w is in
       let after = ap (count_at k) now in
-      let here : stands_behind k (page_entries k old) ≡ stands_behind k p.0 = ap (stands_behind k) (ap (page_entries k) was ∙ entries_of ps k i p w is) in
+      let here : stands_behind k (page_entries k old) ≡ stands_behind k p.0 = ap (stands_behind k) (ap (page_entries k) was ∙ asked_at (λ q. q.0) (page_entries k) k (λ q qs. refl) ps i p w is) in
       let parts = split_count ps k i n p lo up w is at same f in
       record {
         low = λ g. (let u = under (sym here ∙ g) in let o = over (sym here ∙ g) in elim parts [ inl e ↦ omega (arith, a, b, before, after, e, u, o) | inr e ↦ omega (arith, a, b, before, after, e, u, o) ]);
@@ -377,16 +324,12 @@ module _ {X : Type 0} where
   all_set : (P : Page X → Type 0) (qs : List (Page X)) (j : ℕ) (q s : Page X) → q ≡ get_or qs j q → (P q → P s) → AllByRecursion P qs → AllByRecursion P (set qs j s)
   all_set P qs j q s is f a = grind (arith, common_steps)
 
-  all_push : (P : Page X → Type 0) (qs : List (Page X)) (p : Page X) → P p → AllByRecursion P qs → AllByRecursion P (qs ++ p ∷ [])
-  all_push P qs p h a = grind (arith, common_steps)
-
   -- ---- how much room there is at most
 
   all_insert : (P : Page X → Type 0) (qs : List (Page X)) (j : ℕ) (p : Page X) → P p → AllByRecursion P qs → AllByRecursion P (insert qs j p)
-  all_insert P [] zero p h a = (h, tt)
-  all_insert P [] (suc j) p h a = grind (arith, common_steps)
-  all_insert P (q ∷ qs) zero p h a = (h, a)
-  all_insert P (q ∷ qs) (suc j) p h a = (a.0, all_insert P qs j p h a.1)
+  all_insert P qs j p h a =
+      let both = subst (AllByRecursion P) (sym (take-append-drop j qs)) a in
+      all-append P (take j qs) (p ∷ drop j qs) (all-front P (take j qs) (drop j qs) both) (h, all-back P (take j qs) (drop j qs) both)
 
   pub tight-same : (n : ℕ) (ps new : List (Page X)) → new ≡ ps → StaysTight n ps new
   tight-same n ps new e = record { tight = λ r le h. subst (λ (l : List (Page X)). AreTight r l) (sym e) h }
@@ -405,18 +348,15 @@ module _ {X : Type 0} where
   }
 
   pub tight-push : (n : ℕ) (ps new : List (Page X)) (p : Page X) → new ≡ ps ++ p ∷ [] → p.1 ≤ n → StaysTight n ps new
-  tight-push n ps new p now few = record { tight = λ r le h. subst (λ (l : List (Page X)). AreTight r l) (sym now) (all_push (λ (s : Page X). s.1 ≤ r) ps p (omega arith) h) }
-
-  one_more : (b : Bool) (es more : List (Bytes × X)) (n : ℕ) → length more ≡ 1 → length es < n → length (if b then es ++ more else es) ≤ n
-  one_more b es more n one lt = grind (arith, common_steps, length-append)
+  tight-push n ps new p now few = record { tight = λ r le h. subst (λ (l : List (Page X)). AreTight r l) (sym now) (all-append (λ (s : Page X). s.1 ≤ r) ps (p ∷ []) h (omega arith, tt)) }
 
   -- an entry more in a page with fewer than 384
   pub loose-set : (ps : List (Page X)) (e : Bytes × X) (i : ℕ) (p r : Page X) (ok : Bool) → p ≡ get_or ps i p → r.0 ≡ (if ok then p.0 ++ e ∷ [] else p.0) → length p.0 + p.1 ≤ length r.0 + r.1 → length p.0 < 384 → AreLoose ps → AreLoose (set ps i r)
-  loose-set ps e i p r ok is same places lt h = grind (arith, common_steps, one_more, all_set)
+  loose-set ps e i p r ok is same places lt h = grind (arith, common_steps, length-append, all_set)
 
   -- a page of one entry, with 512 places
   pub loose-push : (ps : List (Page X)) (e : Bytes × X) (p q : Page X) → q ≡ ([], 512) → p.0 ≡ q.0 ++ e ∷ [] → length q.0 + q.1 ≤ length p.0 + p.1 → AreLoose ps → AreLoose (ps ++ p ∷ [])
-  loose-push ps e p q new same places h = grind (arith, common_steps, all_push)
+  loose-push ps e p q new same places h = all-append _ ps (p ∷ []) h (grind (arith, common_steps), tt)
 
   -- ---- full pages
 
@@ -445,11 +385,8 @@ module _ {X : Type 0} where
   pub pushed_page : (ps : List (Page X)) (e : Bytes × X) → IsInOrder ps → IsSorted (entries ps ++ e ∷ []) → (p : Page X) → p.0 ≡ e ∷ [] → record { order : IsInOrder (ps ++ p ∷ []); entries : entries (ps ++ p ∷ []) ≡ entries ps ++ e ∷ [] }
   pushed_page ps e h g p is = grind (arith, common_steps, entries-append)
 
-  set_all : (qs : List (Page X)) (j : ℕ) (q s : Page X) → q ≡ get_or qs j q → (IsFilled q → IsFilled s) → AllByRecursion IsFilled qs → AllByRecursion IsFilled (set qs j s)
-  set_all qs j q s is f a = grind (arith, common_steps)
-
   set_filled : (qs : List (Page X)) (j : ℕ) (q s : Page X) → q ≡ get_or qs j q → (IsFilled q → IsFilled s) → AreRestFilled qs → AreRestFilled (set qs j s)
-  set_filled qs j q s is f a = grind (arith, common_steps, set_all)
+  set_filled qs j q s is f a = grind (arith, common_steps, all_set)
 
   same_list : (qs : List (Page X)) (j : ℕ) (q s : Page X) (more : List (Bytes × X)) → j + 1 ≡ length qs → q ≡ get_or qs j q → s.0 ≡ q.0 ++ more → entries (set qs j s) ≡ entries qs ++ more
   same_list [] j q s more n is e = absurd (omega arith)
@@ -457,20 +394,14 @@ module _ {X : Type 0} where
   same_list (t ∷ u ∷ qs) zero q s more n is e = absurd (omega arith)
   same_list (t ∷ qs) (suc j) q s more n is e = ap (λ (l : List (Bytes × X)). t.0 ++ l) (same_list qs j q s more (omega arith) is e) ∙ sym (append_assoc t.0 (entries qs) more)
 
-  longer_filled : (es more : List (Bytes × X)) → 0 < length es → 0 < length (es ++ more)
-  longer_filled es more f = grind (arith, common_steps)
-
-  pub record Pushed (ps new : List (Page X)) (more : List (Bytes × X)) : Type 0 where
-    pub order : IsInOrder new
-    pub entries : entries new ≡ entries ps ++ more
-
   -- entries at the end of the last page
-  pub pushed_more : (ps : List (Page X)) (more : List (Bytes × X)) (i : ℕ) (p r : Page X) → i + 1 ≡ length ps → p ≡ get_or ps i p → IsInOrder ps → IsSorted (entries ps ++ more) → r.0 ≡ p.0 ++ more → Pushed ps (set ps i r) more
-  pushed_more ps more i p r at is h g same = grind (arith, common_steps, same_list, set_filled, longer_filled)
+  pub pushed_more : (ps : List (Page X)) (more : List (Bytes × X)) (i : ℕ) (p r : Page X) → i + 1 ≡ length ps → p ≡ get_or ps i p → IsInOrder ps → IsSorted (entries ps ++ more) → r.0 ≡ p.0 ++ more
+      → record { order : IsInOrder (set ps i r); entries : entries (set ps i r) ≡ entries ps ++ more }
+  pushed_more ps more i p r at is h g same = grind (arith, common_steps, same_list, set_filled)
 
   pub pushed_last : (ps : List (Page X)) (e : Bytes × X) (i : ℕ) (p r : Page X) (ok : Bool) → i + 1 ≡ length ps → p ≡ get_or ps i p → IsInOrder ps → IsSorted (entries ps ++ e ∷ []) → r.0 ≡ (if ok then p.0 ++ e ∷ [] else p.0)
       → record { order : IsInOrder (set ps i r); entries : entries (set ps i r) ≡ (if ok then entries ps ++ e ∷ [] else entries ps) }
-  pushed_last ps e i p r true at is h g same = let s = pushed_more ps (e ∷ []) i p r at is h g same in record { order = s.order; entries = s.entries }
+  pushed_last ps e i p r true at is h g same = pushed_more ps (e ∷ []) i p r at is h g same
   pushed_last ps e i p r false at is h g same =
       let s = pushed_more ps [] i p r at is h (subst (λ (l : List (Bytes × X)). IsSorted l) (sym (append-nil (entries ps))) h.sorted) (same ∙ sym (append-nil p.0)) in
       record { order = s.order; entries = s.entries ∙ append-nil (entries ps) }

@@ -1,64 +1,48 @@
 -- The entries of a range: the tail of all entries from its lower bound on, up to its upper bound.
 use Rattle.std.proofs.lemmas.Grind.{common_steps}
-use Rattle.std.proofs.Common.{◌≡◌, ℕ, Bool, true, false, T, not, cond, ◌&&◌, List, [], ◌∷◌, ◌++◌, length, take, drop, get_or, suc, ◌+◌, Option, Some, None, refl, sym, ap, subst, ◌∙◌, arith}
+use Rattle.std.proofs.Common.{◌≡◌, ℕ, Bool, true, false, T, not, cond, ◌&&◌, List, [], ◌∷◌, ◌++◌, length, take, drop, get_or, ◌+◌, Option, Some, None, refl, sym, ap, subst, ◌∙◌, arith}
 use Rattle.std.specs.List.{AllByRecursion}
-use Rattle.std.specs.declared.cmp.Ordering.{Ordering}
-use Rattle.std.specs.declared.cmp.Ordering.TheVariants.{Less, Equal, Greater}
-use Rattle.std.specs.Ordering.{is_lt, is_le, nat_cmp, ordering_reverse}
-use Rattle.std.specs.Cmp.Lexicographic.{slice_cmp, nat_list_cmp_total}
+use Rattle.std.specs.declared.cmp.Ordering.TheVariants.{Less}
+use Rattle.std.specs.Ordering.{is_lt, is_le}
+use Rattle.std.specs.Cmp.Lexicographic.{nat_list_cmp_total}
 use Rattle.std.specs.FinMap.Entries.{where_key}
-use Rattle.std.proofs.lemmas.Bool.{both_ways, and_parts, and_right}
+use Rattle.std.proofs.lemmas.Bool.{and_parts, and_right, not-true}
 use Rattle.std.proofs.lemmas.Cmp.{tied_itself}
 use Rattle.std.proofs.lemmas.List.{take-append-drop, append_assoc}
+use Rattle.std.proofs.Math.Seq.{drop-append-add}
 use Rattle.model.specs.Map.{Bytes, key_cmp, is_below, is_in_range}
 use Rattle.model.specs.Entries.{IsSplit}
-use Rattle.model.proofs.Entries.{IsSorted, IsBelowAll, turned}
+use Rattle.model.proofs.Elements.{all-append, all-each}
+use Rattle.model.proofs.Entries.{IsSorted, IsBelowAll}
+use Rattle.model.proofs.KeyOrder.{from_lo, turned_less}
 use Rattle.model.proofs.InOrder.{less, sorted_right, parts}
 use Rattle.sorted_pages.specs.Pages.{Page, entries, IsPlace, IsInOrder, AreBelow}
 use Rattle.sorted_pages.specs.Ranges.{up_to, AreFrom, IsTail, first_key}
 use Rattle.sorted_pages.specs.Blanks.{shown}
-use Rattle.sorted_pages.proofs.Blanks.{all-shown, shown-append, sorted-shown}
+use Rattle.sorted_pages.proofs.Seen.{all-shown, shown-append, sorted-shown}
 use Rattle.sorted_pages.proofs.Keys.{below_trans, above_it}
 use Rattle.sorted_pages.proofs.Placings.{entries_at, page_is}
-
-turned_le : (o : Ordering) → not (is_lt o) ≡ true → is_le (ordering_reverse o) ≡ true
-turned_le o h = grind (arith, common_steps, both_ways)
 
 -- what is above a key that isn't below hi isn't
 not_below : (q p : Bytes) (hi : Option Bytes) → key_cmp q p ≡ Less → is_below q hi ≡ false → is_below p hi ≡ false
 not_below q p None h e = e
-not_below q p (Some hi) h e = elim (key_cmp p hi) as (λ o. key_cmp p hi ≡ o → is_lt o ≡ false) [
-  | Less ↦ λ g. absurd (both_ways _ e (ap is_lt (nat_list_cmp_total.trans q p hi h g)))
-  | Equal ↦ λ g. refl
-  | Greater ↦ λ g. refl
-] refl
-
-below_lo : (q lo : Bytes) → key_cmp q lo ≡ Less → is_le (key_cmp lo q) ≡ false
-below_lo q lo h = ap is_le (turned q lo ∙ ap ordering_reverse h)
+not_below q p (Some hi) h e = grind (arith, nat_list_cmp_total.trans q p hi)
 
 module _ {X : Type 0} where
   abbrev pub In : Bytes → Option Bytes → List (Bytes × X) → List (Bytes × X)
-  In lo hi es = where_key (slice_cmp nat_cmp) (is_in_range lo hi) es
+  In lo hi es = where_key key_cmp (is_in_range lo hi) es
 
-  passing : (p : Bytes → Bool) (es : List (Bytes × X)) → AllByRecursion (λ (e : Bytes × X). p e.0 ≡ true) (where_key (slice_cmp nat_cmp) p es)
+  passing : (p : Bytes → Bool) (es : List (Bytes × X)) → AllByRecursion (λ (e : Bytes × X). p e.0 ≡ true) (where_key key_cmp p es)
   passing p [] = tt
-  passing p (e ∷ es) = elim (p e.0) as (λ b. p e.0 ≡ b → AllByRecursion (λ (d : Bytes × X). p d.0 ≡ true) (cond b (e ∷ where_key (slice_cmp nat_cmp) p es) (where_key (slice_cmp nat_cmp) p es))) [ true ↦ λ t. (t, passing p es) | false ↦ λ t. passing p es ] refl
-
-  all_less : (k : Bytes) (es : List (Bytes × X)) → AllByRecursion (λ (e : Bytes × X). is_lt (key_cmp e.0 k) ≡ true) es → AreBelow k es
-  all_less k [] h = tt
-  all_less k (e ∷ es) h = (less _ (subst T (sym h.0) tt), all_less k es h.1)
-
-  all_from : (k : Bytes) (es : List (Bytes × X)) → AllByRecursion (λ (e : Bytes × X). not (is_lt (key_cmp e.0 k)) ≡ true) es → AreFrom k es
-  all_from k [] h = tt
-  all_from k (e ∷ es) h = (ap is_le (turned e.0 k) ∙ turned_le (key_cmp e.0 k) h.0, all_from k es h.1)
+  passing p (e ∷ es) = elim (p e.0) as (λ b. p e.0 ≡ b → AllByRecursion (λ (d : Bytes × X). p d.0 ≡ true) (cond b (e ∷ where_key key_cmp p es) (where_key key_cmp p es))) [ true ↦ λ t. (t, passing p es) | false ↦ λ t. passing p es ] refl
 
   -- a list that is split by k
   pub tail_of : (es : List (Bytes × X)) (k : Bytes) (i : ℕ) → IsSplit es k i → IsTail es k (drop i es)
   tail_of es k i s = record {
     before = take i es;
     is = sym (take-append-drop i es);
-    below = all_less k (take i es) (subst (λ (l : List (Bytes × X)). AllByRecursion (λ (e : Bytes × X). is_lt (key_cmp e.0 k) ≡ true) l) (sym s.before) (passing (λ q. is_lt (key_cmp q k)) es));
-    from = all_from k (drop i es) (subst (λ (l : List (Bytes × X)). AllByRecursion (λ (e : Bytes × X). not (is_lt (key_cmp e.0 k)) ≡ true) l) (sym s.from) (passing (λ q. not (is_lt (key_cmp q k))) es));
+    below = subst (AreBelow k) (sym s.before) (all-each _ _ _ (λ e t. less _ (subst T (sym t) tt)) (passing (λ q. is_lt (key_cmp q k)) es));
+    from = subst (AreFrom k) (sym s.from) (all-each _ _ _ (λ e t. from_lo k e.0 ∙ t) (passing (λ q. not (is_lt (key_cmp q k))) es));
   }
 
   -- ---- the range of a tail
@@ -66,7 +50,7 @@ module _ {X : Type 0} where
   none_below : (lo : Bytes) (hi : Option Bytes) (es rest : List (Bytes × X)) → AreBelow lo es → In lo hi (es ++ rest) ≡ In lo hi rest
   none_below lo hi [] rest h = refl
   none_below lo hi (e ∷ es) rest h =
-      ap (λ b. cond (b && is_below e.0 hi) (e ∷ In lo hi (es ++ rest)) (In lo hi (es ++ rest))) (below_lo e.0 lo h.0) ∙ none_below lo hi es rest h.1
+      ap (λ b. cond (b && is_below e.0 hi) (e ∷ In lo hi (es ++ rest)) (In lo hi (es ++ rest))) (ap is_le (turned_less e.0 lo h.0)) ∙ none_below lo hi es rest h.1
 
   none_above : (lo q : Bytes) (hi : Option Bytes) (es : List (Bytes × X)) → IsBelowAll q es → is_below q hi ≡ false → In lo hi es ≡ []
   none_above lo q hi [] h e = refl
@@ -79,22 +63,11 @@ module _ {X : Type 0} where
   in_tail lo hi [] h f = refl
   in_tail lo hi (e ∷ es) h f =
       let p = parts _ _ h in
-      let rest = in_tail lo hi es p.1 f.1 in
-      elim (is_below e.0 hi) as (λ b. is_below e.0 hi ≡ b → cond b (e ∷ up_to hi es) [] ≡ cond (b) (e ∷ In lo hi es) (In lo hi es)) [
-        | true ↦ λ t. ap (λ l. e ∷ l) rest
-        | false ↦ λ t. sym (none_above lo e.0 hi es p.0 t)
-      ] refl
-      ∙ sym (ap (λ b. cond (b && is_below e.0 hi) (e ∷ In lo hi es) (In lo hi es)) f.0)
+      grind (arith, f.0, in_tail lo hi es p.1 f.1, none_above lo e.0 hi es p.0)
 
   from_above : (k : Bytes) (es : List (Bytes × X)) → IsBelowAll k es → AreFrom k es
   from_above k [] h = tt
   from_above k (e ∷ es) h = let p = parts _ _ h in (ap is_le (less _ p.0), from_above k es p.1)
-
-  from_both : (k : Bytes) (xs ys : List (Bytes × X)) → AreFrom k xs → AreFrom k ys → AreFrom k (xs ++ ys)
-  from_both k xs ys h g = grind (arith, common_steps)
-
-  all_both : (k : Bytes) (xs ys : List (Bytes × X)) → AreBelow k xs → AreBelow k ys → AreBelow k (xs ++ ys)
-  all_both k xs ys h g = grind (arith, common_steps)
 
   -- what isn't hidden of what a page has from lo on, and of the pages after it
   pub range_from : (hides : X → Bool) (ps : List (Page X)) (lo : Bytes) (hi : Option Bytes) (i : ℕ) (p : Page X) (front : List (Bytes × X)) (after : List (Page X)) (w : IsPlace ps lo i) → p ≡ get_or ps i p → IsInOrder ps → IsTail p.0 lo front → after ≡ w.after
@@ -103,33 +76,22 @@ module _ {X : Type 0} where
       let pre : List (Bytes × X) = entries w.before ++ t.before in
       let rest : List (Bytes × X) = front ++ entries w.after in
       let e : entries ps ≡ pre ++ rest =
-      entries_at ps lo i w
-      ∙ ap (λ (q : Page X). entries w.before ++ (q.0 ++ entries w.after)) (sym (page_is ps lo i p w is))
-      ∙ ap (λ (l : List (Bytes × X)). entries w.before ++ (l ++ entries w.after)) t.is
-      ∙ ap (λ (l : List (Bytes × X)). entries w.before ++ l) (append_assoc t.before front (entries w.after))
-      ∙ sym (append_assoc (entries w.before) t.before (front ++ entries w.after)) in
+      entries_at ps lo i w ∙ ap (λ (l : List (Bytes × X)). entries w.before ++ (l ++ entries w.after)) (ap (λ (q : Page X). q.0) (sym (page_is ps lo i p w is)) ∙ t.is)
+      ∙ ap (λ (l : List (Bytes × X)). entries w.before ++ l) (append_assoc t.before front (entries w.after)) ∙ sym (append_assoc (entries w.before) t.before rest) in
       let sorted : IsSorted rest = sorted_right key_cmp pre rest (subst (λ (l : List (Bytes × X)). IsSorted l) e h.sorted) in
       ap (λ (l : List (Page X)). up_to hi (shown hides (front ++ entries l))) same
-      ∙ in_tail lo hi (shown hides rest) (sorted-shown hides rest sorted) (all-shown hides (λ (d : Bytes × X). is_le (key_cmp lo d.0) ≡ true) rest (from_both lo front (entries w.after) t.from (from_above lo (entries w.after) w.above)))
+      ∙ in_tail lo hi (shown hides rest) (sorted-shown hides rest sorted) (all-shown hides (λ (d : Bytes × X). is_le (key_cmp lo d.0) ≡ true) rest (all-append _ front (entries w.after) t.from (from_above lo (entries w.after) w.above)))
       ∙ sym (ap (In lo hi) (ap (shown hides) e ∙ shown-append hides pre rest)
-      ∙ none_below lo hi (shown hides pre) (shown hides rest) (all-shown hides (λ (d : Bytes × X). key_cmp d.0 lo ≡ Less) pre (all_both lo (entries w.before) t.before w.below t.below)))
+      ∙ none_below lo hi (shown hides pre) (shown hides rest) (all-shown hides (λ (d : Bytes × X). key_cmp d.0 lo ≡ Less) pre (all-append _ (entries w.before) t.before w.below t.below)))
 
   -- the pages after a place
   pub after_is : (ps : List (Page X)) (k : Bytes) (i : ℕ) (w : IsPlace ps k i) → drop (i + 1) ps ≡ w.after
   after_is ps k i w =
-      let at : i + 1 ≡ suc (length w.before) = (let s = w.index in omega arith) in
-      ap (drop (i + 1)) w.is ∙ ap (λ n. drop n (w.before ++ w.page ∷ w.after)) at ∙ dropped w.before w.page w.after
-    where
-      dropped : (b : List (Page X)) (q : Page X) (a : List (Page X)) → drop (suc (length b)) (b ++ q ∷ a) ≡ a
-      dropped [] q a = refl
-      dropped (c ∷ b) q a = dropped b q a
+      let at : i + 1 ≡ length w.before + 1 = (let s = w.index in omega arith) in
+      ap (drop (i + 1)) w.is ∙ ap (λ n. drop n (w.before ++ w.page ∷ w.after)) at ∙ drop-append-add w.before (w.page ∷ w.after) 1
 
--- ---- an upper bound that is a key of the map
+  -- ---- an upper bound that is a key of the map
 
-le_not_lt : (hi q : Bytes) → is_le (key_cmp hi q) ≡ true → is_lt (key_cmp q hi) ≡ false
-le_not_lt hi q h = grind (arith, common_steps, turned, both_ways)
-
-module _ {X : Type 0} where
   not_in : (lo : Bytes) (hi : Option Bytes) (e : Bytes × X) (es : List (Bytes × X)) → IsBelowAll e.0 es → is_below e.0 hi ≡ false → In lo hi (e ∷ es) ≡ []
   not_in lo hi e es h f = ap (λ b. cond b (e ∷ In lo hi es) (In lo hi es)) (and_right (is_le (key_cmp lo e.0)) (is_below e.0 hi) f) ∙ none_above lo e.0 hi es h f
 
@@ -141,15 +103,11 @@ module _ {X : Type 0} where
   same_range lo hi [] h = refl
   same_range lo hi (e ∷ es) h =
       let p = parts _ _ h in
-      elim (is_le (key_cmp hi e.0)) as (λ b. is_le (key_cmp hi e.0) ≡ b → In lo (first_key (cond (b && true) (e ∷ In hi None es) (In hi None es))) (e ∷ es) ≡ In lo (Some hi) (e ∷ es)) [
-        | true ↦ λ t. not_in lo (Some e.0) e es p.0 (ap is_lt (tied_itself nat_list_cmp_total e.0)) ∙ sym (not_in lo (Some hi) e es p.0 (le_not_lt hi e.0 t))
-        | false ↦ λ t.
-            let lt = above_it hi e.0 t in
-            let end = first_key (In hi None es) in
-            ap (λ b. cond (is_le (key_cmp lo e.0) && b) (e ∷ In lo end es) (In lo end es)) (below_first e.0 hi (In hi None es) (passing (is_in_range hi None) es) lt)
-            ∙ ap (λ l. cond (is_le (key_cmp lo e.0) && true) (e ∷ l) l) (same_range lo hi es p.1)
-            ∙ sym (ap (λ b. cond (is_le (key_cmp lo e.0) && b) (e ∷ In lo (Some hi) es) (In lo (Some hi) es)) (ap is_lt lt))
-      ] refl
+      let end = first_key (In hi None es) in
+      let lower = λ (lt : key_cmp e.0 hi ≡ Less). below_first e.0 hi (In hi None es) (passing (is_in_range hi None) es) lt in
+      let none = not_in lo (Some e.0) e es p.0 (ap is_lt (tied_itself nat_list_cmp_total e.0)) in
+      let no_more = λ (t : is_le (key_cmp hi e.0) ≡ true). not_in lo (Some hi) e es p.0 (not-true _ (sym (from_lo hi e.0) ∙ t)) in
+      grind (arith, lower, none, no_more, above_it hi e.0, same_range lo hi es p.1)
 
 -- ---- a step
 

@@ -1,109 +1,118 @@
 -- Another value at a key that the pages have: the entries are those with that value put in, and no room changes.
 use Rattle.std.proofs.lemmas.Grind.{common_steps}
-use Rattle.std.proofs.Common.{arith, ◌≡◌, ℕ, true, false, cond, List, [], ◌∷◌, ◌++◌, get_or, set, Some, None, IsSome, refl, sym, ap, subst, ◌∙◌}
-use Rattle.std.specs.Prelude.{is_some, if◌then◌else◌}
-use Rattle.std.specs.declared.cmp.Ordering.TheVariants.{Less, Equal, Greater}
-use Rattle.std.specs.Ordering.{is_eq, nat_cmp, ordering_reverse}
-use Rattle.std.specs.Cmp.Lexicographic.{slice_cmp}
-use Rattle.std.specs.FinMap.Entries.{find, put, by_order}
+use Rattle.std.proofs.Common.{arith, ◌≡◌, ℕ, true, false, cond, List, [], ◌∷◌, ◌++◌, get_or, set, None, IsSome, refl, sym, ap, ◌∙◌, Option, Some}
+use Rattle.std.specs.Prelude.{is_some, if◌then◌else◌, option_map}
+use Rattle.std.specs.declared.cmp.Ordering.TheVariants.{Less}
+use Rattle.std.specs.Ordering.{is_lt, is_eq}
+use Rattle.std.specs.Cmp.Lexicographic.{nat_list_cmp_total}
+use Rattle.std.specs.FinMap.Entries.{find, put, find-put}
 use Rattle.std.proofs.lemmas.Bool.{both_ways}
 use Rattle.std.proofs.lemmas.Map.Lookups.{exact_bytes}
+use Rattle.std.proofs.lemmas.List.{append-nil}
+use Rattle.std.proofs.lemmas.Cmp.{tied_itself}
 use Rattle.model.specs.Map.{Bytes, key_cmp}
+use Rattle.model.specs.Entries.{IsAt}
+use Rattle.model.proofs.Elements.{all-front, all-back}
 use Rattle.model.proofs.Entries.{IsSorted, IsBelowAll, turned}
 use Rattle.model.proofs.InOrder.{less, below_right, sorted_left, sorted_right, parts}
-use Rattle.sorted_pages.specs.Pages.{Page, entries, starts_by, last_room, room_at, AreBelow, IsPlace}
+use Rattle.sorted_pages.specs.Pages.{Page, entries, starts_by, last_room, room_at, AreBelow, IsPlace, IsInOrder}
 use Rattle.sorted_pages.specs.Lent.{with_value, with_value_in}
-use Rattle.sorted_pages.proofs.Placings.{page_is, set_is}
+use Rattle.sorted_pages.specs.Trims.{put_some, changed_at}
+use Rattle.sorted_pages.proofs.Keys.{find_behind, put_behind}
+use Rattle.sorted_pages.proofs.Placings.{page_is, set_is, find_at, grown, inserted}
 
 module _ {X : Type 0} where
-  not_found : (k : Bytes) (es : List (Bytes × X)) → AreBelow k es → find (slice_cmp nat_cmp) k es ≡ None
-  not_found k [] h = refl
-  not_found k (e ∷ es) h = ap (λ o. cond (is_eq o) (Some e.1) (find (slice_cmp nat_cmp) k es)) (turned e.0 k ∙ ap ordering_reverse h.0) ∙ not_found k es h.1
+  not_found : (k : Bytes) (es : List (Bytes × X)) → AreBelow k es → find key_cmp k es ≡ None
+  not_found k es h = ap (find key_cmp k) (sym (append-nil es)) ∙ find_behind k es [] h
 
-  left_below : (k : Bytes) (xs ys : List (Bytes × X)) → AreBelow k (xs ++ ys) → AreBelow k xs
-  left_below k [] ys h = tt
-  left_below k (x ∷ xs) ys h = (h.0, left_below k xs ys h.1)
-
-  right_below : (k : Bytes) (xs ys : List (Bytes × X)) → AreBelow k (xs ++ ys) → AreBelow k ys
-  right_below k [] ys h = h
-  right_below k (x ∷ xs) ys h = right_below k xs ys h.1
-
-  value_parts : (b : List (Page X)) (p : Page X) (a : List (Page X)) (k : Bytes) (v : X) → AreBelow k (entries b) → is_some (find (slice_cmp nat_cmp) k p.0) ≡ true → with_value (b ++ p ∷ a) k v ≡ b ++ with_value_in p k v ∷ a
+  value_parts : (b : List (Page X)) (p : Page X) (a : List (Page X)) (k : Bytes) (v : X) → AreBelow k (entries b) → is_some (find key_cmp k p.0) ≡ true → with_value (b ++ p ∷ a) k v ≡ b ++ with_value_in p k v ∷ a
   value_parts [] p a k v h s = ap (λ t. cond t (with_value_in p k v ∷ a) (p ∷ with_value a k v)) s
   value_parts (c ∷ b) p a k v h s =
-      ap (λ o. cond (is_some o) (with_value_in c k v ∷ (b ++ p ∷ a)) (c ∷ with_value (b ++ p ∷ a) k v)) (not_found k c.0 (left_below k c.0 (entries b) h))
-      ∙ ap (λ l. c ∷ l) (value_parts b p a k v (right_below k c.0 (entries b) h) s)
+      ap (λ o. cond (is_some o) (with_value_in c k v ∷ (b ++ p ∷ a)) (c ∷ with_value (b ++ p ∷ a) k v)) (not_found k c.0 (all-front _ c.0 (entries b) h))
+      ∙ ap (λ l. c ∷ l) (value_parts b p a k v (all-back _ c.0 (entries b) h) s)
 
   -- the page where the key stands has it
-  pub value_at : (ps : List (Page X)) (k : Bytes) (i : ℕ) (p : Page X) (v : X) → IsPlace ps k i → p ≡ get_or ps i p → IsSome (find (slice_cmp nat_cmp) k p.0) → set ps i (with_value_in p k v) ≡ with_value ps k v
+  pub value_at : (ps : List (Page X)) (k : Bytes) (i : ℕ) (p : Page X) (v : X) → IsPlace ps k i → p ≡ get_or ps i p → IsSome (find key_cmp k p.0) → set ps i (with_value_in p k v) ≡ with_value ps k v
   value_at ps k i p v w is some =
       let same = page_is ps k i p w is in
       set_is ps k i (with_value_in p k v) w
       ∙ sym (ap (λ (l : List (Page X)). with_value l k v) w.is
-      ∙ value_parts w.before w.page w.after k v w.below (ap (λ (q : Page X). is_some (find (slice_cmp nat_cmp) k q.0)) (sym same) ∙ some)
+      ∙ value_parts w.before w.page w.after k v w.below (ap (λ (q : Page X). is_some (find key_cmp k q.0)) (sym same) ∙ some)
       ∙ ap (λ (q : Page X). w.before ++ with_value_in q k v ∷ w.after) (sym same))
 
   -- ---- what a caller gets
 
-  found_above : (x k : Bytes) (es : List (Bytes × X)) → IsBelowAll x es → IsSome (find (slice_cmp nat_cmp) k es) → key_cmp x k ≡ Less
+  found_above : (x k : Bytes) (es : List (Bytes × X)) → IsBelowAll x es → IsSome (find key_cmp k es) → key_cmp x k ≡ Less
   found_above x k [] h s = absurd (both_ways false refl s)
   found_above x k (e ∷ es) h s =
-      let p = parts _ _ h in
-      elim (key_cmp k e.0) as (λ o. key_cmp k e.0 ≡ o → is_some (cond (is_eq o) (Some e.1) (find (slice_cmp nat_cmp) k es)) ≡ true → key_cmp x k ≡ Less) [
-        | Less ↦ λ g t. found_above x k es p.1 t
-        | Equal ↦ λ g t. subst (λ (q : Bytes). key_cmp x q ≡ Less) (sym (exact_bytes k e.0 g)) (less _ p.0)
-        | Greater ↦ λ g t. found_above x k es p.1 t
-      ] refl s
+      let p = parts (is_lt (key_cmp x e.0)) _ h in
+      let lt : key_cmp x e.0 ≡ Less = less _ p.0 in
+      grind (arith, exact_bytes k e.0, found_above x k es p.1)
 
-  below_found : (k : Bytes) (xs ys : List (Bytes × X)) → IsSorted (xs ++ ys) → IsSome (find (slice_cmp nat_cmp) k ys) → AreBelow k xs
+  below_found : (k : Bytes) (xs ys : List (Bytes × X)) → IsSorted (xs ++ ys) → IsSome (find key_cmp k ys) → AreBelow k xs
   below_found k [] ys h s = tt
   below_found k (x ∷ xs) ys h s = let p = parts _ _ h in (found_above x.0 k ys (below_right key_cmp x.0 xs ys p.0) s, below_found k xs ys p.1 s)
 
-  put_left : (k : Bytes) (v : X) (xs ys : List (Bytes × X)) → IsSome (find (slice_cmp nat_cmp) k xs) → put (slice_cmp nat_cmp) k v (xs ++ ys) ≡ put (slice_cmp nat_cmp) k v xs ++ ys
+  put_left : (k : Bytes) (v : X) (xs ys : List (Bytes × X)) → IsSome (find key_cmp k xs) → put key_cmp k v (xs ++ ys) ≡ put key_cmp k v xs ++ ys
   put_left k v [] ys s = absurd (both_ways false refl s)
-  put_left k v (e ∷ xs) ys s =
-      elim (key_cmp k e.0) as (λ o. is_some (cond (is_eq o) (Some e.1) (find (slice_cmp nat_cmp) k xs)) ≡ true → by_order o ((k, v) ∷ e ∷ (xs ++ ys)) ((e.0, v) ∷ (xs ++ ys)) (e ∷ put (slice_cmp nat_cmp) k v (xs ++ ys)) ≡ by_order o ((k, v) ∷ e ∷ xs) ((e.0, v) ∷ xs) (e ∷ put (slice_cmp nat_cmp) k v xs) ++ ys) [
-        | Less ↦ λ t. refl
-        | Equal ↦ λ t. refl
-        | Greater ↦ λ t. ap (λ l. e ∷ l) (put_left k v xs ys t)
-      ] s
+  put_left k v (e ∷ xs) ys s = grind (arith, put_left k v xs ys)
 
-  put_right : (k : Bytes) (v : X) (xs ys : List (Bytes × X)) → AreBelow k xs → put (slice_cmp nat_cmp) k v (xs ++ ys) ≡ xs ++ put (slice_cmp nat_cmp) k v ys
-  put_right k v [] ys h = refl
-  put_right k v (e ∷ xs) ys h =
-      let l = xs ++ ys in
-      ap (λ o. by_order o ((k, v) ∷ e ∷ l) ((e.0, v) ∷ l) (e ∷ put (slice_cmp nat_cmp) k v l)) (turned e.0 k ∙ ap ordering_reverse h.0) ∙ ap (λ l. e ∷ l) (put_right k v xs ys h.1)
-
-  find_right : (k : Bytes) (xs ys : List (Bytes × X)) → is_some (find (slice_cmp nat_cmp) k xs) ≡ false → find (slice_cmp nat_cmp) k (xs ++ ys) ≡ find (slice_cmp nat_cmp) k ys
+  find_right : (k : Bytes) (xs ys : List (Bytes × X)) → is_some (find key_cmp k xs) ≡ false → find key_cmp k (xs ++ ys) ≡ find key_cmp k ys
   find_right k [] ys s = refl
-  find_right k (e ∷ xs) ys s =
-      elim (is_eq (key_cmp k e.0)) as (λ b. is_some (cond b (Some e.1) (find (slice_cmp nat_cmp) k xs)) ≡ false → cond b (Some e.1) (find (slice_cmp nat_cmp) k (xs ++ ys)) ≡ find (slice_cmp nat_cmp) k ys) [
-        | true ↦ λ t. absurd (both_ways true t refl)
-        | false ↦ λ t. find_right k xs ys t
-      ] s
+  find_right k (e ∷ xs) ys s = grind (arith, find_right k xs ys)
 
   -- the entries are those with the value put in
-  pub entries-with_value : (ps : List (Page X)) (k : Bytes) (v : X) → IsSorted (entries ps) → IsSome (find (slice_cmp nat_cmp) k (entries ps)) → entries (with_value ps k v) ≡ put (slice_cmp nat_cmp) k v (entries ps)
+  pub entries-with_value : (ps : List (Page X)) (k : Bytes) (v : X) → IsSorted (entries ps) → IsSome (find key_cmp k (entries ps)) → entries (with_value ps k v) ≡ put key_cmp k v (entries ps)
   entries-with_value [] k v h s = absurd (both_ways false refl s)
   entries-with_value (p ∷ ps) k v h s =
-      elim (is_some (find (slice_cmp nat_cmp) k p.0)) as (λ b. is_some (find (slice_cmp nat_cmp) k p.0) ≡ b → entries (cond b (with_value_in p k v ∷ ps) (p ∷ with_value ps k v)) ≡ put (slice_cmp nat_cmp) k v (p.0 ++ entries ps)) [
-        | true ↦ λ t. sym (put_left k v p.0 (entries ps) t)
-        | false ↦ λ t.
-            let later : IsSome (find (slice_cmp nat_cmp) k (entries ps)) = sym (ap is_some (find_right k p.0 (entries ps) t)) ∙ s in
-            ap (λ l. p.0 ++ l) (entries-with_value ps k v (sorted_right key_cmp p.0 (entries ps) h) later) ∙ sym (put_right k v p.0 (entries ps) (below_found k p.0 (entries ps) h later))
-      ] refl
+      let rest = entries-with_value ps k v (sorted_right key_cmp p.0 (entries ps) h) in
+      let later = find_right k p.0 (entries ps) in
+      let behind = below_found k p.0 (entries ps) h in
+      grind (arith, rest, later, behind, put_left k v p.0 (entries ps), put_behind k v p.0 (entries ps))
 
-  starts_found : (q k : Bytes) (v : X) (es : List (Bytes × X)) → IsSorted es → IsSome (find (slice_cmp nat_cmp) k es) → starts_by q (put (slice_cmp nat_cmp) k v es) ≡ starts_by q es
+  starts_found : (q k : Bytes) (v : X) (es : List (Bytes × X)) → IsSorted es → IsSome (find key_cmp k es) → starts_by q (put key_cmp k v es) ≡ starts_by q es
   starts_found q k v es h s = grind (arith, common_steps, both_ways, turned, found_above, parts)
 
   last_room-with_value : (r : ℕ) (q : Bytes) (ps : List (Page X)) (k : Bytes) (v : X) → IsSorted (entries ps) → last_room r q (with_value ps k v) ≡ last_room r q ps
   last_room-with_value r q [] k v h = refl
   last_room-with_value r q (p ∷ ps) k v h =
-      elim (is_some (find (slice_cmp nat_cmp) k p.0)) as (λ b. is_some (find (slice_cmp nat_cmp) k p.0) ≡ b → last_room r q (cond b (with_value_in p k v ∷ ps) (p ∷ with_value ps k v)) ≡ last_room (if starts_by q p.0 then p.1 else r) q ps) [
-        | true ↦ λ t. ap (λ b. last_room (if b then p.1 else r) q ps) (starts_found q k v p.0 (sorted_left key_cmp p.0 (entries ps) h) t)
-        | false ↦ λ t. last_room-with_value (if starts_by q p.0 then p.1 else r) q ps k v (sorted_right key_cmp p.0 (entries ps) h)
-      ] refl
+      let first = starts_found q k v p.0 (sorted_left key_cmp p.0 (entries ps) h) in
+      let rest = last_room-with_value (if starts_by q p.0 then p.1 else r) q ps k v (sorted_right key_cmp p.0 (entries ps) h) in
+      grind (arith, first, rest)
 
   -- no room changes
   pub room-with_value : (q : Bytes) (ps : List (Page X)) (k : Bytes) (v : X) → IsSorted (entries ps) → room_at q (with_value ps k v) ≡ room_at q ps
   room-with_value q ps k v h = grind (arith, common_steps, last_room-with_value, sorted_right)
+
+-- ---- what trimming a value does to entries and to pages
+
+module _ {X : Type 0} (f : X → X) where
+  pub find-changed : (k : Bytes) (es : List (Bytes × X)) → find key_cmp k (changed_at f k es) ≡ option_map f (find key_cmp k es)
+  find-changed k es = by (find key_cmp k es) refl
+    where
+      by : (o : Option X) → find key_cmp k es ≡ o → find key_cmp k (put_some k (option_map f o) es) ≡ option_map f o
+      by None e = e
+      by (Some v) e = find-put key_cmp nat_list_cmp_total k k (f v) es ∙ ap (λ o. cond (is_eq o) (Some (f v)) (find key_cmp k es)) (tied_itself nat_list_cmp_total k)
+
+  pub find-written : (k : Bytes) (es : List (Bytes × X)) (i : ℕ) (e : Bytes × X) (v : X) → IsAt es k i → e ≡ get_or es i e → find key_cmp k (set es i (e.0, v)) ≡ Some v
+  find-written k es i e v at is =
+      ap (λ (q : Bytes). find key_cmp k (set es i (q, v))) (ap (λ (d : Bytes × X). d.0) is ∙ at.key e)
+      ∙ ap (find key_cmp k) (at.written v)
+      ∙ find-put key_cmp nat_list_cmp_total k k v es
+      ∙ ap (λ o. cond (is_eq o) (Some v) (find key_cmp k es)) (tied_itself nat_list_cmp_total k)
+
+  -- f of its value is written at the key's place
+  pub written_changed : (k : Bytes) (es : List (Bytes × X)) (i : ℕ) (e : Bytes × X) (v : X) → IsAt es k i → e ≡ get_or es i e → v ≡ f e.1 → set es i (e.0, v) ≡ changed_at f k es
+  written_changed k es i e v at is new = grind (arith, common_steps)
+
+  pub record ChangedAt (k : Bytes) (old new : List (Page X)) : Type 0 where
+    pub order : IsInOrder new
+    pub entries : entries new ≡ changed_at f k (entries old)
+
+  -- the value of a page's key changes
+  pub trimmed : (ps : List (Page X)) (k : Bytes) (i : ℕ) (p r : Page X) → IsPlace ps k i → p ≡ get_or ps i p → IsInOrder ps → r.0 ≡ changed_at f k p.0 → r.1 ≡ p.1 → ChangedAt k ps (set ps i r)
+  trimmed ps k i p r w is h same room = by (find key_cmp k p.0) refl
+    where
+      by : (o : Option X) → find key_cmp k p.0 ≡ o → ChangedAt k ps (set ps i r)
+      by None e = let g = grown ps k i p r w is h (rw e at same) (omega arith) in record { order = g.order; entries = rw (find_at ps k i p w is, e) g.roomier.entries }
+      by (Some v) e = let g = inserted ps k (f v) i p r w is h (rw e at same) (omega arith) in record { order = g.order; entries = rw (find_at ps k i p w is, e) g.entries }

@@ -1,12 +1,7 @@
 -- Calls of a stream follow one another.
-use Rattle.std.proofs.Common.{◌≡◌, ℕ, List, ap, refl, ◌∙◌}
-use Rattle.stream_driver.specs.declared.answers.Call.{Call}
-use Rattle.stream_driver.specs.declared.answers.Call.TheVariants.{Read, Write}
-use Rattle.stream_driver.specs.declared.answers.ReadAnswer.TheVariants.{Moved, Blocked, Failed, Ended}
-use Rattle.stream_driver.specs.declared.answers.WriteAnswer.TheVariants.{Moved as Wrote, Blocked as WriteBlocked, Failed as WriteFailed}
-use Rattle.stream_driver.specs.declared.buffered.Counts.{Counts}
-use Rattle.stream_driver.specs.Buffers.{counted, counted_with}
-use Rattle.stream_driver.specs.Traffic.{Departure, Traffic, SameCounts, one_more, after_call, AllMoved, EndsWith}
+use Rattle.std.proofs.Common.{◌≡◌, ap, refl, ◌∙◌}
+use Rattle.stream_driver.specs.Types.{Call, Read, Write, Moved, Blocked, Failed, Ended, Wrote, WriteBlocked, WriteFailed}
+use Rattle.stream_driver.specs.Traffic.{Traffic, SameCounts, one_more, after_call, AllMoved, EndsWith}
 
 pub none_called : (t : Traffic) → AllMoved t t
 none_called t = (refl, refl, refl, refl, refl, refl)
@@ -35,10 +30,3 @@ ends_same call a b ends = ends.0.5 ∙ by call
     by (Read (Moved n)) = refl
     by (Write (Wrote n)) = refl
     by _ = refl
-
--- counts of a call, with what a stream moved
-module _ (given taken : List ℕ) (departed : List Departure) (connection : ℕ) (later_given later_taken : List ℕ) (later_departed : List Departure) (later : ℕ) (same : later ≡ connection) (old new : Counts) where
-  pub ends_counted : (call : Call) → EndsWith call (counted old) (counted new) → EndsWith call (counted_with old given taken departed connection) (counted_with new later_given later_taken later_departed later)
-  ends_counted (Read (Moved n)) ((p, q, r, t, u, v), last) = ((p, q, r, t, u, same), last)
-  ends_counted (Write (Wrote n)) ((p, q, r, t, u, v), last) = ((p, q, r, t, u, same), last)
-  ends_counted _ ((p, q, r, t, u, v), last) = ((p, q, r, t, u, same), last)

@@ -1,15 +1,17 @@
 -- Parts of a run follow one another.
-use Rattle.std.proofs.Common.{◌≡◌, ◌⊎◌, inl, inr, ℕ, ◌+◌, ◌≤◌, true, false, if◌then◌else◌, List, [], ◌∷◌, ◌++◌, map, Some, refl, sym, ap, subst, ◌∙◌, arith, append_assoc}
+use Rattle.std.proofs.Common.{◌≡◌, ◌⊎◌, inr, ℕ, ◌≤◌, true, List, [], ◌∷◌, ◌++◌, length, map, Some, refl, sym, ap, subst, ◌∙◌, arith, append_assoc}
 use Rattle.std.specs.List.{flat_map, AllByRecursion}
 use Rattle.std.proofs.lemmas.Bool.Decides.{nat_tests}
 use Rattle.std.proofs.lemmas.List.{append-nil, map-append}
 use Rattle.std.proofs.lemmas.List.Concat.{flat_map-append}
 use Rattle.model.specs.ReplyText.{reply_text}
+use Rattle.model.proofs.Elements.{all-append}
 use Rattle.sessions.specs.SessionStreams.{HubState, SessionStream, HubEvent, Choice, ArePossible, run, hub_step}
 use Rattle.stream_driver.specs.Traffic.{Traffic}
 use Rattle.sessions.specs.Laws.{failures_in}
 use Rattle.engine.specs.Meaning.{has_risen}
-use Rattle.stream_driver.specs.Sessions.{Adds, ComeInTurn, GoesOn, Point, Runs, session_of, IsPresentIn}
+use Rattle.stream_driver.specs.Sessions.{Adds, ComeInTurn, GoesOn, Point, Runs, session_of, status_at, IsPresentIn}
+use Rattle.stream_driver.specs.Calls.{Moves}
 use Rattle.stream_driver.specs.Drives.{Carried}
 use Rattle.stream_driver.proofs.Events.{no_events}
 
@@ -38,8 +40,7 @@ history_then a b b' c same p q = record {
 }
 
 pub all_then : {A : Type 0} (P : A → Type 0) (xs ys : List A) → AllByRecursion P xs → AllByRecursion P ys → AllByRecursion P (xs ++ ys)
-all_then P [] ys a b = b
-all_then P (x ∷ xs) ys a b = (a.0, all_then P xs ys a.1 b)
+all_then P = all-append P
 
 pub run_then : (h : HubState) (xs ys : List (HubEvent × Choice)) → run h (xs ++ ys) ≡ run (run h xs) ys
 run_then h [] ys = refl
@@ -60,21 +61,11 @@ possible_then h (x ∷ xs) ys a b = (a.0, possible_then (hub_step h x.0 x.1).0 x
 -- the device failed in an event of the first part or of the second
 failed_then : (xs ys : List (HubEvent × Choice)) → 1 ≤ failures_in (xs ++ ys) → (1 ≤ failures_in xs) ⊎ (1 ≤ failures_in ys)
 failed_then [] ys some = inr some
-failed_then (x ∷ xs) ys some =
-    elim x.1.failed as (λ b. 1 ≤ (if b then failures_in (xs ++ ys) + 1 else failures_in (xs ++ ys)) → (1 ≤ (if b then failures_in xs + 1 else failures_in xs)) ⊎ (1 ≤ failures_in ys)) [
-      | true ↦ λ _. inl (omega arith)
-      | false ↦ λ more. failed_then xs ys more
-    ] some
-
-risen_first : (a b c : ℕ) → a ≤ b → b ≤ c → has_risen a b ≡ true → has_risen a c ≡ true
-risen_first a b c ab bc risen = grind (arith, nat_tests)
-
-risen_second : (a b c : ℕ) → a ≤ b → b ≤ c → has_risen b c ≡ true → has_risen a c ≡ true
-risen_second a b c ab bc risen = grind (arith, nat_tests)
+failed_then (x ∷ xs) ys some = grind (arith, failed_then xs ys)
 
 pub risen_either : (xs ys : List (HubEvent × Choice)) (a b c : ℕ) → a ≤ b → b ≤ c → (1 ≤ failures_in xs → has_risen a b ≡ true) → (1 ≤ failures_in ys → has_risen b c ≡ true)
     → 1 ≤ failures_in (xs ++ ys) → has_risen a c ≡ true
-risen_either xs ys a b c ab bc f g some = elim (failed_then xs ys some) [ inl first ↦ risen_first a b c ab bc (f first) | inr second ↦ risen_second a b c ab bc (g second) ]
+risen_either xs ys a b c ab bc f g some = grind (arith, nat_tests, failed_then xs ys some)
 
 pub one_history : (x y : SessionStream) → Some x ≡ Some y → x ≡ y
 one_history x y e = cc
@@ -100,23 +91,28 @@ pub in_turn_then : (h : HubState) (xs ys : List (HubEvent × Choice)) → ComeIn
 in_turn_then h [] ys a b = b
 in_turn_then h (x ∷ xs) ys a b = (a.0, in_turn_then (hub_step h x.0 x.1).0 xs ys a.1 b)
 
-module _ (s : ℕ) (tells : Type 0) where
-  -- nothing has happened
-  abbrev pub nothing : (h : Point) (t : Traffic) → IsPresentIn h.hub s → Carried s tells h t h t
-  nothing h t present = record {
-    runs = no_events s h present;
-    in_turn = tt;
-    given = λ _. sym (append-nil t.given);
-    taken = λ _. sym (append-nil t.taken);
+module _ {s : ℕ} {tells : Type 0} where
+  -- a run in which nothing was served or replied, over what the stream moved
+  abbrev pub moved_by : {h k : Point} {before after : Traffic} (r : Runs s h k) → ComeInTurn h.hub r.events → (tells → after.given ≡ before.given ++ r.history.received) → (tells → after.taken ≡ before.taken ++ r.history.sent)
+      → length r.history.served ≡ 0 → r.history.replies ≡ [] → status_at k.hub s ≡ status_at h.hub s → Moves s tells h before k after
+  moved_by r turn given taken served replied status = record {
+    carried = record { runs = r; in_turn = turn; given = given; taken = taken };
+    none_served = served;
+    none_replied = replied;
+    status = status;
   }
 
   -- the stream answered, and the hub stayed
-  abbrev pub answered : (h : Point) (before after : Traffic) → IsPresentIn h.hub s → (tells → after.given ≡ before.given ++ []) → (tells → after.taken ≡ before.taken ++ []) → Carried s tells h before h after
-  answered h before after present given taken = record { runs = no_events s h present; in_turn = tt; given = given; taken = taken }
+  abbrev pub answered : {h : Point} {before after : Traffic} → IsPresentIn h.hub s → (tells → after.given ≡ before.given ++ []) → (tells → after.taken ≡ before.taken ++ []) → Moves s tells h before h after
+  answered {h} present given taken = moved_by (no_events s h present) tt given taken refl refl refl
+
+  -- nothing has happened
+  abbrev pub nothing : {h : Point} {t : Traffic} → IsPresentIn h.hub s → Moves s tells h t h t
+  nothing {h} {t} present = answered present (λ _. sym (append-nil t.given)) (λ _. sym (append-nil t.taken))
 
   -- the stream stayed, and the hub ran
-  abbrev pub alone : (h k : Point) (t : Traffic) (r : Runs s h k) → ComeInTurn h.hub r.events → [] ≡ r.history.received → [] ≡ r.history.sent → Carried s tells h t k t
-  alone h k t r in_turn received sent = record {
+  abbrev pub alone : {h k : Point} {t : Traffic} (r : Runs s h k) → ComeInTurn h.hub r.events → [] ≡ r.history.received → [] ≡ r.history.sent → Carried s tells h t k t
+  alone {h} {k} {t} r in_turn received sent = record {
     runs = r;
     in_turn = in_turn;
     given = λ _. sym (append-nil t.given) ∙ ap (λ l. t.given ++ l) received;
@@ -124,9 +120,9 @@ module _ (s : ℕ) (tells : Type 0) where
   }
 
   -- one part after another
-  abbrev pub and_then : (old : Point) (before : Traffic) (mid : Point) (between : Traffic) (new : Point) (after : Traffic) → Carried s tells old before mid between → Carried s tells mid between new after
+  abbrev pub and_then : {old : Point} {before : Traffic} {mid : Point} {between : Traffic} {new : Point} {after : Traffic} → Carried s tells old before mid between → Carried s tells mid between new after
       → Carried s tells old before new after
-  and_then old before mid between new after p q = record {
+  and_then {old} {before} {mid} {between} {new} {after} p q = record {
     runs = runs_then s old mid new p.runs q.runs;
     in_turn = in_turn_then old.hub p.runs.events q.runs.events p.in_turn (subst (λ v. ComeInTurn v q.runs.events) p.runs.adds.run_is q.in_turn);
     given = λ t. grown before.given between.given between.given after.given p.runs.history.received q.runs.history.received (p.given t) refl (q.given t);

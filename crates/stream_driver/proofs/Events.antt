@@ -1,7 +1,7 @@
 -- What one event does to the history of its session.
-use Rattle.std.proofs.Common.{◌≡◌, ◌≢◌, ℕ, ◌+◌, ◌≤◌, Bool, nat_le, nat_lt, true, false, if◌then◌else◌, List, [], ◌∷◌, ◌++◌, length, take, drop, Option, Some, None, refl, sym, ap, subst, ◌∙◌, arith}
+use Rattle.std.proofs.Common.{◌≡◌, ◌≢◌, ◌⊎◌, inl, inr, ℕ, ◌≤◌, Bool, nat_le, nat_lt, true, false, if◌then◌else◌, List, [], ◌∷◌, ◌++◌, length, take, drop, Option, Some, None, refl, sym, ap, subst, ◌∙◌, arith, nat_cmp}
 use Rattle.std.specs.List.{flat_map}
-use Rattle.std.specs.Map.{lookup, set_value}
+use Rattle.std.specs.Map.{lookup, set_value, remove_entry}
 use Rattle.std.proofs.lemmas.Bool.Decides.{nat_tests}
 use Rattle.std.proofs.lemmas.List.{append-nil, take-append-drop}
 use Rattle.model.specs.Map.{Bytes}
@@ -10,13 +10,38 @@ use Rattle.model.specs.Grammar.{IsProperBeginning}
 use Rattle.model.specs.Operations.{Response}
 use Rattle.model.specs.ReplyText.{reply_text}
 use Rattle.sessions.specs.declared.events.Status.TheVariants.{Absent, Open, Ending, Refused}
+use Rattle.sessions.specs.declared.events.Outcome.{Outcome}
 use Rattle.sessions.specs.declared.events.Outcome.TheVariants.{Done, Memory, Idle}
-use Rattle.sessions.specs.SessionStreams.{HubState, IsServed, SessionState, SessionStream, HubEvent, Receives, Serves, Sends, Leaves, Front, Whole, More, Bad, IsFront, Choice, Effect, IsPossible, IsServePossible, hub_step, stream_of, with_stream, with_effect, depart, may_serve, serve_front, out_of_memory, served_with, no_effect, asks, room}
+use Rattle.sessions.specs.SessionStreams.{HubState, SessionState, SessionStream, HubEvent, Receives, Serves, Sends, Leaves, Front, Whole, More, Bad, IsFront, Choice, Effect, IsPossible, IsServePossible, hub_step, stream_of, with_stream, with_effect, depart, may_serve, serve_front, out_of_memory, served_with, no_effect, asks, room}
 use Rattle.sessions.specs.StandsFor.{status_in}
 use Rattle.sessions.specs.Laws.{failures_in}
 use Rattle.engine.specs.Meaning.{has_risen}
 use Rattle.stream_driver.specs.Sessions.{Adds, GoesOn, Point, Runs, session_of, status_at, IsPresentIn}
-use Rattle.stream_driver.proofs.Lookups.{test, set-same, set-other, remove-other}
+use Rattle.std.specs.BTreeMap.{is_at}
+use Rattle.std.proofs.lemmas.Grind.{common_steps}
+
+-- ---- sessions in the list of those that are present, after one of them has changed or gone
+
+abbrev pub test : ℕ → ℕ → Bool
+test s = is_at (nat_cmp s)
+
+same_number : (q s x : ℕ) → test q x ≡ true → test s x ≡ true → q ≡ s
+same_number q s x a b = grind (arith, nat_tests)
+
+module _ (s : ℕ) (w : SessionStream) where
+  pub set-same : (es : List (ℕ × SessionStream)) (v : SessionStream) → lookup (test s) es ≡ Some v → lookup (test s) (set_value (test s) es w) ≡ Some w
+  set-same [] v found = absurd (cc)
+  set-same (e ∷ es) v found = grind (arith, common_steps, set-same es v)
+
+  pub set-other : (es : List (ℕ × SessionStream)) (q : ℕ) → (q ≡ s → ⊥) → lookup (test q) (set_value (test s) es w) ≡ lookup (test q) es
+  set-other [] q apart = refl
+  set-other (e ∷ es) q apart = grind (arith, common_steps, same_number, nat_tests, set-other es q apart)
+
+pub remove-other : (es : List (ℕ × SessionStream)) (q s : ℕ) → (q ≡ s → ⊥) → lookup (test q) (remove_entry (test s) es) ≡ lookup (test q) es
+remove-other [] q s apart = refl
+remove-other (e ∷ es) q s apart = grind (arith, common_steps, same_number, nat_tests, remove-other es q s apart)
+
+-- ---- histories
 
 pub found : (o : Option SessionStream) → status_in o ≢ Absent → (st : SessionStream) × (o ≡ Some st)
 found None here = absurd (here refl)
@@ -78,7 +103,7 @@ abbrev pub point_after : Point → HubEvent → Choice → ℕ → Point
 point_after p e c count = record { hub = (hub_step p.hub e c).0; failures = count; events = p.events ++ e ∷ [] }
 
 pub fails_then : (e : HubEvent) (c : Choice) (risen : Bool) → c.failed ≡ risen → 1 ≤ failures_in ((e, c) ∷ []) → risen ≡ true
-fails_then e c risen same some = elim c.failed as (λ b. b ≡ risen → 1 ≤ (if b then 0 + 1 else 0) → risen ≡ true) [ true ↦ λ is _. sym is | false ↦ λ _ none. absurd (omega (arith, none)) ] same some
+fails_then e c risen same some = grind arith
 
 -- one event that changes its session's history alone
 abbrev pub one_event : (s : ℕ) (p : Point) (e : HubEvent) (c : Choice) (count : ℕ) (first last : SessionStream) → session_of e ≡ s → Happens p e c count → stream_of p.hub s ≡ Some first
@@ -141,11 +166,7 @@ serves h s c st is opened nothing =
 
 -- the texts of the replies are pending
 pub effect_texts : (front : Front) (c : Choice) (m : State) (s : ℕ) (n : SessionState) → n.pending ≡ [] → (serve_front front c m s n).now.pending ≡ flat_map reply_text (serve_front front c m s n).replies
-effect_texts (Whole parts used) c m s n nothing =
-    elim c.refused as (λ b. (let e : Effect = if b then out_of_memory m s else served_with (step m s (asks parts) c.failed) n parts used in e).now.pending ≡ flat_map reply_text (let e : Effect = if b then out_of_memory m s else served_with (step m s (asks parts) c.failed) n parts used in e).replies) [
-      | true ↦ refl
-      | false ↦ sym (append-nil (reply_text (step m s (asks parts) c.failed).1))
-    ]
+effect_texts (Whole parts used) c m s n nothing = grind (arith, append-nil (reply_text (step m s (asks parts) c.failed).1))
 effect_texts More c m s n nothing = nothing
 effect_texts Bad c m s n nothing = sym (append-nil _)
 
@@ -154,33 +175,37 @@ was_served st e nothing texts =
     grows_by st (after_effect st e) [] e.served e.replies [] (still st.received) refl refl (still st.sent)
     (texts ∙ sym (ap (λ l. l ++ flat_map reply_text e.replies) nothing))
 
--- what a request that is looked for comes to
-pub data Comes (n : SessionState) (e : Effect) : Type 0 where
-  Answered : e.outcome ≡ Done → e.now.status ≡ Open → length e.served ≡ 1 → Comes n e
-  IsBroken : e.outcome ≡ Done → e.now.status ≡ Ending → e.served ≡ [] → Comes n e
-  IsStarved : e.outcome ≡ Memory → e.now.status ≡ Refused → e.served ≡ [] → Comes n e
-  Awaits : e.outcome ≡ Idle → e.now ≡ n → e.served ≡ [] → e.replies ≡ [] → IsProperBeginning n.inbox → Comes n e
+-- what a request that is looked for comes to, by its outcome
+abbrev pub Comes : Outcome → SessionState → Effect → Type 0
+Comes Done n e = ((e.now.status ≡ Open) × (length e.served ≡ 1)) ⊎ ((e.now.status ≡ Ending) × (e.served ≡ []))
+Comes Memory n e = (e.now.status ≡ Refused) × (e.served ≡ [])
+Comes _ n e = (e.now ≡ n) × (e.served ≡ []) × (e.replies ≡ []) × IsProperBeginning n.inbox
 
-pub comes : (front : Front) (c : Choice) (m : State) (s : ℕ) (n : SessionState) → IsFront n.inbox front → Comes n (serve_front front c m s n)
+comes : (front : Front) (c : Choice) (m : State) (s : ℕ) (n : SessionState) → IsFront n.inbox front → Comes (serve_front front c m s n).outcome n (serve_front front c m s n)
 comes (Whole parts used) c m s n is =
-    elim c.refused as (λ b. Comes n (if b then out_of_memory m s else served_with (step m s (asks parts) c.failed) n parts used)) [
-      | true ↦ IsStarved refl refl refl
-      | false ↦ Answered refl refl refl
+    elim c.refused as (λ b. let e : Effect = if b then out_of_memory m s else served_with (step m s (asks parts) c.failed) n parts used in Comes e.outcome n e) [
+      | true ↦ (refl, refl)
+      | false ↦ inl (refl, refl)
     ]
-comes More c m s n is = Awaits refl refl refl refl is
-comes Bad c m s n is = IsBroken refl refl refl
+comes More c m s n is = (refl, refl, refl, is)
+comes Bad c m s n is = inr (refl, refl)
 
-pub one_reply : (front : Front) (c : Choice) (m : State) (s : ℕ) (n : SessionState) → length (serve_front front c m s n).replies ≤ 1
-one_reply (Whole parts used) c m s n =
-    elim c.refused as (λ b. length (let e : Effect = if b then out_of_memory m s else served_with (step m s (asks parts) c.failed) n parts used in e).replies ≤ 1) [
-      | true ↦ omega arith
-      | false ↦ omega arith
-    ]
-one_reply More c m s n = omega arith
-one_reply Bad c m s n = omega arith
+pub comes_idle : (o : Outcome) (n : SessionState) (e : Effect) → o ≢ Done → o ≢ Memory → Comes o n e → Comes Idle n e
+comes_idle Done n e a b w = absurd (a refl)
+comes_idle Memory n e a b w = absurd (b refl)
+comes_idle _ n e a b w = w
+
+pub one_each : (front : Front) (c : Choice) (m : State) (s : ℕ) (n : SessionState) → (length (serve_front front c m s n).served ≤ 1) × (length (serve_front front c m s n).replies ≤ 1)
+one_each (Whole parts used) c m s n = (grind arith, grind arith)
+one_each _ c m s n = (omega arith, omega arith)
+
+kept : (front : Front) (c : Choice) (m : State) (s : ℕ) (n : SessionState) → n.status ≢ Absent → (serve_front front c m s n).now.status ≢ Absent
+kept (Whole parts used) c m s n here gone = grind arith
+kept More c m s n here gone = here gone
+kept Bad c m s n here gone = cc
 
 -- the event of a Serve
-module _ (s : ℕ) (p : Point) (c : Choice) (count : ℕ) (st : SessionStream) (is : stream_of p.hub s ≡ Some st) (opened : st.now.status ≡ Open) (nothing : st.now.pending ≡ []) (happens : Happens p (Serves s) c count) where
+module _ {s : ℕ} {p : Point} {c : Choice} {count : ℕ} {st : SessionStream} (is : stream_of p.hub s ≡ Some st) (opened : st.now.status ≡ Open) (nothing : st.now.pending ≡ []) (happens : Happens p (Serves s) c count) where
   abbrev h : HubState
   h = p.hub
 
@@ -190,22 +215,14 @@ module _ (s : ℕ) (p : Point) (c : Choice) (count : ℕ) (st : SessionStream) (
   pub serves_is : hub_step h (Serves s) c ≡ with_effect h s st effect
   serves_is = serves h s c st is opened nothing
 
-  pub front_is : IsServed h.machine s st.now.inbox c
-  front_is =
+  pub comes_to : Comes effect.outcome st.now effect
+  comes_to =
       let here : IsServePossible h.machine s (Some st) c = subst (λ o. IsServePossible h.machine s o c) is happens.possible in
       let may : may_serve st.now ≡ true = rw (opened, nothing) refl in
-      here may
-
-  pub comes_to : Comes st.now effect
-  comes_to = comes c.front c h.machine s st.now front_is.0
+      comes c.front c h.machine s st.now (here may).0
 
   pub status_kept : effect.now.status ≢ Absent
-  status_kept = elim comes_to [
-    | Answered o status len ↦ λ gone. (let bad : Open ≡ Absent = sym status ∙ gone in cc)
-    | IsBroken o status none ↦ λ gone. (let bad : Ending ≡ Absent = sym status ∙ gone in cc)
-    | IsStarved o status none ↦ λ gone. (let bad : Refused ≡ Absent = sym status ∙ gone in cc)
-    | Awaits o same none unreplied begins ↦ λ gone. (let bad : Open ≡ Absent = sym opened ∙ sym (ap (λ n. n.status) same) ∙ gone in cc)
-  ]
+  status_kept = kept c.front c h.machine s st.now (λ gone. (let bad : Open ≡ Absent = sym opened ∙ gone in cc))
 
   abbrev pub served_event : Runs s p (point_after p (Serves s) c count)
   served_event = one_event s p (Serves s) c count st (after_effect st effect) refl happens is (ap (λ r. r.0.present) serves_is) (was_served st effect nothing (effect_texts c.front c h.machine s st.now nothing)) status_kept

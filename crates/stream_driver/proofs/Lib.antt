@@ -1,14 +1,11 @@
-pub mod Lookups
 pub mod Inboxes
 pub mod Events
 pub mod States
 pub mod Answered
 pub mod Carry
-pub mod Within
 pub mod OneCall
 pub mod Loops
 pub mod Turns
 pub mod Buffering
 pub mod Sends
 pub mod OneEntry
-pub mod TurnSends

@@ -4,51 +4,38 @@ use Rattle.std.proofs.lemmas.List.{append-nil, length-drop}
 use Rattle.model.specs.Bounds.{inbox_max}
 use Rattle.model.specs.Map.{Bytes}
 use Rattle.sessions.specs.declared.events.Status.TheVariants.{Absent, Open}
+use Rattle.sessions.specs.declared.events.Outcome.{Outcome}
 use Rattle.sessions.specs.declared.events.Outcome.TheVariants.{Done}
-use Rattle.sector.specs.declared.device.Sectors.{Ghosts}
-use Rattle.sessions.specs.declared.hub.Hub.{Hub}
 use Rattle.sessions.specs.Laws.{NoneRuns, RunsAlone}
 use Rattle.sessions.specs.SessionStreams.{HubState, Receives, Sends, hub_step, with_stream, stream_of}
 use Rattle.sessions.specs.StandsFor.{StandsFor, HubLeads, status_in, pending_in, room_in, failures}
-use Rattle.stream_driver.specs.declared.answers.Call.TheVariants.{Read, Write}
-use Rattle.stream_driver.specs.declared.answers.ReadAnswer.{ReadAnswer}
-use Rattle.stream_driver.specs.declared.answers.ReadAnswer.TheVariants.{Moved}
-use Rattle.stream_driver.specs.declared.answers.WriteAnswer.{WriteAnswer}
-use Rattle.stream_driver.specs.declared.answers.WriteAnswer.TheVariants.{Moved as Wrote}
+use Rattle.stream_driver.specs.Types.{Read, Write, ReadAnswer, Moved, WriteAnswer, Wrote}
 use Rattle.stream_driver.specs.Traffic.{Traffic, EndsWith, bytes_read, bytes_written}
-use Rattle.stream_driver.specs.Sessions.{AwaitsMore, Leads, Runs, status_at, pending_at, room_at, IsPresentIn}
+use Rattle.stream_driver.specs.Sessions.{Ghosts, Hub, AwaitsMore, Leads, Runs, status_at, pending_at, room_at, IsPresentIn}
 use Rattle.stream_driver.specs.Calls.{WritesSome, ReadsSome}
 use Rattle.stream_driver.proofs.Events.{found, point_after, one_event, received_by, receives, bytes_came, sent_from, sends, bytes_went, open_present}
-use Rattle.stream_driver.proofs.Carry.{answered}
+use Rattle.stream_driver.proofs.Carry.{answered, moved_by}
 use Rattle.stream_driver.proofs.States.{leads_event, leads_none}
 
-module _ {D : Type 0} {g : Ghosts D} (hub new : Hub D g) (s : ℕ) (tells : Type 0) (b a : Traffic) where
-  pub wrote_moved : (n : ℕ) → 0 < n → (outcome : Rattle.sessions.specs.declared.events.Outcome.Outcome) → HubLeads hub new (Sends s n) outcome → RunsAlone hub new (Sends s n) → failures hub ≤ failures new
+module _ {D : Type 0} {g : Ghosts D} {hub new : Hub D g} {s : ℕ} {tells : Type 0} {b a : Traffic} where
+  pub wrote_moved : (n : ℕ) → 0 < n → {outcome : Outcome} → HubLeads hub new (Sends s n) outcome → RunsAlone hub new (Sends s n) → failures hub ≤ failures new
       → ((h : HubState) → StandsFor hub h → IsPresentIn h s × (n ≤ length (pending_at h s)))
       → ((h : HubState) → StandsFor hub h → tells → a.taken ≡ b.taken ++ take n (pending_at h s)) → (tells → a.given ≡ b.given) → EndsWith (Write (Wrote n)) b a
       → Leads hub new (λ h k. WritesSome s tells h b (Wrote n) k a)
-  wrote_moved n some outcome leads alone counted here taken given calls =
+  wrote_moved n some {outcome} leads alone counted here taken given calls =
       leads_event hub new _ (Sends s n) outcome leads alone counted (λ h stands happens outcome_is after.
       let c = leads.0 in
       let st = found (stream_of h.hub s) (here h.hub stands.state).0 in
-      let is : stream_of h.hub s ≡ Some st.0 = st.1 in
+      let is = st.1 in
       let pending : pending_at h.hub s ≡ st.0.now.pending = ap pending_in is in
       let fits : n ≤ length st.0.now.pending = subst (λ l. n ≤ length l) pending (here h.hub stands.state).1 in
       let stays : st.0.now.status ≢ Absent = λ gone. (here h.hub stands.state).0 (ap status_in is ∙ gone) in
       let step : hub_step h.hub (Sends s n) c ≡ (with_stream h.hub s (sent_from st.0 n), Done) = sends h.hub s n c st.0 is fits in
       let runs : Runs s h (point_after h (Sends s n) c (failures new)) = one_event s h (Sends s n) c (failures new) st.0 (sent_from st.0 n) refl happens is (ap (λ r. r.0.present) step) (bytes_went st.0 n) stays in
       record {
-        moves = record {
-          carried = record {
-            runs = runs;
-            given = λ t. given t ∙ sym (append-nil b.given);
-            taken = λ t. taken h.hub stands.state t ∙ ap (λ l. b.taken ++ take n l) pending;
-            in_turn = (tt, tt);
-          };
-          none_served = refl;
-          none_replied = refl;
-          status = ap status_in runs.last_is ∙ sym (ap status_in is);
-        };
+        moves =
+            moved_by runs (tt, tt) (λ t. given t ∙ sym (append-nil b.given)) (λ t. taken h.hub stands.state t ∙ ap (λ l. b.taken ++ take n l) pending)
+            refl refl (ap status_in runs.last_is ∙ sym (ap status_in is));
         answered = calls;
         why =
             let left : length (pending_at (hub_step h.hub (Sends s n) c).0 s) ≡ length (drop n st.0.now.pending) = ap (λ o. length (pending_in o)) runs.last_is in
@@ -57,11 +44,11 @@ module _ {D : Type 0} {g : Ghosts D} (hub new : Hub D g) (s : ℕ) (tells : Type
             (some, omega arith);
       })
 
-  pub read_moved : (n : ℕ) → 0 < n → (piece : Bytes) (outcome : Rattle.sessions.specs.declared.events.Outcome.Outcome) → HubLeads hub new (Receives s piece) outcome → RunsAlone hub new (Receives s piece) → failures hub ≤ failures new
+  pub read_moved : (n : ℕ) → 0 < n → (piece : Bytes) → {outcome : Outcome} → HubLeads hub new (Receives s piece) outcome → RunsAlone hub new (Receives s piece) → failures hub ≤ failures new
       → ((h : HubState) → StandsFor hub h → (status_at h s ≡ Open) × (length piece ≤ room_at h s)) → length piece ≡ n
       → (tells → a.given ≡ b.given ++ piece) → (tells → a.taken ≡ b.taken) → EndsWith (Read (Moved n)) b a
       → Leads hub new (λ h k. AwaitsMore h.hub s → ReadsSome s tells h b (Moved n) k a)
-  read_moved n some piece outcome leads alone counted here long given taken calls =
+  read_moved n some piece {outcome} leads alone counted here long given taken calls =
       leads_event hub new _ (Receives s piece) outcome leads alone counted (λ h stands happens outcome_is after awaits.
       let c = leads.0 in
       let st = found (stream_of h.hub s) (open_present h.hub s (here h.hub stands.state).0) in
@@ -72,17 +59,7 @@ module _ {D : Type 0} {g : Ghosts D} (hub new : Hub D g) (s : ℕ) (tells : Type
       let stays : st.0.now.status ≢ Absent = λ gone. (let bad : Open ≡ Absent = sym opened ∙ gone in cc) in
       let runs : Runs s h (point_after h (Receives s piece) c (failures new)) = one_event s h (Receives s piece) c (failures new) st.0 (received_by st.0 piece) refl happens is (ap (λ r. r.0.present) step) (bytes_came st.0 piece) stays in
       record {
-        moves = record {
-          carried = record {
-            runs = runs;
-            given = given;
-            taken = λ t. taken t ∙ sym (append-nil b.taken);
-            in_turn = (awaits, tt);
-          };
-          none_served = refl;
-          none_replied = refl;
-          status = ap status_in runs.last_is ∙ sym (ap status_in is);
-        };
+        moves = moved_by runs (awaits, tt) given (λ t. taken t ∙ sym (append-nil b.taken)) refl refl (ap status_in runs.last_is ∙ sym (ap status_in is));
         none_sent = refl;
         pending = ap pending_in runs.last_is ∙ sym (ap pending_in is);
         answered = calls;
@@ -94,18 +71,13 @@ module _ {D : Type 0} {g : Ghosts D} (hub new : Hub D g) (s : ℕ) (tells : Type
       })
 
 -- the stream didn't move
-module _ {D : Type 0} {g : Ghosts D} (hub : Hub D g) (none : NoneRuns hub) (s : ℕ) (tells : Type 0) (b a : Traffic) where
+module _ {D : Type 0} {g : Ghosts D} {hub : Hub D g} (none : NoneRuns hub) {s : ℕ} {tells : Type 0} {b a : Traffic} where
   pub wrote_none : (answer : WriteAnswer) → ((n : ℕ) → answer ≢ Wrote n) → ((h : HubState) → StandsFor hub h → IsPresentIn h s)
       → (from : List ℕ) → (tells → a.given ≡ b.given) → (tells → a.taken ≡ b.taken ++ take (bytes_written answer) from) → EndsWith (Write answer) b a
       → Leads hub hub (λ h k. WritesSome s tells h b answer k a)
   wrote_none (Wrote n) differs here from given taken calls = absurd (differs n refl)
   wrote_none answer differs here from given taken calls = leads_none hub none _ (λ h stands. record {
-    moves = record {
-      carried = answered s tells h b a (here h.hub stands.state) (λ t. given t ∙ sym (append-nil b.given)) taken;
-      none_served = refl;
-      none_replied = refl;
-      status = refl;
-    };
+    moves = answered (here h.hub stands.state) (λ t. given t ∙ sym (append-nil b.given)) taken;
     answered = calls;
     why = refl;
   })
@@ -115,12 +87,7 @@ module _ {D : Type 0} {g : Ghosts D} (hub : Hub D g) (none : NoneRuns hub) (s : 
         → Leads hub hub (λ h k. AwaitsMore h.hub s → ReadsSome s tells h b answer k a)
     read_none (Moved n) differs given calls = absurd (differs n refl)
     read_none answer differs given calls = leads_none hub none _ (λ h stands. λ awaits. record {
-      moves = record {
-        carried = answered s tells h b a (open_present h.hub s (here h.hub stands.state)) given (λ t. taken t ∙ sym (append-nil b.taken));
-        none_served = refl;
-        none_replied = refl;
-        status = refl;
-      };
+      moves = answered (open_present h.hub s (here h.hub stands.state)) given (λ t. taken t ∙ sym (append-nil b.taken));
       none_sent = refl;
       pending = refl;
       answered = calls;

@@ -1,14 +1,11 @@
 -- One entry of a table, before its drive and after it.
-use Rattle.std.proofs.Common.{◌≡◌, ◌≢◌, ◌⊎◌, inl, inr, ℕ, ◌<◌, List, length, set, get_or, refl, sym, ap, subst, ◌∙◌, Option, Some, None, unwrap_or}
+use Rattle.std.proofs.Common.{◌≡◌, ◌≢◌, ◌⊎◌, inl, inr, ℕ, ◌<◌, List, length, set, get_or, refl, sym, ap, subst, ◌∙◌, Option, Some, None}
 use Rattle.std.proofs.lemmas.Bool.{cases_lt, cases_eq}
 use Rattle.std.proofs.lemmas.List.{get_or-set_same, get_or-set_other}
 use Rattle.std.proofs.Math.ListN.{get_or-eq_default}
+use Rattle.model.proofs.Lookups.{some_same}
 use Rattle.sessions.specs.SessionStreams.{stream_of}
-use Rattle.stream_driver.specs.declared.answers.Progress.{Progress}
-use Rattle.stream_driver.specs.declared.answers.Progress.TheVariants.{Gone}
-use Rattle.stream_driver.specs.declared.entries.EntryState.{EntryState}
-use Rattle.stream_driver.specs.declared.entries.EntryState.TheVariants.{Idle, Ready, Gone as EntryGone}
-use Rattle.stream_driver.specs.declared.entries.Entry.{Entry}
+use Rattle.stream_driver.specs.Types.{Progress, Gone, EntryState, Idle, Ready, EntryGone, Entry}
 use Rattle.stream_driver.specs.Traffic.{Traffic}
 use Rattle.stream_driver.specs.Sessions.{Point, IsPresentIn}
 use Rattle.stream_driver.specs.Drives.{EndsAs}
@@ -38,18 +35,15 @@ module _ {T : Type 0} (tells : Type 0) (traffic : T → Traffic) where
   pub entry_other : (state : EntryState) (earlier : Point) (old : Entry T) (later : Point) (new : Entry T) → old.state ≡ state → DrivenIn tells traffic state earlier old later new
       → (t : ℕ) → (old.state ≢ EntryGone → t ≢ old.session) → stream_of later.hub t ≡ stream_of earlier.hub t
   entry_other Ready earlier old later new is d t differs =
-      let apart : t ≢ old.session = differs (λ gone. (let bad : Ready ≡ EntryGone = sym is ∙ gone in cc)) in
+      let apart : t ≢ old.session = differs (λ gone. cc) in
       ends_other old.session d.drove.last later d.answer t apart d.drove.ends ∙ d.drove.carried.runs.others t apart
   entry_other _ earlier old later new is d t differs = rw d.1 refl
 
 module _ {T : Type 0} where
-  pub some_inj : {a b : Entry T} → Some a ≡ Some b → a ≡ b
-  some_inj {a} e = ap (λ (o : Option (Entry T)). unwrap_or o a) e
-
   pub get_set : (slots : List (Option (Entry T))) (key other : ℕ) (new : Entry T) (another : Entry T) → key < length slots → get_or (set slots key (Some new)) other None ≡ Some another
       → ((other ≡ key) × (another ≡ new)) ⊎ ((other ≢ key) × (get_or slots other None ≡ Some another))
   get_set slots key other new another lt e = elim (cases_eq other key) [
-    | inl same ↦ inl (same, some_inj (sym e ∙ ap (λ (k : ℕ). get_or (set slots key (Some new)) k None) same ∙ get_or-set_same slots key (Some new) None lt))
+    | inl same ↦ inl (same, some_same (sym e ∙ ap (λ (k : ℕ). get_or (set slots key (Some new)) k None) same ∙ get_or-set_same slots key (Some new) None lt))
     | inr differs ↦ inr (differs, sym (get_or-set_other slots key other (Some new) None differs) ∙ e)
   ]
 

@@ -1,16 +1,15 @@
 -- What left over a stream is told before, from run to run.
-use Rattle.std.proofs.Common.{◌≡◌, ◌≤◌, ℕ, List, [], ◌∷◌, ◌++◌, Some, take, drop, refl, sym, ap, subst, ◌∙◌, append_assoc}
+use Rattle.std.proofs.Common.{◌≡◌, ◌≤◌, ◌⊎◌, inl, inr, ℕ, List, [], ◌++◌, Some, take, drop, refl, sym, ap, subst, ◌∙◌, append_assoc}
 use Rattle.std.specs.List.{AllByRecursion}
 use Rattle.std.proofs.lemmas.List.{append-nil, take-append-drop}
-use Rattle.sector.specs.declared.device.Sectors.{Ghosts}
 use Rattle.sessions.specs.declared.events.Outcome.{Outcome}
-use Rattle.sessions.specs.declared.hub.Hub.{Hub}
 use Rattle.sessions.specs.Laws.{NoneRuns, Ran, RunsAlone}
 use Rattle.sessions.specs.SessionStreams.{HubState, HubEvent, Choice, SessionStream, hub_step, run, stream_of}
 use Rattle.sessions.specs.StandsFor.{StandsFor, HubLeads, device, failures, pending_in}
+use Rattle.model.proofs.Elements.{all-each}
 use Rattle.stream_driver.specs.Drives.{Carried}
 use Rattle.stream_driver.specs.Sends.{IsAnswered, IsToldBefore, AreToldBefore, HasSent, LeadsTelling}
-use Rattle.stream_driver.specs.Sessions.{Leads, Point, pending_at}
+use Rattle.stream_driver.specs.Sessions.{Ghosts, Hub, Leads, Point, pending_at}
 use Rattle.stream_driver.specs.Traffic.{Departure, DepartAt, IsBeginning, Traffic}
 use Rattle.stream_driver.proofs.Carry.{all_then, and_then, grown, one_history, run_then}
 use Rattle.stream_driver.proofs.Events.{Happens, point_after}
@@ -39,10 +38,17 @@ module _ (s : ℕ) (h : HubState) (es fs : List (HubEvent × Choice)) (bytes : L
     answered = a.answered;
   }
 
+-- first some events, then others, in each of which nothing was taken or all that was taken was answered
+pub answered_on : {s : ℕ} {h : HubState} {es fs : List (HubEvent × Choice)} {before between after : List ℕ} → (between ≡ before) ⊎ IsAnswered s h es between → (after ≡ between) ⊎ IsAnswered s (run h es) fs after
+    → (after ≡ before) ⊎ IsAnswered s h (es ++ fs) after
+answered_on {s} {h} {es} {fs} {before} {between} {after} first (inr then) = inr (answered_then s h es fs after then)
+answered_on {s} {h} {es} {fs} {before} {between} {after} (inl none) (inl same) = inl (same ∙ none)
+answered_on {s} {h} {es} {fs} {before} {between} {after} (inr some) (inl same) = inr (rw same (answered_since s h es fs between some))
+
 module _ {D : Type 0} {g : Ghosts D} (s : ℕ) (h : HubState) where
   -- more events came since
-  told_since : Follow D g → (a b c : Hub D g) (es fs : List (HubEvent × Choice)) → Ran b c fs → (d : Departure) → IsToldBefore s h a b es d → IsToldBefore s h a c (es ++ fs) d
-  told_since follow a b c es fs ran d t = record {
+  pub all_since : Follow D g → (a b c : Hub D g) (es fs : List (HubEvent × Choice)) → Ran b c fs → (ds : List Departure) → AllByRecursion (IsToldBefore s h a b es) ds → AllByRecursion (IsToldBefore s h a c (es ++ fs)) ds
+  all_since follow a b c es fs ran ds = all-each (IsToldBefore s h a b es) (IsToldBefore s h a c (es ++ fs)) ds (λ d t. record {
     before = t.before;
     since = t.since ++ fs;
     events_are = ap (λ l. l ++ fs) t.events_are ∙ append_assoc t.before t.since fs;
@@ -51,11 +57,12 @@ module _ {D : Type 0} {g : Ghosts D} (s : ℕ) (h : HubState) where
     goes_on = follow t.hub b c t.since fs t.goes_on ran;
     moment_is = t.moment_is;
     told = t.told;
-  }
+  })
 
   -- others had come before
-  told_then : Follow D g → (a b c : Hub D g) (es fs : List (HubEvent × Choice)) → Ran a b es → (d : Departure) → IsToldBefore s (run h es) b c fs d → IsToldBefore s h a c (es ++ fs) d
-  told_then follow a b c es fs ran d t = record {
+  pub all_before : Follow D g → (a b c : Hub D g) (es fs : List (HubEvent × Choice)) → Ran a b es → (ds : List Departure) → AllByRecursion (IsToldBefore s (run h es) b c fs) ds
+      → AllByRecursion (IsToldBefore s h a c (es ++ fs)) ds
+  all_before follow a b c es fs ran ds = all-each (IsToldBefore s (run h es) b c fs) (IsToldBefore s h a c (es ++ fs)) ds (λ d t. record {
     before = es ++ t.before;
     since = t.since;
     events_are = ap (λ l. es ++ l) t.events_are ∙ sym (append_assoc es t.before t.since);
@@ -64,16 +71,7 @@ module _ {D : Type 0} {g : Ghosts D} (s : ℕ) (h : HubState) where
     goes_on = t.goes_on;
     moment_is = t.moment_is;
     told = answered_then s h es t.before d.bytes t.told;
-  }
-
-  pub all_since : Follow D g → (a b c : Hub D g) (es fs : List (HubEvent × Choice)) → Ran b c fs → (ds : List Departure) → AllByRecursion (IsToldBefore s h a b es) ds → AllByRecursion (IsToldBefore s h a c (es ++ fs)) ds
-  all_since follow a b c es fs ran [] all = all
-  all_since follow a b c es fs ran (d ∷ ds) all = (told_since follow a b c es fs ran d all.0, all_since follow a b c es fs ran ds all.1)
-
-  pub all_before : Follow D g → (a b c : Hub D g) (es fs : List (HubEvent × Choice)) → Ran a b es → (ds : List Departure) → AllByRecursion (IsToldBefore s (run h es) b c fs) ds
-      → AllByRecursion (IsToldBefore s h a c (es ++ fs)) ds
-  all_before follow a b c es fs ran [] all = all
-  all_before follow a b c es fs ran (d ∷ ds) all = (told_then follow a b c es fs ran d all.0, all_before follow a b c es fs ran ds all.1)
+  })
 
   -- nothing left
   pub none_left : (a b : Hub D g) (es : List (HubEvent × Choice)) (before after : Traffic) → after.departed ≡ before.departed → AreToldBefore s h a b es before after
@@ -116,51 +114,46 @@ begins_all bytes pending sent taken took b is e = record {
 pub begins_through : (bytes mid all : List ℕ) → IsBeginning bytes mid → IsBeginning mid all → IsBeginning bytes all
 begins_through bytes mid all a b = record { rest = a.rest ++ b.rest; all_is = b.all_is ∙ ap (λ l. l ++ b.rest) a.all_is ∙ append_assoc bytes a.rest b.rest }
 
--- what was told to be sent was answered
-pub sent_answered : (s : ℕ) (h : HubState) (es : List (HubEvent × Choice)) (t : Traffic) → HasSent s h t → IsAnswered s h es t.taken
-sent_answered s h es t has = record {
-  by = [];
-  since = es;
-  events_are = refl;
-  stream = has.stream;
-  stream_is = has.stream_is;
-  answered = record { rest = has.stream.now.pending; all_is = ap (λ l. l ++ has.stream.now.pending) (sym has.taken) };
-}
+-- what the session was told to be sent by now, and what is pending, was answered
+answered_now : (s : ℕ) (h : HubState) (es : List (HubEvent × Choice)) (bytes : List ℕ) (st : SessionStream) → stream_of h s ≡ Some st → IsBeginning bytes (st.sent ++ st.now.pending) → IsAnswered s h es bytes
+answered_now s h es bytes st is begins = record { by = []; since = es; events_are = refl; stream = st; stream_is = is; answered = begins }
 
-module _ {D : Type 0} {g : Ghosts D} (s : ℕ) (tells : Type 0) where
+module _ {D : Type 0} {g : Ghosts D} {s : ℕ} {tells : Type 0} where
   -- the stream was not called
-  pub tells_still : (a b : Hub D g) (t : Traffic) (P : Point → Point → Type 0) → Leads a b P → LeadsTelling s tells a t b t P
-  tells_still a b t P p = record { leads = p; telling = λ _ h stands has. none_left s h a b p.choices t t refl; answered = λ _ h stands has. sent_answered s h p.choices t has }
+  pub tells_still : {a b : Hub D g} {t : Traffic} {P : Point → Point → Type 0} → Leads a b P → LeadsTelling s tells a t b t P
+  tells_still {a} {b} {t} p = record {
+    leads = p;
+    telling = λ _ h stands has. none_left s h a b p.choices t t refl;
+    answered = λ _ h stands has.
+        let begins : IsBeginning t.taken (has.stream.sent ++ has.stream.now.pending) = record { rest = has.stream.now.pending; all_is = ap (λ l. l ++ has.stream.now.pending) (sym has.taken) } in
+        answered_now s h p.choices t.taken has.stream has.stream_is begins;
+  }
 
-  pub tells_map : (a b : Hub D g) (t u : Traffic) (P Q : Point → Point → Type 0) → LeadsTelling s tells a t b u P → ((h k : Point) → StandsFor b k.hub → P h k → Q h k) → LeadsTelling s tells a t b u Q
-  tells_map a b t u P Q p f = record { leads = leads_map a b P Q p.leads f; telling = p.telling; answered = p.answered }
-
-  pub all_answered : (a b : Hub D g) (es : List (HubEvent × Choice)) (h : HubState) (took : List ℕ) → Ran a a [] → Ran a b es → (stream : SessionStream) → stream_of h s ≡ Some stream → IsBeginning took (stream.sent ++ stream.now.pending)
-      → (moment : ℕ) → moment ≡ g.moment (device a) → (ds : List Departure) → AllByRecursion (λ d. (d.moment ≡ moment) × IsBeginning d.bytes took) ds → AllByRecursion (IsToldBefore s h a b es) ds
-  all_answered a b es h took none ran stream is begins moment now [] all = all
-  all_answered a b es h took none ran stream is begins moment now (d ∷ ds) all = (
-    record {
-      before = [];
-      since = es;
-      events_are = refl;
-      hub = a;
-      came = none;
-      goes_on = ran;
-      moment_is = all.0.0 ∙ now;
-      told = record { by = []; since = []; events_are = refl; stream = stream; stream_is = is; answered = begins_through d.bytes took (stream.sent ++ stream.now.pending) all.0.1 begins };
-    },
-    all_answered a b es h took none ran stream is begins moment now ds all.1,
-  )
+  pub tells_map : {a b : Hub D g} {t u : Traffic} {P Q : Point → Point → Type 0} → LeadsTelling s tells a t b u P → ((h k : Point) → StandsFor b k.hub → P h k → Q h k) → LeadsTelling s tells a t b u Q
+  tells_map {a} {b} {t} {u} {P} {Q} p f = record { leads = leads_map a b P Q p.leads f; telling = p.telling; answered = p.answered }
 
   -- one call of the stream, which took no more than was pending
-  pub tells_call : (a b : Hub D g) (t u : Traffic) (P : Point → Point → Type 0) → NoneRuns a → Leads a b P → (moment : ℕ) → moment ≡ g.moment (device a) → (tells → DepartAt moment t u)
+  pub tells_call : {a b : Hub D g} {t u : Traffic} {P : Point → Point → Type 0} → NoneRuns a → Leads a b P → (moment : ℕ) → moment ≡ g.moment (device a) → (tells → DepartAt moment t u)
       → ((h : HubState) → StandsFor a h → tells → (bytes : List ℕ) × IsBeginning bytes (pending_at h s) × (u.taken ≡ t.taken ++ bytes)) → LeadsTelling s tells a t b u P
-  tells_call a b t u P none p moment now departs took = record {
+  tells_call {a} {b} {t} {u} none p moment now departs took = record {
     leads = p;
     telling = λ is h stands has.
         let d = departs is in
-        record { departures = d.departures; departed_are = d.departed_are; each = all_answered a b p.choices h u.taken none p.ran has.stream has.stream_is (begins is h stands has) moment now d.departures d.each };
-    answered = λ is h stands has. record { by = []; since = p.choices; events_are = refl; stream = has.stream; stream_is = has.stream_is; answered = begins is h stands has };
+        record {
+          departures = d.departures;
+          departed_are = d.departed_are;
+          each = all-each (λ d. (d.moment ≡ moment) × IsBeginning d.bytes u.taken) (IsToldBefore s h a b p.choices) d.departures (λ d left. record {
+            before = [];
+            since = p.choices;
+            events_are = refl;
+            hub = a;
+            came = none;
+            goes_on = p.ran;
+            moment_is = left.0 ∙ now;
+            told = answered_now s h [] d.bytes has.stream has.stream_is (begins_through d.bytes u.taken _ left.1 (begins is h stands has));
+          }) d.each;
+        };
+    answered = λ is h stands has. answered_now s h p.choices u.taken has.stream has.stream_is (begins is h stands has);
   }
     where
       begins : tells → (h : HubState) → StandsFor a h → (has : HasSent s h t) → IsBeginning u.taken (has.stream.sent ++ has.stream.now.pending)
@@ -169,9 +162,9 @@ module _ {D : Type 0} {g : Ghosts D} (s : ℕ) (tells : Type 0) where
           begins_all w.0 has.stream.now.pending has.stream.sent t.taken u.taken (subst (λ l. IsBeginning w.0 l) (ap pending_in has.stream_is) w.1) has.taken w.2
 
   -- with what the hub between stands for
-  pub tells_two_at : Follow D g → (a b c : Hub D g) (t u v : Traffic) (P Q R : Point → Point → Type 0) → LeadsTelling s tells a t b u P → LeadsTelling s tells b u c v Q
+  pub tells_two_at : Follow D g → {a b c : Hub D g} {t u v : Traffic} {P Q R : Point → Point → Type 0} → LeadsTelling s tells a t b u P → LeadsTelling s tells b u c v Q
       → ((h k : Point) → P h k → Carried s tells h t k u) → ((h k l : Point) → StandsFor b k.hub → StandsFor c l.hub → P h k → Q k l → R h l) → LeadsTelling s tells a t c v R
-  tells_two_at follow a b c t u v P Q R p q carried f = record {
+  tells_two_at follow {a} {b} {c} {t} {u} {v} {P} {Q} {R} p q carried f = record {
     leads = leads_two_at follow a b c P Q R p.leads q.leads f;
     telling = λ is h stands has.
         let mid = between is h stands has in
@@ -188,27 +181,21 @@ module _ {D : Type 0} {g : Ghosts D} (s : ℕ) (tells : Type 0) where
             subst (λ v. HasSent s v u) to.2.0.run_is (sent_after s tells (point_of a h) t to.0 u (carried (point_of a h) to.0 to.2.1) is has),
           )
 
-  pub tells_then : Follow D g → (a b c : Hub D g) (t u v : Traffic) (P Q R : Point → Point → Type 0) → LeadsTelling s tells a t b u P → LeadsTelling s tells b u c v Q
-      → ((h k : Point) → P h k → Carried s tells h t k u) → ((h k l : Point) → StandsFor c l.hub → P h k → Q k l → R h l) → LeadsTelling s tells a t c v R
-  tells_then follow a b c t u v P Q R p q carried f = tells_two_at follow a b c t u v P Q R p q carried (λ h k l was stands x y. f h k l stands x y)
-
-  pub tells_three : Follow D g → (a b c d : Hub D g) (t u v w : Traffic) (P Q R S : Point → Point → Type 0) → LeadsTelling s tells a t b u P
+  pub tells_three : Follow D g → {a b c d : Hub D g} {t u v w : Traffic} {P Q R S : Point → Point → Type 0} → LeadsTelling s tells a t b u P
       → LeadsTelling s tells b u c v Q → LeadsTelling s tells c v d w R
       → ((h k : Point) → P h k → Carried s tells h t k u) → ((k l : Point) → Q k l → Carried s tells k u l v)
       → ((h k l m : Point) → StandsFor c l.hub → P h k → Q k l → R l m → S h m) → LeadsTelling s tells a t d w S
-  tells_three follow a b c d t u v w P Q R S p q r one two f =
-      tells_two_at follow a c d t v w (λ h l. (k : Point) × StandsFor c l.hub × P h k × Q k l) R S
-      (tells_then follow a b c t u v P Q (λ h l. (k : Point) × StandsFor c l.hub × P h k × Q k l) p q one
-      (λ h k l stands x y. (k, stands, x, y))) r
-      (λ h l x. and_then s tells h t x.0 u l v (one h x.0 x.2) (two x.0 l x.3))
+  tells_three follow {a} {b} {c} {d} {t} {u} {v} {w} {P} {Q} p q r one two f =
+      tells_two_at follow (tells_two_at follow {R = λ h l. (k : Point) × StandsFor c l.hub × P h k × Q k l} p q one (λ h k l was stands x y. (k, stands, x, y))) r
+      (λ h l x. and_then (one h x.0 x.2) (two x.0 l x.3))
       (λ h l m stands last x z. f h x.0 l m x.1 x.2 x.3 z)
 
   -- and then an event of the hub
-  pub tells_step : Follow D g → (a b c : Hub D g) (t u : Traffic) (P R : Point → Point → Type 0) (e : HubEvent) (outcome : Outcome) → LeadsTelling s tells a t b u P → HubLeads b c e outcome → RunsAlone b c e
+  pub tells_step : Follow D g → {a b c : Hub D g} {t u : Traffic} {P R : Point → Point → Type 0} {e : HubEvent} {outcome : Outcome} → LeadsTelling s tells a t b u P → HubLeads b c e outcome → RunsAlone b c e
       → failures b ≤ failures c → ((h k : Point) → P h k → Carried s tells h t k u)
       → ((h k : Point) (choice : Choice) → Happens k e choice (failures c) → outcome ≡ (hub_step k.hub e choice).1 → StandsFor c (hub_step k.hub e choice).0 → P h k → R h (point_after k e choice (failures c)))
       → LeadsTelling s tells a t c u R
-  tells_step follow a b c t u P R e outcome p q alone counted carried f =
-      tells_two_at follow a b c t u u P (λ k l. (h : Point) → P h k → R h l) R p
-      (tells_still b c u (λ k l. (h : Point) → P h k → R h l) (leads_event b c (λ k l. (h : Point) → P h k → R h l) e outcome q alone counted (λ k at happens is stands h x. f h k q.0 happens is stands x))) carried
+  tells_step follow {a} {b} {c} {t} {u} {P} {R} {e} {outcome} p q alone counted carried f =
+      tells_two_at follow p
+      (tells_still (leads_event b c (λ k l. (h : Point) → P h k → R h l) e outcome q alone counted (λ k at happens is stands h x. f h k q.0 happens is stands x))) carried
       (λ h k l was stands x y. y h x)

@@ -9,42 +9,25 @@ use Rattle.sessions.specs.declared.events.Status.{Status}
 use Rattle.sessions.specs.declared.events.Status.TheVariants.{Open}
 use Rattle.sessions.specs.declared.events.Outcome.{Outcome}
 use Rattle.engine.specs.Meaning.{has_risen}
-use Rattle.sector.specs.declared.device.Sectors.{Ghosts}
-use Rattle.sessions.specs.declared.hub.Hub.{Hub}
 use Rattle.sessions.specs.SessionStreams.{HubState, SessionState, HubEvent, Choice, hub_step, SessionStream, stream_of}
 use Rattle.sessions.specs.StandsFor.{StandsFor, HubLeads, status_in, room_in, pending_in, failures}
 use Rattle.sessions.specs.Laws.{HasRun, NoneRuns, Ran, RunsAlone}
 use Rattle.sessions.proofs.EventSteps.{lookup-at_hand}
 use Rattle.sessions.proofs.Reached.{reached}
-use Rattle.stream_driver.specs.Sessions.{InSomeState, Point, StandsAt, Leads, IsPresentIn, status_at, pending_at, room_at}
-use Rattle.stream_driver.proofs.Events.{Happens, adds_none, point_after}
+use Rattle.stream_driver.specs.Sessions.{Ghosts, Hub, InSomeState, Point, StandsAt, Leads, IsPresentIn, status_at, pending_at, room_at}
+use Rattle.stream_driver.proofs.Events.{Happens, adds_none, point_after, test}
 use Rattle.stream_driver.proofs.Carry.{adds_then}
-use Rattle.stream_driver.proofs.Lookups.{test}
 
-alike : {D : Type 0} {g : Ghosts D} (hub : Hub D g) (h k : HubState) (s : ℕ) → StandsFor hub h → StandsFor hub k → option_map (λ st. st.now) (stream_of h s) ≡ option_map (λ st. st.now) (stream_of k s)
-alike hub h k s p q = sym (lookup-at_hand s h.present) ∙ ap (lookup (test s)) (sym p.sessions ∙ q.sessions) ∙ lookup-at_hand s k.present
+abbrev Agree : Option SessionStream → Option SessionStream → Type 0
+Agree o p = (status_in o ≡ status_in p) × (pending_in o ≡ pending_in p) × (room_in o ≡ room_in p)
 
-status_alike : (o p : Option SessionStream) → option_map (λ st. st.now) o ≡ option_map (λ st. st.now) p → status_in o ≡ status_in p
-status_alike None None e = refl
-status_alike None (Some q) e = absurd (cc)
-status_alike (Some p) None e = absurd (cc)
-status_alike (Some p) (Some q) e = cc
+agree : (o p : Option SessionStream) → option_map (λ st. st.now) o ≡ option_map (λ st. st.now) p → Agree o p
+agree None None e = (refl, refl, refl)
+agree (Some p) (Some q) e = let same : p.now ≡ q.now = cc in (cc, cc, ap (λ (n : SessionState). inbox_max - length n.inbox) same)
+agree _ _ e = absurd (cc)
 
-pending_alike : (o p : Option SessionStream) → option_map (λ st. st.now) o ≡ option_map (λ st. st.now) p → pending_in o ≡ pending_in p
-pending_alike None None e = refl
-pending_alike None (Some q) e = absurd (cc)
-pending_alike (Some p) None e = absurd (cc)
-pending_alike (Some p) (Some q) e = cc
-
-room_alike : (o p : Option SessionStream) → option_map (λ st. st.now) o ≡ option_map (λ st. st.now) p → room_in o ≡ room_in p
-room_alike None None e = refl
-room_alike None (Some q) e = absurd (cc)
-room_alike (Some p) None e = absurd (cc)
-room_alike (Some p) (Some q) e = ap (λ o. room_of o) e
-  where
-    room_of : Option SessionState → ℕ
-    room_of None = 0
-    room_of (Some n) = inbox_max - length n.inbox
+alike : {D : Type 0} {g : Ghosts D} (hub : Hub D g) (h k : HubState) (s : ℕ) → StandsFor hub h → StandsFor hub k → Agree (stream_of h s) (stream_of k s)
+alike hub h k s p q = agree _ _ (sym (lookup-at_hand s h.present) ∙ ap (lookup (test s)) (sym p.sessions ∙ q.sessions) ∙ lookup-at_hand s k.present)
 
 stable_open : (v : Status) → ((v ≡ Open → ⊥) → ⊥) → v ≡ Open
 stable_open Open f = refl
@@ -54,21 +37,18 @@ stable_nil : (xs : List ℕ) → ((xs ≡ [] → ⊥) → ⊥) → xs ≡ []
 stable_nil [] f = refl
 stable_nil (x ∷ xs) f = absurd (f (λ e. cc))
 
-never : IsProp ⊥
-never = λ x y. absurd x
-
 module _ {D : Type 0} {g : Ghosts D} (hub : Hub D g) (s : ℕ) (h : HubState) (stands : StandsFor hub h) where
   pub present_at : (P : HubState → Type 0) → InSomeState hub P → ((k : HubState) → P k → IsPresentIn k s) → IsPresentIn h s
-  present_at P some f = λ gone. ∥∥₁_elim some never (λ w. f w.0 w.2 (status_alike (stream_of w.0 s) (stream_of h s) (alike hub w.0 h s w.1 stands) ∙ gone))
+  present_at P some f = λ gone. ∥∥₁_elim some (hlevel) (λ w. f w.0 w.2 ((alike hub w.0 h s w.1 stands).0 ∙ gone))
 
   pub open_at : (P : HubState → Type 0) → InSomeState hub P → ((k : HubState) → P k → status_at k s ≡ Open) → status_at h s ≡ Open
-  open_at P some f = stable_open (status_at h s) (λ closed. ∥∥₁_elim some never (λ w. closed (status_alike (stream_of h s) (stream_of w.0 s) (alike hub h w.0 s stands w.1) ∙ f w.0 w.2)))
+  open_at P some f = stable_open (status_at h s) (λ closed. ∥∥₁_elim some (hlevel) (λ w. closed ((alike hub h w.0 s stands w.1).0 ∙ f w.0 w.2)))
 
   pub nothing_at : (P : HubState → Type 0) → InSomeState hub P → ((k : HubState) → P k → pending_at k s ≡ []) → pending_at h s ≡ []
-  nothing_at P some f = stable_nil (pending_at h s) (λ other. ∥∥₁_elim some never (λ w. other (pending_alike (stream_of h s) (stream_of w.0 s) (alike hub h w.0 s stands w.1) ∙ f w.0 w.2)))
+  nothing_at P some f = stable_nil (pending_at h s) (λ other. ∥∥₁_elim some (hlevel) (λ w. other ((alike hub h w.0 s stands w.1).1 ∙ f w.0 w.2)))
 
   pub room_seen : (P : HubState → Type 0) (n : ℕ) → InSomeState hub P → ((k : HubState) → P k → n ≤ room_at k s) → n ≤ room_at h s
-  room_seen P n some f = ∥∥₁_elim some le_prop (λ w. subst (λ r. n ≤ r) (room_alike (stream_of w.0 s) (stream_of h s) (alike hub w.0 h s w.1 stands)) (f w.0 w.2))
+  room_seen P n some f = ∥∥₁_elim some le_prop (λ w. subst (λ r. n ≤ r) (alike hub w.0 h s w.1 stands).2 (f w.0 w.2))
 
 -- ---- from hub to hub
 
@@ -127,5 +107,9 @@ pub some_after : {D : Type 0} {g : Ghosts D} (a b : Hub D g) (P : HubState → T
 some_after a b P Q R some q f = ∥∥₁_map some (λ w. let h = point_of a w.0 in let k = q.to h (at_point a w.0 w.1) in (k.0.hub, k.1.state, f h k.0 w.2 k.2.1))
 
 -- what holds of numbers in some state holds
-pub le_after : {D : Type 0} {g : Ghosts D} (a b : Hub D g) (P : HubState → Type 0) (Q : Point → Point → Type 0) (m n : ℕ) → InSomeState a P → Leads a b Q → ((h k : Point) → Q h k → m ≤ n) → m ≤ n
-le_after a b P Q m n some q f = ∥∥₁_elim some le_prop (λ w. let h = point_of a w.0 in let k = q.to h (at_point a w.0 w.1) in f h k.0 k.2.1)
+pub le_after_one : {D : Type 0} {g : Ghosts D} {a b : Hub D g} {P : HubState → Type 0} {Q : Point → Point → Type 0} {m n : ℕ} → InSomeState a P → Leads a b Q → ((h k : Point) → Q h k → m ≤ n) → m ≤ n
+le_after_one {D} {g} {a} some q f = ∥∥₁_elim some le_prop (λ w. let h = point_of a w.0 in let k = q.to h (at_point a w.0 w.1) in f h k.0 k.2.1)
+
+pub le_after : {D : Type 0} {g : Ghosts D} → Follow D g → {a b c : Hub D g} {P : HubState → Type 0} {Q R : Point → Point → Type 0} {m n : ℕ} → InSomeState a P → Leads a b Q → Leads b c R
+    → ((h k l : Point) → StandsFor c l.hub → Q h k → R k l → m ≤ n) → m ≤ n
+le_after follow {a} {b} {c} {P} {Q} {R} {m} {n} some q r f = le_after_one some (leads_then follow a b c Q R (λ h l. m ≤ n) q r f) (λ h l le. le)

@@ -1,43 +1,16 @@
 -- A stream that holds what it has taken, before another one.
 use Rattle.std.specs.Prelude.{◌≡◌, ◌⊎◌, ◌-◌, ◌<◌, ◌≤◌, ◌++◌, ◌||◌, ◌≢◌, ◌↔◌, ℕ, Bool, true, false, List, [], ◌∷◌, take, drop, length, vec_len}
-use Rattle.stream_driver.specs.declared.answers.Call.{Call}
-use Rattle.stream_driver.specs.declared.answers.Call.TheVariants.{Read, Write}
-use Rattle.stream_driver.specs.declared.answers.ReadAnswer.{ReadAnswer}
-use Rattle.stream_driver.specs.declared.answers.ReadAnswer.TheVariants.{Moved, Blocked, Failed, Ended}
-use Rattle.stream_driver.specs.declared.answers.WriteAnswer.{WriteAnswer}
-use Rattle.stream_driver.specs.declared.answers.WriteAnswer.TheVariants.{Moved as Wrote, Blocked as WriteBlocked, Failed as WriteFailed}
-use Rattle.stream_driver.specs.declared.held.Held.{Held}
-use Rattle.stream_driver.specs.declared.buffered.Counts.{Counts}
-use Rattle.stream_driver.specs.declared.buffered.Flushed.{Flushed}
-use Rattle.stream_driver.specs.declared.buffered.Flushed.TheVariants.{All, Blocked as FlushBlocked, Failed as FlushFailed}
-use Rattle.stream_driver.specs.declared.buffered.BufferedStream.{BufferedStream}
+use Rattle.stream_driver.specs.Types.{Call, Read, Write, ReadAnswer, Moved, Blocked, Failed, Ended, WriteAnswer, Wrote, WriteBlocked, WriteFailed, HeldBytes, Flushed, All, FlushedBlocked as FlushBlocked, FlushedFailed as FlushFailed, BufferedStream}
+use Rattle.stream_driver.specs.Counts.{counted, counted_with}
 use Rattle.stream_driver.specs.Traffic.{AllMoved, Departure, DepartAt, EndsWith, Traffic, ReadsWithin, WritesWithin, bytes_read, bytes_written, untouched}
 
 -- the bytes that are held
-abbrev pub held_in : Held → List ℕ
+abbrev pub held_in : HeldBytes → List ℕ
 held_in h = drop h.left h.bytes.items
 
 -- for how many more there is room
-abbrev pub room_in : Held → ℕ
+abbrev pub room_in : HeldBytes → ℕ
 room_in h = 16384 - vec_len h.bytes
-
--- counts and the last call, with the bytes that went each way, what has left, and the number of the connection
-abbrev pub counted_with : Counts → List ℕ → List ℕ → List Departure → ℕ → Traffic
-counted_with c given taken departed connection = record {
-  given = given;
-  taken = taken;
-  departed = departed;
-  read_blocked = c.read_blocked;
-  read_failed = c.read_failed;
-  read_ended = c.read_ended;
-  write_blocked = c.write_blocked;
-  write_failed = c.write_failed;
-  last = c.last;
-  connection = connection;
-}
-
-abbrev pub counted : Counts → Traffic
-counted c = counted_with c [] [] [] 0
 
 -- nothing is held
 abbrev pub is_none : List ℕ → Bool

@@ -2,15 +2,7 @@
 use Rattle.std.specs.Prelude.{◌≡◌, ◌≢◌, ℕ, ◌+◌, ◌<◌, ◌≤◌, [], length}
 use Rattle.sessions.specs.declared.events.Status.TheVariants.{Open, Ending, Refused}
 use Rattle.sessions.specs.SessionStreams.{HubState}
-use Rattle.stream_driver.specs.declared.answers.Call.TheVariants.{Read, Write}
-use Rattle.stream_driver.specs.declared.answers.ReadAnswer.{ReadAnswer}
-use Rattle.stream_driver.specs.declared.answers.ReadAnswer.TheVariants.{Moved, Blocked, Failed, Ended}
-use Rattle.stream_driver.specs.declared.answers.WriteAnswer.{WriteAnswer}
-use Rattle.stream_driver.specs.declared.answers.WriteAnswer.TheVariants.{Moved as Wrote, Blocked as WriteBlocked, Failed as WriteFailed}
-use Rattle.stream_driver.specs.declared.driving.Flush.{Flush}
-use Rattle.stream_driver.specs.declared.driving.Flush.TheVariants.{Empty, Blocked as FlushBlocked, Failed as FlushFailed}
-use Rattle.stream_driver.specs.declared.driving.Exchange.{Exchange}
-use Rattle.stream_driver.specs.declared.driving.Exchange.TheVariants.{Served, Broke, Starved, Blocked as ExchangeBlocked, Failed as ExchangeFailed, Ended as ExchangeEnded}
+use Rattle.stream_driver.specs.Types.{Read, Write, ReadAnswer, Moved, Blocked, Failed, Ended, WriteAnswer, Wrote, WriteBlocked, WriteFailed, Flush, Empty, FlushBlocked, FlushFailed, Exchange, Served, Broke, Starved, ExchangeBlocked, ExchangeFailed, ExchangeEnded}
 use Rattle.stream_driver.specs.Traffic.{Traffic, AllMoved, EndsWith}
 use Rattle.stream_driver.specs.Sessions.{Point, status_at, room_at, pending_at, AwaitsMore}
 use Rattle.stream_driver.specs.Drives.{Carried, ComeWithin}
@@ -95,12 +87,12 @@ pub record ReadSoFar (s : ℕ) (tells : Type 0) (old : Point) (before : Traffic)
 -- between two requests
 pub record DrivenSoFar (s : ℕ) (tells : Type 0) (old : Point) (before : Traffic) (new : Point) (after : Traffic) (served : ℕ) : Type 0 where
   pub carried : Carried s tells old before new after
-  pub moved : AllMoved before after
   pub few : served_in carried ≤ served
-  pub served_is : status_at new.hub s ≡ Open → served_in carried ≡ served
   pub bounded : ComeWithin (length (pending_at old.hub s)) carried.runs.history.replies
 
 -- and so many bytes were sent
 pub record DrivenOut (s : ℕ) (tells : Type 0) (old : Point) (before : Traffic) (new : Point) (after : Traffic) (served sent : ℕ) : Type 0 where
   pub driven : DrivenSoFar s tells old before new after served
+  pub moved : AllMoved before after
+  pub served_is : status_at new.hub s ≡ Open → served_in driven.carried ≡ served
   pub out : sent ≡ length driven.carried.runs.history.sent

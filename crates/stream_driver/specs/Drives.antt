@@ -5,11 +5,7 @@ use Rattle.model.specs.ReplyText.{reply_text}
 use Rattle.sessions.specs.declared.events.Status.TheVariants.{Open, Ending, Refused}
 use Rattle.engine.specs.Meaning.{has_risen}
 use Rattle.sessions.specs.SessionStreams.{HubState, Leaves, Choice}
-use Rattle.stream_driver.specs.declared.answers.Call.TheVariants.{Read, Write}
-use Rattle.stream_driver.specs.declared.answers.ReadAnswer.TheVariants.{Blocked as ReadBlocked, Failed as ReadFailed, Ended as ReadEnded}
-use Rattle.stream_driver.specs.declared.answers.WriteAnswer.TheVariants.{Blocked as WriteBlocked, Failed as WriteFailed}
-use Rattle.stream_driver.specs.declared.answers.Progress.{Progress}
-use Rattle.stream_driver.specs.declared.answers.Progress.TheVariants.{Waiting, Again, Gone}
+use Rattle.stream_driver.specs.Types.{Read, Write, Blocked as ReadBlocked, Failed as ReadFailed, Ended as ReadEnded, WriteBlocked, WriteFailed, Progress, Waiting, Again, Gone}
 use Rattle.stream_driver.specs.Traffic.{Traffic, AllMoved, EndsWith}
 use Rattle.stream_driver.specs.Sessions.{Adds, Point, Runs, AwaitsMore, ComeInTurn, status_at, pending_at}
 

@@ -1,17 +1,10 @@
 -- What a turn over the table of connections does.
 use Rattle.std.specs.Prelude.{◌≡◌, ◌≢◌, ℕ, ◌&&◌, Bool, true, false, List, [], ◌∷◌, Option, Some, None, slice_index_or, take, drop, length}
-use Rattle.sector.specs.declared.device.Sectors.{Ghosts}
-use Rattle.sessions.specs.declared.hub.Hub.{Hub}
-use Rattle.stream_driver.specs.declared.answers.Progress.{Progress}
-use Rattle.stream_driver.specs.declared.answers.Progress.TheVariants.{Waiting, Again, Gone}
-use Rattle.stream_driver.specs.declared.entries.EntryState.{EntryState}
-use Rattle.stream_driver.specs.declared.entries.EntryState.TheVariants.{Idle, Ready, Gone as EntryGone}
-use Rattle.stream_driver.specs.declared.entries.Entry.{Entry}
-use Rattle.stream_driver.specs.declared.buffered.BufferedStream.{BufferedStream}
+use Rattle.stream_driver.specs.Types.{Progress, Waiting, Again, Gone, EntryState, Idle, Ready, EntryGone, Entry, BufferedStream}
 use Rattle.stream_driver.specs.Traffic.{Traffic}
 use Rattle.stream_driver.specs.Buffers.{Finishes, fresh, is_settled}
 use Rattle.stream_driver.specs.Sends.{DrivesTelling}
-use Rattle.stream_driver.specs.Sessions.{IsPresent, Point}
+use Rattle.stream_driver.specs.Sessions.{Ghosts, Hub, IsPresent, Point}
 use Rattle.stream_driver.specs.Drives.{Drove}
 
 -- what an entry is after its drive

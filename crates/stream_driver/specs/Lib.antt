@@ -1,4 +1,6 @@
+pub mod Types
 pub mod Traffic
+pub mod Counts
 pub mod Buffers
 pub mod Sessions
 pub mod Drives

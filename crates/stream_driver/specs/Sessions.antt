@@ -8,9 +8,9 @@ use Rattle.model.specs.Grammar.{IsProperBeginning}
 use Rattle.model.specs.ReplyText.{reply_text}
 use Rattle.sessions.specs.declared.events.Status.{Status}
 use Rattle.sessions.specs.declared.events.Status.TheVariants.{Absent, Open}
-use Rattle.sector.specs.declared.device.Sectors.{Ghosts}
+pub use Rattle.sector.specs.declared.device.Sectors.{Ghosts}
 use Rattle.engine.specs.Meaning.{has_risen}
-use Rattle.sessions.specs.declared.hub.Hub.{Hub}
+pub use Rattle.sessions.specs.declared.hub.Hub.{Hub}
 use Rattle.sessions.specs.SessionStreams.{HubState, SessionStream, HubEvent, Joins, Receives, Serves, Sends, Leaves, Choice, ArePossible, hub_step, run, stream_of}
 use Rattle.sessions.specs.StandsFor.{StandsFor, status_in, room_in, pending_in, failures}
 use Rattle.sessions.specs.Laws.{HasRun, Ran, failures_in}

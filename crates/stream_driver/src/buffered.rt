@@ -1,7 +1,8 @@
 //! A stream that holds what it has taken until there is more.
 
 use crate::answers::{Call, ReadAnswer, WriteAnswer};
-use crate::held::{HELD_MAX, Held};
+use crate::counts::CallCounts;
+use crate::held_bytes::{HELD_MAX, HeldBytes};
 use crate::stream::Stream;
 use sector::Sectors;
 use std::alloc::{AllocError, Global};
@@ -17,62 +18,6 @@ pub enum Flushed {
     Failed,
 }
 
-// How often each answer but `Moved` was given, and the last call with its answer.
-#[derive(Clone, Copy, PartialEq, Debug)]
-struct Counts {
-    read_blocked: u64,
-    read_failed: u64,
-    read_ended: u64,
-    write_blocked: u64,
-    write_failed: u64,
-    last: Option<Call>,
-}
-
-impl Counts {
-    ghost use Rattle.std.specs.Prelude.{◌≡◌};
-    ghost use Rattle.stream_driver.specs.Traffic.{EndsWith, untouched};
-    ghost use Rattle.stream_driver.specs.Buffers.{counted};
-
-    // Of no call.
-    fn new() -> Counts
-        ensures { counted result ≡ untouched }
-    {
-        Counts {
-            read_blocked: 0,
-            read_failed: 0,
-            read_ended: 0,
-            write_blocked: 0,
-            write_failed: 0,
-            last: None,
-        }
-    }
-
-    // One more read, with this answer.
-    fn note_read(&mut self, answer: ReadAnswer)
-        ensures { EndsWith (Call.Read answer) (counted self.old) (counted self.new) }
-    {
-        match answer {
-            ReadAnswer::Moved(_) => {}
-            ReadAnswer::Blocked => self.read_blocked = self.read_blocked.saturating_add(1),
-            ReadAnswer::Failed => self.read_failed = self.read_failed.saturating_add(1),
-            ReadAnswer::Ended => self.read_ended = self.read_ended.saturating_add(1),
-        }
-        self.last = Some(Call::Read(answer));
-    }
-
-    // One more write, with this answer.
-    fn note_write(&mut self, answer: WriteAnswer)
-        ensures { EndsWith (Call.Write answer) (counted self.old) (counted self.new) }
-    {
-        match answer {
-            WriteAnswer::Moved(_) => {}
-            WriteAnswer::Blocked => self.write_blocked = self.write_blocked.saturating_add(1),
-            WriteAnswer::Failed => self.write_failed = self.write_failed.saturating_add(1),
-        }
-        self.last = Some(Call::Write(answer));
-    }
-}
-
 /// A stream before another one: it holds what it has taken, at most `HELD_MAX` bytes, and hands it on in one write once there is no room
 /// for more, before it reads, and where it is told to. So replies that were served together leave together. Where it holds nothing, a
 /// piece of `HELD_MAX` bytes or more goes straight to the stream behind it.
@@ -85,7 +30,7 @@ impl Counts {
 #[derive(Drop)]
 pub struct BufferedStream<S: Stream> {
     inner: S,
-    held: Held,
+    held: HeldBytes,
     /// The last write of what is held failed.
     has_failed: bool,
     /// The last read of this drive gave fewer bytes than it asked for.
@@ -94,7 +39,7 @@ pub struct BufferedStream<S: Stream> {
     is_drained: bool,
     /// A short read means nothing.
     reads_on: bool,
-    counts: Counts,
+    counts: CallCounts,
 }
 
 impl<S: Stream> BufferedStream<S> {
@@ -107,12 +52,12 @@ impl<S: Stream> BufferedStream<S> {
     {
         Ok(BufferedStream {
             inner,
-            held: Held::new(alloc)?,
+            held: HeldBytes::new(alloc)?,
             has_failed: false,
             is_short: false,
             is_drained: false,
             reads_on: false,
-            counts: Counts::new(),
+            counts: CallCounts::new(),
         })
     }
 

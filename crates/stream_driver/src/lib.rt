@@ -4,16 +4,18 @@
 
 mod answers;
 mod buffered;
+mod counts;
 mod driving;
 mod entries;
-mod held;
+mod held_bytes;
 mod laws;
 mod stream;
 
 pub use answers::{Call, Progress, ReadAnswer, WriteAnswer};
 pub use buffered::{BufferedStream, Flushed};
+pub use counts::CallCounts;
 pub use driving::{OUTPUT_MAX, READ_MAX, REQUESTS_MAX, drive};
 pub use entries::{Entry, EntryState, drive_ready, end_drive};
-pub use held::HELD_MAX;
+pub use held_bytes::HELD_MAX;
 pub use laws::leads_are_runs;
 pub use stream::Stream;

@@ -1,13 +1,14 @@
 //! Copies of a map into a log of its own, and crashes and failures at each device call of one.
 ghost use Rattle.std.specs.Prelude.{◌<◌, ◌^◌};
 
-use crate::log::helpers::{FILLS, Fill, Stopping, crashed, empty_log, has, put};
+use crate::log::helpers::{FILLS, Fill, crashed, empty_log, has, put};
 use crate::log::stated::{FIRST_BODY, SECOND_BODY};
 use commit_log::{Log, LogFault, copy_into, copy_sectors, read_map};
 use model::{Key, KeyRef, Map};
 use sector::MemSectors;
 use std::alloc::Global;
 use std::test::Fail;
+use test_devices::Stopping;
 
 /// The map of a to 1.
 fn one_key(alloc: Global) -> Result<Map, Fail> {

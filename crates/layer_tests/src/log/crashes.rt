@@ -1,11 +1,12 @@
 //! Crashes and failures at each device call.
 ghost use Rattle.std.specs.Prelude.{◌≡◌, IfOk, ◌≤◌, ◌<◌, ◌^◌};
 
-use crate::log::helpers::{FILLS, Fill, Stopping, crashed, empty_log, has, put};
+use crate::log::helpers::{FILLS, Fill, crashed, empty_log, has, put};
 use commit_log::{Log, LogFault};
 use sector::MemSectors;
 use std::alloc::Global;
 use std::test::Fail;
+use test_devices::Stopping;
 
 /// The device calls that open a log of one record: a sync, and reads of the head, a gate, a body and a gate.
 const OPENING: u64 = 5;

@@ -1,56 +1,29 @@
 -- Worked runs: what a transaction reads.
-use Rattle.std.proofs.Common.{◌≡◌, [], ◌∷◌, None, refl}
-use Rattle.model.specs.Operations.Response.{Done, Number, Value, Pairs}
-use Rattle.model.specs.Machine.{step}
-use Rattle.model.specs.Verdict.{verdict}
-use Rattle.model.proofs.Rows.Words.{begin, get, set, del, range, range_from, commit, value, pair, start, run}
+use Rattle.std.proofs.Common.{[], ◌∷◌, None, refl}
+use Rattle.model.specs.{Operations.Response.Done, Operations.Response.Number, Operations.Response.Value, Operations.Response.Pairs, Machine.step, Verdict.verdict}
+use Rattle.model.proofs.Rows.Words.{begin, get, set, del, range, range_from, commit, value, pair, ◌⇒◌, Plays}
 
-committed_write_is_seen : run start
-    (begin 1 ∷ set 1 "a" "1" ∷ commit 1 ∷
-    begin 2 ∷ get 2 "a" ∷ [])
-    ≡ Done ∷ Done ∷ Number 1 ∷
-    Done ∷ value "1" ∷ []
-unfolding step verdict
-committed_write_is_seen = refl
+committed_write_is_seen : Plays
+    (begin 1 ⇒ Done ∷ set 1 "a" "1" ⇒ Done ∷ commit 1 ⇒ Number 1 ∷ begin 2 ⇒ Done ∷ get 2 "a" ⇒ value "1" ∷ [])
+committed_write_is_seen = unfold step verdict in refl
 
-snapshot_is_kept : run start
-    (begin 1 ∷
-    begin 2 ∷ set 2 "a" "1" ∷ commit 2 ∷
-    get 1 "a" ∷ [])
-    ≡ Done ∷
-    Done ∷ Done ∷ Number 1 ∷
-    Value None ∷ []
-unfolding step verdict
-snapshot_is_kept = refl
+snapshot_is_kept : Plays
+    (begin 1 ⇒ Done ∷ begin 2 ⇒ Done ∷ set 2 "a" "1" ⇒ Done ∷ commit 2 ⇒ Number 1 ∷ get 1 "a" ⇒ Value None ∷ [])
+snapshot_is_kept = unfold step verdict in refl
 
-own_write_is_private : run start
-    (begin 1 ∷ set 1 "a" "1" ∷ get 1 "a" ∷
-    begin 2 ∷ get 2 "a" ∷ [])
-    ≡ Done ∷ Done ∷ value "1" ∷
-    Done ∷ Value None ∷ []
-unfolding step verdict
-own_write_is_private = refl
+own_write_is_private : Plays
+    (begin 1 ⇒ Done ∷ set 1 "a" "1" ⇒ Done ∷ get 1 "a" ⇒ value "1" ∷ begin 2 ⇒ Done ∷ get 2 "a" ⇒ Value None ∷ [])
+own_write_is_private = unfold step verdict in refl
 
-deleted_key : run start
-    (begin 9 ∷ set 9 "a" "1" ∷ commit 9 ∷
-    begin 1 ∷ del 1 "a" ∷ get 1 "a" ∷ range_from 1 "a" 9 ∷
-    begin 2 ∷ get 2 "a" ∷
-    commit 1 ∷
-    get 2 "a" ∷ commit 2 ∷ [])
-    ≡ Done ∷ Done ∷ Number 1 ∷
-    Done ∷ Done ∷ Value None ∷ Pairs [] ∷
-    Done ∷ value "1" ∷
-    Number 2 ∷
-    value "1" ∷ Number 3 ∷ []
-unfolding step verdict
-deleted_key = refl
+deleted_key : Plays
+    (begin 9 ⇒ Done ∷ set 9 "a" "1" ⇒ Done ∷ commit 9 ⇒ Number 1 ∷
+    begin 1 ⇒ Done ∷ del 1 "a" ⇒ Done ∷ get 1 "a" ⇒ Value None ∷ range_from 1 "a" 9 ⇒ Pairs [] ∷
+    begin 2 ⇒ Done ∷ get 2 "a" ⇒ value "1" ∷ commit 1 ⇒ Number 2 ∷ get 2 "a" ⇒ value "1" ∷ commit 2 ⇒ Number 3 ∷ [])
+deleted_key = unfold step verdict in refl
 
-range_over_own_writes : run start
-    (begin 9 ∷ set 9 "b" "1" ∷ set 9 "d" "1" ∷ commit 9 ∷
-    begin 1 ∷ set 1 "a" "2" ∷ del 1 "b" ∷ set 1 "d" "3" ∷ set 1 "e" "4" ∷
-    range_from 1 "a" 9 ∷ range_from 1 "a" 2 ∷ range 1 "b" "c" 5 ∷ [])
-    ≡ Done ∷ Done ∷ Done ∷ Number 1 ∷
-    Done ∷ Done ∷ Done ∷ Done ∷ Done ∷
-    Pairs (pair "a" "2" ∷ pair "d" "3" ∷ pair "e" "4" ∷ []) ∷ Pairs (pair "a" "2" ∷ pair "d" "3" ∷ []) ∷ Pairs [] ∷ []
-unfolding step verdict
-range_over_own_writes = refl
+range_over_own_writes : Plays
+    (begin 9 ⇒ Done ∷ set 9 "b" "1" ⇒ Done ∷ set 9 "d" "1" ⇒ Done ∷ commit 9 ⇒ Number 1 ∷
+    begin 1 ⇒ Done ∷ set 1 "a" "2" ⇒ Done ∷ del 1 "b" ⇒ Done ∷ set 1 "d" "3" ⇒ Done ∷ set 1 "e" "4" ⇒ Done ∷
+    range_from 1 "a" 9 ⇒ Pairs (pair "a" "2" ∷ pair "d" "3" ∷ pair "e" "4" ∷ []) ∷
+    range_from 1 "a" 2 ⇒ Pairs (pair "a" "2" ∷ pair "d" "3" ∷ []) ∷ range 1 "b" "c" 5 ⇒ Pairs [] ∷ [])
+range_over_own_writes = unfold step verdict in refl

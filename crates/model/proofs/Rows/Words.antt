@@ -1,13 +1,9 @@
 -- The words that the worked runs are written with.
 use Prim.Native.String.{String}
-use Rattle.std.proofs.Common.{ℕ, false, List, [], ◌∷◌, Some, None, map}
-use Rattle.std.specs.Prelude.{codes}
-use Rattle.model.specs.declared.refusals.Refusal.{Refusal}
-use Rattle.model.specs.Operations.{Operation, Response}
-use Rattle.model.specs.Operations.Operation.{Begin, Get, Set, Del, Range, Commit, Abort, Ping, Faulty}
-use Rattle.model.specs.Operations.Response.{Value}
-use Rattle.model.specs.History.{Record}
+use Rattle.std.proofs.Common.{◌≡◌, ℕ, false, List, [], ◌∷◌, Some, None, map, codes}
+use Rattle.model.specs.{declared.refusals.Refusal.Refusal, Operations.Response.Value, History.Record, SerialOrder.serial_order, Operations.Operation, Operations.Response}
 use Rattle.model.specs.Machine.{State, opened, step}
+use Rattle.model.specs.Operations.Operation.{Begin, Get, Set, Del, Range, Commit, Abort, Ping, Faulty}
 
 -- a request of a session
 abbrev pub Request : Type 0
@@ -66,10 +62,21 @@ abbrev pub after : State → List Request → State
 after st [] = st
 after st (q ∷ qs) = after (step st q.0 q.1 false).0 qs
 
--- the begin numbers of records
-abbrev pub begin_numbers : List Record → List ℕ
-begin_numbers rs = map (λ r. r.begin) rs
+-- a request, and the response that it gets
+abbrev pub Exchange : Type 0
+Exchange = Request × Response
 
--- the commit numbers of records
-abbrev pub commits : List Record → List ℕ
-commits rs = map (λ r. r.commit) rs
+infix 90 ◌⇒◌
+abbrev pub ◌⇒◌ : Request → Response → Exchange
+q ⇒ r = (q, r)
+
+-- the opened machine answers the requests so
+abbrev pub Plays : List Exchange → Type 0
+Plays es = run start (map (λ e. e.0) es) ≡ map (λ e. e.1) es
+
+abbrev pub history_after : List Exchange → List Record
+history_after es = (after start (map (λ e. e.0) es)).history
+
+-- and these are the commit numbers by the serial order
+abbrev pub PlaysInOrder : List Exchange → List ℕ → Type 0
+PlaysInOrder es order = Plays es × (map (λ r. r.commit) (serial_order (history_after es)) ≡ order)

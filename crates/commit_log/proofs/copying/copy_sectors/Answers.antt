@@ -1,10 +1,10 @@
-use Rattle.std.proofs.Common.{◌<◌, ◌+◌, ◌^◌, ◌∙◌, ℕ, Option, Some, None, length, arith, ap, min, length-drop}
+use Rattle.std.proofs.Common.{◌<◌, ◌+◌, ◌^◌, ◌∙◌, ℕ, Option, Some, None, length, arith, ap, sym, subst, min, length-drop}
 use Rattle.std.specs.Prelude.{IfNone}
-use Rattle.model.specs.Map.{KeyMap}
+use Rattle.model.specs.Map.{KeyMap, IsInBounds}
 use Rattle.commit_log.specs.LogImage.{span}
 use Rattle.commit_log.specs.Copying.{write_sets_of}
-use Rattle.commit_log.proofs.Putting.{bounds_behind, no_sets, length-write_sets, write_sets_give}
-use Rattle.commit_log.proofs.NextSets.{next_set_of}
+use Rattle.commit_log.proofs.Putting.{bounds_drop, no_sets, length-write_sets, write_sets_give}
+use Rattle.commit_log.proofs.CopyProtocol.{next_set_of}
 use Rattle.commit_log.proofs.copying.copy_sectors.Goals as goal
 
 if_none : {A : Type 0} (r : Option A) (P : Type 0) → P → IfNone r P
@@ -23,13 +23,9 @@ loop-left-preserved c =
     let rest = c.next_payload_len-len.ensures.rest in
     record {
       left = omega (arith, c.loop-left.invariant.left, ap length rest, length-drop c.min-count.result c.loop-left.pairs);
-      in_bounds = bounds_behind c.min-count.result c.loop-left.pairs c.next_payload_len-len.new.pairs rest c.loop-left.invariant.in_bounds;
+      in_bounds = subst IsInBounds (sym rest) (bounds_drop c.min-count.result c.loop-left.pairs c.loop-left.invariant.in_bounds);
       sectors = omega (arith, c.in_ok-sectors.ensures.1, next.span_is, c.sectors_for.ensures, c.loop-left.invariant.sectors, ap (λ (l : KeyMap). span (write_sets_of l)) rest);
     }
-
-pub returns-clause-some : goal.returns-clause-some
-returns-clause-some c =
-    omega (arith, c.loop-left.invariant.sectors, ap span (no_sets c.loop-left.pairs (omega (arith, c.loop-left.invariant.left, c.loop-left-test.false))))
 
 pub returns-in_err-sectors-clause-lists : goal.returns-in_err-sectors-clause-lists
 returns-in_err-sectors-clause-lists c = length-write_sets c.args.map.now
@@ -37,8 +33,10 @@ returns-in_err-sectors-clause-lists c = length-write_sets c.args.map.now
 pub returns-in_err-sectors-clause-gives : goal.returns-in_err-sectors-clause-gives
 returns-in_err-sectors-clause-gives c = write_sets_give c.args.map.now c.len-left.ensures.is_map
 
-pub returns-clause-lists : goal.returns-clause-lists
-returns-clause-lists c = length-write_sets c.args.map.now
-
-pub returns-clause-gives : goal.returns-clause-gives
-returns-clause-gives c = write_sets_give c.args.map.now c.len-left.ensures.is_map
+pub returns : goal.returns
+returns c = record {
+  some = omega (arith, c.loop-left.invariant.sectors, ap span (no_sets c.loop-left.pairs (omega (arith, c.loop-left.invariant.left, c.loop-left-test.false))));
+  none = tt;
+  lists = length-write_sets c.args.map.now;
+  gives = write_sets_give c.args.map.now c.len-left.ensures.is_map;
+}

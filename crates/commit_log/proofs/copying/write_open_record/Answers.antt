@@ -1,20 +1,17 @@
-use Rattle.std.proofs.Common.{◌∙◌, ◌/◌, ◌+◌, length, inl, arith, Result, Ok, Err}
-use Rattle.std.specs.Prelude.{OnOk}
+use Rattle.std.proofs.Common.{◌∙◌, ◌/◌, ◌+◌, length, inl, arith}
+use Rattle.std.proofs.lemmas.Result.{on_ok_weaker}
 use Rattle.commit_log.specs.RecordFormat.{open_gate}
-use Rattle.commit_log.proofs.CopiedSectors.{reads_record}
+use Rattle.commit_log.proofs.Records.{reads_record}
 use Rattle.commit_log.proofs.CopyProtocol.{nothing_yet, sectors_written, one_write, many_writes}
 use Rattle.commit_log.proofs.copying.write_open_record.Goals as goal
 
-on_ok : {T E : Type 0} (r : Result T E) (A B : Type 0) → OnOk r A → (A → B) → OnOk r B
-on_ok (Ok x) A B a f = f a
-on_ok (Err e) A B a f = tt
-
 pub returns-clause-written : goal.returns-clause-written
 returns-clause-written g c keeps =
-    on_ok c.write_sectors.result _ _ (c.write_sectors.ensures.written keeps) (λ body.
-    reads_record (g.D.Sectors.may_read c.write.new.self) (g.D.Sectors.may_read c.write_sectors.new.self) c.args.gate (length c.args.body.now / 512) open_gate c.args.body.now
+    on_ok_weaker c.write_sectors.result
+    (reads_record (g.D.Sectors.may_read c.write.new.self) (g.D.Sectors.may_read c.write_sectors.new.self) c.args.gate (length c.args.body.now / 512) open_gate c.args.body.now
     (λ s read. c.in_ok-write.ensures.written keeps s read ∙ c.open_gate.ensures)
-    (λ i s lt read. c.write_sectors.ensures.others keeps i s (inl lt) read) body)
+    (λ i s lt read. c.write_sectors.ensures.others keeps i s (inl lt) read))
+    (c.write_sectors.ensures.written keeps)
 
 pub returns-in_err-write-clause-alone : goal.returns-in_err-write-clause-alone
 returns-in_err-write-clause-alone g c keeps =

@@ -1,7 +1,7 @@
 use Rattle.std.proofs.Common.{◌≡◌, ◌≤◌, ◌*◌, length, vec_capacity}
 use Rattle.model.specs.Bounds.{value_max, body_bound}
 use Rattle.model.specs.Map.{IsInBounds}
-use Rattle.commit_log.proofs.CopyRuns.{Copied}
+use Rattle.commit_log.proofs.CopyProtocol.{Copied}
 use Rattle.commit_log.proofs.copying.write_records.Given as goal
 
 abbrev pub invariant-loop-left : goal.invariant-loop-left

@@ -1,20 +1,16 @@
-use Rattle.std.proofs.Common.{◌≡◌, ◌∙◌, ◌-◌, List, ℕ, ap, sym, length}
-use Rattle.std.specs.declared.cmp.Ordering.TheVariants.{Less}
+use Rattle.std.proofs.Common.{◌∙◌, ◌-◌, List, ℕ, ap, sym, length, arith}
+use Rattle.std.proofs.lemmas.Option.{get_or_from_slice_get, slice_get_within}
 use Rattle.model.specs.Map.{KeyWrite, key_cmp}
-use Rattle.commit_log.proofs.Rising.{less_if, less_unless, last_write, rising_push}
+use Rattle.commit_log.proofs.Parsing.{less_if, less_unless, rising_push}
 use Rattle.commit_log.proofs.decode.rises.Goals as goal
 
-pub returns-in-Some-clause-yes : goal.returns-in-Some-clause-yes
-returns-in-Some-clause-yes c is =
-    let order : c.compare.result ≡ key_cmp c.in-Some.last.now.0 c.args.write.now.0 =
-    c.compare.ensures ∙ ap (λ (k : List ℕ). key_cmp c.in-Some.last.now.0 k) (c.bytes.ensures.bytes ∙ c.lend_key.ensures) in
-    let below : key_cmp c.in-Some.last.now.0 c.args.write.now.0 ≡ Less = sym order ∙ less_if c.compare.result (sym c.eq.ensures ∙ is) in
-    let last = last_write c.args.writes.now (length c.args.writes.now - 1) c.in-Some.last.now c.in-Some.ensures.value in
-    rising_push c.args.writes.now c.args.write.now (λ d. ap (λ (w : KeyWrite). key_cmp w.0 c.args.write.now.0) (last d) ∙ below)
-
-pub returns-in-Some-clause-falls : goal.returns-in-Some-clause-falls
-returns-in-Some-clause-falls c is d below =
-    let order : c.compare.result ≡ key_cmp c.in-Some.last.now.0 c.args.write.now.0 =
-    c.compare.ensures ∙ ap (λ (k : List ℕ). key_cmp c.in-Some.last.now.0 k) (c.bytes.ensures.bytes ∙ c.lend_key.ensures) in
-    let last = last_write c.args.writes.now (length c.args.writes.now - 1) c.in-Some.last.now c.in-Some.ensures.value in
-    less_unless c.compare.result (sym c.eq.ensures ∙ is) (order ∙ sym (ap (λ (w : KeyWrite). key_cmp w.0 c.args.write.now.0) (last d)) ∙ below)
+pub returns-in-Some : goal.returns-in-Some
+returns-in-Some c =
+    let order = c.compare.ensures ∙ ap (λ (k : List ℕ). key_cmp c.in-Some.last.now.0 k) (c.bytes.ensures.bytes ∙ c.lend_key.ensures) in
+    let there = sym c.in-Some.ensures.value in
+    let last = λ (d : KeyWrite). ap (λ (w : KeyWrite). key_cmp w.0 c.args.write.now.0) (get_or_from_slice_get c.args.writes.now (length c.args.writes.now - 1) c.in-Some.last.now d there) in
+    record {
+      yes = λ is. rising_push c.args.writes.now c.args.write.now (λ d. last d ∙ sym order ∙ less_if c.compare.result (sym c.eq.ensures ∙ is));
+      some = λ is. (let inside = slice_get_within c.args.writes.now (length c.args.writes.now - 1) c.in-Some.last.now there in omega arith);
+      falls = λ is d below. less_unless c.compare.result (sym c.eq.ensures ∙ is) (order ∙ sym (last d) ∙ below);
+    }

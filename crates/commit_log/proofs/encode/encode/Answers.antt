@@ -1,4 +1,4 @@
-use Rattle.std.proofs.Common.{◌++◌, ◌∙◌, ◌*◌, List, ℕ, ap, arith}
+use Rattle.std.proofs.Common.{◌++◌, ◌∙◌, List, ℕ, ap}
 use Rattle.std.specs.List.{flat_map}
 use Rattle.commit_log.specs.Encoding.{IsUnsealed}
 use Rattle.commit_log.specs.RecordFormat.{entry_bytes}

@@ -1,7 +1,8 @@
-use Rattle.std.proofs.Common.{List, ℕ, Option, IfSome, sym, subst, ◌∙◌, arith}
+use Rattle.std.proofs.Common.{List, ℕ, Option, IfSome, ap, sym, subst, ◌∙◌, arith}
+use Rattle.std.proofs.lemmas.List.{take_all}
 use Rattle.model.specs.Key.{IsValue}
-use Rattle.model.specs.Machine.{write_size}
-use Rattle.commit_log.proofs.Encoding.{payload_size-more, payload_size_whole}
+use Rattle.model.specs.Machine.{payload_size, write_size}
+use Rattle.commit_log.proofs.Encoding.{payload_size-more}
 use Rattle.commit_log.proofs.encode.payload_len.Goals as goal
 
 pub entry_len-len-requires : goal.entry_len-len-requires
@@ -16,4 +17,4 @@ loop-write-preserved c =
     }
 
 pub returns-clause-len : goal.returns-clause-len
-returns-clause-len c = payload_size_whole _ _ _ c.loop-write-test.false c.loop-write.invariant.len
+returns-clause-len c = c.loop-write.invariant.len ∙ ap payload_size (take_all _ _ c.loop-write-test.false)

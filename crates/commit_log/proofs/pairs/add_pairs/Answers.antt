@@ -3,21 +3,20 @@ use Rattle.std.specs.List.{flat_map}
 use Rattle.model.specs.Map.{Bytes}
 use Rattle.commit_log.specs.RecordFormat.{entry_bytes}
 use Rattle.commit_log.specs.Copying.{puts}
-use Rattle.commit_log.proofs.Putting.{next_pair, not_none, size_le, length-put_bytes}
+use Rattle.commit_log.proofs.Encoding.{entry_size}
+use Rattle.commit_log.proofs.Putting.{next_pair, not_none, size_le}
 use Rattle.commit_log.proofs.pairs.add_pairs.Goals as goal
 
 pub unreachable-requires : goal.unreachable-requires
 unreachable-requires c = not_none c.args.pairs.now c.loop-i.pairs c.loop-i.i c.args.count c.loop-i.invariant.rest c.in_default.ensures.steps.0 c.loop-i-test.true c.requires.there
 
-pub add_entry-requires-clause-value : goal.add_entry-requires-clause-value
-add_entry-requires-clause-value c =
+pub add_entry-requires : goal.add_entry-requires
+add_entry-requires c =
     let p = next_pair c.args.pairs.now c.loop-i.i c.loop-i.pairs c.next.new.self (c.in-Some.key.bytes.now, c.in-Some.value.now) c.loop-i.invariant.rest c.in-Some.ensures.steps c.requires.in_bounds in
-    p.value
-
-pub add_entry-requires-clause-room : goal.add_entry-requires-clause-room
-add_entry-requires-clause-room c =
-    let p = next_pair c.args.pairs.now c.loop-i.i c.loop-i.pairs c.next.new.self (c.in-Some.key.bytes.now, c.in-Some.value.now) c.loop-i.invariant.rest c.in-Some.ensures.steps c.requires.in_bounds in
-    omega (arith, c.loop-i.invariant.len, c.loop-i.invariant.capacity, p.size, size_le c.args.pairs.now (c.loop-i.i + 1) c.args.count (omega (arith, c.loop-i-test.true)), c.requires.room)
+    record {
+      value = p.value;
+      room = omega (arith, c.loop-i.invariant.len, c.loop-i.invariant.capacity, p.size, size_le (c.loop-i.i + 1) c.args.count c.args.pairs.now (omega (arith, c.loop-i-test.true)), c.requires.room);
+    }
 
 pub loop-i-preserved : goal.loop-i-preserved
 loop-i-preserved c =
@@ -30,7 +29,7 @@ loop-i-preserved c =
       items = added ∙ ap (λ (l : List ℕ). l ++ entry) c.loop-i.invariant.items ∙ append_assoc c.args.body.now.items so_far entry
           ∙ ap (λ (l : List ℕ). c.args.body.now.items ++ l) (sym p.entries);
       rest = p.behind;
-      len = omega (arith, c.add_entry.new.body.ok.0, c.loop-i.body.ok.0, ap length added, length-append c.loop-i.body.items entry, length-put_bytes pair, c.loop-i.invariant.len, p.size);
+      len = omega (arith, c.add_entry.new.body.ok.0, c.loop-i.body.ok.0, ap length added, length-append c.loop-i.body.items entry, entry_size (pair.0, Some pair.1), c.loop-i.invariant.len, p.size);
       capacity = omega (arith, c.loop-i.invariant.capacity, c.add_entry.ensures.capacity);
     }
 

@@ -1,4 +1,4 @@
-use Rattle.std.proofs.Common.{◌++◌, ◌∙◌, ◌≡◌, List, ℕ, length, take, sym, ap, arith}
+use Rattle.std.proofs.Common.{◌++◌, ◌∙◌, ◌≡◌, List, ℕ, length, take, ap, arith}
 use Rattle.std.specs.List.{flat_map}
 use Rattle.std.proofs.lemmas.List.{length-take}
 use Rattle.commit_log.specs.Copying.{puts}

@@ -1,4 +1,4 @@
-use Rattle.std.proofs.Common.{length, ap, arith}
+use Rattle.std.proofs.Common.{arith}
 use Rattle.commit_log.proofs.Putting.{next_pair, not_none}
 use Rattle.commit_log.proofs.pairs.next_payload_len.Goals as goal
 

@@ -1,4 +1,5 @@
-use Rattle.std.proofs.Common.{◌≡◌, ◌∷◌, ◌∙◌, List, ap, sym, suc, All, arith}
+use Rattle.std.proofs.Common.{◌≡◌, ◌∷◌, ◌∙◌, List, ap, sym}
+use Rattle.std.proofs.lemmas.List.Elements.{All-rest}
 use Rattle.model.specs.Map.{KeyMap, KeyWrite, after_write, after_writes}
 use Rattle.commit_log.specs.RecordFormat.{IsWithinLimits}
 use Rattle.commit_log.specs.Format.{current}
@@ -8,11 +9,8 @@ applied : (m after all : KeyMap) (writes rest : List KeyWrite) (w : KeyWrite) �
 applied m after all writes rest w is so_far next =
     ap (λ (n : KeyMap). after_writes n rest) next ∙ ap (λ (l : List KeyWrite). after_writes m l) (sym is) ∙ so_far
 
-limits_left : (writes rest : List KeyWrite) (w : KeyWrite) → writes ≡ w ∷ rest → All (IsWithinLimits current) writes → All (IsWithinLimits current) rest
-limits_left writes rest w is limits k d lt = (rw is at limits) (suc k) d (omega arith)
-
 pub loop-write-preserved : goal.loop-write-preserved
 loop-write-preserved c = record {
   map = applied _ _ _ _ _ c.in-Some.write c.in-Some.ensures.steps.0 c.loop-write.invariant.map c.in_ok-latest.ensures;
-  limits = limits_left _ _ c.in-Some.write c.in-Some.ensures.steps.0 c.loop-write.invariant.limits;
+  limits = All-rest (IsWithinLimits current) c.in-Some.write _ _ c.in-Some.ensures.steps.0 c.loop-write.invariant.limits;
 }

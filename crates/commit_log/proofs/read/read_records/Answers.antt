@@ -1,19 +1,19 @@
-use Rattle.std.proofs.Common.{◌∙◌, sym, refl, drop, arith}
+use Rattle.std.proofs.Common.{◌∙◌, refl, drop, arith}
 use Rattle.std.proofs.lemmas.Result.{err_from_is_err_and}
+use Rattle.sector.proofs.Crashes.{of_none}
 use Rattle.commit_log.specs.Reading.{ReadsAs}
-use Rattle.commit_log.proofs.ReadFaults.{read_fault}
-use Rattle.commit_log.proofs.SectorReads.{no_reads, read_on, reads_joined}
-use Rattle.commit_log.proofs.Recovering.{nothing_read, first_digest_is, ended, damaged, more}
+use Rattle.commit_log.proofs.Calls.{reads_joined}
+use Rattle.commit_log.proofs.Recovering.{read_fault, nothing_read, ended, damaged, more}
 use Rattle.commit_log.proofs.read.read_records.Goals as goal
 
 pub records-init : goal.records-init
 records-init g c = record {
   size = refl;
   failures = refl;
-  only_reads = λ keeps. no_reads g.D.Sectors c.args.device.now (g.met.D.Sectors.only_now keeps c.args.device.now);
+  only_reads = λ keeps. record { reads = λ i s read. read; left = λ crash left. left; time = of_none (g.met.D.Sectors.only_now keeps c.args.device.now) };
   in_range = omega arith;
   counted = omega arith;
-  found = λ keeps image size reads. nothing_read c.args.format (drop 1 image) _ _ (sym first_digest_is) c.new-latest.ensures;
+  found = λ keeps image size reads. nothing_read c.args.format image _ c.new-latest.ensures;
 }
 
 pub returns-then-sector-ne1-clause-found : goal.returns-then-sector-ne1-clause-found
@@ -35,7 +35,7 @@ pub records-preserved : goal.records-preserved
 records-preserved g c = record {
   size = c.read_record.ensures.size ∙ c.read.ensures.size ∙ c.records.invariant.size;
   failures = c.in_ok-record.ensures.fault ∙ c.in-Ok.ensures.ok.0 ∙ c.records.invariant.failures;
-  only_reads = λ keeps. reads_joined g.D.Sectors _ _ _ (read_on g.D.Sectors _ _ _ (c.records.invariant.only_reads keeps) (c.read.ensures.reads keeps) (c.read.ensures.crash keeps) (c.read.ensures.time keeps)) (c.read_record.ensures.only_reads keeps);
+  only_reads = λ keeps. reads_joined g.D.Sectors _ _ c.read.new.self _ (c.records.invariant.only_reads keeps) (c.read.ensures.reads keeps) (c.read.ensures.crash keeps) (c.read.ensures.time keeps) (c.read_record.ensures.only_reads keeps);
   in_range = omega (arith, rw c.in-Some.is at c.in_ok-record.ensures.sectors);
   counted = omega (arith, c.records.invariant.counted);
   found = λ keeps image size reads.

@@ -1,4 +1,4 @@
-use Rattle.std.proofs.Common.{◌≡◌, ◌-◌, ◌<◌, ◌≤◌, ℕ, List, length, drop}
+use Rattle.std.proofs.Common.{◌≡◌, ◌-◌, ◌<◌, ◌≤◌, ℕ, List, length}
 use Rattle.commit_log.specs.Reading.{ReadsAs, OnlyReads}
 use Rattle.commit_log.proofs.Recovering.{HasRead}
 use Rattle.commit_log.proofs.read.read_records.Given as goal
@@ -10,7 +10,7 @@ invariant-records g l = record {
   only_reads : g.D.Sectors.keeps_model → OnlyReads g.D.Sectors.may_read g.D.Sectors.may_leave g.D.Sectors.moment g.D.Sectors.left_since l.fn.device l.device;
   in_range : l.gate < l.count;
   counted : l.records ≤ l.gate;
-  found : g.D.Sectors.keeps_model → (image : List (List ℕ)) → length image ≡ l.count → ReadsAs (g.D.Sectors.may_read l.fn.device) image → HasRead l.format (drop 1 image) l.gate l.records l.digest.bytes l.latest;
+  found : g.D.Sectors.keeps_model → (image : List (List ℕ)) → length image ≡ l.count → ReadsAs (g.D.Sectors.may_read l.fn.device) image → HasRead l.format image l.gate l.records l.digest.bytes l.latest;
 }
 
 abbrev pub decreases-records : goal.decreases-records

@@ -1,29 +1,25 @@
 use Rattle.std.proofs.Common.{◌∙◌, ap, arith}
 use Rattle.commit_log.specs.RecordFormat.{is_open}
-use Rattle.commit_log.proofs.Protocol.{not_opened, after_open, after_last_sync, acknowledged}
-use Rattle.commit_log.proofs.Gates.{open_gate_open}
+use Rattle.commit_log.proofs.Calls.{leaves_no_more}
+use Rattle.commit_log.proofs.Protocol.{after_open, acknowledged}
+use Rattle.commit_log.proofs.Records.{open_gate_open}
 use Rattle.commit_log.proofs.record.open_staged.Goals as goal
 
 pub returns-in_err-write-clause-any_moment : goal.returns-in_err-write-clause-any_moment
 returns-in_err-write-clause-any_moment g c keeps lists writes is proper here =
-    let staged = not_opened g.D.Sectors lists writes c.args.device.now proper here (g.met.D.Sectors.only_now keeps c.args.device.now) in
-    let opening = after_open g.D.Sectors lists writes c.args.device.now c.args.device.now c.write.new.self c.args.gate is proper staged (c.write.ensures.crash keeps) (c.write.ensures.time keeps) in
-    opening.time
+    (after_open g.D.Sectors lists writes c.args.device.now c.write.new.self c.args.gate is proper here (g.met.D.Sectors.only_now keeps c.args.device.now) (c.write.ensures.crash keeps) (c.write.ensures.time keeps)).time
 
 pub returns-in_err-sync-clause-any_moment : goal.returns-in_err-sync-clause-any_moment
 returns-in_err-sync-clause-any_moment g c keeps lists writes is proper here =
-    let staged = not_opened g.D.Sectors lists writes c.args.device.now proper here (g.met.D.Sectors.only_now keeps c.args.device.now) in
-    let opening = after_open g.D.Sectors lists writes c.args.device.now c.args.device.now c.write.new.self c.args.gate is proper staged (c.write.ensures.crash keeps) (c.write.ensures.time keeps) in
-    (after_last_sync g.D.Sectors lists writes c.args.device.now c.write.new.self c.sync.new.self proper opening (c.sync.ensures.crash keeps) (c.sync.ensures.time keeps)).time
+    let opening = after_open g.D.Sectors lists writes c.args.device.now c.write.new.self c.args.gate is proper here (g.met.D.Sectors.only_now keeps c.args.device.now) (c.write.ensures.crash keeps) (c.write.ensures.time keeps) in
+    (leaves_no_more g.D.Sectors c.sync.new.self opening (c.sync.ensures.crash keeps) (c.sync.ensures.time keeps)).time
 
 pub returns-clause-any_moment : goal.returns-clause-any_moment
 returns-clause-any_moment g c keeps lists writes is proper here =
-    let staged = not_opened g.D.Sectors lists writes c.args.device.now proper here (g.met.D.Sectors.only_now keeps c.args.device.now) in
-    let opening = after_open g.D.Sectors lists writes c.args.device.now c.args.device.now c.write.new.self c.args.gate is proper staged (c.write.ensures.crash keeps) (c.write.ensures.time keeps) in
-    (after_last_sync g.D.Sectors lists writes c.args.device.now c.write.new.self c.sync.new.self proper opening (c.sync.ensures.crash keeps) (c.sync.ensures.time keeps)).time
+    let opening = after_open g.D.Sectors lists writes c.args.device.now c.write.new.self c.args.gate is proper here (g.met.D.Sectors.only_now keeps c.args.device.now) (c.write.ensures.crash keeps) (c.write.ensures.time keeps) in
+    (leaves_no_more g.D.Sectors c.sync.new.self opening (c.sync.ensures.crash keeps) (c.sync.ensures.time keeps)).time
 
 pub returns-clause-acknowledged : goal.returns-clause-acknowledged
 returns-clause-acknowledged g c keeps lists writes is proper here =
-    let staged = not_opened g.D.Sectors lists writes c.args.device.now proper here (g.met.D.Sectors.only_now keeps c.args.device.now) in
-    let opening = after_open g.D.Sectors lists writes c.args.device.now c.args.device.now c.write.new.self c.args.gate is proper staged (c.write.ensures.crash keeps) (c.write.ensures.time keeps) in
-    acknowledged g.D.Sectors lists writes c.args.device.now c.write.new.self c.sync.new.self c.args.gate (g.D.Sectors.size c.sync.new.self) c.open_gate.result is proper (omega (arith, c.requires, c.write.ensures.size, c.sync.ensures.size)) (c.in_ok-write.ensures.written keeps) (ap is_open c.open_gate.ensures ∙ open_gate_open) opening (c.in_ok-sync.ensures.settles keeps)
+    let opening = after_open g.D.Sectors lists writes c.args.device.now c.write.new.self c.args.gate is proper here (g.met.D.Sectors.only_now keeps c.args.device.now) (c.write.ensures.crash keeps) (c.write.ensures.time keeps) in
+    acknowledged g.D.Sectors lists writes c.write.new.self c.sync.new.self c.args.gate (g.D.Sectors.size c.sync.new.self) (c.in_ok-sync.ensures.settles keeps) c.open_gate.result is proper (omega (arith, c.requires, c.write.ensures.size, c.sync.ensures.size)) (c.in_ok-write.ensures.written keeps) (ap is_open c.open_gate.ensures ∙ open_gate_open) opening.left

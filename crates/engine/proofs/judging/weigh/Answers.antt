@@ -1,85 +1,67 @@
-use Rattle.std.proofs.Common.{◌≡◌, ◌≤◌, ◌<◌, ◌+◌, Bool, [], length, Some, ap, sym, subst, refl, ◌∙◌}
-use Rattle.std.specs.Prelude.{is_some}
+use Rattle.std.proofs.Common.{◌≡◌, ◌≤◌, ◌<◌, ◌+◌, ℕ, Bool, true, false, List, [], length, ap, ◌∙◌, arith, inl, inr}
+use Rattle.std.specs.Prelude.{◌↔◌, ◌==◌, IsTrue}
+use Rattle.std.proofs.lemmas.Bool.{cases_lt, iff_false}
+use Rattle.std.proofs.lemmas.Bool.Decides.{nat_tests}
+use Rattle.std.proofs.lemmas.List.{nil_from_length}
 use Rattle.model.specs.declared.refusals.Refusal.TheVariants.{PivotSelf, Pivot}
+use Rattle.model.specs.Map.{KeyWrite}
 use Rattle.model.specs.Machine.{payload_size, body_sectors}
-use Rattle.pivot_check.specs.Kept.{CommittedValue, IsInReach}
-use Rattle.snapshot.specs.View.{View}
-use Rattle.pivot_check.specs.Index.{target}
-use Rattle.pivot_check.specs.StandsFor.{IsVerdict, IsClear}
-use Rattle.pivot_check.specs.declared.Verdict.TheVariants as verdicts
+use Rattle.sector.specs.declared.device.Sectors.{Ghosts}
 use Rattle.commit_log.specs.declared.log.Log.{Log}
 use Rattle.commit_log.specs.RecordFormat.{sectors_for}
 use Rattle.commit_log.specs.LogState.{sector_count, used_sectors}
-use Rattle.engine.specs.HistoryValue.{HistoryValue}
-use Rattle.engine.proofs.Joining.{empty_is, not_empty_is}
-use Rattle.engine.proofs.Committing.{no_room, its_writes, HasVerdict, conflict_refuses, overwritten_refuses, full_refuses}
+use Rattle.engine.specs.Changes.{IsWritten, HasLogRoom}
+use Rattle.engine.proofs.Committing.{conflict_refuses, overwritten_refuses, full_refuses, to_commit}
 use Rattle.engine.proofs.judging.weigh.Goals as goal
 
--- what the verdict said of the transaction's target, over the same commits
-its_target : {a b : CommittedValue} (t : View) (flag : Bool) → a ≡ b → flag ≡ is_some (target a.facts t) → flag ≡ is_some (target b.facts t)
-its_target t flag same found = subst (λ (x : CommittedValue). flag ≡ is_some (target x.facts t)) same found
+-- whether anything was written
+none_written : (xs ws : List KeyWrite) (b : Bool) → b ≡ (length xs == 0) → xs ≡ ws → b ≡ true → ws ≡ []
+none_written xs ws b e same t = nil_from_length ws (grind (arith, nat_tests))
+
+some_written : (xs ws : List KeyWrite) (b : Bool) → b ≡ (length xs == 0) → xs ≡ ws → b ≡ false → IsWritten ws
+some_written xs ws b e same f none = grind (arith, nat_tests, ap length none)
+
+-- whether the log has room for it
+module _ {D : Type 0} {g : Ghosts D} (log log' : Log D g) (same : log' ≡ log) (ws : List KeyWrite) (n : ℕ) (is : n ≡ payload_size ws) (b : Bool) (iff : IsTrue b ↔ (used_sectors log + sectors_for n < sector_count log)) where
+  has_room : b ≡ true → HasLogRoom (used_sectors log') (sector_count log') ws
+  has_room t some = rw (same, ← is) (iff.0 t)
+
+  has_none : b ≡ false → sector_count log' ≤ used_sectors log' + body_sectors ws
+  has_none f = rw (same, ← is) (elim (cases_lt (used_sectors log + sectors_for n) (sector_count log)) [ inl lt ↦ absurd (iff_false iff f lt) | inr le ↦ le ])
 
 pub returns-in-Overwritten : goal.returns-in-Overwritten
 returns-in-Overwritten g c e s log history j =
-    let t = c.args.transaction.now in
-    let same = c.committed.ensures ∙ sym (ap (λ (v : HistoryValue). v.committed) history) in (
-      c.in-Overwritten.ensures.place,
-      λ d. overwritten_refuses e s t c.in-Overwritten.i d j (its_writes t c.entries-writes.result.now c.entries-writes.ensures.writes c.entries-writes.ensures.made)
-          (subst (λ (x : CommittedValue). IsInReach x.facts t → IsVerdict x.facts t (verdicts.Overwritten c.in-Overwritten.i)) same c.in-Overwritten.ensures.verdict),
-    )
+    (c.in-Overwritten.ensures.place, λ d. overwritten_refuses e s _ j _ _ c.committed.ensures history _ c.entries-writes.ensures.writes c.entries-writes.ensures.made c.in-Overwritten.i d c.in-Overwritten.ensures.verdict)
 
 pub returns-in-PivotSelf : goal.returns-in-PivotSelf
 returns-in-PivotSelf g c e s log history j =
-    let t = c.args.transaction.now in
-    let same = c.committed.ensures ∙ sym (ap (λ (v : HistoryValue). v.committed) history) in
-    conflict_refuses e s t PivotSelf j (its_writes t c.entries-writes.result.now c.entries-writes.ensures.writes c.entries-writes.ensures.made)
-    (subst (λ (x : CommittedValue). HasVerdict x.facts t (Some PivotSelf)) same c.in-PivotSelf.ensures.verdict)
+    conflict_refuses e s _ j _ _ c.committed.ensures history _ c.entries-writes.ensures.writes c.entries-writes.ensures.made PivotSelf c.in-PivotSelf.ensures.verdict
 
 pub returns-in-Pivot : goal.returns-in-Pivot
 returns-in-Pivot g c e s log history j =
-    let t = c.args.transaction.now in
-    let same = c.committed.ensures ∙ sym (ap (λ (v : HistoryValue). v.committed) history) in
-    conflict_refuses e s t (Pivot c.in-Pivot.n) j (its_writes t c.entries-writes.result.now c.entries-writes.ensures.writes c.entries-writes.ensures.made)
-    (subst (λ (x : CommittedValue). HasVerdict x.facts t (Some (Pivot c.in-Pivot.n))) same c.in-Pivot.ensures.verdict)
+    conflict_refuses e s _ j _ _ c.committed.ensures history _ c.entries-writes.ensures.writes c.entries-writes.ensures.made (Pivot c.in-Pivot.n) c.in-Pivot.ensures.verdict
 
 pub returns-then-is_empty : goal.returns-then-is_empty
 returns-then-is_empty g c e s log history j =
     let t = c.args.transaction.now in
-    let same = c.committed.ensures ∙ sym (ap (λ (v : HistoryValue). v.committed) history) in
-    let none : t.writes ≡ [] = sym c.entries-writes.ensures.writes ∙ empty_is c.entries-writes.result.now (length c.entries-writes.result.now) c.is_empty.result c.is_empty.ensures refl c.if-is_empty.true in (
-      record {
-        asked = j;
-        made = its_writes t c.entries-writes.result.now c.entries-writes.ensures.writes c.entries-writes.ensures.made;
-        clear = subst (λ (x : CommittedValue). IsInReach x.facts t → IsClear x.facts t) same c.in-Clear.ensures.verdict;
-        room = λ some. absurd (some none);
-      },
+    let none = none_written _ t.writes _ c.is_empty.ensures c.entries-writes.ensures.writes c.if-is_empty.true in (
+      to_commit e s t j _ _ c.committed.ensures history _ c.entries-writes.ensures.writes c.entries-writes.ensures.made c.in-Clear.ensures.verdict (λ some. absurd (some none)),
       none,
-      its_target t c.in-Clear.has_earlier_target same c.in-Clear.ensures.target,
+      rw (history, ← c.committed.ensures) c.in-Clear.ensures.target,
     )
 
 pub returns-then-not-room : goal.returns-then-not-room
 returns-then-not-room g c e s log history j =
     let t = c.args.transaction.now in
-    let same = c.committed.ensures ∙ sym (ap (λ (v : HistoryValue). v.committed) history) in
-    full_refuses e s t j (its_writes t c.entries-writes.result.now c.entries-writes.ensures.writes c.entries-writes.ensures.made)
-    (subst (λ (x : CommittedValue). IsInReach x.facts t → IsClear x.facts t) same c.in-Clear.ensures.verdict)
-    (λ none. not_empty_is c.entries-writes.result.now c.is_empty.result c.is_empty.ensures c.if-is_empty.false (c.entries-writes.ensures.writes ∙ none))
-    (subst (λ (l : Log g.row.D.Denot g.D.Sectors). sector_count l ≤ used_sectors l + body_sectors t.writes) (sym log)
-    (subst (λ n. sector_count c.args.log.now ≤ used_sectors c.args.log.now + sectors_for n) (c.payload_len-len.ensures.len ∙ ap payload_size c.entries-writes.ensures.writes)
-    (no_room c.room.result (used_sectors c.args.log.now) (sectors_for c.payload_len-len.result) (sector_count c.args.log.now) c.room.ensures c.if-not-room.true)))
+    let len = c.payload_len-len.ensures.len ∙ ap payload_size c.entries-writes.ensures.writes in
+    full_refuses e s t j _ _ c.committed.ensures history _ c.entries-writes.ensures.writes c.entries-writes.ensures.made c.in-Clear.ensures.verdict (some_written _ t.writes _ c.is_empty.ensures c.entries-writes.ensures.writes c.if-is_empty.false)
+    (has_none c.args.log.now e.log log t.writes _ len _ c.room.ensures c.if-not-room.true)
 
 pub returns : goal.returns
 returns g c e s log history j =
     let t = c.args.transaction.now in
-    let same = c.committed.ensures ∙ sym (ap (λ (v : HistoryValue). v.committed) history) in
     let len = c.payload_len-len.ensures.len ∙ ap payload_size c.entries-writes.ensures.writes in (
-      record {
-        asked = j;
-        made = its_writes t c.entries-writes.result.now c.entries-writes.ensures.writes c.entries-writes.ensures.made;
-        clear = subst (λ (x : CommittedValue). IsInReach x.facts t → IsClear x.facts t) same c.in-Clear.ensures.verdict;
-        room = λ _. subst (λ (l : Log g.row.D.Denot g.D.Sectors). used_sectors l + body_sectors t.writes < sector_count l) (sym log)
-            (subst (λ n. used_sectors c.args.log.now + sectors_for n < sector_count c.args.log.now) len (c.room.ensures.0 c.if-not-room.false));
-      },
-      (λ none. not_empty_is c.entries-writes.result.now c.is_empty.result c.is_empty.ensures c.if-is_empty.false (c.entries-writes.ensures.writes ∙ none), len),
-      its_target t c.in-Clear.has_earlier_target same c.in-Clear.ensures.target,
+      to_commit e s t j _ _ c.committed.ensures history _ c.entries-writes.ensures.writes c.entries-writes.ensures.made c.in-Clear.ensures.verdict (has_room c.args.log.now e.log log t.writes _ len _ c.room.ensures c.if-not-room.false),
+      (some_written _ t.writes _ c.is_empty.ensures c.entries-writes.ensures.writes c.if-is_empty.false, len),
+      rw (history, ← c.committed.ensures) c.in-Clear.ensures.target,
     )

@@ -1,32 +1,33 @@
-use Rattle.std.proofs.Common.{◌∷◌, [], ◌++◌, ◌⊎◌, List, subst}
-use Rattle.model.specs.Map.{KeyWrite, after_writes}
-use Rattle.sector.specs.SectorModel.{LeavesOnly}
+use Rattle.std.proofs.Common.{◌≡◌, ◌⊎◌, inl, inr, ℕ, List, [], ◌∷◌, ◌++◌, refl, ◌∙◌}
+use Rattle.model.specs.Map.{KeyMap, KeyWrite, after_writes}
+use Rattle.sector.specs.declared.device.Sectors.{Ghosts}
+use Rattle.commit_log.specs.declared.log.Log.{Log}
 use Rattle.commit_log.specs.LogState.{IsBeforeOrAfter}
+use Rattle.commit_log.specs.Recovery.{map_after, map_after-push}
 use Rattle.engine.specs.Recovery.{HoldsMap, IsStored}
-use Rattle.engine.proofs.Crashes.{weaker_crash, makes_more, before_or_after}
+use Rattle.engine.proofs.Committing.{weaker_crash}
 use Rattle.engine.proofs.records.carry_out.Goals as goal
 
-pub returns-in-Ok-clause-stored : goal.returns-in-Ok-clause-stored
-returns-in-Ok-clause-stored g c keeps map h =
-    let ws = c.entries.result.now in
-    subst (λ (x : List KeyWrite). IsStored c.append_in_room.new.self (after_writes map x)) c.entries.ensures.writes
-    (record { lists = h.lists ++ ws ∷ []; stands = c.in-Ok.ensures.appended keeps h.lists h.stands; makes = makes_more c.args.log.now map ws h })
+module _ {D : Type 0} {g : Ghosts D} (log : Log D g) (map : KeyMap) (ws us : List KeyWrite) (is : ws ≡ us) (h : IsStored log map) where
+  makes_more : map_after [] (h.lists ++ ws ∷ []) ≡ after_writes map us
+  makes_more = map_after-push [] h.lists ws ∙ (λ i. after_writes (h.makes i) (is i))
 
-pub returns-in-Ok-clause-crash : goal.returns-in-Ok-clause-crash
-returns-in-Ok-clause-crash g c keeps map h =
-    let ws = c.entries.result.now in
-    subst (λ (x : List KeyWrite). LeavesOnly g.D.Sectors.moment g.D.Sectors.left_since c.args.log.now.device c.append_in_room.new.self.device (λ i. HoldsMap i map ⊎ HoldsMap i (after_writes map x))) c.entries.ensures.writes
-    (weaker_crash g.D.Sectors.moment g.D.Sectors.left_since c.args.log.now.device c.append_in_room.new.self.device (IsBeforeOrAfter h.lists ws) (λ i. HoldsMap i map ⊎ HoldsMap i (after_writes map ws))
-    (before_or_after c.args.log.now map ws h) (c.in-Ok.ensures.any_moment keeps h.lists h.stands))
+  before_or_after : (c : List (List ℕ)) → IsBeforeOrAfter h.lists ws c → HoldsMap c map ⊎ HoldsMap c (after_writes map us)
+  before_or_after c (inl image) = inl (h.lists, image, h.makes)
+  before_or_after c (inr image) = inr (h.lists ++ ws ∷ [], image, makes_more)
 
-pub returns-in-Err-Device-clause-crash : goal.returns-in-Err-Device-clause-crash
-returns-in-Err-Device-clause-crash g c keeps map h =
-    let ws = c.entries.result.now in
-    subst (λ (x : List KeyWrite). LeavesOnly g.D.Sectors.moment g.D.Sectors.left_since c.args.log.now.device c.append_in_room.new.self.device (λ i. HoldsMap i map ⊎ HoldsMap i (after_writes map x))) c.entries.ensures.writes
-    (weaker_crash g.D.Sectors.moment g.D.Sectors.left_since c.args.log.now.device c.append_in_room.new.self.device (IsBeforeOrAfter h.lists ws) (λ i. HoldsMap i map ⊎ HoldsMap i (after_writes map ws))
-    (before_or_after c.args.log.now map ws h) (c.in-Err-Device.ensures.any_moment keeps h.lists h.stands))
+pub returns-clause-stored : goal.returns-clause-stored
+returns-clause-stored g c keeps map h =
+    record { lists = h.lists ++ c.entries.result.now ∷ []; stands = c.in_ok-append_in_room.ensures.appended keeps h.lists h.stands; makes = makes_more c.args.log.now map _ _ c.entries.ensures.writes h }
 
-pub returns-in-Err-Device-clause-left : goal.returns-in-Err-Device-clause-left
-returns-in-Err-Device-clause-left g c is keeps map h =
-    let ws = c.entries.result.now in
-    record { in_doubt = ws; holds = λ i left. before_or_after c.args.log.now map ws h i (c.in-Err-Device.ensures.left keeps h.lists h.stands i left) }
+pub returns-clause-crash : goal.returns-clause-crash
+returns-clause-crash g c keeps map h =
+    weaker_crash _ _ _ _ (IsBeforeOrAfter h.lists c.entries.result.now) _ (before_or_after c.args.log.now map _ _ c.entries.ensures.writes h) (c.in_ok-append_in_room.ensures.any_moment keeps h.lists h.stands)
+
+pub returns-in_err-append_in_room-clause-crash : goal.returns-in_err-append_in_room-clause-crash
+returns-in_err-append_in_room-clause-crash g c keeps map h =
+    weaker_crash _ _ _ _ (IsBeforeOrAfter h.lists c.entries.result.now) _ (before_or_after c.args.log.now map _ _ c.entries.ensures.writes h) (c.in_err-append_in_room.ensures.any_moment keeps h.lists h.stands)
+
+pub returns-in_err-append_in_room-clause-left : goal.returns-in_err-append_in_room-clause-left
+returns-in_err-append_in_room-clause-left g c is keeps map h =
+    record { in_doubt = c.entries.result.now; holds = λ i left. before_or_after c.args.log.now map _ _ refl h i (c.in_err-append_in_room.ensures.left keeps h.lists h.stands i left) }

@@ -1,36 +1,27 @@
 use Rattle.std.proofs.Common.{arith}
 use Rattle.event_loop.specs.Sockets.{IsNewSocket}
-use Rattle.event_loop.proofs.Admits.{admits_entries, admits_numbers, admits_sessions, admits_stands}
-use Rattle.event_loop.proofs.Counts.{taken_none, taken_one}
-use Rattle.event_loop.proofs.Leading.{none_come, one_comes}
+use Rattle.event_loop.proofs.Tables.{admits_table, none_come, one_comes, taken_none, taken_one}
 use Rattle.event_loop.proofs.connections.accept_some.Goals as goal
 
 pub loop-accepted-init : goal.loop-accepted-init
 loop-accepted-init g c = (
-  c.requires.stands,
-  c.requires.sessions,
-  c.requires.numbers,
-  c.requires.entries,
+  record { stands = c.requires.stands; sessions = c.requires.sessions; numbers = c.requires.numbers; entries = c.requires.entries },
   taken_none (g.L.Listener.accepts c.args.listener.now),
   none_come IsNewSocket c.args.hub.now c.args.next.now c.args.table.now.slots c.args.refused.now c.runs_follow.ensures.none,
 )
 
 pub loop-accepted-preserved : goal.loop-accepted-preserved
 loop-accepted-preserved g c =
-    let before = c.loop-accepted.invariant in
-    let admits = c.admit.ensures.0 in (
-      admits_stands c.loop-accepted.hub c.admit.new.hub c.loop-accepted.next c.admit.new.next c.loop-accepted.table.slots c.admit.new.table.slots IsNewSocket admits before.0,
-      admits_sessions c.loop-accepted.hub c.admit.new.hub c.loop-accepted.next c.admit.new.next c.loop-accepted.table.slots c.admit.new.table.slots IsNewSocket admits before.0 before.2 before.1,
-      admits_numbers c.loop-accepted.hub c.admit.new.hub c.loop-accepted.next c.admit.new.next c.loop-accepted.table.slots c.admit.new.table.slots IsNewSocket admits before.2,
-      admits_entries c.loop-accepted.hub c.admit.new.hub c.loop-accepted.next c.admit.new.next c.loop-accepted.table.slots c.admit.new.table.slots IsNewSocket admits before.0 before.3,
-      taken_one c.loop-accepted._accepted (g.L.Listener.accepts c.args.listener.now) (g.L.Listener.accepts c.loop-accepted.listener) (g.L.Listener.accepts c.accept.new.self) before.4 c.in-Taken.ensures,
+    let before = c.loop-accepted.invariant in (
+      admits_table c.loop-accepted.hub c.admit.new.hub c.loop-accepted.next c.admit.new.next c.loop-accepted.table.slots c.admit.new.table.slots IsNewSocket c.admit.ensures.0 before.0,
+      taken_one c.loop-accepted._accepted (g.L.Listener.accepts c.args.listener.now) (g.L.Listener.accepts c.loop-accepted.listener) (g.L.Listener.accepts c.accept.new.self) before.1 c.in-Taken.ensures,
       one_comes IsNewSocket c.args.hub.now c.args.next.now c.args.table.now.slots c.args.refused.now c.runs_follow.ensures.follow c.loop-accepted._accepted c.loop-accepted.hub c.admit.new.hub c.loop-accepted.next c.admit.new.next c.loop-accepted.table.slots
-          c.admit.new.table.slots c.loop-accepted.refused c.admit.new.refused before.5 c.admit.ensures,
+          c.admit.new.table.slots c.loop-accepted.refused c.admit.new.refused before.2 c.admit.ensures,
     )
 
 pub returns-clause-accepts : goal.returns-clause-accepts
 returns-clause-accepts g c = record {
   taken = c.loop-accepted._accepted;
-  why = (omega (arith, c.loop-accepted-test.false, c.loop-accepted.auto._accepted-end), c.loop-accepted.invariant.4);
-  became = c.loop-accepted.invariant.5;
+  why = (omega (arith, c.loop-accepted-test.false, c.loop-accepted.auto._accepted-end), c.loop-accepted.invariant.1);
+  became = c.loop-accepted.invariant.2;
 }

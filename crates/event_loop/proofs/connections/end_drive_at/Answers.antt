@@ -2,9 +2,8 @@ use Rattle.std.proofs.Common.{◌≡◌, true, false, Some, refl, sym, ap, subst
 use Rattle.std.proofs.lemmas.List.{get_or-set_other}
 use Rattle.event_loop.specs.declared.socket.Socket.{Socket}
 use Rattle.event_loop.specs.Lingerings.{Leaves, lingerers_of}
-use Rattle.event_loop.proofs.Entries.{some_inj}
-use Rattle.event_loop.proofs.Leaving.{there, vacant}
-use Rattle.event_loop.proofs.Polled.{put_there}
+use Rattle.model.proofs.Lookups.{some_same}
+use Rattle.event_loop.proofs.Polled.{put_there, there, vacant}
 use Rattle.event_loop.proofs.connections.end_drive_at.Goals as goal
 
 pub returns-then-not-end_drive : goal.returns-then-not-end_drive
@@ -19,7 +18,7 @@ returns-in_default g c = vacant c.args.now (g.D.Sectors.moment c.args.device.now
 pub returns-in-Some-try_remove : goal.returns-in-Some-try_remove
 returns-in-Some-try_remove g c =
     let put = put_there c.args.table.now.slots c.args.key c.in-Some.entry.now c.end_drive.new.entry (sym c.in-Some.ensures.value) in
-    let socket : c.into_inner.result ≡ c.end_drive.new.entry.stream.inner = c.into_inner.ensures ∙ ap (λ e. e.stream.inner) (some_inj (c.in-Some-try_remove.ensures.value ∙ put)) in
+    let socket : c.into_inner.result ≡ c.end_drive.new.entry.stream.inner = c.into_inner.ensures ∙ ap (λ e. e.stream.inner) (some_same (c.in-Some-try_remove.ensures.value ∙ put)) in
     there c.args.now (g.D.Sectors.moment c.args.device.now) c.args.key c.args.table.now.slots c.try_remove.new.self.slots
     (λ other differs. c.try_remove.ensures.updates.others other differs ∙ get_or-set_other c.args.table.now.slots c.args.key other (Some c.end_drive.new.entry) _ differs)
     _ _ c.in-Some.entry.now c.end_drive.new.entry (sym c.in-Some.ensures.value) c.end_drive.ensures.ends true (sym c.if-not-end_drive.false ∙ c.end_drive.ensures.over) c.try_remove.ensures.updates.changed

@@ -1,10 +1,6 @@
 use Rattle.event_loop.specs.Leavings.{EndEach}
 use Rattle.event_loop.specs.Lingerings.{lingerers_of}
-use Rattle.event_loop.specs.Sockets.{SocketsTell, traffic_of}
-use Rattle.event_loop.proofs.Polled.{EndedSoFar}
 use Rattle.event_loop.proofs.connections.end_drives.Given as goal
 
 abbrev pub invariant-loop-key : goal.invariant-loop-key
-invariant-loop-key g l =
-    EndedSoFar SocketsTell traffic_of (g.D.Sectors.moment l.device) l.key l.initial.table.slots l.table.slots
-    × EndEach l.now (g.D.Sectors.moment l.device) l.initial.table.slots (lingerers_of l.initial.lingering) l.key l.table.slots (lingerers_of l.lingering)
+invariant-loop-key g l = EndEach l.now (g.D.Sectors.moment l.device) l.initial.table.slots (lingerers_of l.initial.lingering) l.key l.table.slots (lingerers_of l.lingering)

@@ -23,52 +23,37 @@ loop-after-init c =
 pub loop-after-preserved : goal.loop-after-preserved
 loop-after-preserved c =
     let runs = c.args.runs.now in
-    let o = c.args.oldest in
     let after = c.loop-after.after in
     let is = c.loop-after.invariant in
     let moved = c.move_at-left.ensures in
     let len = c.len.ensures in
-    let same = is.len in
     let test = c.loop-after-test.true in
     let end = c.len-after-end.ensures in
-    let was = left_above o (sizes_in runs.items) in
-    let before = left_above o (sizes_in c.loop-after.runs.items) in
-    let now = left_above o (sizes_in c.move_at-left.new.runs.items) in
-    let a = is.fewer in
-    let b = moved.fewer in
-    let d = is.two in
-    let e = moved.two in
-    let f = is.most in
-    let g = moved.most in
-    let at : vec_len runs - (after + 1) ≡ c.len.result - after - 1 = omega (arith, len, same) in
-    let behind : c.len.result - after - 1 + 1 ≡ vec_len runs - after = omega (arith, len, same, test, end) in
+    let at : vec_len runs - (after + 1) ≡ c.len.result - after - 1 = omega (arith, len, is.len) in
+    let behind : c.len.result - after - 1 + 1 ≡ vec_len runs - after = omega (arith, len, is.len, test, end) in
     record {
       numbers = λ k. moved.same k ∙ is.numbers k;
       len = moved.len ∙ is.len;
-      most = omega (arith, f, g);
+      most = omega (arith, is.most, moved.most);
       lasts = moved.lasts ∙ is.lasts;
-      fewer = omega (arith, a, b, f, g);
-      two = omega (arith, d, e, f, g);
+      fewer = omega (arith, is.fewer, moved.fewer, is.most, moved.most);
+      two = omega (arith, is.two, moved.two, is.most, moved.most);
       ended = λ some.
-          ap (λ n. left_above o (drop n (sizes_in c.move_at-left.new.runs.items))) at
-          ∙ moved.ended some (ap (λ n. left_above o (drop n (sizes_in c.loop-after.runs.items))) behind ∙ is.ended (omega (arith, some, g)));
+          ap (λ n. left_above c.args.oldest (drop n (sizes_in c.move_at-left.new.runs.items))) at
+          ∙ moved.ended some (ap (λ n. left_above c.args.oldest (drop n (sizes_in c.loop-after.runs.items))) behind ∙ is.ended (omega (arith, some, moved.most)));
     }
 
 pub returns-clause-moved : goal.returns-clause-moved
 returns-clause-moved c =
     let o = c.args.oldest in
     let is = c.loop-after.invariant in
-    let left = c.loop-after.left in
-    let a = is.fewer in
-    let d = is.two in
-    let f = is.most in
     let test = c.loop-after-test.false in
     let end = c.len-after-end.ensures in
     let none : vec_len c.args.runs.now - c.loop-after.after ≡ 0 = omega (arith, test, end) in
     let now = left_above o (sizes_in c.loop-after.runs.items) in
     let was = left_above o (sizes_in c.args.runs.now.items) in
-    let moved : now + min c.args.most was ≤ was = elim (cases_lt 0 left) [
-      | inl some ↦ let z = is.ended some in let all = ap (λ n. left_above o (drop n (sizes_in c.loop-after.runs.items))) none in omega (arith, z, all)
-      | inr none_left ↦ omega (arith, none_left, a)
+    let moved : now + min c.args.most was ≤ was = elim (cases_lt 0 c.loop-after.left) [
+      | inl some ↦ let all = ap (λ n. left_above o (drop n (sizes_in c.loop-after.runs.items))) none in omega (arith, is.ended some, all)
+      | inr none_left ↦ omega (arith, none_left, is.fewer)
     ] in
-    record { lasts = is.lasts; moved = moved; slowly = omega (arith, d) }
+    record { lasts = is.lasts; moved = moved; slowly = omega (arith, is.two) }

@@ -1,4 +1,4 @@
-use Rattle.model.proofs.Faults.{faults_are_of_form}
+use Rattle.model.proofs.Answered.{faults_are_of_form}
 use Rattle.model.proofs.laws.faults_are_of_form.Goals as goal
 
 pub returns : goal.returns

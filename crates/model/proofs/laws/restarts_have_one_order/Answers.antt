@@ -1,4 +1,4 @@
-use Rattle.model.proofs.Restarts.{replays_follow, restart_law}
+use Rattle.model.proofs.Machines.{replays_follow, restart_law}
 use Rattle.model.proofs.laws.restarts_have_one_order.Goals as goal
 
 pub returns : goal.returns

@@ -1,5 +1,4 @@
-use Rattle.model.proofs.Machines.{verdict_holds}
-use Rattle.model.proofs.Progress.{last_may_commit, conflicts_are_recent}
+use Rattle.model.proofs.{Machines.verdict_holds, Answered.last_may_commit, Answered.conflicts_are_recent}
 use Rattle.model.proofs.laws.verdict_is_sound.Goals as goal
 
 pub returns : goal.returns

@@ -1,6 +1,5 @@
-use Rattle.std.proofs.Common.{◌<◌, ◌+◌, length, subst, arith}
+use Rattle.std.proofs.Common.{◌<◌, ◌+◌, length, arith}
 use Rattle.last_readers.proofs.RunSteps.{left_changed, lasts_changed, number_kept, none_left, passed_left, same_run}
-use Rattle.pivot_check.specs.declared.run.Run.{Run}
 use Rattle.pivot_check.specs.Inside.{sizes_of}
 use Rattle.pivot_check.proofs.Joined.{changed}
 use Rattle.pivot_check.proofs.merges.move_at.Goals as goal
@@ -11,14 +10,7 @@ record IsLate (c : goal.After-runs-1) : Type 0 where
   late : c.args.oldest < c.index_mut.result.now.last
 
 is_late : (c : goal.After-runs-1) → IsLate c
-is_late c =
-    let runs = c.args.runs.now in
-    let test = c.if-place-len.false in
-    let is = c.len.ensures in
-    let len = runs.ok.0 in
-    let within : c.args.place < length runs.items = omega (arith, test, is, len) in
-    let same = same_run runs.items c.args.place c.index.result.now c.index_mut.result.now within c.index.ensures c.index_mut.ensures.value in
-    record { within = within; late = subst (λ (r : Run). c.args.oldest < r.last) same c.if-index-oldest.false }
+is_late c = grind (arith, same_run c.args.runs.now.items c.args.place c.index.result.now c.index_mut.result.now)
 
 pub returns-clause-same : goal.returns-clause-same
 returns-clause-same c = λ t. changed t c.args.runs.now.items c.args.place c.index_mut.result.now c.move_on.new.self (is_late c).within c.index_mut.ensures.value (c.move_on.ensures.same t)
@@ -31,10 +23,8 @@ returns-clause-wholes c = number_kept sizes_of (λ s. s.left + s.made) c.args.ru
 
 pub returns-clause-moved : goal.returns-clause-moved
 returns-clause-moved c =
-    let is = is_late c in
-    let left = left_changed sizes_of c.args.oldest c.args.runs.now.items c.args.place c.index_mut.result.now c.move_on.new.self is.within c.index_mut.ensures.value is.late c.move_on.ensures.last in
-    let moved = c.move_on.ensures.moved in
-    omega (arith, left, moved)
+    let late = is_late c in
+    grind (arith, left_changed sizes_of c.args.oldest c.args.runs.now.items c.args.place c.index_mut.result.now c.move_on.new.self)
 
 pub returns-clause-ended : goal.returns-clause-ended
 returns-clause-ended c = λ some behind. none_left sizes_of c.args.oldest c.args.runs.now.items c.args.place (c.args.place + 1) c.move_on.new.self (omega arith) (c.move_on.ensures.ended some) behind

@@ -8,37 +8,20 @@ use Rattle.pivot_check.proofs.merges.open_at.Goals as goal
 
 pub returns-clause-same : goal.returns-clause-same
 returns-clause-same c = λ t.
-    let runs = c.args.runs.now in
-    let others = c.remove-second.new.self in
-    let within = c.requires.within in
-    let some = c.requires.some in
-    let fewer = c.remove-second.ensures.len in
-    let len = runs.ok.0 in
-    let left_len = others.ok.0 in
-    opened t runs.items others.items c.args.place c.index_mut.result.now c.remove-second.result c.join.new.self (omega (arith, within, len)) (omega (arith, within, some, fewer, len, left_len))
-    c.remove-second.ensures.items c.remove-second.ensures.value c.index_mut.ensures.value (c.join.ensures.same t)
+    grind (arith, opened t c.args.runs.now.items c.remove-second.new.self.items c.args.place c.index_mut.result.now c.remove-second.result c.join.new.self, c.join.ensures.same t)
 
 pub returns-clause-alike : goal.returns-clause-alike
 returns-clause-alike c = λ t.
     let runs = c.args.runs.now in
-    let within = c.requires.within in
-    let some = c.requires.some in
-    let len = runs.ok.0 in
     let first = c.index_mut.result.now in
     let second = c.remove-second.result in
     let is = c.join.ensures in
     let whole : sizes_of c.join.new.self ≡ joined (sizes_of first) (sizes_of second) = (λ k. record { last = is.last k; left = is.left k; made = is.made k }) in
     inl (
-      begun_at sizes_of (fit_one c.args.oldest) runs.items c.remove-second.new.self.items c.args.place (c.args.place - 1) c.index.result.now c.index-2.result.now first second c.join.new.self (omega (arith, some)) (omega (arith, within, len))
+      begun_at sizes_of (fit_one c.args.oldest) runs.items c.remove-second.new.self.items c.args.place (c.args.place - 1) c.index.result.now c.index-2.result.now first second c.join.new.self (omega (arith, c.requires.some)) (omega (arith, c.requires.within, runs.ok.0))
           c.index.ensures c.index-2.ensures c.remove-second.ensures.items c.remove-second.ensures.value c.index_mut.ensures.value (sym c.are_alike.ensures.alike ∙ c.if-not-are_alike.false) whole,
       refl,
     )
 
 pub returns-then-not-are_alike-clause-none : goal.returns-then-not-are_alike-clause-none
-returns-then-not-are_alike-clause-none c = λ f.
-    let runs = c.args.runs.now in
-    let within = c.requires.within in
-    let some = c.requires.some in
-    let len = runs.ok.0 in
-    unlike_at sizes_of (fit_one c.args.oldest) runs.items c.args.place (c.args.place - 1) c.index.result.now c.index-2.result.now (omega (arith, some)) (omega (arith, within, len)) c.index.ensures c.index-2.ensures
-    (sym c.are_alike.ensures.alike ∙ c.if-not-are_alike.true)
+returns-then-not-are_alike-clause-none c = λ f. grind (arith, unlike_at sizes_of (fit_one c.args.oldest) c.args.runs.now.items c.args.place (c.args.place - 1) c.index.result.now c.index-2.result.now)

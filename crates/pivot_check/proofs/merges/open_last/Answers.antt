@@ -1,4 +1,4 @@
-use Rattle.std.proofs.Common.{◌≡◌, ◌+◌, ◌-◌, refl, sym, ◌∙◌, take, drop, arith}
+use Rattle.std.proofs.Common.{◌≡◌, ◌+◌, ◌-◌, sym, ◌∙◌, take, drop, arith}
 use Rattle.std.specs.Vec.{vec_len}
 use Rattle.last_readers.specs.RunSizes.{has_alike}
 use Rattle.pivot_check.specs.Inside.{sizes_of, sizes_in}
@@ -7,25 +7,15 @@ use Rattle.pivot_check.specs.Merged.{fit_one}
 use Rattle.pivot_check.proofs.merges.open_last.Goals as goal
 
 pub loop-after-init : goal.loop-after-init
-loop-after-init c =
-    let len = c.args.runs.now.ok.0 in
-    record { runs = refl; refused = refl; some = omega arith; unlike = none_alike sizes_of (fit_one c.args.oldest) c.args.runs.now.items (vec_len c.args.runs.now - 1) (omega (arith, len)) }
+loop-after-init c = grind (arith, none_alike sizes_of (fit_one c.args.oldest) c.args.runs.now.items (vec_len c.args.runs.now - 1))
 
 pub loop-after-preserved : goal.loop-after-preserved
 loop-after-preserved c =
     let runs = c.args.runs.now in
     let after = c.loop-after.after in
     let is = c.loop-after.invariant in
-    let len = c.len.ensures in
     let same : vec_len c.loop-after.runs ≡ vec_len runs = (λ k. vec_len (is.runs k)) in
-    let some = is.some in
-    let test = c.loop-after-test.true in
-    let end = c.len-after-end.ensures in
-    let at : c.len.result - after - 1 ≡ vec_len runs - (after + 1) = omega (arith, len, same) in
+    let at : c.len.result - after - 1 ≡ vec_len runs - (after + 1) = omega (arith, c.len.ensures, same) in
     let here = (λ k. has_alike (fit_one c.args.oldest) (take 2 (drop (sym at k) (sizes_in (sym is.runs k).items)))) ∙ c.open_at.ensures.none c.if-open_at.false in
-    record {
-      runs = c.open_at.ensures.stays c.if-open_at.false ∙ is.runs;
-      refused = c.open_at.ensures.refused c.if-open_at.false ∙ is.refused;
-      some = omega arith;
-      unlike = unlike_from (fit_one c.args.oldest) (sizes_in runs.items) (vec_len runs - after) (vec_len runs - (after + 1)) (omega (arith, some, test, end)) here is.unlike;
-    }
+    let behind = unlike_from (fit_one c.args.oldest) (sizes_in runs.items) (vec_len runs - after) (vec_len runs - (after + 1)) in
+    grind (arith, behind, here)

@@ -1,22 +1,17 @@
-use Rattle.std.proofs.Common.{◌≡◌, ◌+◌, drop, ap, sym, ◌∙◌}
-use Rattle.std.specs.Ordering.{is_le}
-use Rattle.model.specs.Map.{key_cmp}
+use Rattle.std.proofs.Common.{◌+◌, drop, arith}
 use Rattle.pivot_check.specs.Parts.{live}
 use Rattle.pivot_check.proofs.Walks.{le_from_not}
 use Rattle.pivot_check.proofs.Joined.{begins_below}
 use Rattle.pivot_check.proofs.merging.is_in_first.Goals as goal
 
-asked : (c : goal.After-is_le) → c.is_le.result ≡ is_le (key_cmp c.in-Some.x.now.key c.in-Some-first.y.now.key)
-asked c = c.is_le.ensures ∙ ap is_le c.order.ensures ∙ (λ i. is_le (key_cmp (c.key.ensures i) (c.key-2.ensures i)))
-
 pub returns-clause-first : goal.returns-clause-first
 returns-clause-first c = λ low.
     let x = c.args.first.now in
     let y = c.args.second.now in
-    begins_below (live x) (drop (x.start + 1) x.written.items) (live y) (drop (y.start + 1) y.written.items) c.in-Some.x.now c.in-Some-first.y.now c.in-Some.ensures.some c.in-Some-first.ensures.some y.rising (sym (asked c) ∙ low)
+    begins_below (live x) (drop (x.start + 1) x.written.items) (live y) (drop (y.start + 1) y.written.items) c.in-Some.x.now c.in-Some-first.y.now c.in-Some.ensures.some c.in-Some-first.ensures.some y.rising (grind arith)
 
 pub returns-clause-second : goal.returns-clause-second
 returns-clause-second c = λ high.
     let x = c.args.first.now in
     let y = c.args.second.now in
-    begins_below (live y) (drop (y.start + 1) y.written.items) (live x) (drop (x.start + 1) x.written.items) c.in-Some-first.y.now c.in-Some.x.now c.in-Some-first.ensures.some c.in-Some.ensures.some x.rising (le_from_not c.in-Some.x.now.key c.in-Some-first.y.now.key (sym (asked c) ∙ high))
+    begins_below (live y) (drop (y.start + 1) y.written.items) (live x) (drop (x.start + 1) x.written.items) c.in-Some-first.y.now c.in-Some.x.now c.in-Some-first.ensures.some c.in-Some.ensures.some x.rising (le_from_not c.in-Some.x.now.key c.in-Some-first.y.now.key (grind arith))

@@ -1,14 +1,7 @@
-use Rattle.std.proofs.Common.{◌<◌, length, add-one, arith}
-use Rattle.marks.specs.Lent.{lent_mark}
-use Rattle.pivot_check.specs.Postings.{asked_of}
-use Rattle.pivot_check.proofs.Walks.{next_run, no_run_left}
+use Rattle.std.proofs.Common.{arith}
+use Rattle.std.proofs.lemmas.Grind.{common_steps}
+use Rattle.pivot_check.proofs.Writers.{lesser_assoc, least-append}
 use Rattle.pivot_check.proofs.runs.least_of.Goals as goal
 
 pub loop-run-preserved : goal.loop-run-preserved
-loop-run-preserved c =
-    let within : c.loop-run.run-index < length c.args.runs.now = omega (arith, c.loop-run-test.true) in
-    rw add-one (next_run (asked_of (lent_mark c.args.mark) c.args.begin c.args.flagged) c.args.runs.now c.loop-run.run-index c.run-item.result c.loop-run.found c.least-found.result _ within c.run-item.is
-    c.least-found.ensures c.loop-run.invariant)
-
-pub returns : goal.returns
-returns c = no_run_left (asked_of (lent_mark c.args.mark) c.args.begin c.args.flagged) c.args.runs.now c.loop-run.run-index c.loop-run.found _ (omega (arith, c.loop-run-test.false)) c.loop-run.invariant
+loop-run-preserved c = grind (arith, common_steps, lesser_assoc, least-append)

@@ -2,11 +2,8 @@ use Rattle.std.proofs.Common.{rules, of_calls, sym, ap, ◌∙◌}
 use Rattle.std.proofs.lemmas.Fn.{always_returns_same}
 use Rattle.model.specs.PrivateCopy.{covers}
 use Rattle.marks.specs.Lent.{lent_mark}
-use Rattle.pivot_check.proofs.Walks.{none_first, first_uncovered, parted_covered, covered_first}
+use Rattle.pivot_check.proofs.Walks.{first_uncovered, parted_covered, covered_first}
 use Rattle.pivot_check.proofs.written.count_covered.Goals as goal
-
-pub returns-in_default-clause-covered : goal.returns-in_default-clause-covered
-returns-in_default-clause-covered c = λ t. none_first (lent_mark c.args.mark) t c.args.postings.now c.in_default.ensures.value
 
 pub returns-then-not-covers-clause-covered : goal.returns-then-not-covers-clause-covered
 returns-then-not-covers-clause-covered c = λ t.

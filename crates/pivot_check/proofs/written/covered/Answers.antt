@@ -1,4 +1,4 @@
-use Rattle.std.proofs.Common.{true, false, rules, of_calls, ◌≡◌, ◌-◌, ◌+◌, ℕ, List, ◌&&◌, ap, sym, subst, ◌∙◌, take, drop, arith}
+use Rattle.std.proofs.Common.{true, false, rules, of_calls, ◌≡◌, ◌-◌, ◌+◌, ℕ, List, ◌&&◌, ap, sym, subst, ◌∙◌, take, arith}
 use Rattle.std.specs.List.Sorted.{IsPartitionPoint}
 use Rattle.std.specs.Ordering.{is_lt}
 use Rattle.std.proofs.lemmas.Fn.{always_returns_same}
@@ -6,7 +6,7 @@ use Rattle.model.specs.Map.{Bytes, key_cmp}
 use Rattle.model.specs.PrivateCopy.{covers}
 use Rattle.marks.specs.Lent.{lent_mark}
 use Rattle.marks.specs.Marked.{start_of}
-use Rattle.pivot_check.proofs.Lists.{to_the_end}
+use Rattle.std.proofs.lemmas.List.{take_rest}
 use Rattle.pivot_check.specs.Postings.{Posting, keys_rise, are_from, least}
 use Rattle.pivot_check.proofs.Walks.{parted, rest_rises, rest_from, rest_decides}
 use Rattle.pivot_check.proofs.written.covered.Goals as goal
@@ -17,14 +17,14 @@ moved k low ps i e h = subst (λ (q : Bytes). IsPartitionPoint (λ p. is_lt (key
 
 pub count_covered-requires-clause-rising : goal.count_covered-requires-clause-rising
 count_covered-requires-clause-rising c =
-    ap keys_rise (to_the_end c.partition_point-first.result c.args.postings.now) ∙ rest_rises c.args.postings.now c.partition_point-first.result c.requires
+    ap keys_rise (take_rest c.args.postings.now c.partition_point-first.result) ∙ rest_rises c.args.postings.now c.partition_point-first.result c.requires
 
 pub count_covered-requires-clause-from : goal.count_covered-requires-clause-from
 count_covered-requires-clause-from c =
     let k = c.start-low.result.bytes.now in
     let low = start_of (lent_mark c.args.mark) in
     let point = c.partition_point-first.ensures.partitioned (λ p. is_lt (key_cmp p.key k)) (always_returns_same _ _ _ (λ a r f g. search (rules, of_calls))) (parted k c.args.postings.now c.requires) in
-    ap (are_from low) (to_the_end c.partition_point-first.result c.args.postings.now)
+    ap (are_from low) (take_rest c.args.postings.now c.partition_point-first.result)
     ∙ rest_from low c.args.postings.now c.partition_point-first.result (moved k low c.args.postings.now c.partition_point-first.result c.start-low.ensures point)
 
 pub returns-clause-covered : goal.returns-clause-covered
@@ -37,7 +37,6 @@ returns-clause-covered c = λ t.
     let point = c.partition_point-first.ensures.partitioned (λ p. is_lt (key_cmp p.key k)) (always_returns_same _ _ _ (λ a r f g. search (rules, of_calls))) (parted k ps c.requires) in
     let there : count ≡ (first + count) - first = omega arith in
     rest_decides m t ps first c.partition_point-first.ensures.bound (moved k (start_of m) ps first c.start-low.ensures point)
-    ∙ sym (ap (least (λ p. covers m p.key && t p)) (to_the_end first ps))
+    ∙ sym (ap (least (λ p. covers m p.key && t p)) (take_rest ps first))
     ∙ c.count_covered.ensures.covered t
-    ∙ ap (λ l. least t (take count l)) (to_the_end first ps)
-    ∙ ap (λ n. least t (take n (drop first ps))) there
+    ∙ (λ i. least t (take (there i) (take_rest ps first i)))

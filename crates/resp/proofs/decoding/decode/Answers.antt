@@ -1,4 +1,4 @@
-use Rattle.std.proofs.Common.{◌-◌, length, refl}
+use Rattle.std.proofs.Common.{refl}
 use Rattle.model.specs.Grammar.{Spells, IsProperBeginning}
 use Rattle.resp.specs.Reading.{IsForeign}
 use Rattle.resp.proofs.Exactly.{is_whole, only_whole, no_more, not_none, cut_no_whole, foreign_no_whole, foreign_no_more}
@@ -6,22 +6,14 @@ use Rattle.resp.proofs.decoding.decode.Goals as goal
 
 pub returns-in-Ok-clause-whole : goal.returns-in-Ok-clause-whole
 returns-in-Ok-clause-whole c parts n =
-    let input = c.args.input.now in
-    let used = length input - length c.in-Ok.rest.now in
     let h = c.in-Ok.ensures in
-    (is_whole input h.0 c.in-Ok.rest.now c.in-Ok.request used h.1 h.2 refl parts n, only_whole input h.0 c.in-Ok.rest.now c.in-Ok.request used h.1 h.2 refl parts n)
+    (is_whole c.in-Ok.rest.now h.1 h.2 refl parts n, only_whole c.in-Ok.rest.now h.1 h.2 refl parts n)
 
 pub returns-in-Ok-clause-more : goal.returns-in-Ok-clause-more
-returns-in-Ok-clause-more c =
-    let input = c.args.input.now in
-    let h = c.in-Ok.ensures in
-    (λ none. absurd none, no_more input h.0 c.in-Ok.rest.now c.in-Ok.request (length input - length c.in-Ok.rest.now) h.1 h.2 refl)
+returns-in-Ok-clause-more c = let h = c.in-Ok.ensures in (λ none. absurd none, no_more c.in-Ok.rest.now h.1 h.2 refl)
 
 pub returns-in-Ok-clause-bad : goal.returns-in-Ok-clause-bad
-returns-in-Ok-clause-bad c =
-    let input = c.args.input.now in
-    let h = c.in-Ok.ensures in
-    (λ none. absurd none, λ f. not_none input h.0 c.in-Ok.rest.now c.in-Ok.request (length input - length c.in-Ok.rest.now) h.1 h.2 refl f.0)
+returns-in-Ok-clause-bad c = let h = c.in-Ok.ensures in (λ none. absurd none, λ f. not_none c.in-Ok.rest.now h.1 h.2 refl f.0)
 
 pub returns-in-Err-More-clause-whole : goal.returns-in-Err-More-clause-whole
 returns-in-Err-More-clause-whole c parts n =

@@ -1,4 +1,4 @@
-use Rattle.sessions.proofs.PrivateReplies.{same_bytes}
+use Rattle.sessions.proofs.StreamLaws.{same_bytes}
 use Rattle.sessions.proofs.laws.replies_are_private.Goals as goal
 
 pub returns : goal.returns

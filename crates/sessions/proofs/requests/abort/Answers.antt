@@ -1,4 +1,4 @@
-use Rattle.model.specs.Operations.Operation.{Abort}
+use Rattle.model.specs.Operations.{Abort}
 use Rattle.sessions.proofs.RequestSteps.{executes_ended}
 use Rattle.sessions.proofs.requests.abort.Goals as goal
 

@@ -1,11 +1,5 @@
-use Rattle.std.proofs.Common.{refl, ap, subst, ◌∙◌, Err}
-use Rattle.model.specs.Operations.Operation.{Commit}
-use Rattle.model.specs.Operations.Response.{Number}
-use Rattle.engine.specs.declared.faults.EngineFault.{EngineFault}
-use Rattle.engine.specs.Meaning.{Leads, response_to}
-use Rattle.sessions.specs.Calls.{has_failed}
-use Rattle.sessions.proofs.CrashSteps.{survives_after}
-use Rattle.sessions.proofs.RequestSteps.{executes_commit, memory_same}
+use Rattle.std.proofs.Common.{refl, ap, ◌∙◌, Err}
+use Rattle.sessions.proofs.RequestSteps.{survives_after, executes_commit}
 use Rattle.sessions.proofs.requests.commit.Goals as goal
 
 pub returns-in-Ok-clause-crash : goal.returns-in-Ok-clause-crash
@@ -21,11 +15,10 @@ returns-in-Ok-clause-step g c =
 
 pub returns-in-Err-Refused-clause-step : goal.returns-in-Err-Refused-clause-step
 returns-in-Err-Refused-clause-step g c =
-    let Told : EngineFault → Type 0 = λ fault. Leads c.args.engine.now c.commit.new.self c.args.s Commit (has_failed c.args.engine.now c.commit.new.self) (response_to Number (Err fault)) in
     executes_commit c.args.engine.now c.commit.new.self c.reclaim-in-Err-Refused.new.self c.args.s _ _ c.write_brief-in-Err-Refused.result c.reclaim-in-Err-Refused.ensures.device
-    (subst Told c.in-Err-Refused.field-0-is c.in-Err-Refused.ensures.step) c.reclaim-in-Err-Refused.ensures.keeps c.write_brief-in-Err-Refused.ensures.written
+    (rw c.in-Err-Refused.field-0-is at c.in-Err-Refused.ensures.step) c.reclaim-in-Err-Refused.ensures.keeps c.write_brief-in-Err-Refused.ensures.written
 
 pub returns-in-Err-Memory-clause-step : goal.returns-in-Err-Memory-clause-step
 returns-in-Err-Memory-clause-step g c =
-    let same = memory_same c.args.engine.now c.commit.new.self c.args.s _ _ _ c.commit.result (c.in-Err-Memory.is ∙ ap Err c.in-Err-Memory.field-0-is) c.commit.ensures.step in
+    let same = rw (c.in-Err-Memory.is ∙ ap Err c.in-Err-Memory.field-0-is) at c.commit.ensures.step in
     (refl, (λ m h. (m, (same.0 m).0 h, refl)), c.requires.empty, same.1)

@@ -1,5 +1,5 @@
 use Rattle.std.proofs.Common.{◌≡◌, refl, ap}
-use Rattle.model.specs.Operations.Operation.{Faulty}
+use Rattle.model.specs.Operations.{Faulty}
 use Rattle.sessions.specs.SessionStreams.{asks, or_faulty}
 use Rattle.sessions.proofs.RequestSteps.{executes_flag, executes_always}
 use Rattle.sessions.proofs.requests.execute_request.Goals as goal

@@ -1,6 +1,5 @@
 use Rattle.std.proofs.Common.{refl}
-use Rattle.sessions.proofs.CrashSteps.{survives_front}
-use Rattle.sessions.proofs.ServeEffects.{aborts_left}
+use Rattle.sessions.proofs.RequestSteps.{survives_front, aborts_left}
 use Rattle.sessions.proofs.requests.serve_request.Goals as goal
 
 pub returns-in-Err-clause-step : goal.returns-in-Err-clause-step

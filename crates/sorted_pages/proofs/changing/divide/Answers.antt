@@ -1,19 +1,16 @@
-use Rattle.std.proofs.Common.{Result, OnOk, Ok, Err, ◌+◌, arith}
+use Rattle.std.proofs.Common.{◌+◌, arith}
+use Rattle.std.proofs.lemmas.Result.{on_ok_weaker}
 use Rattle.sorted_pages.proofs.Placings.{tight-then}
 use Rattle.sorted_pages.proofs.changing.divide.Goals as goal
 
-on_ok : {E : Type 0} (r : Result (Unit {0}) E) (P : Type 0) → P → OnOk r P
-on_ok (Ok u) P p = p
-on_ok (Err e) P p = tt
-
 pub returns-clause-more : goal.returns-clause-more
-returns-clause-more g c = on_ok c.grow.result _ (λ h. let a = c.in_ok-split.ensures.more h in let b = c.grow.ensures.pages in omega arith)
+returns-clause-more g c = on_ok_weaker c.grow.result (λ made h. let a = c.in_ok-split.ensures.more h in let b = c.grow.ensures.pages in omega arith) c.grow.ensures.made
 
 pub returns-clause-halved : goal.returns-clause-halved
-returns-clause-halved g c = on_ok c.grow.result _ (λ h.
+returns-clause-halved g c = on_ok_weaker c.grow.result (λ made h.
     let half = c.in_ok-split.ensures.halved h in
     let same = c.grow.ensures.count in
-    record { low = λ f. (let l = half.low f in omega arith); high = λ f. (let l = half.high f in omega arith) })
+    record { low = λ f. (let l = half.low f in omega arith); high = λ f. (let l = half.high f in omega arith) }) c.grow.ensures.made
 
 pub returns-clause-tight : goal.returns-clause-tight
 returns-clause-tight g c = tight-then (c.args.n + 191) c.args.pages.now.items c.split.new.pages.items c.grow.new.pages.items c.split.ensures.tight c.grow.ensures.tight

@@ -1,7 +1,8 @@
-use Rattle.std.proofs.Common.{◌≡◌, ◌+◌, ◌-◌, ◌<◌, ◌≤◌, length, ap, arith}
+use Rattle.std.proofs.Common.{◌≡◌, ◌+◌, ◌-◌, ◌<◌, ◌≤◌, length, sym, ap, ◌∙◌, arith}
 use Rattle.std.specs.Prelude.{is_ok}
+use Rattle.std.proofs.lemmas.List.{get_or_read}
 use Rattle.sorted_pages.specs.Pages.{Page}
-use Rattle.sorted_pages.proofs.Placings.{all_full, full-set, loose-set, pushed_last, same_at, tight-set}
+use Rattle.sorted_pages.proofs.Placings.{all_full, full-set, loose-set, pushed_last, tight-set}
 use Rattle.sorted_pages.proofs.changing.push.Goals as goal
 
 pub returns : goal.returns
@@ -11,7 +12,7 @@ returns g c =
     let p = c.index_mut.result.now in
     let q = c.index.result.now in
     let at : i + 1 ≡ length ps = (let n = c.len-count.ensures in let s = c.if-count-eq0.false in let w = c.args.pages.now.ok.0 in omega arith) in
-    let few : length p.0 < 384 = (let same = ap (λ (r : Page g.row.V.Denot). length r.0) (same_at ps i p q (omega arith) c.index_mut.ensures.value c.index.ensures) in let n = c.len.ensures in let s = c.if-len-ge-FILL.false in omega arith) in
+    let few : length p.0 < 384 = (let same = ap (λ (r : Page g.row.V.Denot). length r.0) (get_or_read ps i p (omega arith) c.index_mut.ensures.value q ∙ sym c.index.ensures) in let n = c.len.ensures in let s = c.if-len-ge-FILL.false in omega arith) in
     let all = pushed_last ps (c.args.key, c.args.value) i p c.push.new.self (is_ok c.push.result) at c.index_mut.ensures.value c.requires.order c.requires.sorted c.push.ensures.entries in
     record {
       order = all.order;

@@ -1,6 +1,7 @@
-use Rattle.std.proofs.Common.{◌≤◌, ◌+◌, List, length, set, refl, ap, sym, subst, arith, rules}
+use Rattle.std.proofs.Common.{◌≡◌, ℕ, ◌<◌, ◌≤◌, ◌+◌, List, length, get_or, set, refl, ap, sym, subst, arith, rules}
+use Rattle.model.specs.Map.{Bytes}
 use Rattle.std.proofs.lemmas.List.{length-set}
-use Rattle.sorted_pages.specs.Pages.{Page, IsPlace, IsInOrder, IsRoomier, count_at, room_at}
+use Rattle.sorted_pages.specs.Pages.{Page, IsPlace, IsCrowded, IsRoomier, count_at, room_at}
 use Rattle.sorted_pages.proofs.Placings.{count_of, grown, halved, halves, one_longer, place_within, room_of, split, tight-same, tight-set, tight-split, tight-then}
 use Rattle.sorted_pages.proofs.changing.split.Goals as goal
 
@@ -8,8 +9,8 @@ pub returns-in_err-upper : goal.returns-in_err-upper
 returns-in_err-upper g c =
     let ps = c.reserve.new.self.items in
     let i = c.place-i.result in
-    let at = subst (λ (l : List (Page g.row.V.Denot)). IsPlace l c.args.key.now i) c.deref.ensures.value c.place-i.ensures in
-    let order = subst (λ (l : List (Page g.row.V.Denot)). IsInOrder l) (sym c.reserve.ensures.items) c.requires.order in
+    let at = rw c.deref.ensures.value at c.place-i.ensures in
+    let order = rw (← c.reserve.ensures.items) at c.requires.order in
     let was = c.index_mut-page.ensures.value in
     let same = ap (λ (p : Page g.row.V.Denot). p.0) c.in_err-upper.ensures.failed in
     let room = ap (λ (p : Page g.row.V.Denot). p.1) c.in_err-upper.ensures.failed in
@@ -32,18 +33,16 @@ returns g c =
     let p = c.index_mut-page.result.now in
     let lo = c.split_off.new.self in
     let up = c.in_ok-upper.upper in
-    let at = subst (λ (l : List (Page g.row.V.Denot)). IsPlace l c.args.key.now i) c.deref.ensures.value c.place-i.ensures in
-    let order = subst (λ (l : List (Page g.row.V.Denot)). IsInOrder l) (sym c.reserve.ensures.items) c.requires.order in
+    let at = rw c.deref.ensures.value at c.place-i.ensures in
+    let order = rw (← c.reserve.ensures.items) at c.requires.order in
     let two = halves p.0 lo.0 up.0 c.cut_for-cut.result c.in_ok-upper.ensures.lower c.in_ok-upper.ensures.upper c.cut_for-cut.ensures.within c.if-cut-eq0.false in
     let was = c.index_mut-page.ensures.value in
     let short : p.1 ≤ c.args.n = (let a = room_of ps c.args.key.now i p at was in let b = ap (λ (l : List (Page g.row.V.Denot)). room_at c.args.key.now l) c.reserve.ensures.items in let d = c.requires.short in omega arith) in
-    let less : p.1 ≤ lo.1 = (let a = c.in_ok-upper.ensures.lower_room in omega arith) in
-    let more : p.1 ≤ up.1 = (let a = c.in_ok-upper.ensures.upper_room in omega arith) in
-    let all = split ps c.args.key.now i (i + 1) p lo up at was order refl two.same two.lower two.upper less more in
+    let all = split ps c.args.key.now i (i + 1) p lo up at was order refl two.same two.lower two.upper (omega (arith, c.in_ok-upper.ensures.lower_room)) (omega (arith, c.in_ok-upper.ensures.upper_room)) in
     let lengthened = one_longer c.args.pages.now.items ps c.insert.new.self.items i (i + 1) lo up (sym c.reserve.ensures.items) refl (place_within ps c.args.key.now i at) c.in-Ok.ensures.items in
     record {
-      order = subst (λ (l : List (Page g.row.V.Denot)). IsInOrder l) (sym c.in-Ok.ensures.items) all.order;
-      roomier = subst (λ (l : List (Page g.row.V.Denot)). IsRoomier l c.insert.new.self.items) c.reserve.ensures.items (subst (λ (l : List (Page g.row.V.Denot)). IsRoomier ps l) (sym c.in-Ok.ensures.items) all.roomier);
+      order = rw (← c.in-Ok.ensures.items) at all.order;
+      roomier = rw c.reserve.ensures.items at (rw (← c.in-Ok.ensures.items) at all.roomier);
       tight = tight-split (c.args.n + 191) c.args.pages.now.items ps c.insert.new.self.items i (i + 1) p lo up (sym c.reserve.ensures.items) c.in-Ok.ensures.items was c.in_ok-upper.ensures.lower_tight c.in_ok-upper.ensures.upper_tight;
       some = search rules;
       one = (let l = lengthened in omega arith);
@@ -53,28 +52,19 @@ returns g c =
     }
 
 -- a page with one entry at most isn't crowded
+lone : {X : Type 0} (ps old : List (Page X)) (k : Bytes) (i n cut : ℕ) (p : Page X) → IsPlace ps k i → p ≡ get_or ps i p → ps ≡ old → (1 < length p.0 → 0 < cut) → cut ≡ 0 → IsCrowded k n old → ⊥
+lone ps old k i n cut p at is same some none h =
+    let count = count_of ps k i p at is in
+    let was = ap (count_at k) same in
+    let several = some (omega (arith, count, was, h.many)) in
+    omega (arith, several, none)
+
 pub returns-then-cut-eq0-clause-more : goal.returns-then-cut-eq0-clause-more
 returns-then-cut-eq0-clause-more g c = λ h.
-    let ps = c.reserve.new.self.items in
-    let i = c.place-i.result in
-    let p = c.index_mut-page.result.now in
-    let at = subst (λ (l : List (Page g.row.V.Denot)). IsPlace l c.args.key.now i) c.deref.ensures.value c.place-i.ensures in
-    let count = count_of ps c.args.key.now i p at c.index_mut-page.ensures.value in
-    let same = ap (λ (l : List (Page g.row.V.Denot)). count_at c.args.key.now l) c.reserve.ensures.items in
-    let many = h.many in
-    let some = c.cut_for-cut.ensures.some (omega arith) in
-    let none = c.if-cut-eq0.true in
-    absurd (omega arith)
+    let at = rw c.deref.ensures.value at c.place-i.ensures in
+    absurd (lone _ _ c.args.key.now c.place-i.result c.args.n c.cut_for-cut.result c.index_mut-page.result.now at c.index_mut-page.ensures.value c.reserve.ensures.items c.cut_for-cut.ensures.some c.if-cut-eq0.true h)
 
 pub returns-then-cut-eq0-clause-halved : goal.returns-then-cut-eq0-clause-halved
 returns-then-cut-eq0-clause-halved g c = λ h.
-    let ps = c.reserve.new.self.items in
-    let i = c.place-i.result in
-    let p = c.index_mut-page.result.now in
-    let at = subst (λ (l : List (Page g.row.V.Denot)). IsPlace l c.args.key.now i) c.deref.ensures.value c.place-i.ensures in
-    let count = count_of ps c.args.key.now i p at c.index_mut-page.ensures.value in
-    let same = ap (λ (l : List (Page g.row.V.Denot)). count_at c.args.key.now l) c.reserve.ensures.items in
-    let many = h.many in
-    let some = c.cut_for-cut.ensures.some (omega arith) in
-    let none = c.if-cut-eq0.true in
-    absurd (omega arith)
+    let at = rw c.deref.ensures.value at c.place-i.ensures in
+    absurd (lone _ _ c.args.key.now c.place-i.result c.args.n c.cut_for-cut.result c.index_mut-page.result.now at c.index_mut-page.ensures.value c.reserve.ensures.items c.cut_for-cut.ensures.some c.if-cut-eq0.true h)

@@ -1,4 +1,4 @@
-use Rattle.sorted_pages.proofs.Blanks.{one_blank}
+use Rattle.sorted_pages.proofs.Seen.{one_blank}
 use Rattle.sorted_pages.proofs.page.blank_from.Goals as goal
 
 pub loop-count-preserved : goal.loop-count-preserved

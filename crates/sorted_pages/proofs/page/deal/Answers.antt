@@ -1,4 +1,4 @@
-use Rattle.std.proofs.Common.{refl, ap, ◌∙◌, arith}
+use Rattle.std.proofs.Common.{◌∙◌, arith}
 use Rattle.sorted_pages.proofs.Deals.{dealt-lower, dealt-upper}
 use Rattle.sorted_pages.proofs.page.deal.Goals as goal
 

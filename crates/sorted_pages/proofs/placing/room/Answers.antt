@@ -3,8 +3,4 @@ use Rattle.sorted_pages.proofs.Placings.{room_of}
 use Rattle.sorted_pages.proofs.placing.room.Goals as goal
 
 pub returns : goal.returns
-returns g c =
-    let ps = c.args.pages.now in
-    let i = c.place.result in
-    let page = c.index-pages-place.result in
-    c.room.ensures ∙ sym (room_of ps c.args.key.now i page c.place.ensures c.index-pages-place.is)
+returns g c = c.room.ensures ∙ sym (room_of c.args.pages.now c.args.key.now c.place.result c.index-pages-place.result c.place.ensures c.index-pages-place.is)

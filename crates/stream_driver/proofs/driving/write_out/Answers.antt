@@ -1,15 +1,14 @@
-use Rattle.std.proofs.Common.{◌≡◌, ◌≤◌, arith}
-use Rattle.stream_driver.proofs.States.{present_at, leads_none, leads_then, some_after, le_after}
-use Rattle.stream_driver.proofs.Sends.{tells_map, tells_still, tells_then}
-use Rattle.stream_driver.proofs.Loops.{written_none, written_then, written_within, written_stopped, written_all}
+use Rattle.std.proofs.Common.{◌≡◌, ◌≤◌, ◌∙◌, sym, arith}
+use Rattle.std.proofs.lemmas.List.{nil_from_length}
+use Rattle.stream_driver.proofs.States.{present_at, leads_none, some_after, le_after}
+use Rattle.stream_driver.proofs.Sends.{tells_map, tells_still, tells_two_at}
+use Rattle.stream_driver.proofs.Loops.{written_none, written_then, written_stopped}
 use Rattle.stream_driver.proofs.driving.write_out.Goals as goal
 
 pub loop-owed-init : goal.loop-owed-init
 loop-owed-init g c =
-    tells_still c.args.s g.S.Stream.tells c.args.hub.now c.args.hub.now (g.S.Stream.traffic c.args.stream.now) _
-    (leads_none c.args.hub.now c.runs_follow.ensures.none _
-    (λ h stands.
-    written_none c.args.s g.S.Stream.tells h (g.S.Stream.traffic c.args.stream.now) c.args.pending (present_at c.args.hub.now c.args.s h.hub stands.state _ c.requires.present (λ k p. p)) (c.requires.pending h.hub stands.state)))
+    tells_still (leads_none c.args.hub.now c.runs_follow.ensures.none _
+    (λ h stands. written_none (present_at c.args.hub.now c.args.s h.hub stands.state _ c.requires.present (λ k p. p)) (c.requires.pending h.hub stands.state)))
 
 pub write_some-requires : goal.write_some-requires
 write_some-requires g c =
@@ -18,45 +17,27 @@ write_some-requires g c =
 
 pub overflow_sub-owed : goal.overflow_sub-owed
 overflow_sub-owed g c =
-    le_after c.args.hub.now c.write_some.new.hub _ _ c.in-Moved.n c.loop-owed.owed c.requires.present
-    (leads_then c.runs_follow.ensures.follow c.args.hub.now c.loop-owed.hub c.write_some.new.hub _ _ (λ h l. c.in-Moved.n ≤ c.loop-owed.owed) c.loop-owed.invariant.leads c.in-Moved.ensures.written.leads
-    (λ h k l stands p q. written_within c.args.s g.S.Stream.tells h (g.S.Stream.traffic c.args.stream.now) k (g.S.Stream.traffic c.loop-owed.stream) l (g.S.Stream.traffic c.write_some.new.stream) c.loop-owed.owed p c.in-Moved.n q))
-    (λ h l le. le)
+    le_after c.runs_follow.ensures.follow c.requires.present c.loop-owed.invariant.leads c.in-Moved.ensures.written.leads (λ h k l stands p q. (let owed = p.owed_is in let left = q.why.1 in omega arith))
 
 pub loop-owed-smaller : goal.loop-owed-smaller
 loop-owed-smaller g c =
-    let some : 1 ≤ c.in-Moved.n =
-    le_after c.args.hub.now c.write_some.new.hub _ _ 1 c.in-Moved.n c.requires.present
-    (leads_then c.runs_follow.ensures.follow c.args.hub.now c.loop-owed.hub c.write_some.new.hub _ _ (λ h l. 1 ≤ c.in-Moved.n) c.loop-owed.invariant.leads c.in-Moved.ensures.written.leads (λ h k l stands p q. q.why.0))
-    (λ h l le. le) in
+    let some : 1 ≤ c.in-Moved.n = le_after c.runs_follow.ensures.follow c.requires.present c.loop-owed.invariant.leads c.in-Moved.ensures.written.leads (λ h k l stands p q. q.why.0) in
     let owes = c.loop-owed-test.true in
     omega arith
 
 pub loop-owed-preserved : goal.loop-owed-preserved
 loop-owed-preserved g c =
-    tells_then c.args.s g.S.Stream.tells c.runs_follow.ensures.follow c.args.hub.now c.loop-owed.hub c.write_some.new.hub _ _ _ _ _ _ c.loop-owed.invariant c.in-Moved.ensures.written (λ h k p. p.moves.carried)
-    (λ h k l stands p q. written_then c.args.s g.S.Stream.tells h (g.S.Stream.traffic c.args.stream.now) k (g.S.Stream.traffic c.loop-owed.stream) l (g.S.Stream.traffic c.write_some.new.stream) c.loop-owed.owed p c.in-Moved.n q)
+    tells_two_at c.runs_follow.ensures.follow c.loop-owed.invariant c.in-Moved.ensures.written (λ h k p. p.moves.carried) (λ h k l was stands p q. written_then p c.in-Moved.n q)
 
 pub returns-in-Blocked : goal.returns-in-Blocked
 returns-in-Blocked g c =
-    record {
-      written =
-          tells_then c.args.s g.S.Stream.tells c.runs_follow.ensures.follow c.args.hub.now c.loop-owed.hub c.write_some.new.hub _ _ _ _ _ _ c.loop-owed.invariant c.in-Blocked.ensures.written (λ h k p. p.moves.carried)
-          (λ h k l stands p q. written_stopped c.args.s g.S.Stream.tells h (g.S.Stream.traffic c.args.stream.now) k (g.S.Stream.traffic c.loop-owed.stream) l (g.S.Stream.traffic c.write_some.new.stream) c.loop-owed.owed p _ _ c.loop-owed-test.true q q.why (λ why. why));
-    }
+    record { written = tells_two_at c.runs_follow.ensures.follow c.loop-owed.invariant c.in-Blocked.ensures.written (λ h k p. p.moves.carried) (λ h k l was stands p q. written_stopped p _ _ c.loop-owed-test.true q q.why (λ why. why)) }
 
 pub returns-in-Failed : goal.returns-in-Failed
 returns-in-Failed g c =
-    record {
-      written =
-          tells_then c.args.s g.S.Stream.tells c.runs_follow.ensures.follow c.args.hub.now c.loop-owed.hub c.write_some.new.hub _ _ _ _ _ _ c.loop-owed.invariant c.in-Failed.ensures.written (λ h k p. p.moves.carried)
-          (λ h k l stands p q. written_stopped c.args.s g.S.Stream.tells h (g.S.Stream.traffic c.args.stream.now) k (g.S.Stream.traffic c.loop-owed.stream) l (g.S.Stream.traffic c.write_some.new.stream) c.loop-owed.owed p _ _ c.loop-owed-test.true q q.why (λ why. why));
-    }
+    record { written = tells_two_at c.runs_follow.ensures.follow c.loop-owed.invariant c.in-Failed.ensures.written (λ h k p. p.moves.carried) (λ h k l was stands p q. written_stopped p _ _ c.loop-owed-test.true q q.why (λ why. why)) }
 
 pub returns : goal.returns
 returns g c =
-    record {
-      written =
-          let none : c.loop-owed.owed ≡ 0 = (let ends = c.loop-owed-test.false in omega arith) in
-          tells_map c.args.s g.S.Stream.tells c.args.hub.now c.loop-owed.hub _ _ _ _ c.loop-owed.invariant (λ h k stands p. written_all c.args.s g.S.Stream.tells h (g.S.Stream.traffic c.args.stream.now) k (g.S.Stream.traffic c.loop-owed.stream) c.loop-owed.owed p none);
-    }
+    let none : c.loop-owed.owed ≡ 0 = (let ends = c.loop-owed-test.false in omega arith) in
+    record { written = tells_map c.loop-owed.invariant (λ h k stands p. record { moves = p.moves; why = (p.moved, nil_from_length _ (sym p.owed_is ∙ none)) }) }

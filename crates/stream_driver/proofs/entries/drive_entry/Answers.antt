@@ -12,8 +12,7 @@ returns-after-drive_over-clause-driven g c =
       | in-Again w ↦ w.entry-is ∙ ap state_after (sym w.in-Again.is)
       | in-Gone w ↦ w.entry-is ∙ ap state_after (sym w.in-Gone.is)
     ] in
-    tells_map c.args.entry.now.session g.S.Stream.tells c.args.hub.now c.drive_over.new.hub _ _ _ _ c.drive_over.ensures.driven
-    (λ h k stands x. driven_once g.S.Stream.tells g.S.Stream.traffic h k c.args.entry.now c.drive_over.result c.drive_over.new.stream c.match-drive_over.entry c.in-Ready.is is x)
+    tells_map c.drive_over.ensures.driven (λ h k stands x. driven_once _ _ c.in-Ready.is is x)
 
 pub returns-in_default-clause-driven : goal.returns-in_default-clause-driven
 returns-in_default-clause-driven g c = left_alone g.S.Stream.tells g.S.Stream.traffic c.args.hub.now c.args.entry.now c.runs_follow.ensures.none c.in_default.not-Ready

@@ -1,6 +1,6 @@
 use Rattle.std.proofs.Common.{◌∙◌, refl, arith}
-use Rattle.commit_log.proofs.Encoding.{payload_size_is}
-use Rattle.commit_log.proofs.Appending.{sectors_of_is, machine_sectors, no_room_if}
+use Rattle.commit_log.proofs.Encoding.{payload_size_is, machine_sectors, sectors_of_is}
+use Rattle.commit_log.proofs.Protocol.{no_room_if}
 use Rattle.commit_log.proofs.log.Log.append.Goals as goal
 
 pub returns-then-not-room-clause-full : goal.returns-then-not-room-clause-full

@@ -1,10 +1,9 @@
-use Rattle.std.proofs.Common.{◌≡◌, ◌≤◌, ◌∙◌, ◌*◌, length, ap, refl, arith}
+use Rattle.std.proofs.Common.{◌≤◌, length, ap, refl, arith}
 use Rattle.model.specs.Bounds.{value_max, payload_bound}
 use Rattle.commit_log.specs.Format.{current}
-use Rattle.commit_log.specs.RecordFormat.{sectors_of, payload_bytes}
-use Rattle.commit_log.proofs.Encoding.{payload_size_is}
-use Rattle.commit_log.proofs.Limits.{length-payload_le}
-use Rattle.commit_log.proofs.Appending.{machine_sectors, next_record, stands_after}
+use Rattle.commit_log.specs.RecordFormat.{payload_bytes}
+use Rattle.commit_log.proofs.Encoding.{payload_size_is, machine_sectors, length-payload_le}
+use Rattle.commit_log.proofs.Protocol.{next_record, stands_after}
 use Rattle.commit_log.proofs.log.Log.append_in_room.Goals as goal
 
 pub encode-requires-clause-bound : goal.encode-requires-clause-bound
@@ -14,13 +13,11 @@ encode-requires-clause-bound g c =
 
 pub write_record-requires-clause-room : goal.write_record-requires-clause-room
 write_record-requires-clause-room g c =
-    let size : length c.deref.result.now ≡ 512 * sectors_of c.args.writes.now = ap length c.deref.ensures.value ∙ c.in_ok-body.ensures.sectors in
-    omega (arith, machine_sectors c.args.writes.now, c.requires.room, size)
+    omega (arith, machine_sectors c.args.writes.now, c.requires.room, ap length c.deref.ensures.value, c.in_ok-body.ensures.sectors)
 
 pub write_record-requires-clause-fits : goal.write_record-requires-clause-fits
 write_record-requires-clause-fits g c =
-    let size : length c.deref.result.now ≡ 512 * sectors_of c.args.writes.now = ap length c.deref.ensures.value ∙ c.in_ok-body.ensures.sectors in
-    omega (arith, machine_sectors c.args.writes.now, c.requires.room, size, c.args.self.now.fits)
+    omega (arith, machine_sectors c.args.writes.now, c.requires.room, ap length c.deref.ensures.value, c.in_ok-body.ensures.sectors, c.args.self.now.fits)
 
 pub returns-in-Err-clause-any_moment : goal.returns-in-Err-clause-any_moment
 returns-in-Err-clause-any_moment g c keeps lists stands =
@@ -29,24 +26,20 @@ returns-in-Err-clause-any_moment g c keeps lists stands =
 
 pub overflow_add-self-in-Ok : goal.overflow_add-self-in-Ok
 overflow_add-self-in-Ok g c =
-    let size : c.len.result ≡ 512 * sectors_of c.args.writes.now = c.len.ensures ∙ c.in_ok-body.body.ok.0 ∙ c.in_ok-body.ensures.sectors in
-    omega (arith, machine_sectors c.args.writes.now, c.requires.room, size, c.args.self.now.fits)
+    omega (arith, machine_sectors c.args.writes.now, c.requires.room, c.len.ensures, c.in_ok-body.body.ok.0, c.in_ok-body.ensures.sectors, c.args.self.now.fits)
 
 pub invariant_of-self-in-Ok : goal.invariant_of-self-in-Ok
-invariant_of-self-in-Ok g c =
-    let size : c.len.result ≡ 512 * sectors_of c.args.writes.now = c.len.ensures ∙ c.in_ok-body.body.ok.0 ∙ c.in_ok-body.ensures.sectors in
-    record {
-      in_range = omega (arith, machine_sectors c.args.writes.now, c.requires.room, size, c.write_record.ensures.size);
-      fits = omega (arith, c.args.self.now.fits, c.write_record.ensures.size);
-      counted = omega (arith, c.args.self.now.counted);
-    }
+invariant_of-self-in-Ok g c = record {
+  in_range = omega (arith, machine_sectors c.args.writes.now, c.requires.room, c.len.ensures, c.in_ok-body.body.ok.0, c.in_ok-body.ensures.sectors, c.write_record.ensures.size);
+  fits = omega (arith, c.args.self.now.fits, c.write_record.ensures.size);
+  counted = omega (arith, c.args.self.now.counted);
+}
 
 pub returns-clause-appended : goal.returns-clause-appended
 returns-clause-appended g c keeps lists stands =
-    let size : c.len.result ≡ 512 * sectors_of c.args.writes.now = c.len.ensures ∙ c.in_ok-body.body.ok.0 ∙ c.in_ok-body.ensures.sectors in
     let left = c.in-Ok.ensures.acknowledged keeps lists c.args.writes.now
     (next_record _ lists c.args.writes.now _ _ stands c.requires.proper c.in_ok-body.ensures.body c.in_ok-body.ensures.sectors c.deref.ensures.value) stands.left in
-    stands_after c.args.self.now _ lists c.args.writes.now stands c.requires.running (omega (arith, size)) refl c.in_ok-body.ensures.digest left
+    stands_after c.args.self.now _ lists c.args.writes.now stands c.requires.running (omega (arith, c.len.ensures, c.in_ok-body.body.ok.0, c.in_ok-body.ensures.sectors)) refl c.in_ok-body.ensures.digest left
 
 pub returns-clause-any_moment : goal.returns-clause-any_moment
 returns-clause-any_moment g c keeps lists stands =
@@ -55,19 +48,14 @@ returns-clause-any_moment g c keeps lists stands =
 
 pub returns-in-Err-clause-left : goal.returns-in-Err-clause-left
 returns-in-Err-clause-left g c keeps lists stands =
-    let run =
-    c.write_record.ensures.any_moment keeps lists c.args.writes.now
-    (next_record _ lists c.args.writes.now _ _ stands c.requires.proper c.in_ok-body.ensures.body c.in_ok-body.ensures.sectors c.deref.ensures.value) stands.left in
+    let run = returns-in-Err-clause-any_moment g c keeps lists stands in
     λ crash left. run.each crash (g.met.D.Sectors.counts_now keeps c.write_record.new.device (g.D.Sectors.moment c.args.self.now.device) crash run.later left)
 
 pub returns-clause-left : goal.returns-clause-left
 returns-clause-left g c keeps lists stands =
-    let run =
-    c.write_record.ensures.any_moment keeps lists c.args.writes.now
-    (next_record _ lists c.args.writes.now _ _ stands c.requires.proper c.in_ok-body.ensures.body c.in_ok-body.ensures.sectors c.deref.ensures.value) stands.left in
+    let run = returns-clause-any_moment g c keeps lists stands in
     λ crash left. run.each crash (g.met.D.Sectors.counts_now keeps c.write_record.new.device (g.D.Sectors.moment c.args.self.now.device) crash run.later left)
 
 pub returns-clause-used : goal.returns-clause-used
 returns-clause-used g c =
-    let size : c.len.result ≡ 512 * sectors_of c.args.writes.now = c.len.ensures ∙ c.in_ok-body.body.ok.0 ∙ c.in_ok-body.ensures.sectors in
-    omega (arith, size, machine_sectors c.args.writes.now)
+    omega (arith, c.len.ensures, c.in_ok-body.body.ok.0, c.in_ok-body.ensures.sectors, machine_sectors c.args.writes.now)

@@ -1,24 +1,24 @@
 use Rattle.std.proofs.Common.{◌≡◌, refl}
-use Rattle.commit_log.proofs.Appending.{log_opened}
-use Rattle.commit_log.proofs.Unique.{log_unique, log_not_damaged, log_is_log, log_not_old, settles_as, device_refused_log, device_refused_damaged, device_refused_no_log, device_refused_old, device_refused_left}
+use Rattle.commit_log.proofs.Recovering.{log_unique, log_not_damaged, log_is_log, log_not_old, settles_as, refused_log, refused_damaged, refused_no_log, refused_old, device_refused, device_refused_left}
 use Rattle.commit_log.specs.Format.{current}
+use Rattle.commit_log.proofs.Protocol.{log_opened}
 use Rattle.commit_log.proofs.log.Log.open_or_return.Goals as goal
 
 pub returns-in-Err-clause-found : goal.returns-in-Err-clause-found
 returns-in-Err-clause-found g c keeps disk lists len reads holds =
-    device_refused_log _ _ _ _ (c.in-Err.ensures.refused keeps) disk lists len reads holds
+    refused_log lists disk _ holds (device_refused _ _ _ _ (c.in-Err.ensures.refused keeps) disk len reads)
 
 pub returns-in-Err-clause-damaged : goal.returns-in-Err-clause-damaged
 returns-in-Err-clause-damaged g c keeps disk lists len reads holds =
-    device_refused_damaged _ _ _ _ (c.in-Err.ensures.refused keeps) disk lists len reads holds
+    refused_damaged lists disk _ holds (device_refused _ _ _ _ (c.in-Err.ensures.refused keeps) disk len reads)
 
 pub returns-in-Err-clause-no_log : goal.returns-in-Err-clause-no_log
 returns-in-Err-clause-no_log g c keeps disk len reads no_log =
-    device_refused_no_log _ _ _ _ (c.in-Err.ensures.refused keeps) disk len reads no_log
+    refused_no_log disk _ no_log (device_refused _ _ _ _ (c.in-Err.ensures.refused keeps) disk len reads)
 
 pub returns-in-Err-clause-older : goal.returns-in-Err-clause-older
 returns-in-Err-clause-older g c keeps disk len reads has =
-    device_refused_old _ _ _ _ (c.in-Err.ensures.refused keeps) disk len reads has
+    refused_old disk _ has (device_refused _ _ _ _ (c.in-Err.ensures.refused keeps) disk len reads)
 
 pub returns-clause-older : goal.returns-clause-older
 returns-clause-older g c keeps disk len reads has =
@@ -53,10 +53,3 @@ returns-clause-no_log g c keeps disk len reads no_log =
     let opened = c.in-Ok.ensures.opened keeps in
     let same : opened.0 ≡ disk = settles_as _ _ _ opened.0 disk opened.1 len reads in
     log_is_log current opened.2.lists disk (rw same at opened.2.holds) (no_log current)
-
-pub returns-in-Err-clause-cause : goal.returns-in-Err-clause-cause
-returns-in-Err-clause-cause g c = c.in-Err.ensures.fault
-
-pub returns-in-Err-clause-short : goal.returns-in-Err-clause-short
-returns-in-Err-clause-short g c few =
-    c.in-Err.ensures.short few

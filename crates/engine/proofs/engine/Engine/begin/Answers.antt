@@ -5,7 +5,7 @@ use Rattle.std.specs.Ordering.{nat_cmp}
 use Rattle.std.specs.BTreeMap.{insert_entry}
 use Rattle.pivot_check.specs.Kept.{CommittedValue}
 use Rattle.snapshot.specs.View.{new_view}
-use Rattle.engine.proofs.Calls.{begin_inside, begin_stopped, begin_full, begin_memory, begin_call, is_some_there, is_some_absent, running_if, one_more}
+use Rattle.engine.proofs.Calls.{begin_inside, begin_stopped, begin_full, begin_memory, begin_call, is_some_there, is_some_absent, running_if}
 use Rattle.engine.proofs.engine.Engine.begin.Goals as goal
 
 pub returns-then-contains_key-clause-step : goal.returns-then-contains_key-clause-step
@@ -26,7 +26,7 @@ returns-clause-step g c =
     let is : c.new.result ≡ new_view c.args.self.now.history.committed.facts.last = c.new.ensures.new ∙ ap new_view last in
     begin_call c.args.self.now _ c.args.s c.numbers_change.ensures (λ m is_map. subst (λ t. HasMade t m []) is (c.new.ensures.made m is_map)) (record { log = refl; history = refl })
     (is_some_absent _ (sym c.contains_key.ensures ∙ c.if-contains_key.false)) (running_if _ _ c.is_stopped.ensures c.if-is_stopped.false) (omega (arith, c.len.ensures.len))
-    (c.in_ok-insert.ensures.entries ∙ ap (insert_entry nat_cmp c.args.self.now.running.entries c.args.s) is) (one_more _ _ _ c.in_ok-insert.ensures.len (omega (arith, c.len.ensures.len)))
+    (c.in_ok-insert.ensures.entries ∙ ap (insert_entry nat_cmp c.args.self.now.running.entries c.args.s) is) (grind (arith, c.in_ok-insert.ensures.len, c.len.ensures.len))
 
 pub returns-in_err-insert-clause-step : goal.returns-in_err-insert-clause-step
 returns-in_err-insert-clause-step g c =

@@ -1,20 +1,41 @@
-use Rattle.commit_log.specs.LogState.{used_sectors}
-use Rattle.engine.proofs.Recovered.{opened_stands, stored_from, found_stands, idle_stands}
+use Rattle.std.proofs.lemmas.Grind.{common_steps}
+use Rattle.std.proofs.Common.{◌≡◌, ◌+◌, ℕ, true, false, [], sym, ap, refl, ◌∙◌, length, arith}
+use Rattle.std.proofs.lemmas.Bool.{both_ways}
+use Rattle.std.proofs.lemmas.List.{nil_from_length}
+use Rattle.std.proofs.lemmas.Slice.Zip.{AllZip-long}
+use Rattle.model.specs.Map.{KeyMap, IsMap}
+use Rattle.model.specs.Machine.{opened, IsReached}
+use Rattle.pivot_check.specs.Kept.{IsEmpty}
+use Rattle.sector.specs.declared.device.Sectors.{Ghosts}
+use Rattle.commit_log.specs.LogState.{is_stopped, used_sectors, sector_count}
+use Rattle.commit_log.specs.LogImage.{span}
+use Rattle.commit_log.specs.Recovery.{map_after}
+use Rattle.engine.specs.HistoryValue.{HistoryStandsFor}
+use Rattle.engine.specs.declared.engine.Engine.{Engine}
+use Rattle.engine.specs.StandsFor.{StandsFor}
+use Rattle.engine.specs.Recovery.{IsStored}
 use Rattle.engine.proofs.engine.Engine.open.Goals as goal
+
+reached_opened : (map : KeyMap) (used count : ℕ) → IsMap map → IsReached (opened map used count)
+reached_opened map used count h = record { contents = map; sectors_used = used; sectors = count; inputs = []; is_map = h; is = refl }
+
+opened_stands : {D : Type 0} {g : Ghosts D} (e : Engine D g) (map : KeyMap) (used count : ℕ) → is_stopped e.log ≡ false → used ≡ used_sectors e.log → sector_count e.log ≡ count → HistoryStandsFor e.history (λ _. true) map [] → IsEmpty e.history.committed.facts
+    → e.running.entries ≡ [] → (g.keeps_model → IsStored e.log map) → StandsFor e (opened map used count)
+opened_stands e map used count running taken size h facts none stored = grind (arith, common_steps, reached_opened, both_ways)
 
 pub returns-in-Ok-over-clause-opens : goal.returns-in-Ok-over-clause-opens
 returns-in-Ok-over-clause-opens g c = (
   c.in-Ok.opened.1,
   used_sectors c.in-Ok.opened.0,
-  opened_stands _ c.in-Ok.opened.1 _ c.in-Ok.ensures.running c.in-Ok.ensures.size c.in-Ok-over.ensures.stands c.in-Ok-over.ensures.empty c.new.ensures.empty
-      (λ keeps. let s = c.in-Ok.ensures.stands keeps in stored_from c.in-Ok.opened.0 c.in-Ok.opened.1 s.0 s.1 s.2),
+  opened_stands _ c.in-Ok.opened.1 _ _ c.in-Ok.ensures.running refl c.in-Ok.ensures.size c.in-Ok-over.ensures.stands c.in-Ok-over.ensures.empty c.new.ensures.empty
+      (λ keeps. let s = c.in-Ok.ensures.stands keeps in record { lists = s.0; stands = s.1; makes = sym s.2 }),
 )
 
 pub returns-in-Ok-over-clause-found : goal.returns-in-Ok-over-clause-found
 returns-in-Ok-over-clause-found g c keeps disk lists long reads image =
     let s = c.in-Ok.ensures.found keeps disk lists long reads image in
-    found_stands _ c.in-Ok.opened.1 _ lists s.0 s.1
-    (opened_stands _ c.in-Ok.opened.1 _ c.in-Ok.ensures.running c.in-Ok.ensures.size c.in-Ok-over.ensures.stands c.in-Ok-over.ensures.empty c.new.ensures.empty (λ k. stored_from c.in-Ok.opened.0 c.in-Ok.opened.1 lists s.0 s.1))
+    opened_stands _ (map_after [] lists) (2 + span lists) _ c.in-Ok.ensures.running (omega (arith, s.0.gate)) c.in-Ok.ensures.size (rw (← s.1) c.in-Ok-over.ensures.stands) c.in-Ok-over.ensures.empty c.new.ensures.empty
+    (λ k. record { lists = lists; stands = s.0; makes = refl })
 
 pub returns-in-Ok-over-clause-idle : goal.returns-in-Ok-over-clause-idle
-returns-in-Ok-over-clause-idle g c = idle_stands _ c.new.ensures.empty
+returns-in-Ok-over-clause-idle g c m h = nil_from_length m.running (AllZip-long _ _ m.running h.running ∙ ap length c.new.ensures.empty)

@@ -1,40 +1,38 @@
 use Rattle.std.proofs.Common.{ap, ◌∙◌}
 use Rattle.mio.specs.Events.{items}
+use Rattle.stream_driver.proofs.States.{leads_map}
 use Rattle.event_loop.proofs.Departing.{drives_serve}
 use Rattle.event_loop.specs.contracts.socket.SocketStream.TheImpl.{ghosts}
 use Rattle.event_loop.specs.Tables.{after_poll, slot_at}
 use Rattle.event_loop.proofs.Tables.{below_after, stands_after}
-use Rattle.event_loop.proofs.Entries.{driven_entries, ended_entries, ended_numbers, ended_sessions, polled_entries, polled_numbers, polled_sessions}
-use Rattle.event_loop.proofs.WholeTurns.{drives_keep}
+use Rattle.event_loop.proofs.Entries.{driven_entries, ended_entries, ended_remain, polled_entries, polled_remain, polled_sessions, remain_numbers, remain_sessions}
+use Rattle.event_loop.proofs.TableBytes.{drives_bytes}
 use Rattle.event_loop.proofs.server.EventLoop.drive.Goals as goal
 
 pub drive_ready-requires : goal.drive_ready-requires
 drive_ready-requires g c = polled_sessions c.args.self.now.table.slots c.make_polled_ready.new.table.slots (items c.events.result.now) c.make_polled_ready.ensures c.args.self.now.hub c.args.self.now.sessions
 
-pub invariant_of-self-clause-stands : goal.invariant_of-self-clause-stands
-invariant_of-self-clause-stands g c = stands_after c.args.self.now.hub c.drive_ready.new.hub _ c.args.self.now.stands c.drive_ready.ensures.driven.leads
-
-pub invariant_of-self-clause-serving : goal.invariant_of-self-clause-serving
-invariant_of-self-clause-serving g c =
-    drives_serve c.args.self.now.hub c.drive_ready.new.hub (g.D.Sectors.moment c.device.result.now)
-    (ap (λ d. g.D.Sectors.moment d) c.device.ensures) c.args.self.now.table.slots c.make_polled_ready.new.table.slots c.drive_ready.new.table.slots c.end_drives.new.table.slots (items c.events.result.now) c.make_polled_ready.ensures
-    (polled_sessions c.args.self.now.table.slots c.make_polled_ready.new.table.slots (items c.events.result.now) c.make_polled_ready.ensures c.args.self.now.hub c.args.self.now.sessions)
-    c.drive_ready.ensures.driven c.drive_ready.ensures.numbers c.end_drives.ensures.ended c.args.now _ _ c.end_drives.ensures.left c.args.self.now.serving
-
-pub invariant_of-self-clause-sessions : goal.invariant_of-self-clause-sessions
-invariant_of-self-clause-sessions g c = ended_sessions ghosts.tells ghosts.traffic _ c.drive_ready.new.table.slots c.end_drives.new.table.slots c.end_drives.ensures.ended c.drive_ready.new.hub c.drive_ready.ensures.sessions
-
-pub invariant_of-self-clause-entries : goal.invariant_of-self-clause-entries
-invariant_of-self-clause-entries g c =
-    ended_entries ghosts.tells ghosts.traffic _ c.drive_ready.new.table.slots c.end_drives.new.table.slots c.end_drives.ensures.ended c.drive_ready.new.hub
-    (driven_entries c.args.self.now.hub c.drive_ready.new.hub _ _ c.make_polled_ready.new.table.slots c.drive_ready.new.table.slots c.args.self.now.stands c.drive_ready.ensures.driven.leads
-    (polled_entries c.args.self.now.table.slots c.make_polled_ready.new.table.slots (items c.events.result.now) c.make_polled_ready.ensures c.args.self.now.hub c.args.self.now.entries))
-
-pub invariant_of-self-clause-numbers : goal.invariant_of-self-clause-numbers
-invariant_of-self-clause-numbers g c =
-    ended_numbers ghosts.tells ghosts.traffic _ c.drive_ready.new.table.slots c.end_drives.new.table.slots c.end_drives.ensures.ended c.args.self.now.next
-    (below_after c.args.self.now.next c.make_polled_ready.new.table.slots c.drive_ready.new.table.slots
-    (polled_numbers c.args.self.now.table.slots c.make_polled_ready.new.table.slots (items c.events.result.now) c.make_polled_ready.ensures c.args.self.now.next c.args.self.now.numbers) c.drive_ready.ensures.numbers)
+pub invariant_of-self : goal.invariant_of-self
+invariant_of-self g c =
+    let old = c.args.self.now in
+    let ready = c.make_polled_ready.new.table.slots in
+    let driven = c.drive_ready.new.table.slots in
+    let new = c.end_drives.new.table.slots in
+    let later = c.drive_ready.new.hub in
+    let polled = c.make_polled_ready.ensures in
+    let events = items c.events.result.now in
+    let ended = c.end_drives.ensures.ended in
+    record {
+      room = old.room;
+      stands = stands_after old.hub later _ old.stands c.drive_ready.ensures.driven.leads;
+      serving = drives_serve old.hub later old.table.slots new events (record { ready = ready; told = polled; driven = driven; drives = c.drive_ready.ensures.driven; ended = rw c.device.ensures at ended })
+          old.sessions c.args.now _ _ (rw c.device.ensures at c.end_drives.ensures.left) old.serving;
+      sessions = remain_sessions later driven new (ended_remain driven new ghosts.tells ghosts.traffic _ ended) c.drive_ready.ensures.sessions;
+      entries = ended_entries driven new ghosts.tells ghosts.traffic _ ended later
+          (driven_entries old.hub later _ _ ready driven old.stands c.drive_ready.ensures.driven.leads (polled_entries old.table.slots ready events polled old.hub old.entries));
+      numbers = remain_numbers old.next driven new (ended_remain driven new ghosts.tells ghosts.traffic _ ended)
+          (below_after old.next ready driven (remain_numbers old.next old.table.slots ready (polled_remain old.table.slots ready events polled) old.numbers) c.drive_ready.ensures.numbers);
+    }
 
 pub returns-clause-drives : goal.returns-clause-drives
 returns-clause-drives g c = (
@@ -50,6 +48,7 @@ returns-clause-drives g c = (
 
 pub returns-clause-keeps : goal.returns-clause-keeps
 returns-clause-keeps g c =
-    drives_keep c.args.self.now.hub c.drive_ready.new.hub _ c.args.self.now.table.slots c.make_polled_ready.new.table.slots c.drive_ready.new.table.slots c.end_drives.new.table.slots
-    (items c.events.result.now) c.make_polled_ready.ensures
-    (polled_sessions c.args.self.now.table.slots c.make_polled_ready.new.table.slots (items c.events.result.now) c.make_polled_ready.ensures c.args.self.now.hub c.args.self.now.sessions) c.end_drives.ensures.ended c.drive_ready.ensures.driven.leads
+    let has_own = polled_sessions c.args.self.now.table.slots c.make_polled_ready.new.table.slots (items c.events.result.now) c.make_polled_ready.ensures c.args.self.now.hub c.args.self.now.sessions in
+    leads_map c.args.self.now.hub c.drive_ready.new.hub _ _ c.drive_ready.ensures.driven.leads (λ h k stands d has.
+    drives_bytes ghosts.tells ghosts.traffic _ c.args.self.now.table.slots c.make_polled_ready.new.table.slots c.drive_ready.new.table.slots c.end_drives.new.table.slots
+    (items c.events.result.now) c.make_polled_ready.ensures has_own.own c.end_drives.ensures.ended h k d has)

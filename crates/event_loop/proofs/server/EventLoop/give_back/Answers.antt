@@ -1,19 +1,15 @@
-use Rattle.std.proofs.Common.{refl}
+use Rattle.std.proofs.Math.Logic.{∥∥₁_map}
 use Rattle.event_loop.proofs.Departing.{rest_serves}
-use Rattle.event_loop.proofs.GivenBack.{in_some, rested_entries, rested_sessions}
+use Rattle.event_loop.proofs.Entries.{absent_in_each}
+use Rattle.event_loop.proofs.WholeTurns.{in_some}
 use Rattle.event_loop.proofs.server.EventLoop.give_back.Goals as goal
 
-pub invariant_of-self-clause-stands : goal.invariant_of-self-clause-stands
-invariant_of-self-clause-stands g c = in_some c.args.self.now.hub c.reclaim-self.new.self c.reclaim-self.ensures.ran _ c.args.self.now.stands
-
-pub invariant_of-self-clause-serving : goal.invariant_of-self-clause-serving
-invariant_of-self-clause-serving g c = rest_serves c.args.self.now.hub c.reclaim-self.new.self c.reclaim-self.ensures.ran c.args.self.now.table.slots c.args.self.now.lingering.queue.items c.args.self.now.serving
-
-pub invariant_of-self-clause-sessions : goal.invariant_of-self-clause-sessions
-invariant_of-self-clause-sessions g c = rested_sessions c.args.self.now.hub c.reclaim-self.new.self c.reclaim-self.ensures.ran c.args.self.now.table.slots c.args.self.now.sessions
-
-pub invariant_of-self-clause-entries : goal.invariant_of-self-clause-entries
-invariant_of-self-clause-entries g c = rested_entries c.args.self.now.hub c.reclaim-self.new.self c.reclaim-self.ensures.ran c.args.self.now.table.slots c.args.self.now.stands c.args.self.now.entries
-
-pub returns-clause-gives_back : goal.returns-clause-gives_back
-returns-clause-gives_back g c = record { hub = c.reclaim-self.ensures; table = refl; next = refl; port = refl; backlog = refl; lingering = refl; refused = refl }
+pub invariant_of-self : goal.invariant_of-self
+invariant_of-self g c = let old = c.args.self.now in record {
+  room = old.room;
+  stands = in_some old.hub c.reclaim-self.new.self c.reclaim-self.ensures.ran _ old.stands;
+  serving = rest_serves old.hub c.reclaim-self.new.self c.reclaim-self.ensures.ran old.table.slots old.lingering.queue.items old.serving;
+  sessions = record { present = λ key entry e alive. in_some old.hub c.reclaim-self.new.self c.reclaim-self.ensures.ran _ (old.sessions.present key entry e alive); own = old.sessions.own };
+  entries = λ k stands s without. absent_in_each c.reclaim-self.new.self s (∥∥₁_map old.stands (λ w. (w.0, c.reclaim-self.ensures.ran.2.stands w.0 w.1, old.entries w.0 w.1 s without))) k stands;
+  numbers = old.numbers;
+}

@@ -7,11 +7,9 @@ use Rattle.event_loop.specs.declared.connections.TheConstants.{LINGERER}
 use Rattle.event_loop.specs.Lingerings.{lingerers_of}
 use Rattle.event_loop.specs.Turns.{accepts_now, is_told_of}
 use Rattle.event_loop.specs.Waits.{nanos_of}
-use Rattle.event_loop.proofs.Departing.{is_served, turns_serve}
-use Rattle.event_loop.proofs.Ending.{keeps_what_leaves}
-use Rattle.event_loop.proofs.GivenBack.{accepts_keep, rest_keeps, rest_leads, then_accepts}
-use Rattle.event_loop.proofs.OneTurn.{turned_by}
-use Rattle.event_loop.proofs.Waited.{wait_failed, wait_told}
+use Rattle.event_loop.proofs.Departing.{is_served, turns_serve, keeps_what_leaves}
+use Rattle.event_loop.proofs.WholeTurns.{accepts_keep, rest_keeps, rest_leads, then_accepts}
+use Rattle.event_loop.proofs.OneTurn.{turned_by, wait_failed, wait_told}
 use Rattle.event_loop.proofs.server.EventLoop.turn.Goals as goal
 
 pub invariant_of-self-4-clause-serving : goal.invariant_of-self-4-clause-serving

@@ -1,16 +1,19 @@
-use Rattle.std.proofs.Common.{refl}
+use Rattle.std.proofs.Common.{[], ap, refl}
 use Rattle.event_loop.specs.Sockets.{traffic_of}
 use Rattle.event_loop.proofs.Socketing.{departed_read, given_read, taken_read}
 use Rattle.event_loop.proofs.socket.SocketStream.read.Goals as goal
 
 pub returns-clause-given : goal.returns-clause-given
 returns-clause-given g c =
-    given_read c.args.self.now.socket c.read.new.self c.note_read.new.self.socket c.read.new.into c.read.result c.read.ensures.next c.note_read.ensures.socket c.read.ensures.over c.read.ensures.happened c.read_answer-answer.result c.read_answer-answer.ensures.bytes
+    given_read c.args.self.now.socket c.read.new.self c.read.new.self c.read.new.into c.read.result c.read.ensures.next refl c.read.ensures.over c.read.ensures.happened c.read_answer-answer.result c.read_answer-answer.ensures.bytes
 
 pub returns-clause-taken : goal.returns-clause-taken
-returns-clause-taken g c = taken_read c.args.self.now.socket c.read.new.self c.note_read.new.self.socket c.read.new.into c.read.result c.read.ensures.next c.note_read.ensures.socket c.read.ensures.over c.read.ensures.happened
+returns-clause-taken g c = taken_read c.args.self.now.socket c.read.new.self c.read.new.self c.read.new.into c.read.result c.read.ensures.next refl c.read.ensures.over c.read.ensures.happened
 
 pub returns-clause-departed : goal.returns-clause-departed
 returns-clause-departed g c =
-    departed_read c.args.self.now.socket c.read.new.self c.note_read.new.self.socket c.read.new.into c.read.result c.read.ensures.next c.note_read.ensures.socket c.read.ensures.over c.read.ensures.happened (g.D.Sectors.moment c.args.device.now)
-    (traffic_of c.args.self.now) (traffic_of c.note_read.new.self) refl refl
+    departed_read c.args.self.now.socket c.read.new.self c.read.new.self c.read.new.into c.read.result c.read.ensures.next refl c.read.ensures.over c.read.ensures.happened (g.D.Sectors.moment c.args.device.now)
+    (traffic_of c.args.self.now) _ refl refl
+
+pub returns-clause-answered : goal.returns-clause-answered
+returns-clause-answered g c = c.note_read.ensures _ _ [] [] _ [] _ _ (ap (λ s. s.connection) c.read.ensures.next)

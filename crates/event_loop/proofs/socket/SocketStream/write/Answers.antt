@@ -1,18 +1,21 @@
-use Rattle.std.proofs.Common.{refl}
+use Rattle.std.proofs.Common.{[], ap, refl}
 use Rattle.event_loop.specs.Sockets.{traffic_of}
 use Rattle.event_loop.proofs.Socketing.{departed_written, given_written, taken_written}
 use Rattle.event_loop.proofs.socket.SocketStream.write.Goals as goal
 
 pub returns-clause-given : goal.returns-clause-given
 returns-clause-given g c =
-    given_written c.args.self.now.socket c.write.new.self c.note_write.new.self.socket c.args.from.now c.write.result c.write.ensures.next c.note_write.ensures.socket c.write.ensures.over (g.D.Sectors.moment c.args.device.now) c.write.ensures.happened
+    given_written c.args.self.now.socket c.write.new.self c.write.new.self c.args.from.now c.write.result c.write.ensures.next refl c.write.ensures.over (g.D.Sectors.moment c.args.device.now) c.write.ensures.happened
 
 pub returns-clause-taken : goal.returns-clause-taken
 returns-clause-taken g c =
-    taken_written c.args.self.now.socket c.write.new.self c.note_write.new.self.socket c.args.from.now c.write.result c.write.ensures.next c.note_write.ensures.socket c.write.ensures.over (g.D.Sectors.moment c.args.device.now) c.write.ensures.happened
+    taken_written c.args.self.now.socket c.write.new.self c.write.new.self c.args.from.now c.write.result c.write.ensures.next refl c.write.ensures.over (g.D.Sectors.moment c.args.device.now) c.write.ensures.happened
     c.write_answer-answer.result c.write_answer-answer.ensures.bytes
 
 pub returns-clause-departed : goal.returns-clause-departed
 returns-clause-departed g c =
-    departed_written c.args.self.now.socket c.write.new.self c.note_write.new.self.socket c.args.from.now c.write.result c.write.ensures.next c.note_write.ensures.socket c.write.ensures.over (g.D.Sectors.moment c.args.device.now) c.write.ensures.happened
-    (traffic_of c.args.self.now) (traffic_of c.note_write.new.self) refl refl refl
+    departed_written c.args.self.now.socket c.write.new.self c.write.new.self c.args.from.now c.write.result c.write.ensures.next refl c.write.ensures.over (g.D.Sectors.moment c.args.device.now) c.write.ensures.happened
+    (traffic_of c.args.self.now) _ refl refl refl
+
+pub returns-clause-answered : goal.returns-clause-answered
+returns-clause-answered g c = c.note_write.ensures _ _ [] [] _ [] _ _ (ap (λ s. s.connection) c.write.ensures.next)

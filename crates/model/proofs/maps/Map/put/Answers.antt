@@ -1,6 +1,6 @@
 use Rattle.std.proofs.Common.{rules, subst}
 use Rattle.model.specs.Key.{IsKey}
-use Rattle.model.proofs.MapPairs.{put_kept}
+use Rattle.model.proofs.Lookups.{put_kept}
 use Rattle.model.proofs.maps.Map.put.Goals as goal
 
 pub invariant_of-self : goal.invariant_of-self

@@ -1,4 +1,4 @@
-use Rattle.model.proofs.MapPairs.{removed_at, removed_none, removal_kept}
+use Rattle.model.proofs.Lookups.{removed_at, removed_none, removal_kept}
 use Rattle.model.proofs.maps.Map.remove.Goals as goal
 
 pub returns-in-Ok : goal.returns-in-Ok

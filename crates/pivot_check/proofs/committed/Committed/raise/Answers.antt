@@ -1,6 +1,6 @@
-use Rattle.std.proofs.Common.{refl, sym, ap, subst, ◌∙◌, arith}
+use Rattle.std.proofs.Common.{refl, sym, subst, arith}
 use Rattle.model.specs.Map.{Bytes}
-use Rattle.last_readers.specs.Readers.{cut, last_reader}
+use Rattle.last_readers.specs.Readers.{last_reader}
 use Rattle.pivot_check.specs.Kept.{Facts, CommittedValue}
 use Rattle.pivot_check.specs.Inside.{postings_in}
 use Rattle.pivot_check.specs.StandsFor.{StandsFor}
@@ -12,9 +12,6 @@ pub returns-clause-stands_for : goal.returns-clause-stands_for
 returns-clause-stands_for c = λ h s.
     let f : Facts = record { readers = c.self.inside.readers.readers; postings = postings_in c.self.inside.runs.items; oldest = c.self.inside.oldest; last = c.self.inside.last } in
     let was : StandsFor f h = subst (λ (v : CommittedValue). StandsFor v.facts h) (sym c.self.view_is) s in
-    let newer = c.max-self-inside.ensures in
     let after = c.forget-due.new.self.readers in
-    let left = λ (k : Bytes).
-    cut_later c.self.inside.oldest c.args.oldest (last_reader f.readers k) (last_reader after k) (c.self.invariant.above k) (c.forget-due.ensures.forgotten k)
-    ∙ ap (λ m. cut m (last_reader f.readers k)) (sym newer) in
-    forgotten f h was c.max-self-inside.result (omega (arith, newer)) after left f.postings (λ t. refl)
+    let cut_to = λ (k : Bytes). cut_later c.self.inside.oldest c.args.oldest (last_reader f.readers k) (last_reader after k) (c.self.invariant.above k) (c.forget-due.ensures.forgotten k) in
+    forgotten f h was c.max-self-inside.result (omega (arith, c.max-self-inside.ensures)) after (λ k. grind (arith, cut_to k)) f.postings (λ t. refl)

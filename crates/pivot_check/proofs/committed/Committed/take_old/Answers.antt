@@ -1,14 +1,11 @@
-use Rattle.std.proofs.Common.{subst, sym, arith}
-use Rattle.last_readers.specs.Readers.{last_reader}
+use Rattle.std.proofs.Common.{subst, sym}
 use Rattle.pivot_check.specs.Inside.{postings_in}
 use Rattle.pivot_check.specs.Kept.{CommittedValue, Facts}
 use Rattle.pivot_check.specs.StandsFor.{StandsFor}
-use Rattle.pivot_check.proofs.Judging.{forgotten}
-use Rattle.pivot_check.proofs.LastSources.{cut_all}
+use Rattle.pivot_check.proofs.Judging.{shortened}
 use Rattle.pivot_check.proofs.committed.Committed.take_old.Goals as goal
 
 pub returns-clause-stands_for : goal.returns-clause-stands_for
 returns-clause-stands_for c = λ h s.
     let f : Facts = record { readers = c.self.inside.readers.readers; postings = postings_in c.self.inside.runs.items; oldest = c.self.inside.oldest; last = c.self.inside.last } in
-    let was : StandsFor f h = subst (λ (v : CommittedValue). StandsFor v.facts h) (sym c.self.view_is) s in
-    forgotten f h was f.oldest (omega arith) f.readers (λ k. cut_all f.oldest f.oldest (last_reader f.readers k) (omega arith) (c.self.invariant.above k)) (postings_in c.take_old.new.runs.items) c.take_old.ensures.same
+    shortened f h (subst (λ (v : CommittedValue). StandsFor v.facts h) (sym c.self.view_is) s) (postings_in c.take_old.new.runs.items) c.take_old.ensures.same

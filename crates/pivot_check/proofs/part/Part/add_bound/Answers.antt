@@ -1,7 +1,6 @@
-use Rattle.std.proofs.Common.{◌≡◌, ◌≤◌, ◌-◌, ◌*◌, length, take, drop, length-drop, ap, sym, ◌∙◌, arith}
-use Rattle.std.proofs.lemmas.List.{take_all}
+use Rattle.std.proofs.Common.{◌≤◌, ◌-◌, ◌*◌, length, take, drop, length-drop, ap, sym, ◌∙◌, arith}
+use Rattle.std.proofs.lemmas.List.{take_all, take_rest}
 use Rattle.pivot_check.specs.Bounds.{are_from_bound}
-use Rattle.pivot_check.proofs.Lists.{to_the_end}
 use Rattle.pivot_check.proofs.Passing.{next_bound}
 use Rattle.pivot_check.proofs.part.Part.add_bound.Goals as goal
 
@@ -16,15 +15,12 @@ invariant_of-self c =
     let is = c.len-first.ensures in
     let there = c.len.ensures in
     let ends = c.if-len-first-eq-BLOCK.true in
-    let long : length part.bounds.items ≡ n = omega (arith, count, is) in
     let rest : length (drop at ps) ≤ 64 = omega (arith, length-drop at ps, len, there, ends) in
-    let more = c.push_reserved.ensures.len in
-    let after = c.push_reserved.new.self.ok.0 in
+    let own = ap (are_from_bound c.of.result) (take_all 64 (drop at ps) rest ∙ sym (take_rest ps at) ∙ ap (λ l. take (length l - at) (drop at l)) (sym c.deref.ensures.value)) ∙ c.of.ensures in
     record {
       within = part.within;
       rising = part.rising;
       bounded = part.bounded;
-      blocks = next_bound part.bounds.items c.push_reserved.new.self.items ps n c.of.result c.push_reserved.ensures.items long
-          (ap (are_from_bound c.of.result) (take_all 64 (drop at ps) rest ∙ sym (to_the_end at ps) ∙ ap (λ l. take (length l - at) (drop at l)) (sym c.deref.ensures.value)) ∙ c.of.ensures) part.blocks;
-      whole = omega (arith, len, count, is, there, ends, more, after);
+      blocks = next_bound part.bounds.items c.push_reserved.new.self.items ps n c.of.result c.push_reserved.ensures.items (omega (arith, count, is)) own part.blocks;
+      whole = omega (arith, len, count, is, there, ends, c.push_reserved.ensures.len, c.push_reserved.new.self.ok.0);
     }

@@ -1,7 +1,7 @@
-use Rattle.std.proofs.Common.{◌∙◌, ap, sym, drop}
+use Rattle.std.proofs.Common.{drop}
 use Rattle.marks.specs.Lent.{lent_mark}
 use Rattle.std.proofs.lemmas.Bool.{and_parts}
-use Rattle.pivot_check.specs.Postings.{lesser, asked_of, is_asked}
+use Rattle.pivot_check.specs.Postings.{asked_of}
 use Rattle.pivot_check.proofs.Passing.{passed_over, all_left}
 use Rattle.pivot_check.proofs.part.Part.least.Goals as goal
 
@@ -9,7 +9,3 @@ pub returns-then-not-may_lower : goal.returns-then-not-may_lower
 returns-then-not-may_lower c =
     passed_over c.args.found c.args.begin c.args.flagged (asked_of (lent_mark c.args.mark) c.args.begin c.args.flagged) (λ p e. (and_parts _ _ e).1) (drop c.args.self.now.start c.args.self.now.written.items)
     (all_left _ c.args.self.now.start c.args.self.now.written.items (c.may_lower.ensures c.if-not-may_lower.true))
-
-pub returns : goal.returns
-returns c =
-    c.least_between.ensures ∙ ap (lesser c.args.found) (sym (c.covered_by.ensures.covered (is_asked c.args.begin c.args.flagged)))

@@ -1,4 +1,4 @@
-use Rattle.std.proofs.Common.{◌<◌, length, drop, add-one, arith, ◌∙◌, ap}
+use Rattle.std.proofs.Common.{drop, arith, ◌∙◌, ap}
 use Rattle.marks.specs.Marked.{marks_of}
 use Rattle.std.proofs.lemmas.Bool.{and_parts}
 use Rattle.pivot_check.specs.Postings.{least, lesser, covered_of}
@@ -13,13 +13,11 @@ returns-then-not-may_lower c =
     (all_left _ c.args.self.now.start c.args.self.now.written.items (c.may_lower.ensures c.if-not-may_lower.true))
 
 pub loop-place-preserved : goal.loop-place-preserved
-loop-place-preserved c =
-    let places = c.as_slice-places.result.now in
-    let i = c.loop-place.place-index in
-    let within : i < length places = omega (arith, c.loop-place-test.true) in (
-      rw add-one (next_place (marks_of c.args.order.now.marks.now) places i c.args.begin c.args.flagged (drop c.args.self.now.start c.args.self.now.written.items) c.loop-place.looked.found c.look_at-looked.result.found _ within c.look_at-looked.ensures.found c.loop-place.invariant.0),
-      c.look_at-looked.ensures.looked,
-    )
+loop-place-preserved c = (
+  next_place (marks_of c.args.order.now.marks.now) c.as_slice-places.result.now c.loop-place.place-index c.args.begin c.args.flagged (drop c.args.self.now.start c.args.self.now.written.items) c.loop-place.looked.found c.look_at-looked.result.found _
+      (omega (arith, c.loop-place-test.true)) c.look_at-looked.ensures.found c.loop-place.invariant.0,
+  c.look_at-looked.ensures.looked,
+)
 
 pub returns : goal.returns
 returns c =

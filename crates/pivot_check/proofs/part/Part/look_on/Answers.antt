@@ -1,4 +1,4 @@
-use Rattle.std.proofs.Common.{◌≤◌, arith}
+use Rattle.std.proofs.Common.{arith}
 use Rattle.pivot_check.specs.Postings.{between}
 use Rattle.pivot_check.proofs.Looking.{looked_before, looked_anew, looked_further, looked_joined}
 use Rattle.pivot_check.proofs.part.Part.look_on.Goals as goal
@@ -11,25 +11,17 @@ returns-then-span-seen-clause-looked c = record {
 }
 
 pub returns-then-span-seen-2-clause-found : goal.returns-then-span-seen-2-clause-found
-returns-then-span-seen-2-clause-found c =
-    let low : c.args.looked.seen.first ≤ c.args.span.first = omega arith in
-    let high : c.args.span.end ≤ c.args.looked.seen.end = omega arith in
-    looked_before c.args.looked.found c.args.begin c.args.flagged c.args.looked.seen.first c.args.looked.seen.end c.args.span.first c.args.span.end c.args.self.now.written.items low c.requires.order high c.requires.looked.kept
+returns-then-span-seen-2-clause-found c = looked_before c.args.looked.found c.args.begin c.args.flagged c.args.looked.seen.first c.args.looked.seen.end c.args.span.first c.args.span.end c.args.self.now.written.items
+    (omega arith) c.requires.order (omega arith) c.requires.looked.kept
 
 pub returns-clause-found : goal.returns-clause-found
-returns-clause-found c =
-    let low : c.args.looked.seen.first ≤ c.args.span.first = omega arith in
-    let mid : c.args.span.first ≤ c.args.looked.seen.end = omega arith in
-    let high : c.args.looked.seen.end ≤ c.args.span.end = omega arith in
-    looked_further c.args.looked.found c.least_between-found-2.result c.args.begin c.args.flagged c.args.self.now.written.items c.args.looked.seen.first c.args.span.first c.args.looked.seen.end c.args.span.end low mid high c.requires.looked.kept c.least_between-found-2.ensures
+returns-clause-found c = looked_further c.args.looked.found c.least_between-found-2.result c.args.begin c.args.flagged c.args.self.now.written.items c.args.looked.seen.first c.args.span.first c.args.looked.seen.end c.args.span.end
+    (omega arith) (omega arith) (omega arith) c.requires.looked.kept c.least_between-found-2.ensures
 
 pub returns-clause-looked : goal.returns-clause-looked
-returns-clause-looked c =
-    let mid = c.requires.looked.order in
-    let high : c.args.looked.seen.end ≤ c.args.span.end = omega arith in
-    let low : c.args.looked.seen.first ≤ c.args.span.end = omega (arith, mid, high) in
-    record {
-      order = low;
-      within = c.requires.within;
-      kept = looked_joined c.args.looked.found c.least_between-found-2.result c.args.begin c.args.flagged c.args.self.now.written.items c.args.looked.seen.first c.args.looked.seen.end c.args.span.end mid high c.requires.looked.kept c.least_between-found-2.ensures;
-    }
+returns-clause-looked c = record {
+  order = omega (arith, c.requires.looked.order);
+  within = c.requires.within;
+  kept = looked_joined c.args.looked.found c.least_between-found-2.result c.args.begin c.args.flagged c.args.self.now.written.items c.args.looked.seen.first c.args.looked.seen.end c.args.span.end
+      c.requires.looked.order (omega arith) c.requires.looked.kept c.least_between-found-2.ensures;
+}

@@ -1,8 +1,8 @@
-use Rattle.std.proofs.Common.{drop, length, ap, sym, subst, ◌∙◌, arith}
-use Rattle.std.proofs.lemmas.List.{length_push}
+use Rattle.std.proofs.Common.{[], ◌∷◌, drop, length, ap, sym, subst, ◌∙◌, arith}
+use Rattle.std.proofs.lemmas.List.{drop-append-le, length_push}
 use Rattle.pivot_check.specs.Postings.{keys_rise}
 use Rattle.pivot_check.specs.Bounds.{are_from_bound, AreBounds}
-use Rattle.pivot_check.proofs.Passing.{bounds_stay, drop-push, more_from, pushed_from}
+use Rattle.pivot_check.proofs.Passing.{bounds_stay, more_from, pushed_from}
 use Rattle.pivot_check.proofs.part.Part.push.Goals as goal
 
 pub invariant_of-self : goal.invariant_of-self
@@ -16,13 +16,8 @@ invariant_of-self c =
     let longer = ap length is ∙ length_push ps w in
     record {
       within = omega (arith, within, longer);
-      rising = ap (λ l. keys_rise (drop part.start l)) is ∙ ap keys_rise (drop-push ps part.start w within) ∙ c.requires.rising;
+      rising = ap (λ l. keys_rise (drop part.start l)) is ∙ ap keys_rise (drop-append-le part.start ps (w ∷ []) within) ∙ c.requires.rising;
       bounded = ap (are_from_bound c.with-self.result) is ∙ pushed_from c.with-self.result ps w (more_from part.bound c.with-self.result ps c.with-self.ensures.others part.bounded) c.with-self.ensures.posting;
       blocks = subst (AreBounds part.bounds.items) (sym is) (bounds_stay part.bounds.items ps w whole part.blocks);
       whole = omega (arith, whole, longer);
     }
-
-pub returns-clause-added : goal.returns-clause-added
-returns-clause-added c =
-    let part = c.args.self.now in
-    (λ i. drop (c.add_bound.ensures.start i) (c.add_bound.ensures.written i).items) ∙ ap (drop part.start) c.push_reserved.ensures.items ∙ drop-push part.written.items part.start c.args.written part.within

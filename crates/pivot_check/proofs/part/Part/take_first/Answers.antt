@@ -1,6 +1,5 @@
-use Rattle.std.proofs.Common.{◌≡◌, ◌<◌, ◌+◌, ◌*◌, suc, ◌∷◌, length, drop, ap, sym, ◌∙◌, arith}
+use Rattle.std.proofs.Common.{◌<◌, ◌+◌, ◌*◌, length, drop, ap, sym, ◌∙◌, arith}
 use Rattle.std.proofs.lemmas.List.{drop-drop, drop-set-lt, length-set}
-use Rattle.std.proofs.Math.Seq.{drop-cons}
 use Rattle.pivot_check.specs.Postings.{Posting, keys_rise}
 use Rattle.pivot_check.proofs.Walks.{rest_rises}
 use Rattle.pivot_check.proofs.Passing.{set_from, set_all}
@@ -25,12 +24,3 @@ invariant_of-self c =
       blocks = λ j b lt. set_from _ ps i is was (64 * j) 64 number flag (part.blocks j b lt);
       whole = omega (arith, whole, long);
     }
-
-pub returns-clause-taken : goal.returns-clause-taken
-returns-clause-taken c =
-    let ps = c.args.self.now.written.items in
-    let i = c.args.self.now.start in
-    let was = c.index_mut.result.now in
-    let next : suc i ≡ i + 1 = omega arith in
-    let value = sym (c.take-written.ensures.taken ∙ c.index_mut.ensures.value) in
-    drop-cons ps i was c.requires ∙ (λ k. value k ∷ drop (next k) ps) ∙ ap (λ l. c.take-written.result ∷ l) (sym (drop-set-lt (i + 1) ps i c.take-written.new.self (omega arith)))

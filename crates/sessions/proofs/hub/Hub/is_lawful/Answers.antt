@@ -1,4 +1,4 @@
-use Rattle.sessions.proofs.RunLaws.{lawful_at}
+use Rattle.sessions.proofs.Runs.{lawful_at}
 use Rattle.sessions.proofs.hub.Hub.is_lawful.Goals as goal
 
 pub returns : goal.returns

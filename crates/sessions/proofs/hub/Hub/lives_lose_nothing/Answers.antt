@@ -1,6 +1,5 @@
 use Rattle.std.proofs.Common.{[], refl}
-use Rattle.sessions.proofs.LivesLaws.{cuts_reopen, from_disk}
-use Rattle.sessions.proofs.OneOrders.{one_history}
+use Rattle.sessions.proofs.LivesLaws.{cuts_reopen, from_disk, one_history}
 use Rattle.sessions.proofs.hub.Hub.lives_lose_nothing.Goals as goal
 
 pub returns-clause-lives : goal.returns-clause-lives

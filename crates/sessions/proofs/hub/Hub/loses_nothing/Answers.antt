@@ -6,4 +6,4 @@ pub returns-clause-crash : goal.returns-clause-crash
 returns-clause-crash g c keeps = loses_nothing c.args.self.now g.met.D.Sectors.only_now g.met.D.Sectors.counts_now keeps
 
 pub returns-clause-answered : goal.returns-clause-answered
-returns-clause-answered g c keeps = keeps_answered c.args.self.now g.met.D.Sectors.only_now g.met.D.Sectors.counts_now keeps c.args.self.now
+returns-clause-answered g c = keeps_answered c.args.self.now g.met.D.Sectors.only_now g.met.D.Sectors.counts_now

@@ -20,9 +20,3 @@ returns-in-Ok-clause-opens g c keeps = record {
       let P : KeyMap → Type 0 = λ m. StandsFor c.new.result (hub_over (opened m (2 + span x.0) (g.D.Sectors.size c.args.dev))) in
       record { used = 2 + span x.0; stands = subst P x.2 (c.new.ensures.stands _ found) });
 }
-
-pub returns-in-Err-clause-opens : goal.returns-in-Err-clause-opens
-returns-in-Err-clause-opens g c keeps = record {
-  during = c.in-Err.ensures.during keeps;
-  ends = λ image map long reads x. c.in-Err.ensures.found keeps image x.0 long reads x.1;
-}

@@ -1,50 +1,34 @@
-use Rattle.std.proofs.Common.{◌≡◌, ◌≤◌, ◌<◌, ◌++◌, length, refl, sym, ap, ◌∙◌, arith, true, false}
-use Rattle.sessions.specs.SessionStreams.{SessionState}
-use Rattle.sessions.specs.SessionStreams.{room, is_open}
-use Rattle.sessions.proofs.EventSteps.{stream-some, stream-none, reaches, unchanged, receive-unknown, receive-idle, receive-no_room, receive-done, set_is, same_is, plain}
+use Rattle.std.proofs.Common.{◌≡◌, length, nat_lt, refl, sym, ◌∙◌, arith, true, false, lt-ltb, le-ltb}
+use Rattle.std.proofs.lemmas.Map.Steps.{set_value_same}
+use Rattle.sessions.specs.SessionStreams.{hub_step, More, room}
+use Rattle.sessions.proofs.EventSteps.{leads, stream-some, stream-none, set_is}
 use Rattle.sessions.proofs.hub.Hub.receive.Goals as goal
 
 pub returns-in-None-clause-step : goal.returns-in-None-clause-step
-returns-in-None-clause-step g c = (
-  plain _ _,
-  refl,
-  refl,
-  λ h stands. (
-      unchanged c.args.self.now _ h stands _ _ _ refl refl refl _ tt (receive-unknown h c.args.s c.args.piece.now _ (stream-none c.args.self.now h stands c.args.s (sym c.in-None.ensures.value)))),
-)
+unfolding hub_step
+returns-in-None-clause-step g c = leads c.args.self.now _ _ _ More (λ h stands. (
+    let none = stream-none c.args.self.now h stands c.args.s c.in-None.ensures.value in
+    (tt, rw none (record { engine = stands.engine; sessions = stands.sessions; latest = stands.latest; outcome_is = refl }))))
 
 pub returns-then-not-is_open-clause-step : goal.returns-then-not-is_open-clause-step
-returns-then-not-is_open-clause-step g c = (
-  plain _ _,
-  refl,
-  refl,
-  λ h stands. (
-      let f = stream-some c.args.self.now h stands c.args.s _ (sym c.in-Some.ensures.value) in
-      let shut : is_open f.stream.now.status ≡ false = ap (λ (x : SessionState). is_open x.status) f.now ∙ sym c.is_open.ensures ∙ c.if-not-is_open.true in
-      unchanged c.args.self.now _ h stands _ _ _ refl (same_is c.args.self.now h stands c.args.s _ c.in-Some.session.now (sym c.in-Some.ensures.value) refl) refl _ tt (receive-idle h c.args.s c.args.piece.now _ f.stream f.is shut)),
-)
+unfolding hub_step
+returns-then-not-is_open-clause-step g c = leads c.args.self.now _ _ _ More (λ h stands. (
+    let f = stream-some c.args.self.now h stands c.args.s _ c.in-Some.ensures.value in
+    let same = set_value_same _ _ _ (sym c.in-Some.ensures.value) ∙ stands.sessions in
+    (tt, rw (f.is, f.now, ← c.is_open.ensures, c.if-not-is_open.true) (record { engine = stands.engine; sessions = same; latest = stands.latest; outcome_is = refl }))))
 
 pub returns-then-piece-room-clause-step : goal.returns-then-piece-room-clause-step
-returns-then-piece-room-clause-step g c = (
-  plain _ _,
-  refl,
-  refl,
-  λ h stands. (
-      let f = stream-some c.args.self.now h stands c.args.s _ (sym c.in-Some.ensures.value) in
-      let there : is_open f.stream.now.status ≡ true = ap (λ (x : SessionState). is_open x.status) f.now ∙ sym c.is_open.ensures ∙ c.if-not-is_open.false in
-      let lt : room f.stream.now < length c.args.piece.now = omega (arith, c.if-piece-room.true, c.room.ensures, ap room f.now) in
-      unchanged c.args.self.now _ h stands _ _ _ refl (same_is c.args.self.now h stands c.args.s _ c.in-Some.session.now (sym c.in-Some.ensures.value) refl) refl _ tt (receive-no_room h c.args.s c.args.piece.now _ f.stream f.is there lt)),
-)
+unfolding hub_step
+returns-then-piece-room-clause-step g c = leads c.args.self.now _ _ _ More (λ h stands. (
+    let f = stream-some c.args.self.now h stands c.args.s _ c.in-Some.ensures.value in
+    let same = set_value_same _ _ _ (sym c.in-Some.ensures.value) ∙ stands.sessions in
+    let narrow : nat_lt (room c.in-Some.session.now) (length c.args.piece.now) ≡ true = lt-ltb _ _ (omega (arith, c.if-piece-room.true, c.room.ensures)) in
+    (tt, rw (f.is, f.now, ← c.is_open.ensures, c.if-not-is_open.false, narrow) (record { engine = stands.engine; sessions = same; latest = stands.latest; outcome_is = refl }))))
 
 pub returns-else-piece-room-clause-step : goal.returns-else-piece-room-clause-step
-returns-else-piece-room-clause-step g c = (
-  plain _ _,
-  refl,
-  refl,
-  λ h stands. (
-      let f = stream-some c.args.self.now h stands c.args.s _ (sym c.in-Some.ensures.value) in
-      let there : is_open f.stream.now.status ≡ true = ap (λ (x : SessionState). is_open x.status) f.now ∙ sym c.is_open.ensures ∙ c.if-not-is_open.false in
-      let le : length c.args.piece.now ≤ room f.stream.now = omega (arith, c.if-piece-room.false, c.room.ensures, ap room f.now) in
-      let now = c.receive.ensures ∙ ap (λ (x : SessionState). let y : SessionState = record { inbox = x.inbox ++ c.args.piece.now; pending = x.pending; status = x.status } in y) (sym f.now) in reaches c.args.self.now _ h stands _ _ _ _ tt (receive-done h c.args.s c.args.piece.now _ f.stream f.is there le) stands.engine
-      (set_is c.args.self.now h stands c.args.s _ c.receive.new.self _ refl now) stands.latest),
-)
+unfolding hub_step
+returns-else-piece-room-clause-step g c = leads c.args.self.now _ _ _ More (λ h stands. (
+    let f = stream-some c.args.self.now h stands c.args.s _ c.in-Some.ensures.value in
+    let wide : nat_lt (room c.in-Some.session.now) (length c.args.piece.now) ≡ false = le-ltb _ _ (omega (arith, c.if-piece-room.false, c.room.ensures)) in
+    let there = set_is c.args.self.now h stands c.args.s c.receive.new.self _ c.receive.ensures in
+    (tt, rw (f.is, f.now, ← c.is_open.ensures, c.if-not-is_open.false, wide) (record { engine = stands.engine; sessions = there; latest = stands.latest; outcome_is = refl }))))

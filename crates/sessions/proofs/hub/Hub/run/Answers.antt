@@ -1,11 +1,10 @@
-use Rattle.std.proofs.Common.{List, [], ◌∷◌, ◌++◌, get_or, refl, sym, ap, subst, ◌∙◌, arith}
-use Rattle.std.proofs.lemmas.List.{map-append}
+use Rattle.std.proofs.Common.{map, List, [], ◌∷◌, ◌++◌, get_or, refl, sym, ap, subst, ◌∙◌, arith}
+use Rattle.std.proofs.lemmas.List.{map-append, take_more}
 use Rattle.sessions.specs.declared.events.Event.TheVariants.{Joined}
 use Rattle.sessions.specs.Laws.{Runs}
 use Rattle.sessions.specs.SessionStreams.{Choice, HubEvent}
 use Rattle.sessions.specs.StandsFor.{event_of}
 use Rattle.sessions.proofs.Reached.{reached}
-use Rattle.sessions.proofs.RunLaws.{map_take_push}
 use Rattle.sessions.proofs.Runs.{no_event, ran_then, sound}
 use Rattle.sessions.proofs.hub.Hub.run.Goals as goal
 
@@ -19,9 +18,10 @@ pub loop-event-preserved : goal.loop-event-preserved
 loop-event-preserved g c = record {
   device = omega (arith, c.loop-event.invariant.device, c.step-outcome.ensures.device);
   runs = (
-      let all = map_take_push event_of c.args.events.now c.loop-event.event-index (Joined 0) c.loop-event-test.true in
       let P : List HubEvent → Type 0 = λ hs. Runs c.args.self.now c.step-outcome.new.self hs in
-      let e : HubEvent = event_of (get_or c.args.events.now c.loop-event.event-index (Joined 0)) in
+      let next = get_or c.args.events.now c.loop-event.event-index (Joined 0) in
+      let e : HubEvent = event_of next in
+      let all = ap (map event_of) (take_more c.args.events.now c.loop-event.event-index (Joined 0) c.loop-event-test.true) ∙ map-append event_of _ (next ∷ []) in
       let leads = c.step-outcome.ensures.step in
       let so_far = c.loop-event.invariant.runs in
       let x = c.step-outcome.ensures.ran leads.0 leads.2 (λ h stands. (let there = reached c.loop-event.self c.step-outcome.new.self e c.step-outcome.result leads h stands in (there.possible, there.stands))) in

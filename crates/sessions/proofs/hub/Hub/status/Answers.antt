@@ -1,13 +1,12 @@
-use Rattle.std.proofs.Common.{sym, ap, ◌∙◌}
+use Rattle.std.proofs.Common.{refl, sym, ap, ◌∙◌}
 use Rattle.sessions.specs.SessionStreams.{SessionState}
-use Rattle.sessions.specs.StandsFor.{status_in}
 use Rattle.sessions.proofs.EventSteps.{stream-some, stream-none}
 use Rattle.sessions.proofs.hub.Hub.status.Goals as goal
 
 pub returns-in-Some : goal.returns-in-Some
 returns-in-Some g c h stands =
-    let f = stream-some c.args.self.now h stands c.args.s _ (sym c.in-Some.ensures.value) in
-    c.status.ensures ∙ ap (λ (x : SessionState). x.status) (sym f.now) ∙ ap status_in (sym f.is)
+    let f = stream-some c.args.self.now h stands c.args.s _ c.in-Some.ensures.value in
+    rw f.is (c.status.ensures ∙ ap (λ (x : SessionState). x.status) (sym f.now))
 
 pub returns-in-None : goal.returns-in-None
-returns-in-None g c h stands = ap status_in (sym (stream-none c.args.self.now h stands c.args.s (sym c.in-None.ensures.value)))
+returns-in-None g c h stands = rw (stream-none c.args.self.now h stands c.args.s c.in-None.ensures.value) refl

@@ -1,14 +1,12 @@
 use Rattle.sessions.specs.StandsFor.{event_of}
-use Rattle.sessions.proofs.CrashSteps.{survives}
-use Rattle.sessions.proofs.Runs.{alone, sound}
+use Rattle.sessions.proofs.Runs.{survives, alone, sound}
 use Rattle.sessions.proofs.hub.Hub.step.Goals as goal
 
 pub returns-clause-crash : goal.returns-clause-crash
 returns-clause-crash g c = survives c.args.self.now c.apply-outcome.new.self (event_of c.args.event.now) g.met.D.Sectors.only_now c.is_stored.ensures c.apply-outcome.ensures.crash
 
 pub returns-clause-ran : goal.returns-clause-ran
-returns-clause-ran g c = λ choice told leads.
+returns-clause-ran g c =
     alone c.args.self.now c.apply-outcome.new.self (event_of c.args.event.now)
     (sound c.args.self.now c.machine_is_serializable.ensures c.is_stored.ensures) (sound c.apply-outcome.new.self c.machine_is_serializable.ensures c.is_stored-2.ensures) c.apply-outcome.ensures.device
     (survives c.args.self.now c.apply-outcome.new.self (event_of c.args.event.now) g.met.D.Sectors.only_now c.is_stored.ensures c.apply-outcome.ensures.crash) c.apply-outcome.ensures.still
-    choice told leads

@@ -1,59 +1,40 @@
-use Rattle.std.proofs.Common.{◌≡◌, List, [], ℕ, true, drop, refl, sym, ap, subst, ◌∙◌}
-use Rattle.sessions.specs.Calls.{rest}
-use Rattle.sessions.specs.SessionStreams.{SessionState, Whole, More, Bad, IsFront, may_serve}
-use Rattle.sessions.proofs.ServeEffects.{whole, more, bad, refused_memory, nothing_pending, nothing_came}
+use Rattle.std.proofs.Common.{[], true, drop, refl, sym, ap, ◌∙◌}
+use Rattle.sessions.specs.SessionStreams.{may_serve}
+use Rattle.sessions.proofs.RequestSteps.{whole, more, bad, refused_memory, nothing_pending, nothing_came}
 use Rattle.sessions.proofs.session.Session.serve.Goals as goal
 
 pub returns-in-Answered-clause-step : goal.returns-in-Answered-clause-step
 returns-in-Answered-clause-step g c =
-    let before : SessionState = record { inbox = rest c.self.inside.inbox; pending = rest c.self.inside.output; status = c.self.inside.status } in
-    let M : SessionState → Type 0 = λ n. may_serve n ≡ true in
-    let may = subst M (sym c.self.view_is) (sym c.is_ready.ensures ∙ c.if-not-is_ready.false) in
-    let pending = c.give_back-given.ensures.rest ∙ ap (λ k. drop k c.serve_request-served.new.out.items) c.clear.ensures.start in
+    let may = ap may_serve c.self.view_is ∙ sym c.is_ready.ensures ∙ c.if-not-is_ready.false in
     let found = c.in-Answered.ensures.step in
-    let F : List ℕ → Type 0 = λ bytes. IsFront bytes (Whole found.0 c.in-Answered.used) in
-    let front = subst F c.as_slice-2.ensures found.1 in
-    rw (← c.self.view_is) (whole c.args.engine.now c.serve_request-served.new.engine c.args.s before _ may _ pending found.0 c.in-Answered.used front found.2 c.consume.ensures.rest refl)
+    let front = rw c.as_slice-2.ensures at found.1 in
+    rw (← c.self.view_is) (whole c.args.engine.now c.serve_request-served.new.engine c.args.s _ _ may _ _ c.clear.ensures.start c.give_back-given.ensures.rest found.0 c.in-Answered.used front found.2 c.consume.ensures.rest refl)
 
 pub returns-in-Incomplete-clause-step : goal.returns-in-Incomplete-clause-step
 returns-in-Incomplete-clause-step g c =
-    let before : SessionState = record { inbox = rest c.self.inside.inbox; pending = rest c.self.inside.output; status = c.self.inside.status } in
-    let M : SessionState → Type 0 = λ n. may_serve n ≡ true in
-    let may = subst M (sym c.self.view_is) (sym c.is_ready.ensures ∙ c.if-not-is_ready.false) in
-    let pending = c.give_back-given.ensures.rest ∙ ap (λ k. drop k c.serve_request-served.new.out.items) c.clear.ensures.start in
+    let may = ap may_serve c.self.view_is ∙ sym c.is_ready.ensures ∙ c.if-not-is_ready.false in
     let found = c.in-Incomplete.ensures.step in
-    let F : List ℕ → Type 0 = λ bytes. IsFront bytes More in
-    let front = subst F c.as_slice-2.ensures found.0 in
-    rw (← c.self.view_is) (more c.args.engine.now c.serve_request-served.new.engine c.args.s before _ may _ pending front found.1 found.2 refl refl)
+    let front = rw c.as_slice-2.ensures at found.0 in
+    rw (← c.self.view_is) (more c.args.engine.now c.serve_request-served.new.engine c.args.s _ _ may _ _ c.clear.ensures.start c.give_back-given.ensures.rest front found.1 found.2 refl refl)
 
 pub returns-in-Broken-clause-step : goal.returns-in-Broken-clause-step
 returns-in-Broken-clause-step g c =
-    let before : SessionState = record { inbox = rest c.self.inside.inbox; pending = rest c.self.inside.output; status = c.self.inside.status } in
-    let M : SessionState → Type 0 = λ n. may_serve n ≡ true in
-    let may = subst M (sym c.self.view_is) (sym c.is_ready.ensures ∙ c.if-not-is_ready.false) in
-    let pending = c.give_back-given.ensures.rest ∙ ap (λ k. drop k c.serve_request-served.new.out.items) c.clear.ensures.start in
+    let may = ap may_serve c.self.view_is ∙ sym c.is_ready.ensures ∙ c.if-not-is_ready.false in
     let found = c.in-Broken.ensures.step in
-    let F : List ℕ → Type 0 = λ bytes. IsFront bytes Bad in
-    let front = subst F c.as_slice-2.ensures found.0 in
+    let front = rw c.as_slice-2.ensures at found.0 in
     let emptied = ap (λ xs. drop c.clear-in-Broken.new.self.start xs) c.clear-in-Broken.ensures.empty ∙ ap (λ k. drop k []) c.clear-in-Broken.ensures.start in
-    rw (← c.self.view_is) (bad c.args.engine.now c.serve_request-served.new.engine c.args.s before _ may _ pending front found.1 emptied found.2 refl)
+    rw (← c.self.view_is) (bad c.args.engine.now c.serve_request-served.new.engine c.args.s _ _ may _ _ c.clear.ensures.start c.give_back-given.ensures.rest front found.1 emptied found.2 refl)
 
 pub returns-in-Refused-clause-step : goal.returns-in-Refused-clause-step
 returns-in-Refused-clause-step g c =
-    let before : SessionState = record { inbox = rest c.self.inside.inbox; pending = rest c.self.inside.output; status = c.self.inside.status } in
-    let M : SessionState → Type 0 = λ n. may_serve n ≡ true in
-    let may = subst M (sym c.self.view_is) (sym c.is_ready.ensures ∙ c.if-not-is_ready.false) in
-    let pending = c.give_back-given.ensures.rest ∙ ap (λ k. drop k c.serve_request-served.new.out.items) c.clear.ensures.start in
+    let may = ap may_serve c.self.view_is ∙ sym c.is_ready.ensures ∙ c.if-not-is_ready.false in
     let found = c.in-Refused.ensures.step in
-    let F : List ℕ → Type 0 = λ bytes. IsFront bytes (Whole found.0 found.1) in
-    let front = subst F c.as_slice-2.ensures found.2 in
+    let front = rw c.as_slice-2.ensures at found.2 in
     let emptied = ap (λ xs. drop c.clear-in-Refused.new.self.start xs) c.clear-in-Refused.ensures.empty ∙ ap (λ k. drop k []) c.clear-in-Refused.ensures.start in
-    rw (← c.self.view_is) (refused_memory c.args.engine.now c.serve_request-served.new.engine c.args.s before _ may _ pending found.0 found.1 front found.3 found.4 emptied found.5 found.6 refl)
+    rw (← c.self.view_is) (refused_memory c.args.engine.now c.serve_request-served.new.engine c.args.s _ _ may _ _ c.clear.ensures.start c.give_back-given.ensures.rest found.0 found.1 front found.3 found.4 emptied found.5 found.6 refl)
 
 pub returns-then-is_empty-clause-step : goal.returns-then-is_empty-clause-step
 returns-then-is_empty-clause-step g c =
-    let before : SessionState = record { inbox = rest c.self.inside.inbox; pending = rest c.self.inside.output; status = c.self.inside.status } in
-    let M : SessionState → Type 0 = λ n. may_serve n ≡ true in
-    let may = subst M (sym c.self.view_is) (sym c.is_ready.ensures ∙ c.if-not-is_ready.false) in
+    let may = ap may_serve c.self.view_is ∙ sym c.is_ready.ensures ∙ c.if-not-is_ready.false in
     let none = sym c.as_slice.ensures ∙ nothing_pending true c.as_slice.result.now (sym c.is_empty.ensures ∙ c.if-is_empty.true) in
-    rw (← c.self.view_is) (nothing_came c.args.engine.now c.args.s before may none)
+    rw (← c.self.view_is) (nothing_came c.args.engine.now c.args.s _ may none)

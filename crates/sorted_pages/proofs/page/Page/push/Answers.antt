@@ -1,9 +1,5 @@
-use Rattle.std.proofs.Common.{◌≡◌, List, length, refl, sym, subst, ◌∙◌, arith}
-use Rattle.model.specs.Map.{Bytes}
-use Rattle.sorted_pages.specs.Blanks.{IsBlankTo}
-use Rattle.sorted_pages.specs.Summaries.{IsSummary}
-use Rattle.sorted_pages.proofs.Blanks.{blank-push}
-use Rattle.sorted_pages.proofs.Summaries.{but_none, pushed_but}
+use Rattle.std.proofs.Common.{◌≡◌, length, refl, ◌∙◌, arith}
+use Rattle.sorted_pages.proofs.Seen.{blank-push, but_none, pushed_but}
 use Rattle.sorted_pages.proofs.page.Page.push.Goals as goal
 
 pub take_in-self-inside-requires-2 : goal.take_in-self-inside-requires-2
@@ -12,11 +8,11 @@ take_in-self-inside-requires-2 g c =
     let s = c.take_in-self-inside.result in
     let long : c.len-last.result ≡ length es = (let w = c.self.inside.entries.ok.0 in omega arith) in
     pushed_but g.V.Aging.hides g.V.Aging.shows es c.deref-2.result.now c.len-last.result (c.args.key, c.args.value) s _ (c.deref-2.ensures.value ∙ c.push_reserved.ensures.items) long refl refl refl refl
-    (subst (λ (l : List (Bytes × g.row.V.Denot)). IsSummary g.V.Aging.hides g.V.Aging.shows l s) c.deref.ensures.value c.take_in-self-inside.ensures.summary)
+    (rw c.deref.ensures.value at c.take_in-self-inside.ensures.summary)
 
 pub invariant_of-self : goal.invariant_of-self
 invariant_of-self g c =
     let s = c.take_in-self-inside-2.result in (
-      subst (λ (l : List (Bytes × g.row.V.Denot)). IsBlankTo g.V.Aging.hides l c.self.inside.blank) (sym c.push_reserved.ensures.items) (blank-push g.V.Aging.hides c.self.inside.entries.items c.self.inside.blank _ c.self.invariant.0),
-      but_none g.V.Aging.hides g.V.Aging.shows c.push_reserved.new.self.items s c.take_in-self-inside-2.ensures.whole (subst (λ (l : List (Bytes × g.row.V.Denot)). IsSummary g.V.Aging.hides g.V.Aging.shows l s) c.deref-2.ensures.value c.take_in-self-inside-2.ensures.summary),
+      rw c.push_reserved.ensures.items (blank-push g.V.Aging.hides c.self.inside.entries.items c.self.inside.blank _ c.self.invariant.0),
+      but_none g.V.Aging.hides g.V.Aging.shows c.push_reserved.new.self.items s c.take_in-self-inside-2.ensures.whole (rw c.deref-2.ensures.value at c.take_in-self-inside-2.ensures.summary),
     )

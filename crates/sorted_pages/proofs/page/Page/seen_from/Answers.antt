@@ -1,11 +1,8 @@
-use Rattle.std.proofs.Common.{List, drop, ap, sym, subst, ◌∙◌}
+use Rattle.std.proofs.Common.{drop, ap, sym, ◌∙◌}
 use Rattle.std.proofs.lemmas.List.{take_rest}
-use Rattle.model.specs.Map.{Bytes}
 use Rattle.sorted_pages.specs.Pages.{Page}
 use Rattle.sorted_pages.specs.Blanks.{shown}
-use Rattle.sorted_pages.specs.Summaries.{AreHidden}
-use Rattle.sorted_pages.proofs.Blanks.{shown-dropped}
-use Rattle.sorted_pages.proofs.Summaries.{shown-hidden}
+use Rattle.sorted_pages.proofs.Seen.{shown-dropped, shown-hidden}
 use Rattle.sorted_pages.proofs.page.Page.seen_from.Goals as goal
 
 pub returns : goal.returns
@@ -20,4 +17,4 @@ pub returns-then-hides : goal.returns-then-hides
 returns-then-hides g c =
     let b = g.V.Aging.hides c.args.number in
     sym (ap (λ (p : Page g.row.V.Denot). shown b p.0) (sym c.self.view_is)
-    ∙ shown-hidden b c.self.inside.entries.items (subst (λ (l : List (Bytes × g.row.V.Denot)). AreHidden b l) c.deref.ensures.value (c.hides.ensures c.if-hides.true)))
+    ∙ shown-hidden b c.self.inside.entries.items (rw c.deref.ensures.value at (c.hides.ensures c.if-hides.true)))

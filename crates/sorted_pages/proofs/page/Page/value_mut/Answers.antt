@@ -1,8 +1,6 @@
-use Rattle.std.proofs.Common.{List, subst, arith}
+use Rattle.std.proofs.Common.{arith}
 use Rattle.model.specs.Map.{Bytes}
-use Rattle.sorted_pages.specs.Summaries.{IsSummaryBut}
-use Rattle.sorted_pages.proofs.Blanks.{blank-set}
-use Rattle.sorted_pages.proofs.Summaries.{rest-set}
+use Rattle.sorted_pages.proofs.Seen.{blank-set, rest-set}
 use Rattle.sorted_pages.proofs.page.Page.value_mut.Goals as goal
 
 -- whatever is written, the summary says nothing of it
@@ -12,5 +10,5 @@ invariant_of-self-lent g c = λ w.
     let s = c.leave_out-self-inside.result in
     let e : Bytes × g.row.V.Denot = (c.index_mut-entry.result.now.0, w) in (
       blank-set g.V.Aging.hides es c.self.inside.blank c.min-self-inside.result c.in-Ok.i e (omega arith) (omega arith) c.self.invariant.0,
-      rest-set g.V.Aging.hides g.V.Aging.shows es s c.in-Ok.i e c.leave_out-self-inside.ensures.left_out (subst (λ (l : List (Bytes × g.row.V.Denot)). IsSummaryBut g.V.Aging.hides g.V.Aging.shows l s) c.deref.ensures.value c.leave_out-self-inside.ensures.summary),
+      rest-set g.V.Aging.hides g.V.Aging.shows es s c.in-Ok.i e c.leave_out-self-inside.ensures.left_out (rw c.deref.ensures.value at c.leave_out-self-inside.ensures.summary),
     )

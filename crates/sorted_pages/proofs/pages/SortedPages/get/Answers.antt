@@ -1,22 +1,20 @@
-use Rattle.std.proofs.Common.{List, ap, sym, subst, ◌∙◌}
-use Rattle.std.specs.Ordering.{nat_cmp}
-use Rattle.std.specs.Cmp.Lexicographic.{slice_cmp}
+use Rattle.std.proofs.Common.{List, ap, sym, ◌∙◌}
 use Rattle.std.specs.FinMap.Entries.{find}
-use Rattle.model.specs.Map.{Bytes}
-use Rattle.sorted_pages.specs.Pages.{Page, IsPlace, entries}
+use Rattle.model.specs.Map.{Bytes, key_cmp}
+use Rattle.sorted_pages.specs.Pages.{Page, entries}
 use Rattle.sorted_pages.proofs.Placings.{page_sorted, find_at}
 use Rattle.sorted_pages.proofs.pages.SortedPages.get.Goals as goal
 
 pub get-requires : goal.get-requires
 get-requires g c =
-    let at = subst (λ (l : List (Page g.row.V.Denot)). IsPlace l c.bytes.result.now c.place-i.result) c.deref.ensures.value c.place-i.ensures in
+    let at = rw c.deref.ensures.value at c.place-i.ensures in
     page_sorted c.self.inside.pages.items c.bytes.result.now c.place-i.result c.index.result.now at c.index.ensures c.self.invariant
 
 pub returns : goal.returns
 returns g c =
-    let at = subst (λ (l : List (Page g.row.V.Denot)). IsPlace l c.bytes.result.now c.place-i.result) c.deref.ensures.value c.place-i.ensures in
+    let at = rw c.deref.ensures.value at c.place-i.ensures in
     c.get.ensures
-    ∙ ap (λ (q : Bytes). find (slice_cmp nat_cmp) q c.index.result.now.0) (c.bytes-2.ensures.bytes ∙ sym c.bytes.ensures.bytes)
+    ∙ ap (λ (q : Bytes). find key_cmp q c.index.result.now.0) (c.bytes-2.ensures.bytes ∙ sym c.bytes.ensures.bytes)
     ∙ sym (find_at c.self.inside.pages.items c.bytes.result.now c.place-i.result c.index.result.now at c.index.ensures)
-    ∙ ap (λ (q : Bytes). find (slice_cmp nat_cmp) q (entries c.self.inside.pages.items)) c.bytes.ensures.bytes
-    ∙ ap (λ (l : List (Page g.row.V.Denot)). find (slice_cmp nat_cmp) c.args.key.bytes.now (entries l)) c.self.view_is
+    ∙ ap (λ (q : Bytes). find key_cmp q (entries c.self.inside.pages.items)) c.bytes.ensures.bytes
+    ∙ ap (λ (l : List (Page g.row.V.Denot)). find key_cmp c.args.key.bytes.now (entries l)) c.self.view_is

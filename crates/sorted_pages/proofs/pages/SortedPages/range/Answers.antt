@@ -1,10 +1,9 @@
-use Rattle.std.proofs.Common.{List, Option, ap, sym, subst, ◌∙◌}
+use Rattle.std.proofs.Common.{Option, ap, sym, ◌∙◌}
 use Rattle.model.specs.Map.{Bytes}
 use Rattle.model.specs.KeyBytes.{end_bytes}
-use Rattle.model.proofs.Entries.{IsSorted}
-use Rattle.sorted_pages.specs.Pages.{Page, entries}
+use Rattle.sorted_pages.specs.Pages.{entries}
 use Rattle.sorted_pages.specs.Blanks.{shown}
-use Rattle.sorted_pages.proofs.Blanks.{sorted-shown}
+use Rattle.sorted_pages.proofs.Seen.{sorted-shown}
 use Rattle.sorted_pages.proofs.Tails.{In, same_range}
 use Rattle.sorted_pages.proofs.pages.SortedPages.range.Goals as goal
 
@@ -12,7 +11,7 @@ pub returns-in-Some : goal.returns-in-Some
 returns-in-Some g c =
     let es = shown (g.V.Aging.hides c.args.number) (entries c.args.self.now) in
     let lo = c.args.range.lo.bytes.now in
-    let sorted = sorted-shown (g.V.Aging.hides c.args.number) (entries c.args.self.now) (subst (λ (l : List (Page g.row.V.Denot)). IsSorted (entries l)) c.self.view_is c.self.invariant.sorted) in
+    let sorted = sorted-shown (g.V.Aging.hides c.args.number) (entries c.args.self.now) (rw c.self.view_is at c.self.invariant.sorted) in
     c.within-in-Some.ensures
     ∙ ap (λ (h : Option Bytes). In lo h es) c.first_from.ensures
     ∙ same_range lo c.in-Some.hi.bytes.now es sorted

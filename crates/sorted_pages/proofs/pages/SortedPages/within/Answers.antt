@@ -1,17 +1,15 @@
-use Rattle.std.proofs.Common.{List, ◌+◌, ap, sym, subst, ◌∙◌}
+use Rattle.std.proofs.Common.{List, ◌+◌, ap, ◌∙◌}
 use Rattle.std.proofs.lemmas.List.{take_rest}
-use Rattle.model.specs.Map.{Bytes}
 use Rattle.model.specs.KeyBytes.{end_bytes}
-use Rattle.sorted_pages.specs.Pages.{Page, IsPlace, IsInOrder, entries}
+use Rattle.sorted_pages.specs.Pages.{Page, entries}
 use Rattle.sorted_pages.specs.Blanks.{shown}
-use Rattle.sorted_pages.specs.Ranges.{IsTail}
 use Rattle.sorted_pages.proofs.Placings.{page_sorted}
 use Rattle.sorted_pages.proofs.Tails.{In, range_from, after_is}
 use Rattle.sorted_pages.proofs.pages.SortedPages.within.Goals as goal
 
 pub entries_from-requires : goal.entries_from-requires
 entries_from-requires g c =
-    let order = subst (λ (l : List (Page g.row.V.Denot)). IsInOrder l) (sym c.as_slice-pages.ensures.value) c.self.invariant in
+    let order = rw (← c.as_slice-pages.ensures.value) at c.self.invariant in
     page_sorted c.as_slice-pages.result.now c.bytes.result.now c.place-i.result c.index-pages-i.result c.place-i.ensures c.index-pages-i.is order
 
 pub returns : goal.returns
@@ -21,8 +19,8 @@ returns g c =
     let lo = c.args.lo.bytes.now in
     let page = c.index-pages-i.result in
     let front = c.entries_from.result.now in
-    let at = subst (λ (k : Bytes). IsPlace ps k i) c.bytes.ensures.bytes c.place-i.ensures in
-    let order = subst (λ (l : List (Page g.row.V.Denot)). IsInOrder l) (sym c.as_slice-pages.ensures.value) c.self.invariant in
-    let tail = subst (λ (k : Bytes). IsTail page.0 k front) c.bytes-2.ensures.bytes c.entries_from.ensures in
+    let at = rw c.bytes.ensures.bytes at c.place-i.ensures in
+    let order = rw (← c.as_slice-pages.ensures.value) at c.self.invariant in
+    let tail = rw c.bytes-2.ensures.bytes at c.entries_from.ensures in
     range_from (g.V.Aging.hides c.args.number) ps lo (end_bytes c.args.hi) i page front _ at c.index-pages-i.is order tail (take_rest ps (i + 1) ∙ after_is ps lo i at)
     ∙ ap (λ (l : List (Page g.row.V.Denot)). In lo (end_bytes c.args.hi) (shown (g.V.Aging.hides c.args.number) (entries l))) (c.as_slice-pages.ensures.value ∙ c.self.view_is)

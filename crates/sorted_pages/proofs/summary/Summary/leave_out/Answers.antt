@@ -1,5 +1,5 @@
 use Rattle.std.proofs.Common.{◌≡◌, ◌-◌, cond, get_or, refl, sym, ap, ◌∙◌, arith}
-use Rattle.sorted_pages.proofs.Summaries.{but_some, left_out}
+use Rattle.sorted_pages.proofs.Seen.{but_some, left_out}
 use Rattle.sorted_pages.proofs.summary.Summary.leave_out.Goals as goal
 
 pub returns-then-shows-clause-summary : goal.returns-then-shows-clause-summary

@@ -1,5 +1,5 @@
 use Rattle.std.proofs.Common.{refl}
-use Rattle.sorted_pages.proofs.Summaries.{none_seen, next_taken}
+use Rattle.sorted_pages.proofs.Seen.{none_seen, next_taken}
 use Rattle.sorted_pages.proofs.summary.Summary.of.Goals as goal
 
 pub loop-i-init : goal.loop-i-init

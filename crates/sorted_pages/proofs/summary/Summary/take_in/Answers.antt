@@ -1,5 +1,5 @@
 use Rattle.std.proofs.Common.{◌≡◌, ◌+◌, cond, get_or, sym, ap, ◌∙◌, arith}
-use Rattle.sorted_pages.proofs.Summaries.{index_in, is_rest, taken_in}
+use Rattle.sorted_pages.proofs.Seen.{is_rest, taken_in}
 use Rattle.sorted_pages.proofs.summary.Summary.take_in.Goals as goal
 use Rattle.sorted_pages.proofs.summary.Summary.take_in.Goals.{then-shows, else-shows}
 
@@ -13,5 +13,5 @@ returns-after-shows-clause-summary g c =
       | then-shows w ↦ let t = w.if-shows.true in w.live-is ∙ ap (λ b. s.live + cond b 1 0) (sym t ∙ c.shows.ensures)
       | else-shows w ↦ let f = w.if-shows.false in w.live-is ∙ (let none : s.live ≡ s.live + 0 = omega arith in none) ∙ ap (λ b. s.live + cond b 1 0) (sym f ∙ c.shows.ensures)
     ] in
-    taken_in g.V.Aging.hides g.V.Aging.shows es s _ i c.first.result c.last.result e (index_in g.V.Aging.hides g.V.Aging.shows es s i c.in-Some.is c.requires) (ap (λ d. get_or es i d) c.index-entries-i.is)
+    taken_in g.V.Aging.hides g.V.Aging.shows es s _ i c.first.result c.last.result e (rw c.in-Some.is at c.requires.within) (ap (λ d. get_or es i d) c.index-entries-i.is)
     (is_rest g.V.Aging.hides g.V.Aging.shows es s i c.in-Some.is c.requires) c.min.ensures c.first.ensures.hidden c.max.ensures c.last.ensures.hidden live

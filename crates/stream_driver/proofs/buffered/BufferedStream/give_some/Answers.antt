@@ -1,22 +1,20 @@
-use Rattle.std.proofs.Common.{◌≡◌, ◌<◌, ◌≤◌, ◌⊎◌, inl, inr, not, false, length, sym, ◌∙◌, arith}
+use Rattle.std.proofs.Common.{◌≡◌, ◌<◌, ◌≤◌, ◌⊎◌, inl, inr, not, false, length, arith}
 use Rattle.stream_driver.proofs.Buffering.{gives_some, not_less, short_moved, short_still}
 use Rattle.stream_driver.proofs.buffered.BufferedStream.give_some.Goals as goal
 use Rattle.stream_driver.proofs.buffered.BufferedStream.give_some.Goals.{then-n-into, else-n-into}
 
 pub returns-after-n-into : goal.returns-after-n-into
 returns-after-n-into g c =
-    let drained_not : c.args.self.now.is_drained ≡ false = sym c.in-All.ensures.kept.drained ∙ c.if-self.false in
     let how : ((c.in-Moved.n < length c.args.into.now) × (c.if-n-into.self ≡ not c.flush.new.self.reads_on)) ⊎ ((length c.args.into.now ≤ c.in-Moved.n) × (c.if-n-into.self ≡ false)) = elim c.if-n-into.branch [
       | then-n-into w ↦ inl (omega (arith, w.if-n-into.true), w.self-is)
       | else-n-into w ↦ inr (omega (arith, w.if-n-into.false), not_less c.in-Moved.n (length c.read-answer.new.into) c.if-n-into.self (omega (arith, w.if-n-into.false)) w.self-is)
     ] in
-    gives_some g.S.Stream.tells g.S.Stream.traffic (g.D.Sectors.moment c.args.device.now) c.args.self.now c.flush.new.self c.read-answer.new.self c.if-n-into.self c.args.into.now c.read-answer.new.into _ c.in-All.ensures
-    c.in-Moved.ensures.within c.in-Moved.ensures.given c.in-Moved.ensures.taken c.in-Moved.ensures.departed c.in-Moved.ensures.answered drained_not
+    gives_some c.if-n-into.self _ c.in-All.ensures
+    c.in-Moved.ensures.within c.in-Moved.ensures.given c.in-Moved.ensures.taken c.in-Moved.ensures.departed c.in-Moved.ensures.answered c.if-self.false
     (short_moved c.in-Moved.n (length c.args.into.now) c.args.self.now.reads_on c.flush.new.self.reads_on c.if-n-into.self c.in-All.ensures.kept.reads_on how)
 
 pub returns-in_default : goal.returns-in_default
 returns-in_default g c =
-    let drained_not : c.args.self.now.is_drained ≡ false = sym c.in-All.ensures.kept.drained ∙ c.if-self.false in
-    gives_some g.S.Stream.tells g.S.Stream.traffic (g.D.Sectors.moment c.args.device.now) c.args.self.now c.flush.new.self c.read-answer.new.self c.flush.new.self.is_short c.args.into.now c.read-answer.new.into c.read-answer.result c.in-All.ensures
-    c.read-answer.ensures.within c.read-answer.ensures.given c.read-answer.ensures.taken c.read-answer.ensures.departed c.read-answer.ensures.answered drained_not
+    gives_some c.flush.new.self.is_short c.read-answer.result c.in-All.ensures
+    c.read-answer.ensures.within c.read-answer.ensures.given c.read-answer.ensures.taken c.read-answer.ensures.departed c.read-answer.ensures.answered c.if-self.false
     (short_still c.args.self.now _ _ c.read-answer.result c.in_default.not-Moved c.in-All.ensures.kept.short)

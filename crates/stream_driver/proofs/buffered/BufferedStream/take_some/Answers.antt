@@ -7,7 +7,7 @@ use Rattle.stream_driver.proofs.buffered.BufferedStream.take_some.Goals as goal
 pub returns-then-is_empty : goal.returns-then-is_empty
 returns-then-is_empty g c =
     let none : held_in c.make_room.new.self.held ≡ [] = search rules in
-    takes_on g.S.Stream.tells g.S.Stream.traffic (g.D.Sectors.moment c.args.device.now) c.args.self.now c.make_room.new.self c.in-All.ensures.kept c.in-All.ensures.failed c.in-All.ensures.why.1 c.args.from.now c.write.new.self c.write.result none
+    takes_on c.in-All.ensures.kept c.in-All.ensures.failed c.in-All.ensures.why.1 none
     c.write.ensures.within c.write.ensures.given c.write.ensures.taken c.write.ensures.departed c.write.ensures.answered
 
 pub returns : goal.returns
@@ -15,5 +15,4 @@ returns g c =
     let some : 0 < length c.args.from.now = some_length c.args.from.now c.requires in
     let room : 0 < room_in c.make_room.new.self.held = c.in-All.ensures.why.0 in
     let count = c.put.ensures.count in
-    takes_in g.S.Stream.tells g.S.Stream.traffic (g.D.Sectors.moment c.args.device.now) c.args.self.now c.make_room.new.self c.in-All.ensures.kept c.in-All.ensures.failed c.in-All.ensures.why.1 c.args.from.now c.put.new.self c.put.result
-    (grind (arith, common_steps), grind (arith, common_steps)) c.put.ensures.bytes
+    takes_in c.in-All.ensures.kept c.in-All.ensures.failed c.in-All.ensures.why.1 c.put.new.self (grind (arith, common_steps), grind (arith, common_steps)) c.put.ensures.bytes

@@ -1,8 +1,6 @@
-use Rattle.std.proofs.Common.{◌≡◌, [], ◌++◌, ◌∙◌, ap, subst}
-use Rattle.stream_driver.specs.Buffers.{counted, held_in, traffic_through}
-use Rattle.stream_driver.specs.Traffic.{EndsWith}
+use Rattle.std.proofs.Common.{◌≡◌, [], ◌∙◌, ap, refl, subst}
+use Rattle.stream_driver.specs.Counts.{Notes}
 use Rattle.stream_driver.specs.declared.answers.Call.TheVariants.{Write}
-use Rattle.stream_driver.proofs.Answered.{ends_counted}
 use Rattle.stream_driver.proofs.Buffering.{departed_still, took_same}
 use Rattle.stream_driver.proofs.buffered.BufferedStreamStream.write.Goals as goal
 use Rattle.stream_driver.proofs.buffered.BufferedStreamStream.write.Goals.{in-Moved, in_default}
@@ -11,16 +9,11 @@ pub returns-clause-departed : goal.returns-clause-departed
 returns-clause-departed g c = λ t.
     let inner : c.match-answer.self.inner ≡ c.take_some-answer.new.self.inner = elim c.match-answer.branch [ in-Moved w ↦ ap (λ b. b.inner) w.self-is | in_default w ↦ ap (λ b. b.inner) w.self-is ] in
     let held : c.match-answer.self.held ≡ c.take_some-answer.new.self.held = elim c.match-answer.branch [ in-Moved w ↦ ap (λ b. b.held) w.self-is | in_default w ↦ ap (λ b. b.held) w.self-is ] in
-    departed_still (g.D.Sectors.moment c.args.device.now) (traffic_through g.S.Stream.traffic c.args.self.now) (traffic_through g.S.Stream.traffic c.take_some-answer.new.self) _
-    (ap (λ i. (g.S.Stream.traffic i).departed) inner)
-    (ap (λ i. (g.S.Stream.traffic i).taken ++ held_in c.match-answer.self.held) inner ∙ ap (λ h. (g.S.Stream.traffic c.take_some-answer.new.self.inner).taken ++ held_in h) held)
-    (c.take_some-answer.ensures.departed t)
+    rw (inner, held) (departed_still refl refl (c.take_some-answer.ensures.departed t))
 
 pub returns-clause-answered : goal.returns-clause-answered
 returns-clause-answered g c =
     let inner : c.match-answer.self.inner ≡ c.take_some-answer.new.self.inner = elim c.match-answer.branch [ in-Moved w ↦ ap (λ b. b.inner) w.self-is | in_default w ↦ ap (λ b. b.inner) w.self-is ] in
     let counts : c.match-answer.self.counts ≡ c.take_some-answer.new.self.counts = elim c.match-answer.branch [ in-Moved w ↦ ap (λ b. b.counts) w.self-is | in_default w ↦ ap (λ b. b.counts) w.self-is ] in
-    ends_counted _ _ _ _ [] [] [] _
+    subst (λ k. Notes (Write c.take_some-answer.result) k c.note_write.new.self) (counts ∙ c.take_some-answer.ensures.counts) c.note_write.ensures _ _ [] [] _ [] _ _
     (ap (λ i. (g.S.Stream.traffic i).connection) inner ∙ took_same g.S.Stream.traffic c.args.self.now c.take_some-answer.new.self c.take_some-answer.result c.take_some-answer.ensures.why)
-    c.args.self.now.counts c.note_write.new.self (Write c.take_some-answer.result)
-    (subst (λ k. EndsWith (Write c.take_some-answer.result) (counted k) (counted c.note_write.new.self)) (counts ∙ c.take_some-answer.ensures.counts) c.note_write.ensures)

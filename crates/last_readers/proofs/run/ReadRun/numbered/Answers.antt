@@ -1,0 +1,22 @@
+use Rattle.std.proofs.Common.{◌≡◌, ap, ◌∙◌, ◌++◌, true, arith}
+use Rattle.last_readers.specs.Steps.{steps_rise, number_at}
+use Rattle.last_readers.proofs.StepLaws.{renumbered_rises, renumbered_run, in_place_low}
+use Rattle.last_readers.proofs.run.ReadRun.numbered.Goals as goal
+
+pub invariant_of-result : goal.invariant_of-result
+invariant_of-result c =
+    let n = c.args.number in
+    let was = c.args.ready.steps.items in
+    let made = c.renumber.new.steps.items in
+    let rises : steps_rise made ≡ true = ap steps_rise c.renumber.ensures ∙ renumbered_rises n was ∙ c.args.ready.rising in
+    record {
+      first_rises = ap (λ l. steps_rise (l ++ made)) c.new.ensures.items ∙ rises;
+      second_rises = ap (λ l. steps_rise (l ++ made)) c.new-2.ensures.items ∙ rises;
+      room = omega (arith, c.new.ensures.len, c.new-2.ensures.len);
+      upto = λ k.
+          let is = renumbered_run n c.new.result.items c.new-2.result.items made was k c.new.ensures.items c.new-2.ensures.items c.renumber.ensures in
+          omega (arith, is, in_place_low n (number_at was k));
+    }
+
+pub returns-clause-numbers : goal.returns-clause-numbers
+returns-clause-numbers c = λ k. renumbered_run c.args.number c.new.result.items c.new-2.result.items c.renumber.new.steps.items c.args.ready.steps.items k c.new.ensures.items c.new-2.ensures.items c.renumber.ensures

@@ -1,0 +1,33 @@
+use Rattle.std.proofs.Common.{◌≡◌, ◌++◌, ℕ, true, length, subst, sym, ap, ◌∙◌, arith}
+use Rattle.std.specs.Vec.{vec_capacity}
+use Rattle.pivot_check.specs.Postings.{keys_rise, are_upto}
+use Rattle.pivot_check.specs.Parts.{live, left, live_in}
+use Rattle.pivot_check.specs.Inside.{in_run}
+use Rattle.pivot_check.proofs.Joined.{joined, both_upto, none_left}
+use Rattle.pivot_check.proofs.run.WrittenRun.join.Goals as goal
+
+pub invariant_of-self : goal.invariant_of-self
+invariant_of-self c =
+    let was = c.args.self.now in
+    let more = c.args.second in
+    let first = c.replace.result in
+    let made = c.replace.new.dest in
+    let value = c.replace.ensures.value in
+    let after = c.replace.ensures.after in
+    let places = c.of.ensures.written in
+    let empty = (λ i. length (after i).written.items) ∙ (λ i. length (places i).items) ∙ c.requires.none in
+    let none : left made ≡ 0 = omega (arith, empty) in
+    let nothing = none_left made none in
+    let first_left : left first ≡ left was.made = ap left value in
+    let capacity : vec_capacity made.written ≡ vec_capacity c.args.places = (λ i. vec_capacity (after i).written) ∙ (λ i. vec_capacity (places i)) in
+    let room = c.requires.room in
+    record {
+      first_rises = (λ i. keys_rise (nothing i ++ live (value i))) ∙ was.made.rising;
+      second_rises = (λ i. keys_rise (nothing i ++ live more.made)) ∙ more.made.rising;
+      room = omega (arith, empty, first_left, capacity, room);
+      upto = subst (λ (n : ℕ). are_upto n (live_in made first more.made) ≡ true) (sym c.max-self.ensures)
+          (both_upto was.last more.last (in_run was) (in_run more) (live_in made first more.made) was.upto more.upto (λ t. joined t was more made first c.requires.first c.requires.second none value));
+    }
+
+pub returns-clause-same : goal.returns-clause-same
+returns-clause-same c = λ t. grind (arith, joined t c.args.self.now c.args.second c.replace.new.dest c.replace.result)
