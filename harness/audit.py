@@ -1,9 +1,12 @@
 """What docs/AUDIT.md names stands where it says: each promise in the README, each clause, each definition with its length, each wrong body.
 
+No clause of the crates has more than 140 columns, or more than two lines of them: what is longer has a name.
+
 A promise is a block of lines behind `> `, whose words stand in the README. Behind it stands what carries it: functions with their clauses and
 files. A definition's lines are those of its declaration, without the comment before it. A wrong body's text to be replaced stands in the file that
 it names.
 """
+import glob
 import os
 import re
 
@@ -12,6 +15,7 @@ from client import Tally, expect, run_harness
 TOP = os.path.normpath(os.path.join(os.path.dirname(os.path.abspath(__file__)), ".."))
 CLAUSE = r"`(?:\w+::)?(\w+)`, (?:clause `(\w+)`|its clause), in `(crates/\S+\.rt)`"    # a clause that is alone may have no name
 DEFINITION = r"^\| `(\w+)` \| (\d+) \| `(crates/\S+\.antt)` \|"
+CLAUSE_MAX = 140
 WRONG_BODY = r"\]\(\.\./((?:crates|wrong_bodies)/\S+\.edit)\)"
 
 
@@ -73,8 +77,27 @@ def wrong_bodies(tally, text):
     return len(found)
 
 
+def clauses_of(text):
+    """The clauses of a file, each as its lines, with the number of the first."""
+    lines = text.splitlines()
+    for number, line in enumerate(lines, 1):
+        if re.match(r" *(?:requires|ensures)\b", line):
+            clause = [line]
+            while "".join(clause).count("{") > "".join(clause).count("}"):
+                clause.append(lines[number - 1 + len(clause)])
+            yield number, clause
+
+
+def widths(tally):
+    for name in sorted(glob.glob("crates/*/src/**/*.rt", root_dir=TOP, recursive=True)):
+        wide = [str(number) for number, clause in clauses_of(text_of(name)) if len(clause) > 2 or max(map(len, clause)) > CLAUSE_MAX]
+        with tally.run(f"{name}, its clauses"):
+            expect(not wide, f"too wide: line {', '.join(wide)}")
+
+
 def main():
     tally = Tally("audit")
+    widths(tally)
     readme = words(text_of("README.md").replace("\n- ", "\n"))
     for promise in re.split(r"^## ", text_of("docs/AUDIT.md"), flags=re.M)[1:]:
         title = promise.splitlines()[0]

@@ -35,8 +35,19 @@ def pairs_of(edit):
     return pairs
 
 
-def function_at(crate, path, text, old):
+def home_of(folder, path, block):
+    """The file whose module a block's functions belong to: for methods of a type alone, that of the type, wherever the block stands."""
+    if not block["trait"]:
+        declares = re.compile(rf"^(?:pub(?:\([a-z]+\))? )?(?:struct|enum) {block['type']}\b", re.MULTILINE)
+        for file in (folder / "src").rglob("*.rt"):
+            if declares.search(file.read_text()):
+                return str(file.relative_to(folder))
+    return path
+
+
+def function_at(folder, path, old):
     """The path of the function in whose body the old text stands, or None."""
+    text = (folder / path).read_text()
     lines = text[:text.index(old) + len(old)].split("\n")
     number = len(lines) - 1 - old.count("\n")
     found = [(i, FUNCTION.match(line)) for i, line in enumerate(lines[:number + 1]) if FUNCTION.match(line)]
@@ -46,8 +57,10 @@ def function_at(crate, path, text, old):
     if any(line == function[1] + "}" for line in lines[start:number]):
         return None
     blocks = [BLOCK.match(line) for line in lines[:start] if BLOCK.match(line)] if function[1] else []
+    if blocks:
+        path = home_of(folder, path, blocks[-1])
     modules = [it for it in path.removeprefix("src/").removesuffix(".rt").split("/") if it not in ("lib", "main", "mod")]
-    return "::".join([crate, *modules, *(name_of(it) for it in blocks[-1:]), function[2]])
+    return "::".join([folder.name, *modules, *(name_of(it) for it in blocks[-1:]), function[2]])
 
 
 def name_of(block):
@@ -76,8 +89,7 @@ class Crate:
 
     def function_of(self, edit):
         """The one function that it changes, or None."""
-        names = {function_at(self.name, path, (self.fresh / path).read_text(), old) for path, old, _ in pairs_of(edit) if (self.fresh / path).is_file()
-                 and old in (self.fresh / path).read_text()}
+        names = {function_at(self.fresh, path, old) for path, old, _ in pairs_of(edit) if (self.fresh / path).is_file() and old in (self.fresh / path).read_text()}
         return names.pop() if len(names) == 1 else None
 
     def check(self, edits, functions):

@@ -1,5 +1,5 @@
 -- Room for what is made: a file that was made has it.
-use Rattle.std.proofs.Common.{◌≡◌, ◌≤◌, ◌<◌, ◌^◌, ◌∙◌, ℕ, arith, max, refl, ap, Option, None, Some, Result, Ok, Err}
+use Rattle.std.proofs.Common.{◌≡◌, ◌≤◌, ◌<◌, ◌^◌, ℕ, arith, ap, Option, None, Some, Result, Ok, Err}
 use Rattle.std.specs.Prelude.{◌≢◌, IfErr, IfSome, IfNone, IsErrOf}
 use Rattle.model.specs.Map.{KeyMap}
 use Rattle.commit_log.specs.Copying.{copy_size}

@@ -11,23 +11,38 @@ use Rattle.commit_log.specs.declared.faults.LogFault.{LogFault}
 use Rattle.commit_log.specs.declared.faults.LogFault.TheVariants.{NotALog, Damaged, OldFormat}
 use Rattle.commit_log.specs.declared.formats.LogFormat.{LogFormat}
 use Rattle.commit_log.specs.declared.formats.LogFormat.TheVariants.{One}
-use Rattle.commands.specs.LogCounts.{counts_of, line_of}
-use Rattle.commands.specs.Faults.{of_log}
+use Rattle.commands.specs.LogCounts.{counts_of, line_of, log_line}
+use Rattle.commands.specs.Faults.{of_log, IsFromDevice, IsFromOutside}
 use Rattle.commands.specs.Printing.{IsToldAs, EndsAs}
 use Rattle.commands.specs.declared.data.LogCounts.{LogCounts}
+use Rattle.commands.specs.declared.system.Lines.{Ghosts as Lines}
 use Rattle.commands.specs.declared.faults.Fault.{Fault}
 use Rattle.commands.specs.declared.faults.Fault.TheVariants.{File}
 
+-- where the device keeps its model and holds an image of this kind, this is so
+abbrev pub IfHolds : {D : Type 0} → Ghosts D → D → (List (List ℕ) → Type 0) → Type 0 → Type 0
+IfHolds g device IsKind So = g.keeps_model → (disk : List (List ℕ)) → length disk ≡ g.size device → ReadsAs (g.may_read device) disk → IsKind disk → So
+
+-- the same of an image that is of this kind for some write sets
+abbrev pub IfHoldsSets : {D : Type 0} → Ghosts D → D → (LogFormat → List (List KeyWrite) → List (List ℕ) → Type 0) → (List (List KeyWrite) → Type 0) → Type 0
+IfHoldsSets g device IsKind So =
+    g.keeps_model → (disk : List (List ℕ)) (lists : List (List KeyWrite)) → length disk ≡ g.size device → ReadsAs (g.may_read device) disk
+    → IsKind current lists disk → So lists
+
+-- the line of a log of these write sets was printed, or something outside failed
+abbrev pub PrintsLog : {O : Type 0} → Lines O → List (List KeyWrite) → ℕ → O → Result (Unit {0}) Fault → O → Type 0
+PrintsLog out lists count old result new = MatchResult result (λ done. out.writes old (log_line lists count) (Ok done) new) IsFromOutside
+
+-- nothing was printed, for this fault, or one of the device or of memory
+abbrev pub IsRefused : {O : Type 0} → Fault → Result (Unit {0}) Fault → O → O → Type 0
+IsRefused why result old new = IsErrAnd result (λ fault. ((fault ≡ why) ⊎ IsFromDevice fault) × (new ≡ old))
+
 -- what counting the log of a device came to, by what the device holds
 pub record Counting {D : Type 0} (g : Ghosts D) (device : D) (result : Result LogCounts LogFault) : Type 0 where
-  pub found : g.keeps_model → (disk : List (List ℕ)) (lists : List (List KeyWrite)) → length disk ≡ g.size device → ReadsAs (g.may_read device) disk → IsLogImage current lists disk
-      → MatchResult result (λ counts. counts ≡ counts_of lists (g.size device)) IsDeviceOrMemory
-  pub damaged : g.keeps_model → (disk : List (List ℕ)) (lists : List (List KeyWrite)) → length disk ≡ g.size device → ReadsAs (g.may_read device) disk → IsDamaged current lists disk
-      → IsErrAnd result (λ fault. (fault ≡ Damaged (length lists)) ⊎ IsDeviceOrMemory fault)
-  pub no_log : g.keeps_model → (disk : List (List ℕ)) → length disk ≡ g.size device → ReadsAs (g.may_read device) disk → ((f : LogFormat) → IsNoLog f disk)
-      → IsErrAnd result (λ fault. (fault ≡ NotALog) ⊎ IsDeviceOrMemory fault)
-  pub older : g.keeps_model → (disk : List (List ℕ)) → length disk ≡ g.size device → ReadsAs (g.may_read device) disk → HasHead One disk
-      → IsErrAnd result (λ fault. (fault ≡ OldFormat) ⊎ IsDeviceOrMemory fault)
+  pub found : IfHoldsSets g device IsLogImage (λ lists. MatchResult result (λ counts. counts ≡ counts_of lists (g.size device)) IsDeviceOrMemory)
+  pub damaged : IfHoldsSets g device IsDamaged (λ lists. IsErrAnd result (λ fault. (fault ≡ Damaged (length lists)) ⊎ IsDeviceOrMemory fault))
+  pub no_log : IfHolds g device (λ disk. (f : LogFormat) → IsNoLog f disk) (IsErrAnd result (λ fault. (fault ≡ NotALog) ⊎ IsDeviceOrMemory fault))
+  pub older : IfHolds g device (HasHead One) (IsErrAnd result (λ fault. (fault ≡ OldFormat) ⊎ IsDeviceOrMemory fault))
   pub faults : IfErr result IsOpenFault
 
 -- Counting the log of a device and printing the line of its counts, which no fault of the log comes with.

@@ -8,17 +8,20 @@ use Rattle.sector.specs.SectorModel.{LeavesOnly}
 use Rattle.commit_log.specs.Copying.{write_sets_of, copy_size, IsCopyFault}
 use Rattle.commit_log.specs.LogFaults.{IsDeviceOrMemory, IsReadMapFault}
 use Rattle.commit_log.specs.MapReading.{IsMapOf, IsMapRefusal}
-use Rattle.commit_log.specs.Opening.{CanSettle}
+use Rattle.commit_log.specs.Opening.{MightHold}
 use Rattle.commit_log.specs.Reading.{FaultIs}
 use Rattle.commit_log.specs.declared.faults.LogFault.{LogFault}
 use Rattle.commit_log.specs.declared.faults.LogFault.TheVariants.{Full}
 use Rattle.commands.specs.LogCounts.{log_line}
 use Rattle.commands.specs.Faults.{of_log}
-use Rattle.commands.specs.Making.{HoldsLog}
+use Rattle.commit_log.specs.LogState.{HoldsLog}
 use Rattle.commands.specs.Notices.{copying_line}
 use Rattle.commands.specs.Printing.{IsToldAs, EndsAs}
 use Rattle.commands.specs.declared.faults.Fault.{Fault}
 use Rattle.commands.specs.declared.faults.Fault.TheVariants.{File, LogFull}
+use Rattle.commands.specs.declared.system.Around.{Around}
+use Rattle.commands.specs.declared.system.DataFiles.{Ghosts as DataFiles}
+use Rattle.commands.specs.declared.system.Lines.{Ghosts as Lines}
 
 -- how many sectors a copy is given, over an old device of so many, where so many were asked for and the map needs so many
 abbrev pub copy_count : ℕ → Option ℕ → Option ℕ → ℕ
@@ -41,8 +44,8 @@ Needs map needed = MatchOption needed (2 ^ 64 ≤ copy_size map) (λ n. n ≡ co
 pub record ReadsMap {D : Type 0} (g : Ghosts D) (device : D) (result : Result (KeyMap × ℕ) LogFault) (after : D) : Type 0 where
   pub fault : FaultIs (g.failures device) (g.failures after) result
   pub alone : IfErr result IsReadMapFault
-  pub found : g.keeps_model → MatchResult result (λ r. (image : List (List ℕ)) × CanSettle (g.size device) (g.may_read device) (g.may_leave device) image × IsMapOf image r.0 r.1)
-      (λ f. IsDeviceOrMemory f ⊎ ((image : List (List ℕ)) × CanSettle (g.size device) (g.may_read device) (g.may_leave device) image × IsMapRefusal image f))
+  pub found : g.keeps_model → MatchResult result (λ r. MightHold g device (λ image. IsMapOf image r.0 r.1))
+      (λ f. IsDeviceOrMemory f ⊎ MightHold g device (λ image. IsMapRefusal image f))
   pub during : g.keeps_model → LeavesOnly g.moment g.left_since device after (g.may_leave device)
 
 -- what copying a map to a device with room for its log came to
@@ -52,10 +55,10 @@ pub record CopiesMap {D : Type 0} (g : Ghosts D) (device : D) (map : KeyMap) (re
   pub copied : g.keeps_model → OnOk result (HoldsLog g after (write_sets_of map))
 
 -- copying a map to a device, and printing the line of the copy, which no fault of the log comes with
-pub data Copies {D O : Type 0} (g : Ghosts D) (writes : O → List ℕ → Result (Unit {0}) Error → O → Type 0) (device : D) (map : KeyMap) (out : O) : Result (Unit {0}) Fault → D → O → Type 0 where
-  NotCopied : (fault : LogFault) (after : D) → CopiesMap g device map (Err fault) after → Copies g writes device map out (Err (of_log fault)) after out
+pub data Copies {D O : Type 0} (g : Ghosts D) (out : Lines O) (device : D) (map : KeyMap) (old : O) : Result (Unit {0}) Fault → D → O → Type 0 where
+  NotCopied : (fault : LogFault) (after : D) → CopiesMap g device map (Err fault) after → Copies g out device map old (Err (of_log fault)) after old
   Copied : (done : Unit {0}) (outcome : Result (Unit {0}) Error) (result : Result (Unit {0}) Fault) (after : D) (printed : O) → CopiesMap g device map (Ok done) after
-      → writes out (log_line (write_sets_of map) (g.size device)) outcome printed → EndsAs outcome result → Copies g writes device map out result after printed
+      → out.writes old (log_line (write_sets_of map) (g.size device)) outcome printed → EndsAs outcome result → Copies g out device map old result after printed
 
 -- where the error output is a terminal, one line may tell there that the copy is being written
 abbrev pub MayTell : {E : Type 0} → (E → List ℕ → Result (Unit {0}) Error → E → Type 0) → Bool → E → E → Type 0
@@ -74,19 +77,20 @@ pub record HasRead {F D : Type 0} (g : Ghosts D) (reads : F → List ℕ → Res
 
 -- Copying a data file: the old one is opened to be read alone, its map is read, and then the new one is made, with so many sectors that the map has
 -- room, and written. The first of these that fails ends it, with its fault, and nothing is done behind it.
-pub data Compacting {F D O E : Type 0} (g : Ghosts D) (reads : F → List ℕ → Result D Error → F → Type 0) (makes : F → List ℕ → ℕ → Result D Error → F → Type 0)
-    (writes : O → List ℕ → Result (Unit {0}) Error → O → Type 0) (tells : E → List ℕ → Result (Unit {0}) Error → E → Type 0)
-    (from to : List ℕ) (asked : Option ℕ) (is_terminal : Bool) (files : F) (out : O) (err : E) : Result (Unit {0}) Fault → F → O → E → Type 0 where
-  NotOpened : (error : Error) (fault : Fault) (opened : F) → reads files from (Err error) opened → IsToldAs error File fault
-      → Compacting g reads makes writes tells from to asked is_terminal files out err (Err fault) opened out err
-  NotRead : (device after : D) (fault : LogFault) (opened : F) → reads files from (Ok device) opened → ReadsMap g device (Err fault) after
-      → Compacting g reads makes writes tells from to asked is_terminal files out err (Err (of_log fault)) opened out err
-  TooFew : (count : ℕ) (map : KeyMap) (needed : Option ℕ) (opened : F) → HasRead g reads from files opened count map needed → HasTooFew asked needed
-      → Compacting g reads makes writes tells from to asked is_terminal files out err (Err LogFull) opened out err
-  NotMade : (count : ℕ) (map : KeyMap) (needed : Option ℕ) (error : Error) (fault : Fault) (opened made : F) → HasRead g reads from files opened count map needed
-      → (HasTooFew asked needed → ⊥) → makes opened to (copy_count count asked needed) (Err error) made → IsToldAs error File fault
-      → Compacting g reads makes writes tells from to asked is_terminal files out err (Err fault) made out err
+pub data Compacting {F P D O E : Type 0} (g : Ghosts D) (files : DataFiles F D) (out : Lines O) (err : Lines E)
+    (from to : List ℕ) (asked : Option ℕ) (old : Around F P O E) : Result (Unit {0}) Fault → Around F P O E → Type 0 where
+  NotOpened : (error : Error) (fault : Fault) (opened : F) → files.reads old.files from (Err error) opened → IsToldAs error File fault
+      → Compacting g files out err from to asked old (Err fault) (record old { files = opened })
+  NotRead : (device after : D) (fault : LogFault) (opened : F) → files.reads old.files from (Ok device) opened → ReadsMap g device (Err fault) after
+      → Compacting g files out err from to asked old (Err (of_log fault)) (record old { files = opened })
+  TooFew : (count : ℕ) (map : KeyMap) (needed : Option ℕ) (opened : F) → HasRead g files.reads from old.files opened count map needed → HasTooFew asked needed
+      → Compacting g files out err from to asked old (Err LogFull) (record old { files = opened })
+  NotMade : (count : ℕ) (map : KeyMap) (needed : Option ℕ) (error : Error) (fault : Fault) (opened made : F)
+      → HasRead g files.reads from old.files opened count map needed → (HasTooFew asked needed → ⊥)
+      → files.makes opened to (copy_count count asked needed) (Err error) made → IsToldAs error File fault
+      → Compacting g files out err from to asked old (Err fault) (record old { files = made })
   Made : (count : ℕ) (map : KeyMap) (needed : Option ℕ) (device copied : D) (result : Result (Unit {0}) Fault) (opened made : F) (printed : O) (told : E)
-      → HasRead g reads from files opened count map needed → (HasTooFew asked needed → ⊥) → makes opened to (copy_count count asked needed) (Ok device) made
-      → MayTell tells is_terminal err told → Copies g writes device map out result copied printed
-      → Compacting g reads makes writes tells from to asked is_terminal files out err result made printed told
+      → HasRead g files.reads from old.files opened count map needed → (HasTooFew asked needed → ⊥)
+      → files.makes opened to (copy_count count asked needed) (Ok device) made
+      → MayTell err.writes old.is_terminal old.err told → Copies g out device map old.out result copied printed
+      → Compacting g files out err from to asked old result (record old { files = made; out = printed; err = told })

@@ -2,19 +2,12 @@
 -- sectors, how that came out, and them afterwards.
 use Rattle.std.specs.Prelude.{◌≡◌, ℕ, List, [], Result, Ok, Err, OnOk, IfErr}
 use Rattle.std.specs.declared.io.Error.{Error}
-use Rattle.model.specs.Map.{KeyWrite}
 use Rattle.sector.specs.declared.device.Sectors.{Ghosts}
-use Rattle.sector.specs.SectorModel.{IsSettled}
-use Rattle.commit_log.specs.Format.{current}
-use Rattle.commit_log.specs.LogImage.{IsLogImage}
+use Rattle.commit_log.specs.LogState.{HoldsLog}
 use Rattle.commands.specs.Faults.{DeviceIs}
 use Rattle.commands.specs.Printing.{IsToldAs}
 use Rattle.commands.specs.declared.faults.Fault.{Fault}
 use Rattle.commands.specs.declared.faults.Fault.TheVariants.{File, Device}
-
--- the device holds the log of these write sets, and a crash leaves it
-abbrev pub HoldsLog : {D : Type 0} → Ghosts D → D → List (List KeyWrite) → Type 0
-HoldsLog g device lists = (image : List (List ℕ)) × IsSettled (g.size device) (g.may_read device) (g.may_leave device) image × IsLogImage current lists image
 
 -- what formatting a device of two sectors or more came to: it holds an empty log, or a call of it failed
 pub record Formats {D : Type 0} (g : Ghosts D) (device : D) (result : Result (Unit {0}) Fault) (after : D) : Type 0 where

@@ -1,6 +1,6 @@
 -- What serving does, call by call, over whatever opens files, listens, takes turns and takes lines. Each relation given is of one call:
 -- what was called before it, what it was given, how it came out, and what was called afterwards.
-use Rattle.std.specs.Prelude.{◌≡◌, ℕ, List, Bool, true, false, Result, Ok, Err, MatchResult}
+use Rattle.std.specs.Prelude.{◌≡◌, ℕ, List, Bool, true, false, Result, Ok, Err, IfErr, MatchResult}
 use Rattle.std.specs.Net.Grammar.{IsSocketText}
 use Rattle.std.specs.declared.io.Error.{Error}
 use Rattle.std.specs.declared.net.socket_addr.SocketAddr.{SocketAddr}
@@ -14,6 +14,11 @@ use Rattle.commands.specs.Notices.{listening_line, stopped_line}
 use Rattle.commands.specs.Printing.{IsToldAs, Prints}
 use Rattle.commands.specs.declared.faults.Fault.{Fault}
 use Rattle.commands.specs.declared.faults.Fault.TheVariants.{File, Listen, Poll}
+use Rattle.commands.specs.declared.system.Around.{Around}
+use Rattle.commands.specs.declared.system.DataFiles.{Ghosts as DataFiles}
+use Rattle.commands.specs.declared.system.Lines.{Ghosts as Lines}
+use Rattle.commands.specs.declared.system.Ports.{Ghosts as Ports}
+use Rattle.commands.specs.declared.system.Turns.{Ghosts as Turns}
 
 -- each hub that was opened is taken
 abbrev pub TakesOpened : {D : Type 0} {g : Ghosts D} → (Hub D g → Type 0) → Type 0
@@ -67,19 +72,23 @@ pub record EndsTurns {V E : Type 0} (turns : V → Result (Unit {0}) Error → V
 
 -- Serving: a file is opened and an address listened at, the address that the server has is printed, and turns are taken until one fails.
 -- The first of these that fails ends it, with its fault, and nothing is done behind it.
-pub data EndsServing {F P D V O E : Type 0} {g : Ghosts D} (opens : F → List ℕ → Result D Error → F → Type 0) (listens : P → SocketAddr → Hub D g → Result V Error → P → Type 0)
-    (is_at : V → Result SocketAddr Error → Type 0) (turns : V → Result (Unit {0}) Error → V → Type 0) (stops : V → Bool → Type 0)
-    (writes : O → List ℕ → Result (Unit {0}) Error → O → Type 0) (tells : E → List ℕ → Result (Unit {0}) Error → E → Type 0)
-    (name listen : List ℕ) (files : F) (ports : P) (out : O) (err : E) : Fault → F → P → O → E → Type 0 where
-  NotOpened : (fault : Fault) (opened : F) (listened : P) → Opening opens listens name listen files ports (Err fault) opened listened
-      → EndsServing opens listens is_at turns stops writes tells name listen files ports out err fault opened listened out err
-  Nowhere : (server : V) (error : Error) (opened : F) (listened : P) → Opening opens listens name listen files ports (Ok server) opened listened
-      → is_at server (Err error) → EndsServing opens listens is_at turns stops writes tells name listen files ports out err Listen opened listened out err
-  NotPrinted : (server : V) (address : SocketAddr) (error : Error) (fault : Fault) (opened : F) (listened : P) (printed : O)
-      → Opening opens listens name listen files ports (Ok server) opened listened → is_at server (Ok address)
-      → Prints writes (listening_line address) out (Err error) printed → IsToldAs error File fault
-      → EndsServing opens listens is_at turns stops writes tells name listen files ports out err fault opened listened printed err
-  Served : (server : V) (address : SocketAddr) (done : Unit {0}) (fault : Fault) (opened : F) (listened : P) (printed : O) (last : V) (told : E)
-      → Opening opens listens name listen files ports (Ok server) opened listened → is_at server (Ok address)
-      → Prints writes (listening_line address) out (Ok done) printed → EndsTurns turns stops tells server err fault last told
-      → EndsServing opens listens is_at turns stops writes tells name listen files ports out err fault opened listened printed told
+pub data EndsServing {F P D V O E : Type 0} {g : Ghosts D} (files : DataFiles F D) (ports : Ports P (Hub D g) V) (server : Turns V)
+    (out : Lines O) (err : Lines E) (name listen : List ℕ) (old : Around F P O E) : Fault → Around F P O E → Type 0 where
+  NotOpened : (fault : Fault) (opened : F) (listened : P) → Opening files.opens ports.listens name listen old.files old.ports (Err fault) opened listened
+      → EndsServing files ports server out err name listen old fault (record old { files = opened; ports = listened })
+  Nowhere : (serving : V) (error : Error) (opened : F) (listened : P)
+      → Opening files.opens ports.listens name listen old.files old.ports (Ok serving) opened listened → server.is_at serving (Err error)
+      → EndsServing files ports server out err name listen old Listen (record old { files = opened; ports = listened })
+  NotPrinted : (serving : V) (address : SocketAddr) (error : Error) (fault : Fault) (opened : F) (listened : P) (printed : O)
+      → Opening files.opens ports.listens name listen old.files old.ports (Ok serving) opened listened → server.is_at serving (Ok address)
+      → Prints out.writes (listening_line address) old.out (Err error) printed → IsToldAs error File fault
+      → EndsServing files ports server out err name listen old fault (record old { files = opened; ports = listened; out = printed })
+  Served : (serving : V) (address : SocketAddr) (done : Unit {0}) (fault : Fault) (opened : F) (listened : P) (printed : O) (last : V) (told : E)
+      → Opening files.opens ports.listens name listen old.files old.ports (Ok serving) opened listened → server.is_at serving (Ok address)
+      → Prints out.writes (listening_line address) old.out (Ok done) printed → EndsTurns server.turns server.stops err.writes serving old.err fault last told
+      → EndsServing files ports server out err name listen old fault (record old { files = opened; ports = listened; out = printed; err = told })
+
+-- where serving ends by a fault, it ends so
+abbrev pub Serving : {F P D V O E : Type 0} {g : Ghosts D} → DataFiles F D → Ports P (Hub D g) V → Turns V → Lines O → Lines E
+    → List ℕ → List ℕ → Around F P O E → Result (Unit {0}) Fault → Around F P O E → Type 0
+Serving files ports server out err name listen old result new = IfErr result (λ fault. EndsServing files ports server out err name listen old fault new)

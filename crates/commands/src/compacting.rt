@@ -1,18 +1,16 @@
 //! Copying the map of a data file into a new one.
-ghost use Rattle.std.specs.Prelude.{◌≡◌, ◌<◌, ◌≤◌, ◌⊎◌, ◌↔◌, ℕ, List, Ok, OnOk, IfOk, IfErr, IsErrOf, MatchResult};
-ghost use Rattle.sector.specs.SectorModel.{IsSettled};
-ghost use Rattle.commit_log.specs.Format.{current};
-ghost use Rattle.commit_log.specs.LogImage.{IsLogImage};
+ghost use Rattle.std.specs.Prelude.{◌≡◌, ◌<◌, ◌≤◌, ◌⊎◌, ◌↔◌, Ok, OnOk, IfOk, IfErr, IsErrOf};
 ghost use Rattle.commit_log.specs.Copying.{write_sets_of, copy_size, IsCopyFault};
 ghost use Rattle.commit_log.specs.Reading.{FaultIs};
 ghost use Rattle.commands.specs.Compacting.{copy_count, Compacting, Copies, HasTooFew, MayTell};
 ghost use Rattle.commands.specs.LogCounts.{counts_of, log_line};
 ghost use Rattle.commands.specs.Faults.{IsFromOutput};
+ghost use Rattle.commit_log.specs.LogState.{HoldsLog};
 ghost use Rattle.commands.specs.Notices.{copying_line};
 
 use crate::data::{LogCounts, print_counts};
 use crate::faults::Fault;
-use crate::system::{DataFiles, Lines};
+use crate::system::{Around, DataFiles, Lines};
 use commit_log::{LogFault, copy_into, copy_sectors, read_map};
 use model::Map;
 use sector::Sectors;
@@ -21,36 +19,33 @@ use std::time::{Clock, Duration, Instant};
 use std::{io, mem};
 
 /// Copies the map of the log in the file `from`, of either format, into the file `to`, and prints the line of `to` as `check` does. It
-/// makes `to`, whose name must be free, with as many sectors as `copy_count` says, and never writes `from`. Where `err` is a terminal
-/// and reading took a second or more, it reports there that the copy is being written; if this can't be reported, that is no fault. It calls nothing
-/// else: its contract names each call of the files and the outputs.
+/// makes `to`, whose name must be free, with as many sectors as `copy_count` says, and never writes `from`. Where the
+/// error output is a terminal and reading took a second or more, it reports there that the copy is being written; if this can't be
+/// reported, that is no fault. It calls nothing else: its contract names each call of the files and the outputs.
 ///
 /// The first fault is reported: one of opening or reading `from`; `LogFull` where the map needs more sectors than `to` may have, and then
 /// `to` isn't made; `File` or `Memory` where `to` can't be made, after which no file is there that it made; one of `copy_device`, after
 /// which `to` stays: it is no log, or the whole copy. It takes the memory of the map and of one record. That of the map is left to the end
 /// of the process: to give a million values back one by one takes a twentieth of the whole.
-pub fn compact<C: Clock, F: DataFiles, O: Lines, E: Lines>(
+pub fn compact<C: Clock, F: DataFiles, P, O: Lines, E: Lines>(
     clock: &C,
     alloc: Global,
-    files: &mut F,
+    around: &mut Around<F, P, O, E>,
     from: &str,
     to: &str,
     sectors: Option<u64>,
-    out: &mut O,
-    err: &mut E,
-    is_terminal: bool,
 ) -> Result<(), Fault>
-    ensures { Compacting F.Device.Sectors F.reads F.makes O.writes E.writes from.now to.now sectors is_terminal files.old out.old err.old result files.new out.new err.new }
+    ensures { Compacting F.Device.Sectors F.DataFiles O.Lines E.Lines from.now to.now sectors around.old result around.new }
 {
     let begun = Instant::now(clock).ok();
-    let mut old = files.open_to_read(from)?;
+    let mut old = around.files.open_to_read(from)?;
     let found = read_map(alloc, &mut old)?;
     let (map, _) = found;
     let needed = copy_sectors(&map);
     let count = copy_count(old.count(), sectors, needed)?;
-    let mut new = files.create(to, count)?;
-    may_tell(clock, begun, is_terminal, err);
-    let copied = copy_device(alloc, &mut new, &map, out);
+    let mut new = around.files.create(to, count)?;
+    may_tell(clock, begun, around.is_terminal, &mut around.err);
+    let copied = copy_device(alloc, &mut new, &map, &mut around.out);
     mem::forget(map);
     copied
 }
@@ -106,8 +101,8 @@ pub fn copy_device<D: Sectors, O: Lines>(
     ensures full { IsErrOf result Fault.LogFull ↔ (D.size device.old < copy_size map.now) }
     ensures printed { IfOk result (λ done. O.writes out.old (log_line (write_sets_of map.now) (D.size device.old)) (Ok done) out.new) }
     ensures beside { IfErr result (λ fault. IsFromOutput fault ⊎ (out.new ≡ out.old)) }
-    ensures copied { D.keeps_model → OnOk result ((image : List (List ℕ)) × IsSettled (D.size device.new) (D.may_read device.new) (D.may_leave device.new) image × IsLogImage current (write_sets_of map.now) image) }
-    ensures copies { copy_size map.now ≤ D.size device.old → Copies D.Sectors O.writes device.old map.now out.old result device.new out.new }
+    ensures copied { D.keeps_model → OnOk result (HoldsLog D.Sectors device.new (write_sets_of map.now)) }
+    ensures copies { copy_size map.now ≤ D.size device.old → Copies D.Sectors O.Lines device.old map.now out.old result device.new out.new }
 {
     let counts = copy_counts(alloc, device, map)?;
     print_counts(counts, out)?;
@@ -121,7 +116,7 @@ fn copy_counts<D: Sectors>(alloc: Global, device: &mut D, map: &Map) -> Result<L
     ensures size { D.size device.new ≡ D.size device.old }
     ensures full { IsErrOf result LogFault.Full ↔ (D.size device.old < copy_size map.now) }
     ensures counted { IfOk result (λ counts. counts ≡ counts_of (write_sets_of map.now) (D.size device.old)) }
-    ensures copied { D.keeps_model → OnOk result ((image : List (List ℕ)) × IsSettled (D.size device.new) (D.may_read device.new) (D.may_leave device.new) image × IsLogImage current (write_sets_of map.now) image) }
+    ensures copied { D.keeps_model → OnOk result (HoldsLog D.Sectors device.new (write_sets_of map.now)) }
 {
     let count = device.count();
     let Some(used) = copy_sectors(map) else {

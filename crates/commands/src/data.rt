@@ -1,18 +1,14 @@
 //! Making and checking a data file.
-ghost use Rattle.std.specs.Prelude.{◌≡◌, ◌≢◌, ◌<◌, ◌≤◌, ◌⊎◌, ◌↔◌, ℕ, List, [], length, MatchResult, Ok, OnOk, IfErr, IsErrOf, IsErrAnd};
-ghost use Rattle.model.specs.Map.{KeyWrite};
-ghost use Rattle.sector.specs.SectorModel.{IsSettled};
+ghost use Rattle.std.specs.Prelude.{◌≡◌, ◌≢◌, ◌<◌, ◌≤◌, ◌⊎◌, ◌↔◌, [], length, OnOk, IfErr, IsErrOf};
 ghost use Rattle.sector.specs.Failures.{Stayed};
-ghost use Rattle.commit_log.specs.LogFaults.{IsDeviceOrMemory, IsOpenFault};
 ghost use Rattle.commit_log.specs.declared.formats.LogFormat.{LogFormat};
 ghost use Rattle.commit_log.specs.declared.formats.LogFormat.TheVariants.{One};
-ghost use Rattle.commit_log.specs.Format.{current};
 ghost use Rattle.commit_log.specs.LogImage.{IsLogImage, IsDamaged, HasHead, IsNoLog};
-ghost use Rattle.commit_log.specs.Reading.{ReadsAs};
-ghost use Rattle.commands.specs.Checking.{Checking, Checks};
-ghost use Rattle.commands.specs.LogCounts.{counts_of, line_of, log_line};
-ghost use Rattle.commands.specs.Faults.{IsFromDevice, IsFromOutput, IsFromOutside, DeviceIs};
+ghost use Rattle.commands.specs.Checking.{Checking, Checks, Counting, IfHolds, IfHoldsSets, IsRefused, PrintsLog};
+ghost use Rattle.commands.specs.LogCounts.{line_of};
+ghost use Rattle.commands.specs.Faults.{IsFromOutput, IsFromOutside, DeviceIs};
 ghost use Rattle.commands.specs.Making.{Creating};
+ghost use Rattle.commit_log.specs.LogState.{HoldsLog};
 
 use crate::faults::Fault;
 use crate::lines::{Line, push_number, push_text};
@@ -48,7 +44,7 @@ pub fn format_device<D: Sectors>(device: &mut D) -> Result<(), Fault>
     ensures fault { DeviceIs (D.failures device.old) (D.failures device.new) result }
     ensures no_fault { OnOk result (Stayed (D.failures device.old) (D.failures device.new)) }
     ensures size { D.size device.new ≡ D.size device.old }
-    ensures formatted { D.keeps_model → OnOk result ((image : List (List ℕ)) × IsSettled (D.size device.new) (D.may_read device.new) (D.may_leave device.new) image × IsLogImage current [] image) }
+    ensures formatted { D.keeps_model → OnOk result (HoldsLog D.Sectors device.new []) }
 {
     format(device)?;
     Ok(())
@@ -80,14 +76,10 @@ pub fn check_device<D: Sectors, O: Lines>(
     device: D,
     out: &mut O,
 ) -> Result<(), Fault>
-    ensures found { D.keeps_model → (disk : List (List ℕ)) (lists : List (List KeyWrite)) → length disk ≡ D.size device → ReadsAs (D.may_read device) disk → IsLogImage current lists disk
-        → MatchResult result (λ done. O.writes out.old (log_line lists (D.size device)) (Ok done) out.new) IsFromOutside }
-    ensures damaged { D.keeps_model → (disk : List (List ℕ)) (lists : List (List KeyWrite)) → length disk ≡ D.size device → ReadsAs (D.may_read device) disk → IsDamaged current lists disk
-        → IsErrAnd result (λ fault. ((fault ≡ Fault.Damaged (length lists)) ⊎ IsFromDevice fault) × (out.new ≡ out.old)) }
-    ensures no_log { D.keeps_model → (disk : List (List ℕ)) → length disk ≡ D.size device → ReadsAs (D.may_read device) disk → ((f : LogFormat) → IsNoLog f disk)
-        → IsErrAnd result (λ fault. ((fault ≡ Fault.NotALog) ⊎ IsFromDevice fault) × (out.new ≡ out.old)) }
-    ensures older { D.keeps_model → (disk : List (List ℕ)) → length disk ≡ D.size device → ReadsAs (D.may_read device) disk → HasHead One disk
-        → IsErrAnd result (λ fault. ((fault ≡ Fault.OldFormat) ⊎ IsFromDevice fault) × (out.new ≡ out.old)) }
+    ensures found { IfHoldsSets D.Sectors device IsLogImage (λ lists. PrintsLog O.Lines lists (D.size device) out.old result out.new) }
+    ensures damaged { IfHoldsSets D.Sectors device IsDamaged (λ lists. IsRefused (Fault.Damaged (length lists)) result out.old out.new) }
+    ensures no_log { IfHolds D.Sectors device (λ disk. (f : LogFormat) → IsNoLog f disk) (IsRefused Fault.NotALog result out.old out.new) }
+    ensures older { IfHolds D.Sectors device (HasHead One) (IsRefused Fault.OldFormat result out.old out.new) }
     ensures beside { IfErr result (λ fault. IsFromOutput fault ⊎ (out.new ≡ out.old)) }
     ensures checks { Checks D.Sectors O.writes device out.old result out.new }
 {
@@ -107,15 +99,7 @@ pub(crate) struct LogCounts {
 
 // Opens the log of a device and counts what it holds.
 fn count_device<D: Sectors>(alloc: Global, device: D) -> Result<LogCounts, LogFault>
-    ensures found { D.keeps_model → (disk : List (List ℕ)) (lists : List (List KeyWrite)) → length disk ≡ D.size device → ReadsAs (D.may_read device) disk → IsLogImage current lists disk
-        → MatchResult result (λ counts. counts ≡ counts_of lists (D.size device)) IsDeviceOrMemory }
-    ensures damaged { D.keeps_model → (disk : List (List ℕ)) (lists : List (List KeyWrite)) → length disk ≡ D.size device → ReadsAs (D.may_read device) disk → IsDamaged current lists disk
-        → IsErrAnd result (λ fault. (fault ≡ LogFault.Damaged (length lists)) ⊎ IsDeviceOrMemory fault) }
-    ensures no_log { D.keeps_model → (disk : List (List ℕ)) → length disk ≡ D.size device → ReadsAs (D.may_read device) disk → ((f : LogFormat) → IsNoLog f disk)
-        → IsErrAnd result (λ fault. (fault ≡ LogFault.NotALog) ⊎ IsDeviceOrMemory fault) }
-    ensures older { D.keeps_model → (disk : List (List ℕ)) → length disk ≡ D.size device → ReadsAs (D.may_read device) disk → HasHead One disk
-        → IsErrAnd result (λ fault. (fault ≡ LogFault.OldFormat) ⊎ IsDeviceOrMemory fault) }
-    ensures faults { IfErr result IsOpenFault }
+    ensures { Counting D.Sectors device result }
 {
     let count = device.count();
     let (log, map) = Log::open(alloc, device)?;

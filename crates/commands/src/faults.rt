@@ -1,6 +1,5 @@
 //! Why a command ends early.
-ghost use Rattle.std.specs.Prelude.{◌≡◌, ◌≢◌, ◌⊎◌};
-ghost use Rattle.std.specs.IoError.{error_kind};
+ghost use Rattle.commands.specs.Printing.{IsToldAs};
 
 use commit_log::{LogFault, Unopened};
 use scripts::ScriptFault;
@@ -85,12 +84,10 @@ impl From<ScriptFault> for Fault {
 
 /// An error of a file, the input or the output. Its kind says whether it is out of memory.
 impl From<io::Error> for Fault {
-    ghost use Rattle.std.specs.Prelude.{◌≡◌, ◌≢◌, ◌⊎◌};
-    ghost use Rattle.std.specs.IoError.{error_kind};
-    ghost use Rattle.std.specs.declared.io.ErrorKind.TheVariants.{OutOfMemory};
-    ghost use Rattle.commands.specs.declared.faults.Fault.TheVariants.{File, Memory};
+    ghost use Rattle.commands.specs.Printing.{IsToldAs};
+    ghost use Rattle.commands.specs.declared.faults.Fault.TheVariants.{File};
 
-    ghost from_gives = { λ error fault. ((error_kind error ≡ OutOfMemory) × (fault ≡ Memory)) ⊎ ((error_kind error ≢ OutOfMemory) × (fault ≡ File)) };
+    ghost from_gives = { λ error fault. IsToldAs error File fault };
 
     fn from(error: io::Error) -> Fault {
         or_memory(&error, Fault::File)
@@ -99,7 +96,7 @@ impl From<io::Error> for Fault {
 
 /// The fault, unless the error is out of memory.
 pub(crate) fn or_memory(error: &io::Error, fault: Fault) -> Fault
-    ensures { ((error_kind error.now ≡ ErrorKind.OutOfMemory) × (result ≡ Fault.Memory)) ⊎ ((error_kind error.now ≢ ErrorKind.OutOfMemory) × (result ≡ fault)) }
+    ensures { IsToldAs error.now fault result }
 {
     match error.kind() {
         ErrorKind::OutOfMemory => Fault::Memory,

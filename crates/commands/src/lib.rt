@@ -16,9 +16,11 @@ pub use data::{check, check_device, create, format_device};
 pub use endings::{Ending, Told, report, tell};
 pub use faults::Fault;
 pub use running::{run, run_command, run_watched};
-pub use serving::{Turns, serve, serve_turns};
+pub use serving::{serve, serve_turns};
 pub use streams::{NullDevice, Opener, keep_standard};
-pub use system::{CommandLine, DataFiles, Lines, Ports, Scripts, SystemFiles, SystemPorts, Words};
+pub use system::{
+    Around, CommandLine, DataFiles, Lines, Ports, Scripts, SystemFiles, SystemPorts, Turns, Words,
+};
 
 /// The status of a command that was done, or of help that was asked for.
 pub const DONE: u8 = 0;

@@ -9,7 +9,7 @@ use crate::endings::{Ending, tell};
 use crate::faults::Fault;
 use crate::serving::serve;
 use crate::system::{
-    CommandLine, DataFiles, Lines, Ports, Scripts, SystemFiles, SystemPorts, Words,
+    Around, CommandLine, DataFiles, Lines, Ports, Scripts, SystemFiles, SystemPorts, Words,
 };
 use command_line::Asked;
 use sessions::Hub;
@@ -46,20 +46,14 @@ pub fn run_watched<R: Files<File = File> + Net + Wait + Clock, I: Read + Drop, O
     err: &mut E,
     is_terminal: bool,
 ) -> u8 {
-    let mut files = SystemFiles::new(rt);
-    let mut ports = SystemPorts::new(rt);
-    let words = CommandLine::new(words);
-    run_command(
-        rt,
-        alloc,
-        &words,
-        &mut files,
-        &mut ports,
-        reader,
+    let mut around = Around {
+        files: SystemFiles::new(rt),
+        ports: SystemPorts::new(rt),
         out,
         err,
         is_terminal,
-    )
+    };
+    run_command(rt, alloc, &CommandLine::new(words), &mut around, reader)
 }
 
 /// As `run_watched`, over whatever tells what is asked, opens and makes files, listens, plays scripts and takes lines. It does nothing else:
@@ -72,36 +66,16 @@ pub fn run_command<
     S: Scripts<O> + Drop,
     O: Lines,
     E: Lines,
->(
-    rt: &R,
-    alloc: Global,
-    words: &W,
-    files: &mut F,
-    ports: &mut P,
-    scripts: S,
-    out: &mut O,
-    err: &mut E,
-    is_terminal: bool,
-) -> u8
+>(rt: &R, alloc: Global, words: &W, around: &mut Around<F, P, O, E>, scripts: S) -> u8
     requires { TakesOpened P.takes }
-    ensures { Runs W.asks (record { opens = F.opens; reads = F.reads; makes = F.makes; listens = P.listens; is_at = P.Server.is_at; turns = P.Server.turns; stops = P.Server.stops; plays = S.plays; writes = O.writes; tells = E.writes }) words.now scripts is_terminal (record { files = files.old; ports = ports.old; out = out.old; err = err.old }) result (record { files = files.new; ports = ports.new; out = out.new; err = err.new }) }
+    ensures { Runs F.DataFiles P.Ports P.Server.Turns S.Scripts O.Lines E.Lines W.asks words.now scripts around.old result around.new }
 {
     match words.asked(alloc) {
         Ok(asked) => {
-            let done = execute(
-                rt,
-                alloc,
-                asked,
-                files,
-                ports,
-                scripts,
-                out,
-                err,
-                is_terminal,
-            );
-            tell(&Ending::from(done), out, err).status
+            let done = execute(rt, alloc, asked, around, scripts);
+            tell(&Ending::from(done), &mut around.out, &mut around.err).status
         }
-        Err(refusal) => tell(&Ending::from(refusal), out, err).status,
+        Err(refusal) => tell(&Ending::from(refusal), &mut around.out, &mut around.err).status,
     }
 }
 
@@ -117,32 +91,20 @@ fn execute<
     rt: &R,
     alloc: Global,
     asked: Asked<'_>,
-    files: &mut F,
-    ports: &mut P,
+    around: &mut Around<F, P, O, E>,
     scripts: S,
-    out: &mut O,
-    err: &mut E,
-    is_terminal: bool,
 ) -> Result<(), Fault>
     requires opened { TakesOpened P.takes }
     requires range { IsInRange asked }
-    ensures { Does (record { opens = F.opens; reads = F.reads; makes = F.makes; listens = P.listens; is_at = P.Server.is_at; turns = P.Server.turns; stops = P.Server.stops; plays = S.plays; writes = O.writes; tells = E.writes }) scripts is_terminal (record { files = files.old; ports = ports.old; out = out.old; err = err.old }) asked.entry result (record { files = files.new; ports = ports.new; out = out.new; err = err.new }) }
+    ensures { Does F.DataFiles P.Ports P.Server.Turns S.Scripts O.Lines E.Lines scripts around.old asked.entry result around.new }
 {
     match asked {
-        Asked::Create { data, sectors } => create(files, data, sectors),
-        Asked::Serve { data, listen } => serve(rt, alloc, files, ports, data, listen, out, err),
-        Asked::Check { data } => check(alloc, files, data, out),
-        Asked::Compact { from, to, sectors } => compact(
-            rt,
-            alloc,
-            files,
-            from,
-            to,
-            sectors,
-            out,
-            err,
-            is_terminal,
-        ),
-        Asked::Play { sectors } => scripts.play(alloc, sectors, out).map_err(Fault::from),
+        Asked::Create { data, sectors } => create(&mut around.files, data, sectors),
+        Asked::Serve { data, listen } => serve(rt, alloc, around, data, listen),
+        Asked::Check { data } => check(alloc, &mut around.files, data, &mut around.out),
+        Asked::Compact { from, to, sectors } => compact(rt, alloc, around, from, to, sectors),
+        Asked::Play { sectors } => scripts
+            .play(alloc, sectors, &mut around.out)
+            .map_err(Fault::from),
     }
 }

@@ -2,12 +2,10 @@
 ghost use Rattle.std.specs.Prelude.{IfErr, IsErr};
 ghost use Rattle.commands.specs.Notices.{listening_line};
 ghost use Rattle.commands.specs.Printing.{Prints};
-ghost use Rattle.commands.specs.Serving.{EndsServing, EndsTurns, Opening, TakesOpened, TellsStop};
+ghost use Rattle.commands.specs.Serving.{EndsTurns, Opening, Serving, TakesOpened, TellsStop};
 
 use crate::faults::{Fault, or_memory};
-use crate::system::{DataFiles, Lines, Ports};
-use event_loop::EventLoop;
-use sector::FileSectors;
+use crate::system::{Around, DataFiles, Lines, Ports, Turns};
 use sessions::Hub;
 use std::alloc::Global;
 use std::io;
@@ -15,80 +13,29 @@ use std::net::SocketAddr;
 use std::sync::Wait;
 use std::time::Clock;
 
-/// What serves in turns.
-pub trait Turns {
-    ghost use Rattle.std.specs.Prelude.{⊤, Bool, Result};
-    ghost use Rattle.std.specs.declared.io.Error.{Error};
-    ghost use Rattle.std.specs.declared.net.socket_addr.SocketAddr.{SocketAddr};
-
-    /// Relates it before a turn, how that came out, and it afterwards.
-    ghost turns: { Self → Result (Unit {0}) Error → Self → Type 0 } = { λ _ _ _. ⊤ };
-
-    /// Relates it to whether its store has stopped.
-    ghost stops: { Self → Bool → Type 0 } = { λ _ _. ⊤ };
-
-    /// Relates it to the address that it listens at, or to why that can't be told.
-    ghost is_at: { Self → Result SocketAddr Error → Type 0 } = { λ _ _. ⊤ };
-
-    /// One turn: it waits until there is something to do, and does it, by this clock. An error is the wait's.
-    fn next_turn<C: Clock>(&mut self, clock: &C) -> io::Result<()>
-        ensures { turns self.old result self.new };
-
-    /// Has the store stopped?
-    fn is_stopped(&self) -> bool
-        ensures { stops self.now result };
-
-    /// The address that it listens at.
-    fn address(&self) -> io::Result<SocketAddr>
-        ensures { is_at self.now result };
-}
-
-impl Turns for EventLoop<FileSectors> {
-    ghost use Rattle.commands.specs.SystemTurns.{HasStopped, TurnedSo};
-
-    ghost turns = { TurnedSo };
-
-    ghost stops = { HasStopped };
-
-    fn next_turn<C: Clock>(&mut self, clock: &C) -> io::Result<()> {
-        self.turn(clock, None)
-    }
-
-    fn is_stopped(&self) -> bool {
-        self.stopped()
-    }
-
-    fn address(&self) -> io::Result<SocketAddr> {
-        EventLoop::address(self)
-    }
-}
-
 /// Opens a data file, listens at an address, prints `listening` and the address that the system gave, and runs turns without end. It
-/// tells once, on `err`, that the store has stopped. It does nothing else: its contract names each call of the files, the ports, the
-/// server and the outputs, in their order.
+/// tells once, on the error output, that the store has stopped. It does nothing else: its contract names each call of the files, the
+/// ports, the server and the outputs, in their order.
 ///
 /// A fault is `Listen`, which for a text that is no address comes before the file is opened, `File`, the log's, `Poll`, or `Memory`.
 /// It takes the memory of the log's map and of the sessions and their requests.
 pub fn serve<R: Wait + Clock, F: DataFiles, P: Ports<Hub<F::Device>>, O: Lines, E: Lines>(
     rt: &R,
     alloc: Global,
-    files: &mut F,
-    ports: &mut P,
+    around: &mut Around<F, P, O, E>,
     data: &str,
     listen: &str,
-    out: &mut O,
-    err: &mut E,
 ) -> Result<(), Fault>
     requires { TakesOpened P.takes }
     ensures ends { IsErr result }
-    ensures serves { IfErr result (λ fault. EndsServing F.opens P.listens P.Server.is_at P.Server.turns P.Server.stops O.writes E.writes data.now listen.now files.old ports.old out.old err.old fault files.new ports.new out.new err.new) }
+    ensures serves { Serving F.DataFiles P.Ports P.Server.Turns O.Lines E.Lines data.now listen.now around.old result around.new }
 {
-    let mut server = open(alloc, files, ports, data, listen)?;
+    let mut server = open(alloc, &mut around.files, &mut around.ports, data, listen)?;
     let Ok(address) = server.address() else {
         return Err(Fault::Listen);
     };
-    print_listening(alloc, address, out)?;
-    serve_turns(rt, &mut server, err)
+    print_listening(alloc, address, &mut around.out)?;
+    serve_turns(rt, &mut server, &mut around.err)
 }
 
 /// Runs turns until one fails, and tells once, on `err`, that the store has stopped: after the first turn that leaves it so. Where that

@@ -1,7 +1,6 @@
-//! What commands use of the system, as traits: words, files, ports, scripts and lines. A command's contract says which of their calls it
-//! makes.
+//! What commands use of the system, as traits: words, files, turns, ports, scripts and lines. A command's contract says which of their
+//! calls it makes.
 
-use crate::serving::Turns;
 use command_line::{Asked, Refusal, parse};
 use event_loop::EventLoop;
 use scripts::{ScriptFault, play};
@@ -61,6 +60,34 @@ pub trait DataFiles {
         ensures size { IfOk result (λ device. Self.Device.size device ≡ sectors) };
 }
 
+/// What serves in turns.
+pub trait Turns {
+    ghost use Rattle.std.specs.Prelude.{⊤, Bool, Result};
+    ghost use Rattle.std.specs.declared.io.Error.{Error};
+    ghost use Rattle.std.specs.declared.net.socket_addr.SocketAddr.{SocketAddr};
+
+    /// Relates it before a turn, how that came out, and it afterwards.
+    ghost turns: { Self → Result (Unit {0}) Error → Self → Type 0 } = { λ _ _ _. ⊤ };
+
+    /// Relates it to whether its store has stopped.
+    ghost stops: { Self → Bool → Type 0 } = { λ _ _. ⊤ };
+
+    /// Relates it to the address that it listens at, or to why that can't be told.
+    ghost is_at: { Self → Result SocketAddr Error → Type 0 } = { λ _ _. ⊤ };
+
+    /// One turn: it waits until there is something to do, and does it, by this clock. An error is the wait's.
+    fn next_turn<C: Clock>(&mut self, clock: &C) -> io::Result<()>
+        ensures { turns self.old result self.new };
+
+    /// Has the store stopped?
+    fn is_stopped(&self) -> bool
+        ensures { stops self.now result };
+
+    /// The address that it listens at.
+    fn address(&self) -> io::Result<SocketAddr>
+        ensures { is_at self.now result };
+}
+
 /// What listens at addresses, for the sessions of such a hub.
 pub trait Ports<H> {
     ghost use Rattle.std.specs.Prelude.{⊤, Result};
@@ -111,6 +138,21 @@ pub trait Lines {
         ensures { writes self.old line.now result self.new };
 }
 
+/// What a command calls: files, ports, the output and the error output.
+#[derive(Drop)]
+pub struct Around<F, P, O, E> {
+    /// What opens and makes data files.
+    pub files: F,
+    /// What listens at addresses.
+    pub ports: P,
+    /// The output.
+    pub out: O,
+    /// The error output.
+    pub err: E,
+    /// Whether the error output is a terminal.
+    pub is_terminal: bool,
+}
+
 /// Each writer: a line leaves in one write, and is flushed.
 impl<W: Write> Lines for W {
     ghost use Rattle.std.specs.Prelude.{OnOk};
@@ -126,11 +168,9 @@ impl<W: Write> Lines for W {
 
 /// Each reader: its bytes are the script.
 impl<I: Read + Drop, O: Write> Scripts<O> for I {
-    ghost use Rattle.std.specs.Prelude.{IfSome};
-    ghost use Rattle.scripts.specs.Lines.{lines_of};
-    ghost use Rattle.scripts.specs.Transcript.{Plays, opening};
+    ghost use Rattle.scripts.specs.Transcript.{PlaysKnown, opening};
 
-    ghost plays = { λ reader sectors out result printed. IfSome (I.remaining reader) (λ script. Plays (opening sectors) (lines_of script) result (O.contents out) (O.contents printed)) };
+    ghost plays = { λ reader sectors out result printed. PlaysKnown (opening sectors) (I.remaining reader) result (O.contents out) (O.contents printed) };
 
     fn play(self, alloc: Global, sectors: u64, out: &mut O) -> Result<(), ScriptFault> {
         play(alloc, sectors, self, out)
@@ -214,5 +254,25 @@ impl<R: Net> Ports<Hub<FileSectors>> for SystemPorts<'_, R> {
         requires { IsOpened hub }
     {
         EventLoop::bind(self.rt, alloc, address, hub)
+    }
+}
+
+impl Turns for EventLoop<FileSectors> {
+    ghost use Rattle.commands.specs.SystemTurns.{HasStopped, TurnedSo};
+
+    ghost turns = { TurnedSo };
+
+    ghost stops = { HasStopped };
+
+    fn next_turn<C: Clock>(&mut self, clock: &C) -> io::Result<()> {
+        self.turn(clock, None)
+    }
+
+    fn is_stopped(&self) -> bool {
+        self.stopped()
+    }
+
+    fn address(&self) -> io::Result<SocketAddr> {
+        EventLoop::address(self)
     }
 }

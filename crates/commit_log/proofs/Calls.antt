@@ -4,18 +4,14 @@ use Rattle.std.proofs.Common.{ℕ, List, ◌≡◌, ◌≤◌, ◌+◌, ◌-◌,
 use Rattle.std.proofs.lemmas.List.{take-append-le, take-take, drop-append-le, drop-take, length-take}
 use Rattle.std.proofs.Math.Seq.{drop-append-add}
 use Rattle.sector.specs.declared.device.Sectors.{Ghosts}
-use Rattle.sector.specs.SectorModel.{Elapses, LeavesOnly}
+use Rattle.sector.specs.SectorModel.{LeavesNoMore, LeavesOnly, ReadsNoMore, TimeGoesOn}
 use Rattle.sector.proofs.Crashes.{of_one_more, of_more}
 use Rattle.commit_log.specs.Reading.{OnlyReads}
 
 module _ {D : Type 0} (S : Ghosts D) where
   -- time goes on over a call
   abbrev pub Passes : D → D → Type 0
-  Passes now next = Elapses (S.moment now) (S.moment next) (S.left_since now) (S.left_since next) (S.may_leave next)
-
-  -- a crash leaves no more than before
-  abbrev pub LeavesNoMore : D → D → Type 0
-  LeavesNoMore now next = (c : List (List ℕ)) → S.may_leave next c → S.may_leave now c
+  Passes now next = TimeGoesOn S.moment S.left_since now next (S.may_leave next)
 
   -- a crash now leaves what has P, and at any moment since the start what has Q
   pub record Leaves (start : D) (Q : List (List ℕ) → Type 0) (now : D) (P : List (List ℕ) → Type 0) : Type 0 where
@@ -24,13 +20,13 @@ module _ {D : Type 0} (S : Ghosts D) where
     pub time : LeavesOnly S.moment S.left_since start now Q
 
   -- a call that leaves no more, as a sync
-  pub leaves_no_more : {start : D} {Q : List (List ℕ) → Type 0} {now : D} {P : List (List ℕ) → Type 0} (next : D) → Leaves start Q now P → LeavesNoMore now next → Passes now next → Leaves start Q next P
+  pub leaves_no_more : {start : D} {Q : List (List ℕ) → Type 0} {now : D} {P : List (List ℕ) → Type 0} (next : D) → Leaves start Q now P → LeavesNoMore (S.may_leave now) (S.may_leave next) → Passes now next → Leaves start Q next P
   leaves_no_more next so_far fewer time = grind (arith, common_steps, of_one_more)
 
 -- one read more, and a run of reads behind it
-pub reads_joined : {D : Type 0} (S : Ghosts D) (old mid new last : D) → OnlyReads S.may_read S.may_leave S.moment S.left_since old mid
-    → ((i : ℕ) (s : List ℕ) → S.may_read new i s → S.may_read mid i s) → LeavesNoMore S mid new → Passes S mid new
-    → OnlyReads S.may_read S.may_leave S.moment S.left_since new last → OnlyReads S.may_read S.may_leave S.moment S.left_since old last
+pub reads_joined : {D : Type 0} (S : Ghosts D) (old mid new last : D) → OnlyReads S old mid
+    → ReadsNoMore (S.may_read mid) (S.may_read new) → LeavesNoMore (S.may_leave mid) (S.may_leave new) → Passes S mid new
+    → OnlyReads S new last → OnlyReads S old last
 reads_joined S old mid new last so_far reads crash time more = grind (arith, common_steps, of_one_more, of_more)
 
 -- how long the part behind a place is

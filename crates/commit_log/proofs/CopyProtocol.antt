@@ -4,21 +4,21 @@ use Rattle.std.proofs.lemmas.Grind.{common_steps}
 use Rattle.std.proofs.Common.{⊎_elim, ℕ, ◌≤◌, ◌<◌, ◌≢◌, ◌≡◌, ◌+◌, ◌-◌, List, take, drop, refl, sym, ◌∙◌, ap, arith, inl, inr, [], ◌∷◌, set, slice_get, Some, subst, ◌*◌, ◌/◌, ◌++◌, length, min, replicate, append_assoc, length-append}
 use Rattle.std.proofs.lemmas.List.{take-take, drop-drop, append-nil}
 use Rattle.sector.specs.declared.device.Sectors.{Ghosts}
-use Rattle.sector.specs.SectorModel.{FollowsWrite, FollowsWrites, IsOutside, Settles, Elapses, IsSettled, IsSameElsewhere, LeavesOnly}
+use Rattle.sector.specs.SectorModel.{FollowsWrite, FollowsWrites, Settles, IsSettled, IsSameElsewhere, LeavesNoMore, LeavesOnly, ReadsNoMore, ReadsNoMoreOutside, TimeGoesOn}
 use Rattle.sector.proofs.Crashes.{of_none, of_one_more, of_more}
 use Rattle.sector.proofs.Runs.{writes_on}
 use Rattle.model.specs.Map.{KeyWrite, KeyMap}
 use Rattle.model.specs.Machine.{payload_size}
-use Rattle.commit_log.specs.Reading.{OnlyReads}
-use Rattle.commit_log.specs.Copying.{OnlyWrites, log_sectors, ReadsFrom, LeavesZeros, IsCopyOrNoLog, IsCopyStep, puts, write_sets_of}
+use Rattle.commit_log.specs.Reading.{LeavesAsBefore, OnlyReads}
+use Rattle.commit_log.specs.Copying.{OnlyWrites, log_sectors, open_record, ReadsFrom, LeavesZeros, IsCopyOrNoLog, IsCopyStep, LeavesSteps, puts, write_sets_of}
 use Rattle.commit_log.specs.Format.{current, head_sector}
-use Rattle.commit_log.specs.RecordFormat.{closed_gate, first_digest, open_gate, sectors_for, sectors_of, sectors_in, padded_body, record_body, record_digest}
+use Rattle.commit_log.specs.RecordFormat.{closed_gate, first_digest, open_gate, sectors_for, body_sectors, padded_body, record_body, record_digest}
 use Rattle.commit_log.specs.LogImage.{IsLogImage, span, last_digest, next_index}
 use Rattle.commit_log.specs.LogState.{IsSameBefore}
-use Rattle.commit_log.proofs.Calls.{LeavesNoMore, Passes, Leaves, leaves_no_more}
+use Rattle.commit_log.proofs.Calls.{Passes, Leaves, leaves_no_more}
 use Rattle.commit_log.proofs.Records.{closed_gate_shut, slice_get_there, span-append, next_index-is, last_digest-push, length-log_sectors, log_made, first_of_log, set_first, log_if_head, zeros_are_no_log, same_first, log_sectors-push, reads_more, record_sectors}
 use Rattle.commit_log.proofs.Putting.{AreWriteSets, no_sets, sets_split, next_set}
-use Rattle.commit_log.proofs.Encoding.{payload_size_is, sectors_of_is}
+use Rattle.commit_log.proofs.Encoding.{payload_size_is, body_sectors_is}
 
 as_before : (at n : ℕ) (base : List (List ℕ) → Type 0) (c : List (List ℕ)) → base c → FollowsWrites at n base c
 as_before at n base c left = (c, left, record { size = refl; before = refl; behind = refl })
@@ -36,40 +36,36 @@ runs_on at n i m base old le end so_far c from =
     grind (arith, common_steps, take-take at i c, take-take at i from.0, drop_behind (i + m) (at + n) c from.0)
 
 module _ {D : Type 0} (S : Ghosts D) where
-  -- none but these n sectors were written from old to new
-  abbrev pub Within : ℕ → ℕ → D → D → Type 0
-  Within at n old new = OnlyWrites at n S.may_read S.may_leave S.moment S.left_since old new
-
   module _ (only_now : (d : D) (c : List (List ℕ)) → S.left_since d (S.moment d) c → S.may_leave d c) (at n : ℕ) (start : D) where
-    pub nothing_yet : Within at n start start
+    pub nothing_yet : OnlyWrites S at n start start
     nothing_yet = grind (arith, common_steps, as_before, of_none)
 
     -- one call of many writes
-    pub sectors_written : (new : D) → ((i : ℕ) (s : List ℕ) → IsOutside at n i → S.may_read new i s → S.may_read start i s) → ((c : List (List ℕ)) → S.may_leave new c → FollowsWrites at n (S.may_leave start) c)
-        → Elapses (S.moment start) (S.moment new) (S.left_since start) (S.left_since new) (FollowsWrites at n (S.may_leave start)) → Within at n start new
+    pub sectors_written : (new : D) → ReadsNoMoreOutside at n (S.may_read start) (S.may_read new) → LeavesNoMore (FollowsWrites at n (S.may_leave start)) (S.may_leave new)
+        → TimeGoesOn S.moment S.left_since start new (FollowsWrites at n (S.may_leave start)) → OnlyWrites S at n start new
     sectors_written new others follows time = grind (arith, common_steps, of_one_more, nothing_yet)
 
-  module _ (at n : ℕ) (start now next : D) (so_far : Within at n start now) where
+  module _ (at n : ℕ) (start now next : D) (so_far : OnlyWrites S at n start now) where
     -- one sector more
-    pub one_write : (i : ℕ) → at ≤ i → i < at + n → ((j : ℕ) (s : List ℕ) → j ≢ i → S.may_read next j s → S.may_read now j s) → FollowsWrite i (S.may_leave now) (S.may_leave next) → Passes S now next → Within at n start next
+    pub one_write : (i : ℕ) → at ≤ i → i < at + n → ((j : ℕ) (s : List ℕ) → j ≢ i → S.may_read next j s → S.may_read now j s) → FollowsWrite i (S.may_leave now) (S.may_leave next) → Passes S now next → OnlyWrites S at n start next
     one_write i le lt others follows time = grind (arith, common_steps, writes_on, of_one_more)
 
     -- many sectors more
-    pub many_writes : (i m : ℕ) → at ≤ i → i + m ≤ at + n → Within i m now next → Within at n start next
+    pub many_writes : (i m : ℕ) → at ≤ i → i + m ≤ at + n → OnlyWrites S i m now next → OnlyWrites S at n start next
     many_writes i m le end more =
         let kept = runs_on at n i m (S.may_leave start) (S.may_leave now) le end so_far.left in
         grind (arith, common_steps, of_more)
 
     -- a call that writes nothing
-    pub no_write : ((j : ℕ) (s : List ℕ) → S.may_read next j s → S.may_read now j s) → LeavesNoMore S now next → Passes S now next → Within at n start next
+    pub no_write : ReadsNoMore (S.may_read now) (S.may_read next) → LeavesNoMore (S.may_leave now) (S.may_leave next) → Passes S now next → OnlyWrites S at n start next
     no_write reads fewer time = grind (arith, common_steps, of_one_more)
 
   -- a sync that succeeded
-  pub settled_reads : (now next : D) (size : ℕ) → Settles size (S.may_read now) (S.may_read next) (S.may_leave now) (S.may_leave next) → (j : ℕ) (s : List ℕ) → S.may_read next j s → S.may_read now j s
+  pub settled_reads : (now next : D) (size : ℕ) → Settles size (S.may_read now) (S.may_read next) (S.may_leave now) (S.may_leave next) → ReadsNoMore (S.may_read now) (S.may_read next)
   settled_reads now next size settles j s read = settles.was_read j s (settles.settled.read j s read)
 
   -- calls that only read
-  pub only_read : (at n : ℕ) (old new : D) → OnlyReads S.may_read S.may_leave S.moment S.left_since old new → Within at n old new
+  pub only_read : (at n : ℕ) (old new : D) → OnlyReads S old new → OnlyWrites S at n old new
   only_read at n old new only = grind (arith, common_steps, as_before, ⊎_elim)
 
 module _ {D : Type 0} (S : Ghosts D) (lists : List (List KeyWrite)) where
@@ -125,20 +121,20 @@ module _ {D : Type 0} (S : Ghosts D) (lists : List (List KeyWrite)) where
   module _ (start : D) where
     -- how far the copy has come: what was written, and what a crash leaves
     pub record Copying (now : D) : Type 0 where
-      pub alone : Within S 0 (2 + span lists) start now
+      pub alone : OnlyWrites S 0 (2 + span lists) start now
       pub steps : Leaves S start (IsCopyStep lists (S.may_leave start)) now (IsCopyStep lists (S.may_leave start))
 
     same_before : (c : List (List ℕ)) → FollowsWrites 1 (1 + span lists) (S.may_leave start) c → IsSameBefore 1 (S.may_leave start) c
     same_before c from = (from.0, from.1, from.2.before)
 
-    pub records_written : (now : D) → ((d : D) (c : List (List ℕ)) → S.left_since d (S.moment d) c → S.may_leave d c) → Within S 1 (1 + span lists) start now → Copying now
+    pub records_written : (now : D) → ((d : D) (c : List (List ℕ)) → S.left_since d (S.moment d) c → S.may_leave d c) → OnlyWrites S 1 (1 + span lists) start now → Copying now
     records_written now only_now alone = record {
       alone = many_writes S 0 (2 + span lists) start start now (nothing_yet S only_now 0 (2 + span lists) start) 1 (1 + span lists) (omega arith) (omega arith) alone;
       steps = record { left = λ c left. inl (same_before c (alone.left c left)); is = λ c h. h; time = grind (arith, common_steps, same_before, ⊎_elim) };
     }
 
     -- a sync
-    pub stays : (now next : D) → Copying now → ((j : ℕ) (s : List ℕ) → S.may_read next j s → S.may_read now j s) → LeavesNoMore S now next → Passes S now next → Copying next
+    pub stays : (now next : D) → Copying now → ReadsNoMore (S.may_read now) (S.may_read next) → LeavesNoMore (S.may_leave now) (S.may_leave next) → Passes S now next → Copying next
     stays now next so_far reads fewer time = record {
       alone = no_write S 0 (2 + span lists) start now next so_far.alone reads fewer time;
       steps = leaves_no_more S next so_far.steps fewer time;
@@ -153,14 +149,13 @@ module _ {D : Type 0} (S : Ghosts D) (lists : List (List KeyWrite)) where
           steps = record { left = step; is = λ c h. h; time = of_one_more so_far.steps.time time step };
         }
 
-    pub not_begun : ((c : List (List ℕ)) → S.left_since start (S.moment start) c → S.may_leave start c) → LeavesOnly S.moment S.left_since start start (IsCopyStep lists (S.may_leave start))
+    pub not_begun : ((c : List (List ℕ)) → S.left_since start (S.moment start) c → S.may_leave start c) → LeavesSteps S lists start start
     not_begun only_now = of_none (λ c left. inl (c, only_now c left, refl))
 
-    pub still_first : (now : D) → LeavesOnly S.moment S.left_since start now (S.may_leave start) → LeavesOnly S.moment S.left_since start now (IsCopyStep lists (S.may_leave start))
+    pub still_first : (now : D) → LeavesAsBefore S start now → LeavesSteps S lists start now
     still_first now time = grind (arith, common_steps, ⊎_elim)
 
-    pub after_reads : (now next : D) → LeavesOnly S.moment S.left_since start now (S.may_leave start) → ((c : List (List ℕ)) → S.may_leave now c → S.may_leave start c)
-        → LeavesOnly S.moment S.left_since now next (IsCopyStep lists (S.may_leave now)) → LeavesOnly S.moment S.left_since start next (IsCopyStep lists (S.may_leave start))
+    pub after_reads : (now next : D) → LeavesAsBefore S start now → LeavesNoMore (S.may_leave start) (S.may_leave now) → LeavesSteps S lists now next → LeavesSteps S lists start next
     after_reads now next first fewer second = grind (arith, common_steps, of_more)
 
     -- where zeros were there, no log is there before the finished one
@@ -168,17 +163,17 @@ module _ {D : Type 0} (S : Ghosts D) (lists : List (List KeyWrite)) where
     no_log_before zeros c (inl same) = zeros_are_no_log lists c (same_first c same.0 same.2 ∙ zeros same.0 same.1)
     no_log_before zeros c (inr log) = all_but_first c log
 
-    pub no_log : (now : D) → LeavesZeros (S.may_leave start) → LeavesOnly S.moment S.left_since start now (IsCopyStep lists (S.may_leave start)) → LeavesOnly S.moment S.left_since start now (IsCopyOrNoLog lists)
+    pub no_log : (now : D) → LeavesZeros (S.may_leave start) → LeavesSteps S lists start now → LeavesOnly S.moment S.left_since start now (IsCopyOrNoLog lists)
     no_log now zeros run = grind (arith, common_steps, no_log_before zeros, ⊎_elim)
 
 -- the next n pairs of these make the next write set, with a payload of so many bytes
 pub record NextSet (m : KeyMap) (n len : ℕ) : Type 0 where
   pub sets : write_sets_of m ≡ puts (take n m) ∷ write_sets_of (drop n m)
-  pub sectors : sectors_of (puts (take n m)) ≡ sectors_for len
+  pub sectors : body_sectors (puts (take n m)) ≡ sectors_for len
   pub span_is : span (write_sets_of m) ≡ sectors_for len + 1 + span (write_sets_of (drop n m))
 
 pub next_set_of : (m : KeyMap) (n len : ℕ) → n ≡ min (length m) 64 → 1 ≤ length m → len ≡ payload_size (puts (take n m)) → NextSet m n len
-next_set_of m n len is some size = grind (arith, common_steps, next_set, sets_split, sectors_of_is, payload_size_is)
+next_set_of m n len is some size = grind (arith, common_steps, next_set, sets_split, body_sectors_is, payload_size_is)
 
 -- these write sets' records are written; those of the pairs that are left come next
 pub record Copied {D : Type 0} (S : Ghosts D) (start : D) (m : KeyMap) (now : D) (pairs : KeyMap) (gate records : ℕ) (digest : List ℕ) : Type 0 where
@@ -188,7 +183,7 @@ pub record Copied {D : Type 0} (S : Ghosts D) (start : D) (m : KeyMap) (now : D)
   pub records_are : records ≡ length done
   pub digest_is : digest ≡ last_digest done 0 first_digest
   pub reads : S.keeps_model → ReadsFrom (S.may_read now) 1 (log_sectors done 0 first_digest)
-  pub within : S.keeps_model → Within S 1 (1 + span (write_sets_of m)) start now
+  pub within : S.keeps_model → OnlyWrites S 1 (1 + span (write_sets_of m)) start now
 
 pub none_copied : {D : Type 0} (S : Ghosts D) (start : D) (m pairs : KeyMap) → pairs ≡ m → (S.keeps_model → (d : D) (c : List (List ℕ)) → S.left_since d (S.moment d) c → S.may_leave d c)
     → Copied S start m start pairs 1 0 (replicate 32 0)
@@ -216,22 +211,22 @@ module _ {D : Type 0} (S : Ghosts D) (start : D) (m : KeyMap) (now : D) (pairs :
   next_gate_le n len next = omega (arith, copied.gate_is, next.span_is, ap span copied.joined, span-append copied.done (write_sets_of pairs))
 
   -- its record is written within the log's sectors
-  pub record_within : (next : D) (n len size : ℕ) → NextSet pairs n len → size ≡ 512 * sectors_of (puts (take n pairs)) → Within S 1 (1 + span (write_sets_of m)) start now
-      → Within S gate (1 + size / 512) now next → Within S 1 (1 + span (write_sets_of m)) start next
+  pub record_within : (next : D) (n len size : ℕ) → NextSet pairs n len → size ≡ 512 * body_sectors (puts (take n pairs)) → OnlyWrites S 1 (1 + span (write_sets_of m)) start now
+      → OnlyWrites S gate (1 + size / 512) now next → OnlyWrites S 1 (1 + span (write_sets_of m)) start next
   record_within next n len size set long so_far more =
       many_writes S 1 (1 + span (write_sets_of m)) start now next so_far gate (1 + size / 512) (omega (arith, copied.gate_is)) (omega (arith, long, set.sectors, next_gate_le n len set)) more
 
   -- so is the closed gate
   pub last_gate : (next : D) → S.keeps_model → ((j : ℕ) (s : List ℕ) → j ≢ gate → S.may_read next j s → S.may_read now j s) → FollowsWrite gate (S.may_leave now) (S.may_leave next)
-      → Passes S now next → Within S 1 (1 + span (write_sets_of m)) start next
+      → Passes S now next → OnlyWrites S 1 (1 + span (write_sets_of m)) start next
   last_gate next keeps others follows time =
       one_write S 1 (1 + span (write_sets_of m)) start now next (copied.within keeps) gate (omega (arith, copied.gate_is)) (omega (arith, in_range.1)) others follows time
 
 -- one record more
 pub copied_more : {D : Type 0} (S : Ghosts D) (start : D) (m : KeyMap) (now next : D) (pairs after : KeyMap) (gate later records n len : ℕ) (digest body made : List ℕ) → Copied S start m now pairs gate records digest
-    → NextSet pairs n len → later ≡ gate + (1 + sectors_for len) → after ≡ drop n pairs → body ≡ padded_body digest records (puts (take n pairs)) → length body ≡ 512 * sectors_of (puts (take n pairs)) → made ≡ record_digest digest records (puts (take n pairs))
-    → (S.keeps_model → ReadsFrom (S.may_read next) gate (open_gate ∷ sectors_in (length body / 512) body))
-    → (S.keeps_model → Within S gate (1 + length body / 512) now next) → Copied S start m next after later (records + 1) made
+    → NextSet pairs n len → later ≡ gate + (1 + sectors_for len) → after ≡ drop n pairs → body ≡ padded_body digest records (puts (take n pairs)) → length body ≡ 512 * body_sectors (puts (take n pairs)) → made ≡ record_digest digest records (puts (take n pairs))
+    → (S.keeps_model → ReadsFrom (S.may_read next) gate (open_record body))
+    → (S.keeps_model → OnlyWrites S gate (1 + length body / 512) now next) → Copied S start m next after later (records + 1) made
 copied_more S start m now next pairs after gate later records n len digest body made copied set later_is after_is body_is size made_is reads added =
     let writes : List KeyWrite = puts (take n pairs) in
     let done : List (List KeyWrite) = copied.done in

@@ -14,7 +14,7 @@ use Rattle.sha2.specs.Sha256.{sha256}
 use Rattle.model.specs.Map.{KeyWrite}
 use Rattle.model.specs.Bounds.{entry_bound, payload_bound, body_bound}
 use Rattle.model.specs.Machine.{payload_size, write_size, body_sectors}
-use Rattle.commit_log.specs.RecordFormat.{IsWithinLimits, IsWriteSet, entry_bytes, payload_bytes, record_digest, body_bytes, sectors_of, padded_body, sectors_for}
+use Rattle.commit_log.specs.RecordFormat.{IsWithinLimits, IsWriteSet, entry_bytes, payload_bytes, record_digest, body_bytes, padded_body, sectors_for}
 use Rattle.commit_log.specs.declared.formats.LogFormat.{LogFormat}
 use Rattle.commit_log.specs.Format.{value_bound}
 use Rattle.commit_log.specs.Encoding.{IsUnsealed}
@@ -33,24 +33,12 @@ length-payload_le f writes proper =
     let entries = sum_by-le (λ (w : KeyWrite). length (entry_bytes w)) e writes (λ k d lt. length-entry_le f (get_or writes k d) (proper.limits k d lt)) in
     omega (arith, length-flat_map entry_bytes writes, entries, mul-le (length writes) e 64 e proper.at_most (omega arith), length-append (big_bytes 4 (length writes)) (flat_map entry_bytes writes))
 
-pub sectors_of_is : (writes : List KeyWrite) (len : ℕ) → len ≡ length (payload_bytes writes) → sectors_of writes ≡ sectors_for len
-unfolding sectors_of
-sectors_of_is writes len is = ap sectors_for (sym is)
-
-pub sectors_of_bounds : (f : LogFormat) (writes : List KeyWrite) → IsWriteSet f writes → (1 ≤ sectors_of writes) × (sectors_of writes ≤ body_bound (value_bound f))
-unfolding sectors_of
-sectors_of_bounds f writes proper = let le = length-payload_le f writes proper in (omega arith, omega arith)
-
 pub length-body : (before : List ℕ) (index : ℕ) (writes : List KeyWrite) → length (body_bytes before index writes) ≡ 44 + length (payload_bytes writes)
 unfolding body_bytes record_digest
 length-body before index writes = grind (arith, common_steps, length-sha256, length-append)
 
-pub length-padded_body : (before : List ℕ) (index : ℕ) (writes : List KeyWrite) → length (padded_body before index writes) ≡ 512 * sectors_of writes
-unfolding padded_body sectors_of
-length-padded_body before index writes = grind (arith, common_steps, length-body, length-append, length-replicate)
-
 unfoldable pub zeros_of : List ℕ → ℕ → List KeyWrite → List ℕ
-zeros_of before index writes = replicate (512 * sectors_of writes - length (body_bytes before index writes)) 0
+zeros_of before index writes = replicate (512 * body_sectors writes - length (body_bytes before index writes)) 0
 
 pub padded_split : (before : List ℕ) (index : ℕ) (writes : List KeyWrite)
     → padded_body before index writes ≡ big_bytes 4 (length (payload_bytes writes)) ++ (big_bytes 8 index ++ (record_digest before index writes ++ (payload_bytes writes ++ zeros_of before index writes)))
@@ -75,9 +63,15 @@ pub payload_size_is : (ws : List KeyWrite) → payload_size ws ≡ length (paylo
 unfolding payload_bytes
 payload_size_is ws = omega (arith, entries_size ws, length-append (big_bytes 4 (length ws)) (flat_map entry_bytes ws))
 
--- the machine counts the sectors of a record alike
-pub machine_sectors : (writes : List KeyWrite) → body_sectors writes ≡ sectors_of writes
-machine_sectors writes = ap sectors_for (payload_size_is writes) ∙ sym (sectors_of_is writes (length (payload_bytes writes)) refl)
+pub body_sectors_is : (writes : List KeyWrite) (len : ℕ) → len ≡ length (payload_bytes writes) → body_sectors writes ≡ sectors_for len
+body_sectors_is writes len is = ap sectors_for (payload_size_is writes ∙ sym is)
+
+pub body_sectors_bounds : (f : LogFormat) (writes : List KeyWrite) → IsWriteSet f writes → (1 ≤ body_sectors writes) × (body_sectors writes ≤ body_bound (value_bound f))
+body_sectors_bounds f writes proper = let le = length-payload_le f writes proper in (omega (arith, payload_size_is writes), omega (arith, payload_size_is writes))
+
+pub length-padded_body : (before : List ℕ) (index : ℕ) (writes : List KeyWrite) → length (padded_body before index writes) ≡ 512 * body_sectors writes
+unfolding padded_body
+length-padded_body before index writes = grind (arith, common_steps, length-body, payload_size_is, length-append, length-replicate)
 
 -- one write more
 pub payload_size-push : (ws : List KeyWrite) (w : KeyWrite) → payload_size (ws ++ w ∷ []) ≡ payload_size ws + write_size w.0 w.1
@@ -120,9 +114,8 @@ module _ (before : List ℕ) (index len : ℕ) (writes : List KeyWrite) (bytes d
   sealed_length : length sealed ≡ 44 + len
   sealed_length = omega (arith, ap length body_made, length-body before index writes, len_is)
 
-  pub sectors_are : sectors_for len * 512 ≡ 512 * sectors_of writes
-  unfolding sectors_of
-  sectors_are = ap (λ (n : ℕ). sectors_for n * 512) len_is ∙ mul_comm _ _
+  pub sectors_are : sectors_for len * 512 ≡ 512 * body_sectors writes
+  sectors_are = mul_comm _ 512 ∙ ap (λ (n : ℕ). 512 * n) (sym (body_sectors_is writes len len_is))
 
   pub padded_made : (n : ℕ) → n ≡ sectors_for len * 512 → take n sealed ++ replicate (n - length sealed) 0 ≡ padded_body before index writes
   unfolding padded_body

@@ -19,11 +19,11 @@ use Rattle.model.specs.Map.{KeyWrite, key_cmp}
 use Rattle.model.specs.Key.{IsKey}
 use Rattle.model.proofs.Fronts.{same_front}
 use Rattle.model.specs.Bounds.{body_bound}
-use Rattle.commit_log.specs.RecordFormat.{IsRising, IsValueIn, IsWithinLimits, IsWriteSet, entry_bytes, value_bytes, payload_bytes, record_digest, body_bytes, sectors_of, sectors_for, padded_body, sectors_in, record_body}
+use Rattle.commit_log.specs.RecordFormat.{IsRising, IsValueIn, IsWithinLimits, IsWriteSet, entry_bytes, value_bytes, payload_bytes, record_digest, body_bytes, body_sectors, sectors_for, padded_body, sectors_in, record_body}
 use Rattle.commit_log.specs.declared.formats.LogFormat.{LogFormat}
 use Rattle.commit_log.specs.LogImage.{IsRecordAt}
 use Rattle.commit_log.specs.Format.{value_bound}
-use Rattle.commit_log.proofs.Encoding.{value_small, zeros_of, padded_split, length-payload_le, length-body, sectors_of_bounds, length-padded_body, number-padded_body, sectors_of_is}
+use Rattle.commit_log.proofs.Encoding.{value_small, zeros_of, padded_split, length-payload_le, length-body, body_sectors_bounds, length-padded_body, number-padded_body, body_sectors_is}
 use Rattle.commit_log.proofs.Records.{begins, slice_get-drop, length-sectors_in, get_or-sectors_in}
 
 pub less_if : (o : Ordering) → (ordering_index o == 0) ≡ true → o ≡ Less
@@ -155,16 +155,16 @@ module _ (f : LogFormat) (before : List ℕ) (index len : ℕ) (body number dige
   unfolding zeros_of
   not_zero other writes proper same =
       let found = (same_parts writes proper same).3 in
-      let n = 512 * sectors_of writes - length (body_bytes before index writes) in
+      let n = 512 * body_sectors writes - length (body_bytes before index writes) in
       other (λ k lt. ap (λ (l : List ℕ). get_or l k 0) (sym found) ∙ get_or-replicate n k 0 0 (omega (arith, ap length found, length-replicate {A = ℕ} n 0)))
 
   pub right_body : (writes : List KeyWrite) (right : List ℕ) → length body ≡ 512 * sectors_for len → number ≡ big_bytes 8 index → right ≡ sha256 ((before ++ big_bytes 8 index) ++ payload) → payload_bytes writes ≡ payload
       → digest ≡ right → ((k : ℕ) → k < length zeros → get_or zeros k 0 ≡ 0) → padded_body before index writes ≡ body
   unfolding zeros_of record_digest
   right_body writes right size number_is right_is payload_is digest_is blank =
-      let n = 512 * sectors_of writes - length (body_bytes before index writes) in
+      let n = 512 * body_sectors writes - length (body_bytes before index writes) in
       let len_is : length (payload_bytes writes) ≡ len = ap length payload_is ∙ payload_length in
-      let sectors : sectors_of writes ≡ sectors_for len = sectors_of_is writes len (sym len_is) in
+      let sectors : body_sectors writes ≡ sectors_for len = body_sectors_is writes len (sym len_is) in
       let body_length : length body ≡ 4 + (length number + (length digest + (length payload + length zeros))) = grind (arith, length-append, ap length is) in
       let size_is : length (zeros_of before index writes) ≡ length zeros = omega (arith, body_length, size, sectors, length-body before index writes, len_is, length-replicate {A = ℕ} n 0) in
       let zeros_are : zeros_of before index writes ≡ zeros =
@@ -197,7 +197,7 @@ first_number (suc n) bytes (s ∷ rest) first some same at = grind (arith, commo
 pub length_read : (f : LogFormat) (index : ℕ) (before : List ℕ) (rest : List (List ℕ)) (writes : List KeyWrite) (first : List ℕ) → IsRecordAt f index before rest writes → slice_get rest 0 ≡ Some first → big_number 4 first ≡ length (payload_bytes writes)
 unfolding record_body
 length_read f index before rest writes first right at =
-    first_number (sectors_of writes) (padded_body before index writes) rest first (sectors_of_bounds f writes right.proper).0 right.body at
+    first_number (body_sectors writes) (padded_body before index writes) rest first (body_sectors_bounds f writes right.proper).0 right.body at
     ∙ number-padded_body f before index writes right.proper
 
 -- these n sectors from here on were read, and n is what the length in the first of them says
@@ -211,24 +211,24 @@ module _ (f : LogFormat) (image : List (List ℕ)) (at count n : ℕ) (first : L
   first_there : slice_get (drop at image) 0 ≡ Some first
   first_there = grind (arith, common_steps, slice_get-drop)
 
-  sectors_right : (writes : List KeyWrite) → IsRecordAt f index before (drop at image) writes → sectors_of writes ≡ n
-  sectors_right writes right = sectors_of_is writes (big_number 4 first) (length_read f index before (drop at image) writes first right first_there) ∙ is
+  sectors_right : (writes : List KeyWrite) → IsRecordAt f index before (drop at image) writes → body_sectors writes ≡ n
+  sectors_right writes right = body_sectors_is writes (big_number 4 first) (length_read f index before (drop at image) writes first right first_there) ∙ is
 
   -- the length leads past a record's limit or past the image
   pub no_room : (n ≤ body_bound (value_bound f) → count ≤ at + n) → (writes : List KeyWrite) → IsRecordAt f index before (drop at image) writes → ⊥
   no_room long writes right =
       let sectors = sectors_right writes right in
-      let bounds = sectors_of_bounds f writes right.proper in
+      let bounds = body_sectors_bounds f writes right.proper in
       omega (arith, sectors, bounds.1, long (omega (arith, sectors, bounds.1)), right.room, length-drop at image)
 
 module _ (f : LogFormat) (image : List (List ℕ)) (at count n : ℕ) (first bytes : List ℕ) (index : ℕ) (before : List ℕ) (size : length image ≡ count) (read : IsRead image at n first bytes) where
-  pub is_record : (writes : List KeyWrite) → at + n < count → IsWriteSet f writes → 1 ≤ n → padded_body before index writes ≡ bytes → IsRecordAt f index before (drop at image) writes × (n ≡ sectors_of writes)
+  pub is_record : (writes : List KeyWrite) → at + n < count → IsWriteSet f writes → 1 ≤ n → padded_body before index writes ≡ bytes → IsRecordAt f index before (drop at image) writes × (n ≡ body_sectors writes)
   unfolding record_body
   is_record writes room proper some same =
       let body = sectors_read image at n bytes read.each in
       let at_first = first_there f image at count n first index before size read.there read.count_is in
       let number = first_number n bytes (drop at image) first some body at_first ∙ ap (big_number 4) (sym same) ∙ number-padded_body f before index writes proper in
-      let sectors : sectors_of writes ≡ n = sectors_of_is writes (big_number 4 first) number ∙ read.count_is in
+      let sectors : body_sectors writes ≡ n = body_sectors_is writes (big_number 4 first) number ∙ read.count_is in
       (record { proper = proper; room = omega (arith, sectors, room, length-drop at image, size); body = rw (sectors, same) body }, sym sectors)
 
   pub no_record : ((writes : List KeyWrite) → IsWriteSet f writes → padded_body before index writes ≡ bytes → ⊥) → (writes : List KeyWrite) → IsRecordAt f index before (drop at image) writes → ⊥
@@ -241,7 +241,7 @@ module _ (f : LogFormat) (image : List (List ℕ)) (at count n : ℕ) (first byt
 
 pub too_short : (f : LogFormat) (image : List (List ℕ)) (at count index : ℕ) (before : List ℕ) → length image ≡ count → count ≤ at + 1 → (writes : List KeyWrite) → IsRecordAt f index before (drop at image) writes → ⊥
 too_short f image at count index before size short writes right =
-    omega (arith, (sectors_of_bounds f writes right.proper).0, right.room, length-drop at image, size)
+    omega (arith, (body_sectors_bounds f writes right.proper).0, right.room, length-drop at image, size)
 
 -- the first sector that was read, as all bytes so far
 pub first_read : (image : List (List ℕ)) (at : ℕ) (empty first : List ℕ) → empty ≡ [] → length first ≡ length empty + 512 * 1 → slice_get image (at + 0) ≡ Some (take 512 (drop (length empty + 512 * 0) first)) → slice_get image at ≡ Some first

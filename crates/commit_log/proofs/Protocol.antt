@@ -2,15 +2,15 @@
 -- phases: until the body is settled each crash leaves the log from before it; from then on the body and a closed gate stand behind
 -- its gate, whatever that gate holds.
 use Rattle.std.proofs.lemmas.Grind.{common_steps}
-use Rattle.std.proofs.Common.{◌≡◌, inl, ℕ, suc, ◌≤◌, List, [], ◌∷◌, get_or, set, slice_get, Some, sym, ◌∙◌, ap, arith, ◌≢◌, ⊎_elim, ◌<◌, ◌+◌, ◌*◌, ◌/◌, true, false, ◌++◌, length, take, drop, subst, ◌↔◌, Bool, IsTrue, length-append}
+use Rattle.std.proofs.Common.{◌≡◌, inl, ℕ, suc, ◌≤◌, List, [], ◌∷◌, get_or, set, slice_get, Some, sym, ◌∙◌, ap, arith, ◌≢◌, ⊎_elim, ◌<◌, ◌+◌, ◌*◌, ◌/◌, true, false, ◌++◌, length, subst, ◌↔◌, Bool, IsTrue, length-append}
 use Rattle.std.proofs.lemmas.List.{set-get_or, take-set-le}
 use Rattle.std.proofs.lemmas.Bool.{cases_lt}
 use Rattle.sector.specs.declared.device.Sectors.{Ghosts}
-use Rattle.sector.specs.SectorModel.{IsSameElsewhere, FollowsWrite, Settles, LeavesOnly, IsSettled}
+use Rattle.sector.specs.SectorModel.{IsSameElsewhere, FollowsWrite, Settles, LeavesNoMore, LeavesOnly, IsSettled, ReadsBytes}
 use Rattle.sector.proofs.Crashes.{of_none, of_one_more}
 use Rattle.model.specs.Map.{KeyWrite}
-use Rattle.commit_log.specs.RecordFormat.{closed_gate, IsWriteSet, is_open, sectors_of, padded_body, record_digest}
-use Rattle.commit_log.specs.LogState.{IsBeingMade, IsNextRecord, IsBeforeOrAfter, IsSameBefore, StandsFor}
+use Rattle.commit_log.specs.RecordFormat.{closed_gate, IsWriteSet, is_open, body_sectors, padded_body, record_digest}
+use Rattle.commit_log.specs.LogState.{IsBeingMade, IsNextRecord, IsBeforeOrAfter, IsSameBefore, HoldsBoth, LeavesLog, LeavesStaged, StandsFor}
 use Rattle.commit_log.specs.Format.{current}
 use Rattle.commit_log.specs.LogImage.{IsLogImage, span}
 use Rattle.commit_log.specs.Staging.{IsStaged}
@@ -61,15 +61,14 @@ module _ {D : Type 0} (S : Ghosts D) (lists : List (List KeyWrite)) (writes : Li
   abbrev pub Opening : D → Type 0
   Opening now = Leaves S start (IsBeforeOrAfter lists writes) now (IsStaged current lists writes)
 
-  pub after_body : (next : D) (at : ℕ) → at ≡ 2 + span lists → ((c : List (List ℕ)) → S.may_leave start c → IsLogImage current lists c)
-      → ((c : List (List ℕ)) → S.may_leave next c → IsSameBefore at (S.may_leave start) c)
+  pub after_body : (next : D) (at : ℕ) → at ≡ 2 + span lists → LeavesLog S start lists → LeavesNoMore (IsSameBefore at (S.may_leave start)) (S.may_leave next)
       → LeavesOnly S.moment S.left_since start next (IsSameBefore at (S.may_leave start)) → Writing next
   after_body next at is here follows time = grind (arith, common_steps, same_log, ⊎_elim)
 
   pub after_gate : (now next : D) (at : ℕ) → 2 + span lists ≤ at → Writing now → FollowsWrite at (S.may_leave now) (S.may_leave next) → Passes S now next → Writing next
   after_gate now next at le so_far follows time = grind (arith, common_steps, of_one_more, same_log current lists (2 + span lists), take-set-le {A = List ℕ} (2 + span lists))
 
-  pub after_open : (next : D) (gate : ℕ) → gate ≡ 1 + span lists → IsWriteSet current writes → ((c : List (List ℕ)) → S.may_leave start c → IsStaged current lists writes c)
+  pub after_open : (next : D) (gate : ℕ) → gate ≡ 1 + span lists → IsWriteSet current writes → LeavesStaged S start lists writes
       → ((c : List (List ℕ)) → S.left_since start (S.moment start) c → S.may_leave start c) → FollowsWrite gate (S.may_leave start) (S.may_leave next) → Passes S start next → Opening next
   after_open next gate at proper here only_now follows time =
       let begun : Opening start = grind (arith, common_steps, of_none, image_staged_gate) in
@@ -83,10 +82,10 @@ module _ {D : Type 0} (S : Ghosts D) (lists : List (List KeyWrite)) (writes : Li
 
   -- the sync that settles the body
   pub staged_by : (mid : D) (bytes shut : List ℕ) → IsNextRecord lists writes gate bytes → gate + 1 + length bytes / 512 < size
-      → ((k : ℕ) (s : List ℕ) → k < length bytes / 512 → S.may_read mid (gate + 1 + k) s → s ≡ take 512 (drop (512 * k) bytes))
+      → ReadsBytes (S.may_read mid) (gate + 1) bytes
       → ((i : ℕ) (s : List ℕ) → i ≢ gate + 1 + length bytes / 512 → S.may_read now i s → S.may_read mid i s)
       → ((s : List ℕ) → S.may_read now (gate + 1 + length bytes / 512) s → s ≡ shut) → is_open shut ≡ false
-      → ((c : List (List ℕ)) → S.may_leave now c → IsLogImage current lists c) → (c : List (List ℕ)) → S.may_leave next c → IsStaged current lists writes c
+      → LeavesLog S now lists → LeavesStaged S next lists writes
   staged_by mid bytes shut is room body others behind closed here c left =
       subst (IsStaged current lists writes) (sym (settles.settled.left c left))
       (image_staged_from current lists writes settles.image bytes shut is.bytes_are (here settles.image settles.was_left)
@@ -103,8 +102,7 @@ module _ {D : Type 0} (S : Ghosts D) (lists : List (List KeyWrite)) (writes : Li
 
   -- the sync that settles the gate
   pub acknowledged : (opened : List ℕ) → gate ≡ 1 + span lists → IsWriteSet current writes → gate < size → ((s : List ℕ) → S.may_read now gate s → s ≡ opened) → is_open opened ≡ true
-      → ((c : List (List ℕ)) → S.may_leave now c → IsStaged current lists writes c)
-      → (image : List (List ℕ)) × IsSettled size (S.may_read next) (S.may_leave next) image × IsLogImage current (lists ++ writes ∷ []) image
+      → LeavesStaged S now lists writes → (image : List (List ℕ)) × IsSettled size (S.may_read next) (S.may_leave next) image × IsLogImage current (lists ++ writes ∷ []) image
   acknowledged opened at proper room written is here =
       let image = settles.image in
       let found = there gate room in
@@ -115,16 +113,16 @@ no_room_if b m n means is = grind (arith, common_steps, cases_lt)
 
 -- the body that was made is that of the log's next record
 pub next_record : {D : Type 0} {g : Ghosts D} (log : Log D g) (lists : List (List KeyWrite)) (writes : List KeyWrite) (body bytes : List ℕ) → StandsFor log lists → IsWriteSet current writes
-    → body ≡ padded_body log.digest log.records writes → length body ≡ 512 * sectors_of writes → bytes ≡ body → IsNextRecord lists writes log.gate bytes
+    → body ≡ padded_body log.digest log.records writes → length body ≡ 512 * body_sectors writes → bytes ≡ body → IsNextRecord lists writes log.gate bytes
 next_record log lists writes body bytes stands proper is size same = grind (arith, common_steps, next_index-is)
 
 -- the log with a record more
 pub stands_after : {D : Type 0} {g : Ghosts D} (old new : Log D g) (lists : List (List KeyWrite)) (writes : List KeyWrite) → StandsFor old lists → new.stopped ≡ false
-    → new.gate ≡ old.gate + 1 + sectors_of writes → new.records ≡ old.records + 1 → new.digest ≡ record_digest old.digest old.records writes
-    → ((image : List (List ℕ)) × IsSettled (g.size new.device) (g.may_read new.device) (g.may_leave new.device) image × IsLogImage current (lists ++ writes ∷ []) image) → StandsFor new (lists ++ writes ∷ [])
+    → new.gate ≡ old.gate + 1 + body_sectors writes → new.records ≡ old.records + 1 → new.digest ≡ record_digest old.digest old.records writes
+    → HoldsBoth g new.device lists writes → StandsFor new (lists ++ writes ∷ [])
 stands_after old new lists writes stands running gate records digest settled = grind (arith, common_steps, span-append, length-append, next_index-is, last_digest-push)
 
 -- a log made of what was found
-pub log_opened : {D : Type 0} {g : Ghosts D} (log : Log D g) (image : List (List ℕ)) (found : Found) (opened : IsOpened current (g.size log.device) (g.may_read log.device) (g.may_leave log.device) image found) → log.stopped ≡ false → log.gate ≡ found.gate → log.records ≡ found.records
+pub log_opened : {D : Type 0} {g : Ghosts D} (log : Log D g) (image : List (List ℕ)) (found : Found) (opened : IsOpened g current log.device found image) → log.stopped ≡ false → log.gate ≡ found.gate → log.records ≡ found.records
     → log.digest ≡ found.digest.bytes → StandsFor log opened.lists
 log_opened log image found opened running gate records digest = grind (arith, common_steps)

@@ -7,7 +7,7 @@ use Rattle.std.proofs.lemmas.Option.{slice_get-get_or, slice_get_within, get_or_
 use Rattle.std.proofs.lemmas.Slice.Eq.{bytes_eq-Decides}
 use Rattle.model.specs.Map.{KeyWrite}
 use Rattle.commit_log.specs.Format.{current, head_sector}
-use Rattle.commit_log.specs.RecordFormat.{IsWriteSet, is_open, open_gate, closed_gate, first_digest, sectors_of, record_body, record_digest, padded_body, sectors_in}
+use Rattle.commit_log.specs.RecordFormat.{IsWriteSet, is_open, open_gate, closed_gate, first_digest, body_sectors, record_body, record_digest, padded_body, sectors_in}
 use Rattle.commit_log.specs.LogImage.{HoldsRecords, IsLogImage, span, last_digest, next_index}
 use Rattle.commit_log.specs.Staging.{Staged, IsStaged}
 use Rattle.commit_log.specs.declared.formats.LogFormat.{LogFormat}
@@ -44,7 +44,7 @@ same_records f [] index before (x ∷ c) (gate ∷ d) same holds =
     let is : x ≡ gate = cc same in
     rw is holds
 same_records f (writes ∷ lists) index before (x ∷ c) (gate ∷ d) same holds =
-    let b = sectors_of writes in
+    let b = body_sectors writes in
     let n : suc (b + span lists) ≡ b + suc (span lists) = omega arith in
     let one = take-take b (b + suc (span lists)) c (omega arith) in
     let two = take-take b (b + suc (span lists)) d (omega arith) in
@@ -74,17 +74,17 @@ pub drop_here : (image : List (List ℕ)) (i : ℕ) (s : List ℕ) → slice_get
 drop_here image i s there = drop_more image i s (slice_get_within image i s there) ∙ ap (λ (x : List ℕ). x ∷ drop (i + 1) image) (get_or_from_slice_get image i s s there)
 
 -- the record and a closed gate stand behind the log's gate
-staged_from : (f : LogFormat) (lists : List (List KeyWrite)) (writes : List KeyWrite) (index : ℕ) (before : List ℕ) (rest : List (List ℕ)) (shut : List ℕ) (behind : List (List ℕ)) → length (record_body (last_digest lists index before) (next_index lists index) writes) ≡ sectors_of writes
+staged_from : (f : LogFormat) (lists : List (List KeyWrite)) (writes : List KeyWrite) (index : ℕ) (before : List ℕ) (rest : List (List ℕ)) (shut : List ℕ) (behind : List (List ℕ)) → length (record_body (last_digest lists index before) (next_index lists index) writes) ≡ body_sectors writes
     → drop (suc (span lists)) rest ≡ record_body (last_digest lists index before) (next_index lists index) writes ++ shut ∷ behind → is_open shut ≡ false → HoldsRecords f lists index before rest → Staged f lists writes index before rest
 staged_from f lists writes index before [] shut behind size is closed holds = absurd holds
 staged_from f [] writes index before (gate ∷ rest) shut behind size is closed holds =
     let body = record_body before index writes in
-    let back = ap (drop (sectors_of writes)) is ∙ drop_at body (shut ∷ behind) (sectors_of writes) size in
-    (ap (take (sectors_of writes)) is ∙ take_at body (shut ∷ behind) (sectors_of writes) size, subst (HoldsRecords f [] (index + 1) (record_digest before index writes)) (sym back) closed)
+    let back = ap (drop (body_sectors writes)) is ∙ drop_at body (shut ∷ behind) (body_sectors writes) size in
+    (ap (take (body_sectors writes)) is ∙ take_at body (shut ∷ behind) (body_sectors writes) size, subst (HoldsRecords f [] (index + 1) (record_digest before index writes)) (sym back) closed)
 staged_from f (x ∷ lists) writes index before (gate ∷ rest) shut behind size is closed holds =
-    let n : sectors_of x + suc (span lists) ≡ suc (sectors_of x + span lists) = omega arith in
-    let place = drop-drop (suc (span lists)) (sectors_of x) rest ∙ ap (λ (k : ℕ). drop k rest) n ∙ is in
-    (holds.0, holds.1, holds.2, staged_from f lists writes (index + 1) (record_digest before index x) (drop (sectors_of x) rest) shut behind size place closed holds.3)
+    let n : body_sectors x + suc (span lists) ≡ suc (body_sectors x + span lists) = omega arith in
+    let place = drop-drop (suc (span lists)) (body_sectors x) rest ∙ ap (λ (k : ℕ). drop k rest) n ∙ is in
+    (holds.0, holds.1, holds.2, staged_from f lists writes (index + 1) (record_digest before index x) (drop (body_sectors x) rest) shut behind size place closed holds.3)
 
 -- any gate before the staged body
 pub staged-set : (f : LogFormat) (lists : List (List KeyWrite)) (writes : List KeyWrite) (index : ℕ) (before : List ℕ) (rest : List (List ℕ)) (n : ℕ) (s : List ℕ) → n ≡ span lists → Staged f lists writes index before rest → Staged f lists writes index before (set rest n s)
@@ -97,12 +97,12 @@ staged-set f b1 writes index before (gate ∷ rest) b6 s is staged = absurd (ome
 pub staged_gate : (f : LogFormat) (lists : List (List KeyWrite)) (writes : List KeyWrite) (index : ℕ) (before : List ℕ) (rest : List (List ℕ)) → IsWriteSet f writes → Staged f lists writes index before rest → HoldsRecords f lists index before rest ⊎ HoldsRecords f (lists ++ writes ∷ []) index before rest
 staged_gate f lists writes index before [] proper staged = absurd staged
 staged_gate f [] writes index before (gate ∷ rest) proper staged = grind (arith, common_steps, cases_Bool)
-staged_gate f (x ∷ lists) writes index before (gate ∷ rest) proper staged = grind (arith, common_steps, staged_gate f lists writes (index + 1) (record_digest before index x) (drop (sectors_of x) rest) proper staged.3)
+staged_gate f (x ∷ lists) writes index before (gate ∷ rest) proper staged = grind (arith, common_steps, staged_gate f lists writes (index + 1) (record_digest before index x) (drop (body_sectors x) rest) proper staged.3)
 
 pub staged_open : (f : LogFormat) (lists : List (List KeyWrite)) (writes : List KeyWrite) (index : ℕ) (before : List ℕ) (rest : List (List ℕ)) (gate : List ℕ) → IsWriteSet f writes → Staged f lists writes index before rest → slice_get rest (span lists) ≡ Some gate → is_open gate ≡ true → HoldsRecords f (lists ++ writes ∷ []) index before rest
 staged_open f lists writes index before [] gate proper staged at opened = absurd staged
 staged_open f [] writes index before (g ∷ rest) gate proper staged at opened = grind (arith, common_steps)
-staged_open f (x ∷ lists) writes index before (g ∷ rest) gate proper staged at opened = grind (arith, common_steps, slice_get-drop, staged_open f lists writes (index + 1) (record_digest before index x) (drop (sectors_of x) rest) gate proper staged.3 (slice_get-drop (sectors_of x) rest (span lists) ∙ at) opened)
+staged_open f (x ∷ lists) writes index before (g ∷ rest) gate proper staged at opened = grind (arith, common_steps, slice_get-drop, staged_open f lists writes (index + 1) (record_digest before index x) (drop (body_sectors x) rest) gate proper staged.3 (slice_get-drop (body_sectors x) rest (span lists) ∙ at) opened)
 
 pub image_staged_gate : (f : LogFormat) (lists : List (List KeyWrite)) (writes : List KeyWrite) (c : List (List ℕ)) → IsWriteSet f writes → IsStaged f lists writes c → IsLogImage f lists c ⊎ IsLogImage f (lists ++ writes ∷ []) c
 image_staged_gate a0 a1 a2 a3 a4 a5 = grind (arith, common_steps, ⊎_elim, staged_gate)
@@ -121,13 +121,13 @@ get_or-sectors_in (suc n) bytes (suc k) lt =
 get_or-sectors_in n bytes k lt = grind (arith, common_steps)
 
 pub image_staged_from : (f : LogFormat) (lists : List (List KeyWrite)) (writes : List KeyWrite) (c : List (List ℕ)) (bytes shut : List ℕ) → bytes ≡ padded_body (last_digest lists 0 first_digest) (next_index lists 0) writes → IsLogImage f lists c
-    → ((k i : ℕ) → k < sectors_of writes → i ≡ 2 + span lists + k → slice_get c i ≡ Some (take 512 (drop (512 * k) bytes)))
-    → ((i : ℕ) → i ≡ 2 + span lists + sectors_of writes → slice_get c i ≡ Some shut) → is_open shut ≡ false → IsStaged f lists writes c
+    → ((k i : ℕ) → k < body_sectors writes → i ≡ 2 + span lists + k → slice_get c i ≡ Some (take 512 (drop (512 * k) bytes)))
+    → ((i : ℕ) → i ≡ 2 + span lists + body_sectors writes → slice_get c i ≡ Some shut) → is_open shut ≡ false → IsStaged f lists writes c
 unfolding record_body
 image_staged_from f lists writes [] bytes shut is holds body behind closed = absurd holds
 image_staged_from f lists writes (head ∷ rest) bytes shut is holds body behind closed =
     let padded = padded_body (last_digest lists 0 first_digest) (next_index lists 0) writes in
-    let b = sectors_of writes in
+    let b = body_sectors writes in
     let n = suc (span lists) in
     let size = length-sectors_in b padded in
     let front = begins b (drop n rest) (sectors_in b padded) size (λ k lt.
@@ -140,9 +140,9 @@ image_staged_from f lists writes (head ∷ rest) bytes shut is holds body behind
 pub slice_get_there : (xs : List (List ℕ)) (i : ℕ) → i < length xs → (x : List ℕ) × (slice_get xs i ≡ Some x)
 slice_get_there xs i lt = (get_or xs i [], slice_get-get_or xs i [] lt)
 
-pub length-record_body : (before : List ℕ) (index : ℕ) (writes : List KeyWrite) → length (record_body before index writes) ≡ sectors_of writes
+pub length-record_body : (before : List ℕ) (index : ℕ) (writes : List KeyWrite) → length (record_body before index writes) ≡ body_sectors writes
 unfolding record_body
-length-record_body before index writes = length-sectors_in (sectors_of writes) (padded_body before index writes)
+length-record_body before index writes = length-sectors_in (body_sectors writes) (padded_body before index writes)
 
 pub length-log_sectors : (lists : List (List KeyWrite)) (index : ℕ) (before : List ℕ) → length (log_sectors lists index before) ≡ span lists
 length-log_sectors [] index before = refl
@@ -162,9 +162,9 @@ holds_records (w ∷ lists) index before shut behind proper closed =
     let more : List (List ℕ) = log_sectors lists (index + 1) (record_digest before index w) in
     let size = length-record_body before index w in
     let others : HoldsRecords current lists (index + 1) (record_digest before index w) (more ++ shut ∷ behind) = holds_records lists (index + 1) (record_digest before index w) shut behind proper.1 closed in
-    let here = take_at body (more ++ shut ∷ behind) (sectors_of w) size in
+    let here = take_at body (more ++ shut ∷ behind) (body_sectors w) size in
     subst (λ (l : List (List ℕ)). HoldsRecords current (w ∷ lists) index before (open_gate ∷ l)) (sym (append_assoc body more (shut ∷ behind)))
-    (open_gate_open, proper.0, here, subst (HoldsRecords current lists (index + 1) (record_digest before index w)) (sym (drop_at body (more ++ shut ∷ behind) (sectors_of w) size)) others)
+    (open_gate_open, proper.0, here, subst (HoldsRecords current lists (index + 1) (record_digest before index w)) (sym (drop_at body (more ++ shut ∷ behind) (body_sectors w) size)) others)
 
 -- With a head in front of them, these records and a closed gate are a log.
 pub log_made : (lists : List (List KeyWrite)) (image : List (List ℕ)) (shut : List ℕ) → AreWriteSets lists → 1 ≤ length image
@@ -221,6 +221,6 @@ reads_record mid_read new_read gate n opened bytes first kept body =
     (λ k s lt read. let below : k < n = omega (arith, length-sectors_in n bytes) in body k s below read ∙ sym (get_or-sectors_in n bytes k below)) kept
 
 -- a record's sectors are those of its bytes
-pub record_sectors : (before : List ℕ) (index : ℕ) (writes : List KeyWrite) (bytes : List ℕ) → bytes ≡ padded_body before index writes → length bytes / 512 ≡ sectors_of writes → sectors_in (length bytes / 512) bytes ≡ record_body before index writes
+pub record_sectors : (before : List ℕ) (index : ℕ) (writes : List KeyWrite) (bytes : List ℕ) → bytes ≡ padded_body before index writes → length bytes / 512 ≡ body_sectors writes → sectors_in (length bytes / 512) bytes ≡ record_body before index writes
 unfolding record_body
-record_sectors before index writes bytes is size = ap (λ (n : ℕ). sectors_in n bytes) size ∙ ap (λ (l : List ℕ). sectors_in (sectors_of writes) l) is
+record_sectors before index writes bytes is size = ap (λ (n : ℕ). sectors_in n bytes) size ∙ ap (λ (l : List ℕ). sectors_in (body_sectors writes) l) is

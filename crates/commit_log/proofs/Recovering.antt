@@ -7,7 +7,7 @@ use Rattle.std.proofs.lemmas.Option.{slice_get-get_or, get_or_from_slice_get}
 use Rattle.byteorder.specs.Endian.{big_bytes}
 use Rattle.byteorder.specs.Numbers.{length-bytes_high_first}
 use Rattle.model.specs.Map.{KeyMap, KeyWrite, after_writes}
-use Rattle.commit_log.specs.RecordFormat.{is_open, sectors_of, record_digest, first_digest, IsWriteSet, payload_bytes, record_body, padded_body, sectors_in}
+use Rattle.commit_log.specs.RecordFormat.{is_open, body_sectors, record_digest, first_digest, IsWriteSet, payload_bytes, record_body, padded_body, sectors_in}
 use Rattle.commit_log.specs.LogImage.{IsRecordAt, HoldsRecords, HoldsDamage, span, last_digest, next_index, IsLogImage, IsDamaged, HasHead, IsNoLog}
 use Rattle.commit_log.specs.Recovery.{map_after, map_after-push}
 use Rattle.commit_log.specs.LogFaults.{IsDeviceOrMemory}
@@ -19,7 +19,7 @@ use Rattle.commit_log.specs.declared.faults.LogFault.TheVariants.{NotALog, Damag
 use Rattle.commit_log.specs.declared.formats.LogFormat.TheVariants.{One}
 use Rattle.commit_log.specs.Format.{current, head_sector}
 use Rattle.commit_log.proofs.Records.{drop_here, span-append, next_index-is, last_digest-push, slice_get_there}
-use Rattle.commit_log.proofs.Encoding.{value_small, padded_split, zeros_of, length-padded_body, length-payload_le, sectors_of_is}
+use Rattle.commit_log.proofs.Encoding.{value_small, padded_split, zeros_of, length-padded_body, length-payload_le, body_sectors_is}
 use Rattle.commit_log.proofs.Parsing.{length_read, same_bytes, same_parts, length-digest, reading}
 
 -- What has been read so far: right records of these write sets stand in front, so what holds behind them with these numbers holds of
@@ -49,13 +49,13 @@ module _ (f : LogFormat) (image : List (List ℕ)) (gate index : ℕ) (digest : 
       let holds = subst (λ (l : List (List KeyWrite)). HoldsDamage f l 0 first_digest (drop 1 image)) (append-nil read.lists) (read.broken [] (rw (drop_here image gate sector there) (is, none))) in
       record { lists = read.lists; count = sym read.records_are; holds = holds }
 
-  pub more : get_or sector 0 0 ≡ 1 → (w : List KeyWrite) (sectors : ℕ) (next : List ℕ) (after : KeyMap) → IsRecordAt f index digest (drop (gate + 1) image) w → sectors ≡ sectors_of w → next ≡ record_digest digest index w
+  pub more : get_or sector 0 0 ≡ 1 → (w : List KeyWrite) (sectors : ℕ) (next : List ℕ) (after : KeyMap) → IsRecordAt f index digest (drop (gate + 1) image) w → sectors ≡ body_sectors w → next ≡ record_digest digest index w
       → after ≡ after_writes contents w → HasRead f image (gate + (1 + sectors)) (index + 1) next after
   more opened w sectors next after right sectors_are next_is after_is =
       let is : is_open sector ≡ true = grind (arith, nat_tests) in
       let index_is : index ≡ next_index read.lists 0 = omega (arith, read.records_are, next_index-is read.lists 0) in
-      let end : gate + (1 + sectors) ≡ gate + 1 + sectors_of w = omega (arith, sectors_are) in
-      let behind : drop (gate + (1 + sectors)) image ≡ drop (sectors_of w) (drop (gate + 1) image) = ap (λ (n : ℕ). drop n image) end ∙ sym (drop-drop (sectors_of w) (gate + 1) image) in
+      let end : gate + (1 + sectors) ≡ gate + 1 + body_sectors w = omega (arith, sectors_are) in
+      let behind : drop (gate + (1 + sectors)) image ≡ drop (body_sectors w) (drop (gate + 1) image) = ap (λ (n : ℕ). drop n image) end ∙ sym (drop-drop (body_sectors w) (gate + 1) image) in
       record {
         lists = read.lists ++ w ∷ [];
         whole = λ rest h. rw (append_assoc read.lists (w ∷ []) rest) (read.whole (w ∷ rest) (rw (drop_here image gate sector there) (is, right.proper, right.body, (rw (next_is, behind) at h))));
@@ -80,9 +80,9 @@ unfolding record_body
 record_unique f index before rest w x w_at x_at =
     let first = slice_get_there rest 0 (omega (arith, w_at.room)) in
     let lengths : length (payload_bytes w) ≡ length (payload_bytes x) = sym (length_read f index before rest w first.0 w_at first.1) ∙ length_read f index before rest x first.0 x_at first.1 in
-    let sectors : sectors_of w ≡ sectors_of x = sectors_of_is w (length (payload_bytes x)) (sym lengths) ∙ sym (sectors_of_is x (length (payload_bytes x)) refl) in
-    let bodies : sectors_in (sectors_of x) (padded_body before index w) ≡ sectors_in (sectors_of x) (padded_body before index x) = sym (rw sectors at w_at.body) ∙ x_at.body in
-    let same = same_bytes (sectors_of x) (padded_body before index w) (padded_body before index x) (omega (arith, length-padded_body before index w, sectors)) (length-padded_body before index x) bodies in
+    let sectors : body_sectors w ≡ body_sectors x = body_sectors_is w (length (payload_bytes x)) (sym lengths) ∙ sym (body_sectors_is x (length (payload_bytes x)) refl) in
+    let bodies : sectors_in (body_sectors x) (padded_body before index w) ≡ sectors_in (body_sectors x) (padded_body before index x) = sym (rw sectors at w_at.body) ∙ x_at.body in
+    let same = same_bytes (body_sectors x) (padded_body before index w) (padded_body before index x) (omega (arith, length-padded_body before index w, sectors)) (length-padded_body before index x) bodies in
     let found = same_parts f before index (length (payload_bytes x)) (padded_body before index x) (big_bytes 8 index) (record_digest before index x) (payload_bytes x) (zeros_of before index x) (padded_split before index x) (omega (arith, length-payload_le f x x_at.proper, value_small f)) (length-bytes_high_first 8 index) (length-digest before index x) refl w w_at.proper same in
     payload_unique f w x w_at.proper x_at.proper found.2
 
@@ -92,25 +92,25 @@ some_records f lists index before rest holds = grind (arith, common_steps)
 some_damage : (f : LogFormat) (lists : List (List KeyWrite)) (index : ℕ) (before : List ℕ) (rest : List (List ℕ)) → HoldsDamage f lists index before rest → 1 ≤ length rest
 some_damage f lists index before rest holds = grind (arith, common_steps)
 
-record_at : (f : LogFormat) (index : ℕ) (before : List ℕ) (rest : List (List ℕ)) (w : List KeyWrite) → IsWriteSet f w → take (sectors_of w) rest ≡ record_body before index w → 1 ≤ length (drop (sectors_of w) rest) → IsRecordAt f index before rest w
-record_at f index before rest w proper body some = record { proper = proper; room = omega (arith, some, length-drop (sectors_of w) rest); body = body }
+record_at : (f : LogFormat) (index : ℕ) (before : List ℕ) (rest : List (List ℕ)) (w : List KeyWrite) → IsWriteSet f w → take (body_sectors w) rest ≡ record_body before index w → 1 ≤ length (drop (body_sectors w) rest) → IsRecordAt f index before rest w
+record_at f index before rest w proper body some = record { proper = proper; room = omega (arith, some, length-drop (body_sectors w) rest); body = body }
 
 records_unique : (f : LogFormat) (lists others : List (List KeyWrite)) (index : ℕ) (before : List ℕ) (rest : List (List ℕ)) → HoldsRecords f lists index before rest → HoldsRecords f others index before rest → lists ≡ others
 records_unique f (w ∷ lists) (x ∷ others) index before (g ∷ rest) one two =
     let same : x ≡ w = record_unique f index before rest x w (record_at f index before rest x two.1 two.2 (some_records f _ _ _ _ two.3)) (record_at f index before rest w one.1 one.2 (some_records f _ _ _ _ one.3)) in
-    grind (arith, records_unique f lists others (index + 1) (record_digest before index w) (drop (sectors_of w) rest) one.3)
+    grind (arith, records_unique f lists others (index + 1) (record_digest before index w) (drop (body_sectors w) rest) one.3)
 records_unique f lists others index before rest one two = grind (arith, common_steps)
 
 not_both : (f : LogFormat) (lists others : List (List KeyWrite)) (index : ℕ) (before : List ℕ) (rest : List (List ℕ)) → HoldsRecords f lists index before rest → HoldsDamage f others index before rest → ⊥
 not_both f (w ∷ lists) (x ∷ others) index before (g ∷ rest) one two =
     let same : x ≡ w = record_unique f index before rest x w (record_at f index before rest x two.1 two.2 (some_damage f _ _ _ _ two.3)) (record_at f index before rest w one.1 one.2 (some_records f _ _ _ _ one.3)) in
-    not_both f lists others (index + 1) (record_digest before index w) (drop (sectors_of w) rest) one.3 (rw same at two).3
+    not_both f lists others (index + 1) (record_digest before index w) (drop (body_sectors w) rest) one.3 (rw same at two).3
 not_both f lists others index before rest one two = grind (arith, common_steps, some_records)
 
 damage_unique : (f : LogFormat) (lists others : List (List KeyWrite)) (index : ℕ) (before : List ℕ) (rest : List (List ℕ)) → HoldsDamage f lists index before rest → HoldsDamage f others index before rest → lists ≡ others
 damage_unique f (w ∷ lists) (x ∷ others) index before (g ∷ rest) one two =
     let same : x ≡ w = record_unique f index before rest x w (record_at f index before rest x two.1 two.2 (some_damage f _ _ _ _ two.3)) (record_at f index before rest w one.1 one.2 (some_damage f _ _ _ _ one.3)) in
-    grind (arith, damage_unique f lists others (index + 1) (record_digest before index w) (drop (sectors_of w) rest) one.3)
+    grind (arith, damage_unique f lists others (index + 1) (record_digest before index w) (drop (body_sectors w) rest) one.3)
 damage_unique f lists others index before rest one two = grind (arith, common_steps, some_damage)
 
 pub log_unique : (f : LogFormat) (lists others : List (List KeyWrite)) (image : List (List ℕ)) → IsLogImage f lists image → IsLogImage f others image → lists ≡ others

@@ -1,9 +1,10 @@
 -- A copy of a map: the log whose records put the map's pairs, by rising key, 64 to a record.
 use Rattle.std.specs.Prelude.{◌≡◌, ◌⊎◌, ◌<◌, ℕ, zero, suc, ◌+◌, ◌/◌, List, [], ◌∷◌, ◌++◌, length, take, drop, replicate, slice_get, get_or, Some}
-use Rattle.sector.specs.SectorModel.{FollowsWrites, IsOutside, IsSameElsewhere, LeavesOnly}
+use Rattle.sector.specs.declared.device.Sectors.{Ghosts}
+use Rattle.sector.specs.SectorModel.{FollowsWrites, IsSameElsewhere, LeavesNoMore, LeavesOnly, ReadsNoMoreOutside}
 use Rattle.model.specs.Map.{KeyMap, KeyWrite}
 use Rattle.commit_log.specs.Format.{current, head_sector}
-use Rattle.commit_log.specs.RecordFormat.{open_gate, record_body, record_digest}
+use Rattle.commit_log.specs.RecordFormat.{first_digest, open_gate, record_body, record_digest, sectors_in}
 use Rattle.commit_log.specs.LogImage.{IsLogImage, span}
 use Rattle.commit_log.specs.LogState.{IsSameBefore}
 use Rattle.commit_log.specs.declared.faults.LogFault.{LogFault}
@@ -37,23 +38,35 @@ log_sectors [] index before = []
 log_sectors (writes ∷ lists) index before =
     (open_gate ∷ record_body before index writes) ++ log_sectors lists (index + 1) (record_digest before index writes)
 
+-- those of a log's records
+abbrev pub records_of : List (List KeyWrite) → List (List ℕ)
+records_of lists = log_sectors lists 0 first_digest
+
+-- those of the record with this body, its gate open
+abbrev pub open_record : List ℕ → List (List ℕ)
+open_record body = open_gate ∷ sectors_in (length body / 512) body
+
 -- reads from this sector on give these sectors
 abbrev pub ReadsFrom : (ℕ → List ℕ → Type 0) → ℕ → List (List ℕ) → Type 0
 ReadsFrom may_read at sectors = (k : ℕ) (s : List ℕ) → k < length sectors → may_read (at + k) s → s ≡ get_or sectors k []
 
 -- Only these n sectors are written: reads of the others give no more than before, and a crash at any moment leaves those as before.
-pub record OnlyWrites {D : Type 0} (at n : ℕ) (may_read : D → ℕ → List ℕ → Type 0) (may_leave : D → List (List ℕ) → Type 0) (moment : D → ℕ) (left_since : D → ℕ → List (List ℕ) → Type 0) (old new : D) : Type 0 where
-  pub others : (i : ℕ) (s : List ℕ) → IsOutside at n i → may_read new i s → may_read old i s
-  pub left : (c : List (List ℕ)) → may_leave new c → FollowsWrites at n (may_leave old) c
-  pub time : LeavesOnly moment left_since old new (FollowsWrites at n (may_leave old))
+pub record OnlyWrites {D : Type 0} (g : Ghosts D) (at n : ℕ) (old new : D) : Type 0 where
+  pub others : ReadsNoMoreOutside at n (g.may_read old) (g.may_read new)
+  pub left : LeavesNoMore (FollowsWrites at n (g.may_leave old)) (g.may_leave new)
+  pub time : LeavesOnly g.moment g.left_since old new (FollowsWrites at n (g.may_leave old))
 
 -- a sector of zeros
 unfoldable pub zero_sector : List ℕ
 zero_sector = replicate 512 0
 
+-- the first sector holds zeros
+abbrev pub IsBlank : List (List ℕ) → Type 0
+IsBlank image = slice_get image 0 ≡ Some zero_sector
+
 -- a crash leaves zeros in the first sector: it is settled, and holds zeros
 abbrev pub LeavesZeros : (List (List ℕ) → Type 0) → Type 0
-LeavesZeros may_leave = (c : List (List ℕ)) → may_leave c → slice_get c 0 ≡ Some zero_sector
+LeavesZeros may_leave = LeavesNoMore IsBlank may_leave
 
 -- the image is the finished log of these write sets, or its first sector isn't the head of a log
 abbrev pub IsCopyOrNoLog : List (List KeyWrite) → List (List ℕ) → Type 0
@@ -62,6 +75,14 @@ IsCopyOrNoLog lists c = IsLogImage current lists c ⊎ (slice_get c 0 ≡ Some (
 -- The first sector is as a crash might have left it before, or the image is the finished log of these write sets but for its first sector.
 abbrev pub IsCopyStep : List (List KeyWrite) → (List (List ℕ) → Type 0) → List (List ℕ) → Type 0
 IsCopyStep lists may_leave c = IsSameBefore 1 may_leave c ⊎ ((image : List (List ℕ)) × IsLogImage current lists image × IsSameElsewhere 0 image c)
+
+-- so is an image that a crash since old leaves
+abbrev pub LeavesSteps : {D : Type 0} → Ghosts D → List (List KeyWrite) → D → D → Type 0
+LeavesSteps g lists old new = LeavesOnly g.moment g.left_since old new (IsCopyStep lists (g.may_leave old))
+
+-- a crash since old leaves the finished log of the map's write sets, or no log
+abbrev pub LeavesCopyOrNoLog : {D : Type 0} → Ghosts D → KeyMap → D → D → Type 0
+LeavesCopyOrNoLog g map old new = LeavesOnly g.moment g.left_since old new (IsCopyOrNoLog (write_sets_of map))
 
 -- a fault of a copy
 abbrev pub IsCopyFault : LogFault → Type 0

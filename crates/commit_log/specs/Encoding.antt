@@ -14,3 +14,7 @@ begun len index count = ((big_bytes 4 len ++ big_bytes 8 index) ++ replicate 32 
 pub record IsUnsealed (bytes : List ℕ) (index len : ℕ) (writes : List KeyWrite) : Type 0 where
   pub bytes_are : bytes ≡ begun len index (length writes) ++ flat_map entry_bytes writes
   pub len_is : len ≡ payload_size writes
+
+-- P of the writes whose entries these are
+abbrev pub OfUnsealed : List ℕ → ℕ → ℕ → (List KeyWrite → Type 0) → Type 0
+OfUnsealed bytes index len P = (writes : List KeyWrite) → IsUnsealed bytes index len writes → P writes

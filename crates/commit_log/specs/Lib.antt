@@ -9,5 +9,6 @@ pub mod LogState
 pub mod LogFaults
 pub mod Reading
 pub mod Opening
+pub mod OpenedLog
 pub mod Copying
 pub mod MapReading

@@ -1,11 +1,12 @@
 -- What a log stands for.
-use Rattle.std.specs.Prelude.{◌≡◌, ◌⊎◌, ℕ, ◌+◌, ◌/◌, Bool, false, List, [], ◌∷◌, ◌++◌, length, take, slice_set}
+use Rattle.std.specs.Prelude.{◌≡◌, ◌⊎◌, ◌≤◌, ℕ, ◌+◌, ◌/◌, Bool, false, List, [], ◌∷◌, ◌++◌, length, take, slice_set, Result, OnOk}
 use Rattle.sector.specs.declared.device.Sectors.{Ghosts}
-use Rattle.sector.specs.SectorModel.{IsSettled, IsSameElsewhere}
+use Rattle.sector.specs.SectorModel.{IsSettled, IsSameElsewhere, LeavesNoMore, LeavesOnly}
 use Rattle.model.specs.Map.{KeyWrite}
 use Rattle.commit_log.specs.Format.{current}
-use Rattle.commit_log.specs.RecordFormat.{IsWriteSet, sectors_of, padded_body, first_digest, closed_gate}
+use Rattle.commit_log.specs.RecordFormat.{IsWriteSet, body_sectors, padded_body, first_digest, closed_gate}
 use Rattle.commit_log.specs.LogImage.{IsLogImage, span, last_digest, next_index}
+use Rattle.commit_log.specs.Staging.{IsStaged}
 use Rattle.commit_log.specs.declared.log.Log.{Log}
 
 -- how many records a log has, and how many sectors it uses, up to and with its closed gate
@@ -29,18 +30,54 @@ sector_count {g = g} log = g.size log.device
 abbrev pub failure_count : {D : Type 0} {g : Ghosts D} → Log D g → ℕ
 failure_count {g = g} log = g.failures log.device
 
+-- it has as many records as before, in as many sectors
+abbrev pub HasSameRecords : {D : Type 0} {g : Ghosts D} → Log D g → Log D g → Type 0
+HasSameRecords old new = (record_count new ≡ record_count old) × (used_sectors new ≡ used_sectors old)
+
+-- no closed gate would fit behind the record of these writes
+abbrev pub LacksRoom : {D : Type 0} {g : Ghosts D} → Log D g → List KeyWrite → Type 0
+LacksRoom log writes = sector_count log ≤ used_sectors log + body_sectors writes
+
+-- reads of the device give this image, and a crash leaves nothing else
+abbrev pub Holds : {D : Type 0} → Ghosts D → D → List (List ℕ) → Type 0
+Holds g device image = IsSettled (g.size device) (g.may_read device) (g.may_leave device) image
+
+-- the device holds the log of these write sets
+abbrev pub HoldsLog : {D : Type 0} → Ghosts D → D → List (List KeyWrite) → Type 0
+HoldsLog g device lists = (image : List (List ℕ)) × Holds g device image × IsLogImage current lists image
+
+-- a crash leaves the log of these write sets
+abbrev pub LeavesLog : {D : Type 0} → Ghosts D → D → List (List KeyWrite) → Type 0
+LeavesLog g device lists = LeavesNoMore (IsLogImage current lists) (g.may_leave device)
+
 -- The log that isn't stopped stands for these write sets: reads give an image of them, and a crash leaves it.
 pub record StandsFor {D : Type 0} {g : Ghosts D} (log : Log D g) (lists : List (List KeyWrite)) : Type 0 where
   pub running : log.stopped ≡ false
   pub gate : log.gate ≡ 1 + span lists
   pub records : log.records ≡ length lists
   pub digest : log.digest ≡ last_digest lists 0 first_digest
-  pub settled : (image : List (List ℕ)) × IsSettled (g.size log.device) (g.may_read log.device) (g.may_leave log.device) image × IsLogImage current lists image
-  pub left : (c : List (List ℕ)) → g.may_leave log.device c → IsLogImage current lists c
+  pub settled : HoldsLog g log.device lists
+  pub left : LeavesLog g log.device lists
+
+-- P of the write sets that the log stands for
+abbrev pub OfItsLists : {D : Type 0} {g : Ghosts D} → Log D g → (List (List KeyWrite) → Type 0) → Type 0
+OfItsLists log P = (lists : List (List KeyWrite)) → StandsFor log lists → P lists
 
 -- the image is a log of these write sets, or of them and one more
 abbrev pub IsBeforeOrAfter : List (List KeyWrite) → List KeyWrite → List (List ℕ) → Type 0
 IsBeforeOrAfter lists writes c = IsLogImage current lists c ⊎ IsLogImage current (lists ++ writes ∷ []) c
+
+-- a crash since old leaves the log of these write sets, or of them and one more
+abbrev pub LeavesEither : {D : Type 0} → Ghosts D → D → D → List (List KeyWrite) → List KeyWrite → Type 0
+LeavesEither g old new lists writes = LeavesOnly g.moment g.left_since old new (IsBeforeOrAfter lists writes)
+
+-- a crash since an append began leaves the write sets that the log stood for, with these writes or without
+abbrev pub AppendLeaves : {D : Type 0} {g : Ghosts D} → Log D g → Log D g → List KeyWrite → Type 0
+AppendLeaves {g = g} old new writes = OfItsLists old (λ lists. LeavesEither g (device_of old) (device_of new) lists writes)
+
+-- so does a crash behind it
+abbrev pub AppendLeft : {D : Type 0} {g : Ghosts D} → Log D g → Log D g → List KeyWrite → Type 0
+AppendLeft {g = g} old new writes = OfItsLists old (λ lists. LeavesNoMore (IsBeforeOrAfter lists writes) (g.may_leave (device_of new)))
 
 -- an image that is the same as one of these before this sector
 abbrev pub IsSameBefore : ℕ → (List (List ℕ) → Type 0) → List (List ℕ) → Type 0
@@ -54,5 +91,28 @@ IsBeingMade may_leave c = (d : List (List ℕ)) × may_leave d × (IsSameElsewhe
 pub record IsNextRecord (lists : List (List KeyWrite)) (writes : List KeyWrite) (gate : ℕ) (bytes : List ℕ) : Type 0 where
   pub proper : IsWriteSet current writes
   pub gate_is : gate ≡ 1 + span lists
-  pub sectors : length bytes / 512 ≡ sectors_of writes
+  pub sectors : length bytes / 512 ≡ body_sectors writes
   pub bytes_are : bytes ≡ padded_body (last_digest lists 0 first_digest) (next_index lists 0) writes
+
+-- where a crash leaves a log, and these bytes are the body of its next record, P of its write sets and of the record's
+abbrev pub OfNextRecord : {D : Type 0} → Ghosts D → D → ℕ → List ℕ → (List (List KeyWrite) → List KeyWrite → Type 0) → Type 0
+OfNextRecord g device gate bytes P =
+    (lists : List (List KeyWrite)) (writes : List KeyWrite) → IsNextRecord lists writes gate bytes → LeavesLog g device lists → P lists writes
+
+-- a crash leaves the log of these write sets, with one more staged
+abbrev pub LeavesStaged : {D : Type 0} → Ghosts D → D → List (List KeyWrite) → List KeyWrite → Type 0
+LeavesStaged g device lists writes = LeavesNoMore (IsStaged current lists writes) (g.may_leave device)
+
+-- where a crash leaves a log with a record staged behind this gate, P of its write sets and of the record's
+abbrev pub OfStaged : {D : Type 0} → Ghosts D → D → ℕ → (List (List KeyWrite) → List KeyWrite → Type 0) → Type 0
+OfStaged g device gate P =
+    (lists : List (List KeyWrite)) (writes : List KeyWrite) → gate ≡ 1 + span lists → IsWriteSet current writes
+    → LeavesStaged g device lists writes → P lists writes
+
+-- the device holds the log of these write sets and one more
+abbrev pub HoldsBoth : {D : Type 0} → Ghosts D → D → List (List KeyWrite) → List KeyWrite → Type 0
+HoldsBoth g device lists writes = HoldsLog g device (lists ++ writes ∷ [])
+
+-- at `Ok`, P of write sets and of one more
+abbrev pub AtOk : {T E : Type 0} → Result T E → (List (List KeyWrite) → List KeyWrite → Type 0) → List (List KeyWrite) → List KeyWrite → Type 0
+AtOk result P lists writes = OnOk result (P lists writes)

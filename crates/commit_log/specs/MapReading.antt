@@ -1,8 +1,10 @@
 -- What reading the map of a log of either format finds.
 use Rattle.std.specs.Prelude.{◌≡◌, ℕ, List, []}
+use Rattle.sector.specs.declared.device.Sectors.{Ghosts}
 use Rattle.model.specs.Map.{KeyMap, KeyWrite}
 use Rattle.commit_log.specs.Format.{format_number}
 use Rattle.commit_log.specs.LogImage.{IsLogImage, IsNoLog}
+use Rattle.commit_log.specs.LogState.{Holds}
 use Rattle.commit_log.specs.Opening.{IsDamagedImage}
 use Rattle.commit_log.specs.Recovery.{map_after}
 use Rattle.commit_log.specs.declared.formats.LogFormat.{LogFormat}
@@ -24,3 +26,7 @@ IsMapRefusal image (Damaged index) = (f : LogFormat) × IsDamagedImage f image i
 IsMapRefusal image Device = Unit {0}
 IsMapRefusal image Memory = Unit {0}
 IsMapRefusal image other = ⊥
+
+-- the image is a log of write sets that give this map, and the device now holds it
+abbrev pub HoldsMapOf : {D : Type 0} → Ghosts D → D → KeyMap → ℕ → List (List ℕ) → Type 0
+HoldsMapOf g device map number image = IsMapOf image map number × Holds g device image

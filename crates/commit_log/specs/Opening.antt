@@ -1,14 +1,16 @@
 -- What opening finds.
-use Rattle.std.specs.Prelude.{◌≡◌, ◌+◌, ℕ, List, [], length, slice_get, Some}
-use Rattle.sector.specs.SectorModel.{IsSettled}
+use Rattle.std.specs.Prelude.{◌≡◌, ◌+◌, ℕ, List, [], length, drop, slice_get, Option, Some, Result, MatchResult}
+use Rattle.sector.specs.declared.device.Sectors.{Ghosts}
 use Rattle.model.specs.Map.{KeyWrite}
 use Rattle.commit_log.specs.Format.{current}
 use Rattle.commit_log.specs.RecordFormat.{first_digest}
-use Rattle.commit_log.specs.LogImage.{HoldsRecords, HoldsDamage, IsLogImage, IsDamaged, HasHead, IsNoLog, span, last_digest}
+use Rattle.commit_log.specs.LogImage.{HoldsRecords, HoldsDamage, IsLogImage, IsDamaged, HasHead, HasNoRecord, BeginsWith, IsNoLog, IsRecordAt, span, last_digest}
+use Rattle.commit_log.specs.LogState.{Holds}
 use Rattle.commit_log.specs.Recovery.{map_after}
 use Rattle.commit_log.specs.declared.formats.LogFormat.{LogFormat}
 use Rattle.commit_log.specs.declared.formats.LogFormat.TheVariants.{One}
 use Rattle.commit_log.specs.declared.read.Found.{Found}
+use Rattle.commit_log.specs.declared.read.Record.{Record}
 use Rattle.commit_log.specs.declared.faults.LogFault.{LogFault}
 use Rattle.commit_log.specs.declared.faults.LogFault.TheVariants.{NotALog, Damaged, Device, Memory, OldFormat}
 
@@ -57,9 +59,29 @@ pub record CanSettle (size : ℕ) (may_read : ℕ → List ℕ → Type 0) (may_
   pub read : (i : ℕ) (s : List ℕ) → slice_get image i ≡ Some s → may_read i s
   pub left : may_leave image
 
+-- a sync of the device might settle an image that has P
+abbrev pub MightHold : {D : Type 0} → Ghosts D → D → (List (List ℕ) → Type 0) → Type 0
+MightHold g device P = (image : List (List ℕ)) × CanSettle (g.size device) (g.may_read device) (g.may_leave device) image × P image
+
+-- this record stands from this place of the image on
+abbrev pub IsRecordIn : LogFormat → ℕ → List ℕ → ℕ → List (List ℕ) → Record → Type 0
+IsRecordIn f index before at image found = IsRecordAt f index before (drop at image) found.writes.items
+
+-- no record does
+abbrev pub HasNoRecordIn : LogFormat → ℕ → List ℕ → ℕ → List (List ℕ) → Type 0
+HasNoRecordIn f index before at image = HasNoRecord f index before (drop at image)
+
+-- the device holds this image, which begins with this head, or is no log
+abbrev pub HoldsHead : {D : Type 0} → Ghosts D → D → Option LogFormat → List (List ℕ) → Type 0
+HoldsHead g device head image = Holds g device image × BeginsWith head image
+
+-- what reading records came to, where the image is this one
+abbrev pub ReadsRecords : LogFormat → Result Found LogFault → List (List ℕ) → Type 0
+ReadsRecords f result image = MatchResult result (IsFound f (drop 1 image)) (IsReadFault f (drop 1 image))
+
 -- it tells of this image, which reads give now and is all that a crash may leave
-pub record IsOpened (f : LogFormat) (size : ℕ) (may_read : ℕ → List ℕ → Type 0) (may_leave : List (List ℕ) → Type 0) (image : List (List ℕ)) (found : Found) : Type 0 where
+pub record IsOpened {D : Type 0} (g : Ghosts D) (f : LogFormat) (device : D) (found : Found) (image : List (List ℕ)) : Type 0 where
   pub lists : List (List KeyWrite)
   pub holds : IsLogImage f lists image
   pub tells : TellsOf lists found
-  pub settled : IsSettled size may_read may_leave image
+  pub settled : Holds g device image

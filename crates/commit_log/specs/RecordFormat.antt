@@ -1,15 +1,17 @@
 -- The bytes of the log's sectors. All numbers are big-endian.
-use Rattle.std.specs.Prelude.{ℕ, zero, suc, ◌+◌, ◌-◌, ◌*◌, ◌/◌, ◌≤◌, Bool, T, ◌==◌, List, [], ◌∷◌, ◌++◌, length, take, drop, replicate, All, IfSome, Option, Some, None, slice_index}
+use Rattle.std.specs.Prelude.{◌≡◌, ℕ, zero, suc, ◌+◌, ◌-◌, ◌*◌, ◌/◌, ◌≤◌, Bool, T, ◌==◌, List, [], ◌∷◌, ◌++◌, length, take, drop, replicate, All, IfSome, Option, Some, None, slice_index, slice_index_or}
 use Rattle.std.specs.List.{flat_map}
 use Rattle.std.specs.Cmp.Lexicographic.{slice_cmp}
 use Rattle.std.specs.Ordering.{nat_cmp}
+use Rattle.std.specs.declared.cmp.Ordering.TheVariants.{Less}
 use Rattle.std.specs.FinMap.Entries.{is_sorted}
 use Rattle.byteorder.specs.Endian.{big_bytes}
 use Rattle.sha2.specs.Sha256.{sha256}
 use Rattle.model.specs.Key.{IsKey}
-use Rattle.model.specs.Map.{KeyWrite}
+use Rattle.model.specs.Map.{KeyWrite, key_cmp}
 use Rattle.commit_log.specs.Format.{value_bound}
 use Rattle.commit_log.specs.declared.formats.LogFormat.{LogFormat}
+pub use Rattle.model.specs.Machine.{body_sectors}
 
 -- what stands behind an entry's key: a put with its value, or a deletion
 abbrev pub value_bytes : Option (List ℕ) → List ℕ
@@ -41,15 +43,11 @@ body_bytes before index writes =
 abbrev pub sectors_for : ℕ → ℕ
 sectors_for len = (44 + len + 511) / 512
 
--- how many sectors the body of this record has
-unfoldable pub sectors_of : List KeyWrite → ℕ
-sectors_of writes = sectors_for (length (payload_bytes writes))
-
 -- the body of a record: zeros stand behind its bytes up to the end of its last sector
 unfoldable pub padded_body : List ℕ → ℕ → List KeyWrite → List ℕ
 padded_body before index writes =
     let bytes = body_bytes before index writes in
-    bytes ++ replicate (512 * sectors_of writes - length bytes) 0
+    bytes ++ replicate (512 * body_sectors writes - length bytes) 0
 
 -- the first n sectors of these bytes
 abbrev pub sectors_in : ℕ → List ℕ → List (List ℕ)
@@ -58,7 +56,7 @@ sectors_in (suc n) bytes = take 512 bytes ∷ sectors_in n (drop 512 bytes)
 
 -- the body's sectors
 unfoldable pub record_body : List ℕ → ℕ → List KeyWrite → List (List ℕ)
-record_body before index writes = sectors_in (sectors_of writes) (padded_body before index writes)
+record_body before index writes = sectors_in (body_sectors writes) (padded_body before index writes)
 
 -- a gate is open where its first byte is 1
 abbrev pub is_open : List ℕ → Bool
@@ -79,6 +77,18 @@ pub record IsWithinLimits (f : LogFormat) (write : KeyWrite) : Type 0 where
   pub key : IsKey write.0
   pub value : IfSome write.1 (IsValueIn f)
 
+-- these bytes begin with no value that a record of this format may hold, nor with the mark of a deletion
+abbrev pub BeginsWithNoValue : LogFormat → List ℕ → Type 0
+BeginsWithNoValue f bytes = (value : Option (List ℕ)) (rest : List ℕ) → IfSome value (IsValueIn f) → bytes ≡ value_bytes value ++ rest → ⊥
+
+-- these bytes begin with no entry of a record of this format
+abbrev pub BeginsWithNoEntry : LogFormat → List ℕ → Type 0
+BeginsWithNoEntry f bytes = (write : KeyWrite) (rest : List ℕ) → IsWithinLimits f write → bytes ≡ entry_bytes write ++ rest → ⊥
+
+-- the last of these keys isn't below that of this write
+abbrev pub FallsBehind : List KeyWrite → KeyWrite → Type 0
+FallsBehind writes write = (d : KeyWrite) → key_cmp (slice_index_or writes (length writes - 1) d).0 write.0 ≡ Less → ⊥
+
 -- each key is below those behind it
 abbrev pub IsRising : List KeyWrite → Type 0
 IsRising writes = T (is_sorted (slice_cmp nat_cmp) writes)
@@ -89,3 +99,11 @@ pub record IsWriteSet (f : LogFormat) (writes : List KeyWrite) : Type 0 where
   pub at_most : length writes ≤ 64
   pub limits : All (IsWithinLimits f) writes
   pub rising : IsRising writes
+
+-- these bytes are the payload of no record of this format
+abbrev pub IsNoPayload : LogFormat → List ℕ → Type 0
+IsNoPayload f bytes = (writes : List KeyWrite) → IsWriteSet f writes → payload_bytes writes ≡ bytes → ⊥
+
+-- these bytes are the body of no record of this format, with this index and this digest before it
+abbrev pub IsNoBody : LogFormat → List ℕ → ℕ → List ℕ → Type 0
+IsNoBody f before index body = (writes : List KeyWrite) → IsWriteSet f writes → padded_body before index writes ≡ body → ⊥

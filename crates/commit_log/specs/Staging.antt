@@ -3,18 +3,18 @@ use Rattle.std.specs.Prelude.{◌≡◌, ℕ, ◌+◌, true, List, [], ◌∷◌
 use Rattle.model.specs.Map.{KeyWrite}
 use Rattle.commit_log.specs.Format.{head_sector}
 use Rattle.commit_log.specs.declared.formats.LogFormat.{LogFormat}
-use Rattle.commit_log.specs.RecordFormat.{IsWriteSet, is_open, sectors_of, record_body, record_digest, first_digest}
+use Rattle.commit_log.specs.RecordFormat.{IsWriteSet, is_open, body_sectors, record_body, record_digest, first_digest}
 use Rattle.commit_log.specs.LogImage.{HoldsRecords}
 
 -- records of these write sets, then a gate, the body of one more record, and a closed gate
 abbrev pub Staged : LogFormat → List (List KeyWrite) → List KeyWrite → ℕ → List ℕ → List (List ℕ) → Type 0
 Staged f lists writes index before [] = ⊥
 Staged f [] writes index before (gate ∷ rest) =
-    (take (sectors_of writes) rest ≡ record_body before index writes)
-    × HoldsRecords f [] (index + 1) (record_digest before index writes) (drop (sectors_of writes) rest)
+    (take (body_sectors writes) rest ≡ record_body before index writes)
+    × HoldsRecords f [] (index + 1) (record_digest before index writes) (drop (body_sectors writes) rest)
 Staged f (x ∷ lists) writes index before (gate ∷ rest) =
-    (is_open gate ≡ true) × IsWriteSet f x × (take (sectors_of x) rest ≡ record_body before index x)
-    × Staged f lists writes (index + 1) (record_digest before index x) (drop (sectors_of x) rest)
+    (is_open gate ≡ true) × IsWriteSet f x × (take (body_sectors x) rest ≡ record_body before index x)
+    × Staged f lists writes (index + 1) (record_digest before index x) (drop (body_sectors x) rest)
 
 -- the image is a log of these write sets, in this format, but that the record of one more stands settled behind the gate, whatever that gate holds
 abbrev pub IsStaged : LogFormat → List (List KeyWrite) → List KeyWrite → List (List ℕ) → Type 0

@@ -1,6 +1,6 @@
 //! Many sectors at a time.
-ghost use Rattle.std.specs.Prelude.{◌≡◌, ◌≢◌, ◌⊎◌, ◌<◌, ◌≤◌, ◌+◌, ◌*◌, ◌/◌, ◌%◌, ◌^◌, ℕ, List, length, take, drop, OnOk, OnErr};
-ghost use Rattle.sector.specs.SectorModel.{LeavesOnly};
+ghost use Rattle.std.specs.Prelude.{◌≡◌, ◌<◌, ◌+◌, ◌/◌, ◌%◌, ◌^◌, ℕ, List, length, OnOk, OnErr};
+ghost use Rattle.sector.specs.SectorModel.{LeavesNoMore, LeavesOnly, ReadsBytes};
 ghost use Rattle.sector.specs.Failures.{Rose};
 ghost use Rattle.commit_log.specs.LogState.{IsSameBefore};
 
@@ -14,9 +14,9 @@ pub fn write_sectors<D: Sectors>(device: &mut D, at: u64, bytes: &[u8]) -> Resul
     ensures size { D.size device.new ≡ D.size device.old }
     ensures ok { OnOk result (D.failures device.new ≡ D.failures device.old) }
     ensures fault { OnErr result (Rose (D.failures device.old) (D.failures device.new)) }
-    ensures written { D.keeps_model → OnOk result ((k : ℕ) (s : List ℕ) → k < length bytes.now / 512 → D.may_read device.new (at + k) s → s ≡ take 512 (drop (512 * k) bytes.now)) }
+    ensures written { D.keeps_model → OnOk result (ReadsBytes (D.may_read device.new) at bytes.now) }
     ensures others { D.keeps_model → OnOk result ((i : ℕ) (s : List ℕ) → i < at → D.may_read device.new i s → D.may_read device.old i s) }
-    ensures crash { D.keeps_model → (c : List (List ℕ)) → D.may_leave device.new c → IsSameBefore at (D.may_leave device.old) c }
+    ensures crash { D.keeps_model → LeavesNoMore (IsSameBefore at (D.may_leave device.old)) (D.may_leave device.new) }
     ensures time { D.keeps_model → LeavesOnly D.moment D.left_since device.old device.new (IsSameBefore at (D.may_leave device.old)) }
 {
     device.write_sectors(at, bytes)

@@ -1,16 +1,15 @@
 //! Copying a map into a log of its own.
-ghost use Rattle.std.specs.Prelude.{◌≡◌, ◌⊎◌, ◌<◌, ◌≤◌, ◌+◌, ◌*◌, ◌/◌, ◌%◌, ◌^◌, ◌↔◌, ℕ, [], ◌∷◌, List, length, slice_get, Some, vec_capacity, OnOk, OnErr, IfOk, IfErr, IfSome, IfNone, IsErrOf};
-ghost use Rattle.sector.specs.SectorModel.{IsSettled, LeavesOnly};
+ghost use Rattle.std.specs.Prelude.{◌≡◌, ◌⊎◌, ◌<◌, ◌≤◌, ◌+◌, ◌*◌, ◌/◌, ◌%◌, ◌^◌, ◌↔◌, [], ◌∷◌, length, vec_capacity, OnOk, OnErr, IfOk, IfErr, IfSome, IfNone, IsErrOf};
 ghost use Rattle.sector.specs.Failures.{Rose, Stayed};
 ghost use Rattle.model.specs.Bounds.{value_max, body_bound};
 ghost use Rattle.model.specs.Map.{IsMap, IsInBounds};
-ghost use Rattle.commit_log.specs.Format.{current};
-ghost use Rattle.commit_log.specs.RecordFormat.{open_gate, closed_gate, first_digest, sectors_in};
-ghost use Rattle.commit_log.specs.LogImage.{IsLogImage, span};
+ghost use Rattle.commit_log.specs.RecordFormat.{closed_gate};
+ghost use Rattle.commit_log.specs.LogImage.{span};
 ghost use Rattle.commit_log.specs.Reading.{FaultIs, OnlyReads};
-ghost use Rattle.commit_log.specs.Opening.{CanSettle};
+ghost use Rattle.commit_log.specs.LogState.{HoldsLog};
+ghost use Rattle.commit_log.specs.Opening.{MightHold};
 ghost use Rattle.commit_log.specs.Recovery.{map_after};
-ghost use Rattle.commit_log.specs.Copying.{write_sets_of, set_count, copy_size, log_sectors, ReadsFrom, OnlyWrites, LeavesZeros, zero_sector, IsCopyOrNoLog, IsCopyStep, IsCopyFault};
+ghost use Rattle.commit_log.specs.Copying.{write_sets_of, set_count, copy_size, records_of, open_record, ReadsFrom, OnlyWrites, IsBlank, LeavesZeros, LeavesSteps, LeavesCopyOrNoLog, IsCopyFault};
 
 use crate::decode::is_same;
 use crate::encode::sectors_for;
@@ -55,8 +54,8 @@ fn write_open_record<D: Sectors>(device: &mut D, gate: u64, body: &[u8]) -> Resu
     ensures size { D.size device.new ≡ D.size device.old }
     ensures ok { OnOk result (Stayed (D.failures device.old) (D.failures device.new)) }
     ensures fault { OnErr result (Rose (D.failures device.old) (D.failures device.new)) }
-    ensures written { D.keeps_model → OnOk result (ReadsFrom (D.may_read device.new) gate (open_gate ∷ sectors_in (length body.now / 512) body.now)) }
-    ensures alone { D.keeps_model → OnlyWrites gate (1 + length body.now / 512) D.may_read D.may_leave D.moment D.left_since device.old device.new }
+    ensures written { D.keeps_model → OnOk result (ReadsFrom (D.may_read device.new) gate (open_record body.now)) }
+    ensures alone { D.keeps_model → OnlyWrites D.Sectors gate (1 + length body.now / 512) device.old device.new }
 {
     device.write(gate, &open_gate())?;
     device.write_sectors(gate + 1, body)
@@ -77,9 +76,9 @@ fn write_records<D: Sectors>(
     ensures number { IfOk result (λ n. n ≡ length (write_sets_of map.now)) }
     ensures is_map { IsMap map.now }
     ensures in_bounds { IsInBounds map.now }
-    ensures records { D.keeps_model → OnOk result (ReadsFrom (D.may_read device.new) 1 (log_sectors (write_sets_of map.now) 0 first_digest)) }
+    ensures records { D.keeps_model → OnOk result (ReadsFrom (D.may_read device.new) 1 (records_of (write_sets_of map.now))) }
     ensures behind { D.keeps_model → OnOk result (ReadsFrom (D.may_read device.new) (1 + span (write_sets_of map.now)) (closed_gate ∷ [])) }
-    ensures alone { D.keeps_model → OnlyWrites 1 (1 + span (write_sets_of map.now)) D.may_read D.may_leave D.moment D.left_since device.old device.new }
+    ensures alone { D.keeps_model → OnlyWrites D.Sectors 1 (1 + span (write_sets_of map.now)) device.old device.new }
 {
     let mut ahead = map.pairs();
     let mut pairs = map.pairs();
@@ -109,9 +108,9 @@ fn write_log<D: Sectors>(device: &mut D, map: &Map, body: &mut Vec<u8>) -> Resul
     ensures ok { OnOk result (Stayed (D.failures device.old) (D.failures device.new)) }
     ensures fault { OnErr result (Rose (D.failures device.old) (D.failures device.new)) }
     ensures number { IfOk result (λ n. n ≡ length (write_sets_of map.now)) }
-    ensures copied { D.keeps_model → OnOk result ((image : List (List ℕ)) × IsSettled (D.size device.new) (D.may_read device.new) (D.may_leave device.new) image × IsLogImage current (write_sets_of map.now) image) }
-    ensures alone { D.keeps_model → OnlyWrites 0 (copy_size map.now) D.may_read D.may_leave D.moment D.left_since device.old device.new }
-    ensures steps { D.keeps_model → LeavesOnly D.moment D.left_since device.old device.new (IsCopyStep (write_sets_of map.now) (D.may_leave device.old)) }
+    ensures copied { D.keeps_model → OnOk result (HoldsLog D.Sectors device.new (write_sets_of map.now)) }
+    ensures alone { D.keeps_model → OnlyWrites D.Sectors 0 (copy_size map.now) device.old device.new }
+    ensures steps { D.keeps_model → LeavesSteps D.Sectors (write_sets_of map.now) device.old device.new }
 {
     let records = write_records(device, map, body)?;
     device.sync()?;
@@ -127,10 +126,10 @@ fn settle_zeros<D: Sectors>(device: &mut D) -> Result<(), LogFault>
     ensures no_fault { OnOk result (Stayed (D.failures device.old) (D.failures device.new)) }
     ensures errors { IfErr result (λ e. (e ≡ LogFault.Device) ⊎ (e ≡ LogFault.NotEmpty)) }
     ensures size { D.size device.new ≡ D.size device.old }
-    ensures only_reads { D.keeps_model → OnlyReads D.may_read D.may_leave D.moment D.left_since device.old device.new }
+    ensures only_reads { D.keeps_model → OnlyReads D.Sectors device.old device.new }
     ensures zeros { D.keeps_model → OnOk result (LeavesZeros (D.may_leave device.new)) }
-    ensures not_empty { D.keeps_model → IsErrOf result LogFault.NotEmpty → (image : List (List ℕ)) × CanSettle (D.size device.old) (D.may_read device.old) (D.may_leave device.old) image × (slice_get image 0 ≡ Some zero_sector → ⊥) }
-    ensures empty { D.keeps_model → OnOk result ((image : List (List ℕ)) × CanSettle (D.size device.old) (D.may_read device.old) (D.may_leave device.old) image × (slice_get image 0 ≡ Some zero_sector)) }
+    ensures not_empty { D.keeps_model → IsErrOf result LogFault.NotEmpty → MightHold D.Sectors device.old (λ image. IsBlank image → ⊥) }
+    ensures empty { D.keeps_model → OnOk result (MightHold D.Sectors device.old IsBlank) }
 {
     match device.sync() {
         Ok(()) => {}
@@ -164,11 +163,11 @@ pub fn copy_into<D: Sectors>(alloc: Global, device: &mut D, map: &Map) -> Result
     ensures no_fault { OnOk result (Stayed (D.failures device.old) (D.failures device.new)) }
     ensures unchanged { IsErrOf result LogFault.Full ⊎ IsErrOf result LogFault.Memory → device.new ≡ device.old }
     ensures size { D.size device.new ≡ D.size device.old }
-    ensures untouched { D.keeps_model → IsErrOf result LogFault.NotEmpty → OnlyReads D.may_read D.may_leave D.moment D.left_since device.old device.new }
+    ensures untouched { D.keeps_model → IsErrOf result LogFault.NotEmpty → OnlyReads D.Sectors device.old device.new }
 
     // `NotEmpty` is told of an image that the device might have held, by its first sector.
-    ensures not_empty { D.keeps_model → IsErrOf result LogFault.NotEmpty → (image : List (List ℕ)) × CanSettle (D.size device.old) (D.may_read device.old) (D.may_leave device.old) image × (slice_get image 0 ≡ Some zero_sector → ⊥) }
-    ensures empty { D.keeps_model → OnOk result ((image : List (List ℕ)) × CanSettle (D.size device.old) (D.may_read device.old) (D.may_leave device.old) image × (slice_get image 0 ≡ Some zero_sector)) }
+    ensures not_empty { D.keeps_model → IsErrOf result LogFault.NotEmpty → MightHold D.Sectors device.old (λ image. IsBlank image → ⊥) }
+    ensures empty { D.keeps_model → OnOk result (MightHold D.Sectors device.old IsBlank) }
 
     // The records, and the map that they give.
     ensures number { IfOk result (λ n. n ≡ set_count (length map.now)) }
@@ -176,16 +175,16 @@ pub fn copy_into<D: Sectors>(alloc: Global, device: &mut D, map: &Map) -> Result
     ensures gives { map_after [] (write_sets_of map.now) ≡ map.now }
 
     // At `Ok` reads give their log, and a crash leaves it.
-    ensures copied { D.keeps_model → OnOk result ((image : List (List ℕ)) × IsSettled (D.size device.new) (D.may_read device.new) (D.may_leave device.new) image × IsLogImage current (write_sets_of map.now) image) }
+    ensures copied { D.keeps_model → OnOk result (HoldsLog D.Sectors device.new (write_sets_of map.now)) }
 
     // Behind the log's sectors reads give what they gave before, and a crash at any moment of the call leaves what one before it left.
-    ensures alone { D.keeps_model → OnlyWrites 0 (copy_size map.now) D.may_read D.may_leave D.moment D.left_since device.old device.new }
+    ensures alone { D.keeps_model → OnlyWrites D.Sectors 0 (copy_size map.now) device.old device.new }
 
     // A crash at any moment of the call leaves the first sector as it might have left it before, or the finished log but for that sector.
-    ensures steps { D.keeps_model → LeavesOnly D.moment D.left_since device.old device.new (IsCopyStep (write_sets_of map.now) (D.may_leave device.old)) }
+    ensures steps { D.keeps_model → LeavesSteps D.Sectors (write_sets_of map.now) device.old device.new }
 
     // Where the first sector was settled and held zeros, a crash at any moment of the call leaves the finished log, or no log.
-    ensures any_moment { D.keeps_model → LeavesZeros (D.may_leave device.old) → LeavesOnly D.moment D.left_since device.old device.new (IsCopyOrNoLog (write_sets_of map.now)) }
+    ensures any_moment { D.keeps_model → LeavesZeros (D.may_leave device.old) → LeavesCopyOrNoLog D.Sectors map.now device.old device.new }
 {
     let count = device.count();
     let fits = match copy_sectors(map) {

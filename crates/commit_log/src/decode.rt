@@ -1,11 +1,10 @@
 //! The bytes of a record, read back.
-ghost use Rattle.std.specs.Prelude.{◌≡◌, ◌<◌, ◌≤◌, ◌+◌, ◌*◌, ◌^◌, ◌++◌, ◌-◌, [], ◌∷◌, ℕ, List, true, false, slice_index_or, slice_index, EachIndex, Option, length, map, IfOk, IfSome, IfNone};
+ghost use Rattle.std.specs.Prelude.{◌≡◌, ◌<◌, ◌≤◌, ◌+◌, ◌*◌, ◌^◌, ◌++◌, ◌-◌, [], ◌∷◌, ℕ, List, true, false, slice_index, EachIndex, Option, length, IfOk, IfSome, IfNone};
 ghost use Rattle.std.specs.Option.{option_map};
 ghost use Rattle.std.specs.declared.cmp.Ordering.TheVariants.{Less};
 ghost use Rattle.byteorder.specs.Endian.{big_bytes, big_number};
 ghost use Rattle.model.specs.Key.{IsKey};
-ghost use Rattle.model.specs.Map.{KeyWrite, key_cmp};
-ghost use Rattle.commit_log.specs.RecordFormat.{IsValueIn, IsWithinLimits, IsRising, IsWriteSet, value_bytes, entry_bytes, payload_bytes, padded_body, record_digest, sectors_for};
+ghost use Rattle.commit_log.specs.RecordFormat.{IsValueIn, IsWithinLimits, IsRising, IsWriteSet, BeginsWithNoValue, BeginsWithNoEntry, FallsBehind, IsNoPayload, IsNoBody, value_bytes, entry_bytes, payload_bytes, padded_body, record_digest, sectors_for};
 
 use crate::encode::digest_of;
 use crate::formats::LogFormat;
@@ -51,7 +50,7 @@ fn take_value(
 ) -> Result<Option<(Option<Vec<u8>>, &[u8])>, Memory>
     ensures some { IfOk result (λ o. IfSome o (λ r. bytes.now ≡ value_bytes (option_map (λ v. v.items) r.0) ++ r.1.now)) }
     ensures limits { IfOk result (λ o. IfSome o (λ r. IfSome (option_map (λ v. v.items) r.0) (IsValueIn format))) }
-    ensures none { IfOk result (λ o. IfNone o ((value : Option (List ℕ)) (rest : List ℕ) → IfSome value (IsValueIn format) → bytes.now ≡ value_bytes value ++ rest → ⊥)) }
+    ensures none { IfOk result (λ o. IfNone o (BeginsWithNoValue format bytes.now)) }
 {
     let Some((kind, rest)) = bytes.split_first() else {
         return Ok(None);
@@ -93,7 +92,7 @@ fn take_entry(
 ) -> Result<Option<(Write, &[u8])>, Memory>
     ensures some { IfOk result (λ o. IfSome o (λ r. bytes.now ≡ entry_bytes r.0 ++ r.1.now)) }
     ensures limits { IfOk result (λ o. IfSome o (λ r. IsWithinLimits format r.0)) }
-    ensures none { IfOk result (λ o. IfNone o ((write : KeyWrite) (rest : List ℕ) → IsWithinLimits format write → bytes.now ≡ entry_bytes write ++ rest → ⊥)) }
+    ensures none { IfOk result (λ o. IfNone o (BeginsWithNoEntry format bytes.now)) }
 {
     let Some((key, rest)) = take_key(bytes) else {
         return Ok(None);
@@ -108,7 +107,7 @@ fn take_entry(
 fn rises(writes: &[Write], write: &Write) -> bool
     ensures yes { result ≡ true → IsRising writes.now → IsRising (writes.now ++ write.now ∷ []) }
     ensures some { result ≡ false → 1 ≤ length writes.now }
-    ensures falls { result ≡ false → (d : KeyWrite) → key_cmp (slice_index_or writes.now (length writes.now - 1) d).0 write.now.0 ≡ Less → ⊥ }
+    ensures falls { result ≡ false → FallsBehind writes.now write.now }
 {
     match writes.last() {
         Some(last) => last.compare(write.lend_key().bytes()) == Ordering::Less,
@@ -124,7 +123,7 @@ fn decode_payload(
 ) -> Result<Option<Vec<Write>>, Memory>
     ensures some { IfOk result (λ o. IfSome o (λ v. payload_bytes v.items ≡ bytes.now)) }
     ensures proper { IfOk result (λ o. IfSome o (λ v. IsWriteSet format v.items)) }
-    ensures none { IfOk result (λ o. IfNone o ((writes : List KeyWrite) → IsWriteSet format writes → payload_bytes writes ≡ bytes.now → ⊥)) }
+    ensures none { IfOk result (λ o. IfNone o (IsNoPayload format bytes.now)) }
 {
     let Some((count, mut rest)) = take_u32(bytes) else {
         return Ok(None);
@@ -177,7 +176,7 @@ pub fn decode_body(
     ensures some { IfOk result (λ o. IfSome o (λ r. padded_body before.now index r.0.items ≡ body.now)) }
     ensures proper { IfOk result (λ o. IfSome o (λ r. IsWriteSet format r.0.items)) }
     ensures digest { IfOk result (λ o. IfSome o (λ r. r.1.bytes ≡ record_digest before.now index r.0.items)) }
-    ensures none { IfOk result (λ o. IfNone o ((writes : List KeyWrite) → IsWriteSet format writes → padded_body before.now index writes ≡ body.now → ⊥)) }
+    ensures none { IfOk result (λ o. IfNone o (IsNoBody format before.now index body.now)) }
 {
     let Some((len, rest)) = take_u32(body) else {
         return Ok(None);

@@ -1,15 +1,14 @@
 //! The bytes of a record.
-ghost use Rattle.std.specs.Prelude.{◌≡◌, ◌<◌, ◌≤◌, ◌+◌, ◌-◌, ◌*◌, ◌/◌, ◌%◌, ◌^◌, ℕ, [], ◌∷◌, ◌++◌, List, length, vec_len, vec_capacity, option_copied, IfOk, IfSome, map, take, drop, replicate, All};
+ghost use Rattle.std.specs.Prelude.{◌≡◌, ◌<◌, ◌≤◌, ◌+◌, ◌-◌, ◌*◌, ◌/◌, ◌++◌, length, vec_len, vec_capacity, option_copied, IfOk, IfSome, take, drop, replicate};
 ghost use Rattle.std.specs.List.{flat_map};
 ghost use Rattle.byteorder.specs.Endian.{big_bytes};
 ghost use Rattle.sha2.specs.Sha256.{sha256};
 ghost use Rattle.model.specs.Bounds.{value_max, entry_bound, payload_bound};
 ghost use Rattle.model.specs.Key.{IsValue};
-ghost use Rattle.model.specs.Map.{KeyWrite};
 ghost use Rattle.model.specs.Machine.{payload_size, write_size};
-ghost use Rattle.commit_log.specs.Encoding.{begun, IsUnsealed};
+ghost use Rattle.commit_log.specs.Encoding.{begun, OfUnsealed};
 ghost use Rattle.commit_log.specs.Format.{current};
-ghost use Rattle.commit_log.specs.RecordFormat.{IsWriteSet, entry_bytes, record_digest, padded_body, sectors_for, sectors_of};
+ghost use Rattle.commit_log.specs.RecordFormat.{IsWriteSet, entry_bytes, record_digest, padded_body, sectors_for, body_sectors};
 
 use byteorder::{BigEndian, ByteOrder};
 use model::{KeyRef, Write};
@@ -167,9 +166,9 @@ pub fn end(body: &mut Vec<u8>, before: &[u8; 32], index: u64, len: u32) -> [u8; 
     requires begun { 44 ≤ length body.old.items }
     requires bound { len ≤ payload_bound value_max }
     requires room { 512 * sectors_for len ≤ vec_capacity body.old }
-    ensures body { (writes : List KeyWrite) → IsUnsealed body.old.items index len writes → body.new.items ≡ padded_body before.now index writes }
-    ensures sectors { (writes : List KeyWrite) → IsUnsealed body.old.items index len writes → length body.new.items ≡ 512 * sectors_of writes }
-    ensures digest { (writes : List KeyWrite) → IsUnsealed body.old.items index len writes → result ≡ record_digest before.now index writes }
+    ensures body { OfUnsealed body.old.items index len (λ writes. body.new.items ≡ padded_body before.now index writes) }
+    ensures sectors { OfUnsealed body.old.items index len (λ writes. length body.new.items ≡ 512 * body_sectors writes) }
+    ensures digest { OfUnsealed body.old.items index len (λ writes. result ≡ record_digest before.now index writes) }
     ensures capacity { vec_capacity body.old ≤ vec_capacity body.new }
 {
     let digest = seal(body, before, index);
@@ -200,7 +199,7 @@ pub fn encode(
     requires len { len ≡ payload_size writes.now }
     requires bound { len ≤ payload_bound value_max }
     ensures body { IfOk result (λ r. r.0.items ≡ padded_body before.now index writes.now) }
-    ensures sectors { IfOk result (λ r. length r.0.items ≡ 512 * sectors_of writes.now) }
+    ensures sectors { IfOk result (λ r. length r.0.items ≡ 512 * body_sectors writes.now) }
     ensures digest { IfOk result (λ r. r.1 ≡ record_digest before.now index writes.now) }
 {
     let mut body = Vec::with_capacity(alloc, sectors_for(len) as usize * SECTOR_SIZE)?;

@@ -1,10 +1,8 @@
 //! Making an empty log.
 ghost use Rattle.std.specs.Prelude.{◌≡◌, ◌≢◌, ◌<◌, ◌≤◌, ◌↔◌, [], List, ℕ, OnOk, OnErr, IsErrOf, IfErr};
-ghost use Rattle.sector.specs.SectorModel.{IsSettled, LeavesOnly};
+ghost use Rattle.sector.specs.SectorModel.{LeavesOnly};
 ghost use Rattle.sector.specs.Failures.{Rose, Stayed};
-ghost use Rattle.commit_log.specs.Format.{current};
-ghost use Rattle.commit_log.specs.LogImage.{IsLogImage};
-ghost use Rattle.commit_log.specs.LogState.{IsBeingMade};
+ghost use Rattle.commit_log.specs.LogState.{HoldsLog, IsBeingMade};
 ghost use Rattle.commit_log.specs.Reading.{FaultIs};
 
 use crate::faults::LogFault;
@@ -24,7 +22,7 @@ pub fn format<D: Sectors>(device: &mut D) -> Result<(), LogFault>
     ensures fault { FaultIs (D.failures device.old) (D.failures device.new) result }
     ensures no_fault { OnOk result (Stayed (D.failures device.old) (D.failures device.new)) }
     ensures size { D.size device.new ≡ D.size device.old }
-    ensures formatted { D.keeps_model → OnOk result ((image : List (List ℕ)) × IsSettled (D.size device.new) (D.may_read device.new) (D.may_leave device.new) image × IsLogImage current [] image) }
+    ensures formatted { D.keeps_model → OnOk result (HoldsLog D.Sectors device.new []) }
 
     // A crash at any moment of the call finds the head only where it finds the closed gate, and no other sector changed.
     ensures any_moment { D.keeps_model → LeavesOnly D.moment D.left_since device.old device.new (IsBeingMade (D.may_leave device.old)) }
@@ -44,7 +42,7 @@ fn write_head<D: Sectors>(device: &mut D) -> Result<(), DeviceFault>
     ensures size { D.size device.new ≡ D.size device.old }
     ensures ok { OnOk result (Stayed (D.failures device.old) (D.failures device.new)) }
     ensures fault { OnErr result (Rose (D.failures device.old) (D.failures device.new)) }
-    ensures formatted { D.keeps_model → OnOk result ((image : List (List ℕ)) × IsSettled (D.size device.new) (D.may_read device.new) (D.may_leave device.new) image × IsLogImage current [] image) }
+    ensures formatted { D.keeps_model → OnOk result (HoldsLog D.Sectors device.new []) }
     // A crash at any moment of the call finds the head only where it finds the closed gate, and no other sector changed.
     ensures any_moment { D.keeps_model → LeavesOnly D.moment D.left_since device.old device.new (IsBeingMade (D.may_leave device.old)) }
     ensures others { D.keeps_model → (i : ℕ) (s : List ℕ) → 2 ≤ i → D.may_read device.new i s → D.may_read device.old i s }

@@ -1,5 +1,5 @@
 //! The log. It is read once, when it is opened, and from then on only appended to.
-ghost use Rattle.std.specs.Prelude.{◌≡◌, ◌≢◌, ◌⊎◌, ℕ, length, MatchResult, IsErrAnd, ◌<◌, ◌≤◌, ◌^◌, ◌-◌, ◌+◌, ◌↔◌, true, false, List, [], ◌∷◌, ◌++◌, IsTrue, IfOk, IfErr, OnOk, OnErr, IsErrOf};
+ghost use Rattle.std.specs.Prelude.{◌≡◌, ◌≢◌, ◌⊎◌, MatchResult, IsErrAnd, ◌<◌, ◌≤◌, ◌^◌, ◌-◌, ◌+◌, ◌↔◌, true, false, [], ◌∷◌, ◌++◌, IfOk, IfErr, OnOk, IsErrOf};
 
 use crate::encode::{encode, payload_len};
 use crate::faults::{AppendFault, LogFault, Unopened};
@@ -26,19 +26,13 @@ pub struct Log<D: Sectors> {
 
 impl<D: Sectors> Log<D> {
     ghost use Rattle.sector.specs.Failures.{Rose, Stayed};
-    ghost use Rattle.sector.specs.SectorModel.{IsSettled, LeavesOnly};
-    ghost use Rattle.model.specs.Map.{KeyWrite};
     ghost use Rattle.model.specs.Machine.{body_sectors, payload_size};
-    ghost use Rattle.commit_log.specs.declared.formats.LogFormat.{LogFormat};
-    ghost use Rattle.commit_log.specs.declared.formats.LogFormat.TheVariants.{One};
     ghost use Rattle.commit_log.specs.Format.{current};
     ghost use Rattle.commit_log.specs.RecordFormat.{IsWriteSet};
-    ghost use Rattle.commit_log.specs.LogImage.{IsLogImage, IsDamaged, HasHead, IsNoLog};
-    ghost use Rattle.commit_log.specs.Recovery.{map_after};
-    ghost use Rattle.commit_log.specs.LogFaults.{IsDeviceOrMemory, IsOpenFault, IsAppendFault};
-    ghost use Rattle.commit_log.specs.Reading.{ReadsAs};
-    ghost use Rattle.commit_log.specs.Opening.{CanSettle};
-    ghost use Rattle.commit_log.specs.LogState.{StandsFor, IsBeforeOrAfter, record_count, used_sectors, is_stopped, device_of, sector_count, failure_count};
+    ghost use Rattle.commit_log.specs.LogFaults.{IsOpenFault, IsAppendFault};
+    ghost use Rattle.commit_log.specs.Reading.{LeavesAsBefore, TellsFailure};
+    ghost use Rattle.commit_log.specs.OpenedLog.{OpensWhatWas, OpeningLeavesAsBefore, FindsLog, FindsDamage, FindsNoLog, FindsOldHead, FindsWhatIsLeft};
+    ghost use Rattle.commit_log.specs.LogState.{StandsFor, OfItsLists, HasSameRecords, LacksRoom, AppendLeaves, AppendLeft, record_count, used_sectors, is_stopped, device_of, sector_count, failure_count};
 
     /// Opens the log that a device holds, and gives the map that its write sets make of the empty one. It syncs the device, and reads
     /// each sector up to the last closed gate once.
@@ -53,30 +47,23 @@ impl<D: Sectors> Log<D> {
         ensures faults { IfErr result (λ u. IsOpenFault u.fault) }
 
         // `Device` is told exactly where a call has failed: the device then counts more failures.
-        ensures cause { IfErr result (λ u. (u.fault ≡ LogFault.Device → Rose (D.failures device) (D.failures u.device)) × (u.fault ≢ LogFault.Device → D.failures u.device ≡ D.failures device)) }
+        ensures cause { IfErr result (λ u. TellsFailure (D.failures device) (D.failures u.device) u.fault) }
         ensures short { D.size device < 2 → IsErrAnd result (λ u. (u.fault ≡ LogFault.NotALog) ⊎ (u.fault ≡ LogFault.Device)) }
 
         // The log stands for an image that a crash before the call might have left; the device now holds it, and nothing else.
-        ensures stands { D.keeps_model → IfOk result (λ r. (lists : List (List KeyWrite)) × StandsFor r.0 lists × (r.1 ≡ map_after [] lists)
-            × (image : List (List ℕ)) × IsLogImage current lists image × CanSettle (D.size device) (D.may_read device) (D.may_leave device) image
-            × IsSettled (sector_count r.0) (D.may_read (device_of r.0)) (D.may_leave (device_of r.0)) image) }
+        ensures stands { D.keeps_model → IfOk result (λ r. OpensWhatWas device r.0 r.1) }
 
         // During the call, also where it fails, a crash leaves what one before it could have left.
-        ensures during { D.keeps_model → MatchResult result (λ r. LeavesOnly D.moment D.left_since device (device_of r.0) (D.may_leave device))
-            (λ u. LeavesOnly D.moment D.left_since device u.device (D.may_leave device)) }
+        ensures during { D.keeps_model → OpeningLeavesAsBefore device result }
 
         // A log is read as what it is.
-        ensures found { D.keeps_model → (disk : List (List ℕ)) (lists : List (List KeyWrite)) → length disk ≡ D.size device → ReadsAs (D.may_read device) disk
-            → IsLogImage current lists disk → MatchResult result (λ r. StandsFor r.0 lists × (r.1 ≡ map_after [] lists)) (λ u. IsDeviceOrMemory u.fault) }
-        ensures damaged { D.keeps_model → (disk : List (List ℕ)) (lists : List (List KeyWrite)) → length disk ≡ D.size device → ReadsAs (D.may_read device) disk
-            → IsDamaged current lists disk → IsErrAnd result (λ u. (u.fault ≡ LogFault.Damaged (length lists)) ⊎ IsDeviceOrMemory u.fault) }
-        ensures no_log { D.keeps_model → (disk : List (List ℕ)) → length disk ≡ D.size device → ReadsAs (D.may_read device) disk
-            → ((f : LogFormat) → IsNoLog f disk) → IsErrAnd result (λ u. (u.fault ≡ LogFault.NotALog) ⊎ IsDeviceOrMemory u.fault) }
-        ensures older { D.keeps_model → (disk : List (List ℕ)) → length disk ≡ D.size device → ReadsAs (D.may_read device) disk
-            → HasHead One disk → IsErrAnd result (λ u. (u.fault ≡ LogFault.OldFormat) ⊎ IsDeviceOrMemory u.fault) }
+        ensures found { D.keeps_model → FindsLog device result (λ u. u.fault) }
+        ensures damaged { D.keeps_model → FindsDamage device result (λ u. u.fault) }
+        ensures no_log { D.keeps_model → FindsNoLog device result (λ u. u.fault) }
+        ensures older { D.keeps_model → FindsOldHead device result (λ u. u.fault) }
 
         // Where each crash leaves some log, one is found.
-        ensures undamaged { D.keeps_model → ((c : List (List ℕ)) → D.may_leave device c → (lists : List (List KeyWrite)) × IsLogImage current lists c) → IfErr result (λ u. IsDeviceOrMemory u.fault) }
+        ensures undamaged { D.keeps_model → FindsWhatIsLeft device result (λ u. u.fault) }
     {
         let found = match read_log(alloc, &mut device) {
             Ok(found) => found,
@@ -106,25 +93,19 @@ impl<D: Sectors> Log<D> {
         ensures short { D.size device < 2 → IsErrAnd result (λ e. (e ≡ LogFault.NotALog) ⊎ (e ≡ LogFault.Device)) }
 
         // The log stands for an image that a crash before the call might have left; the device now holds it, and nothing else.
-        ensures stands { D.keeps_model → IfOk result (λ r. (lists : List (List KeyWrite)) × StandsFor r.0 lists × (r.1 ≡ map_after [] lists)
-            × (image : List (List ℕ)) × IsLogImage current lists image × CanSettle (D.size device) (D.may_read device) (D.may_leave device) image
-            × IsSettled (sector_count r.0) (D.may_read (device_of r.0)) (D.may_leave (device_of r.0)) image) }
+        ensures stands { D.keeps_model → IfOk result (λ r. OpensWhatWas device r.0 r.1) }
 
         // During the call a crash leaves what one before it could have left.
-        ensures during { D.keeps_model → IfOk result (λ r. LeavesOnly D.moment D.left_since device (device_of r.0) (D.may_leave device)) }
+        ensures during { D.keeps_model → IfOk result (λ r. LeavesAsBefore D.Sectors device (device_of r.0)) }
 
         // A log is read as what it is.
-        ensures found { D.keeps_model → (disk : List (List ℕ)) (lists : List (List KeyWrite)) → length disk ≡ D.size device → ReadsAs (D.may_read device) disk
-            → IsLogImage current lists disk → MatchResult result (λ r. StandsFor r.0 lists × (r.1 ≡ map_after [] lists)) IsDeviceOrMemory }
-        ensures damaged { D.keeps_model → (disk : List (List ℕ)) (lists : List (List KeyWrite)) → length disk ≡ D.size device → ReadsAs (D.may_read device) disk
-            → IsDamaged current lists disk → IsErrAnd result (λ e. (e ≡ LogFault.Damaged (length lists)) ⊎ IsDeviceOrMemory e) }
-        ensures no_log { D.keeps_model → (disk : List (List ℕ)) → length disk ≡ D.size device → ReadsAs (D.may_read device) disk
-            → ((f : LogFormat) → IsNoLog f disk) → IsErrAnd result (λ e. (e ≡ LogFault.NotALog) ⊎ IsDeviceOrMemory e) }
-        ensures older { D.keeps_model → (disk : List (List ℕ)) → length disk ≡ D.size device → ReadsAs (D.may_read device) disk
-            → HasHead One disk → IsErrAnd result (λ e. (e ≡ LogFault.OldFormat) ⊎ IsDeviceOrMemory e) }
+        ensures found { D.keeps_model → FindsLog device result (λ e. e) }
+        ensures damaged { D.keeps_model → FindsDamage device result (λ e. e) }
+        ensures no_log { D.keeps_model → FindsNoLog device result (λ e. e) }
+        ensures older { D.keeps_model → FindsOldHead device result (λ e. e) }
 
         // Where each crash leaves some log, one is found.
-        ensures undamaged { D.keeps_model → ((c : List (List ℕ)) → D.may_leave device c → (lists : List (List KeyWrite)) × IsLogImage current lists c) → IfErr result IsDeviceOrMemory }
+        ensures undamaged { D.keeps_model → FindsWhatIsLeft device result (λ e. e) }
     {
         match Log::open_or_return(alloc, device) {
             Ok(opened) => Ok(opened),
@@ -148,23 +129,21 @@ impl<D: Sectors> Log<D> {
         // When each fault comes, and what it leaves.
         ensures faults { IfErr result IsAppendFault }
         ensures stopped { IsErrOf result LogFault.Stopped ↔ (is_stopped self.old ≡ true) }
-        ensures full { IsErrOf result LogFault.Full ↔ ((is_stopped self.old ≡ false) × (sector_count self.old ≤ used_sectors self.old + body_sectors writes.now)) }
+        ensures full { IsErrOf result LogFault.Full ↔ ((is_stopped self.old ≡ false) × LacksRoom self.old writes.now) }
         ensures device { IsErrOf result LogFault.Device → Rose (failure_count self.old) (failure_count self.new) }
         ensures stops { IsErrOf result LogFault.Device → is_stopped self.new ≡ true }
-        ensures same { IsErrOf result LogFault.Device → (record_count self.new ≡ record_count self.old) × (used_sectors self.new ≡ used_sectors self.old) }
+        ensures same { IsErrOf result LogFault.Device → HasSameRecords self.old self.new }
         ensures unchanged { IfErr result (λ e. e ≢ LogFault.Device → self.new ≡ self.old) }
         ensures no_fault { OnOk result (Stayed (failure_count self.old) (failure_count self.new)) }
 
         // At `Ok` the log stands for its write sets and this one: reads give them, and a crash leaves them.
-        ensures appended { D.keeps_model → (lists : List (List KeyWrite)) → StandsFor self.old lists → OnOk result (StandsFor self.new (lists ++ writes.now ∷ [])) }
+        ensures appended { D.keeps_model → OfItsLists self.old (λ lists. OnOk result (StandsFor self.new (lists ++ writes.now ∷ []))) }
 
         // A crash at any moment of the call leaves the write sets from before it, with this one or without.
-        ensures any_moment { D.keeps_model → (lists : List (List KeyWrite)) → StandsFor self.old lists
-            → LeavesOnly D.moment D.left_since (device_of self.old) (device_of self.new) (IsBeforeOrAfter lists writes.now) }
+        ensures any_moment { D.keeps_model → AppendLeaves self.old self.new writes.now }
 
         // So does a crash after it, also where it failed.
-        ensures left { D.keeps_model → (lists : List (List KeyWrite)) → StandsFor self.old lists
-            → (c : List (List ℕ)) → D.may_leave (device_of self.new) c → IsBeforeOrAfter lists writes.now c }
+        ensures left { D.keeps_model → AppendLeft self.old self.new writes.now }
     {
         if self.stopped {
             return Err(LogFault::Stopped);
@@ -200,20 +179,18 @@ impl<D: Sectors> Log<D> {
         // When each fault comes, and what it leaves.
         ensures device { IsErrOf result AppendFault.Device → Rose (failure_count self.old) (failure_count self.new) }
         ensures stops { IsErrOf result AppendFault.Device → is_stopped self.new ≡ true }
-        ensures same { IsErrOf result AppendFault.Device → (record_count self.new ≡ record_count self.old) × (used_sectors self.new ≡ used_sectors self.old) }
+        ensures same { IsErrOf result AppendFault.Device → HasSameRecords self.old self.new }
         ensures unchanged { IfErr result (λ e. e ≢ AppendFault.Device → self.new ≡ self.old) }
         ensures no_fault { OnOk result (Stayed (failure_count self.old) (failure_count self.new)) }
 
         // At `Ok` the log stands for its write sets and this one: reads give them, and a crash leaves them.
-        ensures appended { D.keeps_model → (lists : List (List KeyWrite)) → StandsFor self.old lists → OnOk result (StandsFor self.new (lists ++ writes.now ∷ [])) }
+        ensures appended { D.keeps_model → OfItsLists self.old (λ lists. OnOk result (StandsFor self.new (lists ++ writes.now ∷ []))) }
 
         // A crash at any moment of the call leaves the write sets from before it, with this one or without.
-        ensures any_moment { D.keeps_model → (lists : List (List KeyWrite)) → StandsFor self.old lists
-            → LeavesOnly D.moment D.left_since (device_of self.old) (device_of self.new) (IsBeforeOrAfter lists writes.now) }
+        ensures any_moment { D.keeps_model → AppendLeaves self.old self.new writes.now }
 
         // So does a crash after it, also where it failed.
-        ensures left { D.keeps_model → (lists : List (List KeyWrite)) → StandsFor self.old lists
-            → (c : List (List ℕ)) → D.may_leave (device_of self.new) c → IsBeforeOrAfter lists writes.now c }
+        ensures left { D.keeps_model → AppendLeft self.old self.new writes.now }
     {
         let before = self.digest;
         let (body, digest) = encode(alloc, &before, self.records, writes, len)?;

@@ -1,10 +1,10 @@
 //! The bytes of a record that puts pairs of a map, in memory that is there.
-ghost use Rattle.std.specs.Prelude.{◌≡◌, ◌<◌, ◌≤◌, ◌+◌, ◌*◌, ◌/◌, ◌%◌, ◌^◌, ℕ, [], ◌∷◌, ◌++◌, List, length, take, drop, replicate, Some, vec_len, vec_capacity};
+ghost use Rattle.std.specs.Prelude.{◌≡◌, ◌<◌, ◌≤◌, ◌+◌, ◌*◌, ◌++◌, length, take, drop, Some, vec_len, vec_capacity};
 ghost use Rattle.std.specs.List.{flat_map};
 ghost use Rattle.model.specs.Bounds.{value_max, payload_bound, body_bound};
 ghost use Rattle.model.specs.Map.{IsInBounds};
 ghost use Rattle.model.specs.Machine.{payload_size};
-ghost use Rattle.commit_log.specs.RecordFormat.{entry_bytes, record_digest, padded_body, sectors_of};
+ghost use Rattle.commit_log.specs.RecordFormat.{entry_bytes, record_digest, padded_body, body_sectors};
 ghost use Rattle.commit_log.specs.Copying.{puts};
 
 use crate::encode::{add_entry, begin, end, entry_len};
@@ -62,7 +62,7 @@ pub fn encode_pairs(
     requires bound { len ≤ payload_bound value_max }
     requires room { 512 * body_bound value_max ≤ vec_capacity body.old }
     ensures body { body.new.items ≡ padded_body before.now index (puts (take count pairs.old)) }
-    ensures sectors { length body.new.items ≡ 512 * sectors_of (puts (take count pairs.old)) }
+    ensures sectors { length body.new.items ≡ 512 * body_sectors (puts (take count pairs.old)) }
     ensures digest { result ≡ record_digest before.now index (puts (take count pairs.old)) }
     ensures rest { pairs.new ≡ drop count pairs.old }
     ensures capacity { vec_capacity body.old ≤ vec_capacity body.new }

@@ -1,17 +1,14 @@
 //! Reading records back.
-ghost use Rattle.std.specs.Prelude.{All, ◌≡◌, ◌⊎◌, ◌<◌, ◌≤◌, ◌+◌, ◌*◌, ◌/◌, ◌%◌, ◌^◌, ℕ, List, length, take, drop, slice_get, Some, OnOk, OnErr, IfOk, IfErr, IsErrAnd, IfSome, IfNone, MatchOption, MatchResult};
-ghost use Rattle.sector.specs.SectorModel.{IsSettled, LeavesOnly};
-ghost use Rattle.sector.specs.Failures.{Rose, Stayed};
-ghost use Rattle.byteorder.specs.Endian.{big_number};
-ghost use Rattle.model.specs.Map.{KeyWrite, after_write, after_writes};
+ghost use Rattle.std.specs.Prelude.{All, ◌≡◌, ◌⊎◌, ◌<◌, ◌≤◌, ◌+◌, ◌*◌, ◌^◌, length, take, Some, OnOk, IfOk, IfErr, IsErrAnd, IfSome, IfNone};
+ghost use Rattle.sector.specs.Failures.{Stayed};
+ghost use Rattle.model.specs.Map.{after_writes};
 ghost use Rattle.commit_log.specs.declared.formats.LogFormat.{LogFormat};
 ghost use Rattle.commit_log.specs.Format.{current, head_sector};
-ghost use Rattle.commit_log.specs.RecordFormat.{IsWithinLimits, IsWriteSet, sectors_in, sectors_for, sectors_of, record_digest, padded_body};
-ghost use Rattle.commit_log.specs.LogImage.{IsRecordAt, HasHead, IsNoLog};
-ghost use Rattle.commit_log.specs.Reading.{ReadsAs, FaultIs, OnlyReads};
+ghost use Rattle.commit_log.specs.RecordFormat.{IsWithinLimits, IsWriteSet, sectors_for, body_sectors, record_digest};
+ghost use Rattle.commit_log.specs.Reading.{FaultIs, HasRead, LeavesAsBefore, OfEachFound, OfEachRead, OfNoneFound, OnlyReads};
 ghost use Rattle.commit_log.specs.LogFaults.{IsDeviceOrMemory, IsOpenFault, IsReadMapFault};
-ghost use Rattle.commit_log.specs.Opening.{IsFound, IsReadFault, CanSettle, IsOpened, IsRefusal};
-ghost use Rattle.commit_log.specs.MapReading.{IsMapOf, IsMapRefusal};
+ghost use Rattle.commit_log.specs.Opening.{HasNoRecordIn, HoldsHead, IsOpened, IsRecordIn, IsRefusal, MightHold, ReadsRecords};
+ghost use Rattle.commit_log.specs.MapReading.{HoldsMapOf, IsMapRefusal};
 
 use crate::decode::{Digest, decode_body, is_same};
 use crate::encode::sectors_for;
@@ -36,11 +33,10 @@ fn read_sectors<D: Sectors>(
     ensures fault { FaultIs (D.failures device.old) (D.failures device.new) result }
     ensures errors { IfErr result IsDeviceOrMemory }
     ensures size { D.size device.new ≡ D.size device.old }
-    ensures only_reads { D.keeps_model → OnlyReads D.may_read D.may_leave D.moment D.left_since device.old device.new }
+    ensures only_reads { D.keeps_model → OnlyReads D.Sectors device.old device.new }
     ensures length { OnOk result (length bytes.new.items ≡ length bytes.old.items + 512 * n) }
     ensures old { OnOk result (take (length bytes.old.items) bytes.new.items ≡ bytes.old.items) }
-    ensures bytes { D.keeps_model → (image : List (List ℕ)) → ReadsAs (D.may_read device.old) image
-        → OnOk result ((k : ℕ) → k < n → slice_get image (at + k) ≡ Some (take 512 (drop (length bytes.old.items + 512 * k) bytes.new.items))) }
+    ensures bytes { D.keeps_model → HasRead result (D.may_read device.old) at n bytes.old.items bytes.new.items }
 {
     let start = bytes.len();
     bytes.resize(start + n as usize * SECTOR_SIZE, 0)?;
@@ -71,17 +67,14 @@ fn read_record<D: Sectors>(
     requires count { count ≡ D.size device.old }
     ensures fault { FaultIs (D.failures device.old) (D.failures device.new) result }
     ensures size { D.size device.new ≡ D.size device.old }
-    ensures only_reads { D.keeps_model → OnlyReads D.may_read D.may_leave D.moment D.left_since device.old device.new }
+    ensures only_reads { D.keeps_model → OnlyReads D.Sectors device.old device.new }
     ensures errors { IfErr result IsDeviceOrMemory }
     ensures sectors { IfOk result (λ o. IfSome o (λ r. at + r.sectors < count)) }
     ensures proper { IfOk result (λ o. IfSome o (λ r. IsWriteSet format r.writes.items)) }
-    ensures some { D.keeps_model → (image : List (List ℕ)) → length image ≡ count → ReadsAs (D.may_read device.old) image
-        → IfOk result (λ o. IfSome o (λ r. IsRecordAt format index before.now (drop at image) r.writes.items)) }
-    ensures counted { D.keeps_model → (image : List (List ℕ)) → length image ≡ count → ReadsAs (D.may_read device.old) image
-        → IfOk result (λ o. IfSome o (λ r. r.sectors ≡ sectors_of r.writes.items)) }
+    ensures some { D.keeps_model → OfEachFound count (D.may_read device.old) result (IsRecordIn format index before.now at) }
+    ensures counted { D.keeps_model → OfEachFound count (D.may_read device.old) result (λ _ r. r.sectors ≡ body_sectors r.writes.items) }
     ensures digest { IfOk result (λ o. IfSome o (λ r. r.digest.bytes ≡ record_digest before.now index r.writes.items)) }
-    ensures none { D.keeps_model → (image : List (List ℕ)) → length image ≡ count → ReadsAs (D.may_read device.old) image
-        → IfOk result (λ o. IfNone o ((writes : List KeyWrite) → IsRecordAt format index before.now (drop at image) writes → ⊥)) }
+    ensures none { D.keeps_model → OfNoneFound count (D.may_read device.old) result (HasNoRecordIn format index before.now at) }
 {
     if count - at < 2 {
         return Ok(None);
@@ -139,11 +132,10 @@ pub(crate) fn read_records<D: Sectors>(
     requires count { count ≡ D.size device.old }
     ensures fault { FaultIs (D.failures device.old) (D.failures device.new) result }
     ensures size { D.size device.new ≡ D.size device.old }
-    ensures only_reads { D.keeps_model → OnlyReads D.may_read D.may_leave D.moment D.left_since device.old device.new }
+    ensures only_reads { D.keeps_model → OnlyReads D.Sectors device.old device.new }
     ensures range { IfOk result (λ found. (found.gate < count) × (found.records ≤ found.gate)) }
     ensures errors { IfErr result IsReadMapFault }
-    ensures found { D.keeps_model → (image : List (List ℕ)) → length image ≡ count → ReadsAs (D.may_read device.old) image
-        → MatchResult result (IsFound format (drop 1 image)) (IsReadFault format (drop 1 image)) }
+    ensures found { D.keeps_model → OfEachRead count (D.may_read device.old) (ReadsRecords format result) }
 {
     let mut gate = 1;
     let mut records = 0;
@@ -223,9 +215,8 @@ fn settle_and_read_head<D: Sectors>(device: &mut D) -> Result<(Option<LogFormat>
     ensures size { D.size device.new ≡ D.size device.old }
     ensures count { IfOk result (λ r. r.1 ≡ D.size device.new) }
     ensures room { IfOk result (λ r. IfSome r.0 (λ f. 2 ≤ r.1)) }
-    ensures during { D.keeps_model → LeavesOnly D.moment D.left_since device.old device.new (D.may_leave device.old) }
-    ensures head { D.keeps_model → IfOk result (λ r. (image : List (List ℕ)) × CanSettle (D.size device.old) (D.may_read device.old) (D.may_leave device.old) image × IsSettled (D.size device.new) (D.may_read device.new) (D.may_leave device.new) image
-        × MatchOption r.0 ((f : LogFormat) → IsNoLog f image) (λ f. HasHead f image)) }
+    ensures during { D.keeps_model → LeavesAsBefore D.Sectors device.old device.new }
+    ensures head { D.keeps_model → IfOk result (λ r. MightHold D.Sectors device.old (HoldsHead D.Sectors device.new r.0)) }
 {
     match device.sync() {
         Ok(()) => {}
@@ -257,11 +248,11 @@ pub(crate) fn read_log<D: Sectors>(alloc: Global, device: &mut D) -> Result<Foun
     ensures errors { IfErr result IsOpenFault }
 
     // During the call a crash leaves what one before it could have left.
-    ensures during { D.keeps_model → LeavesOnly D.moment D.left_since device.old device.new (D.may_leave device.old) }
+    ensures during { D.keeps_model → LeavesAsBefore D.Sectors device.old device.new }
 
     // The call tells of one image that the device might have held.
-    ensures opened { D.keeps_model → IfOk result (λ found. (image : List (List ℕ)) × CanSettle (D.size device.old) (D.may_read device.old) (D.may_leave device.old) image × IsOpened current (D.size device.new) (D.may_read device.new) (D.may_leave device.new) image found) }
-    ensures refused { D.keeps_model → IfErr result (λ e. IsDeviceOrMemory e ⊎ ((image : List (List ℕ)) × CanSettle (D.size device.old) (D.may_read device.old) (D.may_leave device.old) image × IsRefusal image e)) }
+    ensures opened { D.keeps_model → IfOk result (λ found. MightHold D.Sectors device.old (IsOpened D.Sectors current device.new found)) }
+    ensures refused { D.keeps_model → IfErr result (λ e. IsDeviceOrMemory e ⊎ MightHold D.Sectors device.old (λ c. IsRefusal c e)) }
 {
     let (head, count) = settle_and_read_head(device)?;
     match head {
@@ -285,12 +276,11 @@ pub fn read_map<D: Sectors>(alloc: Global, device: &mut D) -> Result<(Map, u8), 
     ensures errors { IfErr result IsReadMapFault }
 
     // During the call a crash leaves what one before it could have left.
-    ensures during { D.keeps_model → LeavesOnly D.moment D.left_since device.old device.new (D.may_leave device.old) }
+    ensures during { D.keeps_model → LeavesAsBefore D.Sectors device.old device.new }
 
     // The call tells of one image that the device might have held; at `Ok` the device holds it, and nothing else.
-    ensures map { D.keeps_model → IfOk result (λ r. (image : List (List ℕ)) × CanSettle (D.size device.old) (D.may_read device.old) (D.may_leave device.old) image × IsMapOf image r.0 r.1
-        × IsSettled (D.size device.new) (D.may_read device.new) (D.may_leave device.new) image) }
-    ensures refused { D.keeps_model → IfErr result (λ e. IsDeviceOrMemory e ⊎ ((image : List (List ℕ)) × CanSettle (D.size device.old) (D.may_read device.old) (D.may_leave device.old) image × IsMapRefusal image e)) }
+    ensures map { D.keeps_model → IfOk result (λ r. MightHold D.Sectors device.old (HoldsMapOf D.Sectors device.new r.0 r.1)) }
+    ensures refused { D.keeps_model → IfErr result (λ e. IsDeviceOrMemory e ⊎ MightHold D.Sectors device.old (λ c. IsMapRefusal c e)) }
 {
     let (head, count) = settle_and_read_head(device)?;
     let Some(format) = head else {

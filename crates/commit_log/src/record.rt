@@ -1,13 +1,8 @@
 //! The order in which a record reaches the device.
-ghost use Rattle.std.specs.Prelude.{◌≡◌, ◌<◌, ◌≤◌, ◌+◌, ◌*◌, ◌/◌, ◌%◌, ◌^◌, ℕ, [], ◌∷◌, ◌++◌, List, length, OnOk, OnErr};
-ghost use Rattle.sector.specs.SectorModel.{IsSettled, LeavesOnly};
+ghost use Rattle.std.specs.Prelude.{◌≡◌, ◌<◌, ◌+◌, ◌/◌, ◌%◌, ◌^◌, length, OnOk, OnErr};
 ghost use Rattle.sector.specs.Failures.{Rose, Stayed};
-ghost use Rattle.model.specs.Map.{KeyWrite};
-ghost use Rattle.commit_log.specs.Format.{current};
-ghost use Rattle.commit_log.specs.RecordFormat.{IsWriteSet, open_gate, closed_gate};
-ghost use Rattle.commit_log.specs.LogImage.{IsLogImage, span};
-ghost use Rattle.commit_log.specs.Staging.{IsStaged};
-ghost use Rattle.commit_log.specs.LogState.{IsNextRecord, IsBeforeOrAfter};
+ghost use Rattle.commit_log.specs.RecordFormat.{open_gate, closed_gate};
+ghost use Rattle.commit_log.specs.LogState.{AtOk, HoldsBoth, LeavesEither, LeavesStaged, OfNextRecord, OfStaged};
 
 use crate::blocks::write_sectors;
 use sector::{DeviceFault, SECTOR_SIZE, Sector, Sectors};
@@ -36,12 +31,8 @@ fn stage<D: Sectors>(device: &mut D, gate: u64, body: &[u8]) -> Result<(), Devic
     ensures fault { OnErr result (Rose (D.failures device.old) (D.failures device.new)) }
 
     // At `Ok` each crash leaves the record behind its gate.
-    ensures staged { D.keeps_model → (lists : List (List KeyWrite)) (writes : List KeyWrite) → IsNextRecord lists writes gate body.now
-        → ((c : List (List ℕ)) → D.may_leave device.old c → IsLogImage current lists c)
-        → OnOk result ((c : List (List ℕ)) → D.may_leave device.new c → IsStaged current lists writes c) }
-    ensures any_moment { D.keeps_model → (lists : List (List KeyWrite)) (writes : List KeyWrite) → IsNextRecord lists writes gate body.now
-        → ((c : List (List ℕ)) → D.may_leave device.old c → IsLogImage current lists c)
-        → LeavesOnly D.moment D.left_since device.old device.new (IsBeforeOrAfter lists writes) }
+    ensures staged { D.keeps_model → OfNextRecord D.Sectors device.old gate body.now (AtOk result (LeavesStaged D.Sectors device.new)) }
+    ensures any_moment { D.keeps_model → OfNextRecord D.Sectors device.old gate body.now (LeavesEither D.Sectors device.old device.new) }
 {
     let next = gate + 1 + (body.len() / SECTOR_SIZE) as u64;
     write_sectors(device, gate + 1, body)?;
@@ -56,12 +47,8 @@ fn open_staged<D: Sectors>(device: &mut D, gate: u64) -> Result<(), DeviceFault>
     ensures size { D.size device.new ≡ D.size device.old }
     ensures ok { OnOk result (Stayed (D.failures device.old) (D.failures device.new)) }
     ensures fault { OnErr result (Rose (D.failures device.old) (D.failures device.new)) }
-    ensures acknowledged { D.keeps_model → (lists : List (List KeyWrite)) (writes : List KeyWrite) → gate ≡ 1 + span lists → IsWriteSet current writes
-        → ((c : List (List ℕ)) → D.may_leave device.old c → IsStaged current lists writes c)
-        → OnOk result ((image : List (List ℕ)) × IsSettled (D.size device.new) (D.may_read device.new) (D.may_leave device.new) image × IsLogImage current (lists ++ writes ∷ []) image) }
-    ensures any_moment { D.keeps_model → (lists : List (List KeyWrite)) (writes : List KeyWrite) → gate ≡ 1 + span lists → IsWriteSet current writes
-        → ((c : List (List ℕ)) → D.may_leave device.old c → IsStaged current lists writes c)
-        → LeavesOnly D.moment D.left_since device.old device.new (IsBeforeOrAfter lists writes) }
+    ensures acknowledged { D.keeps_model → OfStaged D.Sectors device.old gate (AtOk result (HoldsBoth D.Sectors device.new)) }
+    ensures any_moment { D.keeps_model → OfStaged D.Sectors device.old gate (LeavesEither D.Sectors device.old device.new) }
 {
     device.write(gate, &open_gate())?;
     device.sync()?;
@@ -78,14 +65,10 @@ pub fn write_record<D: Sectors>(device: &mut D, gate: u64, body: &[u8]) -> Resul
     ensures fault { OnErr result (Rose (D.failures device.old) (D.failures device.new)) }
 
     // At `Ok` reads give the log with the record, and a crash leaves it.
-    ensures acknowledged { D.keeps_model → (lists : List (List KeyWrite)) (writes : List KeyWrite) → IsNextRecord lists writes gate body.now
-        → ((c : List (List ℕ)) → D.may_leave device.old c → IsLogImage current lists c)
-        → OnOk result ((image : List (List ℕ)) × IsSettled (D.size device.new) (D.may_read device.new) (D.may_leave device.new) image × IsLogImage current (lists ++ writes ∷ []) image) }
+    ensures acknowledged { D.keeps_model → OfNextRecord D.Sectors device.old gate body.now (AtOk result (HoldsBoth D.Sectors device.new)) }
 
     // A crash at any moment of the call leaves the log with the record or without it.
-    ensures any_moment { D.keeps_model → (lists : List (List KeyWrite)) (writes : List KeyWrite) → IsNextRecord lists writes gate body.now
-        → ((c : List (List ℕ)) → D.may_leave device.old c → IsLogImage current lists c)
-        → LeavesOnly D.moment D.left_since device.old device.new (IsBeforeOrAfter lists writes) }
+    ensures any_moment { D.keeps_model → OfNextRecord D.Sectors device.old gate body.now (LeavesEither D.Sectors device.old device.new) }
 {
     stage(device, gate, body)?;
     open_staged(device, gate)?;

@@ -1,5 +1,5 @@
 //! What a log tells of itself.
-ghost use Rattle.std.specs.Prelude.{◌≡◌, ◌<◌, ◌≤◌, ◌+◌, ◌↔◌, true, IsTrue};
+ghost use Rattle.std.specs.Prelude.{◌≡◌, ◌<◌, ◌+◌, ◌↔◌, true, IsTrue};
 
 use crate::encode::sectors_for;
 use crate::log::Log;

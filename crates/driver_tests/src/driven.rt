@@ -8,7 +8,7 @@ use std::alloc::Global;
 use std::test::Fail;
 use stream_driver::{Progress, Stream, drive};
 
-/// A hub that stands for some state: the driver wants its session to be present in one.
+/// A hub that stands for some state, as a drive requires.
 #[derive(Drop)]
 pub(crate) struct Driven {
     pub(crate) hub: Hub<MemSectors>,

@@ -25,7 +25,7 @@ use Rattle.model.proofs.Steps.{copy_after-push}
 use Rattle.versions.specs.Meaning.{map_seen}
 use Rattle.versions.specs.Laws.{HoldingLaw}
 use Rattle.snapshot.specs.View.{View, new_view}
-use Rattle.snapshot.specs.Made.{HasMade, is_refused}
+use Rattle.snapshot.specs.Made.{HasMade, WhereMade, WhereSeen, is_refused}
 use Rattle.sector.specs.declared.device.Sectors.{Ghosts}
 use Rattle.commit_log.specs.LogState.{is_stopped}
 use Rattle.engine.specs.HistoryValue.{HistoryStandsFor}
@@ -132,8 +132,8 @@ module _ {D : Type 0} {g : Ghosts D} where
 
   -- what a request made of the transaction, and how it was answered; where memory was refused, that it is no refusal
   abbrev pub Answered : Engine D g → View → View → Operation → Option Response → Type 0
-  Answered e t t' q (Some response) = (m : KeyMap) (qs : List Operation) → map_seen e.history.versions t.begin ≡ m → HasMade t m qs → (answer m qs q ≡ response) × HasMade t' m (qs ++ q ∷ [])
-  Answered e t t' q None = (t' ≡ t) × ((m : KeyMap) (qs : List Operation) → map_seen e.history.versions t.begin ≡ m → HasMade t m qs → IsFalse (is_refused (answer m qs q)))
+  Answered e t t' q (Some response) = WhereSeen e.history.versions t (λ m qs. (answer m qs q ≡ response) × HasMade t' m (qs ++ q ∷ []))
+  Answered e t t' q None = (t' ≡ t) × WhereSeen e.history.versions t (λ m qs. IsFalse (is_refused (answer m qs q)))
 
   -- the transaction sees the map at its begin
   pub map_is : (e : Engine D g) (m : State) (t : View) (r : Running) (h : StandsFor e m) → Held e m h t r → map_seen e.history.versions t.begin ≡ snapshot m r
@@ -169,7 +169,7 @@ module _ {D : Type 0} {g : Ghosts D} where
 
   -- one that changes nothing, in an engine that stays
   pub own_same : (e : Engine D g) (s : ℕ) (q : Operation) (failed : Bool) (t : View) (response : Response) → ((m : State) (r : Running) → step_inside m s r q failed ≡ own_step m s r q)
-      → entry_of s e ≡ Some t → ((m : KeyMap) (qs : List Operation) → HasMade t m qs → (answer m qs q ≡ response) × HasMade t m (qs ++ q ∷ [])) → Leads e e s q failed (Some response)
+      → entry_of s e ≡ Some t → WhereMade t (λ m qs. (answer m qs q ≡ response) × HasMade t m (qs ++ q ∷ [])) → Leads e e s q failed (Some response)
   own_same e s q failed t response own some answered =
       own_answered e e s q failed t t response own (record { log = refl; history = refl }) some (sym (set_value_same (is_at (nat_cmp s)) e.running.entries t some)) refl refl (λ m qs seen made. answered m qs made)
 
@@ -179,7 +179,7 @@ module _ {D : Type 0} {g : Ghosts D} where
 
   -- a request whose reply is the same inside and outside, and that changes nothing
   pub passed : (e : Engine D g) (s : ℕ) (q : Operation) (response : Response) → ((m : State) (r : Running) → step_inside m s r q false ≡ own_step m s r q) → ((m : State) → step_outside m s q ≡ (m, response))
-      → ((t : View) (m : KeyMap) (qs : List Operation) → HasMade t m qs → (answer m qs q ≡ response) × HasMade t m (qs ++ q ∷ [])) → Leads e e s q false (Some response)
+      → ((t : View) → WhereMade t (λ m qs. (answer m qs q ≡ response) × HasMade t m (qs ++ q ∷ []))) → Leads e e s q false (Some response)
   passed e s q response own outside answered = elim (entry_of s e) as (λ o. entry_of s e ≡ o → Leads e e s q false (Some response)) [
     | Some t ↦ λ some. own_same e s q false t response own some (answered t)
     | None ↦ λ none m h. (m, h, step_is m s q false None (not_open e m s h none) ∙ outside m)

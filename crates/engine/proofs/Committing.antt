@@ -27,14 +27,14 @@ use Rattle.sector.specs.Failures.{Rose, Stayed}
 use Rattle.sector.specs.SectorModel.{LeavesOnly}
 use Rattle.commit_log.specs.declared.log.Log.{Log}
 use Rattle.commit_log.specs.LogState.{is_stopped, used_sectors, sector_count}
-use Rattle.engine.specs.HistoryValue.{HistoryValue, HistoryStandsFor, IsSameHistory}
+use Rattle.engine.specs.HistoryValue.{HistoryValue, IsSameHistory, Joins}
 use Rattle.engine.specs.declared.engine.Engine.{Engine}
 use Rattle.engine.specs.StandsFor.{StandsFor, IsRunning}
 use Rattle.engine.specs.Changes.{entry_of, Leaves, IsWritten, HasLogRoom, IsLogged, IsLogStopped, sectors_taken}
 use Rattle.engine.specs.declared.faults.EngineFault.{EngineFault}
 use Rattle.engine.specs.declared.faults.EngineFault.TheVariants.{Refused as Refusing}
 use Rattle.engine.specs.Meaning.{StandsForSame, Leads, IsNotRefused, IsReadOnly, IsLeftByCommit, has_risen, response_to}
-use Rattle.engine.specs.Recovery.{IsStored, IsInDoubt, HoldsMap, committed_map}
+use Rattle.engine.specs.Recovery.{IsStored, WhereStored, SurvivesAppend, LeavesInDoubt, HoldsMap, committed_map}
 use Rattle.engine.proofs.Sessions.{IsFound, beside_weaker}
 use Rattle.engine.proofs.Steps.{step_is, reached_by, store_full, store_fault, store_joined, map_at_next}
 use Rattle.engine.proofs.Calls.{Held, found_open, leave_call}
@@ -57,11 +57,6 @@ HasItsWrites t = (m : KeyMap) (qs : List Operation) → HasMade t m qs → t.wri
 -- the verdict over each history that is stood for
 abbrev pub HasVerdict : Facts → View → Option Refusal → Type 0
 HasVerdict f t o = IsInReach f t → (history : List Record) → CommittedStandsFor f history → (r : Record) → IsRecordOf t (f.last + 1) r → verdict history r ≡ o
-
--- what the next commit makes of the history
-abbrev pub Joins : HistoryValue → HistoryValue → View → Type 0
-Joins old new t = (held : ℕ → Bool) (base : KeyMap) (history : List Record) (r : Record) → HistoryStandsFor old held base history → IsInReach old.committed.facts t → IsClear old.committed.facts t
-    → IsRecordOf t (old.committed.facts.last + 1) r → HistoryStandsFor new held base (history ++ r ∷ [])
 
 -- where each image that a crash leaves has P, it has what follows from P
 pub weaker_crash : {D : Type 0} (moment : D → ℕ) (left_since : D → ℕ → List (List ℕ) → Type 0) (old new : D) (P Q : List (List ℕ) → Type 0) → ((c : List (List ℕ)) → P c → Q c) → LeavesOnly moment left_since old new P → LeavesOnly moment left_since old new Q
@@ -154,7 +149,7 @@ module _ {D : Type 0} {g : Ghosts D} where
 
   pub ended_fault : {A : Type 0} (e e' : Engine D g) (log : Log D g) (history : HistoryValue) (s : ℕ) (t : View) (failed : Bool) (f : A → Response) (fault : EngineFault) → fault ≡ Refusing StoreFault → IsToCommit e s t
       → IsLogStopped e.log log t.writes → IsSameHistory e.history history → Leaves (record e { log = log; history = history }) e' s → failed ≡ true
-      → (g.keeps_model → (map : KeyMap) → IsStored e.log map → IsInDoubt map (g.may_leave log.device)) → Leads e e' s Commit failed (response_to f (Err fault))
+      → (g.keeps_model → LeavesInDoubt e.log log) → Leads e e' s Commit failed (response_to f (Err fault))
   ended_fault e e' log history s t failed f fault told j stops same leaves fails doubt = rw told (λ m h.
       let at = found_open e m s t h j.asked.entry in
       let used = h.used in let count = h.count in let fits = j.room stops.written in
@@ -192,7 +187,7 @@ module _ {D : Type 0} {g : Ghosts D} where
       map_at_next m.base m.history (record_to_commit m at.run) h.history.committed.numbered refl ∙ ap (after_writes (committed_map m)) (own_record e m t at.run h j.made at.same).writes
 
   pub joined : (e e' : Engine D g) (log : Log D g) (history new : HistoryValue) (s : ℕ) (t u : View) (failed : Bool) (n : ℕ) → IsToCommit e s t → IsLogged e.log log t.writes
-      → (g.keeps_model → (map : KeyMap) → IsStored e.log map → IsStored log (after_writes map t.writes)) → IsSameHistory e.history history → Leaves (record e { log = log; history = history }) e' s
+      → (g.keeps_model → WhereStored e.log (λ map. IsStored log (after_writes map t.writes))) → IsSameHistory e.history history → Leaves (record e { log = log; history = history }) e' s
       → Some u ≡ entry_of s e → new.committed.facts.last ≡ e'.history.committed.facts.last + 1 → new.committed.facts.oldest ≡ e'.history.committed.facts.oldest → Joins e'.history new u
       → (IsWritten t.writes → failed ≡ false) → n ≡ e'.history.committed.facts.last + 1 → Leads e (record e' { history = new }) s Commit failed (Some (Number n))
   joined e e' log history new s t u failed n j logged stored same leaves taken last' oldest' joins quiet number m h =
@@ -221,8 +216,7 @@ module _ {D : Type 0} {g : Ghosts D} where
   unwritten e s t m h j none = let at = found_open e m s t h j.asked.entry in j.made (snapshot m at.run) at.run.requests at.same.made ∙ none at.run at.is
 
   -- a crash during a commit that came as far as the log
-  pub crash_stored : (e : Engine D g) (log : Log D g) (device : D) (s : ℕ) (t : View) → IsToCommit e s t → device ≡ log.device
-      → ((map : KeyMap) → IsStored e.log map → LeavesOnly g.moment g.left_since e.log.device log.device (λ c. HoldsMap c map ⊎ HoldsMap c (after_writes map t.writes)))
+  pub crash_stored : (e : Engine D g) (log : Log D g) (device : D) (s : ℕ) (t : View) → IsToCommit e s t → device ≡ log.device → SurvivesAppend e.log log t.writes
       → g.keeps_model → (m : State) → StandsFor e m → LeavesOnly g.moment g.left_since e.log.device device (IsLeftByCommit e m s)
   crash_stored e log device s t j same crash keeps m h =
       let at = found_open e m s t h j.asked.entry in

@@ -1,24 +1,22 @@
 -- What a request of an open transaction is answered, and what it makes of the transaction.
 use Rattle.std.proofs.lemmas.Grind.{common_steps}
-use Rattle.std.proofs.Common.{arith, ◌≡◌, ℕ, ◌||◌, List, Option, Some, None, Err, refl, sym, ap, subst, ◌∙◌}
-use Rattle.std.specs.Prelude.{IsTrue, is_some}
+use Rattle.std.proofs.Common.{arith, ◌≡◌, ℕ, Some, None, Err, refl, sym, ap, subst, ◌∙◌}
+use Rattle.std.specs.Prelude.{IsTrue}
+use Rattle.model.specs.declared.ranges.RangeRef.{RangeRef}
 use Rattle.model.specs.declared.refusals.Refusal.{Refusal}
 use Rattle.model.specs.declared.refusals.Refusal.TheVariants as refusals
 use Rattle.model.specs.Map.{Bytes, KeyMap}
 use Rattle.model.specs.Operations.{Operation, Response}
-use Rattle.model.specs.Operations.Operation.{Get, Range}
+use Rattle.model.specs.Operations.Operation.{Get}
 use Rattle.model.specs.Operations.Response.{Refused}
 use Rattle.model.specs.PrivateCopy.{PrivateCopy, respond, copy_of, copy_after, answer}
-use Rattle.model.specs.PrivateCopy.Mark.{OfKey}
 use Rattle.model.specs.Machine.{State, Running, running_of, snapshot}
 use Rattle.versions.specs.Chains.{ChainsValue}
 use Rattle.versions.specs.Meaning.{map_seen}
-use Rattle.marks.specs.Marked.{has_mark}
-use Rattle.write_buffer.specs.Buffered.{written}
 use Rattle.snapshot.specs.declared.faults.SnapshotFault.{SnapshotFault}
 use Rattle.snapshot.specs.declared.faults.SnapshotFault.TheVariants.{FullWrites, FullMarks, Memory}
-use Rattle.snapshot.specs.View.{View, after_get}
-use Rattle.snapshot.specs.Made.{HasMade, MakesOneMoreOver, IsFault, IsKnownRange}
+use Rattle.snapshot.specs.View.{View, after_get, is_known_get}
+use Rattle.snapshot.specs.Made.{WhereSeen, MakesOneMoreOver, IsFault, IsKnownRange, range_read}
 use Rattle.snapshot.specs.Merged.{after_range}
 use Rattle.sector.specs.declared.device.Sectors.{Ghosts}
 use Rattle.engine.specs.declared.engine.Engine.{Engine}
@@ -27,7 +25,7 @@ use Rattle.engine.specs.declared.faults.EngineFault.{EngineFault}
 use Rattle.engine.specs.declared.faults.ReadFault.{ReadFault}
 use Rattle.engine.specs.Faults.{of_read, of_write}
 use Rattle.engine.specs.StandsFor.{StandsFor}
-use Rattle.engine.specs.Meaning.{response_to, response_to_read, copy_in, IsKnownKey}
+use Rattle.engine.specs.Meaning.{WhereOpen, response_to, response_to_read, copy_in, IsKnownKey}
 use Rattle.snapshot.proofs.Copies.{any_keys}
 use Rattle.model.proofs.Lookups.{some_same}
 use Rattle.engine.proofs.Calls.{Answered, Held, found_open, not_open, made_same, map_is}
@@ -36,20 +34,20 @@ use Rattle.engine.proofs.Steps.{refused_same}
 pub begin-after_get : (t t' : View) (k : Bytes) → t' ≡ after_get t k → t'.begin ≡ t.begin
 begin-after_get t t' k e = grind (arith, common_steps)
 
-pub begin-after_range : (t t' : View) (n : KeyMap) (lo : Bytes) (hi : Option Bytes) (limit : ℕ) → t' ≡ after_range t n lo hi limit → t'.begin ≡ t.begin
-begin-after_range t t' n lo hi limit e = grind (arith, common_steps)
+pub begin-after_range : (t t' : View) (n : KeyMap) (r : RangeRef) (limit : ℕ) → t' ≡ after_range t n r limit → t'.begin ≡ t.begin
+begin-after_range t t' n r limit e = grind (arith, common_steps)
 
 -- a read is not refused for its writes
 pub never_get : (k : Bytes) (c : PrivateCopy) → (respond c (Get k)).0 ≡ Refused refusals.FullWrites → ⊥
 never_get a0 a1 = grind (arith, common_steps)
 
-pub never_range : (lo : Bytes) (hi : Option Bytes) (limit : ℕ) (c : PrivateCopy) → (respond c (Range lo hi limit)).0 ≡ Refused refusals.FullWrites → ⊥
-never_range a0 a1 a2 a3 = grind (arith, common_steps)
+pub never_range : (r : RangeRef) (limit : ℕ) (c : PrivateCopy) → (respond c (range_read r limit)).0 ≡ Refused refusals.FullWrites → ⊥
+never_range a0 a1 a2 = grind (arith, common_steps)
 
 module _ {D : Type 0} {g : Ghosts D} (e : Engine D g) (t t' : View) where
   -- what the transaction says of the versions that were lent
   abbrev pub Says : ChainsValue → (Response → Type 0) → Operation → Type 0
-  Says vs P q = (m : KeyMap) (qs : List Operation) → map_seen vs t.begin ≡ m → HasMade t m qs → P (answer m qs q)
+  Says vs P q = WhereSeen vs t (λ m qs. P (answer m qs q))
 
   pub read_answered : (vs : ChainsValue) (q : Operation) (response : Response) → vs ≡ e.history.versions → Says vs (λ r. r ≡ response) q
       → MakesOneMoreOver (map_seen vs t.begin) t t' q → Answered e t t' q (Some response)
@@ -77,17 +75,16 @@ module _ {D : Type 0} {g : Ghosts D} (e : Engine D g) (s : ℕ) (t : View) (some
   held_is : (m : State) (h : StandsFor e m) (r : Running) → running_of m s ≡ Some r → Held e m h t r
   held_is m h r is = let f = found_open e m s t h some in subst (Held e m h t) (some_same (sym f.is ∙ is)) f.same
 
-  pub known_key : (k : Bytes) (m : State) → StandsFor e m → (r : Running) → running_of m s ≡ Some r → IsKnownKey m r k → IsTrue (is_some (written t.writes k) || has_mark t.marks (OfKey k))
+  pub known_key : (k : Bytes) → WhereOpen e s (λ m r. IsKnownKey m r k → IsTrue (is_known_get t k))
   known_key k m h r is known = let held = held_is m h r is in grind (arith, common_steps, any_keys)
 
   -- what the transaction says of a range that it knows
-  pub known_range : {P : Type 0} (vs : ChainsValue) (lo : Bytes) (hi : Option Bytes) (limit : ℕ) → vs ≡ e.history.versions
-      → ((n : KeyMap) (qs : List Operation) → map_seen vs t.begin ≡ n → HasMade t n qs → IsKnownRange (copy_after (copy_of n) qs) lo hi limit → P)
-      → (m : State) → StandsFor e m → (r : Running) → running_of m s ≡ Some r → IsKnownRange (copy_in m r) lo hi limit → P
-  known_range vs lo hi limit same says m h r is known =
+  pub known_range : {P : Type 0} (vs : ChainsValue) (range : RangeRef) (limit : ℕ) → vs ≡ e.history.versions → WhereSeen vs t (λ n qs. IsKnownRange (copy_after (copy_of n) qs) range limit → P)
+      → WhereOpen e s (λ m r. IsKnownRange (copy_in m r) range limit → P)
+  known_range vs range limit same says m h r is known =
       let held = held_is m h r is in
       says (snapshot m r) r.requests (ap (λ (x : ChainsValue). map_seen x t.begin) same ∙ map_is e m t r h held) held.made known
 
 -- a session without a transaction knows nothing
-pub known_nowhere : {D : Type 0} {g : Ghosts D} (e : Engine D g) (s : ℕ) {P : Type 0} → entry_of s e ≡ None → (m : State) → StandsFor e m → (r : Running) → running_of m s ≡ Some r → P
+pub known_nowhere : {D : Type 0} {g : Ghosts D} (e : Engine D g) (s : ℕ) {P : Type 0} → entry_of s e ≡ None → WhereOpen e s (λ _ _. P)
 known_nowhere e s none m h r is = let no : None ≡ Some r = sym (not_open e m s h none) ∙ is in cc

@@ -1,12 +1,14 @@
 -- What has committed, as contracts see it: the versions of its writes, and what is kept to check later commits.
-use Rattle.std.specs.Prelude.{◌≡◌, ◌↔◌, ℕ, Bool, List}
+use Rattle.std.specs.Prelude.{◌≡◌, ◌↔◌, ℕ, ◌+◌, ◌&&◌, Bool, IsTrue, nat_lt, List, [], ◌∷◌, ◌++◌}
+use Rattle.std.specs.List.{AllByRecursion}
 use Rattle.model.specs.Map.{KeyMap}
 use Rattle.model.specs.History.{Record}
 use Rattle.versions.specs.Chains.{ChainsValue, IsPrepared}
-use Rattle.versions.specs.Meaning.{IsSameMeaning}
+use Rattle.versions.specs.Listings.{IsUnmixed}
+use Rattle.versions.specs.Meaning.{IsSameMeaning, due_of, is_among}
 use Rattle.versions.specs.StandsFor.{StandsFor as VersionsStandFor}
-use Rattle.pivot_check.specs.Kept.{CommittedValue, HasRoom}
-use Rattle.pivot_check.specs.StandsFor.{StandsFor as CommittedStandsFor}
+use Rattle.pivot_check.specs.Kept.{CommittedValue, HasRoom, IsInReach, runs_due}
+use Rattle.pivot_check.specs.StandsFor.{StandsFor as CommittedStandsFor, IsRecordOf, IsClear}
 use Rattle.snapshot.specs.View.{View}
 
 pub record HistoryValue : Type 0 where
@@ -17,6 +19,26 @@ pub record HistoryValue : Type 0 where
 pub record HistoryStandsFor (h : HistoryValue) (held : ℕ → Bool) (base : KeyMap) (history : List Record) : Type 0 where
   pub versions : VersionsStandFor h.versions held base history
   pub committed : CommittedStandsFor h.committed.facts history
+
+-- what the transaction's commit makes of the history
+abbrev pub Joins : HistoryValue → HistoryValue → View → Type 0
+Joins old new t = (held : ℕ → Bool) (base : KeyMap) (history : List Record) (r : Record) → HistoryStandsFor old held base history
+    → IsInReach old.committed.facts t → IsClear old.committed.facts t → IsRecordOf t (old.committed.facts.last + 1) r
+    → HistoryStandsFor new held base (history ++ r ∷ [])
+
+-- what the history stands for stays, with those of the numbers held that are among these
+abbrev pub KeepsHeld : HistoryValue → HistoryValue → List ℕ → Type 0
+KeepsHeld old new bs = (held : ℕ → Bool) (base : KeyMap) (history : List Record) → HistoryStandsFor old held base history
+    → HistoryStandsFor new (λ n. held n && is_among bs n) base history
+
+-- no group is mixed after a reclaim, where these numbers are held
+abbrev pub Unmixes : HistoryValue → HistoryValue → List ℕ → Type 0
+Unmixes old new bs = (held : ℕ → Bool) (base : KeyMap) (history : List Record) → HistoryStandsFor old held base history
+    → ((n : ℕ) → IsTrue (is_among bs n) → IsTrue (held n)) → AllByRecursion IsUnmixed new.versions.groups
+
+-- there is more to reclaim where these numbers are held
+abbrev pub is_due : List ℕ → HistoryValue → Bool
+is_due bs h = nat_lt 0 (due_of bs h.versions + runs_due h.committed)
 
 -- nothing but the memory that was made ready has changed
 pub record IsSameHistory (old new : HistoryValue) : Type 0 where

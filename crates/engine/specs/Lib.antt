@@ -7,3 +7,4 @@ pub mod StandsFor
 pub mod Changes
 pub mod Judgements
 pub mod Meaning
+pub mod Opening

@@ -1,16 +1,21 @@
 -- What a call of the engine does to the states of the machine that it stands for.
-use Rattle.std.specs.Prelude.{◌≡◌, ◌↔◌, ◌⊎◌, ℕ, ◌-◌, ◌^◌, Bool, true, false, ◌||◌, nat_lt, ◌==◌, Option, Some, None, Result, Ok, Err, IsTrue, IsFalse, List, []}
+use Rattle.std.specs.Prelude.{◌≡◌, ◌↔◌, ◌⊎◌, ℕ, ◌-◌, ◌^◌, Bool, true, false, ◌||◌, nat_lt, ◌==◌, ◌≤◌, Option, Some, None, option_copied, Result, Ok, Err, IsTrue, IsFalse, List, [], map}
+use Rattle.std.specs.Borrow.{Bor}
+use Rattle.model.specs.declared.keys.KeyRef.{KeyRef}
+use Rattle.model.specs.declared.ranges.RangeRef.{RangeRef}
+use Rattle.model.specs.KeyBytes.{key_bytes}
 use Rattle.model.specs.Operations.{Operation, Response}
-use Rattle.model.specs.Operations.Operation.{Commit}
-use Rattle.model.specs.Operations.Response.{Refused}
+use Rattle.model.specs.Operations.Operation.{Commit, Get}
+use Rattle.model.specs.Operations.Response.{Refused, Value, Pairs}
 use Rattle.model.specs.declared.refusals.Refusal.TheVariants.{NotOpen, FullMarks}
 use Rattle.model.specs.Map.{Bytes}
 use Rattle.model.specs.Leading.{LeadsBy}
 use Rattle.model.specs.PrivateCopy.{PrivateCopy, copy_of, copy_after, writes, is_written, is_same_mark}
 use Rattle.model.specs.PrivateCopy.Mark.{OfKey}
-use Rattle.model.specs.Machine.{State, Running, running_of, snapshot, step}
-use Rattle.std.specs.List.{list_any}
+use Rattle.model.specs.Machine.{State, Running, running_of, last, snapshot, step}
+use Rattle.std.specs.List.{AllByRecursion, list_any}
 use Rattle.sector.specs.declared.device.Sectors.{Ghosts}
+use Rattle.sector.specs.SectorModel.{LeavesOnly}
 use Rattle.commit_log.specs.LogState.{failure_count, device_of as log_device, is_stopped as is_log_stopped}
 use Rattle.engine.specs.declared.engine.Engine.{Engine}
 use Rattle.engine.specs.declared.faults.EngineFault.{EngineFault}
@@ -18,9 +23,11 @@ use Rattle.engine.specs.declared.faults.EngineFault.TheVariants.{Refused as Refu
 use Rattle.engine.specs.declared.faults.ReadFault.{ReadFault}
 use Rattle.engine.specs.declared.faults.ReadFault.TheVariants as reads
 use Rattle.versions.specs.Chains.{ChainsValue}
-use Rattle.snapshot.specs.Made.{is_refused}
+use Rattle.snapshot.specs.declared.rows.Rows.{Rows}
+use Rattle.snapshot.specs.RowPairs.{row_pairs}
+use Rattle.snapshot.specs.Made.{is_refused, range_read}
 use Rattle.engine.specs.Recovery.{HoldsMap, committed_map}
-use Rattle.pivot_check.specs.Kept.{Facts, CommittedValue}
+use Rattle.pivot_check.specs.Kept.{Facts, CommittedValue, HasForgotten}
 pub use Rattle.engine.specs.StandsFor.{StandsFor}
 
 -- the device, how many of its calls have failed, and whether one failed in a commit
@@ -36,6 +43,10 @@ is_stopped e = is_log_stopped e.log
 -- whether a count of failures rose, or could rise no more
 abbrev pub has_risen : ℕ → ℕ → Bool
 has_risen before now = nat_lt before now || (before == 2 ^ 64 - 1)
+
+-- a call of the device failed between the two
+abbrev pub has_failed : {D : Type 0} {g : Ghosts D} → Engine D g → Engine D g → Bool
+has_failed old new = has_risen (failures_of old) (failures_of new)
 
 -- every state that the old engine stood for is one of the new engine, and no other is
 abbrev pub StandsForSame : {D : Type 0} {g : Ghosts D} → Engine D g → Engine D g → Type 0
@@ -64,6 +75,19 @@ response_to_read f (Err reads.NotOpen) = Some (Refused NotOpen)
 response_to_read f (Err reads.FullMarks) = Some (Refused FullMarks)
 response_to_read f (Err reads.Memory) = None
 
+-- where a GET and a RANGE lead, which leave the device alone
+abbrev pub GetLeads : {D : Type 0} {g : Ghosts D} → Engine D g → Engine D g → ℕ → KeyRef → Result (Option (Bor Bytes)) ReadFault → Type 0
+GetLeads old new s key result =
+    Leads old new s (Get (key_bytes key)) false (response_to_read (λ v. Value (option_copied v)) result) × (device_of new ≡ device_of old)
+
+abbrev pub RangeLeads : {D : Type 0} {g : Ghosts D} → Engine D g → Engine D g → ℕ → RangeRef → ℕ → Result Rows ReadFault → Type 0
+RangeLeads old new s r limit result =
+    Leads old new s (range_read r limit) false (response_to_read (λ rows. Pairs (row_pairs rows)) result) × (device_of new ≡ device_of old)
+
+-- so it is of the session's open transaction, if it has one
+abbrev pub WhereOpen : {D : Type 0} {g : Ghosts D} → Engine D g → ℕ → (State → Running → Type 0) → Type 0
+WhereOpen e s P = (m : State) → StandsFor e m → (t : Running) → running_of m s ≡ Some t → P m t
+
 -- the session's private copy
 abbrev pub copy_in : State → Running → PrivateCopy
 copy_in m t = copy_after (copy_of (snapshot m t)) t.requests
@@ -86,9 +110,26 @@ committed_of e = e.history.committed
 abbrev pub facts_of : {D : Type 0} {g : Ghosts D} → Engine D g → Facts
 facts_of e = e.history.committed.facts
 
+-- the begin numbers of the open transactions
+abbrev pub open_begins : State → List ℕ
+open_begins m = map (λ e. e.1.begin) m.running
+
+-- commits that no open transaction may be concurrent with are forgotten
+abbrev pub HasForgottenOld : State → Facts → Type 0
+HasForgottenOld m f = (n : ℕ) → n ≤ last m → AllByRecursion (λ e. n ≤ e.1.begin) m.running → HasForgotten n f
+
+-- a crash leaves the map of all that has committed
+abbrev pub IsDurable : {D : Type 0} {g : Ghosts D} → Engine D g → Type 0
+IsDurable {g = g} e = (m : State) → StandsFor e m → (c : List (List ℕ)) → g.may_leave (device_of e) c → HoldsMap c (committed_map m)
+
 -- what a crash may leave at a moment of a COMMIT: the map committed before it, or that with the transaction's writes; of a store that was
 -- stopped, what it could have left before
 abbrev pub IsLeftByCommit : {D : Type 0} {g : Ghosts D} → Engine D g → State → ℕ → List (List ℕ) → Type 0
 IsLeftByCommit {g = g} old m s c =
     ((m.stopped ≡ false) × (HoldsMap c (committed_map m) ⊎ HoldsMap c (committed_map (step m s Commit false).0)))
     ⊎ ((m.stopped ≡ true) × g.may_leave (device_of old) c)
+
+-- a crash at any moment of the session's COMMIT leaves that
+abbrev pub SurvivesCommit : {D : Type 0} {g : Ghosts D} → Engine D g → Engine D g → ℕ → Type 0
+SurvivesCommit {g = g} old new s =
+    g.keeps_model → (m : State) → StandsFor old m → LeavesOnly g.moment g.left_since (device_of old) (device_of new) (IsLeftByCommit old m s)

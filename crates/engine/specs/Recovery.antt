@@ -4,10 +4,11 @@ use Rattle.model.specs.Map.{KeyMap, KeyWrite, after_writes}
 use Rattle.model.specs.History.{map_at}
 use Rattle.model.specs.Machine.{State}
 use Rattle.sector.specs.declared.device.Sectors.{Ghosts}
+use Rattle.sector.specs.SectorModel.{LeavesOnly}
 use Rattle.commit_log.specs.declared.log.Log.{Log}
 use Rattle.commit_log.specs.Format.{current}
 use Rattle.commit_log.specs.LogImage.{IsLogImage}
-use Rattle.commit_log.specs.LogState.{StandsFor as LogStandsFor}
+use Rattle.commit_log.specs.LogState.{StandsFor as LogStandsFor, device_of}
 use Rattle.commit_log.specs.Recovery.{map_after}
 
 -- the image is that of a log whose write sets make this map
@@ -24,10 +25,23 @@ pub record IsStored {D : Type 0} {g : Ghosts D} (log : Log D g) (map : KeyMap) :
   pub stands : LogStandsFor log lists
   pub makes : map_after [] lists ≡ map
 
+-- so it is of whatever map the log has
+abbrev pub WhereStored : {D : Type 0} {g : Ghosts D} → Log D g → (KeyMap → Type 0) → Type 0
+WhereStored log P = (map : KeyMap) → IsStored log map → P map
+
+-- a crash at any moment of an append leaves the map from before it, or that with the writes
+abbrev pub SurvivesAppend : {D : Type 0} {g : Ghosts D} → Log D g → Log D g → List KeyWrite → Type 0
+SurvivesAppend {g = g} old new ws =
+    WhereStored old (λ map. LeavesOnly g.moment g.left_since (device_of old) (device_of new) (λ c. HoldsMap c map ⊎ HoldsMap c (after_writes map ws)))
+
 -- each image holds the map, or the map with the writes of one COMMIT, the same for all
 pub record IsInDoubt (map : KeyMap) (may_leave : List (List ℕ) → Type 0) : Type 0 where
   pub in_doubt : List KeyWrite
   pub holds : (c : List (List ℕ)) → may_leave c → HoldsMap c map ⊎ HoldsMap c (after_writes map in_doubt)
+
+-- an append on which the device failed leaves that of the log's map
+abbrev pub LeavesInDoubt : {D : Type 0} {g : Ghosts D} → Log D g → Log D g → Type 0
+LeavesInDoubt {g = g} old new = WhereStored old (λ map. IsInDoubt map (g.may_leave (device_of new)))
 
 -- What a crash leaves: the map that is committed and, once the store is stopped, that or the one with the writes of the COMMIT that was
 -- answered a store fault.

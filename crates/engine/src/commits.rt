@@ -9,14 +9,12 @@ use sector::Sectors;
 use snapshot::Transaction;
 
 impl<D: Sectors> Engine<D> {
-    ghost use Rattle.std.specs.Prelude.{◌≡◌, ◌≢◌, ◌≤◌, ℕ, List, true, Some, None, IsSome, IfOk, IfErr};
+    ghost use Rattle.std.specs.Prelude.{◌≡◌, ◌≢◌, ◌≤◌, true, Some, IsSome, IfOk, IfErr};
     ghost use Rattle.model.specs.Operations.Operation.{Commit};
     ghost use Rattle.model.specs.Operations.Response.{Number};
     ghost use Rattle.engine.specs.Changes.{entry_of, Leaves};
     ghost use Rattle.model.specs.Machine.{State};
-    ghost use Rattle.sector.specs.SectorModel.{LeavesOnly};
-    ghost use Rattle.engine.specs.Recovery.{HoldsMap, committed_map};
-    ghost use Rattle.engine.specs.Meaning.{StandsFor, Leads, IsReadOnly, IsLeftByCommit, response_to, device_of, failures_of, has_risen, is_stopped};
+    ghost use Rattle.engine.specs.Meaning.{StandsFor, Leads, IsReadOnly, SurvivesCommit, IsDurable, response_to, device_of, failures_of, has_failed, is_stopped};
 
     /// Commits the session's transaction, and answers its commit number. Where it wrote something, one record is appended to the log; what
     /// it takes of memory is made before, so that nothing can fail once the record stands.
@@ -26,7 +24,7 @@ impl<D: Sectors> Engine<D> {
     /// the store is then stopped. Each ends the transaction. `Memory`, where memory for versions, for a record or for the log's sectors
     /// is refused, comes before `StoreFault` and leaves the transaction open.
     pub fn commit(&mut self, s: u64) -> Result<u64, EngineFault>
-        ensures step { Leads self.old self.new s Commit (has_risen (failures_of self.old) (failures_of self.new)) (response_to (λ n. Number n) result) }
+        ensures step { Leads self.old self.new s Commit (has_failed self.old self.new) (response_to (λ n. Number n) result) }
         ensures device { failures_of self.old ≤ failures_of self.new }
 
         // A stopped store leaves the device alone, and so does each refusal but that of a store fault.
@@ -38,10 +36,10 @@ impl<D: Sectors> Engine<D> {
 
         // A crash at any moment of the call leaves the committed map of before it, or that with the transaction's writes; of a store that
         // was stopped, what it could have left before.
-        ensures crash { D.keeps_model → (m : State) → StandsFor self.old m → LeavesOnly D.moment D.left_since (device_of self.old) (device_of self.new) (IsLeftByCommit self.old m s) }
+        ensures crash { SurvivesCommit self.old self.new s }
 
         // Once a number was answered, a crash leaves the latter alone.
-        ensures acknowledged { D.keeps_model → IfOk result (λ n. (m : State) → StandsFor self.new m → (c : List (List ℕ)) → D.may_leave (device_of self.new) c → HoldsMap c (committed_map m)) }
+        ensures acknowledged { D.keeps_model → IfOk result (λ _. IsDurable self.new) }
     {
         let Some(transaction) = self.running.get(&s) else {
             return Err(EngineFault::Refused(Refusal::NotOpen));

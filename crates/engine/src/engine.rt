@@ -31,19 +31,19 @@ pub struct Engine<D: Sectors> {
 }
 
 impl<D: Sectors> Engine<D> {
-    ghost use Rattle.std.specs.Prelude.{◌≡◌, ◌≢◌, ◌≤◌, ◌<◌, ◌+◌, ◌-◌, ℕ, List, map, false, Some, None, Err, IfOk, length, nat_lt};
+    ghost use Rattle.std.specs.Prelude.{◌≡◌, ◌≢◌, ◌≤◌, ◌<◌, ◌-◌, false, Some, None, Err, length};
     ghost use Rattle.model.specs.declared.refusals.Refusal.{Refusal as Reason};
     ghost use Rattle.model.specs.Operations.Operation.{Begin, Set, Del, Abort, Ping, Faulty};
     ghost use Rattle.model.specs.Operations.Response.{Done, Pong, Refused};
-    ghost use Rattle.model.specs.Machine.{State, IsReached, last, leave};
+    ghost use Rattle.model.specs.Machine.{State, IsReached, leave};
     ghost use Rattle.model.specs.Laws.{IsIsolated, IsSerializable};
-    ghost use Rattle.model.specs.Map.{Bytes};
     ghost use Rattle.versions.specs.Listings.{IsUnmixed};
-    ghost use Rattle.versions.specs.Meaning.{due_of, kept_of, IsReclaimed};
+    ghost use Rattle.versions.specs.Meaning.{kept_of, IsReclaimed};
     ghost use Rattle.std.specs.List.{AllByRecursion};
-    ghost use Rattle.pivot_check.specs.Kept.{HasForgotten, IsGivenBack, runs_due};
+    ghost use Rattle.pivot_check.specs.Kept.{IsGivenBack};
+    ghost use Rattle.engine.specs.HistoryValue.{is_due};
     ghost use Rattle.engine.specs.Recovery.{LeavesCommitted};
-    ghost use Rattle.engine.specs.Meaning.{StandsFor, Leads, response_to, device_of, is_stopped, versions_of, committed_of, facts_of};
+    ghost use Rattle.engine.specs.Meaning.{StandsFor, Leads, response_to, device_of, is_stopped, versions_of, committed_of, facts_of, open_begins, HasForgottenOld};
 
     /// Begins a transaction of the session, over the map that is committed now.
     ///
@@ -147,11 +147,11 @@ impl<D: Sectors> Engine<D> {
     /// as many steps of last readers of those that are wholly old. Takes no memory.
     pub fn reclaim(&mut self) -> bool
         ensures keeps { (m : State) → StandsFor self.old m → StandsFor self.new m }
-        ensures versions { (m : State) → StandsFor self.old m → IsReclaimed (versions_of self.old) (versions_of self.new) (map (λ e. e.1.begin) m.running) }
-        ensures still { (m : State) → StandsFor self.old m → result ≡ nat_lt 0 (due_of (map (λ e. e.1.begin) m.running) (versions_of self.new) + runs_due (committed_of self.new)) }
+        ensures versions { (m : State) → StandsFor self.old m → IsReclaimed (versions_of self.old) (versions_of self.new) (open_begins m) }
+        ensures still { (m : State) → StandsFor self.old m → result ≡ is_due (open_begins m) self.new.history }
         ensures unmixed { (m : State) → StandsFor self.old m → AllByRecursion IsUnmixed (versions_of self.new).groups }
         ensures given_back { IsGivenBack (committed_of self.old) (committed_of self.new) }
-        ensures forgotten { (m : State) → StandsFor self.old m → (n : ℕ) → n ≤ last m → AllByRecursion (λ e. n ≤ e.1.begin) m.running → HasForgotten n (facts_of self.new) }
+        ensures forgotten { (m : State) → StandsFor self.old m → HasForgottenOld m (facts_of self.new) }
         ensures device { device_of self.new ≡ device_of self.old }
         ensures stopped { is_stopped self.new ≡ is_stopped self.old }
     {

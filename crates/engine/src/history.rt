@@ -1,14 +1,9 @@
 //! What has committed.
-ghost use Rattle.std.specs.Prelude.{◌≡◌, ℕ, ◌+◌, ◌-◌, ◌^◌, ◌<◌, ◌≤◌, ◌&&◌, Bool, true, List, [], ◌∷◌, ◌++◌, All, IfOk, IsTrue, OnOk, is_some, max, nat_lt};
-ghost use Rattle.model.specs.Map.{Bytes, KeyMap};
-ghost use Rattle.model.specs.History.{Record};
-ghost use Rattle.std.specs.List.{AllByRecursion};
-ghost use Rattle.versions.specs.Listings.{IsUnmixed};
-ghost use Rattle.versions.specs.Meaning.{due_of, is_among, IsReclaimed};
-ghost use Rattle.pivot_check.specs.Kept.{HasForgotten, IsEmpty, IsInReach, IsGivenBack, runs_due};
+ghost use Rattle.std.specs.Prelude.{◌≡◌, ◌+◌, ◌-◌, ◌^◌, ◌<◌, ◌≤◌, true, [], IfOk, OnOk, is_some, max};
+ghost use Rattle.versions.specs.Meaning.{IsReclaimed};
+ghost use Rattle.pivot_check.specs.Kept.{HasForgotten, IsEmpty, IsGivenBack};
 ghost use Rattle.pivot_check.specs.Index.{target};
-ghost use Rattle.pivot_check.specs.StandsFor.{IsRecordOf, IsClear};
-ghost use Rattle.engine.specs.HistoryValue.{HistoryStandsFor, IsSameHistory, IsReady};
+ghost use Rattle.engine.specs.HistoryValue.{HistoryStandsFor, IsSameHistory, IsReady, Joins, KeepsHeld, Unmixes, is_due};
 
 use model::{Map, Memory};
 use pivot_check::Committed;
@@ -77,9 +72,7 @@ impl History {
         ensures number { result ≡ self.old.committed.facts.last + 1 }
         ensures last { self.new.committed.facts.last ≡ self.old.committed.facts.last + 1 }
         ensures oldest { self.new.committed.facts.oldest ≡ self.old.committed.facts.oldest }
-        ensures stands { (held : ℕ → Bool) (base : KeyMap) (history : List Record) (r : Record) → HistoryStandsFor self.old held base history
-            → IsInReach self.old.committed.facts transaction → IsClear self.old.committed.facts transaction → IsRecordOf transaction (self.old.committed.facts.last + 1) r
-            → HistoryStandsFor self.new held base (history ++ r ∷ []) }
+        ensures stands { Joins self.old self.new transaction }
     {
         let number = self.committed.last() + 1;
         self.committed
@@ -97,14 +90,14 @@ impl History {
     /// that is gone.
     pub(crate) fn reclaim(&mut self, begins: &[u64], oldest: u64) -> bool
         requires { oldest ≤ self.old.committed.facts.last }
-        ensures stands { (held : ℕ → Bool) (base : KeyMap) (history : List Record) → HistoryStandsFor self.old held base history → HistoryStandsFor self.new (λ n. held n && is_among begins.now n) base history }
+        ensures stands { KeepsHeld self.old self.new begins.now }
         ensures last { self.new.committed.facts.last ≡ self.old.committed.facts.last }
         ensures oldest { self.new.committed.facts.oldest ≡ max self.old.committed.facts.oldest oldest }
         ensures reclaimed { IsReclaimed self.old.versions self.new.versions begins.now }
         ensures given_back { IsGivenBack self.old.committed self.new.committed }
-        ensures still { result ≡ nat_lt 0 (due_of begins.now self.new.versions + runs_due self.new.committed) }
+        ensures still { result ≡ is_due begins.now self.new }
         ensures forgotten { HasForgotten oldest self.new.committed.facts }
-        ensures unmixed { (held : ℕ → Bool) (base : KeyMap) (history : List Record) → HistoryStandsFor self.old held base history → ((n : ℕ) → IsTrue (is_among begins.now n) → IsTrue (held n)) → AllByRecursion IsUnmixed self.new.versions.groups }
+        ensures unmixed { Unmixes self.old self.new begins.now }
     {
         let versions_due = self.versions.reclaim(begins);
         let runs_due = self.committed.forget(oldest);

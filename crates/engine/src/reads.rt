@@ -6,16 +6,13 @@ use sector::Sectors;
 use snapshot::Rows;
 
 impl<D: Sectors> Engine<D> {
-    ghost use Rattle.std.specs.Prelude.{◌≡◌, ◌≤◌, false, length, Some, IfOk, IfSome, IsOk, option_copied, option_map};
+    ghost use Rattle.std.specs.Prelude.{◌≤◌, length, IfOk, IfSome, IsOk};
     ghost use Rattle.model.specs.Key.{IsValue};
     ghost use Rattle.model.specs.Map.{IsInBounds};
     ghost use Rattle.std.specs.Borrow.{sem};
     ghost use Rattle.std.specs.Io.BufRead.{Rests};
-    ghost use Rattle.model.specs.Operations.Operation.{Get, Range};
-    ghost use Rattle.model.specs.Operations.Response.{Value, Pairs};
     ghost use Rattle.snapshot.specs.RowPairs.{row_pairs};
-    ghost use Rattle.model.specs.Machine.{State, Running, running_of};
-    ghost use Rattle.engine.specs.Meaning.{StandsFor, Leads, response_to_read, copy_in, device_of, IsKnownKey};
+    ghost use Rattle.engine.specs.Meaning.{GetLeads, RangeLeads, WhereOpen, copy_in, IsKnownKey};
     ghost use Rattle.snapshot.specs.Made.{IsKnownRange};
     ghost use Rattle.engine.specs.contracts.engine.Engine.{the_row};
 
@@ -25,11 +22,9 @@ impl<D: Sectors> Engine<D> {
     /// Refusals: `NotOpen`; `FullMarks` for a 257th mark. It may take a copy of the key and room for a mark; `Memory` where that is refused,
     /// never for a key that is written or marked.
     pub fn get(&mut self, s: u64, key: KeyRef<'_>) -> Result<Option<&[u8]>, ReadFault>
-        ensures known { (m : State) → StandsFor self.old m → (t : Running) → running_of m s ≡ Some t → IsKnownKey m t key.entry.bytes.now → IsOk result }
+        ensures known { WhereOpen self.old s (λ m t. IsKnownKey m t key.entry.bytes.now → IsOk result) }
         ensures short { IfOk result (λ value. IfSome value (λ v. IsValue v.now)) }
-        ensures* after { sem 𝓛 (Rests (the_row D.row D.Sectors) self.entry (λ new.
-            Leads self.old new s (Get key.entry.bytes.now) false (response_to_read (λ v. Value (option_copied v)) result)
-            × (device_of new ≡ device_of self.old))) }
+        ensures* after { sem 𝓛 (Rests (the_row D.row D.Sectors) self.entry (λ new. GetLeads self.old new s key.entry result)) }
     {
         let versions = self.history.versions();
         match self.running.get_mut(&s) {
@@ -48,12 +43,10 @@ impl<D: Sectors> Engine<D> {
     /// refused, never for a range that is empty or whose reply asks for a mark that is there.
     pub fn range(&mut self, s: u64, range: RangeRef<'_>, limit: u8) -> Result<Rows<'_>, ReadFault>
         requires { (1 ≤ limit) × (limit ≤ 128) }
-        ensures known { (m : State) → StandsFor self.old m → (t : Running) → running_of m s ≡ Some t → IsKnownRange (copy_in m t) range.entry.lo.bytes.now (option_map (λ k. k.bytes.now) range.entry.hi) limit → IsOk result }
+        ensures known { WhereOpen self.old s (λ m t. IsKnownRange (copy_in m t) range.entry limit → IsOk result) }
         ensures few { IfOk result (λ rows. length (row_pairs rows) ≤ limit) }
         ensures in_bounds { IfOk result (λ rows. IsInBounds (row_pairs rows)) }
-        ensures* after { sem 𝓛 (Rests (the_row D.row D.Sectors) self.entry (λ new.
-            Leads self.old new s (Range range.entry.lo.bytes.now (option_map (λ k. k.bytes.now) range.entry.hi) limit) false (response_to_read (λ rows. Pairs (row_pairs rows)) result)
-            × (device_of new ≡ device_of self.old))) }
+        ensures* after { sem 𝓛 (Rests (the_row D.row D.Sectors) self.entry (λ new. RangeLeads self.old new s range.entry limit result)) }
     {
         let versions = self.history.versions();
         match self.running.get_mut(&s) {

@@ -1,12 +1,11 @@
 //! What a commit writes to the log, and the memory that is made before.
-ghost use Rattle.std.specs.Prelude.{◌≡◌, ◌⊎◌, false, OnOk, IsErrOf};
-ghost use Rattle.model.specs.Map.{KeyMap, after_writes};
-ghost use Rattle.sector.specs.SectorModel.{LeavesOnly};
-ghost use Rattle.commit_log.specs.LogState.{is_stopped, used_sectors, sector_count, device_of};
+ghost use Rattle.std.specs.Prelude.{◌≡◌, false, OnOk, IsErrOf};
+ghost use Rattle.model.specs.Map.{after_writes};
+ghost use Rattle.commit_log.specs.LogState.{is_stopped, used_sectors, sector_count};
 ghost use Rattle.engine.specs.HistoryValue.{IsSameHistory, IsReady};
 ghost use Rattle.engine.specs.Changes.{HasLogRoom, IsLogged, IsLogStopped};
 ghost use Rattle.engine.specs.Judgements.{IsPayload};
-ghost use Rattle.engine.specs.Recovery.{HoldsMap, IsStored, IsInDoubt};
+ghost use Rattle.engine.specs.Recovery.{IsStored, WhereStored, SurvivesAppend, LeavesInDoubt};
 
 use crate::history::History;
 use commit_log::{AppendFault, Log};
@@ -28,11 +27,11 @@ pub(crate) fn carry_out<D: Sectors>(
     ensures same { IsSameHistory history.old history.new }
     ensures ready { OnOk result (IsReady history.new transaction.now) }
     ensures logged { OnOk result (IsLogged log.old log.new transaction.now.writes) }
-    ensures stored { D.keeps_model → (map : KeyMap) → IsStored log.old map → OnOk result (IsStored log.new (after_writes map transaction.now.writes)) }
+    ensures stored { D.keeps_model → WhereStored log.old (λ map. OnOk result (IsStored log.new (after_writes map transaction.now.writes))) }
     ensures unchanged { IsErrOf result AppendFault.Memory → log.new ≡ log.old }
     ensures stopped { IsErrOf result AppendFault.Device → IsLogStopped log.old log.new transaction.now.writes }
-    ensures left { IsErrOf result AppendFault.Device → D.keeps_model → (map : KeyMap) → IsStored log.old map → IsInDoubt map (D.may_leave (device_of log.new)) }
-    ensures crash { D.keeps_model → (map : KeyMap) → IsStored log.old map → LeavesOnly D.moment D.left_since (device_of log.old) (device_of log.new) (λ c. HoldsMap c map ⊎ HoldsMap c (after_writes map transaction.now.writes)) }
+    ensures left { IsErrOf result AppendFault.Device → D.keeps_model → LeavesInDoubt log.old log.new }
+    ensures crash { D.keeps_model → SurvivesAppend log.old log.new transaction.now.writes }
 {
     if history.prepare(transaction).is_err() {
         return Err(AppendFault::Memory);

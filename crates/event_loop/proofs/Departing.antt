@@ -7,7 +7,7 @@ use Rattle.std.proofs.Math.Logic.{∥∥₁_map}
 use Rattle.std.specs.List.{AllByRecursion}
 use Rattle.mio.specs.Events.{items}
 use Rattle.model.proofs.Elements.{all-append, all-each}
-use Rattle.sessions.specs.Laws.{IsSessionStream, IsSound, NoneRuns, Ran}
+use Rattle.sessions.specs.Laws.{IsLawful, IsSessionStream, IsSound, NoneRuns, Ran}
 use Rattle.sessions.specs.Life.{Holds, LosesNothing, MayFind}
 use Rattle.sessions.specs.Lives.{IsOpened, IsServed, Served}
 use Rattle.sessions.proofs.LivesLaws.{lose_nothing}
@@ -24,9 +24,9 @@ use Rattle.event_loop.specs.declared.lingering.TheConstants.{LINGERING_MAX}
 use Rattle.event_loop.specs.Departures.{EntriesTell, HoldsAtEnds, IsCommitted, IsKept, IsServing, IsTold, KeepsWhatLeft, LingerersTell, Serving, Tells, first_state, present_state, AreKept}
 use Rattle.event_loop.specs.Leavings.{EndAll, EndEach, LeavesAs, LeavesIf}
 use Rattle.event_loop.specs.Leavings.EndEach.{NoneEnded, OneMore as OneEnded}
-use Rattle.event_loop.specs.Lingerings.{AllTurned, AreTurned, DropsIf, Leaves, Lingerers, lingerers_of}
+use Rattle.event_loop.specs.Lingerings.{AllTurned, AreTurned, DropsIf, Leaves, Lingerers, lingers_in}
 use Rattle.event_loop.specs.Sockets.{IsNewSocket, SocketsTell, session_of, traffic_of}
-use Rattle.event_loop.specs.TableBytes.{HaveBytes, SocketsHaveBytes}
+use Rattle.event_loop.specs.TableBytes.{ConnectionsSpeak, HaveBytes}
 use Rattle.event_loop.specs.Tables.AdmitsEach.{Nobody, OneMore}
 use Rattle.event_loop.specs.declared.connections.TheConstants.{LINGERER}
 use Rattle.event_loop.specs.declared.server.EventLoop.{EventLoop}
@@ -38,7 +38,7 @@ use Rattle.event_loop.proofs.Entries.{no_entry, polled_sessions}
 use Rattle.event_loop.proofs.Polled.{each_rest, was_driven, was_polled}
 use Rattle.event_loop.proofs.TableBytes.{driven_was, drives_bytes, finished, polled_bytes}
 use Rattle.event_loop.proofs.Committed.{answered_committed}
-use Rattle.event_loop.proofs.WholeTurns.{all_found, each_bytes, new_begins}
+use Rattle.event_loop.proofs.WholeTurns.{all_found, each_bytes, new_begins, they_speak}
 
 abbrev Connection : Type 0
 Connection = Entry (BufferedStream Socket)
@@ -340,8 +340,8 @@ module _ {D : Type 0} {g : Ghosts D} (hub : Hub D g) (slots : Slots) (lingerers 
   pub is_served : IsServed hub
   is_served = ∥∥₁_map some (λ s. s.served)
 
-  pub have_their_bytes : SocketsHaveBytes hub slots
-  have_their_bytes = ∥∥₁_map some (λ s. (present_state s.served, stands_now s.served, s.bytes))
+  pub connections_speak : ((h : HubState) → StandsFor hub h → IsLawful h) → SocketsTell → ConnectionsSpeak hub slots
+  connections_speak laws t = ∥∥₁_map some (λ s. (let lawful = laws (present_state s.served) (stands_now s.served) in (present_state s.served, stands_now s.served, lawful, they_speak (present_state s.served) slots lawful s.bytes t)))
 
   module _ (crash : LosesNothing hub) (only_now : OnlyNow D g) (counts_now : CountsNow D g) where
     -- what was answered begins the texts of the machine's replies
@@ -405,7 +405,7 @@ module _ {D : Type 0} {g : Ghosts D} where
         let moment : ℕ = g.moment (device turn.driven.hub) in
         let driven : Served turn.driven.hub = served_on s.served turn.driven.hub leads.choices leads.ran in
         let ends : HoldsAtEnds (Tells driven) moment reads d.driven old.lingering.queue.items turn.linger.begun.all =
-        ends_tell old.hub turn.driven.hub old.table.slots turn.driven.table.slots (items new.poller.events) d old.sessions new.poller.time (lingerers_of old.lingering) turn.linger.begun turn.linger.left s reads t in
+        ends_tell old.hub turn.driven.hub old.table.slots turn.driven.table.slots (items new.poller.events) d old.sessions new.poller.time (lingers_in old.lingering) turn.linger.begun turn.linger.left s reads t in
         let joins = joins_ran turn.driven turn.accepted (no_event turn.driven.hub (last_sound old.hub turn.driven.hub leads.choices leads.ran)) (accepts_now old.backlog (items new.poller.events)) turn.accepts in
         let accepted : Served turn.accepted.hub = served_on driven turn.accepted.hub joins.0 joins.1 in
         let now : Served new.hub = served_on accepted new.hub [] turn.gives_back.hub.ran in (

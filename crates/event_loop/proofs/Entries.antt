@@ -1,39 +1,28 @@
 -- Each session that is present has an entry that isn't gone.
+use denote.Struct.Props.{props}
 use Rattle.std.proofs.Common.{◌≡◌, ◌≢◌, inl, inr, ℕ, zero, suc, ◌<◌, List, [], ◌∷◌, Option, Some, None, refl, sym, ap, subst, ◌∙◌}
 use Rattle.std.proofs.lemmas.Bool.{cases_eq}
-use Rattle.std.proofs.Math.Logic.{∥∥₁_elim, ∥∥₁_map}
 use Rattle.std.specs.Map.{lookup}
-use Rattle.sessions.specs.declared.events.Status.{Status}
 use Rattle.sessions.specs.declared.events.Status.TheVariants.{Absent}
 use Rattle.stream_driver.specs.declared.answers.Progress.{Progress}
 use Rattle.stream_driver.specs.declared.answers.Progress.TheVariants.{Gone}
 use Rattle.stream_driver.specs.declared.entries.EntryState.TheVariants.{Idle, Ready, Gone as EntryGone}
+use Rattle.sessions.specs.StandsFor.{status_or_absent}
+use Rattle.sessions.proofs.EventSteps.{status_seen}
 use Rattle.stream_driver.specs.Drives.{EndsAs}
 use Rattle.stream_driver.proofs.Events.{test}
 use Rattle.model.proofs.Lookups.{some_same}
 use Rattle.stream_driver.proofs.OneEntry.{ends_other}
-use Rattle.stream_driver.proofs.States.{at_point, point_of, present_at}
+use Rattle.stream_driver.proofs.States.{seen_after}
 use Rattle.event_loop.specs.Numbers.{AreBelow}
-use Rattle.event_loop.proofs.Words.{Event, Ghosts, Hub, HubState, IsReachedHub, Continued, Leaves, StandsFor, status_in}
-use Rattle.event_loop.proofs.Words.{BufferedStream, Entry, EntryState, DrivenAll, DrivenIn, DrivenSlot, DrivenOnce, HaveSessions, state_after, Point, Leads, InSomeState, IsPresent, IsPresentIn, Stands, status_at, Traffic, untouched, EndsTurn, HasNobody, HaveEntries, IsWithoutEntry, after_poll, slot_at, Slots}
+use Rattle.event_loop.proofs.Words.{Event, Ghosts, Hub, IsReachedHub, Continued, Leaves, status_in}
+use Rattle.event_loop.proofs.Words.{BufferedStream, Entry, EntryState, DrivenAll, DrivenIn, DrivenSlot, DrivenOnce, HaveSessions, state_after, Point, Leads, IsPresent, Stands, status_at, Traffic, untouched, EndsTurn, HasNobody, HaveEntries, IsWithoutEntry, after_poll, slot_at, Slots}
 use Rattle.event_loop.proofs.Polled.{gone_as, gone_before, then_polled, was_driven, was_polled}
 use Rattle.event_loop.proofs.Present.{reached-run, absent_then}
 
--- ---- the states that one hub stands for
-
-stable : (v : Status) → ((v ≡ Absent → ⊥) → ⊥) → v ≡ Absent
-stable Absent f = refl
-stable _ f = absurd (f (λ e. cc))
-
-module _ {D : Type 0} {g : Ghosts D} (hub : Hub D g) where
-  -- absent in some state, and so in each
-  pub absent_in_each : (s : ℕ) → InSomeState hub (λ h. status_at h s ≡ Absent) → (k : HubState) → StandsFor hub k → status_at k s ≡ Absent
-  absent_in_each s some k stands = stable (status_at k s) (λ other.
-      let here : IsPresent hub s = ∣ (k, stands, other) ∣₁ in
-      ∥∥₁_elim some (λ x y. absurd x) (λ w. present_at hub s w.0 w.1 (λ h. IsPresentIn h s) here (λ h is. is) w.2))
-
-  pub nobody_entries : {T : Type 0} (slots : Slots T) → HasNobody hub → HaveEntries hub slots
-  nobody_entries slots nobody = λ k stands s without. absent_in_each s (∥∥₁_map nobody (λ w. (w.0, w.1, ap (λ es. status_in (lookup (test s) es)) w.2.0))) k stands
+-- nobody is there, so each session is absent
+pub nobody_entries : {D : Type 0} {g : Ghosts D} {T : Type 0} (hub : Hub D g) (slots : Slots T) → HasNobody hub → HaveEntries hub slots
+nobody_entries hub slots nobody s without = ap (λ es. status_or_absent (lookup (test s) es)) nobody.0
 
 -- ---- drives
 
@@ -100,12 +89,9 @@ module _ {T : Type 0} where
 
   module _ {D : Type 0} {g : Ghosts D} (hub later : Hub D g) where
     pub driven_entries : (tells : Type 0) (traffic : T → Traffic) (slots new : Slots T) → Stands hub → Leads hub later (λ h k. DrivenAll tells traffic h slots k new) → HaveEntries hub slots → HaveEntries later new
-    driven_entries tells traffic slots new some leads has = λ k stands s without.
-        absent_in_each later s
-        (∥∥₁_map some (λ w. (
-        let p = leads.to (point_of hub w.0) (at_point hub w.0 w.1) in
-        (p.0.hub, p.1.state, driven_absent tells traffic s (point_of hub w.0) slots p.0 new p.2.1 w.1.reached without (λ none. has w.0 w.1 s none))
-        ))) k stands
+    driven_entries tells traffic slots new some leads has s without =
+        seen_after (hlevel props) some leads
+        (λ h k was stands d. status_seen later k.hub stands s ∙ driven_absent tells traffic s h slots k new d was.reached without (λ none. sym (status_seen hub h.hub was s) ∙ has s none))
 
   -- ---- the table alone changes
 
@@ -136,7 +122,7 @@ module _ {T : Type 0} (old new : Slots (BufferedStream T)) where
     polled_sessions hub has = remain_sessions hub old new polled_remain has
 
     pub polled_entries : {D : Type 0} {g : Ghosts D} (hub : Hub D g) → HaveEntries hub old → HaveEntries hub new
-    polled_entries hub has = λ h stands s without. has h stands s (λ key entry e same.
+    polled_entries hub has s without = has s (λ key entry e same.
         let a = then_polled (λ (x : T). untouched) old new events polled key entry e in
         gone_as a.0.state entry.state (sym a.2.gone) (without key a.0 a.1 (sym a.2.session ∙ same)))
 
@@ -149,5 +135,5 @@ module _ {T : Type 0} (old new : Slots (BufferedStream T)) where
         (b.0, b.1, sym b.2.session, λ alive gone. alive (b.2.state ∙ gone))
 
     pub ended_entries : {D : Type 0} {g : Ghosts D} (hub : Hub D g) → HaveEntries hub old → HaveEntries hub new
-    ended_entries hub has = λ h stands s without. has h stands s (λ key entry e same.
+    ended_entries hub has s without = has s (λ key entry e same.
         gone_before tells traffic moment entry (slot_at new key) (subst (λ slot. EndsTurn tells traffic moment slot (slot_at new key)) e (ended key)) (λ x f session. without key x f (session ∙ same)))

@@ -8,7 +8,7 @@ use Rattle.event_loop.specs.declared.connections.TheConstants.{LINGERER}
 use Rattle.event_loop.specs.declared.polling.Poller.{Poller}
 use Rattle.event_loop.specs.declared.server.EventLoop.{EventLoop}
 use Rattle.event_loop.specs.Leavings.{LingerOn}
-use Rattle.event_loop.specs.Lingerings.{Lingerers, lingerers_of, unless_failed}
+use Rattle.event_loop.specs.Lingerings.{Lingerers, lingers_in, unless_failed}
 use Rattle.event_loop.specs.Polls.{Looked, NothingRead, after_wait, polls_of}
 use Rattle.event_loop.specs.Turns.{Accepted, DrivesReady, IsGivenBack, IsTurn, Waits, accepted_joins, accepts_now, is_told_of, turn_waits}
 use Rattle.event_loop.specs.Waits.{nanos_of}
@@ -20,12 +20,12 @@ none_closed Empty events all e = refl
 none_closed _ events all e = absurd (let bad : true ≡ false = e in cc)
 
 module _ {D : Type 0} {g : Ghosts D} (tells : Type 0) (traffic : Socket → Traffic) (old driven accepted new : EventLoop D g) (next_is : driven.next ≡ old.next) (port_is : driven.port ≡ old.port) (backlog_is : driven.backlog ≡ old.backlog)
-    (refused_is : driven.refused ≡ old.refused) (lingerers_are : lingerers_of accepted.lingering ≡ unless_failed accepted.backlog (lingerers_of driven.lingering)) (given : IsGivenBack accepted new) where
+    (refused_is : driven.refused ≡ old.refused) (lingerers_are : lingers_in accepted.lingering ≡ unless_failed accepted.backlog (lingers_in driven.lingering)) (given : IsGivenBack accepted new) where
   abbrev Drives : Poller → Type 0
   Drives poller = DrivesReady tells traffic (items poller.events) old.hub old.table.slots driven.hub driven.table.slots
 
   abbrev Linger : (poller : Poller) → Drives poller → Option Instant → Bool → Type 0
-  Linger poller drives now told = LingerOn now (g.moment (device driven.hub)) told drives.driven (lingerers_of old.lingering) driven.table.slots (lingerers_of driven.lingering)
+  Linger poller drives now told = LingerOn now (g.moment (device driven.hub)) told drives.driven (lingers_in old.lingering) driven.table.slots (lingers_in driven.lingering)
 
   abbrev IsRun : (poller : Poller) → Drives poller → (b : Bool) → Accepted b driven accepted → Type 0
   IsRun poller drives b accepts =

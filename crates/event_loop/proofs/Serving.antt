@@ -1,5 +1,4 @@
 -- A hub that was opened.
-use Rattle.std.proofs.Common.{refl}
 use Rattle.model.specs.Machine.{opened}
 use Rattle.sector.specs.declared.device.Sectors.{Ghosts}
 use Rattle.sessions.specs.declared.hub.Hub.{Hub}
@@ -10,7 +9,7 @@ use Rattle.event_loop.specs.Tables.{HasNobody}
 
 module _ {D : Type 0} {g : Ghosts D} (hub : Hub D g) (start : IsOpened hub) where
   pub opened_nobody : HasNobody hub
-  opened_nobody = ∣ (hub_over (opened start.map start.begins.used (g.size start.dev)), start.begins.stands, (refl, refl)) ∣₁
+  opened_nobody = (start.begins.stands.sessions, start.begins.stands.latest)
 
   pub opened_stands : Stands hub
-  opened_stands = ∣ (hub_over (opened start.map start.begins.used (g.size start.dev)), start.begins.stands, tt) ∣₁
+  opened_stands = ∣ (hub_over (opened start.map start.begins.used (g.size start.dev)), start.begins.stands) ∣₁

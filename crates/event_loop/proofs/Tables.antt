@@ -1,35 +1,44 @@
 -- The table keeps a session of its own for each entry, under a number that is below the next, as a connection comes too; and what leads a hub on as they come.
+use denote.Struct.Props.{props}
 use Rattle.std.proofs.Common.{◌≡◌, ◌≢◌, ◌⊎◌, inl, inr, ℕ, ◌+◌, ◌<◌, get_or, sym, ap, subst, ◌∙◌, arith, Some, None, ◌≤◌, ◌-◌, ◌^◌, min, max, Bool, false, cond, [], ◌∷◌, ◌++◌, count_by, is_some, refl}
 use Rattle.std.proofs.lemmas.Bool.{cases_eq}
-use Rattle.std.proofs.Math.Logic.{∥∥₁_map}
+use Rattle.std.proofs.Math.Logic.{∥∥₁_elim}
 use Rattle.slab.specs.Slab.{Slab, Updates}
 use Rattle.sessions.specs.declared.events.Status.TheVariants.{Absent, Open}
 use Rattle.sessions.specs.declared.events.Outcome.TheVariants.{Done}
 use Rattle.sessions.specs.Laws.{NoneRuns, RunsAlone}
-use Rattle.sessions.proofs.Reached.{reached}
+use Rattle.sessions.proofs.EventSteps.{status_seen}
+use Rattle.sessions.proofs.Reached.{Reached, reached}
 use Rattle.stream_driver.specs.declared.entries.EntryState.TheVariants.{Ready, Gone}
 use Rattle.model.proofs.Lookups.{some_same}
-use Rattle.stream_driver.proofs.States.{some_after, Follow, leads_event, leads_none, leads_then}
+use Rattle.stream_driver.proofs.States.{Follow, leads_event, leads_none, leads_then}
 use Rattle.stream_driver.proofs.Events.{adds_none}
 use Rattle.stream_driver.proofs.Carry.{adds_then}
 use Rattle.event_loop.specs.Numbers.{AreBelow}
 use Rattle.event_loop.specs.Accepts.{Accepts, after_taken, more}
 use Rattle.event_loop.specs.Tables.AdmitsEach.{Nobody, OneMore}
-use Rattle.event_loop.proofs.Words.{Ghosts, Outcome, Hub, Joins, hub_step, HubLeads, status_in}
-use Rattle.event_loop.proofs.Words.{Entry, HaveSessions, KeepSessions, Point, Stands, IsPresent, Leads, status_at, Admits, LetsIn, HaveEntries, IsTried, IsWithoutEntry, slot_at, Slots, HubEvent, failures, Adds, one_more, ComeEach, Comes, join_of, joins_of, refusals_in, refusals_of}
+use Rattle.event_loop.proofs.Words.{Ghosts, Outcome, Hub, HubState, Joins, hub_step, HubLeads, StandsFor, status_in, status_of}
+use Rattle.event_loop.proofs.Words.{Entry, HaveSessions, KeepSessions, Stands, IsPresent, Leads, status_at, Admits, LetsIn, HaveEntries, IsTried, IsWithoutEntry, slot_at, Slots, HubEvent, failures, Adds, one_more, ComeEach, Comes, join_of, joins_of, refusals_in, refusals_of}
 use Rattle.event_loop.proofs.Present.{joins_other, joins_same, joins_not}
-use Rattle.event_loop.proofs.Entries.{absent_in_each}
-
-pub stands_after : {D : Type 0} {g : Ghosts D} (a b : Hub D g) (P : Point → Point → Type 0) → Stands a → Leads a b P → Stands b
-stands_after a b P some leads = some_after a b _ P _ some leads (λ h k is related. tt)
 
 -- a session was to join
-module _ {D : Type 0} {g : Ghosts D} (hub later : Hub D g) (s : ℕ) (outcome : Outcome) (leads : HubLeads hub later (Joins s) outcome) where
-  pub joined_stands : Stands hub → Stands later
-  joined_stands some = ∥∥₁_map some (λ w. (let there = leads.3 w.0 w.1 in (there.0, there.1, tt)))
+module _ {D : Type 0} {g : Ghosts D} (hub later : Hub D g) (s : ℕ) (outcome : Outcome) (leads : HubLeads hub later (Joins s) outcome) (some : Stands hub) where
+  seen_joined : {X : Type 0} → IsProp X → ((h : HubState) → StandsFor hub h → Reached later h (Joins s) leads.0 outcome → X) → X
+  seen_joined prop f = ∥∥₁_elim some prop (λ w. f w.0 w.1 (reached hub later (Joins s) outcome leads w.0 w.1))
 
-  pub still : (t : ℕ) → t ≢ s → IsPresent hub t → IsPresent later t
-  still t apart has = ∥∥₁_map has (λ w. (let there = reached hub later (Joins s) outcome leads w.0 w.1 in ((hub_step w.0 (Joins s) leads.0).0, there.stands, λ gone. w.2 (sym (ap status_in (joins_other w.0 s leads.0 t apart)) ∙ gone))))
+  pub joined_stands : Stands later
+  joined_stands = seen_joined (hlevel) (λ h stands there. ∣ ((hub_step h (Joins s) leads.0).0, there.stands) ∣₁)
+
+  -- each other session stands as it stood, and where this one was refused, each does
+  same_status : (t : ℕ) → (t ≢ s) ⊎ (outcome ≢ Done) → status_of later t ≡ status_of hub t
+  same_status t how = seen_joined (hlevel props) (λ h stands there. status_seen later _ there.stands t ∙ by h there how ∙ sym (status_seen hub h stands t))
+    where
+      by : (h : HubState) → Reached later h (Joins s) leads.0 outcome → (t ≢ s) ⊎ (outcome ≢ Done) → status_at (hub_step h (Joins s) leads.0).0 t ≡ status_at h t
+      by h there (inl apart) = ap status_in (joins_other h s leads.0 t apart)
+      by h there (inr refused) = ap (λ x. status_at x t) (joins_not h s leads.0 (λ done. refused (there.outcome_is ∙ done)))
+
+  still : (t : ℕ) → (t ≢ s) ⊎ (outcome ≢ Done) → IsPresent hub t → IsPresent later t
+  still t how has = (joined_stands, subst (λ v. v ≢ Absent) (sym (same_status t how)) has.1)
 
 module _ {T : Type 0} where
   pub below_after : (next : ℕ) (old new : Slots T) → AreBelow next old → KeepSessions old new → AreBelow next new
@@ -38,10 +47,11 @@ module _ {T : Type 0} where
   -- a new entry, whose session has just joined
   module _ {D : Type 0} {g : Ghosts D} (hub later : Hub D g) (old new : Slab (Entry T)) (key : ℕ) (entry : Entry T) (up : Updates old new key (Some entry)) (leads : HubLeads hub later (Joins entry.session) Done) where
     there_now : Stands hub → IsPresent later entry.session
-    there_now some = ∥∥₁_map some (λ w. (
-        let there = reached hub later (Joins entry.session) Done leads w.0 w.1 in
-        ((hub_step w.0 (Joins entry.session) leads.0).0, there.stands, λ gone. (let bad : Open ≡ Absent = sym (ap status_in (joins_same w.0 entry.session leads.0 there.outcome_is)) ∙ gone in cc))
-        ))
+    there_now some = (
+      joined_stands hub later entry.session Done leads some,
+      seen_joined hub later entry.session Done leads some (hlevel) (λ h stands there gone.
+          let bad : Open ≡ Absent = sym (status_seen later _ there.stands entry.session ∙ ap status_in (joins_same h entry.session leads.0 there.outcome_is)) ∙ gone in cc),
+    )
 
     back : (other : ℕ) (another : Entry T) → get_or new.slots other None ≡ Some another → ((other ≡ key) × (another ≡ entry)) ⊎ ((other ≢ key) × (get_or old.slots other None ≡ Some another))
     back other another e = elim (cases_eq other key) [
@@ -55,7 +65,7 @@ module _ {T : Type 0} where
         record {
           present = λ other another e alive. elim (back other another e) [
             | inl (at, which) ↦ subst (λ (x : Entry T). IsPresent later x.session) (sym which) (there_now some)
-            | inr (differs, was) ↦ still hub later entry.session Done leads another.session (apart other another was) (has.present other another was alive)
+            | inr (differs, was) ↦ still hub later entry.session Done leads some another.session (inl (apart other another was)) (has.present other another was alive)
           ];
           own = λ one two first second e f alive too same. elim (back one first e) [
             | inl (at, which) ↦ elim (back two second f) [ inl (too_at, _) ↦ at ∙ sym too_at | inr (_, was) ↦ absurd (apart two second was (sym same ∙ ap (λ (x : Entry T). x.session) which)) ]
@@ -86,19 +96,9 @@ module _ {T D : Type 0} {g : Ghosts D} where
       | inl same ↦ subst (λ (x : Hub D g). TableStands x next slots) (sym same) h
       | inr j ↦ record {
         stands = joined_stands hub later next j.0 j.2 h.stands;
-        sessions = record {
-          present = λ key entry e alive. still hub later next j.0 j.2 entry.session (λ same. (let lt : entry.session < next = h.numbers key entry e in omega arith)) (h.sessions.present key entry e alive);
-          own = h.sessions.own;
-        };
+        sessions = record { present = λ key entry e alive. still hub later next j.0 j.2 h.stands entry.session (inr j.1) (h.sessions.present key entry e alive); own = h.sessions.own };
         numbers = h.numbers;
-        entries = λ k stands s without.
-            absent_in_each later s
-            (∥∥₁_map h.stands (λ w. (
-              (hub_step w.0 (Joins next) j.2.0).0,
-              (reached hub later (Joins next) j.0 j.2 w.0 w.1).stands,
-              ap (λ x. status_at x s) (joins_not w.0 next j.2.0 (λ done. j.1 ((reached hub later (Joins next) j.0 j.2 w.0 w.1).outcome_is ∙ done)))
-                  ∙ h.entries w.0 w.1 s without,
-            ))) k stands;
+        entries = λ s without. same_status hub later next j.0 j.2 h.stands s (inr j.1) ∙ h.entries s without;
       }
     ]
 
@@ -114,15 +114,10 @@ module _ {T D : Type 0} {g : Ghosts D} where
             stands = joined_stands hub later next Done l.joined h.stands;
             sessions = joined_sessions hub later (slab slots) (slab new) l.key l.entry up leads h.stands numbers h.sessions;
             numbers = subst (λ s. AreBelow s new) (ap (λ s. s + 1) l.session ∙ sym l.next_is) (joined_numbers hub later (slab slots) (slab new) l.key l.entry up leads numbers);
-            entries = λ k stands s without.
+            entries = λ s without.
                 let apart : s ≢ next = λ same. (let bad : Ready ≡ Gone = sym l.state ∙ without l.key l.entry l.changed (l.session ∙ sym same) in cc) in
                 let before : IsWithoutEntry s slots = λ key entry e same. without key entry (l.others key (λ at. (let bad : None ≡ Some entry = sym l.vacant ∙ ap (slot_at slots) (sym at) ∙ e in cc)) ∙ e) same in
-                absent_in_each later s
-                (∥∥₁_map h.stands (λ w. (
-                  (hub_step w.0 (Joins next) l.joined.0).0,
-                  (reached hub later (Joins next) Done l.joined w.0 w.1).stands,
-                  ap status_in (joins_other w.0 next l.joined.0 s apart) ∙ h.entries w.0 w.1 s before,
-                ))) k stands;
+                same_status hub later next Done l.joined h.stands s (inl apart) ∙ h.entries s before;
           }
 
       pub admits_table : Admits IsNew hub next slots later then new → TableStands hub next slots → TableStands later then new

@@ -4,13 +4,13 @@ use Rattle.std.proofs.lemmas.Bool.{cases_eq}
 use Rattle.std.proofs.lemmas.List.{append-nil}
 use Rattle.std.proofs.lemmas.List.Elements.{All-from_recursion}
 use Rattle.std.proofs.lemmas.Map.Entries.{All-lookup}
-use Rattle.std.proofs.Math.Logic.{∥∥₁_map}
 use Rattle.std.specs.List.{AllByRecursion}
 use Rattle.std.specs.Map.{lookup}
 use Rattle.slab.specs.Slab.{Slab}
 use Rattle.sessions.specs.declared.events.Outcome.TheVariants.{Done}
 use Rattle.sessions.specs.Laws.{IsLawful, IsSessionStream, Ran}
 use Rattle.sessions.proofs.Reached.{reached}
+use Rattle.stream_driver.specs.declared.entries.EntryState.TheVariants.{Gone}
 use Rattle.stream_driver.proofs.Carry.{run_then}
 use Rattle.stream_driver.proofs.Events.{test}
 use Rattle.model.proofs.Lookups.{some_same}
@@ -18,11 +18,11 @@ use Rattle.stream_driver.proofs.States.{Follow, leads_map, leads_two_at, leads_t
 use Rattle.stream_driver.proofs.Events.{adds_none}
 use Rattle.event_loop.specs.Numbers.{AreBelow}
 use Rattle.event_loop.specs.Sockets.{IsNewSocket, SocketsTell, traffic_of}
-use Rattle.event_loop.specs.TableBytes.{ConnectionsSpeak, HaveBytes, KeepBytes, SocketsHaveBytes}
+use Rattle.event_loop.specs.TableBytes.{HaveBytes, KeepBytes, SpeaksFor}
 use Rattle.event_loop.specs.Tables.AdmitsEach.{Nobody, OneMore}
 use Rattle.event_loop.specs.declared.server.EventLoop.{EventLoop}
 use Rattle.event_loop.specs.Turns.{Accepted, IsGivenBack, accepted_joins}
-use Rattle.event_loop.proofs.Words.{Ghosts, Outcome, Hub, HubState, SessionStream, Joins, hub_step, new_stream, run, stream_of, StandsFor, HubLeads, BufferedStream, Entry, traffic_through, Leads, Adds, InSomeState, Point, Traffic, Socket, Admits, AdmitsEach, LetsIn, join_of, join_tried, joins_of, slot_at, Slots}
+use Rattle.event_loop.proofs.Words.{Ghosts, Outcome, Hub, HubState, SessionStream, Joins, hub_step, new_stream, run, stream_of, StandsFor, HubLeads, BufferedStream, Entry, traffic_through, Leads, Adds, Point, Traffic, Socket, Admits, AdmitsEach, LetsIn, join_of, join_tried, joins_of, slot_at, Slots}
 use Rattle.event_loop.proofs.Tables.{TableStands, admits_table}
 use Rattle.event_loop.proofs.Present.{joins_not, joins_other, joins_same}
 
@@ -83,25 +83,23 @@ new_begins s b n t = (
 pub all_found : (s : ℕ) (es : List (ℕ × SessionStream)) (st : SessionStream) → AllByRecursion (λ e. IsSessionStream e.1) es → lookup (test s) es ≡ Some st → IsSessionStream st
 all_found s es st all e = subst (λ o. IfSome o IsSessionStream) e (All-lookup IsSessionStream (test s) es (All-from_recursion (λ x. IsSessionStream x.1) es all))
 
-pub they_speak : {D : Type 0} {g : Ghosts D} (hub : Hub D g) (slots : Slots (BufferedStream Socket)) → ((h : HubState) → StandsFor hub h → IsLawful h) → SocketsHaveBytes hub slots → SocketsTell → ConnectionsSpeak hub slots
-they_speak hub slots laws some tells = ∥∥₁_map some (λ w.
-    let lawful = laws w.0 w.1 in (
-      w.0,
-      w.1,
-      (
-        lawful,
-        λ key entry e alive.
-            let has = w.2 key entry e alive in
-            let is : IsSessionStream has.0 = all_found entry.session w.0.present has.0 lawful.present has.1 in
-            let carried = has.2 tells in
-            (has.0, has.1, record { rest = is.rest; inbox = is.inbox; came = carried.0 ∙ is.input; went = is.output ∙ ap (λ l. l ++ has.0.now.pending) (sym carried.1) }),
-      ),
-    ))
+pub they_speak : (h : HubState) (slots : Slots (BufferedStream Socket)) → IsLawful h → HaveBytes SocketsTell (traffic_through traffic_of) h slots → SocketsTell
+    → (key : ℕ) (entry : Entry (BufferedStream Socket)) → slot_at slots key ≡ Some entry → entry.state ≢ Gone → (st : SessionStream) × (stream_of h entry.session ≡ Some st) × SpeaksFor entry.stream st
+they_speak h slots lawful bytes tells key entry e alive =
+    let has = bytes key entry e alive in
+    let is : IsSessionStream has.0 = all_found entry.session h.present has.0 lawful.present has.1 in
+    let carried = has.2 tells in
+    (has.0, has.1, record { rest = is.rest; inbox = is.inbox; came = carried.0 ∙ is.input; went = is.output ∙ ap (λ l. l ++ has.0.now.pending) (sym carried.1) })
 
 -- ---- the end of a turn
 
-pub in_some : {D : Type 0} {g : Ghosts D} (hub later : Hub D g) → Ran hub later [] → (P : HubState → Type 0) → InSomeState hub P → InSomeState later P
-in_some hub later ran P some = ∥∥₁_map some (λ w. (w.0, ran.2.stands w.0 w.1, w.2))
+-- a hub that rests
+pub leads_rest : {D : Type 0} {g : Ghosts D} {hub later : Hub D g} → Ran hub later [] → Leads hub later (λ h k. k ≡ h)
+leads_rest {D} {g} ran = record {
+  choices = [];
+  ran = ran;
+  to = λ h at. (h, record { state = ran.2.stands h.hub at.state; count = at.count ∙ sym (ap (λ (d : D). g.failures d) ran.2.device_is) }, (adds_none h, refl));
+}
 
 module _ {D : Type 0} {g : Ghosts D} (follow : Follow D g) (old : Hub D g) (driven accepted : EventLoop D g) where
   -- what led to the hub before it accepted, if it did, and then its joins
@@ -124,13 +122,7 @@ module _ {D : Type 0} {g : Ghosts D} (follow : Follow D g) (old : Hub D g) (driv
 module _ {D : Type 0} {g : Ghosts D} (follow : Follow D g) (old : Hub D g) (accepted new : EventLoop D g) (given : IsGivenBack accepted new) where
   pub rest_leads : (P : Point → Point → Type 0) → Leads old accepted.hub P → Leads old new.hub P
   rest_leads P leads =
-      let ran = given.hub.ran in
-      let rests : Leads accepted.hub new.hub (λ h k. k ≡ h) = record {
-        choices = [];
-        ran = ran;
-        to = λ h at. (h, record { state = ran.2.stands h.hub at.state; count = at.count ∙ sym (ap (λ (d : D). g.failures d) ran.2.device_is) }, (adds_none h, refl));
-      } in
-      leads_then follow old accepted.hub new.hub P _ P leads rests (λ h k l stands p same. subst (λ (x : Point). P h x) (sym same) p)
+      leads_then follow old accepted.hub new.hub P _ P leads (leads_rest given.hub.ran) (λ h k l stands p same. subst (λ (x : Point). P h x) (sym same) p)
 
   pub rest_keeps : (slots : Slots (BufferedStream Socket)) → KeepBytes old slots accepted.hub accepted.table.slots → KeepBytes old slots new.hub new.table.slots
   rest_keeps slots keeps = subst (λ (t : Slab (Entry (BufferedStream Socket))). KeepBytes old slots new.hub t.slots) (sym given.table) (rest_leads _ keeps)

@@ -4,7 +4,7 @@ use Rattle.stream_driver.specs.Traffic.{one_more}
 use Rattle.event_loop.specs.declared.listener.AcceptAnswer.{AcceptAnswer}
 use Rattle.event_loop.specs.declared.listener.AcceptAnswer.TheVariants.{Taken, Blocked, Failed}
 use Rattle.event_loop.specs.declared.connections.Backlog.{Backlog}
-use Rattle.event_loop.specs.declared.connections.Backlog.TheVariants.{Empty, Full, Failed as BacklogFailed}
+use Rattle.event_loop.specs.declared.connections.Backlog.TheVariants.{Empty, More, Failed as BacklogFailed}
 
 -- how often each answer was given
 pub record Accepts : Type 0 where
@@ -28,7 +28,7 @@ after_taken n a = record a { taken = more n a.taken }
 
 -- why a turn's accepts ended after so many connections: as many were taken as a turn takes, or none waits, or a call failed
 abbrev pub WhyStopped : ℕ → Accepts → Accepts → Backlog → Type 0
-WhyStopped n old new Full = (n ≡ 128) × (new ≡ after_taken n old)
+WhyStopped n old new More = (n ≡ 128) × (new ≡ after_taken n old)
 WhyStopped n old new Empty = (n < 128) × (new ≡ after_accept Blocked (after_taken n old))
 WhyStopped n old new BacklogFailed = (n < 128) × (new ≡ after_accept Failed (after_taken n old))
 

@@ -4,7 +4,7 @@ use Rattle.std.specs.Time.{FitsClock, instant_nanos}
 use Rattle.std.specs.declared.time.Instant.{Instant}
 use Rattle.stream_driver.specs.Traffic.{DepartAt, Traffic, one_more}
 use Rattle.event_loop.specs.declared.connections.Backlog.{Backlog}
-use Rattle.event_loop.specs.declared.connections.Backlog.TheVariants.{Empty, Full, Failed}
+use Rattle.event_loop.specs.declared.connections.Backlog.TheVariants.{Empty, More, Failed}
 use Rattle.event_loop.specs.declared.lingering.Dropped.{Dropped}
 use Rattle.event_loop.specs.declared.lingering.Dropped.TheVariants.{Blocked, All, Over}
 use Rattle.event_loop.specs.declared.lingering.Lingerer.{Lingerer}
@@ -20,8 +20,8 @@ pub record Lingerers : Type 0 where
   pub has_more : Bool
   pub refused : ℕ
 
-abbrev pub lingerers_of : Lingering → Lingerers
-lingerers_of l = record { all = l.queue.items; has_more = l.has_more; refused = l.refused }
+abbrev pub lingers_in : Lingering → Lingerers
+lingers_in l = record { all = l.queue.items; has_more = l.has_more; refused = l.refused }
 
 -- ---- how one begins
 
@@ -127,7 +127,7 @@ closed old = record old { all = []; has_more = false }
 -- all are closed where an accept failed, perhaps because there are no more descriptors
 abbrev pub unless_failed : Backlog → Lingerers → Lingerers
 unless_failed Empty old = old
-unless_failed Full old = old
+unless_failed More old = old
 unless_failed Failed old = closed old
 
 -- how long a poll may wait for those that linger, the oldest first, in nanoseconds: until its time is over

@@ -6,11 +6,12 @@ use Rattle.sessions.specs.declared.events.Status.TheVariants.{Open}
 use Rattle.sessions.specs.declared.hub.Hub.{Hub}
 use Rattle.sessions.specs.Laws.{IsLawful}
 use Rattle.sessions.specs.SessionStreams.{HubState, SessionStream, replies_text, requests_text, stream_of}
+use Rattle.sessions.specs.StandsFor.{StandsFor}
 use Rattle.stream_driver.specs.declared.buffered.BufferedStream.{BufferedStream}
 use Rattle.stream_driver.specs.declared.entries.Entry.{Entry}
 use Rattle.stream_driver.specs.declared.entries.EntryState.TheVariants.{Gone}
 use Rattle.stream_driver.specs.Buffers.{traffic_through}
-use Rattle.stream_driver.specs.Sessions.{InSomeState, Leads}
+use Rattle.stream_driver.specs.Sessions.{Leads}
 use Rattle.stream_driver.specs.Traffic.{Traffic}
 use Rattle.event_loop.specs.declared.socket.Socket.{Socket}
 use Rattle.event_loop.specs.Sockets.{SocketsTell, traffic_of}
@@ -29,10 +30,6 @@ module _ {T : Type 0} (tells : Type 0) (traffic : T → Traffic) where
   abbrev pub HaveBytes : HubState → List (Option (Entry T)) → Type 0
   HaveBytes h slots = (key : ℕ) (entry : Entry T) → slot_at slots key ≡ Some entry → entry.state ≢ Gone → HasItsBytes h entry
 
--- the hub stands for a state in which each connection has the bytes of its session, through what its stream holds
-abbrev pub SocketsHaveBytes : {D : Type 0} {g : Ghosts D} → Hub D g → List (Option (Entry (BufferedStream Socket))) → Type 0
-SocketsHaveBytes hub slots = InSomeState hub (λ h. HaveBytes SocketsTell (traffic_through traffic_of) h slots)
-
 -- what led from one hub to the other kept the connections' bytes those of their sessions, in each state that the first stood for
 abbrev pub KeepBytes : {D : Type 0} {g : Ghosts D} → Hub D g → List (Option (Entry (BufferedStream Socket))) → Hub D g → List (Option (Entry (BufferedStream Socket))) → Type 0
 KeepBytes hub slots later new =
@@ -49,5 +46,5 @@ pub record SpeaksFor (stream : BufferedStream Socket) (st : SessionStream) : Typ
 -- The hub stands for a lawful state, of whose sessions the connections speak.
 abbrev pub ConnectionsSpeak : {D : Type 0} {g : Ghosts D} → Hub D g → List (Option (Entry (BufferedStream Socket))) → Type 0
 ConnectionsSpeak hub slots =
-    InSomeState hub (λ h. IsLawful h × ((key : ℕ) (entry : Entry (BufferedStream Socket)) → slot_at slots key ≡ Some entry → entry.state ≢ Gone
-    → (st : SessionStream) × (stream_of h entry.session ≡ Some st) × SpeaksFor entry.stream st))
+    ∥ ((h : HubState) × StandsFor hub h × IsLawful h × ((key : ℕ) (entry : Entry (BufferedStream Socket)) → slot_at slots key ≡ Some entry → entry.state ≢ Gone
+    → (st : SessionStream) × (stream_of h entry.session ≡ Some st) × SpeaksFor entry.stream st)) ∥₁

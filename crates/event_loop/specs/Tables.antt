@@ -10,20 +10,22 @@ use Rattle.sessions.specs.declared.events.Outcome.{Outcome}
 use Rattle.sessions.specs.declared.events.Outcome.TheVariants.{Done}
 use Rattle.sessions.specs.declared.events.Status.TheVariants.{Absent}
 use Rattle.sessions.specs.declared.hub.Hub.{Hub}
-use Rattle.sessions.specs.SessionStreams.{HubState, HubEvent, Joins, Choice}
-use Rattle.sessions.specs.StandsFor.{StandsFor, HubLeads}
+use Rattle.sessions.specs.SessionStreams.{HubEvent, Joins, Choice}
+use Rattle.sessions.specs.StandsFor.{HubLeads, status_of}
+use Rattle.event_loop.specs.declared.connections.Backlog.{Backlog}
+use Rattle.event_loop.specs.Accepts.{Accepts, TurnAccepts}
 use Rattle.stream_driver.specs.declared.entries.EntryState.{EntryState}
 use Rattle.stream_driver.specs.declared.entries.EntryState.TheVariants.{Idle, Ready, Gone}
 use Rattle.stream_driver.specs.declared.entries.Entry.{Entry}
 use Rattle.stream_driver.specs.declared.buffered.BufferedStream.{BufferedStream}
 use Rattle.stream_driver.specs.Entries.{EndsDrive, is_over}
 use Rattle.stream_driver.specs.Traffic.{Traffic}
-use Rattle.stream_driver.specs.Sessions.{Adds, InSomeState, Leads, status_at}
+use Rattle.stream_driver.specs.Sessions.{Adds, Leads}
 use Rattle.event_loop.specs.Accepts.{more}
 
 -- no session is present, and none has joined
 abbrev pub HasNobody : {D : Type 0} {g : Ghosts D} → Hub D g → Type 0
-HasNobody hub = InSomeState hub (λ h. (h.present ≡ []) × (h.latest ≡ None))
+HasNobody hub = (hub.sessions ≡ []) × (hub.latest ≡ None)
 
 -- is it to be driven?
 abbrev pub is_ready : EntryState → Bool
@@ -63,7 +65,7 @@ module _ {T : Type 0} where
   module _ {D : Type 0} {g : Ghosts D} where
     -- a session for which there is no entry, or one that is gone, is absent: each session that is present has an entry
     abbrev pub HaveEntries : Hub D g → List (Option (Entry T)) → Type 0
-    HaveEntries hub slots = (h : HubState) → StandsFor hub h → (s : ℕ) → IsWithoutEntry s slots → status_at h s ≡ Absent
+    HaveEntries hub slots = (s : ℕ) → IsWithoutEntry s slots → status_of hub s ≡ Absent
 
     -- A connection that was turned away: the table is as it was, and no session has joined. Memory, registration or an option of its socket
     -- was refused; or there are 128 entries, or no number is left, or the hub refused its session.
@@ -132,6 +134,11 @@ module _ {T D : Type 0} {g : Ghosts D} where
   ComeEach IsNew hub next slots refused count later then new counted =
       (each : AdmitsEach IsNew hub next slots count later then new) × Leads hub later (λ h k. Adds h (joins_of each) k) × (counted ≡ more (refusals_of each) refused)
 
+  -- so it is of the connections that one turn accepts
+  abbrev pub AcceptsInto : (ℕ → T → Type 0) → Hub D g → ℕ → List (Option (Entry T)) → ℕ → Accepts → Backlog → Hub D g → ℕ → List (Option (Entry T)) → ℕ → Accepts → Type 0
+  AcceptsInto IsNew hub next slots refused old backlog later then new counted accepts =
+      TurnAccepts (λ n. ComeEach IsNew hub next slots refused n later then new counted) old backlog accepts
+
 module _ {T : Type 0} where
   -- an entry that the poll told of: one that waited is to be driven, and is it to be read until its stream blocks?
   abbrev pub told : Bool → Entry (BufferedStream T) → Entry (BufferedStream T)
@@ -160,3 +167,6 @@ module _ {T : Type 0} where
   abbrev pub EndsTurn : Type 0 → (T → Traffic) → ℕ → Option (Entry (BufferedStream T)) → Option (Entry (BufferedStream T)) → Type 0
   EndsTurn tells traffic moment None new = new ≡ None
   EndsTurn tells traffic moment (Some old) new = (entry : Entry (BufferedStream T)) × EndsDrive tells traffic moment old entry × (new ≡ unless_over entry)
+
+  abbrev pub EachEnds : Type 0 → (T → Traffic) → ℕ → List (Option (Entry (BufferedStream T))) → List (Option (Entry (BufferedStream T))) → Type 0
+  EachEnds tells traffic moment slots later = (key : ℕ) → EndsTurn tells traffic moment (slot_at slots key) (slot_at later key)

@@ -24,18 +24,18 @@ use Rattle.event_loop.specs.declared.socket.Socket.{Socket}
 use Rattle.event_loop.specs.declared.listener.Port.{Port}
 use Rattle.event_loop.specs.declared.connections.Backlog.{Backlog}
 use Rattle.event_loop.specs.declared.connections.TheConstants.{LINGERER}
-use Rattle.event_loop.specs.declared.connections.Backlog.TheVariants.{Empty, Full, Failed}
+use Rattle.event_loop.specs.declared.connections.Backlog.TheVariants.{Empty, More, Failed}
 use Rattle.event_loop.specs.declared.polling.Poller.{Poller}
-use Rattle.event_loop.specs.Accepts.{Accepts, TurnAccepts}
-use Rattle.event_loop.specs.Leavings.{LingerOn}
+use Rattle.event_loop.specs.Accepts.{Accepts}
+use Rattle.event_loop.specs.Leavings.{EndAll, LingerOn}
 use Rattle.sessions.specs.StandsFor.{device}
 use Rattle.stream_driver.specs.Sends.{DrivesTelling}
-use Rattle.event_loop.specs.Lingerings.{lingerers_of, oldest_waits, unless_failed}
+use Rattle.event_loop.specs.Lingerings.{lingers_in, oldest_waits, unless_failed}
 use Rattle.event_loop.specs.Polls.{Looked, NothingRead, ReadAgain, after_wait, polls_of}
 use Rattle.event_loop.specs.Waits.{nanos_of, own_limit, shorter}
 use Rattle.event_loop.specs.Departures.{AreKept, HoldsAtEnds}
 use Rattle.event_loop.specs.Sockets.{IsNewSocket, SocketsTell, traffic_of}
-use Rattle.event_loop.specs.Tables.{ComeEach, EndsTurn, after_poll, is_any_ready, joins_of, slot_at}
+use Rattle.event_loop.specs.Tables.{AcceptsInto, EndsTurn, after_poll, is_any_ready, joins_of, slot_at}
 
 -- The drives of a turn in which the poll told of these events. The entries that waited and that it told of became ready. Each that is
 -- ready was driven once, by rising key, and no other event came to the hub. What their streams hold was written, and those that are
@@ -76,13 +76,19 @@ pub record IsGivenBack {D : Type 0} {g : Ghosts D} (old new : EventLoop D g) : T
 -- where a turn accepts, each connection that it took was let in or turned away, and no other event came to the hub
 abbrev pub Accepted : {D : Type 0} {g : Ghosts D} → Bool → EventLoop D g → EventLoop D g → Type 0
 Accepted true old new =
-    TurnAccepts (λ n. ComeEach IsNewSocket old.hub old.next old.table.slots old.refused n new.hub new.next new.table.slots new.refused) (answers_of old.port) new.backlog (answers_of new.port)
+    AcceptsInto IsNewSocket old.hub old.next old.table.slots old.refused (answers_of old.port) new.backlog new.hub new.next new.table.slots new.refused (answers_of new.port)
 Accepted false old new = IsUntouched old new
 
 -- what happened to the hub as it accepted
 abbrev pub accepted_joins : {D : Type 0} {g : Ghosts D} (accepts : Bool) (old new : EventLoop D g) → Accepted accepts old new → List (HubEvent × Choice)
 accepted_joins true old new accepted = joins_of accepted.became.0
 accepted_joins false old new untouched = []
+
+-- the sessions that are ready were driven, by the events of the last poll, and the drives ended
+abbrev pub DrivesAndEnds : {D : Type 0} {g : Ghosts D} → Type 0 → (Socket → Traffic) → Option Instant → EventLoop D g → EventLoop D g → Type 0
+DrivesAndEnds {D} {g} tells traffic now old new =
+    (drives : DrivesReady tells traffic (items old.poller.events) old.hub old.table.slots new.hub new.table.slots)
+    × EndAll now (g.moment (device new.hub)) drives.driven (lingers_in old.lingering) new.table.slots (lingers_in new.lingering)
 
 -- the poll told of this token
 abbrev pub is_told_of : Token → List Event → Bool
@@ -91,7 +97,7 @@ is_told_of token events = list_any (λ e. (event_token e).0 == token.0) events
 -- A turn accepts where the listener may hold more, or the poll told of it.
 abbrev pub accepts_now : Backlog → List Event → Bool
 accepts_now Empty events = is_told_of LISTENER events
-accepts_now Full events = true
+accepts_now More events = true
 accepts_now Failed events = true
 
 -- One turn: the drives, by the events that the poll told of, then the accepts, and then a step of what no open transaction needs is given
@@ -105,10 +111,10 @@ pub record IsTurn {D : Type 0} {g : Ghosts D} (tells : Type 0) (traffic : Socket
   pub port_is : driven.port ≡ old.port
   pub backlog_is : driven.backlog ≡ old.backlog
   pub refused_is : driven.refused ≡ old.refused
-  pub linger : LingerOn new.poller.time (g.moment (device driven.hub)) (is_told_of LINGERER (items new.poller.events)) drives.driven (lingerers_of old.lingering) driven.table.slots (lingerers_of driven.lingering)
+  pub linger : LingerOn new.poller.time (g.moment (device driven.hub)) (is_told_of LINGERER (items new.poller.events)) drives.driven (lingers_in old.lingering) driven.table.slots (lingers_in driven.lingering)
   pub accepted : EventLoop D g
   pub accepts : Accepted (accepts_now old.backlog (items new.poller.events)) driven accepted
-  pub lingerers_are : lingerers_of accepted.lingering ≡ unless_failed accepted.backlog (lingerers_of driven.lingering)
+  pub lingerers_are : lingers_in accepted.lingering ≡ unless_failed accepted.backlog (lingers_in driven.lingering)
   pub gives_back : IsGivenBack accepted new
   pub run : Leads old.hub new.hub (λ h l. (k : Point) × DrivenAll tells (traffic_through traffic) h drives.ready k drives.driven
       × Adds k (accepted_joins (accepts_now old.backlog (items new.poller.events)) driven accepted accepts) l)
@@ -119,6 +125,10 @@ abbrev pub KeepsWhatLeaves : {D : Type 0} {g : Ghosts D} (old new : EventLoop D 
 KeepsWhatLeaves {D} {g} old new turn =
     ∥ ((served : Served new.hub)
     × HoldsAtEnds (AreKept served) (g.moment (device turn.driven.hub)) (is_told_of LINGERER (items new.poller.events) || turn.linger.begun.has_more) turn.drives.driven old.lingering.queue.items turn.linger.begun.all) ∥₁
+
+-- so it is of whatever turn this was
+abbrev pub LeavingsAreKept : {D : Type 0} {g : Ghosts D} → EventLoop D g → EventLoop D g → Type 0
+LeavingsAreKept old new = (turn : IsTurn SocketsTell traffic_of old new) → SocketsTell → KeepsWhatLeaves old new turn
 
 -- what a turn does to its hub is a run of the hub
 abbrev pub TurnsAreRuns : {D : Type 0} {g : Ghosts D} → Type 0 → (Socket → Traffic) → EventLoop D g → Type 0

@@ -5,12 +5,11 @@ ghost use Rattle.mio.specs.Events.{items};
 ghost use Rattle.slab.specs.Slab.{HasRoomFor};
 ghost use Rattle.stream_driver.specs.Sessions.{Stands};
 ghost use Rattle.stream_driver.specs.Entries.{HaveSessions};
-ghost use Rattle.event_loop.specs.Accepts.{TurnAccepts};
 ghost use Rattle.event_loop.specs.Leavings.{EndAll, EndsAt};
-ghost use Rattle.event_loop.specs.Lingerings.{lingerers_of};
+ghost use Rattle.event_loop.specs.Lingerings.{lingers_in};
 ghost use Rattle.event_loop.specs.Numbers.{AreBelow};
 ghost use Rattle.event_loop.specs.Sockets.{IsNewSocket, SocketsTell, traffic_of};
-ghost use Rattle.event_loop.specs.Tables.{ComeEach, Comes, EndsTurn, HaveEntries, after_poll, is_any_ready, is_ready as is_ready_in, slot_at, told};
+ghost use Rattle.event_loop.specs.Tables.{AcceptsInto, Comes, EachEnds, HaveEntries, after_poll, is_any_ready, is_ready as is_ready_in, slot_at, told};
 
 use crate::lingering::Lingering;
 use crate::listener::{AcceptAnswer, Listener};
@@ -33,7 +32,7 @@ pub enum Backlog {
     /// Nothing, until the poll reports the listener.
     Empty,
     /// More: as many were accepted as one turn accepts.
-    Full,
+    More,
     /// More: an accept failed.
     Failed,
 }
@@ -98,7 +97,7 @@ fn end_drive_at<D: Sectors>(
     table: &mut Slab<Entry<BufferedStream<Socket>>>,
     lingering: &mut Lingering,
 )
-    ensures { EndsAt now (D.moment device.now) key table.old.slots (lingerers_of lingering.old) table.new.slots (lingerers_of lingering.new) }
+    ensures { EndsAt now (D.moment device.now) key table.old.slots (lingers_in lingering.old) table.new.slots (lingers_in lingering.new) }
 {
     let Some(entry) = table.get_mut(key) else {
         return;
@@ -120,8 +119,8 @@ pub(crate) fn end_drives<D: Sectors>(
     table: &mut Slab<Entry<BufferedStream<Socket>>>,
     lingering: &mut Lingering,
 )
-    ensures ended { (key : ℕ) → EndsTurn SocketsTell traffic_of (D.moment device.now) (slot_at table.old.slots key) (slot_at table.new.slots key) }
-    ensures left { EndAll now (D.moment device.now) table.old.slots (lingerers_of lingering.old) table.new.slots (lingerers_of lingering.new) }
+    ensures ended { EachEnds SocketsTell traffic_of (D.moment device.now) table.old.slots table.new.slots }
+    ensures left { EndAll now (D.moment device.now) table.old.slots (lingers_in lingering.old) table.new.slots (lingers_in lingering.new) }
 {
     for key in 0..table.capacity() {
         end_drive_at(device, poll, now, key, table, lingering);
@@ -129,7 +128,7 @@ pub(crate) fn end_drives<D: Sectors>(
 }
 
 /// Takes at most `SESSIONS_MAX` connections from a listener, each under the next number, and says what the listener may still hold:
-/// `Full` where it took that many, `Empty` where none waits, `Failed` where a call failed.
+/// `More` where it took that many, `Empty` where none waits, `Failed` where a call failed.
 ///
 /// Each connection that it takes is let in with a session that joins, or turned away, and nothing else happens to the hub and the table.
 /// One for which there is no place, or that memory or registration is refused for, is closed, and the refusals are counted. It may grow the
@@ -147,7 +146,8 @@ pub fn accept_some<D: Sectors, L: Listener>(
     requires sessions { HaveSessions hub.old table.old.slots }
     requires numbers { AreBelow next.old table.old.slots }
     requires entries { HaveEntries hub.old table.old.slots }
-    ensures accepts { TurnAccepts (λ n. ComeEach IsNewSocket hub.old next.old table.old.slots refused.old n hub.new next.new table.new.slots refused.new) (L.accepts listener.old) result (L.accepts listener.new) }
+    ensures accepts { AcceptsInto IsNewSocket hub.old next.old table.old.slots refused.old (L.accepts listener.old) result
+        hub.new next.new table.new.slots refused.new (L.accepts listener.new) }
     ensures stands { Stands hub.new }
     ensures sessions { HaveSessions hub.new table.new.slots }
     ensures numbers { AreBelow next.new table.new.slots }
@@ -161,7 +161,7 @@ pub fn accept_some<D: Sectors, L: Listener>(
             AcceptAnswer::Failed => return Backlog::Failed,
         }
     }
-    Backlog::Full
+    Backlog::More
 }
 
 // The stream of a connection under this number, of which the poll tells under this key. It wasn't read or written, and sends what it takes

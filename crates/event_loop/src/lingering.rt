@@ -139,7 +139,7 @@ pub(crate) struct Lingering {
 impl Lingering {
     ghost use Rattle.std.specs.Prelude.{[], IfOk};
     ghost use Rattle.event_loop.specs.Drops.{newest};
-    ghost use Rattle.event_loop.specs.Lingerings.{AreTurned, FirstTurned, Leaves, closed, lingerers_of, oldest_waits};
+    ghost use Rattle.event_loop.specs.Lingerings.{AreTurned, FirstTurned, Leaves, closed, lingers_in, oldest_waits};
     ghost use Rattle.event_loop.specs.Waits.{nanos_of};
 
     /// None lingers. Takes the memory for all.
@@ -173,7 +173,7 @@ impl Lingering {
         now: Option<Instant>,
         token: Token,
     )
-        ensures { Leaves now socket (lingerers_of self.old) (lingerers_of self.new) }
+        ensures { Leaves now socket (lingers_in self.old) (lingers_in self.new) }
     {
         let lasting = Duration::from_secs(LINGERING_SECONDS);
         let Some(until) = now.and_then(|now| now.checked_add(lasting)) else {
@@ -196,7 +196,7 @@ impl Lingering {
 
     /// Closes all that linger.
     pub(crate) fn close(&mut self)
-        ensures { lingerers_of self.new ≡ closed (lingerers_of self.old) }
+        ensures { lingers_in self.new ≡ closed (lingers_in self.old) }
     {
         self.queue.clear();
         self.has_more = false;
@@ -204,7 +204,7 @@ impl Lingering {
 
     // One more lingers. Where there are as many as may be, the oldest is closed.
     fn push(&mut self, lingerer: Lingerer)
-        ensures { lingerers_of self.new ≡ record (lingerers_of self.old) { all = newest LINGERING_MAX self.old.queue.items lingerer } }
+        ensures { lingers_in self.new ≡ record (lingers_in self.old) { all = newest LINGERING_MAX self.old.queue.items lingerer } }
     {
         if self.queue.len() >= LINGERING_MAX {
             let _ = self.queue.pop_front();
@@ -214,7 +214,7 @@ impl Lingering {
 
     /// Drops what came in where the poll told of it or there may be more, and closes those that are over.
     pub(crate) fn turn<D: Sectors>(&mut self, device: &D, is_told: bool, now: Option<Instant>)
-        ensures { AreTurned now (D.moment device.now) is_told (lingerers_of self.old) (lingerers_of self.new) }
+        ensures { AreTurned now (D.moment device.now) is_told (lingers_in self.old) (lingers_in self.new) }
     {
         let reads = is_told || self.has_more;
         self.has_more = false;
@@ -225,7 +225,7 @@ impl Lingering {
 
     // The first is closed where it is over, and else becomes the last.
     fn turn_first<D: Sectors>(&mut self, device: &D, reads: bool, now: Option<Instant>)
-        ensures { FirstTurned now (D.moment device.now) reads self.old.queue.items (lingerers_of self.old) (lingerers_of self.new) }
+        ensures { FirstTurned now (D.moment device.now) reads self.old.queue.items (lingers_in self.old) (lingers_in self.new) }
     {
         let Some(mut lingerer) = self.queue.pop_front() else {
             return;

@@ -60,13 +60,12 @@ impl<D: Sectors> EventLoop<D> {
     ghost use Rattle.sessions.specs.SessionStreams.{HubState};
     ghost use Rattle.sessions.specs.StandsFor.{StandsFor, device};
     ghost use Rattle.event_loop.specs.Departures.{KeepsWhatLeft};
-    ghost use Rattle.event_loop.specs.Leavings.{EndAll};
-    ghost use Rattle.event_loop.specs.Lingerings.{lingerers_of, unless_failed};
+    ghost use Rattle.event_loop.specs.Lingerings.{lingers_in, unless_failed};
     ghost use Rattle.event_loop.specs.Loops.{HasItsSessions, hub_of};
     ghost use Rattle.event_loop.specs.Polls.{after_wait, polls_of};
     ghost use Rattle.event_loop.specs.Sockets.{SocketsTell, traffic_of};
     ghost use Rattle.event_loop.specs.TableBytes.{ConnectionsSpeak, KeepBytes};
-    ghost use Rattle.event_loop.specs.Turns.{Accepted, DrivesReady, IsGivenBack, IsTurn, IsUntouched, KeepsWhatLeaves, TurnsAreRuns, Waits, accepts_now, is_told_of, turn_waits};
+    ghost use Rattle.event_loop.specs.Turns.{Accepted, DrivesAndEnds, IsGivenBack, IsTurn, IsUntouched, LeavingsAreKept, TurnsAreRuns, Waits, accepts_now, is_told_of, turn_waits};
     ghost use Rattle.event_loop.specs.Waits.{nanos_of};
 
     /// Listens at an address for the sessions of a hub that was opened. Port 0 stands for one that the system picks.
@@ -165,7 +164,7 @@ impl<D: Sectors> EventLoop<D> {
         ensures waits { Waits timeout self.old result self.new }
         ensures sessions { HasItsSessions self.old × HasItsSessions self.new }
         ensures served { IsServed (hub_of self.old) × IsServed (hub_of self.new) }
-        ensures left { OnOk result ((turn : IsTurn SocketsTell traffic_of self.old self.new) → SocketsTell → KeepsWhatLeaves self.old self.new turn) }
+        ensures left { OnOk result (LeavingsAreKept self.old self.new) }
     {
         self.hub.runs_follow();
         self.hub.loses_nothing();
@@ -232,7 +231,7 @@ impl<D: Sectors> EventLoop<D> {
     // Accepts connections, where the listener may hold more or the last poll told of it.
     fn accept_told(&mut self)
         ensures accepts { Accepted (accepts_now self.old.backlog (items self.old.poller.events)) self.old self.new }
-        ensures lingerers { lingerers_of self.new.lingering ≡ unless_failed self.new.backlog (lingerers_of self.old.lingering) }
+        ensures lingerers { lingers_in self.new.lingering ≡ unless_failed self.new.backlog (lingers_in self.old.lingering) }
         ensures poller { self.new.poller ≡ self.old.poller }
     {
         if self.accepts_now() {
@@ -243,7 +242,7 @@ impl<D: Sectors> EventLoop<D> {
     // Accepts connections. After an accept that failed, perhaps because there were no more descriptors, none lingers.
     fn accept(&mut self)
         ensures accepts { Accepted true self.old self.new }
-        ensures lingerers { lingerers_of self.new.lingering ≡ unless_failed self.new.backlog (lingerers_of self.old.lingering) }
+        ensures lingerers { lingers_in self.new.lingering ≡ unless_failed self.new.backlog (lingers_in self.old.lingering) }
         ensures poller { self.new.poller ≡ self.old.poller }
     {
         self.backlog = accept_some(
@@ -262,7 +261,7 @@ impl<D: Sectors> EventLoop<D> {
 
     // Drives the sessions that are ready, those that the last poll told of among them.
     fn drive(&mut self, now: Option<Instant>)
-        ensures drives { (drives : DrivesReady ⟦<Socket as Stream>⟧.tells ⟦<Socket as Stream>⟧.traffic (items self.old.poller.events) self.old.hub self.old.table.slots self.new.hub self.new.table.slots) × EndAll now (D.moment (device self.new.hub)) drives.driven (lingerers_of self.old.lingering) self.new.table.slots (lingerers_of self.new.lingering) }
+        ensures drives { DrivesAndEnds ⟦<Socket as Stream>⟧.tells ⟦<Socket as Stream>⟧.traffic now self.old self.new }
         ensures poller { self.new.poller ≡ self.old.poller }
         ensures next { self.new.next ≡ self.old.next }
         ensures port { self.new.port ≡ self.old.port }
@@ -287,7 +286,7 @@ impl<D: Sectors> EventLoop<D> {
     {
         match self.backlog {
             Backlog::Empty => self.is_told(LISTENER),
-            Backlog::Full | Backlog::Failed => true,
+            Backlog::More | Backlog::Failed => true,
         }
     }
 

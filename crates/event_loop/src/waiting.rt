@@ -9,7 +9,7 @@ use std::time::Duration;
 pub const RETRY_AFTER_MILLIS: u64 = 100;
 
 /// The longest that the next poll may wait, without end where it is `None`: not at all where there is work or the backlog is
-/// `Full`, no longer than `RETRY_AFTER_MILLIS` where it is `Failed`, and never longer than the caller's timeout.
+/// `More`, no longer than `RETRY_AFTER_MILLIS` where it is `Failed`, and never longer than the caller's timeout.
 pub(crate) fn longest_wait(
     backlog: Backlog,
     has_work: bool,
@@ -19,7 +19,7 @@ pub(crate) fn longest_wait(
 {
     let most = match backlog {
         _ if has_work => Duration::ZERO,
-        Backlog::Full => Duration::ZERO,
+        Backlog::More => Duration::ZERO,
         Backlog::Failed => Duration::from_millis(RETRY_AFTER_MILLIS),
         Backlog::Empty => return timeout,
     };

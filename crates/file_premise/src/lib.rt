@@ -2,31 +2,24 @@
 //! type that `serve` runs. No function here has a proof of its own.
 #![tactic(auto)]
 
-ghost use Rattle.std.specs.Prelude.{ℕ, List};
-ghost use Rattle.model.specs.Map.{KeyWrite};
-ghost use Rattle.engine.specs.Recovery.{LeavesCommitted};
 ghost use Rattle.sector.specs.FileModel.{FileKeepsModel};
-ghost use Rattle.sector.specs.SectorModel.{LeavesOnly};
 ghost use Rattle.commit_log.specs.Format.{current};
 ghost use Rattle.commit_log.specs.RecordFormat.{IsWriteSet};
-ghost use Rattle.commit_log.specs.LogState.{StandsFor as LogStandsFor, IsBeforeOrAfter, device_of};
-ghost use Rattle.sessions.specs.SessionStreams.{HubState};
-ghost use Rattle.sessions.specs.StandsFor.{StandsFor, event_of, device};
-ghost use Rattle.sessions.specs.Crashes.{IsLeftByEvent};
+ghost use Rattle.sessions.specs.StandsFor.{event_of};
 ghost use Rattle.sessions.specs.Lives.{LivesLoseNothing, LivesFromNothing};
 ghost use Rattle.sessions.specs.OneOrder.{LivesHaveOneHistory};
+ghost use Rattle.file_premise.specs.Survival.{AppendsWhole, AppliesWhole, KeepsCommitted};
 
 use commit_log::{Log, LogFault};
 use model::Write;
-use sector::{FileSectors, Sectors};
+use sector::FileSectors;
 use sessions::{Event, Hub, Outcome};
 use std::alloc::Global;
 
 /// Appends a record to a log over a file: a crash at any moment of the call leaves the log with the record or without it.
 pub fn append(log: &mut Log<FileSectors>, alloc: Global, writes: &[Write]) -> Result<u64, LogFault>
     requires { IsWriteSet current writes.now }
-    ensures { FileKeepsModel → (lists : List (List KeyWrite)) → LogStandsFor log.old lists
-        → LeavesOnly ⟦<FileSectors as Sectors>⟧.moment ⟦<FileSectors as Sectors>⟧.left_since (device_of log.old) (device_of log.new) (IsBeforeOrAfter lists writes.now) }
+    ensures { FileKeepsModel → AppendsWhole log.old log.new writes.now }
 {
     log.append(alloc, writes)
 }
@@ -34,9 +27,8 @@ pub fn append(log: &mut Log<FileSectors>, alloc: Global, writes: &[Write]) -> Re
 /// Applies an event to the sessions over a file: a crash at any moment of it leaves the map committed before it or, where it executes a
 /// COMMIT, that with the transaction's writes. After it a crash leaves the map that is then committed.
 pub fn step(hub: &mut Hub<FileSectors>, event: &Event<'_>) -> Outcome
-    ensures crash { FileKeepsModel → (h : HubState) → StandsFor hub.old h
-        → LeavesOnly ⟦<FileSectors as Sectors>⟧.moment ⟦<FileSectors as Sectors>⟧.left_since (device hub.old) (device hub.new) (IsLeftByEvent hub.old h (event_of event.now)) }
-    ensures stored { FileKeepsModel → (h : HubState) → StandsFor hub.new h → LeavesCommitted h.machine (⟦<FileSectors as Sectors>⟧.may_leave (device hub.new)) }
+    ensures crash { FileKeepsModel → AppliesWhole hub.old hub.new (event_of event.now) }
+    ensures stored { FileKeepsModel → KeepsCommitted hub.new }
 {
     hub.step(event)
 }

@@ -1,21 +1,12 @@
 -- Numbers that count as none up to another.
-use Rattle.std.proofs.Common.{◌≡◌, ◌≤◌, ◌<◌, ℕ, arith}
+use Rattle.std.proofs.Common.{◌≡◌, ◌≤◌, ℕ, arith}
 use Rattle.std.specs.Prelude.{max}
 use Rattle.std.proofs.lemmas.Bool.Decides.{nat_tests}
 use Rattle.last_readers.specs.Readers.{cut}
 
-pub cut_above : (o n : ℕ) → o < n → cut o n ≡ n
-cut_above o n h = grind (arith, nat_tests)
-
-pub cut_below : (o n : ℕ) → n ≤ o → cut o n ≡ 0
-cut_below o n h = grind (arith, nat_tests)
-
--- one of two is no other above o
+-- one of several is no other above o
 pub cut_either : (o a b n : ℕ) → cut o a ≡ cut o b → cut o (max a n) ≡ cut o (max b n)
 cut_either o a b n same = grind (arith, nat_tests)
-
-pub cut_late : (o a n : ℕ) → a ≤ o → cut o (max a n) ≡ cut o n
-cut_late o a n le = grind (arith, nat_tests)
 
 -- above the later of two
 pub cut_twice : (o m n : ℕ) → o ≤ m → cut m (cut o n) ≡ cut m n

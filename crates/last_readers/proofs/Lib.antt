@@ -2,6 +2,4 @@ pub mod StepLaws
 pub mod Cuts
 pub mod MergeLaws
 pub mod RunLaws
-pub mod RunSteps
 pub mod MarkSteps
-pub mod OldRuns

@@ -1,6 +1,5 @@
 pub mod Steps
 pub mod Merging
 pub mod Readers
-pub mod Held
-pub mod RunSizes
 pub mod Inside
+pub mod Agreeing

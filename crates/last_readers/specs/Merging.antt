@@ -2,7 +2,7 @@
 use Rattle.std.specs.Prelude.{◌≡◌, ◌<◌, ℕ, max, true, List, length, [], ◌∷◌, ◌++◌, ◌⊎◌}
 use Rattle.std.specs.declared.cmp.Ordering.TheVariants.{Less}
 use Rattle.model.specs.Map.{Bytes, key_cmp}
-use Rattle.last_readers.specs.Steps.{StepValue, number_at, end_of, steps_rise, are_under}
+use Rattle.last_readers.specs.Steps.{StepValue, number_at, merged_at, end_of, steps_rise, are_under}
 use Rattle.last_readers.specs.Readers.{cut}
 
 -- the number that is kept of two: the greater, where it is above o
@@ -38,3 +38,7 @@ pub record IsJoined (o : ℕ) (xs xs' ys ys' : List StepValue) (m : StepValue) :
 -- m was put in front, or says no more than that all numbers from it on are those below it
 abbrev pub IsAdded : StepValue → ℕ → List StepValue → List StepValue → Type 0
 IsAdded m below ts ts' = (ts' ≡ m ∷ ts) ⊎ ((m.at ≡ below) × (m.above ≡ below) × (ts' ≡ ts))
+
+-- at each key the number of the lists that are being merged stays, where those up to o count as none
+abbrev pub StayMerged : ℕ → List StepValue → List StepValue → List StepValue → List StepValue → List StepValue → List StepValue → Type 0
+StayMerged o xs ys ts xs' ys' ts' = (k : Bytes) → cut o (merged_at xs ys ts k) ≡ cut o (merged_at xs' ys' ts' k)

@@ -2,8 +2,8 @@
 use Rattle.std.specs.Prelude.{◌≡◌, ℕ, ◌<◌, ◌≤◌, max, nat_lt, List, [], ◌∷◌, length, Option, Some, None, IsSome, if◌then◌else◌}
 use Rattle.model.specs.Map.{Bytes}
 use Rattle.model.specs.PrivateCopy.{Mark, is_covered}
-use Rattle.last_readers.specs.Held.{Held, due_upto}
-use Rattle.last_readers.specs.RunSizes.{RunSize, IsMergedFor, moves_for, with_run}
+use Rattle.merging_runs.specs.Held.{Held, due_upto}
+use Rattle.merging_runs.specs.RunSizes.{RunSize, IsMergedFor, are_alike, moves_for, with_run}
 use Rattle.last_readers.specs.Steps.{StepValue, RunValue, number_at, number_in}
 
 -- what is kept: numbers by key in several runs, some of which may be being made of two, those up to `oldest` counting as none
@@ -35,6 +35,10 @@ cut o n = if nat_lt o n then n else 0
 abbrev pub greatest_at : List RunValue → Bytes → ℕ
 greatest_at [] k = 0
 greatest_at (r ∷ rs) k = max (number_in r k) (greatest_at rs k)
+
+-- the greatest numbers are those of the old runs and of one run more
+abbrev pub IsWithRun : List RunValue → List RunValue → RunValue → Type 0
+IsWithRun new old r = (k : Bytes) → greatest_at new k ≡ max (greatest_at old k) (number_in r k)
 
 -- the number of the last commit after number `oldest` that read the key, 0 where none did
 abbrev pub last_reader : Readers → Bytes → ℕ
@@ -75,8 +79,9 @@ abbrev pub ready_len : Option (List StepValue) → ℕ
 ready_len None = 0
 ready_len (Some ss) = length ss
 
--- the steps that were made ready came with number n as a run, one merge at most was begun, and those under way were moved on
+-- the steps that were made ready came with number n as a run, one merge at most was begun, and those under way were moved on; a move takes
+-- one step, or two of one key
 abbrev pub IsMerged : ℕ → LastReadersValue → LastReadersValue → Type 0
 IsMerged n old new =
     let count = ready_len old.room.ready in
-    IsMergedFor new.readers.oldest (moves_for count) (with_run n count old.runs) new.runs old.refused new.refused
+    IsMergedFor (are_alike new.readers.oldest) 2 new.readers.oldest (moves_for count) (with_run n count old.runs) new.runs old.refused new.refused

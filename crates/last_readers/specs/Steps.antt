@@ -1,5 +1,5 @@
 -- Numbers by key as a step function: its steps by strictly rising key.
-use Rattle.std.specs.Prelude.{ℕ, max, Bool, true, ◌&&◌, ◌==◌, if◌then◌else◌, List, [], ◌∷◌}
+use Rattle.std.specs.Prelude.{◌≡◌, ℕ, max, Bool, true, ◌&&◌, ◌==◌, if◌then◌else◌, List, [], ◌∷◌}
 use Rattle.std.specs.List.{list_all}
 use Rattle.std.specs.Ordering.{is_lt, is_le}
 use Rattle.std.specs.declared.cmp.Ordering.{Ordering}
@@ -72,3 +72,11 @@ renumbered n s = record { key = s.key; at = in_place_of n s.at; above = in_place
 -- 1 at the keys from lo to below end, and at `end` the number `at`, where end isn't below lo
 abbrev pub span_at : Bytes → Bytes → ℕ → Bytes → ℕ
 span_at lo end at k = if is_le (key_cmp lo k) then by_order (key_cmp k end) 1 at 0 else 0
+
+-- the steps of that
+abbrev pub steps_between : Bytes → Bytes → ℕ → List StepValue
+steps_between lo end at = record { key = lo; at = 1; above = 1 } ∷ record { key = end; at = at; above = 0 } ∷ []
+
+-- where two lists of steps are being merged, the numbers are n in the place of those of the steps ss
+abbrev pub AreNumbered : ℕ → List StepValue → List StepValue → List StepValue → List StepValue → Type 0
+AreNumbered n xs ys ts ss = (k : Bytes) → merged_at xs ys ts k ≡ in_place_of n (number_at ss k)

@@ -4,7 +4,7 @@ ghost use Rattle.model.specs.Map.{Bytes};
 ghost use Rattle.model.specs.PrivateCopy.{covers, is_covered};
 ghost use Rattle.marks.specs.Marked.{mark_of, marks_of};
 ghost use Rattle.marks.specs.Lent.{lent_mark};
-ghost use Rattle.last_readers.specs.Steps.{StepValue, number_at, steps_rise, span_at};
+ghost use Rattle.last_readers.specs.Steps.{number_at, steps_rise, span_at, steps_between};
 
 use crate::merging::merge;
 use crate::step::Step;
@@ -37,7 +37,7 @@ fn from_to(
     end: KeyRef<'_>,
     at: u64,
 ) -> Result<VecDeque<Step>, Memory>
-    ensures { IfOk result (λ v. v.items ≡ record { key = lo.entry.bytes.now; at = 1; above = 1 } ∷ record { key = end.entry.bytes.now; at = at; above = 0 } ∷ []) }
+    ensures { IfOk result (λ v. v.items ≡ steps_between lo.entry.bytes.now end.entry.bytes.now at) }
 {
     let mut steps = VecDeque::with_capacity(alloc, 2)?;
     steps.push_back_reserved(step_at(alloc, lo, 1, 1)?);

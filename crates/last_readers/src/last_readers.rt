@@ -1,29 +1,19 @@
 //! The last readers.
-ghost use Rattle.std.specs.Prelude.{◌≡◌, ◌<◌, ◌≤◌, ◌+◌, ◌-◌, ℕ, List, [], None, length, max, nat_lt, OnOk};
+ghost use Rattle.std.specs.Prelude.{◌≡◌, ◌<◌, ◌-◌, ℕ, List, [], None, length, max, nat_lt, OnOk};
 ghost use Rattle.model.specs.Map.{Bytes};
 ghost use Rattle.model.specs.PrivateCopy.{Mark};
-ghost use Rattle.last_readers.specs.Held.{due_upto, given_a_forget, size_in};
+ghost use Rattle.merging_runs.specs.Held.{due_upto, given_a_forget, size_in};
 ghost use Rattle.last_readers.specs.Readers.{last_reader, after, AreUpto, IsNoted, IsForgotten, IsMerged, IsReady, HasRoom, due_of, ready_len};
-ghost use Rattle.last_readers.specs.RunSizes.{IsMergedFor, left_above, with_run};
-ghost use Rattle.last_readers.specs.Inside.{held_of, size_of};
+ghost use Rattle.merging_runs.specs.RunSizes.{left_above, with_run};
 
 use crate::gathering::steps_of;
-use crate::merges::{add_run, greatest_in, is_one_old, move_runs, open_last, take_old};
 use crate::run::{ReadRun, Ready};
-use crate::stale::Stale;
+use crate::runs::{add_run, greatest_in};
 use marks::Marks;
+use merging_runs::Runs;
 use model::{KeyRef, Memory};
 use std::alloc::Global;
 use std::marker::Model;
-
-/// How many steps of the merges are moved for each step that is noted: more than there are lengths of runs that are merged into one another.
-const MOVES_EACH: usize = 16;
-
-/// How many more are moved for a commit.
-const MOVES_MORE: usize = 64;
-
-/// The most steps that are dropped in one call, where a run counts as one more.
-const GIVEN_BACK_MAX: usize = 1_024;
 
 /// For each key the number of the last commit that has read it. A clause sees what is kept (`readers`), the memory that was made ready
 /// (`room`), how much the runs hold (`held`), how far they are merged (`runs`), and how often memory for a merge was refused (`refused`).
@@ -35,30 +25,24 @@ const GIVEN_BACK_MAX: usize = 1_024;
 /// both runs do, so that no commit is long; it takes the places of both runs until it has ended.
 #[derive(Drop)]
 pub struct LastReaders {
-    runs: Vec<ReadRun>,
+    runs: Runs<ReadRun>,
     oldest: u64,
     // the steps of the marks that are noted next
     ready: Option<Ready>,
-    // a run whose numbers are all forgotten
-    stale: Option<Stale>,
-    // how often memory for a merge was refused. It stays at 2^64 - 1
-    refused: u64,
 }
 
 impl Model for LastReaders {
-    ghost use Rattle.std.specs.Prelude.{◌-◌};
-    ghost use Rattle.std.specs.Vec.{vec_len, vec_capacity};
     ghost use Rattle.last_readers.specs.Readers.{LastReadersValue};
-    ghost use Rattle.last_readers.specs.Inside.{runs_in, ready_of, held_in, taken_of, sizes_in};
+    ghost use Rattle.last_readers.specs.Inside.{runs_in, ready_of};
 
     ghost Value = { LastReadersValue };
 
     ghost view = { λ r. record {
-      readers = record { runs = runs_in r.runs.items; oldest = r.oldest };
-      room = record { places = vec_capacity r.runs - vec_len r.runs; ready = ready_of r.ready };
-      held = record { runs = held_in r.runs.items; taken = taken_of r.stale };
-      runs = sizes_in r.runs.items;
-      refused = r.refused;
+      readers = record { runs = runs_in r.runs.runs; oldest = r.oldest };
+      room = record { places = r.runs.places; ready = ready_of r.ready };
+      held = r.runs.held;
+      runs = r.runs.sizes;
+      refused = r.runs.refused;
     } };
 }
 
@@ -70,11 +54,9 @@ impl LastReaders {
         ensures runs { result.runs ≡ [] }
     {
         LastReaders {
-            runs: Vec::new(alloc),
+            runs: Runs::new(alloc),
             oldest: 0,
             ready: None,
-            stale: None,
-            refused: 0,
         }
     }
 
@@ -82,23 +64,21 @@ impl LastReaders {
     pub fn runs(&self) -> usize
         ensures { result ≡ length self.now.runs }
     {
-        self.runs.len()
+        self.runs.as_slice().len()
     }
 
     /// How many steps the runs hold, and one more for each run; 2^64 - 1 where there were more. Looks at each run, and takes no memory.
     pub fn steps(&self) -> usize
         ensures { result ≡ size_in self.now.held.runs }
     {
-        self.runs
-            .iter()
-            .fold(0, |sum: usize, run| sum.saturating_add(run.size()))
+        self.runs.size()
     }
 
     /// How often memory for a merge was refused, 2^64 - 1 at most: each time two runs of a like size stayed. Takes no memory.
     pub fn refused(&self) -> u64
         ensures { result ≡ self.now.refused }
     {
-        self.refused
+        self.runs.refused()
     }
 
     /// The number of the last commit that has read the key, where it is above `begin`; `None` where there is none. It takes a binary search
@@ -107,7 +87,7 @@ impl LastReaders {
         ensures { result ≡ after begin (last_reader self.now.readers key.entry.bytes.now) }
     {
         let later = begin.max(self.oldest);
-        let number = greatest_in(&self.runs, key, later);
+        let number = greatest_in(self.runs.as_slice(), key, later);
         if later < number { Some(number) } else { None }
     }
 
@@ -119,9 +99,9 @@ impl LastReaders {
         ensures runs { self.new.runs ≡ self.old.runs }
         ensures refused { self.new.refused ≡ self.old.refused }
     {
-        let alloc = *self.runs.allocator();
+        let alloc = self.runs.allocator();
         let steps = steps_of(alloc, marks.held())?;
-        self.runs.reserve(1)?;
+        self.runs.reserve()?;
         self.ready = Some(Ready { steps });
         Ok(())
     }
@@ -148,16 +128,6 @@ impl LastReaders {
         count
     }
 
-    // Begins one merge at most of two runs of a like size, and moves so many steps at most of those that are under way.
-    fn merge(&mut self, most: usize)
-        ensures same { (key : Bytes) → last_reader self.new.readers key ≡ last_reader self.old.readers key }
-        ensures oldest { self.new.readers.oldest ≡ self.old.readers.oldest }
-        ensures merged { IsMergedFor self.new.readers.oldest most self.old.runs self.new.runs self.old.refused self.new.refused }
-    {
-        open_last(&mut self.runs, self.oldest, &mut self.refused);
-        move_runs(&mut self.runs, self.oldest, most);
-    }
-
     /// Notes that the commit with number `n` has read what the marks cover that room was made for last: it is the last reader of each key that
     /// they cover, and the other keys have the one that they had. The number is above `oldest`, and no last reader has one above it. It can't
     /// fail: `reserve` made room.
@@ -175,78 +145,7 @@ impl LastReaders {
         ensures merged { IsMerged n self.old self.new }
     {
         let count = self.add_ready(n);
-        self.merge(count.saturating_mul(MOVES_EACH).saturating_add(MOVES_MORE));
-    }
-
-    // Takes out a run all of whose numbers are forgotten, if there is one.
-    fn take_old(&mut self) -> Option<ReadRun>
-        ensures same { (key : Bytes) → last_reader self.new.readers key ≡ last_reader self.old.readers key }
-        ensures oldest { self.new.readers.oldest ≡ self.old.readers.oldest }
-        ensures due { due_of self.old ≡ size_of result + due_of self.new }
-        ensures taken { self.new.held.taken ≡ self.old.held.taken }
-        ensures none { result ≡ None → due_of self.new ≡ self.new.held.taken }
-        ensures left { left_above self.new.readers.oldest self.new.runs ≡ left_above self.new.readers.oldest self.old.runs }
-        ensures refused { self.new.refused ≡ self.old.refused }
-    {
-        take_old(&mut self.runs, self.oldest)
-    }
-
-    // Gives back so much at most of the run that is being given back, if there is one: how much more may be given back, which is none while
-    // something is left of it.
-    fn give_back(&mut self, most: usize) -> usize
-        ensures readers { self.new.readers ≡ self.old.readers }
-        ensures held { self.new.held.runs ≡ self.old.held.runs }
-        ensures runs { self.new.runs ≡ self.old.runs }
-        ensures refused { self.new.refused ≡ self.old.refused }
-        ensures taken { self.old.held.taken + result ≡ self.new.held.taken + most }
-        ensures ended { 0 < result → self.new.held.taken ≡ 0 }
-    {
-        let Some(stale) = &mut self.stale else {
-            return most;
-        };
-        let left = stale.give_back(most);
-        if left == 0 {
-            return 0;
-        }
-        self.stale = None;
-        left - 1
-    }
-
-    // Gives back so much at most of a run that was taken out, the whole of it at once where that is enough.
-    fn give_back_run(&mut self, run: ReadRun, most: usize) -> usize
-        requires none { self.old.held.taken ≡ 0 }
-        requires some { 0 < most }
-        requires most { most ≤ given_a_forget }
-        ensures readers { self.new.readers ≡ self.old.readers }
-        ensures held { self.new.held.runs ≡ self.old.held.runs }
-        ensures runs { self.new.runs ≡ self.old.runs }
-        ensures refused { self.new.refused ≡ self.old.refused }
-        ensures taken { (held_of run).size + result ≡ self.new.held.taken + most }
-        ensures ended { 0 < result → self.new.held.taken ≡ 0 }
-    {
-        let size = run.size();
-        if size <= most {
-            return most - size;
-        }
-        self.stale = Some(Stale::of(run));
-        self.give_back(most)
-    }
-
-    // Gives back runs all of whose numbers are forgotten, 1,024 of their steps at most.
-    fn give_back_old(&mut self)
-        ensures same { (key : Bytes) → last_reader self.new.readers key ≡ last_reader self.old.readers key }
-        ensures oldest { self.new.readers.oldest ≡ self.old.readers.oldest }
-        ensures due { due_of self.new ≡ due_of self.old - given_a_forget }
-        ensures left { left_above self.new.readers.oldest self.new.runs ≡ left_above self.new.readers.oldest self.old.runs }
-        ensures refused { self.new.refused ≡ self.old.refused }
-    {
-        let mut left = self.give_back(GIVEN_BACK_MAX);
-        'runs: while left > 0 {
-            let Some(run) = self.take_old() else {
-                return;
-            };
-            left = self.give_back_run(run, left);
-        }
+        self.runs.merge(self.oldest, count);
     }
 
     /// Forgets the last readers with numbers up to `oldest`: to such keys it answers from then on that there is none. Merging leaves out what is
@@ -262,7 +161,6 @@ impl LastReaders {
         ensures refused { self.new.refused ≡ self.old.refused }
     {
         self.oldest = self.oldest.max(oldest);
-        self.give_back_old();
-        self.stale.is_some() || is_one_old(&self.runs, self.oldest)
+        self.runs.forget(self.oldest)
     }
 }

@@ -7,10 +7,9 @@
 
 mod gathering;
 mod last_readers;
-mod merges;
 mod merging;
 mod run;
-mod stale;
+mod runs;
 mod step;
 
 pub use last_readers::LastReaders;

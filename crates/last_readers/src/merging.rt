@@ -3,9 +3,8 @@ ghost use Rattle.std.specs.Prelude.{◌≡◌, ◌≤◌, ◌<◌, ◌+◌, ◌+
 ghost use Rattle.std.specs.VecDeque.{deque_len, deque_capacity};
 ghost use Rattle.std.specs.declared.cmp.Ordering.TheVariants.{Less, Equal, Greater};
 ghost use Rattle.model.specs.Map.{Bytes};
-ghost use Rattle.last_readers.specs.Steps.{number_at, end_of, steps_rise, merged_at};
-ghost use Rattle.last_readers.specs.Readers.{cut};
-ghost use Rattle.last_readers.specs.Merging.{EndsOver, EndsEqual, IsJoined, IsAdded, later};
+ghost use Rattle.last_readers.specs.Steps.{number_at, end_of, steps_rise};
+ghost use Rattle.last_readers.specs.Merging.{EndsOver, EndsEqual, IsJoined, IsAdded, StayMerged, later};
 
 use crate::step::{Step, end_of};
 use std::cmp::Ordering;
@@ -114,7 +113,7 @@ pub(crate) fn move_greatest(
     requires second { IsTrue (steps_rise (second.old.items ++ to.old.items)) }
     requires some { 0 < deque_len first.old + deque_len second.old }
     requires room { deque_len to.old < deque_capacity to.old }
-    ensures same { (k : Bytes) → cut oldest (merged_at first.new.items second.new.items to.new.items k) ≡ cut oldest (merged_at first.old.items second.old.items to.old.items k) }
+    ensures same { StayMerged oldest first.new.items second.new.items to.new.items first.old.items second.old.items to.old.items }
     ensures first { IsTrue (steps_rise (first.new.items ++ to.new.items)) }
     ensures second { IsTrue (steps_rise (second.new.items ++ to.new.items)) }
     ensures fewer { deque_len first.new + deque_len second.new < deque_len first.old + deque_len second.old }

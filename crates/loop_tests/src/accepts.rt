@@ -79,7 +79,7 @@ fn two_turns(rt: HostRuntime) -> Result<(), Fail> {
         &mut refused,
         &mut table,
     );
-    assert_eq!(rt; (first, waiting.counts()), (Backlog::Full, (128, 0, 0)));
+    assert_eq!(rt; (first, waiting.counts()), (Backlog::More, (128, 0, 0)));
     assert_eq!(rt; (next, table.len()), (128, 128));
     let second = accept_some(
         alloc,

@@ -3,6 +3,7 @@ use Rattle.std.specs.Prelude.{List, [], ◌∷◌, ◌++◌, Bool, length, nat_l
 use Rattle.std.specs.List.{list_any}
 use Rattle.marks.specs.declared.owned.OwnedMark.{OwnedMark}
 use Rattle.marks.specs.declared.owned.OwnedMark.TheVariants.{Key, Range, ClosedRange}
+use Rattle.model.specs.declared.keys.KeyRef.{KeyRef}
 use Rattle.model.specs.declared.ranges.RangeRef.{RangeRef}
 use Rattle.model.specs.Map.{Bytes}
 use Rattle.model.specs.PrivateCopy.{Mark, is_same_mark}
@@ -25,6 +26,9 @@ start_of (OfClosedRange lo last) = lo
 
 abbrev pub range_mark : RangeRef → Mark
 range_mark r = OfRange r.lo.bytes.now (option_map (λ k. k.bytes.now) r.hi)
+
+abbrev pub closed_range_mark : KeyRef → KeyRef → Mark
+closed_range_mark lo last = OfClosedRange lo.bytes.now last.bytes.now
 
 abbrev pub has_mark : List Mark → Mark → Bool
 has_mark ms m = list_any (is_same_mark m) ms

@@ -3,8 +3,8 @@ ghost use Rattle.std.specs.Prelude.{◌≡◌, ◌≤◌, ◌↔◌, [], length,
 ghost use Rattle.std.specs.Ordering.{is_le};
 ghost use Rattle.model.specs.PrivateCopy.{is_covered};
 ghost use Rattle.model.specs.Map.{key_cmp};
-ghost use Rattle.model.specs.PrivateCopy.Mark.{OfKey, OfClosedRange};
-ghost use Rattle.marks.specs.Marked.{has_mark, is_full_for, marks_of, with_mark, range_mark};
+ghost use Rattle.model.specs.PrivateCopy.Mark.{OfKey};
+ghost use Rattle.marks.specs.Marked.{has_mark, is_full_for, marks_of, with_mark, range_mark, closed_range_mark};
 
 use crate::faults::MarksFault;
 use crate::owned::OwnedMark;
@@ -108,10 +108,10 @@ impl Marks {
     /// it answers `FullMarks`, which it does where 256 are there, or `Memory`.
     pub fn add_upto(&mut self, lo: KeyRef<'_>, last: KeyRef<'_>) -> Result<(), MarksFault>
         requires { IsTrue (is_le (key_cmp lo.bytes.now last.bytes.now)) }
-        ensures ok { OnOk result (self.new ≡ with_mark self.old (OfClosedRange lo.entry.bytes.now last.entry.bytes.now)) }
+        ensures ok { OnOk result (self.new ≡ with_mark self.old (closed_range_mark lo.entry last.entry)) }
         ensures err { OnErr result (self.new ≡ self.old) }
-        ensures full { (result ≡ Err MarksFault.FullMarks) ↔ IsTrue (is_full_for self.old (OfClosedRange lo.entry.bytes.now last.entry.bytes.now)) }
-        ensures known { IsTrue (has_mark self.old (OfClosedRange lo.entry.bytes.now last.entry.bytes.now)) → IsOk result }
+        ensures full { (result ≡ Err MarksFault.FullMarks) ↔ IsTrue (is_full_for self.old (closed_range_mark lo.entry last.entry)) }
+        ensures known { IsTrue (has_mark self.old (closed_range_mark lo.entry last.entry)) → IsOk result }
     {
         if self.has_upto(lo, last) {
             return Ok(());
@@ -163,7 +163,7 @@ impl Marks {
 
     // Is this mark there?
     fn has_upto(&self, lo: KeyRef<'_>, last: KeyRef<'_>) -> bool
-        ensures { result ≡ has_mark self.now (OfClosedRange lo.entry.bytes.now last.entry.bytes.now) }
+        ensures { result ≡ has_mark self.now (closed_range_mark lo.entry last.entry) }
     {
         for mark in &self.held {
             if mark.is_from_to(lo, last) {

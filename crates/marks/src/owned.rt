@@ -33,10 +33,10 @@ fn lend_range(range: &Range) -> RangeRef<'_>
 
 impl OwnedMark {
     ghost use Rattle.std.specs.Prelude.{IfOk};
-    ghost use Rattle.marks.specs.Marked.{mark_of, range_mark};
+    ghost use Rattle.marks.specs.Marked.{mark_of, range_mark, closed_range_mark};
     ghost use Rattle.marks.specs.Lent.{lent_mark};
     ghost use Rattle.model.specs.PrivateCopy.{is_same_mark};
-    ghost use Rattle.model.specs.PrivateCopy.Mark.{OfKey, OfClosedRange};
+    ghost use Rattle.model.specs.PrivateCopy.Mark.{OfKey};
 
     /// Lends the mark. Takes no memory.
     pub fn lend(&self) -> MarkRef<'_>
@@ -92,7 +92,7 @@ impl OwnedMark {
         lo: KeyRef<'_>,
         last: KeyRef<'_>,
     ) -> Result<OwnedMark, Memory>
-        ensures { IfOk result (λ h. mark_of h ≡ OfClosedRange lo.entry.bytes.now last.entry.bytes.now) }
+        ensures { IfOk result (λ h. mark_of h ≡ closed_range_mark lo.entry last.entry) }
     {
         let lo = Key::from_ref(alloc, lo)?;
         let last = Key::from_ref(alloc, last)?;
@@ -130,7 +130,7 @@ impl OwnedMark {
 
     // Is it the mark from this key to that one?
     pub(crate) fn is_from_to(&self, first: KeyRef<'_>, end: KeyRef<'_>) -> bool
-        ensures { result ≡ is_same_mark (OfClosedRange first.entry.bytes.now end.entry.bytes.now) (mark_of self.now) }
+        ensures { result ≡ is_same_mark (closed_range_mark first.entry end.entry) (mark_of self.now) }
     {
         match self {
             OwnedMark::Key(_) | OwnedMark::Range(_) => false,

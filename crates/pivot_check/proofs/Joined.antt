@@ -1,9 +1,8 @@
--- Two lists of postings made into one, from their heads, and runs in the place of others.
-use Rattle.std.proofs.Common.{◌≡◌, ◌≤◌, ◌<◌, ◌-◌, ◌+◌, ℕ, Bool, true, List, [], ◌∷◌, ◌++◌, None, length, get_or, refl, sym, ap, ◌∙◌, arith}
+-- Two lists of postings made into one, from their heads, and what runs answer.
+use Rattle.std.proofs.Common.{◌≡◌, ◌≤◌, ◌+◌, ℕ, Bool, true, List, [], ◌∷◌, ◌++◌, None, refl, sym, ap, ◌∙◌, arith}
 use Rattle.std.specs.Prelude.{max, nat_lt, is_some, not}
-use Rattle.std.specs.List.{list_all, AllByRecursion, remove}
+use Rattle.std.specs.List.{list_all, AllByRecursion}
 use Rattle.std.specs.Ordering.{is_le}
-use Rattle.std.proofs.Math.ListN.{set}
 use Rattle.std.proofs.lemmas.Bool.{and_parts, and_from}
 use Rattle.std.proofs.lemmas.Bool.Decides.{nat_tests}
 use Rattle.std.proofs.lemmas.List.{append_assoc, drop_all}
@@ -15,8 +14,8 @@ use Rattle.pivot_check.specs.Postings.{Posting, least, lesser, keys_rise, are_up
 use Rattle.pivot_check.specs.Parts.{live, left, live_in}
 use Rattle.pivot_check.specs.Inside.{in_run, postings_in}
 use Rattle.pivot_check.specs.Merging.{are_keys_from, BeginsBelow}
-use Rattle.pivot_check.proofs.Writers.{lesser_none, lesser_comm, lesser_assoc, least-append}
-use Rattle.pivot_check.proofs.Walks.{le_trans, rise_between, put_in, taken_out}
+use Rattle.pivot_check.specs.Agreeing.{lesser_none, least-append, least-runs}
+use Rattle.pivot_check.proofs.Walks.{le_trans, rise_between}
 
 -- ---- one was moved from the head of xs behind ms
 
@@ -83,18 +82,21 @@ upto_more last o (p ∷ ps) le h = grind (arith, nat_tests, upto_more last o ps 
 pub both_upto : (a b : ℕ) (ps qs rs : List Posting) → are_upto a ps ≡ true → are_upto b qs ≡ true → ((c : Posting → Bool) → least c rs ≡ lesser (least c ps) (least c qs)) → are_upto (max a b) rs ≡ true
 both_upto a b ps qs rs h g same = ap (λ o. not (is_some o)) (same (λ p. nat_lt (max a b) p.number) ∙ (λ i. lesser (upto_more a (max a b) ps (omega arith) h i) (upto_more b (max a b) qs (omega arith) g i)))
 
--- ---- runs
+-- ---- what a run answers
 
--- another in the place of a run, of which the same is answered
-pub changed : (c : Posting → Bool) (rs : List WrittenRun) (i : ℕ) (was is : WrittenRun) → i < length rs → was ≡ get_or rs i was → least c (in_run is) ≡ least c (in_run was) → least c (postings_in (set rs i is)) ≡ least c (postings_in rs)
-changed c rs i was is lt at same = put_in c rs i is lt ∙ ap (λ o. lesser o (least c (postings_in (remove rs i)))) same ∙ sym (taken_out c rs i was lt at)
+-- one run
+one_agrees : (c : Posting → Bool) (r : WrittenRun) → least c (postings_in (r ∷ [])) ≡ least c (in_run r)
+one_agrees c r = least-append c (in_run r) [] ∙ lesser_none (least c (in_run r))
 
--- one run in the place of two
-pub opened : (c : Posting → Bool) (rs others : List WrittenRun) (i : ℕ) (first second is : WrittenRun) → i < length rs → i - 1 < length others → others ≡ remove rs i → second ≡ get_or rs i second → first ≡ get_or others (i - 1) first
-    → least c (in_run is) ≡ lesser (least c (in_run first)) (least c (in_run second)) → least c (postings_in (set others (i - 1) is)) ≡ least c (postings_in rs)
-opened c rs others i first second is lt within without second_is first_is same =
-    let placed = put_in c others (i - 1) is within in
-    let first_out = taken_out c others (i - 1) first within first_is in
-    let second_out = taken_out c rs i second lt second_is in
-    let left = ap (λ (l : List WrittenRun). least c (postings_in l)) without in
-    grind (arith, lesser_comm (least c (in_run first)) (least c (in_run second)), lesser_assoc (least c (in_run second)) (least c (in_run first)) (least c (postings_in (remove others (i - 1)))))
+-- one in the place of another
+pub same_agrees : (c : Posting → Bool) (ps qs : List Posting) → least c ps ≡ least c qs → least c (ps ++ []) ≡ least c (qs ++ [])
+same_agrees c ps qs same = least-append c ps [] ∙ ap (λ n. lesser n None) same ∙ sym (least-append c qs [])
+
+-- one in the place of two
+pub both_agree : (c : Posting → Bool) (first second : WrittenRun) (ps : List Posting) → least c ps ≡ lesser (least c (in_run first)) (least c (in_run second)) → least c (ps ++ []) ≡ least c (postings_in (first ∷ second ∷ []))
+both_agree c first second ps same =
+    least-append c ps [] ∙ lesser_none (least c ps) ∙ same ∙ sym (least-append c (in_run first) (in_run second ++ []) ∙ ap (lesser (least c (in_run first))) (one_agrees c second))
+
+-- one run more
+pub pushed : (c : Posting → Bool) (rs : List WrittenRun) (r : WrittenRun) → least c (postings_in (rs ++ r ∷ [])) ≡ lesser (least c (postings_in rs)) (least c (in_run r))
+pushed c rs r = least-runs c rs (r ∷ []) ∙ ap (lesser (least c (postings_in rs))) (one_agrees c r)

@@ -4,7 +4,8 @@ use Rattle.std.specs.Prelude.{min}
 use Rattle.model.proofs.Elements.{all-each, all-append}
 use Rattle.pivot_check.specs.Postings.{Posting, least, lesser, is_asked, between}
 use Rattle.pivot_check.specs.Bounds.{KeepsFound}
-use Rattle.pivot_check.proofs.Writers.{lesser_comm, lesser_assoc, least-append}
+use Rattle.pivot_check.specs.Agreeing.{lesser_assoc, least-append}
+use Rattle.pivot_check.proofs.Writers.{lesser_comm}
 use Rattle.pivot_check.proofs.Passing.{passed_over, kept_part, split_at}
 
 -- ---- what was found

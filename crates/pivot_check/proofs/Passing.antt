@@ -12,7 +12,7 @@ use Rattle.model.proofs.Elements.{all-take}
 use Rattle.pivot_check.specs.declared.bound.Bound.{Bound}
 use Rattle.pivot_check.specs.Postings.{Posting, least, lesser, is_asked, between}
 use Rattle.pivot_check.specs.Bounds.{is_from_bound, are_from_bound, AreBounds, KeepsFound}
-use Rattle.pivot_check.proofs.Writers.{lesser_none, lesser_assoc}
+use Rattle.pivot_check.specs.Agreeing.{lesser_none, lesser_assoc}
 
 -- ---- bounds
 

@@ -15,7 +15,8 @@ use Rattle.marks.proofs.MarkLaws.{length-marks_of}
 use Rattle.pivot_check.specs.Postings.{Posting, least, lesser, is_asked, asked_of, covered_of}
 use Rattle.pivot_check.specs.Places.{places_upto, is_covered_at, covered_at, AreAllPlaces}
 use Rattle.pivot_check.proofs.Walks.{least-or, none_asked}
-use Rattle.pivot_check.proofs.Writers.{lesser_none, lesser_assoc, least_alike}
+use Rattle.pivot_check.specs.Agreeing.{lesser_none, lesser_assoc}
+use Rattle.pivot_check.proofs.Writers.{least_alike}
 
 -- ---- all places
 

@@ -1,15 +1,13 @@
 -- Which postings a mark covers, and walks over marks and runs.
 use Rattle.std.proofs.Common.{◌≡◌, ◌≤◌, ◌<◌, ◌+◌, ℕ, zero, suc, Bool, true, false, not, ◌&&◌, ◌||◌, List, [], ◌∷◌, Some, None, length, length-drop, get_or, take, drop, refl, sym, ap, ◌∙◌, arith}
-use Rattle.std.specs.Prelude.{nat_lt, ◌++◌, slice_get}
-use Rattle.std.proofs.Math.ListN.{set}
-use Rattle.std.specs.List.{list_all, AllByRecursion, insert, remove}
-use Rattle.std.proofs.lemmas.List.{take-append-drop, get_or-drop, get_or-take, length-take, set-get_or}
+use Rattle.std.specs.Prelude.{◌++◌, slice_get}
+use Rattle.std.specs.List.{list_all, AllByRecursion, insert}
+use Rattle.std.proofs.lemmas.List.{take-append-drop, get_or-drop, get_or-take, length-take}
 use Rattle.std.proofs.lemmas.List.Elements.{recursion_from_All}
 use Rattle.std.proofs.lemmas.List.Folds.{list_all-append}
 use Rattle.std.specs.List.Sorted.{IsPartitionPoint, IsPartitionedBy}
 use Rattle.std.specs.Ordering.{is_lt, is_le}
 use Rattle.std.proofs.lemmas.Bool.{both_ways, and_parts, and_from, not-true, true_from_ne_false}
-use Rattle.std.proofs.lemmas.Bool.Decides.{nat_tests}
 use Rattle.std.proofs.lemmas.Grind.{common_steps}
 use Rattle.model.specs.Map.{Bytes, key_cmp}
 use Rattle.model.specs.PrivateCopy.{Mark, covers}
@@ -17,11 +15,10 @@ use Rattle.model.proofs.Elements.{all-each, all-get, all-pass}
 use Rattle.model.proofs.Entries.{turned}
 use Rattle.model.proofs.KeyOrder.{itself, less, less_trans, same_keys}
 use Rattle.marks.specs.Marked.{start_of}
-use Rattle.pivot_check.specs.Postings.{Posting, keys_rise, are_from, are_upto, least, lesser}
+use Rattle.pivot_check.specs.Postings.{Posting, keys_rise, are_from, least, lesser}
 use Rattle.pivot_check.proofs.Intervals.{covers_below, covers_above}
-use Rattle.pivot_check.specs.declared.run.WrittenRun.{WrittenRun}
-use Rattle.pivot_check.specs.Inside.{in_run, postings_in}
-use Rattle.pivot_check.proofs.Writers.{lesser_none, lesser_comm, lesser_assoc, least-append}
+use Rattle.pivot_check.specs.Agreeing.{lesser_none, lesser_assoc, least-append}
+use Rattle.pivot_check.proofs.Writers.{lesser_comm}
 
 -- ---- the order of keys
 
@@ -156,36 +153,3 @@ least-or x y w (p ∷ ps) = grind (arith, least-or x y w ps)
 pub none_asked : (w : Posting → Bool) (ps : List Posting) → least (λ p. false && w p) ps ≡ None
 none_asked w [] = refl
 none_asked w (p ∷ ps) = none_asked w ps
-
--- ---- runs
-
--- none has a number above one that all are up to
-pub none_above : (o last : ℕ) (c : Posting → Bool) (ps : List Posting) → last ≤ o → are_upto last ps ≡ true → least (λ p. nat_lt o p.number && c p) ps ≡ None
-none_above o last c [] le h = refl
-none_above o last c (p ∷ ps) le h = grind (arith, nat_tests, none_above o last c ps le)
-
--- one more run
-pub pushed : (c : Posting → Bool) (rs : List WrittenRun) (r : WrittenRun) → least c (postings_in (rs ++ r ∷ [])) ≡ lesser (least c (postings_in rs)) (least c (in_run r))
-pushed c [] r = least-append c (in_run r) [] ∙ lesser_none (least c (in_run r))
-pushed c (q ∷ rs) r =
-    let whole = least-append c (in_run q) (postings_in (rs ++ r ∷ [])) in
-    grind (arith, lesser_assoc (least c (in_run q)) (least c (postings_in rs)) (least c (in_run r)), least-append c (in_run q) (postings_in rs), pushed c rs r)
-
--- another run in the place of one, and the others
-pub put_in : (c : Posting → Bool) (rs : List WrittenRun) (i : ℕ) (r : WrittenRun) → i < length rs → least c (postings_in (set rs i r)) ≡ lesser (least c (in_run r)) (least c (postings_in (remove rs i)))
-put_in c [] i r lt = absurd (omega arith)
-put_in c (q ∷ rs) zero r lt = least-append c (in_run r) (postings_in rs)
-put_in c (q ∷ rs) (suc i) r lt =
-    let whole = least-append c (in_run q) (postings_in (set rs i r)) in
-    grind (arith, lesser_comm, lesser_assoc, least-append c (in_run q) (postings_in (remove rs i)), put_in c rs i r)
-
--- a run and the others
-pub taken_out : (c : Posting → Bool) (rs : List WrittenRun) (i : ℕ) (r : WrittenRun) → i < length rs → r ≡ get_or rs i r → least c (postings_in rs) ≡ lesser (least c (in_run r)) (least c (postings_in (remove rs i)))
-taken_out c rs i r lt is = ap (λ (l : List WrittenRun). least c (postings_in l)) (sym (ap (set rs i) is ∙ set-get_or rs i r)) ∙ put_in c rs i r lt
-
--- a run is left out, where it has no later number
-pub without_old : (o : ℕ) (c : Posting → Bool) (rs : List WrittenRun) (i : ℕ) (r : WrittenRun) → i < length rs → r ≡ get_or rs i r → r.last ≤ o
-    → least (λ p. nat_lt o p.number && c p) (postings_in (remove rs i)) ≡ least (λ p. nat_lt o p.number && c p) (postings_in rs)
-without_old o c rs i r lt is le =
-    let none = none_above o r.last c (in_run r) le r.upto in
-    sym (taken_out (λ p. nat_lt o p.number && c p) rs i r lt is ∙ ap (λ u. lesser u (least (λ p. nat_lt o p.number && c p) (postings_in (remove rs i)))) none)

@@ -12,6 +12,7 @@ use Rattle.model.proofs.Pivots.{find_alike}
 use Rattle.snapshot.specs.View.{View}
 use Rattle.pivot_check.specs.Kept.{KeptRecord, first_number, follows, becomes_pivot, is_written}
 use Rattle.pivot_check.specs.Postings.{Posting, postings_by, least, lesser, asked_of, covered_of}
+use Rattle.pivot_check.specs.Agreeing.{lesser_none, lesser_assoc, least-append}
 use Rattle.pivot_check.specs.StandsFor.{postings_of, all_postings, AreWriters}
 
 -- the records stand by rising commit number
@@ -21,20 +22,10 @@ IsRising (r ∷ rs) = AllByRecursion (λ s. r.commit < s.commit) rs × IsRising 
 
 -- ---- the lesser number
 
-pub lesser_none : (o : Option ℕ) → lesser o None ≡ o
-lesser_none o = grind arith
-
 pub lesser_comm : (o p : Option ℕ) → lesser o p ≡ lesser p o
 lesser_comm o p = grind arith
 
-pub lesser_assoc : (o p q : Option ℕ) → lesser (lesser o p) q ≡ lesser o (lesser p q)
-lesser_assoc o p q = grind arith
-
 -- ---- the least number of postings
-
-pub least-append : (c : Posting → Bool) (ps qs : List Posting) → least c (ps ++ qs) ≡ lesser (least c ps) (least c qs)
-least-append c [] qs = refl
-least-append c (p ∷ ps) qs = grind (arith, lesser_assoc, least-append c ps qs)
 
 pub least_alike : (c d : Posting → Bool) → ((p : Posting) → c p ≡ d p) → (ps : List Posting) → least c ps ≡ least d ps
 least_alike c d same [] = refl

@@ -2,7 +2,8 @@
 use Rattle.std.specs.Prelude.{◌≡◌, ◌<◌, ◌≤◌, ℕ, ◌*◌, Bool, true, not, ◌&&◌, ◌||◌, List, Option, Some, nat_le, length, take, drop, slice_index_or}
 use Rattle.std.specs.List.{list_all, AllByRecursion}
 use Rattle.pivot_check.specs.declared.bound.Bound.{Bound}
-use Rattle.pivot_check.specs.declared.part.Looked.{Looked}
+use Rattle.pivot_check.specs.declared.looks.Looked.{Looked}
+use Rattle.pivot_check.specs.declared.written.Span.{Span}
 use Rattle.pivot_check.specs.Postings.{Posting, lesser, is_asked, between}
 
 -- whether the posting's number isn't below the bound nor above its last, nor below that of flagged ones where it has the flag
@@ -15,6 +16,10 @@ are_from_bound b ps = list_all (is_from_bound b) ps
 -- each bound is one of its block of 64 postings; behind the blocks with a bound there may be more postings
 abbrev pub AreBounds : List Bound → List Posting → Type 0
 AreBounds bs ps = (i : ℕ) (b : Bound) → i < length bs → are_from_bound (slice_index_or bs i b) (take 64 (drop (64 * i) ps)) ≡ true
+
+-- the postings from a span's first to before its end
+abbrev pub in_span : Span → List Posting → List Posting
+in_span span ps = between span.first span.end ps
 
 -- no posting that is asked for has a number below the one that was found
 abbrev pub KeepsFound : Option ℕ → ℕ → Bool → List Posting → Type 0

@@ -5,8 +5,8 @@ use Rattle.model.specs.Map.{Bytes, KeyWrite, is_same_key}
 use Rattle.model.specs.PrivateCopy.{Mark, is_covered}
 use Rattle.snapshot.specs.View.{View}
 use Rattle.last_readers.specs.Readers.{Readers, ReadersRoom, last_reader, after, HasRoom as HasReadersRoom}
-use Rattle.last_readers.specs.Held.{Held, due_upto, given_a_forget}
-use Rattle.last_readers.specs.RunSizes.{RunSize}
+use Rattle.merging_runs.specs.Held.{Held, due_upto, given_a_forget}
+use Rattle.merging_runs.specs.RunSizes.{RunSize}
 use Rattle.pivot_check.specs.Postings.{Posting}
 
 -- what the check needs of a committed transaction: the marks of what it read, the keys that it wrote by rising key, and whether it has a

@@ -21,3 +21,7 @@ AreAllPlaces ms places = (k : Bytes) → is_covered_at ms places k ≡ is_covere
 -- what is asked of a posting: the mark at one of these places covers its key, and the rest
 abbrev pub covered_at : List Mark → List ℕ → ℕ → Bool → Posting → Bool
 covered_at ms places b flagged p = is_covered_at ms places p.key && is_asked b flagged p
+
+-- so it is of the mark at one place
+abbrev pub asked_there : List Mark → ℕ → ℕ → Bool → Posting → Bool
+asked_there ms place b flagged p = covered_at ms (place ∷ []) b flagged p

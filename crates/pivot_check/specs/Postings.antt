@@ -1,5 +1,5 @@
 -- Written keys of committed transactions, and the least number among them.
-use Rattle.std.specs.Prelude.{ℕ, ◌-◌, min, Bool, true, not, ◌&&◌, ◌||◌, List, [], ◌∷◌, Option, Some, None, is_some, if◌then◌else◌, nat_lt, take, drop}
+use Rattle.std.specs.Prelude.{◌≡◌, ℕ, ◌-◌, min, Bool, true, not, ◌&&◌, ◌||◌, List, [], ◌∷◌, Option, Some, None, is_some, if◌then◌else◌, nat_lt, take, drop}
 use Rattle.std.specs.List.{list_all}
 use Rattle.std.specs.Ordering.{is_le, is_lt}
 use Rattle.model.specs.Map.{Bytes, key_cmp}
@@ -31,12 +31,28 @@ least c (p ∷ ps) = lesser (if c p then Some p.number else None) (least c ps)
 abbrev pub is_asked : ℕ → Bool → Posting → Bool
 is_asked b flagged p = nat_lt b p.number && (p.has_earlier_target || not flagged)
 
+-- the number of a posting of which that holds
+abbrev pub number_asked : ℕ → Bool → Posting → Option ℕ
+number_asked b flagged p = if is_asked b flagged p then Some p.number else None
+
 -- what is asked of a posting: its key is covered, and the rest
 abbrev pub asked_of : Mark → ℕ → Bool → Posting → Bool
 asked_of m b flagged p = covers m p.key && is_asked b flagged p
 
 abbrev pub covered_of : List Mark → ℕ → Bool → Posting → Bool
 covered_of ms b flagged p = is_covered ms p.key && is_asked b flagged p
+
+-- whatever is asked, the covered ones of these postings answer as those others do
+abbrev pub CountCovered : Mark → List Posting → List Posting → Type 0
+CountCovered m ps qs = (c : Posting → Bool) → least (λ p. covers m p.key && c p) ps ≡ least c qs
+
+-- whatever is asked, these postings answer as those of both do
+abbrev pub CountBoth : List Posting → List Posting → List Posting → Type 0
+CountBoth ps qs more = (c : Posting → Bool) → least c ps ≡ lesser (least c qs) (least c more)
+
+-- whatever is asked, both of these answer as both of those do
+abbrev pub CountAlike : List Posting → List Posting → List Posting → List Posting → Type 0
+CountAlike ps qs rs ss = (c : Posting → Bool) → lesser (least c ps) (least c qs) ≡ lesser (least c rs) (least c ss)
 
 -- the postings stand by rising key, those of one key beside one another
 abbrev pub keys_rise : List Posting → Bool

@@ -12,7 +12,7 @@ use Rattle.model.specs.Dependency.{concurrent_read_write}
 use Rattle.model.specs.Verdict.{verdict, HasNoDangerousPivot}
 use Rattle.snapshot.specs.View.{View}
 use Rattle.last_readers.specs.Readers.{cut, last_reader}
-use Rattle.pivot_check.specs.Kept.{KeptRecord, Facts, keys_of}
+use Rattle.pivot_check.specs.Kept.{KeptRecord, Facts, IsInReach, keys_of}
 use Rattle.pivot_check.specs.Postings.{Posting, postings_by, least}
 
 -- what is kept of a record of the history, the whole of which decides its flag
@@ -97,3 +97,8 @@ IsVerdict f t answer = (history : List Record) → StandsFor f history → (r : 
 -- over each of them the transaction may commit
 abbrev pub IsClear : Facts → View → Type 0
 IsClear f t = (history : List Record) → StandsFor f history → (r : Record) → IsRecordOf t (f.last + 1) r → verdict history r ≡ None
+
+-- what the old facts stand for, the new ones stand for with the record of the transaction, which may commit, as number n
+abbrev pub StandWithRecord : Facts → Facts → View → ℕ → Type 0
+StandWithRecord old new t n =
+    IsInReach old t → IsClear old t → (h : List Record) → StandsFor old h → (r : Record) → IsRecordOf t n r → StandsFor new (h ++ r ∷ [])

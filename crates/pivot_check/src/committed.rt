@@ -1,38 +1,27 @@
 //! The committed transactions.
-ghost use Rattle.std.specs.Prelude.{◌≡◌, ◌+◌, ◌≤◌, ◌<◌, List, [], ◌∷◌, ◌++◌, true, false, is_some, length, max, nat_lt, OnOk, ◌-◌};
+ghost use Rattle.std.specs.Prelude.{◌≡◌, ◌+◌, ◌≤◌, ◌<◌, List, [], true, false, is_some, length, max, nat_lt, OnOk, ◌-◌};
 ghost use Rattle.model.specs.History.{Record};
 ghost use Rattle.last_readers.specs.Readers.{IsForgotten};
-ghost use Rattle.last_readers.specs.Held.{due_upto, given_a_forget, size_in};
-ghost use Rattle.last_readers.specs.RunSizes.{left_above, with_run};
-ghost use Rattle.pivot_check.specs.Merged.{IsMerged, IsMergedBy};
+ghost use Rattle.merging_runs.specs.Held.{size_in};
+ghost use Rattle.merging_runs.specs.RunSizes.{left_above, with_run};
+ghost use Rattle.pivot_check.specs.Merged.{AreMerged, IsMerged};
 ghost use Rattle.pivot_check.specs.Kept.{HasForgotten, IsEmpty, IsInReach, HasRoom, IsGivenBack, runs_due};
 ghost use Rattle.pivot_check.specs.Index.{FindsTarget, answer_found, target};
-ghost use Rattle.pivot_check.specs.StandsFor.{StandsFor, IsRecordOf, IsVerdict, IsPlaced, IsClear};
-ghost use Rattle.pivot_check.specs.Inside.{held_of, size_of};
+ghost use Rattle.pivot_check.specs.StandsFor.{StandWithRecord, StandsFor, IsVerdict, IsPlaced};
 
 use crate::by_start::ByStart;
-use crate::merges::{move_runs, open_last};
 use crate::ready::Ready;
 use crate::run::WrittenRun;
-use crate::runs::{add_run, first_overwritten, is_one_old, least_covered, take_old};
+use crate::runs::{add_run, first_overwritten, least_covered};
 use crate::sources::last_source;
-use crate::stale::Stale;
 use crate::verdict::Verdict;
 use crate::written::add_all;
 use last_readers::LastReaders;
+use merging_runs::Runs;
 use model::Memory;
 use snapshot::Transaction;
 use std::alloc::Global;
 use std::marker::Model;
-
-/// How many postings of the merges are moved for each key that is noted: more than there are lengths of runs that are merged into one another.
-const MOVES_EACH: usize = 16;
-
-/// How many more are moved for a commit.
-const MOVES_MORE: usize = 64;
-
-/// The most written keys that are dropped in one call, where a run counts as one more.
-const GIVEN_BACK_MAX: usize = 1_024;
 
 /// The committed transactions that an open one may still be concurrent with. A clause sees what is kept of them (`facts`), the memory that
 /// was made ready (`room`), and how much the runs hold (`held`). What is kept stands for histories: over each of them the answers are those
@@ -44,30 +33,25 @@ const GIVEN_BACK_MAX: usize = 1_024;
 #[derive(Drop)]
 pub struct Committed {
     readers: LastReaders,
-    runs: Vec<WrittenRun>,
+    runs: Runs<WrittenRun>,
     oldest: u64,
     last: u64,
     // what the next commit needs
     ready: Option<Ready>,
-    // a run that has no number for which one may ask
-    stale: Option<Stale>,
-    // how often memory for a merge of written keys was refused. It stays at 2^64 - 1
-    refused: u64,
 }
 
 impl Model for Committed {
-    ghost use Rattle.std.specs.Prelude.{◌-◌, ◌≤◌};
-    ghost use Rattle.std.specs.Vec.{vec_len, vec_capacity};
+    ghost use Rattle.std.specs.Prelude.{◌≤◌};
     ghost use Rattle.last_readers.specs.Readers.{last_reader, AreUpto};
     ghost use Rattle.pivot_check.specs.Kept.{CommittedValue, AreAbove};
-    ghost use Rattle.pivot_check.specs.Inside.{postings_in, ready_of, held_in, taken_of, sizes_in};
+    ghost use Rattle.pivot_check.specs.Inside.{postings_in, ready_of};
 
     ghost Value = { CommittedValue };
 
     ghost view = { λ c. record {
-      facts = record { readers = c.readers.readers; postings = postings_in c.runs.items; oldest = c.oldest; last = c.last };
-      room = record { readers = c.readers.room; runs = vec_capacity c.runs - vec_len c.runs; ready = ready_of c.ready };
-      held = record { readers = c.readers.held; written = record { runs = held_in c.runs.items; taken = taken_of c.stale }; sizes = sizes_in c.runs.items; refused = c.refused };
+      facts = record { readers = c.readers.readers; postings = postings_in c.runs.runs; oldest = c.oldest; last = c.last };
+      room = record { readers = c.readers.room; runs = c.runs.places; ready = ready_of c.ready };
+      held = record { readers = c.readers.held; written = c.runs.held; sizes = c.runs.sizes; refused = c.runs.refused };
     } };
 
     ghost invariant = { λ c. record {
@@ -86,12 +70,10 @@ impl Committed {
     {
         Committed {
             readers: LastReaders::new(alloc),
-            runs: Vec::new(alloc),
+            runs: Runs::new(alloc),
             oldest: 0,
             last: 0,
             ready: None,
-            stale: None,
-            refused: 0,
         }
     }
 
@@ -122,7 +104,7 @@ impl Committed {
     pub fn runs(&self) -> usize
         ensures { result ≡ length self.now.held.sizes }
     {
-        self.runs.len()
+        self.runs.as_slice().len()
     }
 
     /// How many written keys the runs hold, and one more for each run; 2^64 - 1 where there were more. What a merge has moved counts twice
@@ -130,16 +112,14 @@ impl Committed {
     pub fn postings(&self) -> usize
         ensures { result ≡ size_in self.now.held.written.runs }
     {
-        self.runs
-            .iter()
-            .fold(0, |sum: usize, run| sum.saturating_add(run.size()))
+        self.runs.size()
     }
 
     /// How often memory for a merge of written keys was refused, 2^64 - 1 at most: each time two runs of a like size stayed. Takes no memory.
     pub fn refused(&self) -> u64
         ensures { result ≡ self.now.held.refused }
     {
-        self.refused
+        self.runs.refused()
     }
 
     // The answer where the transaction overwrites no concurrent commit. A transaction is a dangerous pivot where its first target committed
@@ -147,12 +127,13 @@ impl Committed {
     fn answer(&self, tx: &Transaction) -> Verdict
         ensures { result ≡ answer_found self.now.facts tx.now }
     {
-        if self.runs.is_empty() {
+        let runs = self.runs.as_slice();
+        if runs.is_empty() {
             return Verdict::Clear(false);
         }
         let begin = tx.begin();
         let order = ByStart::of(tx.marks().held());
-        let Some(target) = least_covered(&self.runs, &order, begin, false) else {
+        let Some(target) = least_covered(runs, &order, begin, false) else {
             return Verdict::Clear(false);
         };
         if let Some(source) = last_source(&self.readers, tx.entries(), begin) {
@@ -160,7 +141,7 @@ impl Committed {
                 return Verdict::PivotSelf;
             }
         }
-        match least_covered(&self.runs, &order, begin, true) {
+        match least_covered(runs, &order, begin, true) {
             Some(n) => Verdict::Pivot(n),
             None => Verdict::Clear(true),
         }
@@ -179,7 +160,7 @@ impl Committed {
         ensures target { FindsTarget self.now.facts tx.now result }
         ensures place { IsPlaced result tx.now.writes }
     {
-        match first_overwritten(&self.runs, tx.entries(), tx.begin()) {
+        match first_overwritten(self.runs.as_slice(), tx.entries(), tx.begin()) {
             Some(i) => Verdict::Overwritten(i),
             None => self.answer(tx),
         }
@@ -194,10 +175,10 @@ impl Committed {
         ensures refused { self.new.held.refused ≡ self.old.held.refused }
         ensures room { OnOk result (HasRoom self.new.room tx.now) }
     {
-        let alloc = *self.runs.allocator();
+        let alloc = self.runs.allocator();
         let ready = Ready::for_commit(alloc, tx)?;
         self.readers.reserve(tx.marks())?;
-        self.runs.reserve(1)?;
+        self.runs.reserve()?;
         self.ready = Some(ready);
         Ok(())
     }
@@ -207,7 +188,7 @@ impl Committed {
         requires next { n ≡ self.old.facts.last + 1 }
         requires target { has_earlier_target ≡ is_some (target self.old.facts tx.now) }
         requires room { HasRoom self.old.room tx.now }
-        ensures stands_for { IsInReach self.old.facts tx.now → IsClear self.old.facts tx.now → (h : List Record) → StandsFor self.old.facts h → (r : Record) → IsRecordOf tx.now n r → StandsFor self.new.facts (h ++ r ∷ []) }
+        ensures stands_for { StandWithRecord self.old.facts self.new.facts tx.now n }
         ensures last { self.new.facts.last ≡ n }
         ensures oldest { self.new.facts.oldest ≡ self.old.facts.oldest }
         ensures sizes { self.new.held.sizes ≡ with_run n (length tx.now.writes) self.old.held.sizes }
@@ -223,16 +204,14 @@ impl Committed {
         self.last = n;
     }
 
-    // Begins one merge at most of two runs of a like size, and moves so many postings of those that are under way.
-    fn merge(&mut self, most: usize)
+    // Begins one merge at most of two runs of a like size, and moves postings of those that are under way, for so many that were noted.
+    fn merge(&mut self, count: usize)
         ensures stands_for { (h : List Record) → StandsFor self.old.facts h → StandsFor self.new.facts h }
-        ensures readers { self.new.facts.readers ≡ self.old.facts.readers }
         ensures oldest { self.new.facts.oldest ≡ self.old.facts.oldest }
         ensures last { self.new.facts.last ≡ self.old.facts.last }
-        ensures merged { IsMergedBy self.new.facts.oldest most self.old.held.sizes self.new.held.sizes self.old.held.refused self.new.held.refused }
+        ensures merged { AreMerged count self.old.held.sizes self.old self.new }
     {
-        open_last(&mut self.runs, self.oldest, &mut self.refused);
-        move_runs(&mut self.runs, self.oldest, most);
+        self.runs.merge(self.oldest, count);
     }
 
     /// Keeps what the check needs of the transaction, which commits as number `n`, the next one; what `Verdict::Clear` said of its
@@ -244,113 +223,13 @@ impl Committed {
         requires next { n ≡ self.old.facts.last + 1 }
         requires target { has_earlier_target ≡ is_some (target self.old.facts tx.now) }
         requires room { HasRoom self.old.room tx.now }
-        ensures stands_for { IsInReach self.old.facts tx.now → IsClear self.old.facts tx.now → (h : List Record) → StandsFor self.old.facts h → (r : Record) → IsRecordOf tx.now n r → StandsFor self.new.facts (h ++ r ∷ []) }
+        ensures stands_for { StandWithRecord self.old.facts self.new.facts tx.now n }
         ensures last { self.new.facts.last ≡ n }
         ensures oldest { self.new.facts.oldest ≡ self.old.facts.oldest }
         ensures merged { IsMerged tx.now n self.old self.new }
     {
         self.add_record(tx, n, has_earlier_target);
-        let count = tx.entries().len();
-        self.merge(count.saturating_mul(MOVES_EACH).saturating_add(MOVES_MORE));
-    }
-
-    // From now on none may ask that began before number `oldest`: readers that committed at or before it are dropped. Are more of their runs
-    // to be given back?
-    fn raise(&mut self, oldest: u64) -> bool
-        requires { oldest ≤ self.old.facts.last }
-        ensures stands_for { (h : List Record) → StandsFor self.old.facts h → StandsFor self.new.facts h }
-        ensures readers { IsForgotten oldest self.old.facts.readers self.new.facts.readers }
-        ensures forgotten { HasForgotten oldest self.new.facts }
-        ensures oldest { self.new.facts.oldest ≡ max self.old.facts.oldest oldest }
-        ensures last { self.new.facts.last ≡ self.old.facts.last }
-        ensures written { self.new.held.written ≡ self.old.held.written }
-        ensures due { due_upto self.new.facts.readers.oldest self.new.held.readers ≡ due_upto self.new.facts.readers.oldest self.old.held.readers - given_a_forget }
-        ensures still { result ≡ nat_lt 0 (due_upto self.new.facts.readers.oldest self.new.held.readers) }
-        ensures sizes { self.new.held.sizes ≡ self.old.held.sizes }
-        ensures refused { self.new.held.refused ≡ self.old.held.refused }
-    {
-        let due = self.readers.forget(oldest);
-        self.oldest = self.oldest.max(oldest);
-        due
-    }
-
-    // Takes out a run that has no number for which one may ask, if there is one.
-    fn take_old(&mut self) -> Option<WrittenRun>
-        ensures stands_for { (h : List Record) → StandsFor self.old.facts h → StandsFor self.new.facts h }
-        ensures readers { self.new.facts.readers ≡ self.old.facts.readers }
-        ensures oldest { self.new.facts.oldest ≡ self.old.facts.oldest }
-        ensures last { self.new.facts.last ≡ self.old.facts.last }
-        ensures held { self.new.held.readers ≡ self.old.held.readers }
-        ensures due { due_upto self.new.facts.oldest self.old.held.written ≡ size_of result + due_upto self.new.facts.oldest self.new.held.written }
-        ensures taken { self.new.held.written.taken ≡ self.old.held.written.taken }
-        ensures none { result ≡ None → due_upto self.new.facts.oldest self.new.held.written ≡ self.new.held.written.taken }
-        ensures left { left_above self.new.facts.oldest self.new.held.sizes ≡ left_above self.new.facts.oldest self.old.held.sizes }
-        ensures refused { self.new.held.refused ≡ self.old.held.refused }
-    {
-        take_old(&mut self.runs, self.oldest)
-    }
-
-    // Gives back so much at most of the run that is being given back, if there is one: how much more may be given back, which is none while
-    // something is left of it.
-    fn give_back(&mut self, most: usize) -> usize
-        ensures facts { self.new.facts ≡ self.old.facts }
-        ensures readers { self.new.held.readers ≡ self.old.held.readers }
-        ensures runs { self.new.held.written.runs ≡ self.old.held.written.runs }
-        ensures taken { self.old.held.written.taken + result ≡ self.new.held.written.taken + most }
-        ensures ended { 0 < result → self.new.held.written.taken ≡ 0 }
-        ensures sizes { self.new.held.sizes ≡ self.old.held.sizes }
-        ensures refused { self.new.held.refused ≡ self.old.held.refused }
-    {
-        let Some(stale) = &mut self.stale else {
-            return most;
-        };
-        let left = stale.give_back(most);
-        if left == 0 {
-            return 0;
-        }
-        self.stale = None;
-        left - 1
-    }
-
-    // Gives back so much at most of a run that was taken out, the whole of it at once where that is enough.
-    fn give_back_run(&mut self, run: WrittenRun, most: usize) -> usize
-        requires none { self.old.held.written.taken ≡ 0 }
-        requires some { 0 < most }
-        requires most { most ≤ given_a_forget }
-        ensures facts { self.new.facts ≡ self.old.facts }
-        ensures readers { self.new.held.readers ≡ self.old.held.readers }
-        ensures runs { self.new.held.written.runs ≡ self.old.held.written.runs }
-        ensures taken { (held_of run).size + result ≡ self.new.held.written.taken + most }
-        ensures ended { 0 < result → self.new.held.written.taken ≡ 0 }
-        ensures sizes { self.new.held.sizes ≡ self.old.held.sizes }
-        ensures refused { self.new.held.refused ≡ self.old.held.refused }
-    {
-        let size = run.size();
-        if size <= most {
-            return most - size;
-        }
-        self.stale = Some(Stale::of(run));
-        self.give_back(most)
-    }
-
-    // Gives back runs that have no number for which one may ask, 1,024 of their keys at most.
-    fn give_back_old(&mut self)
-        ensures stands_for { (h : List Record) → StandsFor self.old.facts h → StandsFor self.new.facts h }
-        ensures readers { self.new.facts.readers ≡ self.old.facts.readers }
-        ensures oldest { self.new.facts.oldest ≡ self.old.facts.oldest }
-        ensures last { self.new.facts.last ≡ self.old.facts.last }
-        ensures held { self.new.held.readers ≡ self.old.held.readers }
-        ensures due { due_upto self.new.facts.oldest self.new.held.written ≡ due_upto self.old.facts.oldest self.old.held.written - given_a_forget }
-        ensures left { left_above self.new.facts.oldest self.new.held.sizes ≡ left_above self.new.facts.oldest self.old.held.sizes }
-        ensures refused { self.new.held.refused ≡ self.old.held.refused }
-    {
-        let mut left = self.give_back(GIVEN_BACK_MAX);
-        'runs: while left > 0 {
-            let Some(run) = self.take_old() else {
-                return;
-            };
-            left = self.give_back_run(run, left);
-        }
+        self.merge(tx.entries().len());
     }
 
     /// Drops what was kept of the transactions that committed at or before number `oldest`, from the runs when the whole run is as
@@ -370,8 +249,9 @@ impl Committed {
         ensures left { left_above self.new.facts.oldest self.new.held.sizes ≡ left_above self.new.facts.oldest self.old.held.sizes }
         ensures refused { self.new.held.refused ≡ self.old.held.refused }
     {
-        let due = self.raise(oldest);
-        self.give_back_old();
-        due || self.stale.is_some() || is_one_old(&self.runs, self.oldest)
+        let are_readers_due = self.readers.forget(oldest);
+        self.oldest = self.oldest.max(oldest);
+        let are_runs_due = self.runs.forget(self.oldest);
+        are_readers_due || are_runs_due
     }
 }

@@ -9,6 +9,7 @@
 mod bound;
 mod by_start;
 mod committed;
+mod looks;
 mod merges;
 mod merging;
 mod part;
@@ -16,7 +17,6 @@ mod ready;
 mod run;
 mod runs;
 mod sources;
-mod stale;
 mod verdict;
 mod written;
 

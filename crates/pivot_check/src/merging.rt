@@ -1,9 +1,9 @@
 //! Two parts of a run made into a third.
 ghost use Rattle.std.specs.Prelude.{◌≡◌, ◌≤◌, ◌<◌, ◌+◌, ◌++◌, IsTrue, Bool, true, false, length, List};
 ghost use Rattle.std.specs.Vec.{vec_len, vec_capacity};
-ghost use Rattle.pivot_check.specs.Postings.{Posting, keys_rise, least, lesser};
+ghost use Rattle.pivot_check.specs.Postings.{CountAlike, Posting, keys_rise, least};
 ghost use Rattle.pivot_check.specs.Parts.{live, left, live_in};
-ghost use Rattle.pivot_check.specs.Merging.{BeginsBelow};
+ghost use Rattle.pivot_check.specs.Merging.{BeginsBelow, StaysRising};
 
 use crate::part::Part;
 
@@ -28,9 +28,9 @@ fn move_first(from: &mut Part, to: &mut Part)
     requires some { 0 < left from.old }
     requires rising { IsTrue (keys_rise (live to.old ++ live from.old)) }
     requires room { length to.old.written.items < vec_capacity to.old.written }
-    ensures same { (c : Posting → Bool) → lesser (least c (live to.new)) (least c (live from.new)) ≡ lesser (least c (live to.old)) (least c (live from.old)) }
+    ensures same { CountAlike (live to.new) (live from.new) (live to.old) (live from.old) }
     ensures rising { IsTrue (keys_rise (live to.new ++ live from.new)) }
-    ensures other { (ys : List Posting) → BeginsBelow (live from.old) ys → IsTrue (keys_rise (live to.old ++ ys)) → IsTrue (keys_rise (live to.new ++ ys)) }
+    ensures other { StaysRising (live from.old) (live to.old) (live to.new) }
     ensures left { left from.new + 1 ≡ left from.old }
     ensures made { left to.new ≡ left to.old + 1 }
     ensures to_len { length to.new.written.items ≡ length to.old.written.items + 1 }

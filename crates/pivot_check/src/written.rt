@@ -2,10 +2,10 @@
 ghost use Rattle.std.specs.Prelude.{◌≡◌, ◌≤◌, ◌<◌, ◌+◌, ◌-◌, IsTrue, Bool, nat_lt, not, ◌&&◌, ◌||◌, [], ◌∷◌, length, take, Some, None, if◌then◌else◌};
 ghost use Rattle.std.specs.List.{insert};
 ghost use Rattle.std.specs.Vec.{vec_len, vec_capacity};
-ghost use Rattle.model.specs.PrivateCopy.{covers};
 ghost use Rattle.marks.specs.Lent.{lent_mark};
 ghost use Rattle.marks.specs.Marked.{start_of};
-ghost use Rattle.pivot_check.specs.Postings.{Posting, postings_by, keys_rise, are_from, least, lesser, is_asked, between};
+ghost use Rattle.pivot_check.specs.Bounds.{in_span};
+ghost use Rattle.pivot_check.specs.Postings.{CountBoth, CountCovered, Posting, number_asked, postings_by, keys_rise, are_from, least, lesser, is_asked};
 
 use marks::MarkRef;
 use model::{Key, KeyRef};
@@ -85,7 +85,7 @@ fn lesser_of(found: Option<u64>, number: u64) -> Option<u64>
 
 // The number that was found, or that of the posting where it is lesser and asked for.
 fn found_with(found: Option<u64>, posting: &Written, begin: u64, flagged: bool) -> Option<u64>
-    ensures { result ≡ lesser found (if nat_lt begin posting.now.number && (posting.now.has_earlier_target || not flagged) then Some posting.now.number else None) }
+    ensures { result ≡ lesser found (number_asked begin flagged posting.now) }
 {
     if begin < posting.number && (posting.has_earlier_target || !flagged) {
         lesser_of(found, posting.number)
@@ -122,7 +122,7 @@ fn count_covered(postings: &[Written], mark: MarkRef<'_>) -> usize
     requires rising { IsTrue (keys_rise postings.now) }
     requires from { IsTrue (are_from (start_of (lent_mark mark)) postings.now) }
     ensures within { result ≤ length postings.now }
-    ensures covered { (c : Posting → Bool) → least (λ p. covers (lent_mark mark.entry) p.key && c p) postings.now ≡ least c (take result postings.now) }
+    ensures covered { CountCovered (lent_mark mark.entry) postings.now (take result postings.now) }
 {
     let Some(posting) = postings.first() else {
         return 0;
@@ -138,7 +138,7 @@ pub(crate) fn covered(postings: &[Written], mark: MarkRef<'_>) -> Span
     requires { IsTrue (keys_rise postings.now) }
     ensures order { result.first ≤ result.end }
     ensures within { result.end ≤ length postings.now }
-    ensures covered { (c : Posting → Bool) → least (λ p. covers (lent_mark mark.entry) p.key && c p) postings.now ≡ least c (between result.first result.end postings.now) }
+    ensures covered { CountCovered (lent_mark mark.entry) postings.now (in_span result postings.now) }
 {
     let low = mark.start();
     let first = postings.partition_point(|posting| posting.key().order(low).is_lt());
@@ -161,7 +161,7 @@ fn add_written(postings: &mut Vec<Written>, key: Key, number: u64, has_earlier_t
     requires spare { vec_len postings.old < vec_capacity postings.old }
     ensures len { vec_len postings.new ≡ vec_len postings.old + 1 }
     ensures rising { IsTrue (keys_rise postings.new.items) }
-    ensures added { (c : Posting → Bool) → least c postings.new.items ≡ lesser (least c postings.old.items) (least c (record { key = key; number = number; has_earlier_target = has_earlier_target } ∷ [])) }
+    ensures added { CountBoth postings.new.items postings.old.items (postings_by number has_earlier_target (key ∷ [])) }
     ensures spare { vec_capacity postings.old - vec_len postings.old ≤ vec_capacity postings.new - vec_len postings.new + 1 }
 {
     let place = end_of(postings, key.lend());
@@ -187,7 +187,7 @@ pub(crate) fn add_all(
     requires spare { length keys.items ≤ vec_capacity postings.old - vec_len postings.old }
     ensures len { vec_len postings.new ≡ vec_len postings.old + length keys.items }
     ensures rising { IsTrue (keys_rise postings.new.items) }
-    ensures added { (c : Posting → Bool) → least c postings.new.items ≡ lesser (least c postings.old.items) (least c (postings_by number has_earlier_target keys.items)) }
+    ensures added { CountBoth postings.new.items postings.old.items (postings_by number has_earlier_target keys.items) }
 {
     for key in keys {
         add_written(postings, key, number, has_earlier_target);

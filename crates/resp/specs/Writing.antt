@@ -11,7 +11,8 @@ use Rattle.model.specs.declared.keys.KeyRef.{KeyRef}
 use Rattle.model.specs.declared.commands.Reply.{Reply}
 use Rattle.model.specs.declared.commands.Reply.TheVariants as replies
 use Rattle.model.specs.KeyBytes.{pair_bytes}
-use Rattle.model.specs.ReplyText.{hex_text}
+use Rattle.model.specs.Operations.Response.{Pairs}
+use Rattle.model.specs.ReplyText.{reply_text, hex_text}
 use Rattle.std.specs.Iterator.{AlwaysYields}
 
 -- the text stands at the end of new, or new has what old had; it is never refused where old has the room
@@ -34,6 +35,10 @@ detail other = []
 -- every run of calls from pairs gives lent pairs with these bytes, n of them, and then `None`
 abbrev pub GivesPairs : {S : Type 0} → (S → Option (KeyRef × Bor (List ℕ)) → S → Type 0) → S → ℕ → List (List ℕ × List ℕ) → Type 0
 GivesPairs steps pairs n all = (length all ≡ n) × AlwaysYields steps pair_bytes pairs all
+
+-- so it is of the text of the n pairs that the calls give
+abbrev pub OfText : {S : Type 0} → (S → Option (KeyRef × Bor (List ℕ)) → S → Type 0) → S → ℕ → (List ℕ → Type 0) → Type 0
+OfText steps pairs n P = (all : List (List ℕ × List ℕ)) → GivesPairs steps pairs n all → P (reply_text (Pairs all))
 
 -- any reply but a value
 abbrev pub IsBrief : Reply → Type 0

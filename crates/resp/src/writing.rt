@@ -6,9 +6,9 @@ ghost use Rattle.std.specs.Fmt.{decimal};
 ghost use Rattle.model.specs.Grammar.{array_of_bulks, bulk, crlf};
 ghost use Rattle.model.specs.Key.{IsKey};
 ghost use Rattle.model.specs.Operations.{response_of};
-ghost use Rattle.model.specs.Operations.Response.{Pairs, Refused};
+ghost use Rattle.model.specs.Operations.Response.{Refused};
 ghost use Rattle.model.specs.ReplyText.{reply_text, refusal_text, hex_text};
-ghost use Rattle.resp.specs.Writing.{Appends, GivesPairs, IsBrief, joined, detail};
+ghost use Rattle.resp.specs.Writing.{Appends, GivesPairs, IsBrief, OfText, joined, detail};
 
 use model::{KeyRef, Memory, Refusal, Reply};
 
@@ -168,13 +168,11 @@ pub fn write_pairs<'a, I: Iterator<Item = (KeyRef<'a>, &'a [u8])> + Drop>(
     requires gives { (all : List (List ℕ × List ℕ)) × GivesPairs I.next_gives pairs n all }
 
     // Their text is added, and nothing else.
-    ensures ok { (all : List (List ℕ × List ℕ)) → GivesPairs I.next_gives pairs n all
-        → OnOk result (out.new.items ≡ out.old.items ++ reply_text (Pairs all)) }
+    ensures ok { OfText I.next_gives pairs n (λ text. OnOk result (out.new.items ≡ out.old.items ++ text)) }
     // A refusal leaves the bytes as they were.
     ensures err { OnErr result (out.new.items ≡ out.old.items) }
     // A text that fits the room left is never refused.
-    ensures room { (all : List (List ℕ × List ℕ)) → GivesPairs I.next_gives pairs n all
-        → vec_len out.old + length (reply_text (Pairs all)) ≤ vec_capacity out.old → IsOk result }
+    ensures room { OfText I.next_gives pairs n (λ text. vec_len out.old + length text ≤ vec_capacity out.old → IsOk result) }
     // No room is lost.
     ensures capacity { vec_capacity out.old ≤ vec_capacity out.new }
 {

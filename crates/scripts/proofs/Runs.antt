@@ -1,6 +1,6 @@
 -- A script's lines, one after the other.
 use Rattle.std.proofs.Common.{◌≡◌, ◌≢◌, ℕ, ◌+◌, true, false, List, [], ◌∷◌, ◌++◌, Option, Some, None, Result, Ok, Err, refl, sym, ap, subst, ◌∙◌, append_assoc, arith, length-append, inl, inr}
-use Rattle.std.specs.Prelude.{IfSome, IsErrAnd, MatchResult, ◌⊎◌}
+use Rattle.std.specs.Prelude.{IfSome, IsErrAnd, ◌⊎◌}
 use Rattle.std.specs.Io.KnownBytes.{Appends, Keeps}
 use Rattle.std.specs.Io.BufRead.{drop_through}
 use Rattle.std.proofs.lemmas.List.{append-nil}
@@ -14,8 +14,8 @@ use Rattle.scripts.specs.declared.faults.ScriptFault.TheVariants.{BadLine, Crowd
 use Rattle.scripts.specs.declared.playing.Script.{Script}
 use Rattle.scripts.specs.Faults.{IsFromReading, IsOpening}
 use Rattle.scripts.specs.Lines.{ScriptLine, IsLine, lines_of}
-use Rattle.scripts.specs.Transcript.{Scene, Transcript, Begun, Continued, IsCrowded, LinePrints, TextPrints, RunsSome, Plays}
-use Rattle.scripts.specs.Calls.{IsAt, ReadsLine, Answers, Ends, Runs, RunSoFar}
+use Rattle.scripts.specs.Transcript.{Scene, Transcript, Begun, Continued, IsCrowded, LinePrints, TextPrints, RunsSome, Plays, session_of, with_label}
+use Rattle.scripts.specs.Calls.{IsAt, ReadsLine, Runs, RunsLine, RunSoFar}
 use Rattle.scripts.proofs.Texts.{first_of_lines}
 
 pub lift : {A : Type 0} (o : Option A) (P Q : A → Type 0) → ((x : A) → P x → Q x) → IfSome o P → IfSome o Q
@@ -143,7 +143,7 @@ text_prints scene line (byte ∷ bytes) some is place new printed prints = (line
 
 -- a line of a session was run as its answer says
 pub text_runs : {D : Type 0} {g : Ghosts D} (scene : Scene) (number : ℕ) (text : Bytes) (line : ScriptLine) (script : Script D g) (before after : Option Bytes) → text ≢ [] → IsLine text line → (IsCrowded scene line.label → ⊥)
-    → (r : Result (Unit {0}) ScriptFault) → MatchResult r (λ _. Answers script before after (LinePrints scene line)) (λ fault. Ends fault before after (LinePrints scene line)) → Runs scene number text r script before after
+    → (r : Result (Unit {0}) ScriptFault) → RunsLine (with_label scene line.label) (session_of scene.labels line.label) line r script before after → Runs scene number text r script before after
 text_runs scene number text line script before after some is place (Ok done) answered = record {
   scene = answered.scene;
   printed = answered.printed;

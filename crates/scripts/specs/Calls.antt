@@ -1,32 +1,44 @@
 -- What the calls of a script do.
-use Rattle.std.specs.Prelude.{◌≡◌, ◌≢◌, ℕ, ◌+◌, Bool, true, false, List, [], ◌++◌, length, Option, Some, None, Result, Ok, Err}
+use Rattle.std.specs.Prelude.{◌≡◌, ◌≢◌, ℕ, ◌+◌, Bool, true, false, List, [], ◌++◌, length, Option, Some, None, IfSome, Result, Ok, Err, IfOk, MatchResult}
 use Rattle.std.specs.Io.BufRead.{first_piece, drop_through}
 use Rattle.std.specs.Io.KnownBytes.{Appends}
 use Rattle.sector.specs.declared.device.Sectors.{Ghosts}
 use Rattle.model.specs.Map.{Bytes}
 use Rattle.sessions.specs.declared.hub.Hub.{Hub}
-use Rattle.sessions.specs.SessionStreams.{HubState, Serves, Front, IsPossible, hub_step}
-use Rattle.sessions.specs.StandsFor.{StandsFor}
+use Rattle.sessions.specs.SessionStreams.{HubState, Serves, Front, IsPossible, hub_step, stream_of}
+use Rattle.sessions.specs.StandsFor.{StandsFor, status_in}
 use Rattle.scripts.specs.declared.faults.ScriptFault.{ScriptFault}
 use Rattle.scripts.specs.declared.faults.ScriptFault.TheVariants.{BadLine, Crowded, File, Log, Memory}
 use Rattle.scripts.specs.declared.playing.Script.{Script}
 use Rattle.scripts.specs.Lines.{ScriptLine, IsLine, lines_of}
-use Rattle.scripts.specs.Transcript.{Scene, granted, session_of, with_label, IsCrowded, TextPrints, Transcript, IsBad, NamesOneTooMany}
+use Rattle.scripts.specs.Transcript.{Scene, granted, session_of, with_label, IsCrowded, AppendsPart, PrintsIn, TextPrints, Transcript, IsBad, NamesOneTooMany}
 
 -- the code's script is at this scene
 pub record IsAt {D : Type 0} {g : Ghosts D} (script : Script D g) (scene : Scene) : Type 0 where
   pub hub : StandsFor script.hub scene.hub
   pub labels : script.labels.items ≡ scene.labels
 
+-- it is so for each scene that the code's script is at
+abbrev pub AtScene : {D : Type 0} {g : Ghosts D} → Script D g → (Scene → Type 0) → Type 0
+AtScene script So = (scene : Scene) → IsAt script scene → So scene
+
 -- the first line was read without its end, and what is behind it is left; or there was none
 abbrev pub ReadsLine : Bytes → Bool → Bytes → Option Bytes → Type 0
 ReadsLine script true text left = (script ≢ []) × (text ≡ first_piece 10 script) × (left ≡ Some (drop_through 10 script))
 ReadsLine script false text left = script ≡ []
 
+-- a line of a reader was read, where the bytes that it has left are known
+abbrev pub ReadsNext : Option Bytes → Result Bool ScriptFault → Bytes → Option Bytes → Type 0
+ReadsNext known result text left = IfSome known (λ script. IfOk result (λ some. ReadsLine script some text left))
+
 -- the session of a label was found, or there is no place for one more
 abbrev pub Finds : {D : Type 0} {g : Ghosts D} → Scene → ℕ → Option ℕ → Script D g → Type 0
 Finds old label (Some s) script = (s ≡ session_of old.labels label) × (IsCrowded old label → ⊥) × IsAt script (with_label old label)
 Finds old label None script = IsCrowded old label × IsAt script old
+
+-- it was looked for: memory may be refused where it has a place
+abbrev pub LooksFor : {D : Type 0} {g : Ghosts D} → Scene → ℕ → Result (Option ℕ) ScriptFault → Script D g → Type 0
+LooksFor old label result script = MatchResult result (λ found. Finds old label found script) (λ fault. (fault ≡ Memory) × (IsCrowded old label → ⊥))
 
 -- a request of the session was served, where memory was granted
 pub record Served {D : Type 0} {g : Ghosts D} (hub : Hub D g) (old : HubState) (s : ℕ) : Type 0 where
@@ -34,6 +46,14 @@ pub record Served {D : Type 0} {g : Ghosts D} (hub : Hub D g) (old : HubState) (
   pub failed : Bool
   pub possible : IsPossible old (Serves s) (granted front failed)
   pub stands : StandsFor hub (hub_step old (Serves s) (granted front failed)).0
+
+-- or memory was refused
+abbrev pub ServesOrNot : {D : Type 0} {g : Ghosts D} → HubState → ℕ → Result (Unit {0}) ScriptFault → Hub D g → Type 0
+ServesOrNot old s result hub = MatchResult result (λ _. Served hub old s) (λ fault. fault ≡ Memory)
+
+-- the bytes were written, or a beginning of them was and the writer failed
+abbrev pub Writes : Bytes → Result (Unit {0}) ScriptFault → Option Bytes → Option Bytes → Type 0
+Writes bytes result before after = MatchResult result (λ _. Appends before after bytes) (λ fault. (fault ≡ File) × AppendsPart before after bytes)
 
 -- a line, and what it printed behind what the writer held
 pub record Answers {D : Type 0} {g : Ghosts D} (script : Script D g) (before after : Option Bytes) (Prints : Scene → Bytes → Type 0) : Type 0 where
@@ -56,6 +76,12 @@ abbrev pub Ends : ScriptFault → Option Bytes → Option Bytes → (Scene → B
 Ends File before after Prints = PrintsPart before after Prints
 Ends Memory before after Prints = after ≡ before
 Ends other before after Prints = ⊥
+
+-- a line of this session was answered, or why it was not
+abbrev pub RunsLine : {D : Type 0} {g : Ghosts D} → Scene → ℕ → ScriptLine → Result (Unit {0}) ScriptFault → Script D g → Option Bytes → Option Bytes → Type 0
+RunsLine here s line result script before after =
+    let Prints : Scene → Bytes → Type 0 = PrintsIn (status_in (stream_of here.hub s)) here s line in
+    MatchResult result (λ _. Answers script before after Prints) (λ fault. Ends fault before after Prints)
 
 -- the text is a line of a session that there is or that has a place
 abbrev pub IsGood : Scene → Bytes → Type 0

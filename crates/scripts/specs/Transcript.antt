@@ -1,5 +1,5 @@
 -- What a script prints: a run of the sessions over a store of its own.
-use Rattle.std.specs.Prelude.{◌≡◌, ◌≢◌, ℕ, ◌+◌, ◌≤◌, ◌==◌, Bool, false, List, [], ◌∷◌, ◌++◌, length, take, position, Option, Some, None, Result, Ok, Err, ◌⊎◌}
+use Rattle.std.specs.Prelude.{◌≡◌, ◌≢◌, ℕ, ◌+◌, ◌≤◌, ◌==◌, Bool, false, List, [], ◌∷◌, ◌++◌, length, take, position, Option, Some, None, IfSome, Result, Ok, Err, ◌⊎◌}
 use Rattle.std.specs.Io.KnownBytes.{Appends}
 use Rattle.model.specs.Machine.{opened}
 use Rattle.model.specs.Map.{Bytes}
@@ -10,7 +10,7 @@ use Rattle.sessions.specs.SessionStreams.{HubState, HubEvent, Joins, Receives, S
 use Rattle.sessions.specs.StandsFor.{status_in, room_in, pending_in}
 use Rattle.scripts.specs.declared.faults.ScriptFault.{ScriptFault}
 use Rattle.scripts.specs.declared.faults.ScriptFault.TheVariants.{BadLine, Crowded, File, Log, Memory}
-use Rattle.scripts.specs.Lines.{ScriptLine, IsLine, IsNoLine, frame_of, printed_line}
+use Rattle.scripts.specs.Lines.{ScriptLine, IsLine, IsNoLine, frame_of, lines_of, printed_line}
 
 -- a script under way: its sessions, and the labels that have come, each once. The session of a label is its place
 pub record Scene : Type 0 where
@@ -147,3 +147,7 @@ Plays first texts (Err (Crowded number)) before after = (printed : Bytes) × Sto
 Plays first texts (Err Memory) before after = (printed : Bytes) × RunsSome first texts printed × Appends before after printed
 Plays first texts (Err File) before after = (printed : Bytes) × (RunsSome first texts printed ⊎ BreaksOff first texts printed) × Appends before after printed
 Plays first texts (Err (Log fault)) before after = Appends before after []
+
+-- the bytes that a reader has left, if they are known, are played as a script
+abbrev pub PlaysKnown : Scene → Option Bytes → Result (Unit {0}) ScriptFault → Option Bytes → Option Bytes → Type 0
+PlaysKnown first known result before after = IfSome known (λ script. Plays first (lines_of script) result before after)

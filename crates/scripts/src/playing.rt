@@ -1,12 +1,10 @@
 //! A script over a device in memory.
-ghost use Rattle.std.specs.Prelude.{◌≡◌, ◌≤◌, IfSome, IfOk, IfErr, MatchResult};
-ghost use Rattle.std.specs.Io.KnownBytes.{Appends};
-ghost use Rattle.sessions.specs.SessionStreams.{HubState, stream_of};
-ghost use Rattle.sessions.specs.StandsFor.{StandsFor, status_in};
-ghost use Rattle.scripts.specs.Lines.{lines_of};
+ghost use Rattle.std.specs.Prelude.{◌≡◌, ◌≤◌, IfOk, IfErr};
+ghost use Rattle.sessions.specs.SessionStreams.{HubState};
+ghost use Rattle.sessions.specs.StandsFor.{StandsFor};
 ghost use Rattle.scripts.specs.Faults.{IsFromReading, IsOpening};
-ghost use Rattle.scripts.specs.Transcript.{Scene, opening, place_of, received, IsCrowded, AppendsPart, PrintsIn, Plays};
-ghost use Rattle.scripts.specs.Calls.{IsAt, Finds, ReadsLine, Served, Answers, Ends, Runs};
+ghost use Rattle.scripts.specs.Transcript.{opening, place_of, received, PlaysKnown};
+ghost use Rattle.scripts.specs.Calls.{IsAt, AtScene, LooksFor, ReadsNext, ServesOrNot, Writes, Runs, RunsLine};
 
 use crate::faults::ScriptFault;
 use crate::lines::{Line, write_reply};
@@ -33,7 +31,7 @@ pub fn play<R: Read + Drop, O: Write>(
     out: &mut O,
 ) -> Result<(), ScriptFault>
     requires { sectors ≤ 65536 }
-    ensures { IfSome (R.remaining reader) (λ script. Plays (opening sectors) (lines_of script) result (O.contents out.old) (O.contents out.new)) }
+    ensures { PlaysKnown (opening sectors) (R.remaining reader) result (O.contents out.old) (O.contents out.new) }
 {
     let mut script = open(alloc, sectors)?;
     let mut lines = BufReader::new(alloc, reader)?;
@@ -73,7 +71,7 @@ impl<D: Sectors> Script<D> {
         reader: &mut R,
         out: &mut O,
     ) -> Result<(), ScriptFault>
-        ensures { (scene : Scene) → IsAt self.old scene → IfSome (R.remaining reader.old) (λ script. Plays scene (lines_of script) result (O.contents out.old) (O.contents out.new)) }
+        ensures { AtScene self.old (λ scene. PlaysKnown scene (R.remaining reader.old) result (O.contents out.old) (O.contents out.new)) }
     {
         let mut text = Vec::new(alloc);
         for number in 1..u64::MAX {
@@ -93,7 +91,7 @@ impl<D: Sectors> Script<D> {
         text: &[u8],
         out: &mut O,
     ) -> Result<(), ScriptFault>
-        ensures { (scene : Scene) → IsAt self.old scene → Runs scene number text.now result self.new (O.contents out.old) (O.contents out.new) }
+        ensures { AtScene self.old (λ scene. Runs scene number text.now result self.new (O.contents out.old) (O.contents out.new)) }
     {
         if text.is_empty() {
             return Ok(());
@@ -109,7 +107,7 @@ impl<D: Sectors> Script<D> {
 
     // The session of a label, which joins where the label is new. None where it is one too many.
     fn session(&mut self, label: usize) -> Result<Option<u64>, ScriptFault>
-        ensures { (scene : Scene) → IsAt self.old scene → MatchResult result (λ found. Finds scene label found self.new) (λ fault. (fault ≡ ScriptFault.Memory) × (IsCrowded scene label → ⊥)) }
+        ensures { AtScene self.old (λ scene. LooksFor scene label result self.new) }
     {
         if let Some(place) = place_of(&self.labels, label) {
             return Ok(Some(place as u64));
@@ -132,9 +130,7 @@ impl<D: Sectors> Script<D> {
         line: &Line<'_>,
         out: &mut O,
     ) -> Result<(), ScriptFault>
-        ensures { (here : Scene) → IsAt self.old here → MatchResult result
-            (λ _. Answers self.new (O.contents out.old) (O.contents out.new) (PrintsIn (status_in (stream_of here.hub session)) here session line.now))
-            (λ fault. Ends fault (O.contents out.old) (O.contents out.new) (PrintsIn (status_in (stream_of here.hub session)) here session line.now)) }
+        ensures { AtScene self.old (λ here. RunsLine here session line.now result self.new (O.contents out.old) (O.contents out.new)) }
     {
         match self.hub.status(session) {
             Status::Open => {}
@@ -155,7 +151,7 @@ impl<D: Sectors> Script<D> {
 
 // Reads the next line, without its end. False where none is left.
 fn next_line<R: BufRead>(reader: &mut R, text: &mut Vec<u8>) -> Result<bool, ScriptFault>
-    ensures read { IfSome (R.remaining reader.old) (λ script. IfOk result (λ some. ReadsLine script some text.new.items (R.remaining reader.new))) }
+    ensures read { ReadsNext (R.remaining reader.old) result text.new.items (R.remaining reader.new) }
     ensures faults { IfErr result IsFromReading }
 {
     text.clear();
@@ -177,7 +173,7 @@ fn place_of(labels: &[usize], label: usize) -> Option<usize>
 
 // A frame comes in, as far as the inbox takes it, and is served.
 fn serve<D: Sectors>(hub: &mut Hub<D>, session: u64, frame: &[u8]) -> Result<(), ScriptFault>
-    ensures { (h : HubState) → StandsFor hub.old h → MatchResult result (λ _. Served hub.new (received h session frame.now) session) (λ fault. fault ≡ ScriptFault.Memory) }
+    ensures { (h : HubState) → StandsFor hub.old h → ServesOrNot (received h session frame.now) session result hub.new }
 {
     let given = hub.room(session).min(frame.len());
     let _ = hub.step(&Event::Bytes(session, &frame[..given]));
@@ -189,8 +185,7 @@ fn serve<D: Sectors>(hub: &mut Hub<D>, session: u64, frame: &[u8]) -> Result<(),
 
 // Writes all of the bytes. Where that fails, the writer may have taken some of the first.
 fn write_out<O: Write>(bytes: &[u8], out: &mut O) -> Result<(), ScriptFault>
-    ensures { MatchResult result (λ _. Appends (O.contents out.old) (O.contents out.new) bytes.now)
-        (λ fault. (fault ≡ ScriptFault.File) × AppendsPart (O.contents out.old) (O.contents out.new) bytes.now) }
+    ensures { Writes bytes.now result (O.contents out.old) (O.contents out.new) }
 {
     let mut rest = bytes;
     for _ in 0..u64::MAX {

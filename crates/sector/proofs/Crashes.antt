@@ -1,6 +1,6 @@
 -- What a crash leaves at any moment of several calls.
 use Rattle.std.proofs.lemmas.Grind.{common_steps}
-use Rattle.std.proofs.Common.{◌⊎◌, ℕ, ◌≤◌, List, arith}
+use Rattle.std.proofs.Common.{ℕ, List, arith}
 use Rattle.sector.specs.SectorModel.{Elapses, LeavesOnly}
 
 module _ {D : Type 0} {moment : D → ℕ} {left_since : D → ℕ → List (List ℕ) → Type 0} where

@@ -1,5 +1,6 @@
 -- What a crash may leave of a device in memory.
-use Rattle.std.specs.Prelude.{◌≡◌, ◌⊎◌, ◌<◌, ◌-◌, ℕ, suc, Bool, List, [], ◌∷◌, length, map, All, None, unwrap_or, refl}
+use Rattle.std.specs.Prelude.{◌≡◌, ◌⊎◌, ◌<◌, ◌-◌, ℕ, suc, Bool, List, [], ◌∷◌, length, map, slice_get, slice_index_or, All, Some, None, IfSome, unwrap_or, refl}
+use Rattle.std.specs.Borrow.{Bor}
 use Rattle.std.specs.Option.{is_none}
 use Rattle.std.proofs.Common.{ap}
 use Rattle.sector.specs.Failures.{greatest}
@@ -16,6 +17,15 @@ IsSettledSlot slot = slot.settled ≡ None
 -- what a crash makes of a sector: it is settled, and the same if it was settled before
 abbrev pub IsLeft : Slot → Slot → Type 0
 IsLeft old new = (new.settled ≡ None) × (old.settled ≡ None → new.written ≡ old.written)
+
+-- after a crash a sector that was unsettled holds what is given of its settled and its last written content
+abbrev pub IsFilled : (Bor (List ℕ) → Bor (List ℕ) → List ℕ → Type 0) → Slot → Slot → Type 0
+IsFilled Gives old new =
+    IfSome old.settled (λ settled. (was : Bor (List ℕ)) × (last : Bor (List ℕ)) × (was.now ≡ settled) × (last.now ≡ old.written) × Gives was last new.written)
+
+-- and so does each of these, by its place
+abbrev pub AreFilled : (ℕ → Bor (List ℕ) → Bor (List ℕ) → List ℕ → Type 0) → List Slot → List Slot → Type 0
+AreFilled Gives old new = (k : ℕ) (d : Slot) → k < length old → IsFilled (Gives k) (slice_index_or old k d) (slice_index_or new k d)
 
 -- a sector after a sync
 abbrev pub settled_slot : Slot → Slot
@@ -38,6 +48,14 @@ length-left (slot ∷ slots) (s ∷ c) left = ap suc (length-left slots c left.1
 -- the image of what was last written
 abbrev pub image : MemSectors → List (List ℕ)
 image device = written device.slots.items
+
+-- a read gives what was last written
+abbrev pub MayRead : MemSectors → ℕ → List ℕ → Type 0
+MayRead device i s = slice_get (image device) i ≡ Some s
+
+-- what a crash may leave of the device
+abbrev pub MayBeLeft : MemSectors → List (List ℕ) → Type 0
+MayBeLeft device c = MayLeave device.slots.items c
 
 -- every sector is settled
 abbrev pub IsAllSettled : MemSectors → Type 0
@@ -63,6 +81,10 @@ pub record HasSameSectors (old new : MemSectors) : Type 0 where
   pub content : image new ≡ image old
   pub settled : settled_image new ≡ settled_image old
   pub which : settled_sectors new ≡ settled_sectors old
+
+-- each sector is settled, and holds the same
+abbrev pub IsSettledAs : MemSectors → MemSectors → Type 0
+IsSettledAs old new = (image new ≡ image old) × IsAllSettled new
 
 -- how many calls from now the one comes that is to fail; 0 where none is
 abbrev pub calls_to_failure : MemSectors → ℕ

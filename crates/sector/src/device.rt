@@ -1,7 +1,7 @@
 //! The device as the crates above see it.
 ghost use Rattle.std.specs.Prelude.{◌≡◌, ◌≢◌, ◌<◌, ◌≤◌, ◌+◌, ◌/◌, ◌%◌, ◌^◌, ℕ, List, length, OnOk, OnErr};
 ghost use Rattle.sector.specs.Failures.{Rose, Stayed, StayedOver};
-ghost use Rattle.sector.specs.SectorModel.{Elapses, FollowsWrite, FollowsWrites, IsOutside, Settles, sector_in};
+ghost use Rattle.sector.specs.SectorModel.{FollowsBytes, FollowsWrite, LeavesNoMore, MightRead, ReadsBytes, ReadsNoMore, ReadsNoMoreOutside, Syncs, TimeGoesOn};
 
 use thiserror::Error;
 
@@ -56,9 +56,9 @@ pub trait Sectors: Drop {
         ensures ok { OnOk result (Stayed (failures self.old) (failures self.new)) }
         ensures fault { OnErr result (Rose (failures self.old) (failures self.new)) }
         ensures gives { keeps_model → OnOk result (may_read self.old at into.new) }
-        ensures reads { keeps_model → (i : ℕ) (s : List ℕ) → may_read self.new i s → may_read self.old i s }
-        ensures crash { keeps_model → (c : List (List ℕ)) → may_leave self.new c → may_leave self.old c }
-        ensures time { keeps_model → Elapses (moment self.old) (moment self.new) (left_since self.old) (left_since self.new) (may_leave self.new) };
+        ensures reads { keeps_model → ReadsNoMore (may_read self.old) (may_read self.new) }
+        ensures crash { keeps_model → LeavesNoMore (may_leave self.old) (may_leave self.new) }
+        ensures time { keeps_model → TimeGoesOn moment left_since self.old self.new (may_leave self.new) };
 
     /// Writes a sector. Until a sync succeeds a crash may leave anything in it, and after a `DeviceFault` a read of it may give
     /// anything. Takes no memory.
@@ -70,7 +70,7 @@ pub trait Sectors: Drop {
         ensures written { keeps_model → OnOk result ((s : List ℕ) → may_read self.new at s → s ≡ from.now) }
         ensures others { keeps_model → (i : ℕ) (s : List ℕ) → i ≢ at → may_read self.new i s → may_read self.old i s }
         ensures crash { keeps_model → FollowsWrite at (may_leave self.old) (may_leave self.new) }
-        ensures time { keeps_model → Elapses (moment self.old) (moment self.new) (left_since self.old) (left_since self.new) (may_leave self.new) };
+        ensures time { keeps_model → TimeGoesOn moment left_since self.old self.new (may_leave self.new) };
 
     /// Reads whole sectors, as calls of `read` one after the other until one fails. After a `DeviceFault` the bytes of `into` may be
     /// any. Takes no memory.
@@ -81,10 +81,10 @@ pub trait Sectors: Drop {
         ensures size { size self.new ≡ size self.old }
         ensures ok { OnOk result (StayedOver (length into.old / 512) (failures self.old) (failures self.new)) }
         ensures fault { OnErr result (Rose (failures self.old) (failures self.new)) }
-        ensures gives { keeps_model → OnOk result ((k : ℕ) → k < length into.old / 512 → may_read self.old (at + k) (sector_in into.new k)) }
-        ensures reads { keeps_model → (i : ℕ) (s : List ℕ) → may_read self.new i s → may_read self.old i s }
-        ensures crash { keeps_model → (c : List (List ℕ)) → may_leave self.new c → may_leave self.old c }
-        ensures time { keeps_model → Elapses (moment self.old) (moment self.new) (left_since self.old) (left_since self.new) (may_leave self.old) }
+        ensures gives { keeps_model → OnOk result (MightRead (may_read self.old) at (length into.old / 512) into.new) }
+        ensures reads { keeps_model → ReadsNoMore (may_read self.old) (may_read self.new) }
+        ensures crash { keeps_model → LeavesNoMore (may_leave self.old) (may_leave self.new) }
+        ensures time { keeps_model → TimeGoesOn moment left_since self.old self.new (may_leave self.old) }
     {
         for k in 0..into.len() / SECTOR_SIZE {
             let mut sector = [0; 512];
@@ -103,10 +103,10 @@ pub trait Sectors: Drop {
         ensures size { size self.new ≡ size self.old }
         ensures ok { OnOk result (StayedOver (length from.now / 512) (failures self.old) (failures self.new)) }
         ensures fault { OnErr result (Rose (failures self.old) (failures self.new)) }
-        ensures written { keeps_model → OnOk result ((k : ℕ) (s : List ℕ) → k < length from.now / 512 → may_read self.new (at + k) s → s ≡ sector_in from.now k) }
-        ensures others { keeps_model → (i : ℕ) (s : List ℕ) → IsOutside at (length from.now / 512) i → may_read self.new i s → may_read self.old i s }
-        ensures crash { keeps_model → (c : List (List ℕ)) → may_leave self.new c → FollowsWrites at (length from.now / 512) (may_leave self.old) c }
-        ensures time { keeps_model → Elapses (moment self.old) (moment self.new) (left_since self.old) (left_since self.new) (FollowsWrites at (length from.now / 512) (may_leave self.old)) }
+        ensures written { keeps_model → OnOk result (ReadsBytes (may_read self.new) at from.now) }
+        ensures others { keeps_model → ReadsNoMoreOutside at (length from.now / 512) (may_read self.old) (may_read self.new) }
+        ensures crash { keeps_model → LeavesNoMore (FollowsBytes at from.now (may_leave self.old)) (may_leave self.new) }
+        ensures time { keeps_model → TimeGoesOn moment left_since self.old self.new (FollowsBytes at from.now (may_leave self.old)) }
     {
         for k in 0..from.len() / SECTOR_SIZE {
             let mut sector = [0; 512];
@@ -121,10 +121,10 @@ pub trait Sectors: Drop {
         ensures size { size self.new ≡ size self.old }
         ensures ok { OnOk result (Stayed (failures self.old) (failures self.new)) }
         ensures fault { OnErr result (Rose (failures self.old) (failures self.new)) }
-        ensures settles { keeps_model → OnOk result (Settles (size self.new) (may_read self.old) (may_read self.new) (may_leave self.old) (may_leave self.new)) }
-        ensures reads { keeps_model → OnErr result ((i : ℕ) (s : List ℕ) → may_read self.new i s → may_read self.old i s) }
-        ensures crash { keeps_model → (c : List (List ℕ)) → may_leave self.new c → may_leave self.old c }
-        ensures time { keeps_model → Elapses (moment self.old) (moment self.new) (left_since self.old) (left_since self.new) (may_leave self.new) };
+        ensures settles { keeps_model → OnOk result (Syncs size may_read may_leave self.old self.new) }
+        ensures reads { keeps_model → OnErr result (ReadsNoMore (may_read self.old) (may_read self.new)) }
+        ensures crash { keeps_model → LeavesNoMore (may_leave self.old) (may_leave self.new) }
+        ensures time { keeps_model → TimeGoesOn moment left_since self.old self.new (may_leave self.new) };
 
     /// A crash leaves every sector.
     ghost leaves_all: { keeps_model → (d : Self) (c : List (List ℕ)) → may_leave d c → length c ≡ size d };

@@ -1,5 +1,5 @@
 //! A device over a file. What a file gives back and keeps is left open.
-ghost use Rattle.std.specs.Prelude.{true, false, ℕ, List, ◌≡◌, ◌≢◌, ◌<◌, ◌≤◌, ◌*◌, ◌%◌, ◌^◌, ◌↔◌, MatchOption, IfSome, IfOk, IsOk, IsErrAnd, OnOk, OnErr, replicate, IfErr};
+ghost use Rattle.std.specs.Prelude.{true, false, ◌≡◌, ◌≢◌, ◌<◌, ◌≤◌, ◌*◌, ◌%◌, ◌^◌, ◌↔◌, MatchOption, IfSome, IfOk, IsOk, IsErrAnd, OnOk, OnErr, replicate, IfErr};
 ghost use Rattle.std.specs.IoError.{error_kind};
 ghost use Rattle.file_calls.specs.HappenedCalls.{WasOpened, WasOpenedToRead, WasWritten, WasSynced, HadNameSettled, HadCopiesDropped};
 ghost use Rattle.file_calls.specs.OpenFacts.{next};
@@ -25,8 +25,7 @@ pub struct FileSectors {
 
 impl FileSectors {
     ghost use Rattle.file_calls.specs.OpenFacts as facts;
-    ghost use Rattle.sector.specs.FileModel.{FileKeepsModel};
-    ghost use Rattle.sector.specs.SectorModel.{IsSettled};
+    ghost use Rattle.sector.specs.FileModel.{FileKeepsModel, HoldsZeros};
 
     /// Makes a new file of `count` sectors of zeros, all of them written, and syncs it and its directory. A crash then finds the file,
     /// and no later write of a sector has to find room on the disk for it.
@@ -39,7 +38,7 @@ impl FileSectors {
         ensures failures { IfOk result (λ f. f.failures ≡ 0) }
         ensures made { IfOk result (λ f. WasMadeOfZeros path.now count f.file) }
         // Under the premise on files it holds zeros, and a crash leaves them.
-        ensures zeros { FileKeepsModel → IfOk result (λ f. IsSettled count (facts.may_read f.file) (facts.may_leave f.file) (replicate count (replicate 512 0))) }
+        ensures zeros { FileKeepsModel → IfOk result (λ f. HoldsZeros count f.file) }
     {
         if count >= 1 << 55 {
             return Err(io::Error::from(ErrorKind::InvalidInput));
@@ -167,8 +166,8 @@ fn settle_zeros<R: Files<File = File>>(
 
 impl Sectors for FileSectors {
     ghost use Rattle.file_calls.specs.OpenFacts as facts;
-    ghost use Rattle.sector.specs.FileModel.{FileKeepsModel};
-    ghost use Rattle.sector.specs.SectorModel.{Elapses, Settles};
+    ghost use Rattle.sector.specs.FileModel.{FileKeepsModel, TimeKeeps};
+    ghost use Rattle.sector.specs.SectorModel.{LeavesNoMore, ReadsNoMore, Syncs};
 
     ghost size = { λ f. f.file.sectors };
 
@@ -222,10 +221,10 @@ impl Sectors for FileSectors {
         ensures size { self.new.file.sectors ≡ self.old.file.sectors }
         ensures ok { OnOk result (Stayed self.old.failures self.new.failures) }
         ensures fault { OnErr result (Rose self.old.failures self.new.failures) }
-        ensures settles { FileKeepsModel → OnOk result (Settles self.new.file.sectors (facts.may_read self.old.file) (facts.may_read self.new.file) (facts.may_leave self.old.file) (facts.may_leave self.new.file)) }
-        ensures reads { FileKeepsModel → OnErr result ((i : ℕ) (s : List ℕ) → facts.may_read self.new.file i s → facts.may_read self.old.file i s) }
-        ensures crash { FileKeepsModel → (c : List (List ℕ)) → facts.may_leave self.new.file c → facts.may_leave self.old.file c }
-        ensures time { FileKeepsModel → Elapses (facts.moment self.old.file) (facts.moment self.new.file) (facts.left_since self.old.file) (facts.left_since self.new.file) (facts.may_leave self.new.file) }
+        ensures settles { FileKeepsModel → OnOk result (Syncs (λ f. f.sectors) facts.may_read facts.may_leave self.old.file self.new.file) }
+        ensures reads { FileKeepsModel → OnErr result (ReadsNoMore (facts.may_read self.old.file) (facts.may_read self.new.file)) }
+        ensures crash { FileKeepsModel → LeavesNoMore (facts.may_leave self.old.file) (facts.may_leave self.new.file) }
+        ensures time { FileKeepsModel → TimeKeeps self.old.file self.new.file }
 
         // One call of the file was made, and it was a sync that succeeded where this one did.
         ensures one_call { self.new.file ≡ next self.old.file }

@@ -1,5 +1,5 @@
 //! A device in memory, which a test can make fail and crash.
-ghost use Rattle.std.specs.Prelude.{◌≡◌, ◌≢◌, ◌<◌, ◌≤◌, ◌*◌, ◌%◌, ◌^◌, ◌↔◌, ℕ, List, length, false, IfOk, IfSome, OnOk, OnErr, IsErr, IsTrue, MatchBool, MatchResult, slice_index_or, slice_set, map, replicate};
+ghost use Rattle.std.specs.Prelude.{◌≡◌, ◌≢◌, ◌<◌, ◌≤◌, ◌*◌, ◌%◌, ◌^◌, ◌↔◌, ℕ, List, length, false, IfOk, OnOk, OnErr, IsErr, IsTrue, MatchBool, MatchResult, slice_set, map, replicate};
 ghost use Rattle.std.specs.List.{concat};
 ghost use Rattle.sector.specs.Failures.{Rose, Stayed};
 ghost use Rattle.sector.specs.Settled.{AreSettledBefore, AreSettledFrom};
@@ -70,9 +70,7 @@ pub struct MemSectors {
 }
 
 impl MemSectors {
-    ghost use Rattle.std.specs.Prelude.{Some, slice_get};
-    ghost use Rattle.sector.specs.declared.memory.Slot.{Slot};
-    ghost use Rattle.sector.specs.Slots.{image, MayLeave, IsAllSettled, calls_to_failure, FailsNext, CountsDown};
+    ghost use Rattle.sector.specs.Slots.{image, AreFilled, MayLeave, IsAllSettled, calls_to_failure, FailsNext, CountsDown};
 
     /// A device of `count` sectors of zeros, all settled. It takes about 1 KiB for each sector; `AllocError` where they are refused.
     pub fn new(alloc: Global, count: u64) -> Result<Self, AllocError>
@@ -140,8 +138,7 @@ impl MemSectors {
         requires { F.IsAlwaysCallable fill }
         ensures possible { MayLeave self.slots.items (image result) }
         ensures settled { IsAllSettled result }
-        ensures filled { (k : ℕ) (d : Slot) → k < length self.slots.items → IfSome (slice_index_or self.slots.items k d).settled (λ settled. (old : _) × (new : _)
-            × (old.now ≡ settled) × (new.now ≡ (slice_index_or self.slots.items k d).written) × F.post fill k old new (slice_index_or result.slots.items k d).written) }
+        ensures filled { AreFilled (F.post fill) self.slots.items result.slots.items }
         ensures failures { result.failures ≡ 0 }
         ensures failing { calls_to_failure result ≡ 0 }
     {
@@ -177,14 +174,14 @@ impl MemSectors {
 }
 
 impl Slot {
-    ghost use Rattle.std.specs.Prelude.{◌≡◌, ◌≤◌, length, map, IfSome};
-    ghost use Rattle.sector.specs.Slots.{IsLeft, settled_slot};
+    ghost use Rattle.std.specs.Prelude.{◌≡◌, ◌≤◌, length, map};
+    ghost use Rattle.sector.specs.Slots.{IsFilled, IsLeft, settled_slot};
 
     // What a crash leaves of the sector at this place.
     fn left<F: Fn(u64, &Sector, &Sector) -> Sector>(self, at: u64, fill: &F) -> Slot
         requires { F.IsAlwaysCallable fill.now }
         ensures left { IsLeft self result }
-        ensures filled { IfSome self.settled (λ settled. (old : _) × (new : _) × (old.now ≡ settled) × (new.now ≡ self.written) × F.post fill.now at old new result.written) }
+        ensures filled { IsFilled (F.post fill.now at) self result }
     {
         match self.settled {
             Some(settled) => Slot {
@@ -209,9 +206,8 @@ impl Slot {
 }
 
 impl Sectors for MemSectors {
-    ghost use Rattle.std.specs.Prelude.{Some, slice_get};
-    ghost use Rattle.sector.specs.SectorModel.{Elapses, FollowsWrite, Settles};
-    ghost use Rattle.sector.specs.Slots.{image, settled_image, settled_sectors, MayLeave, length-left, IsAllSettled, HasSameSectors, FailsNext, CountsDown};
+    ghost use Rattle.sector.specs.SectorModel.{FollowsWrite, LeavesNoMore, ReadsNoMore, Syncs, TimeGoesOn};
+    ghost use Rattle.sector.specs.Slots.{image, settled_image, settled_sectors, MayBeLeft, MayRead, length-left, IsSettledAs, HasSameSectors, FailsNext, CountsDown};
 
     ghost size = { λ m. length m.slots.items };
 
@@ -219,13 +215,13 @@ impl Sectors for MemSectors {
 
     ghost keeps_model = { Unit {0} };
 
-    ghost may_read = { λ m i s. slice_get (image m) i ≡ Some s };
+    ghost may_read = { MayRead };
 
-    ghost may_leave = { λ m c. MayLeave m.slots.items c };
+    ghost may_leave = { MayBeLeft };
 
     ghost moment = { λ m. 0 };
 
-    ghost left_since = { λ m t c. MayLeave m.slots.items c };
+    ghost left_since = { λ m t. MayBeLeft m };
 
     ghost leaves_all = { λ keeps m c left. length-left m.slots.items c left };
 
@@ -242,10 +238,10 @@ impl Sectors for MemSectors {
         ensures size { length self.new.slots.items ≡ length self.old.slots.items }
         ensures ok { OnOk result (Stayed self.old.failures self.new.failures) }
         ensures fault { OnErr result (Rose self.old.failures self.new.failures) }
-        ensures gives { Unit {0} → OnOk result (slice_get (image self.old) at ≡ Some into.new) }
-        ensures reads { Unit {0} → (i : ℕ) (s : List ℕ) → slice_get (image self.new) i ≡ Some s → slice_get (image self.old) i ≡ Some s }
-        ensures crash { Unit {0} → (c : List (List ℕ)) → MayLeave self.new.slots.items c → MayLeave self.old.slots.items c }
-        ensures time { Unit {0} → Elapses 0 0 (λ t. MayLeave self.old.slots.items) (λ t. MayLeave self.new.slots.items) (MayLeave self.new.slots.items) }
+        ensures gives { Unit {0} → OnOk result (MayRead self.old at into.new) }
+        ensures reads { Unit {0} → ReadsNoMore (MayRead self.old) (MayRead self.new) }
+        ensures crash { Unit {0} → LeavesNoMore (MayBeLeft self.old) (MayBeLeft self.new) }
+        ensures time { Unit {0} → TimeGoesOn (λ m. 0) (λ m t. MayBeLeft m) self.old self.new (MayBeLeft self.new) }
 
         // The call fails exactly where it was to fail, or the count of failures stands at its end.
         ensures told { IsErr result ↔ FailsNext self.old }
@@ -266,10 +262,10 @@ impl Sectors for MemSectors {
         ensures size { length self.new.slots.items ≡ length self.old.slots.items }
         ensures ok { OnOk result (Stayed self.old.failures self.new.failures) }
         ensures fault { OnErr result (Rose self.old.failures self.new.failures) }
-        ensures written { Unit {0} → OnOk result ((s : List ℕ) → slice_get (image self.new) at ≡ Some s → s ≡ from.now) }
-        ensures others { Unit {0} → (i : ℕ) (s : List ℕ) → i ≢ at → slice_get (image self.new) i ≡ Some s → slice_get (image self.old) i ≡ Some s }
-        ensures crash { Unit {0} → FollowsWrite at (MayLeave self.old.slots.items) (MayLeave self.new.slots.items) }
-        ensures time { Unit {0} → Elapses 0 0 (λ t. MayLeave self.old.slots.items) (λ t. MayLeave self.new.slots.items) (MayLeave self.new.slots.items) }
+        ensures written { Unit {0} → OnOk result ((s : List ℕ) → MayRead self.new at s → s ≡ from.now) }
+        ensures others { Unit {0} → (i : ℕ) (s : List ℕ) → i ≢ at → MayRead self.new i s → MayRead self.old i s }
+        ensures crash { Unit {0} → FollowsWrite at (MayBeLeft self.old) (MayBeLeft self.new) }
+        ensures time { Unit {0} → TimeGoesOn (λ m. 0) (λ m t. MayBeLeft m) self.old self.new (MayBeLeft self.new) }
 
         // The call fails exactly where it was to fail, or the count of failures stands at its end.
         ensures told { IsErr result ↔ FailsNext self.old }
@@ -296,17 +292,17 @@ impl Sectors for MemSectors {
         ensures size { length self.new.slots.items ≡ length self.old.slots.items }
         ensures ok { OnOk result (Stayed self.old.failures self.new.failures) }
         ensures fault { OnErr result (Rose self.old.failures self.new.failures) }
-        ensures settles { Unit {0} → OnOk result (Settles (length self.new.slots.items) (λ i s. slice_get (image self.old) i ≡ Some s) (λ i s. slice_get (image self.new) i ≡ Some s) (MayLeave self.old.slots.items) (MayLeave self.new.slots.items)) }
-        ensures reads { Unit {0} → OnErr result ((i : ℕ) (s : List ℕ) → slice_get (image self.new) i ≡ Some s → slice_get (image self.old) i ≡ Some s) }
-        ensures crash { Unit {0} → (c : List (List ℕ)) → MayLeave self.new.slots.items c → MayLeave self.old.slots.items c }
-        ensures time { Unit {0} → Elapses 0 0 (λ t. MayLeave self.old.slots.items) (λ t. MayLeave self.new.slots.items) (MayLeave self.new.slots.items) }
+        ensures settles { Unit {0} → OnOk result (Syncs (λ m. length m.slots.items) MayRead MayBeLeft self.old self.new) }
+        ensures reads { Unit {0} → OnErr result (ReadsNoMore (MayRead self.old) (MayRead self.new)) }
+        ensures crash { Unit {0} → LeavesNoMore (MayBeLeft self.old) (MayBeLeft self.new) }
+        ensures time { Unit {0} → TimeGoesOn (λ m. 0) (λ m t. MayBeLeft m) self.old self.new (MayBeLeft self.new) }
 
         // The call fails exactly where it was to fail, or the count of failures stands at its end.
         ensures told { IsErr result ↔ FailsNext self.old }
         ensures next { CountsDown self.old self.new }
 
         // It settles each sector, or where it fails none.
-        ensures sectors { MatchResult result (λ _. (image self.new ≡ image self.old) × IsAllSettled self.new) (λ _. HasSameSectors self.old self.new) }
+        ensures sectors { MatchResult result (λ _. IsSettledAs self.old self.new) (λ _. HasSameSectors self.old self.new) }
     {
         if self.fails() {
             Err(DeviceFault)

@@ -8,7 +8,7 @@ use Rattle.std.proofs.lemmas.Map.Made.{lookup-map_values}
 use Rattle.engine.specs.Meaning.{StandsFor as EngineStandsFor}
 use Rattle.sessions.specs.SessionStreams.{Outcome, HubState, SessionState, SessionStream, HubEvent, Serves, Front, Choice, IsPossible, hub_step, stream_of, Continued}
 use Rattle.sessions.specs.Calls.{HasEffect, ServesSession, chosen, has_failed}
-use Rattle.sessions.specs.StandsFor.{Ghosts, Hub, StandsFor, HubLeads, at_hand}
+use Rattle.sessions.specs.StandsFor.{Ghosts, Hub, StandsFor, HubLeads, at_hand, status_or_absent, room_or_none, pending_or_none, status_of, room_of, pending_of, status_in, room_in, pending_in}
 
 -- ---- what is at hand in the list of sessions
 
@@ -16,7 +16,7 @@ abbrev test : ℕ → ℕ → Bool
 test s = is_at (nat_cmp s)
 
 module _ (s : ℕ) where
-  pub lookup-at_hand : (es : List (ℕ × SessionStream)) → lookup (test s) (at_hand es) ≡ option_map (λ st. st.now) (lookup (test s) es)
+  lookup-at_hand : (es : List (ℕ × SessionStream)) → lookup (test s) (at_hand es) ≡ option_map (λ st. st.now) (lookup (test s) es)
   lookup-at_hand es = lookup-map_values (λ st. st.now) (test s) es
 
   set-at_hand : (st : SessionStream) (es : List (ℕ × SessionStream)) → set_value (test s) (at_hand es) st.now ≡ at_hand (set_value (test s) es st)
@@ -43,6 +43,15 @@ module _ {D : Type 0} {g : Ghosts D} (hub : Hub D g) (h : HubState) (stands : St
   module _ (s : ℕ) where
     at_hand_there : lookup (test s) hub.sessions ≡ option_map (λ st. st.now) (stream_of h s)
     at_hand_there = ap (lookup (test s)) stands.sessions ∙ lookup-at_hand s h.present
+
+    pub status_seen : status_of hub s ≡ status_in (stream_of h s)
+    status_seen = ap status_or_absent at_hand_there
+
+    pub room_seen : room_of hub s ≡ room_in (stream_of h s)
+    room_seen = ap room_or_none at_hand_there
+
+    pub pending_seen : pending_of hub s ≡ pending_in (stream_of h s)
+    pending_seen = ap pending_or_none at_hand_there
 
     pub stream-some : (n : SessionState) → Some n ≡ lookup (test s) hub.sessions → FoundStream h s n
     stream-some n e = let there = e ∙ at_hand_there in grind (arith, common_steps)

@@ -2,13 +2,17 @@
 use Rattle.std.specs.Prelude.{◌≡◌, ℕ, Bool, List, [], drop, Option, Some, None, Result, Ok, Err, true, false, IsTrue}
 use Rattle.sector.specs.declared.device.Sectors.{Ghosts}
 use Rattle.model.specs.declared.refusals.Memory.{Memory}
+use Rattle.model.specs.declared.ranges.RangeRef.{RangeRef}
+use Rattle.model.specs.KeyBytes.{key_bytes, end_bytes}
 use Rattle.model.specs.Leading.{LeadsBy}
 use Rattle.model.specs.Map.{Bytes}
 use Rattle.model.specs.Operations.{Operation, Response, Done}
+use Rattle.model.specs.Operations.Operation.{Range}
 use Rattle.model.specs.Machine.{State, step, leave}
 use Rattle.model.specs.ReplyText.{reply_text}
 use Rattle.engine.specs.declared.engine.Engine.{Engine}
-use Rattle.engine.specs.Meaning.{StandsFor, IsNotRefused, failures_of, has_risen, response_to_read}
+pub use Rattle.engine.specs.Meaning.{has_failed}
+use Rattle.engine.specs.Meaning.{StandsFor, IsNotRefused, response_to_read}
 use Rattle.engine.specs.declared.faults.ReadFault.{ReadFault}
 use Rattle.sessions.specs.declared.buffer.Buffer.{Buffer}
 use Rattle.sessions.specs.declared.requests.Served.{Served}
@@ -22,10 +26,6 @@ rest b = drop b.start b.bytes.items
 -- the most bytes of room that an emptied output keeps
 abbrev pub output_kept : ℕ
 output_kept = 65536
-
--- whether the device failed between the two
-abbrev pub has_failed : {D : Type 0} {g : Ghosts D} → Engine D g → Engine D g → Bool
-has_failed old new = has_risen (failures_of old) (failures_of new)
 
 -- this response was written to an empty output, or memory was refused and nothing was
 abbrev pub Writes : Option Response → Bytes → Result (Unit {0}) Memory → Type 0
@@ -82,3 +82,7 @@ chosen front outcome failed = record { front = front; refused = is_memory outcom
 abbrev pub ServesSession : {D : Type 0} {g : Ghosts D} → Engine D g → Engine D g → ℕ → SessionState → SessionState → Outcome → Type 0
 ServesSession old new s before after outcome =
     (front : Front) × ((m : State) → StandsFor old m → HasEffect old new s (chosen front outcome (has_failed old new)) m before after outcome)
+
+-- what a RANGE with this limit asks
+abbrev pub range_of : RangeRef → ℕ → Operation
+range_of range limit = Range (key_bytes range.lo) (end_bytes range.hi) limit

@@ -6,18 +6,13 @@ use Rattle.std.specs.Ordering.{nat_cmp}
 use Rattle.sector.specs.SectorModel.{LeavesOnly}
 use Rattle.model.specs.Map.{Bytes}
 use Rattle.model.specs.Operations.{Operation, Commit}
-use Rattle.model.specs.Machine.{State, step}
+use Rattle.model.specs.Machine.{step}
 use Rattle.engine.specs.declared.engine.Engine.{Engine}
-use Rattle.engine.specs.Meaning.{StandsFor as EngineStandsFor, device_of, IsLeftByCommit}
+pub use Rattle.engine.specs.Meaning.{SurvivesCommit}
+use Rattle.engine.specs.Meaning.{device_of}
 use Rattle.engine.specs.Recovery.{HoldsMap, LeavesCommitted, committed_map}
 use Rattle.sessions.specs.SessionStreams.{HubState, HubEvent, Serves, SessionState, SessionStream, Whole, IsFront, asks, may_serve, stream_of}
 use Rattle.sessions.specs.StandsFor.{Ghosts, Hub, StandsFor, device}
-
--- a crash at any moment of the session's COMMIT leaves the map from before it, or the one with the transaction's writes; of a store that
--- was stopped, what it could have left before
-abbrev pub SurvivesCommit : {D : Type 0} {g : Ghosts D} → Engine D g → Engine D g → ℕ → Type 0
-SurvivesCommit {D} {g} old new s =
-    g.keeps_model → (m : State) → EngineStandsFor old m → LeavesOnly g.moment g.left_since (device_of old) (device_of new) (IsLeftByCommit old m s)
 
 -- the device is as it was, or the request is a COMMIT
 abbrev pub SurvivesRequest : {D : Type 0} {g : Ghosts D} → Engine D g → Engine D g → ℕ → Operation → Type 0

@@ -1,5 +1,8 @@
 -- Which states a hub stands for, and what an event does to them.
-use Rattle.std.specs.Prelude.{◌≡◌, ℕ, Bool, List, [], map, Option, Some, None, Result, Ok, Err}
+use Rattle.std.specs.Prelude.{◌≡◌, ℕ, Bool, List, [], map, Option, Some, None, option_map, Result, Ok, Err}
+use Rattle.std.specs.Ordering.{nat_cmp}
+use Rattle.std.specs.Map.{lookup}
+use Rattle.std.specs.BTreeMap.{is_at}
 pub use Rattle.sector.specs.declared.device.Sectors.{Ghosts}
 use Rattle.model.specs.Leading.{LeadsBy}
 use Rattle.engine.specs.Meaning.{StandsFor as EngineStandsFor, device_of, failures_of, is_stopped as has_engine_stopped}
@@ -56,14 +59,39 @@ abbrev pub HubLeads : {D : Type 0} {g : Ghosts D} → Hub D g → Hub D g → Hu
 HubLeads old new e outcome =
     (c : Choice) × (c.refused ≡ is_memory outcome) × (c.failed ≡ has_failed old.engine new.engine) × LeadsBy StandsFor old new (λ h later. Reaches h e c later outcome)
 
+-- how a session stands, how many bytes its inbox has room for and what is pending: of one that is not present, nothing
+abbrev pub status_or_absent : Option SessionState → Status
+status_or_absent None = Absent
+status_or_absent (Some n) = n.status
+
+abbrev pub room_or_none : Option SessionState → ℕ
+room_or_none None = 0
+room_or_none (Some n) = room n
+
+abbrev pub pending_or_none : Option SessionState → List ℕ
+pending_or_none None = []
+pending_or_none (Some n) = n.pending
+
+-- what a hub has at hand of a session, if it is present
+abbrev pub session_at : {D : Type 0} {g : Ghosts D} → Hub D g → ℕ → Option SessionState
+session_at hub s = lookup (is_at (nat_cmp s)) hub.sessions
+
+-- how it stands there, its room and what is pending
+abbrev pub status_of : {D : Type 0} {g : Ghosts D} → Hub D g → ℕ → Status
+status_of hub s = status_or_absent (session_at hub s)
+
+abbrev pub room_of : {D : Type 0} {g : Ghosts D} → Hub D g → ℕ → ℕ
+room_of hub s = room_or_none (session_at hub s)
+
+abbrev pub pending_of : {D : Type 0} {g : Ghosts D} → Hub D g → ℕ → List ℕ
+pending_of hub s = pending_or_none (session_at hub s)
+
+-- the same of a stream, if there is one
 abbrev pub status_in : Option SessionStream → Status
-status_in None = Absent
-status_in (Some st) = st.now.status
+status_in stream = status_or_absent (option_map (λ st. st.now) stream)
 
 abbrev pub room_in : Option SessionStream → ℕ
-room_in None = 0
-room_in (Some st) = room st.now
+room_in stream = room_or_none (option_map (λ st. st.now) stream)
 
 abbrev pub pending_in : Option SessionStream → List ℕ
-pending_in None = []
-pending_in (Some st) = st.now.pending
+pending_in stream = pending_or_none (option_map (λ st. st.now) stream)

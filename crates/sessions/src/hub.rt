@@ -8,8 +8,8 @@ ghost use Rattle.sessions.specs.Laws.{GivesBack, IsLawful, NoneRuns, Runs, RunsA
 ghost use Rattle.sessions.specs.Life.{LosesNothing};
 ghost use Rattle.sessions.specs.Lives.{CutsReopen, KeepsAnswered, LivesLoseNothing, LivesFromNothing};
 ghost use Rattle.sessions.specs.OneOrder.{LivesHaveOneHistory};
-ghost use Rattle.sessions.specs.SessionStreams.{HubState, is_above, hub_over, stream_of, Joins, Receives, Serves, Sends, Leaves};
-ghost use Rattle.sessions.specs.StandsFor.{HubLeads, StandsFor, event_of, status_in, room_in, pending_in, device, failures, is_stopped};
+ghost use Rattle.sessions.specs.SessionStreams.{HubState, is_above, hub_over, Joins, Receives, Serves, Sends, Leaves};
+ghost use Rattle.sessions.specs.StandsFor.{HubLeads, StandsFor, event_of, status_of, room_of, pending_of, device, failures, is_stopped};
 
 use crate::events::{Event, Outcome, SESSIONS_MAX, Status};
 use crate::present::Present;
@@ -62,7 +62,7 @@ impl<D: Sectors> Hub<D> {
 
     /// How the session stands: `Absent` where it has not joined or has left. Takes no memory.
     pub fn status(&self, s: u64) -> Status
-        ensures { (h : HubState) → StandsFor self.now h → result ≡ status_in (stream_of h s) }
+        ensures { result ≡ status_of self.now s }
     {
         match self.sessions.get(s) {
             Some(session) => session.status(),
@@ -73,7 +73,7 @@ impl<D: Sectors> Hub<D> {
     /// How many bytes the session's inbox has room for, from 0 to `INBOX_MAX`; 0 for an absent session. One that is not `Open` takes none of
     /// them, whatever its room. Takes no memory.
     pub fn room(&self, s: u64) -> usize
-        ensures { (h : HubState) → StandsFor self.now h → result ≡ room_in (stream_of h s) }
+        ensures { result ≡ room_of self.now s }
     {
         match self.sessions.get(s) {
             Some(session) => session.room(),
@@ -83,7 +83,7 @@ impl<D: Sectors> Hub<D> {
 
     /// The session's bytes that are to be sent, `RANGE_REPLY_MAX` at most; none for an absent session. Takes no memory.
     pub fn pending(&self, s: u64) -> &[u8]
-        ensures bytes { (h : HubState) → StandsFor self.now h → result.now ≡ pending_in (stream_of h s) }
+        ensures bytes { result.now ≡ pending_of self.now s }
         ensures short { length result.now ≤ RANGE_REPLY_MAX }
     {
         match self.sessions.get(s) {

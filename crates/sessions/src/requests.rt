@@ -7,7 +7,7 @@ ghost use Rattle.model.specs.Operations.Operation.{Get, Range, Abort as ToAbort,
 ghost use Rattle.model.specs.Operations.Response.{Done};
 ghost use Rattle.resp.specs.Writing.{IsBrief};
 ghost use Rattle.engine.specs.Meaning.{failures_of, device_of, is_stopped, response_to};
-ghost use Rattle.sessions.specs.Calls.{Writes, refusal_to_read, Executes, Aborts, ServesFront, has_failed};
+ghost use Rattle.sessions.specs.Calls.{range_of, Writes, refusal_to_read, Executes, Aborts, ServesFront, has_failed};
 ghost use Rattle.sessions.specs.Crashes.{SurvivesCommit, SurvivesRequest, SurvivesFront};
 ghost use Rattle.sessions.specs.SessionStreams.{asks};
 
@@ -89,7 +89,7 @@ fn range<D: Sectors>(
     requires empty { out.old.items ≡ [] }
     requires room { 536 ≤ vec_capacity out.old }
     requires limit { (1 ≤ limit) × (limit ≤ 128) }
-    ensures step { Executes engine.old engine.new s (Range (key_bytes range.entry.lo) (end_bytes range.entry.hi) limit) false out.new.items result }
+    ensures step { Executes engine.old engine.new s (range_of range.entry limit) false out.new.items result }
     ensures device { device_of engine.new ≡ device_of engine.old }
     ensures short { length out.new.items ≤ range_reply_max }
     ensures capacity { vec_capacity out.old ≤ vec_capacity out.new }

@@ -26,7 +26,7 @@ use Rattle.write_buffer.specs.Buffered.{AreEntries, written, with_write}
 use Rattle.snapshot.specs.declared.faults.SnapshotFault.{SnapshotFault}
 use Rattle.snapshot.specs.declared.faults.SnapshotFault.TheVariants.{FullWrites, FullMarks, Memory}
 use Rattle.snapshot.specs.View.{View, new_view, or_else, value_read, after_get, after_put, keys_of, copy_held, is_full_get, marked}
-use Rattle.snapshot.specs.Made.{HasMade, MakesOneMore, IsDoneReply, IsFault, is_refused}
+use Rattle.snapshot.specs.Made.{HasMade, MakesOneMore, IsFullWhen, IsDoneReply, IsFault, is_refused}
 use Rattle.write_buffer.specs.declared.faults.WritesFault as faults
 use Rattle.write_buffer.specs.declared.faults.WritesFault.TheVariants as writes_fault
 use Rattle.std.specs.Prelude.{OnOk, OnErr}
@@ -185,20 +185,20 @@ write-full a0 a1 a2 a3 a4 a5 = grind (arith, common_steps)
 pub read-after_get : (t u : View) (v : ChainsValue) (k : Bytes) → u ≡ after_get t k → value_read u (map_seen v u.begin) k ≡ value_read t (map_seen v t.begin) k
 read-after_get t u v k e = let same = ap (λ (u : View). value_read u (map_seen v u.begin) k) e in grind (arith, common_steps)
 
-pub room_of : {B : Type 0} {x : B} {b : Bool} → ((◌≡◌ {A = Result B SnapshotFault} (Ok x) (Err FullMarks)) ↔ IsTrue b) → b ≡ false
+pub room_of : {B : Type 0} {x : B} {b : Bool} → IsFullWhen (Ok x) b → b ≡ false
 room_of {B} {x} {b} iff = elim (cases_Bool b) [ inl t ↦ let e = iff.1 t in cc | inr f ↦ f ]
 
-pub ok_iff : {A : Type 0} {b : Bool} (x : A) → b ≡ false → (◌≡◌ {A = Result A SnapshotFault} (Ok x) (Err FullMarks)) ↔ IsTrue b
+pub ok_iff : {A : Type 0} {b : Bool} (x : A) → b ≡ false → IsFullWhen (Ok x) b
 ok_iff {A} {b} x f = (λ e. cc, λ t. absurd (both_ways b f t))
 
 -- between faults and results that are faults
 same_fault : {A : Type 0} (e f : SnapshotFault) → ◌≡◌ {A = Result A SnapshotFault} (Err e) (Err f) → e ≡ f
 same_fault e f is = cc
 
-pub fault_iff : {B : Type 0} {e : SnapshotFault} {b : Bool} → ((◌≡◌ {A = Result B SnapshotFault} (Err e) (Err FullMarks)) ↔ IsTrue b) → (e ≡ FullMarks) ↔ IsTrue b
+pub fault_iff : {B : Type 0} {e : SnapshotFault} {b : Bool} → IsFullWhen {A = B} (Err e) b → (e ≡ FullMarks) ↔ IsTrue b
 fault_iff {B} {e} {b} iff = (λ is. iff.0 (ap Err is), λ t. same_fault e FullMarks (iff.1 t))
 
-pub err_iff : {A B : Type 0} {e : SnapshotFault} {b : Bool} → ((◌≡◌ {A = Result B SnapshotFault} (Err e) (Err FullMarks)) ↔ IsTrue b) → (◌≡◌ {A = Result A SnapshotFault} (Err e) (Err FullMarks)) ↔ IsTrue b
+pub err_iff : {A B : Type 0} {e : SnapshotFault} {b : Bool} → IsFullWhen {A = B} (Err e) b → IsFullWhen {A = A} (Err e) b
 err_iff {A} {B} {e} {b} iff = (λ is. iff.0 (ap Err (same_fault e FullMarks is)), λ t. ap Err (same_fault e FullMarks (iff.1 t)))
 
 pub never_of : {B : Type 0} {e : SnapshotFault} → ((◌≡◌ {A = Result B SnapshotFault} (Err e) (Err FullWrites)) → ⊥) → e ≢ FullWrites

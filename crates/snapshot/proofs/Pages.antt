@@ -7,7 +7,9 @@ use Rattle.std.specs.Cmp.Lexicographic.{slice_cmp}
 use Rattle.std.specs.FinMap.Entries.{where_key}
 use Rattle.std.proofs.lemmas.List.{take_all}
 use Rattle.std.proofs.lemmas.Bool.{and_parts, eqb-true}
+use Rattle.model.specs.declared.ranges.RangeRef.{RangeRef}
 use Rattle.model.specs.Key.{IsKey, IsValue}
+use Rattle.model.specs.KeyBytes.{key_bytes, end_bytes}
 use Rattle.model.specs.Map.{Bytes, KeyMap, KeyWrite, IsInBounds, key_cmp, is_in_range, is_below, pairs_in_range}
 use Rattle.model.specs.PrivateCopy.{last_key, page_end}
 use Rattle.snapshot.specs.View.{View}
@@ -101,13 +103,13 @@ module _ (p : Bytes → Bool) where
   last_has (x ∷ y ∷ es) k h e = last_has (y ∷ es) k h.1 e
 
 -- so the end of a page isn't below the range's lower end
-pub end_above : (t : View) (m : KeyMap) (lo : Bytes) (hi : Option Bytes) (limit : ℕ) (k : Bytes) → page_end limit (rows_of t m lo hi limit) ≡ Some k → is_le (key_cmp lo k) ≡ true
-end_above t m lo hi limit k e =
-    let p = is_in_range lo hi in
-    let keys = keys-taken p limit (all_rows t m lo hi) (keys-merged p (where_key (slice_cmp nat_cmp) p t.writes) (pairs_in_range m lo hi) (keys_where p t.writes) (keys_where p m)) in
-    (and_parts (is_le (key_cmp lo k)) (is_below k hi) (last_has p (rows_of t m lo hi limit) k keys (full (eqb (length (rows_of t m lo hi limit)) limit) e))).0
+pub end_above : (t : View) (m : KeyMap) (r : RangeRef) (limit : ℕ) (k : Bytes) → page_end limit (rows_of t m r limit) ≡ Some k → is_le (key_cmp (key_bytes r.lo) k) ≡ true
+end_above t m r limit k e =
+    let p = is_in_range (key_bytes r.lo) (end_bytes r.hi) in
+    let keys = keys-taken p limit (all_rows t m r) (keys-merged p (where_key (slice_cmp nat_cmp) p t.writes) (pairs_in_range m (key_bytes r.lo) (end_bytes r.hi)) (keys_where p t.writes) (keys_where p m)) in
+    (and_parts (is_le (key_cmp (key_bytes r.lo) k)) (is_below k (end_bytes r.hi)) (last_has p (rows_of t m r limit) k keys (full (eqb (length (rows_of t m r limit)) limit) e))).0
   where
-    full : (b : Bool) → cond b (last_key (rows_of t m lo hi limit)) None ≡ Some k → last_key (rows_of t m lo hi limit) ≡ Some k
+    full : (b : Bool) → cond b (last_key (rows_of t m r limit)) None ≡ Some k → last_key (rows_of t m r limit) ≡ Some k
     full true h = h
     full false h = let no : ◌≡◌ {A = Option Bytes} None (Some k) = h in cc
 

@@ -1,5 +1,5 @@
 -- The pairs that writes over pairs have left.
-use Rattle.std.specs.Prelude.{◌∷◌, Option, Some, None}
+use Rattle.std.specs.Prelude.{ℕ, ◌∷◌, take, Option, Some, None}
 use Rattle.std.specs.Borrow.{Bor}
 use Rattle.model.specs.declared.keys.KeyRef.{KeyRef}
 use Rattle.model.specs.KeyBytes.{pair_bytes}
@@ -15,3 +15,7 @@ with_ahead (Some p) ps = pair_bytes p ∷ ps
 
 abbrev pub merged_pairs : MergedPairs → KeyMap
 merged_pairs m = merged m.writes.now (with_ahead m.ahead (range_pairs m.pairs))
+
+-- the first of them, `limit` at most
+abbrev pub page_of : ℕ → MergedPairs → KeyMap
+page_of limit m = take limit (merged_pairs m)

@@ -1,11 +1,14 @@
 -- The pairs that a range read answers: a map's pairs with the writes over them.
 use Rattle.std.specs.Prelude.{ℕ, List, [], ◌∷◌, Option, Some, None, take, Bool, not, ◌&&◌, ◌||◌, if◌then◌else◌}
-use Rattle.marks.specs.Marked.{has_mark, is_full_for}
+use Rattle.marks.specs.Marked.{has_mark, is_full_for, with_mark}
 use Rattle.std.specs.Ordering.{nat_cmp}
 use Rattle.std.specs.Cmp.Lexicographic.{slice_cmp}
 use Rattle.std.specs.FinMap.Entries.{by_order, where_key}
+use Rattle.model.specs.declared.keys.KeyRef.{KeyRef}
+use Rattle.model.specs.declared.ranges.RangeRef.{RangeRef}
+use Rattle.model.specs.KeyBytes.{key_bytes, end_bytes}
 use Rattle.model.specs.Map.{Bytes, KeyMap, KeyWrite, key_cmp, is_in_range, is_empty_range, pairs_in_range}
-use Rattle.model.specs.PrivateCopy.{Mark, mark_of_reply}
+use Rattle.model.specs.PrivateCopy.{Mark, mark_up_to, mark_of_reply}
 use Rattle.snapshot.specs.View.{View, marked}
 
 abbrev pub with_value : Bytes → Option Bytes → KeyMap → KeyMap
@@ -22,25 +25,37 @@ abbrev pub merged : List KeyWrite → KeyMap → KeyMap
 merged [] ps = ps
 merged (w ∷ ws) ps = merged_one w (merged ws) ps
 
+-- the marks that reads of a range ask for: up to an end, where there is one, and of the page that was answered
+abbrev pub mark_to : RangeRef → Option KeyRef → Mark
+mark_to r end = mark_up_to (key_bytes r.lo) (end_bytes r.hi) (end_bytes end)
+
+abbrev pub page_mark : RangeRef → ℕ → KeyMap → Mark
+page_mark r limit page = mark_of_reply (key_bytes r.lo) (end_bytes r.hi) limit page
+
+-- the marks with that of the page, which is none where the range is empty
+abbrev pub with_page : List Mark → RangeRef → ℕ → KeyMap → List Mark
+with_page ms r limit page = if is_empty_range (key_bytes r.lo) (end_bytes r.hi) then ms else with_mark ms (page_mark r limit page)
+
+-- the page needs a mark for which there is no room, and it needs no new mark
+abbrev pub is_full_for_page : List Mark → RangeRef → ℕ → KeyMap → Bool
+is_full_for_page ms r limit page = not (is_empty_range (key_bytes r.lo) (end_bytes r.hi)) && is_full_for ms (page_mark r limit page)
+
+abbrev pub has_page : List Mark → RangeRef → ℕ → KeyMap → Bool
+has_page ms r limit page = is_empty_range (key_bytes r.lo) (end_bytes r.hi) || has_mark ms (page_mark r limit page)
+
 -- all pairs of the range in the transaction's copy of the map m
-abbrev pub all_rows : View → KeyMap → Bytes → Option Bytes → KeyMap
-all_rows t m lo hi = merged (where_key (slice_cmp nat_cmp) (is_in_range lo hi) t.writes) (pairs_in_range m lo hi)
+abbrev pub all_rows : View → KeyMap → RangeRef → KeyMap
+all_rows t m r =
+    merged (where_key (slice_cmp nat_cmp) (is_in_range (key_bytes r.lo) (end_bytes r.hi)) t.writes) (pairs_in_range m (key_bytes r.lo) (end_bytes r.hi))
 
--- what a range read of the transaction over the map m answers, and the mark that this reply asks for
-abbrev pub rows_of : View → KeyMap → Bytes → Option Bytes → ℕ → KeyMap
-rows_of t m lo hi limit = take limit (all_rows t m lo hi)
-
-abbrev pub mark_of_rows : View → KeyMap → Bytes → Option Bytes → ℕ → Mark
-mark_of_rows t m lo hi limit = mark_of_reply lo hi limit (rows_of t m lo hi limit)
+-- what a range read of the transaction over the map m answers
+abbrev pub rows_of : View → KeyMap → RangeRef → ℕ → KeyMap
+rows_of t m r limit = take limit (all_rows t m r)
 
 -- the transaction after a read of the range
-abbrev pub after_range : View → KeyMap → Bytes → Option Bytes → ℕ → View
-after_range t m lo hi limit = if is_empty_range lo hi then t else marked t (mark_of_rows t m lo hi limit)
+abbrev pub after_range : View → KeyMap → RangeRef → ℕ → View
+after_range t m r limit = if is_empty_range (key_bytes r.lo) (end_bytes r.hi) then t else marked t (page_mark r limit (rows_of t m r limit))
 
 -- the read needs a mark for which there is no room
-abbrev pub is_full_range : View → KeyMap → Bytes → Option Bytes → ℕ → Bool
-is_full_range t m lo hi limit = not (is_empty_range lo hi) && is_full_for t.marks (mark_of_rows t m lo hi limit)
-
--- the read needs no new mark
-abbrev pub is_known_range : View → KeyMap → Bytes → Option Bytes → ℕ → Bool
-is_known_range t m lo hi limit = is_empty_range lo hi || has_mark t.marks (mark_of_rows t m lo hi limit)
+abbrev pub is_full_range : View → KeyMap → RangeRef → ℕ → Bool
+is_full_range t m r limit = is_full_for_page t.marks r limit (rows_of t m r limit)

@@ -1,9 +1,9 @@
 -- A transaction as contracts see it, and what its own requests read and leave.
-use Rattle.std.specs.Prelude.{ℕ, List, [], ◌∷◌, Bool, Option, Some, None, is_some, if◌then◌else◌, not, ◌&&◌}
+use Rattle.std.specs.Prelude.{ℕ, List, [], ◌∷◌, Bool, Option, Some, None, is_some, if◌then◌else◌, not, ◌&&◌, ◌||◌}
 use Rattle.model.specs.Map.{Bytes, KeyMap, KeyWrite, value_at, after_writes}
 use Rattle.model.specs.PrivateCopy.{Mark, PrivateCopy}
 use Rattle.model.specs.PrivateCopy.Mark.{OfKey}
-use Rattle.marks.specs.Marked.{with_mark, is_full_for}
+use Rattle.marks.specs.Marked.{has_mark, with_mark, is_full_for}
 use Rattle.write_buffer.specs.Buffered.{written, with_write}
 
 pub record View : Type 0 where
@@ -42,6 +42,9 @@ keys_of (w ∷ ws) = w.0 ∷ keys_of ws
 abbrev pub copy_held : View → KeyMap → PrivateCopy
 copy_held t m = record { contents = after_writes m t.writes; written = keys_of t.writes; marks = t.marks }
 
--- a read of the key needs a mark for which there is no room
+-- a read of the key needs a mark for which there is no room, and it needs no new mark
 abbrev pub is_full_get : View → Bytes → Bool
 is_full_get t k = not (is_some (written t.writes k)) && is_full_for t.marks (OfKey k)
+
+abbrev pub is_known_get : View → Bytes → Bool
+is_known_get t k = is_some (written t.writes k) || has_mark t.marks (OfKey k)

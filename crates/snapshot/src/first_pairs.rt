@@ -1,11 +1,12 @@
 //! The first pairs of a range, and the mark of a read of them.
-ghost use Rattle.std.specs.Prelude.{◌≡◌, ◌≢◌, ◌↔◌, ◌&&◌, ◌||◌, not, if◌then◌else◌, List, ℕ, Some, IfOk, IsOk, IsTrue, OnErr, OnOk, Err, length, take};
+ghost use Rattle.std.specs.Prelude.{◌≡◌, ◌≢◌, List, ℕ, Some, IfOk, IsOk, IsTrue, OnErr, OnOk, Err, length};
 ghost use Rattle.std.specs.Ordering.{is_le};
-ghost use Rattle.marks.specs.Marked.{has_mark, is_full_for, with_mark};
 ghost use Rattle.model.specs.KeyBytes.{key_bytes, end_bytes};
-ghost use Rattle.model.specs.Map.{key_cmp, is_empty_range, IsInBounds};
-ghost use Rattle.model.specs.PrivateCopy.{mark_of_reply, page_end};
-ghost use Rattle.snapshot.specs.Ahead.{merged_pairs};
+ghost use Rattle.model.specs.Map.{key_cmp, IsInBounds};
+ghost use Rattle.model.specs.PrivateCopy.{page_end};
+ghost use Rattle.snapshot.specs.Ahead.{page_of};
+ghost use Rattle.snapshot.specs.Merged.{with_page, is_full_for_page, has_page};
+ghost use Rattle.snapshot.specs.Made.{IsFullWhen};
 
 use crate::faults::SnapshotFault;
 use crate::merge::MergedPairs;
@@ -22,9 +23,9 @@ struct Page<'a> {
 
 // Finds the first pairs, `limit` at most. Where there are as many, the last of their keys is their end.
 fn find_page<'a>(pairs: MergedPairs<'a>, limit: u8) -> Page<'a>
-    ensures len { result.len ≡ length (take limit (merged_pairs pairs.entry)) }
-    ensures end { end_bytes result.end ≡ page_end limit (take limit (merged_pairs pairs.entry)) }
-    ensures in_bounds { IsInBounds (take limit (merged_pairs pairs.entry)) }
+    ensures len { result.len ≡ length (page_of limit pairs.entry) }
+    ensures end { end_bytes result.end ≡ page_end limit (page_of limit pairs.entry) }
+    ensures in_bounds { IsInBounds (page_of limit pairs.entry) }
 {
     let mut rest = pairs;
     let mut len: usize = 0;
@@ -47,13 +48,13 @@ pub(crate) fn mark_page(
     range: RangeRef<'_>,
     limit: u8,
 ) -> Result<usize, SnapshotFault>
-    requires { (last : List ℕ) → page_end limit (take limit (merged_pairs pairs)) ≡ Some last → IsTrue (is_le (key_cmp (key_bytes range.lo) last)) }
-    ensures ok { OnOk result (marks.new ≡ (if is_empty_range (key_bytes range.entry.lo) (end_bytes range.entry.hi) then marks.old else with_mark marks.old (mark_of_reply (key_bytes range.entry.lo) (end_bytes range.entry.hi) limit (take limit (merged_pairs pairs.entry))))) }
-    ensures len { IfOk result (λ n. n ≡ length (take limit (merged_pairs pairs.entry))) }
-    ensures in_bounds { IsInBounds (take limit (merged_pairs pairs.entry)) }
+    requires { (last : List ℕ) → page_end limit (page_of limit pairs) ≡ Some last → IsTrue (is_le (key_cmp (key_bytes range.lo) last)) }
+    ensures ok { OnOk result (marks.new ≡ with_page marks.old range.entry limit (page_of limit pairs.entry)) }
+    ensures len { IfOk result (λ n. n ≡ length (page_of limit pairs.entry)) }
+    ensures in_bounds { IsInBounds (page_of limit pairs.entry) }
     ensures err { OnErr result (marks.new ≡ marks.old) }
-    ensures full { (result ≡ Err SnapshotFault.FullMarks) ↔ IsTrue (not (is_empty_range (key_bytes range.entry.lo) (end_bytes range.entry.hi)) && is_full_for marks.old (mark_of_reply (key_bytes range.entry.lo) (end_bytes range.entry.hi) limit (take limit (merged_pairs pairs.entry)))) }
-    ensures known { IsTrue (is_empty_range (key_bytes range.entry.lo) (end_bytes range.entry.hi) || has_mark marks.old (mark_of_reply (key_bytes range.entry.lo) (end_bytes range.entry.hi) limit (take limit (merged_pairs pairs.entry)))) → IsOk result }
+    ensures full { IsFullWhen result (is_full_for_page marks.old range.entry limit (page_of limit pairs.entry)) }
+    ensures known { IsTrue (has_page marks.old range.entry limit (page_of limit pairs.entry)) → IsOk result }
     ensures never { result ≢ Err SnapshotFault.FullWrites }
 {
     let page = find_page(pairs, limit);

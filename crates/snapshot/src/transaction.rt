@@ -1,21 +1,17 @@
 //! One transaction.
-ghost use Rattle.std.specs.Prelude.{◌||◌, ◌≡◌, ◌≢◌, ◌≤◌, ◌<◌, ◌↔◌, ◌++◌, ◌∷◌, [], List, length, IsTrue, IsOk, IfOk, IfSome, OnOk, OnErr, Err, Some, None, take, option_copied, is_some, slice_index_or};
+ghost use Rattle.std.specs.Prelude.{◌≡◌, ◌≢◌, ◌≤◌, ◌<◌, ◌↔◌, [], length, IsTrue, IsOk, IfOk, IfSome, OnOk, OnErr, Err, Some, None, option_copied, is_some, slice_index_or};
 ghost use Rattle.std.specs.Borrow.{sem};
 ghost use Rattle.std.specs.Io.BufRead.{Rests};
-ghost use Rattle.model.specs.KeyBytes.{key_bytes, end_bytes};
 ghost use Rattle.model.specs.Key.{IsValue};
 ghost use Rattle.model.specs.Map.{KeyMap, KeyWrite, IsMap, IsInBounds};
-ghost use Rattle.model.specs.Operations.{Operation};
-ghost use Rattle.model.specs.Operations.Operation.{Get, Set, Del, Range};
+ghost use Rattle.model.specs.Operations.Operation.{Get, Set, Del};
 ghost use Rattle.model.specs.PrivateCopy.{answer, copy_after, copy_of, reads, writes};
-ghost use Rattle.model.specs.PrivateCopy.Mark.{OfKey};
-ghost use Rattle.marks.specs.Marked.{has_mark};
 ghost use Rattle.write_buffer.specs.Buffered.{AreEntries, written, is_full_for};
 ghost use Rattle.versions.specs.Meaning.{map_seen};
-ghost use Rattle.snapshot.specs.View.{new_view, value_read, after_get, after_put, is_full_get};
-ghost use Rattle.snapshot.specs.Merged.{all_rows, rows_of, after_range, is_full_range, is_known_range};
+ghost use Rattle.snapshot.specs.View.{new_view, value_read, after_get, after_put, is_full_get, is_known_get};
+ghost use Rattle.snapshot.specs.Merged.{is_full_range};
 ghost use Rattle.snapshot.specs.RowPairs.{row_pairs};
-ghost use Rattle.snapshot.specs.Made.{HasMade, MakesOneMore, IsValueReply, IsDoneReply, IsKnownRange, IsLeftByGet};
+ghost use Rattle.snapshot.specs.Made.{HasMade, WhereMade, WhereSeen, MakesOneMore, IsFullWhen, IsValueReply, IsDoneReply, IsKnownRange, IsLeftByGet, range_read};
 ghost use Rattle.snapshot.specs.PairsReply.{IsPairsReply, IsLeftByRange};
 ghost use Rattle.snapshot.specs.contracts.transaction.Transaction.{the_row};
 
@@ -74,7 +70,7 @@ impl Transaction {
     /// The marks of its reads. Takes no memory.
     pub fn marks(&self) -> &Marks
         ensures marks { result.now ≡ self.now.marks }
-        ensures made { (m : KeyMap) (qs : List Operation) → HasMade self.now m qs → result.now ≡ reads m qs }
+        ensures made { WhereMade self.now (λ m qs. result.now ≡ reads m qs) }
     {
         &self.marks
     }
@@ -83,7 +79,7 @@ impl Transaction {
     pub fn entries(&self) -> &[Write]
         ensures writes { result.now ≡ self.now.writes }
         ensures entries { AreEntries self.now.writes }
-        ensures made { (m : KeyMap) (qs : List Operation) → HasMade self.now m qs → result.now ≡ writes m qs }
+        ensures made { WhereMade self.now (λ m qs. result.now ≡ writes m qs) }
     {
         self.buffer.entries()
     }
@@ -92,7 +88,7 @@ impl Transaction {
     pub fn into_writes(self) -> Vec<Write>
         ensures writes { result.items ≡ self.writes }
         ensures entries { AreEntries self.writes }
-        ensures made { (m : KeyMap) (qs : List Operation) → HasMade self m qs → result.items ≡ writes m qs }
+        ensures made { WhereMade self (λ m qs. result.items ≡ writes m qs) }
     {
         self.buffer.into_entries()
     }
@@ -111,8 +107,8 @@ impl Transaction {
     fn mark_key(&mut self, key: KeyRef<'_>) -> Result<(), SnapshotFault>
         ensures ok { OnOk result (self.new ≡ after_get self.old key.entry.bytes.now) }
         ensures err { OnErr result (self.new ≡ self.old) }
-        ensures full { (result ≡ Err SnapshotFault.FullMarks) ↔ IsTrue (is_full_get self.old key.entry.bytes.now) }
-        ensures known { IsTrue (is_some (written self.old.writes key.entry.bytes.now) || has_mark self.old.marks (OfKey key.entry.bytes.now)) → IsOk result }
+        ensures full { IsFullWhen result (is_full_get self.old key.entry.bytes.now) }
+        ensures known { IsTrue (is_known_get self.old key.entry.bytes.now) → IsOk result }
         ensures never { result ≢ Err SnapshotFault.FullWrites }
     {
         match self.buffer.get(key) {
@@ -142,10 +138,10 @@ impl Transaction {
         versions: &'a Versions,
         key: KeyRef<'_>,
     ) -> Result<Option<&'a [u8]>, SnapshotFault>
-        ensures full { (result ≡ Err SnapshotFault.FullMarks) ↔ IsTrue (is_full_get self.old key.entry.bytes.now) }
+        ensures full { IsFullWhen result (is_full_get self.old key.entry.bytes.now) }
         // A read that needs no new mark succeeds.
-        ensures known { IsTrue (is_some (written self.old.writes key.entry.bytes.now) || has_mark self.old.marks (OfKey key.entry.bytes.now)) → IsOk result }
-        ensures reply { (m : KeyMap) (qs : List Operation) → map_seen versions.now self.old.begin ≡ m → HasMade self.old m qs → IsValueReply result (answer m qs (Get key.entry.bytes.now)) }
+        ensures known { IsTrue (is_known_get self.old key.entry.bytes.now) → IsOk result }
+        ensures reply { WhereSeen versions.now self.old (λ m qs. IsValueReply result (answer m qs (Get key.entry.bytes.now))) }
         ensures short { IfOk result (λ value. IfSome value (λ v. IsValue v.now)) }
         ensures* after { sem 𝓛 (Rests the_row self.entry (λ new. IsLeftByGet self.old key.entry.bytes.now result new)) }
     {
@@ -165,13 +161,13 @@ impl Transaction {
         range: RangeRef<'_>,
         limit: u8,
     ) -> Result<Rows<'a>, SnapshotFault>
-        ensures full { (result ≡ Err SnapshotFault.FullMarks) ↔ IsTrue (is_full_range self.old (map_seen versions.now self.old.begin) (key_bytes range.entry.lo) (end_bytes range.entry.hi) limit) }
+        ensures full { IsFullWhen result (is_full_range self.old (map_seen versions.now self.old.begin) range.entry limit) }
         // A read that needs no new mark succeeds.
-        ensures known { (m : KeyMap) (qs : List Operation) → map_seen versions.now self.old.begin ≡ m → HasMade self.old m qs → IsKnownRange (copy_after (copy_of m) qs) (key_bytes range.entry.lo) (end_bytes range.entry.hi) limit → IsOk result }
-        ensures reply { (m : KeyMap) (qs : List Operation) → map_seen versions.now self.old.begin ≡ m → HasMade self.old m qs → IsPairsReply result (answer m qs (Range (key_bytes range.entry.lo) (end_bytes range.entry.hi) limit)) }
+        ensures known { WhereSeen versions.now self.old (λ m qs. IsKnownRange (copy_after (copy_of m) qs) range.entry limit → IsOk result) }
+        ensures reply { WhereSeen versions.now self.old (λ m qs. IsPairsReply result (answer m qs (range_read range.entry limit))) }
         ensures few { IfOk result (λ rows. length (row_pairs rows) ≤ limit) }
         ensures in_bounds { IfOk result (λ rows. IsInBounds (row_pairs rows)) }
-        ensures* after { sem 𝓛 (Rests the_row self.entry (λ new. IsLeftByRange self.old (map_seen versions.now self.old.begin) (key_bytes range.entry.lo) (end_bytes range.entry.hi) limit result new)) }
+        ensures* after { sem 𝓛 (Rests the_row self.entry (λ new. IsLeftByRange versions.now self.old range.entry limit result new)) }
     {
         let writes = within(self.buffer.entries(), range);
         let mut pairs = MergedPairs::new(writes, versions.range(self.begin, range));
@@ -189,7 +185,7 @@ impl Transaction {
         ensures ok { OnOk result (self.new ≡ after_put self.old key.entry.bytes.now (Some value.now)) }
         ensures err { OnErr result (self.new ≡ self.old) }
         ensures full { (result ≡ Err SnapshotFault.FullWrites) ↔ IsTrue (is_full_for self.old.writes key.entry.bytes.now) }
-        ensures reply { (m : KeyMap) (qs : List Operation) → HasMade self.old m qs → IsDoneReply result (answer m qs (Set key.entry.bytes.now value.now)) }
+        ensures reply { WhereMade self.old (λ m qs. IsDoneReply result (answer m qs (Set key.entry.bytes.now value.now))) }
         ensures made { OnOk result (MakesOneMore self.old self.new (Set key.entry.bytes.now value.now)) }
     {
         match self.buffer.put(key, value) {
@@ -206,7 +202,7 @@ impl Transaction {
         ensures err { OnErr result (self.new ≡ self.old) }
         ensures full { (result ≡ Err SnapshotFault.FullWrites) ↔ IsTrue (is_full_for self.old.writes key.entry.bytes.now) }
         ensures known { IsTrue (is_some (written self.old.writes key.entry.bytes.now)) → IsOk result }
-        ensures reply { (m : KeyMap) (qs : List Operation) → HasMade self.old m qs → IsDoneReply result (answer m qs (Del key.entry.bytes.now)) }
+        ensures reply { WhereMade self.old (λ m qs. IsDoneReply result (answer m qs (Del key.entry.bytes.now))) }
         ensures made { OnOk result (MakesOneMore self.old self.new (Del key.entry.bytes.now)) }
     {
         match self.buffer.delete(key) {

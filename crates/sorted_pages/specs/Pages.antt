@@ -16,6 +16,10 @@ abbrev pub entries : {X : Type 0} → List (Page X) → List (Bytes × X)
 entries [] = []
 entries (p ∷ ps) = p.0 ++ entries ps
 
+-- the entries, and one more behind them where it came
+abbrev pub pushed : {X : Type 0} → Bool → List (Bytes × X) → Bytes × X → List (Bytes × X)
+pushed came es e = if came then es ++ e ∷ [] else es
+
 -- the first key is at most k, or there is none
 abbrev pub starts_by : {X : Type 0} → Bytes → List (Bytes × X) → Bool
 starts_by k [] = true

@@ -2,12 +2,14 @@
 use Rattle.std.specs.Prelude.{◌≡◌, ℕ, Bool, true, false, List, [], ◌∷◌, ◌++◌, Option, if◌then◌else◌, Some, None, ⊤}
 use Rattle.std.specs.Borrow.{Bor}
 use Rattle.std.specs.List.{AllByRecursion}
-use Rattle.std.specs.Ordering.{is_le}
-use Rattle.model.specs.Map.{Bytes, key_cmp, is_below}
+use Rattle.std.specs.Ordering.{nat_cmp, is_le}
+use Rattle.std.specs.Cmp.Lexicographic.{slice_cmp}
+use Rattle.std.specs.FinMap.Entries.{where_key}
+use Rattle.model.specs.Map.{Bytes, key_cmp, is_below, is_in_range}
 use Rattle.model.specs.KeyBytes.{key_bytes, end_bytes}
 use Rattle.model.specs.declared.keys.KeyRef.{KeyRef}
 use Rattle.sorted_pages.specs.Blanks.{shown}
-use Rattle.sorted_pages.specs.Pages.{AreBelow, entries}
+use Rattle.sorted_pages.specs.Pages.{AreBelow, Page, entries}
 use Rattle.sorted_pages.specs.declared.range.Entries.{Entries}
 
 -- the entries before the first whose key isn't below hi
@@ -18,6 +20,10 @@ up_to hi (e ∷ es) = if is_below e.0 hi then e ∷ up_to hi es else []
 -- the entries that are left
 abbrev pub entries_left : {X : Type 0} → (ℕ → X → Bool) → Entries X → List (Bytes × X)
 entries_left hides r = up_to (end_bytes r.hi) (shown (hides r.number) (r.front.now ++ entries r.pages.now))
+
+-- the entries that aren't hidden and whose keys are at least lo and below hi
+abbrev pub shown_in : {X : Type 0} → (X → Bool) → List (Page X) → Bytes → Option Bytes → List (Bytes × X)
+shown_in hides ps lo hi = where_key (slice_cmp nat_cmp) (is_in_range lo hi) (shown hides (entries ps))
 
 -- the first of the entries isn't hidden
 abbrev pub IsFirstShown : {X : Type 0} → (X → Bool) → List (Bytes × X) → Type 0

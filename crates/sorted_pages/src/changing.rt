@@ -1,11 +1,11 @@
 //! Pages change.
-ghost use Rattle.std.specs.Prelude.{◌≡◌, ◌+◌, ◌<◌, ◌≤◌, T, true, None, [], ◌∷◌, ◌++◌, length, is_ok, IsOk, OnOk, if◌then◌else◌};
+ghost use Rattle.std.specs.Prelude.{◌≡◌, ◌+◌, ◌<◌, ◌≤◌, T, true, None, [], ◌∷◌, ◌++◌, length, is_ok, IsOk, OnOk};
 ghost use Rattle.std.specs.Ordering.{nat_cmp};
 ghost use Rattle.std.specs.Cmp.Lexicographic.{slice_cmp};
 ghost use Rattle.std.specs.FinMap.Entries.{find, put, is_sorted};
 ghost use Rattle.std.specs.Vec.{vec_len};
 ghost use Rattle.model.specs.Map.{Bytes};
-ghost use Rattle.sorted_pages.specs.Pages.{AreAllFull, AreFull, AreLoose, IsCrowded, IsHalved, IsPageWanted, IsInOrder, IsRoomier, StaysTight, count_at, entries, room_at};
+ghost use Rattle.sorted_pages.specs.Pages.{AreAllFull, AreFull, AreLoose, IsCrowded, IsHalved, IsPageWanted, IsInOrder, IsRoomier, StaysTight, count_at, entries, pushed, room_at};
 
 use crate::aging::Aging;
 use crate::page::{PAGE_MAX, Page};
@@ -166,7 +166,7 @@ fn push_page<V: Aging + Drop>(
     requires order { IsInOrder pages.old.items }
     requires sorted { T (is_sorted (slice_cmp nat_cmp) (entries pages.old.items ++ (key, value) ∷ [])) }
     ensures order { IsInOrder pages.new.items }
-    ensures entries { entries pages.new.items ≡ (if is_ok result then entries pages.old.items ++ (key, value) ∷ [] else entries pages.old.items) }
+    ensures entries { entries pages.new.items ≡ pushed (is_ok result) (entries pages.old.items) (key, value) }
     ensures loose { AreLoose pages.old.items → AreLoose pages.new.items }
     ensures full { AreAllFull pages.old.items → AreFull pages.old.items → AreFull pages.new.items }
     ensures tight { StaysTight 512 pages.old.items pages.new.items }
@@ -187,7 +187,7 @@ pub(crate) fn push<V: Aging + Drop>(
     requires order { IsInOrder pages.old.items }
     requires sorted { T (is_sorted (slice_cmp nat_cmp) (entries pages.old.items ++ (key, value) ∷ [])) }
     ensures order { IsInOrder pages.new.items }
-    ensures entries { entries pages.new.items ≡ (if is_ok result then entries pages.old.items ++ (key, value) ∷ [] else entries pages.old.items) }
+    ensures entries { entries pages.new.items ≡ pushed (is_ok result) (entries pages.old.items) (key, value) }
     ensures loose { AreLoose pages.old.items → AreLoose pages.new.items }
     ensures full { AreFull pages.old.items → AreFull pages.new.items }
     ensures tight { StaysTight 512 pages.old.items pages.new.items }

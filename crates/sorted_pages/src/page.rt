@@ -1,5 +1,5 @@
 //! One page.
-ghost use Rattle.std.specs.Prelude.{◌≡◌, max, ◌+◌, ◌-◌, ◌*◌, ◌<◌, ◌≤◌, T, true, false, None, [], ◌∷◌, ◌++◌, length, take, drop, IfOk, IfErr, IsSome, OnOk, OnErr, option_copied, is_ok, if◌then◌else◌};
+ghost use Rattle.std.specs.Prelude.{◌≡◌, max, ◌+◌, ◌-◌, ◌*◌, ◌<◌, ◌≤◌, T, true, false, None, [], ◌∷◌, ◌++◌, length, take, drop, IfOk, IfErr, OnOk, OnErr, option_copied, is_ok, if◌then◌else◌};
 ghost use Rattle.std.specs.Ordering.{nat_cmp};
 ghost use Rattle.std.specs.Cmp.Lexicographic.{slice_cmp};
 ghost use Rattle.std.specs.FinMap.Entries.{find, put, is_sorted};
@@ -177,7 +177,7 @@ impl<V: Aging> Page<V> {
     }
 
     // Where the key's entry is, or where it would stand.
-    fn search(&self, key: &[u8]) -> Result<usize, usize>
+    pub(crate) fn search(&self, key: &[u8]) -> Result<usize, usize>
         requires { T (is_sorted (slice_cmp nat_cmp) self.now.0) }
         ensures found { IfOk result (IsAt self.now.0 key.now) }
         ensures absent { IfErr result (IsGap self.now.0 key.now) }
@@ -234,22 +234,16 @@ impl<V: Aging> Page<V> {
         }
     }
 
-    // Lends the key's value for writing.
-    pub(crate) fn value_mut(&mut self, key: &[u8]) -> &mut V
-        requires sorted { T (is_sorted (slice_cmp nat_cmp) self.old.0) }
-        requires present { IsSome (find (slice_cmp nat_cmp) key.now self.old.0) }
+    // Lends the key's value for writing, which stands at `i`.
+    pub(crate) fn value_at(&mut self, key: &[u8], i: usize) -> &mut V
+        requires { IsAt self.old.0 key.now i }
         ensures* writes_back { sem 𝓛 (lends_in_page V.row V.Aging self.entry key.now result) }
         ensures value { find (slice_cmp nat_cmp) key.now self.old.0 ≡ Some result.now }
     {
-        match self.search(key) {
-            Ok(i) => {
-                self.blank = self.blank.min(i);
-                self.summary = self.summary.leave_out(&self.entries, i);
-                let entry = &mut self.entries[i];
-                &mut entry.1
-            }
-            Err(_) => unreachable!(),
-        }
+        self.blank = self.blank.min(i);
+        self.summary = self.summary.leave_out(&self.entries, i);
+        let entry = &mut self.entries[i];
+        &mut entry.1
     }
 
     // Looks at the value that was lent for writing last.

@@ -1,10 +1,10 @@
 //! A sorted map in pages.
-ghost use Rattle.std.specs.Prelude.{◌≡◌, ◌+◌, ◌<◌, ◌≤◌, T, None, [], ◌∷◌, ◌++◌, length, option_copied, is_ok, IsOk, OnOk, if◌then◌else◌};
+ghost use Rattle.std.specs.Prelude.{◌≡◌, ◌+◌, ◌<◌, ◌≤◌, T, None, [], ◌∷◌, ◌++◌, length, option_copied, is_ok, IsOk, OnOk};
 ghost use Rattle.std.specs.Ordering.{nat_cmp};
 ghost use Rattle.std.specs.Cmp.Lexicographic.{slice_cmp};
 ghost use Rattle.std.specs.FinMap.Entries.{find, put, is_sorted};
 ghost use Rattle.model.specs.Map.{Bytes};
-ghost use Rattle.sorted_pages.specs.Pages.{AreFull, AreLoose, IsCrowded, IsHalved, IsPageWanted, StaysTight, entries, places_in, room_at};
+ghost use Rattle.sorted_pages.specs.Pages.{AreFull, AreLoose, IsCrowded, IsHalved, IsPageWanted, StaysTight, entries, places_in, pushed, room_at};
 
 use crate::aging::Aging;
 use crate::changing::{self, look_again};
@@ -60,36 +60,52 @@ impl<V: Aging> SortedPages<V> {
 }
 
 impl<V: Aging> SortedPages<V> {
-    ghost use Rattle.std.specs.Prelude.{IsSome};
+    ghost use Rattle.std.specs.Prelude.{OnSome, slice_index_or};
+    ghost use Rattle.std.specs.Option.{option_copied_mut};
     ghost use Rattle.std.specs.Borrow.{sem};
-    ghost use Rattle.sorted_pages.specs.Lent.{lends_value, with_value};
+    ghost use Rattle.model.specs.Entries.{IsAt};
+    ghost use Rattle.sorted_pages.specs.Pages.{Page, IsPlace};
+    ghost use Rattle.sorted_pages.specs.Lent.{PutsAt, lends_if_present, lends_value, with_value};
 
-    /// Lends the value of a key that has one, for writing: the map ends with what is written, and no key's room changes. Takes no
-    /// memory.
-    pub fn value_mut(&mut self, key: KeyRef<'_>) -> &mut V
-        requires { IsSome (find (slice_cmp nat_cmp) key.bytes.now (entries self.old)) }
-        ensures* writes_back { sem 𝓛 (lends_value V.row V.Aging self.entry key.entry.bytes.now result) }
-        ensures value { find (slice_cmp nat_cmp) key.entry.bytes.now (entries self.old) ≡ Some result.now }
-        ensures put { (v : V) → entries (with_value self.old key.entry.bytes.now v) ≡ put (slice_cmp nat_cmp) key.entry.bytes.now v (entries self.old) }
-        ensures rooms { (v : V) (q : Bytes) → room_at q (with_value self.old key.entry.bytes.now v) ≡ room_at q self.old }
+    // Lends the key's value for writing, which stands in page `i`, at `j`.
+    fn value_at(&mut self, key: &[u8], i: usize, j: usize) -> &mut V
+        requires page { IsPlace self.old key.now i }
+        requires entry { (p : Page V) → IsAt (slice_index_or self.old i p).0 key.now j }
+        ensures* writes_back { sem 𝓛 (lends_value V.row V.Aging self.entry key.now result) }
+        ensures value { find (slice_cmp nat_cmp) key.now (entries self.old) ≡ Some result.now }
     {
         look_again(&mut self.pages, self.lent);
-        let i = place(&self.pages, key.bytes());
         self.lent = i;
-        self.pages[i].value_mut(key.bytes())
+        self.pages[i].value_at(key, j)
+    }
+
+    /// Lends the key's value for writing, and `None` where it has none: the map ends with what is written, and no key's room changes.
+    /// The key is looked up once. Takes no memory.
+    pub fn get_mut(&mut self, key: KeyRef<'_>) -> Option<&mut V>
+        ensures* writes_back { sem 𝓛 (lends_if_present V.row V.Aging self.entry key.entry.bytes.now result) }
+        ensures value { option_copied_mut result ≡ find (slice_cmp nat_cmp) key.entry.bytes.now (entries self.old) }
+        ensures put { OnSome result (PutsAt self.old key.entry.bytes.now) }
+        ensures rooms { (v : V) (q : Bytes) → room_at q (with_value self.old key.entry.bytes.now v) ≡ room_at q self.old }
+    {
+        if self.pages.is_empty() {
+            return None;
+        }
+        let bytes = key.bytes();
+        let i = place(&self.pages, bytes);
+        match self.pages[i].search(bytes) {
+            Ok(j) => Some(self.value_at(bytes, i, j)),
+            Err(_) => None,
+        }
     }
 }
 
 impl<V: Aging> SortedPages<V> {
-    ghost use Rattle.std.specs.FinMap.Entries.{where_key};
-    ghost use Rattle.model.specs.Map.{is_in_range};
     ghost use Rattle.model.specs.KeyBytes.{end_bytes};
-    ghost use Rattle.sorted_pages.specs.Blanks.{shown};
-    ghost use Rattle.sorted_pages.specs.Ranges.{entries_left, first_key};
+    ghost use Rattle.sorted_pages.specs.Ranges.{entries_left, first_key, shown_in};
 
     // Lends the entries from one key on, up to another, of which the number sees something.
     fn within<'a>(&'a self, lo: KeyRef<'_>, hi: Option<KeyRef<'a>>, number: u64) -> Entries<'a, V>
-        ensures { entries_left V.hides result ≡ where_key (slice_cmp nat_cmp) (is_in_range lo.entry.bytes.now (end_bytes hi.entry)) (shown (V.hides number) (entries self.now)) }
+        ensures { entries_left V.hides result ≡ shown_in (V.hides number) self.now lo.entry.bytes.now (end_bytes hi.entry) }
     {
         let pages = self.pages.as_slice();
         if pages.is_empty() {
@@ -111,7 +127,7 @@ impl<V: Aging> SortedPages<V> {
 
     // Lends the least key that is at least this one, of those of which the number sees something.
     fn first_from(&self, key: KeyRef<'_>, number: u64) -> Option<KeyRef<'_>>
-        ensures { end_bytes result ≡ first_key (where_key (slice_cmp nat_cmp) (is_in_range key.entry.bytes.now None) (shown (V.hides number) (entries self.now))) }
+        ensures { end_bytes result ≡ first_key (shown_in (V.hides number) self.now key.entry.bytes.now None) }
     {
         match self.within(key, None, number).next() {
             None => None,
@@ -123,7 +139,7 @@ impl<V: Aging> SortedPages<V> {
     /// of its values came after the number, or where none of them shows and the last of their changes came before it; of the others
     /// the ones at the front that no number sees. Takes no memory.
     pub fn range(&self, range: RangeRef<'_>, number: u64) -> Entries<'_, V>
-        ensures { entries_left V.hides result ≡ where_key (slice_cmp nat_cmp) (is_in_range range.entry.lo.bytes.now (end_bytes range.entry.hi)) (shown (V.hides number) (entries self.now)) }
+        ensures { entries_left V.hides result ≡ shown_in (V.hides number) self.now range.entry.lo.bytes.now (end_bytes range.entry.hi) }
     {
         let _ = &self.pages;
         match range.hi {
@@ -174,7 +190,7 @@ impl<V: Aging + Drop> SortedPages<V> {
     /// last has 384. Where memory is refused the entries stay.
     pub fn push(&mut self, key: Key, value: V) -> Result<(), AllocError>
         requires { T (is_sorted (slice_cmp nat_cmp) (entries self.old ++ (key, value) ∷ [])) }
-        ensures entries { entries self.new ≡ (if is_ok result then entries self.old ++ (key, value) ∷ [] else entries self.old) }
+        ensures entries { entries self.new ≡ pushed (is_ok result) (entries self.old) (key, value) }
         ensures loose { AreLoose self.old → AreLoose self.new }
         ensures full { AreFull self.old → AreFull self.new }
         ensures tight { StaysTight 512 self.old self.new }

@@ -1,6 +1,7 @@
 -- The turns of the loops.
 use Rattle.std.proofs.Common.{◌≡◌, ◌≢◌, ◌⊎◌, inl, inr, ℕ, ◌+◌, ◌-◌, ◌<◌, ◌≤◌, List, [], ◌++◌, length, Some, refl, sym, ap, subst, ◌∙◌, arith, length-append, ◌∷◌}
 use Rattle.std.proofs.lemmas.List.{append-nil}
+use Rattle.std.proofs.Math.Nat.{ℕ_set}
 use Rattle.model.specs.Bounds.{inbox_max}
 use Rattle.std.specs.List.{flat_map}
 use Rattle.model.specs.ReplyText.{reply_text}
@@ -9,16 +10,17 @@ use Rattle.sessions.specs.declared.events.Status.{Status}
 use Rattle.sessions.specs.declared.events.Status.TheVariants.{Absent, Open, Ending, Refused}
 use Rattle.sessions.specs.declared.events.Outcome.{Outcome}
 use Rattle.sessions.specs.declared.events.Outcome.TheVariants.{Done, Memory}
-use Rattle.sessions.specs.SessionStreams.{HubState, SessionStream, Serves, Choice, hub_step, stream_of}
+use Rattle.sessions.specs.SessionStreams.{SessionStream, Serves, Choice, hub_step, stream_of}
 use Rattle.sessions.specs.Laws.{RunsAlone}
-use Rattle.sessions.specs.StandsFor.{StandsFor, HubLeads, status_in, pending_in, room_in, failures}
-use Rattle.stream_driver.specs.Types.{Read, Write, ReadAnswer, WriteAnswer, Moved, Blocked, Failed, Ended, Wrote, WriteBlocked, WriteFailed, Progress, Waiting, Again, Gone, Flush, Empty, FlushBlocked, FlushFailed, Exchange, Served, Broke as ExchangeBroke, Starved as ExchangeStarved, ExchangeBlocked, ExchangeFailed, ExchangeEnded}
+use Rattle.sessions.specs.StandsFor.{StandsFor, HubLeads, pending_of, status_in, pending_in, room_in, failures}
+use Rattle.sessions.proofs.EventSteps.{pending_seen}
+use Rattle.stream_driver.specs.Types.{Read, Write, ReadAnswer, WriteAnswer, Moved, Blocked, Failed, Ended, Wrote, WriteBlocked, WriteFailed, Progress, Waiting, Again, Gone, OutputState, Empty, FlushBlocked, FlushFailed, Exchange, Served, Broke as ExchangeBroke, Starved as ExchangeStarved, ExchangeBlocked, ExchangeFailed, ExchangeEnded}
 use Rattle.stream_driver.specs.Traffic.{Traffic, AllMoved, EndsWith}
-use Rattle.stream_driver.specs.Sessions.{Ghosts, Hub, Leads, Point, Runs, AwaitsMore, status_at, pending_at, room_at, inbox_at, inbox_in, IsPresentIn}
+use Rattle.stream_driver.specs.Sessions.{Ghosts, Hub, Leads, Stands, Point, Runs, AwaitsMore, status_at, pending_at, room_at, inbox_at, inbox_in, IsPresentIn}
 use Rattle.stream_driver.specs.Drives.{Carried, ComeWithin, Departs, Drove, EndsAs, Why}
 use Rattle.stream_driver.specs.Calls.{Moves, WritesSome, ReadsSome, Flushes, Exchanges, WhyExchanged, WhyFlushed, WrittenSoFar, ReadSoFar, DrivenSoFar, DrivenOut, served_in}
 use Rattle.stream_driver.specs.Sends.{LeadsTelling}
-use Rattle.stream_driver.proofs.States.{Follow}
+use Rattle.stream_driver.proofs.States.{Follow, seen_after}
 use Rattle.stream_driver.proofs.Sends.{tells_step, tells_still, tells_three, tells_two_at}
 use Rattle.stream_driver.proofs.Inboxes.{beginning_short}
 use Rattle.stream_driver.proofs.Events.{Happens, point_after, Comes, comes_idle, comes_to, one_each, serves_is, served_event, effect, open_present}
@@ -87,7 +89,7 @@ module _ {s : ℕ} {tells : Type 0} where
       }
 
       -- the stream stopped
-      pub written_stopped : (answer : WriteAnswer) (flush : Flush) → 0 < owed → (q : WritesSome s tells mid between answer new after)
+      pub written_stopped : (answer : WriteAnswer) (flush : OutputState) → 0 < owed → (q : WritesSome s tells mid between answer new after)
           → pending_at new.hub s ≡ pending_at mid.hub s
           → (EndsWith (Write answer) before after × (pending_at new.hub s ≢ []) → WhyFlushed s new.hub before after flush)
           → Flushes s tells old before flush new after
@@ -341,15 +343,21 @@ module _ {s : ℕ} {tells : Type 0} where
           by ExchangeEnded a b c why = inr (inr (inl (ends_then (Read Ended) before between after p.0.moved why.0, why.1)))
 
 -- from hub to hub
+
+-- so much is pending
+pub owed_now : {D : Type 0} {g : Ghosts D} {a b : Hub D g} {s : ℕ} {tells : Type 0} {before between : Traffic} {owed : ℕ} → Stands a → LeadsTelling s tells a before b between (λ h k. WrittenSoFar s tells h before k between owed)
+    → owed ≡ length (pending_of b s)
+owed_now {D} {g} {a} {b} {s} some p = seen_after (hlevel ℕ_set) some p.leads (λ h k was stands x. x.owed_is ∙ ap length (sym (pending_seen b k.hub stands s)))
+
 module _ {D : Type 0} {g : Ghosts D} (follow : Follow D g) {a b c : Hub D g} {s : ℕ} {tells : Type 0} {before between behind : Traffic} {count sent : ℕ}
     (p : LeadsTelling s tells a before b between (λ h k. DrivenOut s tells h before k between count sent)) where
-  pub flushes_out : {owed total : ℕ} → ((h : HubState) → StandsFor b h → owed ≡ length (pending_at h s)) → total ≡ sent + owed
+  pub flushes_out : {owed total : ℕ} → owed ≡ length (pending_of b s) → total ≡ sent + owed
       → LeadsTelling s tells b between c behind (λ k l. Flushes s tells k between Empty l behind)
       → LeadsTelling s tells a before c behind (λ h l. DrivenOut s tells h before l behind count total × (pending_at l.hub s ≡ []))
-  flushes_out owed_is total_is q = tells_two_at follow p q (λ h k x. x.driven.carried) (λ h k l was stands x y. out_flushed x (owed_is k.hub was) total_is y)
+  flushes_out owed_is total_is q = tells_two_at follow p q (λ h k x. x.driven.carried) (λ h k l was stands x y. out_flushed x (owed_is ∙ ap length (pending_seen b k.hub was s)) total_is y)
 
   -- the session leaves after a write of the output
-  pub leaves : {d : Hub D g} {answer : Progress} {flush : Flush} → answer ≡ Gone → LeadsTelling s tells b between c behind (λ k l. Flushes s tells k between flush l behind) → Leads c d (λ l m. Departs s l m)
+  pub leaves : {d : Hub D g} {answer : Progress} {flush : OutputState} → answer ≡ Gone → LeadsTelling s tells b between c behind (λ k l. Flushes s tells k between flush l behind) → Leads c d (λ l m. Departs s l m)
       → ((h k l m : Point) → StandsFor c l.hub → DrivenOut s tells h before k between count sent → Flushes s tells k between flush l behind → Departs s l m → Drove s tells h before Gone m behind)
       → LeadsTelling s tells a before d behind (λ h m. Drove s tells h before answer m behind)
   leaves is q left f = rw is (tells_three follow p q (tells_still left) (λ h k x. x.driven.carried) (λ k l y. y.moves.carried) f)

@@ -7,54 +7,55 @@ use Rattle.sessions.specs.declared.events.Status.TheVariants.{Absent, Open}
 use Rattle.sessions.specs.declared.events.Outcome.{Outcome}
 use Rattle.sessions.specs.declared.events.Outcome.TheVariants.{Done}
 use Rattle.sessions.specs.Laws.{NoneRuns, RunsAlone}
-use Rattle.sessions.specs.SessionStreams.{HubState, Receives, Sends, hub_step, with_stream, stream_of}
-use Rattle.sessions.specs.StandsFor.{StandsFor, HubLeads, status_in, pending_in, room_in, failures}
+use Rattle.sessions.specs.SessionStreams.{Receives, Sends, hub_step, with_stream, stream_of}
+use Rattle.sessions.specs.StandsFor.{HubLeads, status_of, pending_of, status_in, pending_in, room_in, failures}
+use Rattle.sessions.proofs.EventSteps.{pending_seen}
 use Rattle.stream_driver.specs.Types.{Read, Write, ReadAnswer, Moved, WriteAnswer, Wrote}
-use Rattle.stream_driver.specs.Traffic.{Traffic, EndsWith, bytes_read, bytes_written}
-use Rattle.stream_driver.specs.Sessions.{Ghosts, Hub, AwaitsMore, Leads, Runs, status_at, pending_at, room_at, IsPresentIn}
+use Rattle.stream_driver.specs.Traffic.{Traffic, EndsWith, ReadsWithin, bytes_read, bytes_written}
+use Rattle.stream_driver.specs.Sessions.{Ghosts, Hub, AwaitsMore, Leads, Runs, pending_at, room_at}
 use Rattle.stream_driver.specs.Calls.{WritesSome, ReadsSome}
 use Rattle.stream_driver.proofs.Events.{found, point_after, one_event, received_by, receives, bytes_came, sent_from, sends, bytes_went, open_present}
 use Rattle.stream_driver.proofs.Carry.{answered, moved_by}
-use Rattle.stream_driver.proofs.States.{leads_event, leads_none}
+use Rattle.stream_driver.proofs.States.{leads_event, leads_none, present_in}
 
 module _ {D : Type 0} {g : Ghosts D} {hub new : Hub D g} {s : ℕ} {tells : Type 0} {b a : Traffic} where
   pub wrote_moved : (n : ℕ) → 0 < n → {outcome : Outcome} → HubLeads hub new (Sends s n) outcome → RunsAlone hub new (Sends s n) → failures hub ≤ failures new
-      → ((h : HubState) → StandsFor hub h → IsPresentIn h s × (n ≤ length (pending_at h s)))
-      → ((h : HubState) → StandsFor hub h → tells → a.taken ≡ b.taken ++ take n (pending_at h s)) → (tells → a.given ≡ b.given) → EndsWith (Write (Wrote n)) b a
+      → status_of hub s ≢ Absent → n ≤ length (pending_of hub s) → (tells → a.taken ≡ b.taken ++ take n (pending_of hub s)) → (tells → a.given ≡ b.given) → EndsWith (Write (Wrote n)) b a
       → Leads hub new (λ h k. WritesSome s tells h b (Wrote n) k a)
-  wrote_moved n some {outcome} leads alone counted here taken given calls =
+  wrote_moved n some {outcome} leads alone counted present long taken given calls =
       leads_event hub new _ (Sends s n) outcome leads alone counted (λ h stands happens outcome_is after.
       let c = leads.0 in
-      let st = found (stream_of h.hub s) (here h.hub stands.state).0 in
+      let here = present_in s stands.state present in
+      let st = found (stream_of h.hub s) here in
       let is = st.1 in
-      let pending : pending_at h.hub s ≡ st.0.now.pending = ap pending_in is in
-      let fits : n ≤ length st.0.now.pending = subst (λ l. n ≤ length l) pending (here h.hub stands.state).1 in
-      let stays : st.0.now.status ≢ Absent = λ gone. (here h.hub stands.state).0 (ap status_in is ∙ gone) in
+      let pending : pending_of hub s ≡ st.0.now.pending = pending_seen hub h.hub stands.state s ∙ ap pending_in is in
+      let fits : n ≤ length st.0.now.pending = subst (λ l. n ≤ length l) pending long in
+      let stays : st.0.now.status ≢ Absent = λ gone. here (ap status_in is ∙ gone) in
       let step : hub_step h.hub (Sends s n) c ≡ (with_stream h.hub s (sent_from st.0 n), Done) = sends h.hub s n c st.0 is fits in
       let runs : Runs s h (point_after h (Sends s n) c (failures new)) = one_event s h (Sends s n) c (failures new) st.0 (sent_from st.0 n) refl happens is (ap (λ r. r.0.present) step) (bytes_went st.0 n) stays in
       record {
         moves =
-            moved_by runs (tt, tt) (λ t. given t ∙ sym (append-nil b.given)) (λ t. taken h.hub stands.state t ∙ ap (λ l. b.taken ++ take n l) pending)
+            moved_by runs (tt, tt) (λ t. given t ∙ sym (append-nil b.given)) (λ t. taken t ∙ ap (λ l. b.taken ++ take n l) pending)
             refl refl (ap status_in runs.last_is ∙ sym (ap status_in is));
         answered = calls;
         why =
             let left : length (pending_at (hub_step h.hub (Sends s n) c).0 s) ≡ length (drop n st.0.now.pending) = ap (λ o. length (pending_in o)) runs.last_is in
             let rest : length (drop n st.0.now.pending) ≡ length st.0.now.pending - n = length-drop n st.0.now.pending in
-            let all : length (pending_at h.hub s) ≡ length st.0.now.pending = ap length pending in
+            let all : length (pending_at h.hub s) ≡ length st.0.now.pending = ap (λ o. length (pending_in o)) is in
             (some, omega arith);
       })
 
   pub read_moved : (n : ℕ) → 0 < n → (piece : Bytes) → {outcome : Outcome} → HubLeads hub new (Receives s piece) outcome → RunsAlone hub new (Receives s piece) → failures hub ≤ failures new
-      → ((h : HubState) → StandsFor hub h → (status_at h s ≡ Open) × (length piece ≤ room_at h s)) → length piece ≡ n
-      → (tells → a.given ≡ b.given ++ piece) → (tells → a.taken ≡ b.taken) → EndsWith (Read (Moved n)) b a
-      → Leads hub new (λ h k. AwaitsMore h.hub s → ReadsSome s tells h b (Moved n) k a)
-  read_moved n some piece {outcome} leads alone counted here long given taken calls =
-      leads_event hub new _ (Receives s piece) outcome leads alone counted (λ h stands happens outcome_is after awaits.
+      → length piece ≡ n → {room : ℕ} → n ≤ room → (tells → a.given ≡ b.given ++ piece) → (tells → a.taken ≡ b.taken) → EndsWith (Read (Moved n)) b a
+      → Leads hub new (λ h k. AwaitsMore h.hub s → room ≡ room_at h.hub s → ReadsSome s tells h b (Moved n) k a)
+  read_moved n some piece {outcome} leads alone counted long {room} within given taken calls =
+      leads_event hub new _ (Receives s piece) outcome leads alone counted (λ h stands happens outcome_is after awaits room_is.
       let c = leads.0 in
-      let st = found (stream_of h.hub s) (open_present h.hub s (here h.hub stands.state).0) in
+      let st = found (stream_of h.hub s) (open_present h.hub s awaits.0) in
       let is : stream_of h.hub s ≡ Some st.0 = st.1 in
-      let opened : st.0.now.status ≡ Open = sym (ap status_in is) ∙ (here h.hub stands.state).0 in
-      let fits : length piece ≤ inbox_max - length st.0.now.inbox = subst (λ r. length piece ≤ r) (ap room_in is) (here h.hub stands.state).1 in
+      let opened : st.0.now.status ≡ Open = sym (ap status_in is) ∙ awaits.0 in
+      let room_now : room ≡ inbox_max - length st.0.now.inbox = room_is ∙ ap room_in is in
+      let fits : length piece ≤ inbox_max - length st.0.now.inbox = omega arith in
       let step : hub_step h.hub (Receives s piece) c ≡ (with_stream h.hub s (received_by st.0 piece), Done) = receives h.hub s piece c st.0 is opened fits in
       let stays : st.0.now.status ≢ Absent = λ gone. (let bad : Open ≡ Absent = sym opened ∙ gone in cc) in
       let runs : Runs s h (point_after h (Receives s piece) c (failures new)) = one_event s h (Receives s piece) c (failures new) st.0 (received_by st.0 piece) refl happens is (ap (λ r. r.0.present) step) (bytes_came st.0 piece) stays in
@@ -70,26 +71,30 @@ module _ {D : Type 0} {g : Ghosts D} {hub new : Hub D g} {s : ℕ} {tells : Type
             (some, omega arith);
       })
 
+-- a read of no more than there is room for
+pub reads_within : (answer : ReadAnswer) (len room : ℕ) → ReadsWithin answer len → len ≤ room → ReadsWithin answer room
+reads_within (Moved n) len room within le = (within.0, omega (arith, within.1))
+reads_within _ len room within le = tt
+
 -- the stream didn't move
 module _ {D : Type 0} {g : Ghosts D} {hub : Hub D g} (none : NoneRuns hub) {s : ℕ} {tells : Type 0} {b a : Traffic} where
-  pub wrote_none : (answer : WriteAnswer) → ((n : ℕ) → answer ≢ Wrote n) → ((h : HubState) → StandsFor hub h → IsPresentIn h s)
+  pub wrote_none : (answer : WriteAnswer) → ((n : ℕ) → answer ≢ Wrote n) → status_of hub s ≢ Absent
       → (from : List ℕ) → (tells → a.given ≡ b.given) → (tells → a.taken ≡ b.taken ++ take (bytes_written answer) from) → EndsWith (Write answer) b a
       → Leads hub hub (λ h k. WritesSome s tells h b answer k a)
-  wrote_none (Wrote n) differs here from given taken calls = absurd (differs n refl)
-  wrote_none answer differs here from given taken calls = leads_none hub none _ (λ h stands. record {
-    moves = answered (here h.hub stands.state) (λ t. given t ∙ sym (append-nil b.given)) taken;
+  wrote_none (Wrote n) differs present from given taken calls = absurd (differs n refl)
+  wrote_none answer differs present from given taken calls = leads_none hub none _ (λ h stands. record {
+    moves = answered (present_in s stands.state present) (λ t. given t ∙ sym (append-nil b.given)) taken;
     answered = calls;
     why = refl;
   })
 
-  module _ (here : (h : HubState) → StandsFor hub h → status_at h s ≡ Open) (into : List ℕ) (taken : tells → a.taken ≡ b.taken) where
-    pub read_none : (answer : ReadAnswer) → ((n : ℕ) → answer ≢ Moved n) → (tells → a.given ≡ b.given ++ take (bytes_read answer) into) → EndsWith (Read answer) b a
-        → Leads hub hub (λ h k. AwaitsMore h.hub s → ReadsSome s tells h b answer k a)
-    read_none (Moved n) differs given calls = absurd (differs n refl)
-    read_none answer differs given calls = leads_none hub none _ (λ h stands. λ awaits. record {
-      moves = answered (open_present h.hub s (here h.hub stands.state)) given (λ t. taken t ∙ sym (append-nil b.taken));
-      none_sent = refl;
-      pending = refl;
-      answered = calls;
-      why = refl;
-    })
+  pub read_none : (room : ℕ) (into : List ℕ) → (tells → a.taken ≡ b.taken) → (answer : ReadAnswer) → ((n : ℕ) → answer ≢ Moved n) → (tells → a.given ≡ b.given ++ take (bytes_read answer) into) → EndsWith (Read answer) b a
+      → Leads hub hub (λ h k. AwaitsMore h.hub s → room ≡ room_at h.hub s → ReadsSome s tells h b answer k a)
+  read_none room into taken (Moved n) differs given calls = absurd (differs n refl)
+  read_none room into taken answer differs given calls = leads_none hub none _ (λ h stands. λ awaits room_is. record {
+    moves = answered (open_present h.hub s awaits.0) given (λ t. taken t ∙ sym (append-nil b.taken));
+    none_sent = refl;
+    pending = refl;
+    answered = calls;
+    why = refl;
+  })

@@ -5,11 +5,12 @@ use Rattle.std.proofs.lemmas.List.{append-nil, take-append-drop}
 use Rattle.sessions.specs.declared.events.Outcome.{Outcome}
 use Rattle.sessions.specs.Laws.{NoneRuns, Ran, RunsAlone}
 use Rattle.sessions.specs.SessionStreams.{HubState, HubEvent, Choice, SessionStream, hub_step, run, stream_of}
-use Rattle.sessions.specs.StandsFor.{StandsFor, HubLeads, device, failures, pending_in}
+use Rattle.sessions.specs.StandsFor.{StandsFor, HubLeads, device, failures, pending_in, pending_of}
+use Rattle.sessions.proofs.EventSteps.{pending_seen}
 use Rattle.model.proofs.Elements.{all-each}
 use Rattle.stream_driver.specs.Drives.{Carried}
 use Rattle.stream_driver.specs.Sends.{IsAnswered, IsToldBefore, AreToldBefore, HasSent, LeadsTelling}
-use Rattle.stream_driver.specs.Sessions.{Ghosts, Hub, Leads, Point, pending_at}
+use Rattle.stream_driver.specs.Sessions.{Ghosts, Hub, Leads, Point}
 use Rattle.stream_driver.specs.Traffic.{Departure, DepartAt, IsBeginning, Traffic}
 use Rattle.stream_driver.proofs.Carry.{all_then, and_then, grown, one_history, run_then}
 use Rattle.stream_driver.proofs.Events.{Happens, point_after}
@@ -134,7 +135,7 @@ module _ {D : Type 0} {g : Ghosts D} {s : ℕ} {tells : Type 0} where
 
   -- one call of the stream, which took no more than was pending
   pub tells_call : {a b : Hub D g} {t u : Traffic} {P : Point → Point → Type 0} → NoneRuns a → Leads a b P → (moment : ℕ) → moment ≡ g.moment (device a) → (tells → DepartAt moment t u)
-      → ((h : HubState) → StandsFor a h → tells → (bytes : List ℕ) × IsBeginning bytes (pending_at h s) × (u.taken ≡ t.taken ++ bytes)) → LeadsTelling s tells a t b u P
+      → (tells → (bytes : List ℕ) × IsBeginning bytes (pending_of a s) × (u.taken ≡ t.taken ++ bytes)) → LeadsTelling s tells a t b u P
   tells_call {a} {b} {t} {u} none p moment now departs took = record {
     leads = p;
     telling = λ is h stands has.
@@ -158,8 +159,8 @@ module _ {D : Type 0} {g : Ghosts D} {s : ℕ} {tells : Type 0} where
     where
       begins : tells → (h : HubState) → StandsFor a h → (has : HasSent s h t) → IsBeginning u.taken (has.stream.sent ++ has.stream.now.pending)
       begins is h stands has =
-          let w = took h stands is in
-          begins_all w.0 has.stream.now.pending has.stream.sent t.taken u.taken (subst (λ l. IsBeginning w.0 l) (ap pending_in has.stream_is) w.1) has.taken w.2
+          let w = took is in
+          begins_all w.0 has.stream.now.pending has.stream.sent t.taken u.taken (subst (λ l. IsBeginning w.0 l) (pending_seen a h stands s ∙ ap pending_in has.stream_is) w.1) has.taken w.2
 
   -- with what the hub between stands for
   pub tells_two_at : Follow D g → {a b c : Hub D g} {t u v : Traffic} {P Q R : Point → Point → Type 0} → LeadsTelling s tells a t b u P → LeadsTelling s tells b u c v Q

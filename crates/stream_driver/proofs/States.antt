@@ -1,56 +1,18 @@
--- The states that one hub stands for agree on what its sessions have at hand.
-use Rattle.std.proofs.Common.{◌≡◌, ℕ, ◌-◌, ◌≤◌, arith, subst, List, [], ◌∷◌, ◌++◌, length, Option, Some, None, option_map, refl, sym, ap, ◌∙◌}
-use Rattle.std.specs.Map.{lookup}
-use Rattle.std.proofs.Math.Logic.{∥∥₁_elim, ∥∥₁_map}
-use Rattle.std.proofs.Math.Bridge.{le_prop}
-use Rattle.model.specs.Bounds.{inbox_max}
+-- From hub to hub.
+use Rattle.std.proofs.Common.{◌≡◌, ◌≢◌, ℕ, ◌≤◌, arith, List, [], ◌∷◌, ◌++◌, refl, sym, ap, ◌∙◌}
+use Rattle.std.proofs.Math.Logic.{∥∥₁_elim}
 use Rattle.model.proofs.Leading.{compose, weaken}
-use Rattle.sessions.specs.declared.events.Status.{Status}
-use Rattle.sessions.specs.declared.events.Status.TheVariants.{Open}
+use Rattle.sessions.specs.declared.events.Status.TheVariants.{Absent}
 use Rattle.sessions.specs.declared.events.Outcome.{Outcome}
 use Rattle.engine.specs.Meaning.{has_risen}
-use Rattle.sessions.specs.SessionStreams.{HubState, SessionState, HubEvent, Choice, hub_step, SessionStream, stream_of}
-use Rattle.sessions.specs.StandsFor.{StandsFor, HubLeads, status_in, room_in, pending_in, failures}
+use Rattle.sessions.specs.SessionStreams.{HubState, HubEvent, Choice, hub_step}
+use Rattle.sessions.specs.StandsFor.{StandsFor, HubLeads, failures, status_of}
 use Rattle.sessions.specs.Laws.{HasRun, NoneRuns, Ran, RunsAlone}
-use Rattle.sessions.proofs.EventSteps.{lookup-at_hand}
+use Rattle.sessions.proofs.EventSteps.{status_seen}
 use Rattle.sessions.proofs.Reached.{reached}
-use Rattle.stream_driver.specs.Sessions.{Ghosts, Hub, InSomeState, Point, StandsAt, Leads, IsPresentIn, status_at, pending_at, room_at}
-use Rattle.stream_driver.proofs.Events.{Happens, adds_none, point_after, test}
+use Rattle.stream_driver.specs.Sessions.{Ghosts, Hub, Point, StandsAt, Stands, IsPresent, Leads, IsPresentIn}
+use Rattle.stream_driver.proofs.Events.{Happens, adds_none, point_after}
 use Rattle.stream_driver.proofs.Carry.{adds_then}
-
-abbrev Agree : Option SessionStream → Option SessionStream → Type 0
-Agree o p = (status_in o ≡ status_in p) × (pending_in o ≡ pending_in p) × (room_in o ≡ room_in p)
-
-agree : (o p : Option SessionStream) → option_map (λ st. st.now) o ≡ option_map (λ st. st.now) p → Agree o p
-agree None None e = (refl, refl, refl)
-agree (Some p) (Some q) e = let same : p.now ≡ q.now = cc in (cc, cc, ap (λ (n : SessionState). inbox_max - length n.inbox) same)
-agree _ _ e = absurd (cc)
-
-alike : {D : Type 0} {g : Ghosts D} (hub : Hub D g) (h k : HubState) (s : ℕ) → StandsFor hub h → StandsFor hub k → Agree (stream_of h s) (stream_of k s)
-alike hub h k s p q = agree _ _ (sym (lookup-at_hand s h.present) ∙ ap (lookup (test s)) (sym p.sessions ∙ q.sessions) ∙ lookup-at_hand s k.present)
-
-stable_open : (v : Status) → ((v ≡ Open → ⊥) → ⊥) → v ≡ Open
-stable_open Open f = refl
-stable_open _ f = absurd (f (λ e. cc))
-
-stable_nil : (xs : List ℕ) → ((xs ≡ [] → ⊥) → ⊥) → xs ≡ []
-stable_nil [] f = refl
-stable_nil (x ∷ xs) f = absurd (f (λ e. cc))
-
-module _ {D : Type 0} {g : Ghosts D} (hub : Hub D g) (s : ℕ) (h : HubState) (stands : StandsFor hub h) where
-  pub present_at : (P : HubState → Type 0) → InSomeState hub P → ((k : HubState) → P k → IsPresentIn k s) → IsPresentIn h s
-  present_at P some f = λ gone. ∥∥₁_elim some (hlevel) (λ w. f w.0 w.2 ((alike hub w.0 h s w.1 stands).0 ∙ gone))
-
-  pub open_at : (P : HubState → Type 0) → InSomeState hub P → ((k : HubState) → P k → status_at k s ≡ Open) → status_at h s ≡ Open
-  open_at P some f = stable_open (status_at h s) (λ closed. ∥∥₁_elim some (hlevel) (λ w. closed ((alike hub h w.0 s stands w.1).0 ∙ f w.0 w.2)))
-
-  pub nothing_at : (P : HubState → Type 0) → InSomeState hub P → ((k : HubState) → P k → pending_at k s ≡ []) → pending_at h s ≡ []
-  nothing_at P some f = stable_nil (pending_at h s) (λ other. ∥∥₁_elim some (hlevel) (λ w. other ((alike hub h w.0 s stands w.1).1 ∙ f w.0 w.2)))
-
-  pub room_seen : (P : HubState → Type 0) (n : ℕ) → InSomeState hub P → ((k : HubState) → P k → n ≤ room_at k s) → n ≤ room_at h s
-  room_seen P n some f = ∥∥₁_elim some le_prop (λ w. subst (λ r. n ≤ r) (alike hub w.0 h s w.1 stands).2 (f w.0 w.2))
-
--- ---- from hub to hub
 
 abbrev pub point_of : {D : Type 0} {g : Ghosts D} → Hub D g → HubState → Point
 point_of hub h = record { hub = h; failures = failures hub; events = [] }
@@ -103,13 +65,16 @@ leads_event b c P e outcome q alone counted f =
           ));
     }
 
-pub some_after : {D : Type 0} {g : Ghosts D} (a b : Hub D g) (P : HubState → Type 0) (Q : Point → Point → Type 0) (R : HubState → Type 0) → InSomeState a P → Leads a b Q → ((h k : Point) → P h.hub → Q h k → R k.hub) → InSomeState b R
-some_after a b P Q R some q f = ∥∥₁_map some (λ w. let h = point_of a w.0 in let k = q.to h (at_point a w.0 w.1) in (k.0.hub, k.1.state, f h k.0 w.2 k.2.1))
+-- what holds in the states that a hub leads to holds, where it is a proposition
+pub seen_after : {D : Type 0} {g : Ghosts D} {a b : Hub D g} {P : Point → Point → Type 0} {X : Type 0} → IsProp X → Stands a → Leads a b P → ((h k : Point) → StandsFor a h.hub → StandsFor b k.hub → P h k → X) → X
+seen_after {D} {g} {a} prop some q f = ∥∥₁_elim some prop (λ w. let h = point_of a w.0 in let k = q.to h (at_point a w.0 w.1) in f h k.0 w.1 k.1.state k.2.1)
 
--- what holds of numbers in some state holds
-pub le_after_one : {D : Type 0} {g : Ghosts D} {a b : Hub D g} {P : HubState → Type 0} {Q : Point → Point → Type 0} {m n : ℕ} → InSomeState a P → Leads a b Q → ((h k : Point) → Q h k → m ≤ n) → m ≤ n
-le_after_one {D} {g} {a} some q f = ∥∥₁_elim some le_prop (λ w. let h = point_of a w.0 in let k = q.to h (at_point a w.0 w.1) in f h k.0 k.2.1)
+pub stands_after : {D : Type 0} {g : Ghosts D} {a b : Hub D g} {P : Point → Point → Type 0} → Stands a → Leads a b P → Stands b
+stands_after some q = seen_after (hlevel) some q (λ h k was stands p. ∣ (k.hub, stands) ∣₁)
 
-pub le_after : {D : Type 0} {g : Ghosts D} → Follow D g → {a b c : Hub D g} {P : HubState → Type 0} {Q R : Point → Point → Type 0} {m n : ℕ} → InSomeState a P → Leads a b Q → Leads b c R
-    → ((h k l : Point) → StandsFor c l.hub → Q h k → R k l → m ≤ n) → m ≤ n
-le_after follow {a} {b} {c} {P} {Q} {R} {m} {n} some q r f = le_after_one some (leads_then follow a b c Q R (λ h l. m ≤ n) q r f) (λ h l le. le)
+pub present_in : {D : Type 0} {g : Ghosts D} {hub : Hub D g} (s : ℕ) {h : HubState} → StandsFor hub h → status_of hub s ≢ Absent → IsPresentIn h s
+present_in {D} {g} {hub} s {h} stands present gone = present (status_seen hub h stands s ∙ gone)
+
+pub present_after : {D : Type 0} {g : Ghosts D} {a b : Hub D g} {P : Point → Point → Type 0} (s t : ℕ) → IsPresent a s → Leads a b P → ((h k : Point) → IsPresentIn h.hub s → P h k → IsPresentIn k.hub t) → IsPresent b t
+present_after {D} {g} {a} {b} s t has q f =
+    (stands_after has.0 q, seen_after (hlevel) has.0 q (λ h k was stands p gone. f h k (present_in s was has.1) p (sym (status_seen b k.hub stands t) ∙ gone)))

@@ -13,7 +13,7 @@ use Rattle.stream_driver.specs.Entries.{HaveSessions, DrivenEntry, DrivenIn, Dri
 use Rattle.stream_driver.specs.Sends.{DrivesTelling, LeadsTelling, AreToldBefore, IsAnswered, HasSent, HaveSent}
 use Rattle.stream_driver.proofs.OneEntry.{below, entry_other, entry_present, get_set, ends_last}
 use Rattle.stream_driver.proofs.Sends.{tells_still, all_told_then, answered_on, more_since, none_left, sent_after}
-use Rattle.stream_driver.proofs.States.{Follow, leads_none, some_after, at_point, leads_map, leads_two_at, point_of}
+use Rattle.stream_driver.proofs.States.{Follow, leads_none, present_after, at_point, leads_map, leads_two_at, point_of}
 use Rattle.sessions.specs.SessionStreams.{Choice, HubEvent, HubState, run}
 use Rattle.stream_driver.proofs.Carry.{run_then}
 
@@ -159,12 +159,11 @@ module _ {T : Type 0} (tells : Type 0) (traffic : T → Traffic) where
   module _ {D : Type 0} {g : Ghosts D} {hub later : Hub D g} (slots : List (Option (Entry T))) (key : ℕ) {old : Entry T} (new : Entry T) (is : get_or slots key None ≡ Some old) (same : new.session ≡ old.session)
       (stays : old.state ≡ EntryGone → new.state ≡ EntryGone) (leads : Leads hub later (λ h k. DrivenEntry tells traffic h old k new)) where
     still_present : new.state ≢ EntryGone → IsPresent hub old.session → IsPresent later new.session
-    still_present alive has = some_after hub later _ _ _ has leads (λ h k p d. entry_present tells traffic old.state h old k new refl d alive p)
+    still_present alive has = present_after old.session new.session has leads (λ h k p d. entry_present tells traffic old.state h old k new refl d alive p)
 
     other_present : (s : ℕ) → (old.state ≢ EntryGone → s ≢ old.session) → IsPresent hub s → IsPresent later s
     other_present s apart has =
-        some_after hub later _ _ _ has leads
-        (λ h k p d gone. p (sym (ap status_in (entry_other tells traffic old.state h old k new refl d s apart)) ∙ gone))
+        present_after s s has leads (λ h k p d gone. p (sym (ap status_in (entry_other tells traffic old.state h old k new refl d s apart)) ∙ gone))
 
     pub sessions_kept : HaveSessions hub slots → HaveSessions later (set slots key (Some new))
     sessions_kept has =

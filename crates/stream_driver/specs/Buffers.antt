@@ -41,6 +41,18 @@ module _ {T : Type 0} where
   abbrev pub traffic_through : (T → Traffic) → BufferedStream T → Traffic
   traffic_through traffic b = counted_with b.counts (traffic b.inner).given ((traffic b.inner).taken ++ held_in b.held) (traffic b.inner).departed (traffic b.inner).connection
 
+  -- over the stream these bytes more were given
+  abbrev pub GivesMore : (T → Traffic) → BufferedStream T → List ℕ → BufferedStream T → Type 0
+  GivesMore traffic old bytes new = (traffic_through traffic new).given ≡ (traffic_through traffic old).given ++ bytes
+
+  -- and these more were taken
+  abbrev pub TakesMore : (T → Traffic) → BufferedStream T → List ℕ → BufferedStream T → Type 0
+  TakesMore traffic old bytes new = (traffic_through traffic new).taken ≡ (traffic_through traffic old).taken ++ bytes
+
+  -- what has left since left at this moment
+  abbrev pub LeavesAt : ℕ → (T → Traffic) → BufferedStream T → BufferedStream T → Type 0
+  LeavesAt moment traffic old new = DepartAt moment (traffic_through traffic old) (traffic_through traffic new)
+
   -- A read that gave fewer bytes than it was asked for is short, unless such a read means nothing; where it gave none, it is as the last
   -- one was. Nothing was taken since then.
   abbrev pub ShortAfter : BufferedStream T → ℕ → ReadAnswer → BufferedStream T → Type 0

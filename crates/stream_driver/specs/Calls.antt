@@ -2,7 +2,7 @@
 use Rattle.std.specs.Prelude.{◌≡◌, ◌≢◌, ℕ, ◌+◌, ◌<◌, ◌≤◌, [], length}
 use Rattle.sessions.specs.declared.events.Status.TheVariants.{Open, Ending, Refused}
 use Rattle.sessions.specs.SessionStreams.{HubState}
-use Rattle.stream_driver.specs.Types.{Read, Write, ReadAnswer, Moved, Blocked, Failed, Ended, WriteAnswer, Wrote, WriteBlocked, WriteFailed, Flush, Empty, FlushBlocked, FlushFailed, Exchange, Served, Broke, Starved, ExchangeBlocked, ExchangeFailed, ExchangeEnded}
+use Rattle.stream_driver.specs.Types.{Read, Write, ReadAnswer, Moved, Blocked, Failed, Ended, WriteAnswer, Wrote, WriteBlocked, WriteFailed, OutputState, Empty, FlushBlocked, FlushFailed, Exchange, Served, Broke, Starved, ExchangeBlocked, ExchangeFailed, ExchangeEnded}
 use Rattle.stream_driver.specs.Traffic.{Traffic, AllMoved, EndsWith}
 use Rattle.stream_driver.specs.Sessions.{Point, status_at, room_at, pending_at, AwaitsMore}
 use Rattle.stream_driver.specs.Drives.{Carried, ComeWithin}
@@ -30,12 +30,12 @@ pub record WritesSome (s : ℕ) (tells : Type 0) (old : Point) (before : Traffic
   pub why : WhyWrote s old.hub new.hub answer
 
 -- why the writing stopped
-abbrev pub WhyFlushed : ℕ → HubState → Traffic → Traffic → Flush → Type 0
+abbrev pub WhyFlushed : ℕ → HubState → Traffic → Traffic → OutputState → Type 0
 WhyFlushed s new before after Empty = AllMoved before after × (pending_at new s ≡ [])
 WhyFlushed s new before after FlushBlocked = EndsWith (Write WriteBlocked) before after × (pending_at new s ≢ [])
 WhyFlushed s new before after FlushFailed = EndsWith (Write WriteFailed) before after × (pending_at new s ≢ [])
 
-pub record Flushes (s : ℕ) (tells : Type 0) (old : Point) (before : Traffic) (answer : Flush) (new : Point) (after : Traffic) : Type 0 where
+pub record Flushes (s : ℕ) (tells : Type 0) (old : Point) (before : Traffic) (answer : OutputState) (new : Point) (after : Traffic) : Type 0 where
   pub moves : Moves s tells old before new after
   pub why : WhyFlushed s new.hub before after answer
 
@@ -52,6 +52,10 @@ pub record ReadsSome (s : ℕ) (tells : Type 0) (old : Point) (before : Traffic)
   pub pending : pending_at new.hub s ≡ pending_at old.hub s
   pub answered : EndsWith (Read answer) before after
   pub why : WhyRead s old.hub new.hub answer
+
+-- where the session waits for the rest of a request, and its inbox has so much room
+abbrev pub ReadsInTurn : ℕ → ℕ → Type 0 → Point → Traffic → ReadAnswer → Point → Traffic → Type 0
+ReadsInTurn room s tells old before answer new after = AwaitsMore old.hub s → room ≡ room_at old.hub s → ReadsSome s tells old before answer new after
 
 -- one request: it was executed, or no request began there, or memory was refused, or the stream stopped at a beginning of one
 abbrev pub WhyExchanged : ℕ → HubState → Traffic → Traffic → ℕ → Exchange → Type 0

@@ -3,7 +3,7 @@ use Rattle.std.specs.Prelude.{◌≡◌, ◌≢◌, ℕ, ◌&&◌, Bool, true, f
 use Rattle.stream_driver.specs.Types.{Progress, Waiting, Again, Gone, EntryState, Idle, Ready, EntryGone, Entry, BufferedStream}
 use Rattle.stream_driver.specs.Traffic.{Traffic}
 use Rattle.stream_driver.specs.Buffers.{Finishes, fresh, is_settled}
-use Rattle.stream_driver.specs.Sends.{DrivesTelling}
+use Rattle.stream_driver.specs.Sends.{DrivesTelling, LeadsTelling}
 use Rattle.stream_driver.specs.Sessions.{Ghosts, Hub, IsPresent, Point}
 use Rattle.stream_driver.specs.Drives.{Drove}
 
@@ -49,6 +49,14 @@ module _ {T : Type 0} (tells : Type 0) (traffic : T → Traffic) where
   DrivenAll earlier [] later new = (new ≡ []) × (later ≡ earlier)
   DrivenAll earlier (slot ∷ slots) later new =
       (first : Option (Entry T)) × (mid : Point) × (others : List (Option (Entry T))) × (new ≡ first ∷ others) × DrivenSlot earlier slot mid first × DrivenAll mid slots later others
+
+  -- a run leads from one hub to the other, and drove the entry
+  abbrev pub LeadsEntry : {D : Type 0} {g : Ghosts D} → Hub D g → Entry T → Hub D g → Entry T → Type 0
+  LeadsEntry hub old later new = LeadsTelling old.session tells hub (traffic old.stream) later (traffic new.stream) (λ h k. DrivenEntry h old k new)
+
+  -- and drove the slots
+  abbrev pub LeadsAll : {D : Type 0} {g : Ghosts D} → Hub D g → List (Option (Entry T)) → Hub D g → List (Option (Entry T)) → Type 0
+  LeadsAll hub slots later new = DrivesTelling traffic tells hub slots later new (λ h k. DrivenAll h slots k new)
 
   -- the slots below a key were driven, and the others stand as they were
   pub record EntriesSoFar {D : Type 0} {g : Ghosts D} (key : ℕ) (hub : Hub D g) (slots : List (Option (Entry T))) (later : Hub D g) (new : List (Option (Entry T))) : Type 0 where

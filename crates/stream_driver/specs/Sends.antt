@@ -72,3 +72,7 @@ module _ {T : Type 0} (traffic : T → Traffic) where
     pub telling : tells → (h : HubState) → StandsFor old h → HaveSent h slots → AllTold h old new leads.choices slots later
     pub answered : tells → (h : HubState) → StandsFor old h → HaveSent h slots → AllAnswered h leads.choices slots later
     pub keeps : tells → (h : HubState) → StandsFor old h → HaveSent h slots → HaveSent (run h leads.choices) later
+
+-- the run does this over the stream, and the call answers so
+abbrev pub LeadsAs : {D A : Type 0} {g : Ghosts D} → ℕ → (tells : Type 0) → (ℕ → Type 0 → Point → Traffic → A → Point → Traffic → Type 0) → A → Hub D g → Traffic → Hub D g → Traffic → Type 0
+LeadsAs s tells P answer old before new after = LeadsTelling s tells old before new after (λ h k. P s tells h before answer k after)

@@ -12,7 +12,7 @@ pub use Rattle.sector.specs.declared.device.Sectors.{Ghosts}
 use Rattle.engine.specs.Meaning.{has_risen}
 pub use Rattle.sessions.specs.declared.hub.Hub.{Hub}
 use Rattle.sessions.specs.SessionStreams.{HubState, SessionStream, HubEvent, Joins, Receives, Serves, Sends, Leaves, Choice, ArePossible, hub_step, run, stream_of}
-use Rattle.sessions.specs.StandsFor.{StandsFor, status_in, room_in, pending_in, failures}
+use Rattle.sessions.specs.StandsFor.{StandsFor, status_of, status_in, room_in, pending_in, failures}
 use Rattle.sessions.specs.Laws.{HasRun, Ran, failures_in}
 
 abbrev pub inbox_in : Option SessionStream → Bytes
@@ -38,17 +38,13 @@ IsPresentIn h s = status_at h s ≢ Absent
 abbrev pub AwaitsMore : HubState → ℕ → Type 0
 AwaitsMore h s = (status_at h s ≡ Open) × (pending_at h s ≡ []) × IsProperBeginning (inbox_at h s)
 
--- the hub stands for some state that is so
-abbrev pub InSomeState : {D : Type 0} {g : Ghosts D} → Hub D g → (HubState → Type 0) → Type 0
-InSomeState hub P = ∥ ((h : HubState) × StandsFor hub h × P h) ∥₁
-
 -- the hub stands for some state
 abbrev pub Stands : {D : Type 0} {g : Ghosts D} → Hub D g → Type 0
-Stands hub = InSomeState hub (λ h. Unit {0})
+Stands hub = ∥ ((h : HubState) × StandsFor hub h) ∥₁
 
--- the session is present
+-- the session is present, of a hub that stands for some state
 abbrev pub IsPresent : {D : Type 0} {g : Ghosts D} → Hub D g → ℕ → Type 0
-IsPresent hub s = InSomeState hub (λ h. IsPresentIn h s)
+IsPresent hub s = Stands hub × (status_of hub s ≢ Absent)
 
 -- a state, how many calls of the device have failed by then, and the events so far
 pub record Point : Type 0 where

@@ -7,8 +7,8 @@ pub use Rattle.stream_driver.specs.declared.answers.WriteAnswer.{WriteAnswer}
 pub use Rattle.stream_driver.specs.declared.answers.WriteAnswer.TheVariants.{Moved as Wrote, Blocked as WriteBlocked, Failed as WriteFailed}
 pub use Rattle.stream_driver.specs.declared.answers.Progress.{Progress}
 pub use Rattle.stream_driver.specs.declared.answers.Progress.TheVariants.{Waiting, Again, Gone}
-pub use Rattle.stream_driver.specs.declared.driving.Flush.{Flush}
-pub use Rattle.stream_driver.specs.declared.driving.Flush.TheVariants.{Empty, Blocked as FlushBlocked, Failed as FlushFailed}
+pub use Rattle.stream_driver.specs.declared.driving.OutputState.{OutputState}
+pub use Rattle.stream_driver.specs.declared.driving.OutputState.TheVariants.{Empty, Blocked as FlushBlocked, Failed as FlushFailed}
 pub use Rattle.stream_driver.specs.declared.driving.Exchange.{Exchange}
 pub use Rattle.stream_driver.specs.declared.driving.Exchange.TheVariants.{Served, Broke, Starved, Blocked as ExchangeBlocked, Failed as ExchangeFailed, Ended as ExchangeEnded}
 pub use Rattle.stream_driver.specs.declared.entries.Entry.{Entry}

@@ -181,8 +181,8 @@ impl<S: Stream> BufferedStream<S> {
 
 impl<S: Stream> Stream for BufferedStream<S> {
     ghost use Rattle.std.specs.Prelude.{◌≡◌, ◌<◌, ◌++◌, length, take};
-    ghost use Rattle.stream_driver.specs.Traffic.{DepartAt, ReadsWithin, WritesWithin, bytes_read, bytes_written, EndsWith};
-    ghost use Rattle.stream_driver.specs.Buffers.{Drains, ReadFails, ReadsShort, WhyGave, WhyTook, WriteFails, traffic_through};
+    ghost use Rattle.stream_driver.specs.Traffic.{ReadsWithin, WritesWithin, bytes_read, bytes_written, EndsWith};
+    ghost use Rattle.stream_driver.specs.Buffers.{GivesMore, TakesMore, LeavesAt, Drains, ReadFails, ReadsShort, WhyGave, WhyTook, WriteFails, traffic_through};
 
     ghost tells = { S.tells };
 
@@ -191,9 +191,9 @@ impl<S: Stream> Stream for BufferedStream<S> {
     fn read<D: Sectors>(&mut self, device: &D, into: &mut [u8]) -> ReadAnswer
         requires { 0 < length into.old }
         ensures within { ReadsWithin result (length into.old) }
-        ensures given { S.tells → (traffic_through S.traffic self.new).given ≡ (traffic_through S.traffic self.old).given ++ take (bytes_read result) into.new }
+        ensures given { S.tells → GivesMore S.traffic self.old (take (bytes_read result) into.new) self.new }
         ensures taken { S.tells → (traffic_through S.traffic self.new).taken ≡ (traffic_through S.traffic self.old).taken }
-        ensures departed { S.tells → DepartAt (D.moment device.now) (traffic_through S.traffic self.old) (traffic_through S.traffic self.new) }
+        ensures departed { S.tells → LeavesAt (D.moment device.now) S.traffic self.old self.new }
         ensures answered { EndsWith (Call.Read result) (traffic_through S.traffic self.old) (traffic_through S.traffic self.new) }
         ensures why { WhyGave S.traffic self.old result self.new }
         ensures short { ReadsShort self.old (length into.old) result self.new }
@@ -208,8 +208,8 @@ impl<S: Stream> Stream for BufferedStream<S> {
         requires { 0 < length from.now }
         ensures within { WritesWithin result (length from.now) }
         ensures given { S.tells → (traffic_through S.traffic self.new).given ≡ (traffic_through S.traffic self.old).given }
-        ensures taken { S.tells → (traffic_through S.traffic self.new).taken ≡ (traffic_through S.traffic self.old).taken ++ take (bytes_written result) from.now }
-        ensures departed { S.tells → DepartAt (D.moment device.now) (traffic_through S.traffic self.old) (traffic_through S.traffic self.new) }
+        ensures taken { S.tells → TakesMore S.traffic self.old (take (bytes_written result) from.now) self.new }
+        ensures departed { S.tells → LeavesAt (D.moment device.now) S.traffic self.old self.new }
         ensures answered { EndsWith (Call.Write result) (traffic_through S.traffic self.old) (traffic_through S.traffic self.new) }
         ensures why { WhyTook S.traffic self.old result self.new }
         ensures drains { Drains self.old result self.new }

@@ -1,12 +1,11 @@
 //! One drive.
-ghost use Rattle.std.specs.Prelude.{◌≡◌, ◌<◌, length, []};
-ghost use Rattle.sessions.specs.declared.events.Status.TheVariants.{Open};
-ghost use Rattle.sessions.specs.SessionStreams.{HubState};
-ghost use Rattle.sessions.specs.StandsFor.{StandsFor};
-ghost use Rattle.stream_driver.specs.Sessions.{AwaitsMore, InSomeState, IsPresent, IsPresentIn, Leads, pending_at, status_at, room_at};
-ghost use Rattle.stream_driver.specs.Sends.{LeadsTelling};
+ghost use Rattle.std.specs.Prelude.{◌≡◌, ◌≢◌, ◌<◌, length, []};
+ghost use Rattle.sessions.specs.StandsFor.{pending_of, status_of};
+ghost use Rattle.stream_driver.specs.Sessions.{IsPresent, Leads, Stands};
+ghost use Rattle.stream_driver.specs.Sends.{LeadsAs};
 ghost use Rattle.stream_driver.specs.Drives.{Drove, Departs};
-ghost use Rattle.stream_driver.specs.Calls.{WritesSome, Flushes, ReadsSome, Exchanges};
+ghost use Rattle.stream_driver.specs.Calls.{ReadsInTurn, WritesSome, Flushes, Exchanges};
+ghost use Rattle.stream_driver.specs.Traffic.{ReadsWithin, WritesWithin};
 
 use crate::answers::{Progress, ReadAnswer, WriteAnswer};
 use crate::stream::Stream;
@@ -24,7 +23,7 @@ pub const READ_MAX: usize = 4_096;
 
 // How the output of a session stands.
 #[derive(Clone, Copy)]
-enum Flush {
+enum OutputState {
     Empty,
     Blocked,
     Failed,
@@ -43,8 +42,10 @@ enum Exchange {
 
 // One write of what is pending.
 fn write_some<D: Sectors, S: Stream>(hub: &mut Hub<D>, s: u64, stream: &mut S) -> WriteAnswer
-    requires { InSomeState hub.old (λ h. IsPresentIn h s × (0 < length (pending_at h s))) }
-    ensures written { LeadsTelling s S.tells hub.old (S.traffic stream.old) hub.new (S.traffic stream.new) (λ h k. WritesSome s S.tells h (S.traffic stream.old) result k (S.traffic stream.new)) }
+    requires present { status_of hub.old s ≢ Status.Absent }
+    requires some { 0 < length (pending_of hub.old s) }
+    ensures within { WritesWithin result (length (pending_of hub.old s)) }
+    ensures written { LeadsAs s S.tells WritesSome result hub.old (S.traffic stream.old) hub.new (S.traffic stream.new) }
 {
     hub.runs_follow();
     let answer = stream.write(hub.device(), hub.pending(s));
@@ -60,21 +61,21 @@ fn write_out<D: Sectors, S: Stream>(
     s: u64,
     pending: usize,
     stream: &mut S,
-) -> Flush
+) -> OutputState
     requires present { IsPresent hub.old s }
-    requires pending { (h : HubState) → StandsFor hub.old h → pending ≡ length (pending_at h s) }
-    ensures written { LeadsTelling s S.tells hub.old (S.traffic stream.old) hub.new (S.traffic stream.new) (λ h k. Flushes s S.tells h (S.traffic stream.old) result k (S.traffic stream.new)) }
+    requires pending { pending ≡ length (pending_of hub.old s) }
+    ensures written { LeadsAs s S.tells Flushes result hub.old (S.traffic stream.old) hub.new (S.traffic stream.new) }
 {
     hub.runs_follow();
     let mut owed = pending;
     while owed > 0 {
         match write_some(hub, s, stream) {
             WriteAnswer::Moved(n) => owed -= n,
-            WriteAnswer::Blocked => return Flush::Blocked,
-            WriteAnswer::Failed => return Flush::Failed,
+            WriteAnswer::Blocked => return OutputState::Blocked,
+            WriteAnswer::Failed => return OutputState::Failed,
         }
     }
-    Flush::Empty
+    OutputState::Empty
 }
 
 // One read into the inbox, which has so much room and holds only the beginning of a request. The bytes come over the buffer.
@@ -85,9 +86,9 @@ fn read_some<D: Sectors, S: Stream>(
     stream: &mut S,
     buffer: &mut [u8; READ_MAX],
 ) -> ReadAnswer
-    requires some { 0 < room }
-    requires opened { InSomeState hub.old (λ h. (status_at h s ≡ Open) × (room ≡ room_at h s)) }
-    ensures read { LeadsTelling s S.tells hub.old (S.traffic stream.old) hub.new (S.traffic stream.new) (λ h k. AwaitsMore h.hub s → ReadsSome s S.tells h (S.traffic stream.old) result k (S.traffic stream.new)) }
+    requires { 0 < room }
+    ensures within { ReadsWithin result room }
+    ensures read { LeadsAs s S.tells (ReadsInTurn room) result hub.old (S.traffic stream.old) hub.new (S.traffic stream.new) }
 {
     hub.runs_follow();
     let most = room.min(READ_MAX);
@@ -106,8 +107,10 @@ fn serve_one<D: Sectors, S: Stream>(
     stream: &mut S,
     buffer: &mut [u8; READ_MAX],
 ) -> Exchange
-    requires { InSomeState hub.old (λ h. (status_at h s ≡ Open) × (pending_at h s ≡ [])) }
-    ensures served { LeadsTelling s S.tells hub.old (S.traffic stream.old) hub.new (S.traffic stream.new) (λ h k. Exchanges s S.tells h (S.traffic stream.old) result k (S.traffic stream.new)) }
+    requires stands { Stands hub.old }
+    requires opened { status_of hub.old s ≡ Status.Open }
+    requires nothing { pending_of hub.old s ≡ [] }
+    ensures served { LeadsAs s S.tells Exchanges result hub.old (S.traffic stream.old) hub.new (S.traffic stream.new) }
 {
     hub.runs_follow();
     let mut room = hub.room(s);
@@ -148,16 +151,16 @@ pub(crate) fn drive_over<D: Sectors, S: Stream>(
     buffer: &mut [u8; READ_MAX],
 ) -> Progress
     requires { IsPresent hub.old s }
-    ensures driven { LeadsTelling s S.tells hub.old (S.traffic stream.old) hub.new (S.traffic stream.new) (λ h k. Drove s S.tells h (S.traffic stream.old) result k (S.traffic stream.new)) }
+    ensures driven { LeadsAs s S.tells Drove result hub.old (S.traffic stream.old) hub.new (S.traffic stream.new) }
 {
     hub.runs_follow();
     let mut sent = 0usize;
     'requests: for _served in 0..REQUESTS_MAX {
         let owed = hub.pending(s).len();
         match write_out(hub, s, owed, stream) {
-            Flush::Empty => {}
-            Flush::Blocked => return Progress::Waiting,
-            Flush::Failed => return depart(hub, s),
+            OutputState::Empty => {}
+            OutputState::Blocked => return Progress::Waiting,
+            OutputState::Failed => return depart(hub, s),
         }
         match hub.status(s) {
             Status::Open => {}
@@ -175,9 +178,9 @@ pub(crate) fn drive_over<D: Sectors, S: Stream>(
     }
     let owed = hub.pending(s).len();
     match write_out(hub, s, owed, stream) {
-        Flush::Empty => {}
-        Flush::Blocked => return Progress::Waiting,
-        Flush::Failed => return depart(hub, s),
+        OutputState::Empty => {}
+        OutputState::Blocked => return Progress::Waiting,
+        OutputState::Failed => return depart(hub, s),
     }
     match hub.status(s) {
         Status::Open => Progress::Again,
@@ -201,7 +204,7 @@ pub(crate) fn drive_over<D: Sectors, S: Stream>(
 /// It may grow what the requests grow, and the output of the session.
 pub fn drive<D: Sectors, S: Stream>(hub: &mut Hub<D>, s: u64, stream: &mut S) -> Progress
     requires { IsPresent hub.old s }
-    ensures driven { LeadsTelling s S.tells hub.old (S.traffic stream.old) hub.new (S.traffic stream.new) (λ h k. Drove s S.tells h (S.traffic stream.old) result k (S.traffic stream.new)) }
+    ensures driven { LeadsAs s S.tells Drove result hub.old (S.traffic stream.old) hub.new (S.traffic stream.new) }
 {
     let mut buffer = [0u8; READ_MAX];
     drive_over(hub, s, stream, &mut buffer)

@@ -1,8 +1,7 @@
 //! A table of connections.
 ghost use Rattle.std.specs.Prelude.{◌≡◌, ◌≢◌};
-ghost use Rattle.stream_driver.specs.Sends.{DrivesTelling, LeadsTelling};
 ghost use Rattle.stream_driver.specs.Sessions.{IsPresent};
-ghost use Rattle.stream_driver.specs.Entries.{DrivenEntry, DrivenAll, HaveSessions, KeepSessions, EndsDrive, is_over};
+ghost use Rattle.stream_driver.specs.Entries.{LeadsAll, LeadsEntry, HaveSessions, KeepSessions, EndsDrive, is_over};
 
 use crate::answers::Progress;
 use crate::buffered::BufferedStream;
@@ -38,7 +37,7 @@ fn drive_entry<D: Sectors, S: Stream>(
     buffer: &mut [u8; READ_MAX],
 )
     requires { entry.old.state ≢ EntryState.Gone → IsPresent hub.old entry.old.session }
-    ensures driven { LeadsTelling entry.old.session S.tells hub.old (S.traffic entry.old.stream) hub.new (S.traffic entry.new.stream) (λ h k. DrivenEntry S.tells S.traffic h entry.old k entry.new) }
+    ensures driven { LeadsEntry S.tells S.traffic hub.old entry.old hub.new entry.new }
     ensures session { entry.new.session ≡ entry.old.session }
     ensures gone { entry.old.state ≡ EntryState.Gone → entry.new.state ≡ EntryState.Gone }
 {
@@ -60,7 +59,7 @@ fn drive_entry<D: Sectors, S: Stream>(
 /// It may grow what the requests grow, and the outputs of the sessions.
 pub fn drive_ready<D: Sectors, S: Stream>(hub: &mut Hub<D>, table: &mut Slab<Entry<S>>)
     requires { HaveSessions hub.old table.old.slots }
-    ensures driven { DrivesTelling S.traffic S.tells hub.old table.old.slots hub.new table.new.slots (λ h k. DrivenAll S.tells S.traffic h table.old.slots k table.new.slots) }
+    ensures driven { LeadsAll S.tells S.traffic hub.old table.old.slots hub.new table.new.slots }
     ensures sessions { HaveSessions hub.new table.new.slots }
     ensures numbers { KeepSessions table.old.slots table.new.slots }
 {

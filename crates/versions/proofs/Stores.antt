@@ -1,7 +1,6 @@
 -- All chains: what is made, what more room leaves, what an install adds and what a reclaim leaves.
 use Rattle.std.proofs.Common.{◌≡◌, ℕ, suc, ◌+◌, ◌-◌, ◌<◌, ◌≤◌, true, false, T, cond, ◌||◌, List, [], ◌∷◌, ◌++◌, length, take, set, Option, Some, None, IsSome, Result, Ok, Err, refl, sym, ap, subst, ◌∙◌, arith}
-use Rattle.std.specs.Prelude.{option_map, nat_le, is_some, if◌then◌else◌, IfSome, OnOk, option_copied, swap_remove}
-use Rattle.std.specs.Borrow.{Bor}
+use Rattle.std.specs.Prelude.{option_map, nat_le, is_some, if◌then◌else◌, IfSome, OnOk, swap_remove}
 use Rattle.std.specs.List.{AllByRecursion}
 use Rattle.std.specs.declared.cmp.Ordering.TheVariants.{Less, Equal, Greater}
 use Rattle.std.specs.Ordering.{is_eq, is_lt, nat_cmp, ordering_reverse}
@@ -100,11 +99,6 @@ found_above x k (e ∷ es) h s =
 pub find-put_itself : (k : Bytes) (c : ChainValue) (es : Chains) → find_chain k (put (slice_cmp nat_cmp) k c es) ≡ Some c
 find-put_itself k c es = grind (arith, find_chain-put k k c es, same_key_itself k)
 
--- what is lent is there
-pub present : (o : Option (Bor ChainValue)) (f : Option ChainValue) → option_copied o ≡ f → is_some o ≡ true → is_some f ≡ true
-present None f e h = absurd (both_ways false refl h)
-present (Some x) f e h = sym (ap is_some e)
-
 -- the key's chain with more room in its place
 pub roomier-put : (k : Bytes) (c d : ChainValue) (es : Chains) → IsSorted es → find_chain k es ≡ Some c → IsRoomierChain c d → IsRoomier es (put (slice_cmp nat_cmp) k d es)
 roomier-put k c d [] h e r = cc
@@ -191,11 +185,6 @@ place_roomier : (n r s : ℕ) (o p : Option ChainValue) → RoomierFound o p →
 place_roomier n r s None None h le g = omega arith
 place_roomier n r s (Some c) (Some d) h le g = tt
 place_roomier n r s _ _ h le g = absurd h
-
-pub place-found : (n r : ℕ) (o p : Option ChainValue) → RoomierFound o p → is_some o ≡ true → HasPlace n r p
-place-found n r None p h t = absurd (both_ways false refl t)
-place-found n r (Some c) None h t = absurd h
-place-found n r (Some c) (Some d) h t = tt
 
 pub on_ok : {A E : Type 0} (r : Result A E) (P : Type 0) → P → OnOk r P
 on_ok (Ok x) P p = p

@@ -3,7 +3,7 @@ use Rattle.std.specs.Prelude.{◌≡◌, ℕ, T, ◌+◌, ◌-◌, ◌<◌, ◌�
 use Rattle.std.specs.List.{AllByRecursion, list_any}
 use Rattle.std.specs.Ordering.{nat_cmp}
 use Rattle.std.specs.Cmp.Lexicographic.{slice_cmp}
-use Rattle.std.specs.FinMap.Entries.{find, is_sorted}
+use Rattle.std.specs.FinMap.Entries.{find, is_sorted, put}
 use Rattle.model.specs.Map.{Bytes, KeyMap, KeyWrite, is_same_key}
 use Rattle.sorted_pages.specs.Pages.{Page, room_at}
 use Rattle.versions.specs.Groups.{GroupValue}
@@ -120,10 +120,22 @@ abbrev pub HasPlace : ℕ → ℕ → Option ChainValue → Type 0
 HasPlace n room None = n ≤ room
 HasPlace n room (Some c) = ⊤
 
+-- so it is in these pages, whose entries are the chains
+abbrev pub HasPlaceAt : ℕ → Bytes → List (Page ChainValue) → Chains → Type 0
+HasPlaceAt n k ps chains = HasPlace n (room_at k ps) (find_chain k chains)
+
+-- where the key's chain has room, or so many new chains fit, that holds
+abbrev pub WhereRoom : ℕ → Bytes → List (Page ChainValue) → Chains → Type 0 → Type 0
+WhereRoom n k ps chains P = HasRoom (find_chain k chains) → HasPlaceAt n k ps chains → P
+
+-- the key's chain has the version more, or the key has a chain of it alone; the chain may have any room
+abbrev pub IsAddedAt : Bytes → Stamped → Chains → Chains → Type 0
+IsAddedAt k v old new = (room : ℕ) × (new ≡ put (slice_cmp nat_cmp) k (added (find_chain k old) v room) old)
+
 -- the writes can be installed without memory
 pub record IsPrepared (v : ChainsValue) (ws : List KeyWrite) : Type 0 where
   pub chains : AllByRecursion (λ w. HasRoom (find_chain w.0 v.chains)) ws
-  pub places : AllByRecursion (λ w. HasPlace (length ws) (room_at w.0 v.pages) (find_chain w.0 v.chains)) ws
+  pub places : AllByRecursion (λ w. HasPlaceAt (length ws) w.0 v.pages v.chains) ws
   pub listed : length ws ≤ v.listed_spare
   pub groups : 1 ≤ v.groups_spare
 

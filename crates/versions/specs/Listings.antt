@@ -111,11 +111,19 @@ IsTrulyMixed bs g = (g.mixed ≡ []) ⊎ (sees_mixed bs g ≡ false)
 abbrev pub AreIn : List Listed → List Listed → Type 0
 AreIn us vs = (k : Bytes) (n high : ℕ) → IsTrue (is_in us k n high) → IsTrue (is_in vs k n high)
 
+-- the versions are those of both
+abbrev pub AreOfBoth : List Listed → List Listed → List Listed → Type 0
+AreOfBoth us ws vs = (k : Bytes) (n high : ℕ) → is_in vs k n high ≡ (is_in us k n high || is_in ws k n high)
+
 -- ---- a version more
 
 -- a group of these versions, whatever its witness
 abbrev pub unwitnessed : List Listed → GroupValue
 unwitnessed vs = record { witness = 0; versions = vs; mixed = []; seen = 0; due = 0; lists = 0 }
+
+-- where the old chains were listed, the new ones are, with these versions more
+abbrev pub StayListed : Chains → Chains → List Listed → Type 0
+StayListed old new more = (groups : List GroupValue) → IsListed old groups → IsListed new (unwitnessed more ∷ groups)
 
 -- what is listed of a key when a version of number n follows its newest
 abbrev pub followed : Option ChainValue → Bytes → ℕ → List Listed
@@ -151,6 +159,15 @@ IsSettled bs chains v = IsTrue (is_between bs v.number v.next) ⊎ (IsTrue (has_
 -- each chain is as it was, or was reclaimed
 abbrev pub IsPartReclaimed : List ℕ → Chains → Chains → Type 0
 IsPartReclaimed bs old new = (k : Bytes) → (find_chain k new ≡ find_chain k old) ⊎ (find_chain k new ≡ option_map (reclaimed bs) (find_chain k old))
+
+-- each chain was reclaimed
+abbrev pub IsAllReclaimed : List ℕ → Chains → Chains → Type 0
+IsAllReclaimed bs old new = (k : Bytes) → find_chain k new ≡ option_map (reclaimed bs) (find_chain k old)
+
+-- where the old versions and some more are settled, the new ones are
+abbrev pub StaySettled : List ℕ → List Listed → List Listed → List Listed → Type 0
+StaySettled bs old more new =
+    (chains : Chains) → AllByRecursion (IsSettled bs chains) old → AllByRecursion (IsSettled bs chains) more → AllByRecursion (IsSettled bs chains) new
 
 -- a version that is listed no more is in its chain no more
 abbrev pub AreKept : List Listed → List Listed → Chains → Type 0

@@ -1,16 +1,14 @@
 //! Old versions go.
-ghost use Rattle.std.specs.Prelude.{◌≡◌, ◌||◌, ◌==◌, ℕ, Bool, List, [], ◌∷◌, T, false, IfSome, IsTrue, nat_lt, ◌<◌, ◌≤◌, ◌+◌, ◌-◌, ◌^◌, ◌++◌, length, take, drop, get_or, position, option_map};
+ghost use Rattle.std.specs.Prelude.{◌≡◌, ◌==◌, ℕ, List, [], ◌∷◌, T, false, IfSome, IsTrue, nat_lt, ◌<◌, ◌≤◌, ◌+◌, ◌-◌, ◌^◌, ◌++◌, length, take, drop, get_or, position};
 ghost use Rattle.std.specs.List.{AllByRecursion, list_any};
 ghost use Rattle.std.specs.Ordering.{nat_cmp};
 ghost use Rattle.std.specs.Cmp.Lexicographic.{slice_cmp};
 ghost use Rattle.std.specs.FinMap.Entries.{is_sorted};
 ghost use Rattle.std.specs.Vec.{vec_len};
-ghost use Rattle.model.specs.Map.{Bytes};
 ghost use Rattle.sorted_pages.specs.Pages.{entries};
-ghost use Rattle.versions.specs.Chains.{Chains, ChainsValue, IsKept, IsReclaimedAt, find_chain, reclaimed};
-ghost use Rattle.versions.specs.Groups.{Listed};
-ghost use Rattle.versions.specs.Witnesses.{AreUnderWitnesses, IsUnderWitness};
-ghost use Rattle.versions.specs.Listings.{AreAmong, AreApart, AreFound, AreIn, AreKept, AreMixedSettled, AreSeenFrom, CanJoin, IsListed, IsPartReclaimed, IsSettled, IsTakenIn, IsTrulyMixed, has_version, is_in, lists_in, versions_in, witness_for, witnesses};
+ghost use Rattle.versions.specs.Chains.{Chains, IsKept, IsReclaimedAt, find_chain};
+ghost use Rattle.versions.specs.Witnesses.{GroupStaysUnder, GroupTakesUnder, GroupsJoinUnder, GroupsStayUnder, MoveUnderWitnesses, StayUnder};
+ghost use Rattle.versions.specs.Listings.{AreAmong, AreApart, AreFound, AreIn, AreKept, AreMixedSettled, AreOfBoth, AreSeenFrom, CanJoin, IsAllReclaimed, IsListed, IsPartReclaimed, IsSettled, IsTakenIn, IsTrulyMixed, StaySettled, has_version, lists_in, versions_in, witness_for, witnesses};
 ghost use Rattle.versions.specs.Meaning.{due_for, due_in};
 ghost use Rattle.versions.specs.Meaning.{is_among, lists_a_reclaim};
 
@@ -47,7 +45,7 @@ fn drop_unseen(
     ensures settled { AllByRecursion (IsSettled begins.now (entries chains.new)) versions.new.items }
     ensures left { AreKept versions.old.items versions.new.items (entries chains.new) }
     ensures seen { (n : ℕ) → AreSeenFrom n versions.old.items → AreSeenFrom n versions.new.items }
-    ensures each { (held : ℕ → Bool) (v : ChainsValue) (w : ℕ) → AllByRecursion (IsUnderWitness held v w) versions.old.items → AllByRecursion (IsUnderWitness held v w) versions.new.items }
+    ensures each { StayUnder versions.old.items versions.new.items }
 {
     let mut left = versions.len();
     while left > 0 {
@@ -99,7 +97,7 @@ fn settle_first(
     ensures settled { AllByRecursion (IsSettled begins.now (entries chains.new)) (versions_in lists.new) }
     ensures left { AreKept (versions_in lists.old) (versions_in lists.new) (entries chains.new) }
     ensures seen { (n : ℕ) → AreSeenFrom n (versions_in lists.old) → AreSeenFrom n (versions_in lists.new) }
-    ensures each { (held : ℕ → Bool) (v : ChainsValue) (w : ℕ) → AllByRecursion (IsUnderWitness held v w) (versions_in lists.old) → AllByRecursion (IsUnderWitness held v w) (versions_in lists.new) }
+    ensures each { StayUnder (versions_in lists.old) (versions_in lists.new) }
 {
     match lists.front_mut() {
         Some(list) => drop_unseen(chains, list, begins, next),
@@ -122,7 +120,7 @@ fn settle_lists(
     ensures settled { AllByRecursion (IsSettled begins.now (entries chains.new)) (versions_in lists.new) }
     ensures left { AreKept (versions_in lists.old) (versions_in lists.new) (entries chains.new) }
     ensures seen { (n : ℕ) → AreSeenFrom n (versions_in lists.old) → AreSeenFrom n (versions_in lists.new) }
-    ensures each { (held : ℕ → Bool) (v : ChainsValue) (w : ℕ) → AllByRecursion (IsUnderWitness held v w) (versions_in lists.old) → AllByRecursion (IsUnderWitness held v w) (versions_in lists.new) }
+    ensures each { StayUnder (versions_in lists.old) (versions_in lists.new) }
 {
     let alloc = *lists.allocator();
     let mut rest = mem::replace(lists, LinkedList::new(alloc));
@@ -144,7 +142,7 @@ impl Group {
         ensures taken_in { IsTakenIn begins.now self.new }
         ensures witness { self.new.witness ≡ witness_for begins.now self.old.witness }
         ensures lists { self.new.lists ≡ self.old.lists }
-        ensures each { (held : ℕ → Bool) (v : ChainsValue) (w : ℕ) → AllByRecursion (IsUnderWitness held v w) self.old.versions → AllByRecursion (IsUnderWitness held v w) self.old.mixed → AllByRecursion (IsUnderWitness held v w) self.new.versions × AllByRecursion (IsUnderWitness held v w) self.new.mixed }
+        ensures each { GroupStaysUnder self.old self.new }
     {
         if is_among(begins, self.witness) {
             return;
@@ -165,10 +163,10 @@ impl Group {
         ensures taken_in { IsTakenIn begins.now self.new }
         ensures witness { self.new.witness ≡ self.old.witness }
         ensures lists { self.new.lists ≡ self.old.lists + length lists }
-        ensures settled { (chains : Chains) → AllByRecursion (IsSettled begins.now chains) self.old.versions → AllByRecursion (IsSettled begins.now chains) (versions_in lists) → AllByRecursion (IsSettled begins.now chains) self.new.versions }
+        ensures settled { StaySettled begins.now self.old.versions (versions_in lists) self.new.versions }
         ensures truly { self.old.mixed ≡ [] → IsTrulyMixed begins.now self.new }
-        ensures each { (held : ℕ → Bool) (v : ChainsValue) (w : ℕ) → AllByRecursion (IsUnderWitness held v w) self.old.versions → AllByRecursion (IsUnderWitness held v w) self.old.mixed → AllByRecursion (IsUnderWitness held v w) (versions_in lists) → AllByRecursion (IsUnderWitness held v w) self.new.versions × AllByRecursion (IsUnderWitness held v w) self.new.mixed }
-        ensures mixed { (chains : Chains) → AllByRecursion (IsSettled begins.now chains) self.old.mixed → AllByRecursion (IsSettled begins.now chains) (versions_in lists) → AllByRecursion (IsSettled begins.now chains) self.new.mixed }
+        ensures each { GroupTakesUnder self.old (versions_in lists) self.new }
+        ensures mixed { StaySettled begins.now self.old.mixed (versions_in lists) self.new.mixed }
     {
         if is_among(begins, self.witness) && are_seen_from(&lists, self.witness) {
             append(&mut self.lists, lists);
@@ -189,7 +187,7 @@ impl Group {
         ensures taken_in { IsTakenIn begins.now self.new }
         ensures witness { self.new.witness ≡ self.old.witness }
         ensures lists { self.new.lists ≤ self.old.lists }
-        ensures each { (held : ℕ → Bool) (v : ChainsValue) (w : ℕ) → AllByRecursion (IsUnderWitness held v w) self.old.versions → AllByRecursion (IsUnderWitness held v w) self.old.mixed → AllByRecursion (IsUnderWitness held v w) self.new.versions × AllByRecursion (IsUnderWitness held v w) self.new.mixed }
+        ensures each { GroupStaysUnder self.old self.new }
     {
         if count == 0 {
             return;
@@ -213,7 +211,7 @@ impl Group {
         ensures witness { self.new.witness ≡ self.old.witness }
         ensures lists { self.new.lists ≤ self.old.lists }
         ensures truly { IsTrulyMixed begins.now self.new }
-        ensures each { (held : ℕ → Bool) (v : ChainsValue) (w : ℕ) → AllByRecursion (IsUnderWitness held v w) self.old.versions → AllByRecursion (IsUnderWitness held v w) self.old.mixed → AllByRecursion (IsUnderWitness held v w) self.new.versions × AllByRecursion (IsUnderWitness held v w) self.new.mixed }
+        ensures each { GroupStaysUnder self.old self.new }
         ensures mixed { AllByRecursion (IsSettled begins.now (entries chains.new)) self.new.mixed }
     {
         if self.mixed.is_empty() {
@@ -237,7 +235,7 @@ impl Group {
         ensures witness { self.new.witness ≡ witness_for begins.now self.old.witness }
         ensures lists { self.new.lists ≤ self.old.lists }
         ensures truly { IsTrulyMixed begins.now self.new }
-        ensures each { (held : ℕ → Bool) (v : ChainsValue) (w : ℕ) → AllByRecursion (IsUnderWitness held v w) self.old.versions → AllByRecursion (IsUnderWitness held v w) self.old.mixed → AllByRecursion (IsUnderWitness held v w) self.new.versions × AllByRecursion (IsUnderWitness held v w) self.new.mixed }
+        ensures each { GroupStaysUnder self.old self.new }
         ensures mixed { AllByRecursion (IsSettled begins.now (entries chains.new)) self.new.mixed }
     {
         self.take_in(begins);
@@ -250,13 +248,13 @@ impl Group {
     // Takes in the versions of a group with the same witness. Takes no memory.
     fn absorb(&mut self, other: Group)
         requires { CanJoin self.old other }
-        ensures found { (k : Bytes) (n high : ℕ) → is_in self.new.versions k n high ≡ (is_in self.old.versions k n high || is_in other.versions k n high) }
+        ensures found { AreOfBoth self.old.versions other.versions self.new.versions }
         ensures due { (bs : List ℕ) → due_for bs self.new ≡ due_for bs self.old + due_for bs other }
         ensures witness { self.new.witness ≡ self.old.witness }
         ensures lists { self.new.lists ≡ self.old.lists + other.lists }
         ensures truly { (bs : List ℕ) → IsTrulyMixed bs self.old → IsTrulyMixed bs other → IsTrulyMixed bs self.new }
-        ensures each { (held : ℕ → Bool) (v : ChainsValue) (w : ℕ) → AllByRecursion (IsUnderWitness held v w) self.old.versions → AllByRecursion (IsUnderWitness held v w) self.old.mixed → AllByRecursion (IsUnderWitness held v w) other.versions → AllByRecursion (IsUnderWitness held v w) other.mixed → AllByRecursion (IsUnderWitness held v w) self.new.versions × AllByRecursion (IsUnderWitness held v w) self.new.mixed }
-        ensures mixed { (bs : List ℕ) (chains : Chains) → AllByRecursion (IsSettled bs chains) self.old.mixed → AllByRecursion (IsSettled bs chains) other.mixed → AllByRecursion (IsSettled bs chains) self.new.mixed }
+        ensures each { GroupsJoinUnder self.old other self.new }
+        ensures mixed { (bs : List ℕ) → StaySettled bs self.old.mixed other.mixed self.new.mixed }
     {
         append(&mut self.lists, other.lists);
         append(&mut self.due, other.due);
@@ -270,13 +268,13 @@ fn reclaim_groups(chains: &mut SortedPages<Chain>, groups: &mut [Group], begins:
     requires listed { IsListed (entries chains.old) groups.old }
     ensures due { due_in begins.now groups.new ≡ due_in begins.now groups.old - lists_a_reclaim }
     ensures part { IsPartReclaimed begins.now (entries chains.old) (entries chains.new) }
-    ensures all { due_in begins.now groups.new ≡ 0 → (k : Bytes) → find_chain k (entries chains.new) ≡ option_map (reclaimed begins.now) (find_chain k (entries chains.old)) }
+    ensures all { due_in begins.now groups.new ≡ 0 → IsAllReclaimed begins.now (entries chains.old) (entries chains.new) }
     ensures kept { (last : ℕ) → IsKept (entries chains.old) last → IsKept (entries chains.new) last }
     ensures listed { IsListed (entries chains.new) groups.new }
     ensures held { AreAmong (0 ∷ begins.now) (witnesses groups.new) }
     ensures lists { lists_in groups.new ≤ lists_in groups.old }
     ensures truly { AllByRecursion (IsTrulyMixed begins.now) groups.new }
-    ensures each { (more held : ℕ → Bool) (v u : ChainsValue) → ((w : ℕ) (x : Listed) → IsUnderWitness more v w x → IsUnderWitness held u (witness_for begins.now w) x) → AreUnderWitnesses more v groups.old → AreUnderWitnesses held u groups.new }
+    ensures each { MoveUnderWitnesses begins.now groups.old groups.new }
     ensures mixed { AreMixedSettled begins.now (entries chains.new) groups.new }
 {
     let mut most = LISTS_A_RECLAIM;
@@ -305,7 +303,7 @@ fn join(groups: &mut Vec<Group>, i: usize) -> bool
     ensures held { (bs : List ℕ) → AreAmong bs (witnesses groups.old.items) → AreAmong bs (witnesses groups.new.items) }
     ensures lists { lists_in groups.new.items ≡ lists_in groups.old.items }
     ensures truly { (bs : List ℕ) → AllByRecursion (IsTrulyMixed bs) groups.old.items → AllByRecursion (IsTrulyMixed bs) groups.new.items }
-    ensures each { (held : ℕ → Bool) (v : ChainsValue) → AreUnderWitnesses held v groups.old.items → AreUnderWitnesses held v groups.new.items }
+    ensures each { GroupsStayUnder groups.old.items groups.new.items }
     ensures mixed { (bs : List ℕ) (es : Chains) → AreMixedSettled bs es groups.old.items → AreMixedSettled bs es groups.new.items }
 {
     match place_of(&groups[..i], groups[i].witness) {
@@ -327,7 +325,7 @@ fn join_groups(groups: &mut Vec<Group>)
     ensures held { (bs : List ℕ) → AreAmong bs (witnesses groups.old.items) → AreAmong bs (witnesses groups.new.items) }
     ensures lists { lists_in groups.new.items ≤ lists_in groups.old.items }
     ensures truly { (bs : List ℕ) → AllByRecursion (IsTrulyMixed bs) groups.old.items → AllByRecursion (IsTrulyMixed bs) groups.new.items }
-    ensures each { (held : ℕ → Bool) (v : ChainsValue) → AreUnderWitnesses held v groups.old.items → AreUnderWitnesses held v groups.new.items }
+    ensures each { GroupsStayUnder groups.old.items groups.new.items }
     ensures mixed { (bs : List ℕ) (es : Chains) → AreMixedSettled bs es groups.old.items → AreMixedSettled bs es groups.new.items }
 {
     let mut i = 0;
@@ -360,14 +358,14 @@ pub(crate) fn reclaim_versions(
     ensures still { result ≡ nat_lt 0 (due_in begins.now groups.new.items) }
     ensures due { due_in begins.now groups.new.items ≡ due_in begins.now groups.old.items - lists_a_reclaim }
     ensures part { IsPartReclaimed begins.now (entries chains.old) (entries chains.new) }
-    ensures all { due_in begins.now groups.new.items ≡ 0 → (k : Bytes) → find_chain k (entries chains.new) ≡ option_map (reclaimed begins.now) (find_chain k (entries chains.old)) }
+    ensures all { due_in begins.now groups.new.items ≡ 0 → IsAllReclaimed begins.now (entries chains.old) (entries chains.new) }
     ensures kept { (last : ℕ) → IsKept (entries chains.old) last → IsKept (entries chains.new) last }
     ensures listed { IsListed (entries chains.new) groups.new.items }
     ensures few { length groups.new.items ≤ length begins.now + 1 }
     ensures lists { lists_in groups.new.items ≤ lists_in groups.old.items }
     ensures truly { AllByRecursion (IsTrulyMixed begins.now) groups.new.items }
     ensures held { AreAmong (0 ∷ begins.now) (witnesses groups.new.items) }
-    ensures each { (more held : ℕ → Bool) (v u : ChainsValue) → ((w : ℕ) (x : Listed) → IsUnderWitness more v w x → IsUnderWitness held u (witness_for begins.now w) x) → AreUnderWitnesses more v groups.old.items → AreUnderWitnesses held u groups.new.items }
+    ensures each { MoveUnderWitnesses begins.now groups.old.items groups.new.items }
     ensures mixed { AreMixedSettled begins.now (entries chains.new) groups.new.items }
 {
     reclaim_groups(chains, groups, begins);

@@ -1,18 +1,18 @@
 //! The versions of all keys.
-ghost use Rattle.std.specs.Prelude.{◌≡◌, ◌↔◌, ◌≢◌, ℕ, T, true, nat_lt, ◌^◌, ◌+◌, ◌≤◌, ◌<◌, ◌&&◌, Bool, List, [], ◌∷◌, ◌++◌, length, IsOk, IfOk, IfSome, IsTrue, OnOk, option_map, option_copied};
+ghost use Rattle.std.specs.Prelude.{◌≡◌, ◌≢◌, ℕ, T, true, nat_lt, ◌^◌, ◌+◌, ◌≤◌, ◌<◌, List, [], ◌∷◌, ◌++◌, length, IsOk, IfOk, IfSome, OnOk, option_copied};
 ghost use Rattle.model.specs.Key.{IsValue};
 ghost use Rattle.std.specs.Ordering.{nat_cmp};
 ghost use Rattle.std.specs.Cmp.Lexicographic.{slice_cmp};
-ghost use Rattle.std.specs.FinMap.Entries.{put, is_sorted, where_key};
-ghost use Rattle.model.specs.Map.{Bytes, KeyMap, IsMap, value_at, pairs_in_range, is_below};
-ghost use Rattle.model.specs.History.{Record};
-ghost use Rattle.versions.specs.Chains.{IsPrepared, IsReady, HasPlace, HasRoom, IsRoomier, find_chain, added, stamped};
-ghost use Rattle.versions.specs.Meaning.{map_seen, newest_of, kept_of, due_of, groups_of, is_among, IsSameMeaning, IsInstalled, IsReclaimed};
+ghost use Rattle.std.specs.FinMap.Entries.{is_sorted};
+ghost use Rattle.model.specs.KeyBytes.{end_bytes};
+ghost use Rattle.model.specs.Map.{Bytes, value_at, pairs_in_range};
+ghost use Rattle.versions.specs.Chains.{IsPrepared, HasPlaceAt, HasRoom, IsRoomier, WhereRoom, find_chain};
+ghost use Rattle.versions.specs.Meaning.{map_seen, newest_of, kept_of, due_of, groups_of, IsSameMeaning, IsInstalled, IsReclaimed};
 ghost use Rattle.sorted_pages.specs.Pages.{places_in, room_at};
 ghost use Rattle.std.specs.List.{AllByRecursion};
-ghost use Rattle.versions.specs.Listings.{IsTrulyMixed, IsUnmixed};
+ghost use Rattle.versions.specs.Listings.{IsTrulyMixed};
 ghost use Rattle.versions.specs.Lent.{range_pairs};
-ghost use Rattle.versions.specs.StandsFor.{StandsFor};
+ghost use Rattle.versions.specs.StandsFor.{StandForSame, StandWithCommit, StandWhereAmong, StandsFor, UnmixedWhereHeld};
 
 use crate::chain::Chain;
 use crate::installing::{add_all, make_room};
@@ -92,7 +92,7 @@ impl Versions {
 
     /// Lends the pairs of the range that number `n` sees, by rising key. Takes no memory.
     pub fn range(&self, n: u64, range: RangeRef<'_>) -> Pairs<'_>
-        ensures { range_pairs result ≡ pairs_in_range (map_seen self.now n) range.entry.lo.bytes.now (option_map (λ k. k.bytes.now) range.entry.hi) }
+        ensures { range_pairs result ≡ pairs_in_range (map_seen self.now n) range.entry.lo.bytes.now (end_bytes range.entry.hi) }
     {
         Pairs::new(self.chains.range(range, n), n)
     }
@@ -148,8 +148,8 @@ impl Versions {
         ensures groups { self.new.groups ≡ self.old.groups }
         ensures last { self.new.last ≡ self.old.last }
         ensures room { OnOk result (HasRoom (find_chain key.entry.bytes.now self.new.chains)) }
-        ensures place { OnOk result (HasPlace n (room_at key.entry.bytes.now self.new.pages) (find_chain key.entry.bytes.now self.new.chains)) }
-        ensures known { HasRoom (find_chain key.entry.bytes.now self.old.chains) → HasPlace n (room_at key.entry.bytes.now self.old.pages) (find_chain key.entry.bytes.now self.old.chains) → IsOk result }
+        ensures place { OnOk result (HasPlaceAt n key.entry.bytes.now self.new.pages self.new.chains) }
+        ensures known { WhereRoom n key.entry.bytes.now self.old.pages self.old.chains (IsOk result) }
     {
         let alloc = *self.listed.allocator();
         make_room(alloc, &mut self.chains, key, n)
@@ -162,7 +162,7 @@ impl Versions {
         ensures prepared { OnOk result (IsPrepared self.new writes.now) }
         ensures known { IsPrepared self.old writes.now → IsOk result }
         ensures same { IsSameMeaning self.old self.new }
-        ensures stands { (held : ℕ → Bool) (base : KeyMap) (history : List Record) → StandsFor self.old held base history ↔ StandsFor self.new held base history }
+        ensures stands { StandForSame self.old self.new }
     {
         for write in writes {
             self.make_room(write.lend_key(), writes.len())?;
@@ -181,7 +181,7 @@ impl Versions {
         requires above { self.old.last < n }
         requires fits { n < 2 ^ 63 }
         ensures installed { IsInstalled self.old self.new n writes.items }
-        ensures stands { (held : ℕ → Bool) (base : KeyMap) (history : List Record) (r : Record) → StandsFor self.old held base history → length history + 1 ≡ n → r.commit ≡ n → r.writes ≡ writes.items → StandsFor self.new held base (history ++ r ∷ []) }
+        ensures stands { StandWithCommit self.old self.new n writes.items }
     {
         self.last = n;
         let alloc = *self.listed.allocator();
@@ -210,8 +210,8 @@ impl Versions {
         ensures still { result ≡ nat_lt 0 (due_of begins.now self.new) }
         ensures few { groups_of self.new ≤ length begins.now + 1 }
         ensures mixed { AllByRecursion (IsTrulyMixed begins.now) self.new.groups }
-        ensures unmixed { (held : ℕ → Bool) (base : KeyMap) (history : List Record) → StandsFor self.old held base history → ((n : ℕ) → IsTrue (is_among begins.now n) → IsTrue (held n)) → AllByRecursion IsUnmixed self.new.groups }
-        ensures stands { (held : ℕ → Bool) (base : KeyMap) (history : List Record) → StandsFor self.old held base history → StandsFor self.new (λ n. held n && is_among begins.now n) base history }
+        ensures unmixed { UnmixedWhereHeld begins.now self.old self.new }
+        ensures stands { StandWhereAmong begins.now self.old self.new }
     {
         reclaim_versions(&mut self.chains, &mut self.groups, begins)
     }

@@ -1,4 +1,4 @@
-use Rattle.std.proofs.Common.{◌≡◌, arith, ap, subst, ◌∙◌, Ok, Err}
+use Rattle.std.proofs.Common.{arith, ap, subst, ◌∙◌, Ok, Err}
 use Rattle.std.proofs.lemmas.Result.{err_from_is_err_and}
 use Rattle.commands.specs.Compacting.{HasTooFew}
 use Rattle.commands.specs.Compacting.Compacting.{NotOpened, NotRead, TooFew, NotMade, Made}
@@ -32,7 +32,7 @@ returns-in_err-count g c =
       map_is = record {
         fault = c.in_ok-found.ensures.fault;
         alone = tt;
-        found = λ keeps. let m = c.in_ok-found.ensures.map keeps in (m.0, m.1, m.2);
+        found = λ keeps. let m = c.in_ok-found.ensures.map keeps in (m.0, m.1, m.2.0);
         during = c.in_ok-found.ensures.during;
       };
       count_is = c.count.ensures ∙ c.in_ok-found.ensures.size;
@@ -51,7 +51,7 @@ returns-in_err-new g c =
       map_is = record {
         fault = c.in_ok-found.ensures.fault;
         alone = tt;
-        found = λ keeps. let m = c.in_ok-found.ensures.map keeps in (m.0, m.1, m.2);
+        found = λ keeps. let m = c.in_ok-found.ensures.map keeps in (m.0, m.1, m.2.0);
         during = c.in_ok-found.ensures.during;
       };
       count_is = c.count.ensures ∙ c.in_ok-found.ensures.size;
@@ -76,7 +76,7 @@ returns g c =
       map_is = record {
         fault = c.in_ok-found.ensures.fault;
         alone = tt;
-        found = λ keeps. let m = c.in_ok-found.ensures.map keeps in (m.0, m.1, m.2);
+        found = λ keeps. let m = c.in_ok-found.ensures.map keeps in (m.0, m.1, m.2.0);
         during = c.in_ok-found.ensures.during;
       };
       count_is = c.count.ensures ∙ c.in_ok-found.ensures.size;

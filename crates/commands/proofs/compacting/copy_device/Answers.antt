@@ -2,7 +2,6 @@ use Rattle.std.proofs.Common.{◌≡◌, arith, ap, refl, subst, Ok, Err}
 use Rattle.std.proofs.lemmas.Result.{err_from_is_err_and}
 use Rattle.commit_log.specs.declared.faults.LogFault.TheVariants.{Full}
 use Rattle.commands.specs.LogCounts.{line_of}
-use Rattle.commands.specs.Compacting.{CopiesMap}
 use Rattle.commands.specs.Compacting.Copies.{NotCopied, Copied}
 use Rattle.commands.proofs.compacting.copy_device.Goals as goal
 

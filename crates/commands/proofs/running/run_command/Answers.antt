@@ -9,11 +9,10 @@ returns-in-Ok g c = (
   c.in-Ok.ensures.asks,
   (
     c.execute-done.result,
-    record { files = c.execute-done.new.files; ports = c.execute-done.new.ports; out = c.execute-done.new.out; err = c.execute-done.new.err },
+    c.execute-done.new.around,
     c.execute-done.ensures,
+    subst (λ e. Tells g.O.Lines.writes g.E.Lines.writes e c.execute-done.new.around.out c.execute-done.new.around.err c.tell.result c.tell.new.out c.tell.new.err) c.from.ensures c.tell.ensures,
     refl,
-    refl,
-    subst (λ e. Tells g.O.Lines.writes g.E.Lines.writes e c.execute-done.new.out c.execute-done.new.err c.tell.result c.tell.new.out c.tell.new.err) c.from.ensures c.tell.ensures,
   ),
   refl,
 )

@@ -1,7 +1,7 @@
 use Rattle.std.proofs.Common.{◌≡◌, ◌+◌, ◌*◌, ◌∙◌, ℕ, length, take, drop, min, refl, sym, ap, subst, arith, length-drop}
 use Rattle.model.specs.Map.{KeyMap, IsInBounds}
 use Rattle.model.specs.Machine.{payload_size}
-use Rattle.commit_log.specs.RecordFormat.{closed_gate, sectors_of}
+use Rattle.commit_log.specs.RecordFormat.{closed_gate, body_sectors}
 use Rattle.commit_log.specs.Copying.{puts}
 use Rattle.commit_log.proofs.Putting.{bounds_drop}
 use Rattle.commit_log.proofs.CopyProtocol.{next_set_of, none_copied, copied_more, in_range, next_gate_le, done_are_all, all_read, shut_read, record_within, last_gate}
@@ -40,7 +40,7 @@ overflow_add-records g c =
 pub loop-left-preserved : goal.loop-left-preserved
 loop-left-preserved g c =
     let next = next_set_of c.loop-left.pairs c.min-count.result c.next_payload_len-len.result (c.min-count.ensures ∙ ap (λ (n : ℕ). min n 64) c.loop-left.invariant.left) (omega (arith, c.loop-left.invariant.left, c.loop-left-test.true)) (c.next_payload_len-len.ensures.len ∙ ap (λ (l : KeyMap). payload_size (puts (take c.min-count.result l))) c.loop-left.invariant.ahead) in
-    let size : length c.deref.result.now ≡ 512 * sectors_of (puts (take c.min-count.result c.loop-left.pairs)) = ap length c.deref.ensures.value ∙ c.encode_pairs-digest.ensures.sectors in
+    let size : length c.deref.result.now ≡ 512 * body_sectors (puts (take c.min-count.result c.loop-left.pairs)) = ap length c.deref.ensures.value ∙ c.encode_pairs-digest.ensures.sectors in
     let rest = c.encode_pairs-digest.ensures.rest in
     record {
       left = omega (arith, c.loop-left.invariant.left, ap length rest, length-drop c.min-count.result c.loop-left.pairs);
@@ -73,7 +73,7 @@ returns-clause-behind g c keeps =
 pub returns-in_err-write_open_record-clause-alone : goal.returns-in_err-write_open_record-clause-alone
 returns-in_err-write_open_record-clause-alone g c keeps =
     let next = next_set_of c.loop-left.pairs c.min-count.result c.next_payload_len-len.result (c.min-count.ensures ∙ ap (λ (n : ℕ). min n 64) c.loop-left.invariant.left) (omega (arith, c.loop-left.invariant.left, c.loop-left-test.true)) (c.next_payload_len-len.ensures.len ∙ ap (λ (l : KeyMap). payload_size (puts (take c.min-count.result l))) c.loop-left.invariant.ahead) in
-    let size : length c.deref.result.now ≡ 512 * sectors_of (puts (take c.min-count.result c.loop-left.pairs)) = ap length c.deref.ensures.value ∙ c.encode_pairs-digest.ensures.sectors in
+    let size : length c.deref.result.now ≡ 512 * body_sectors (puts (take c.min-count.result c.loop-left.pairs)) = ap length c.deref.ensures.value ∙ c.encode_pairs-digest.ensures.sectors in
     record_within g.D.Sectors _ _ _ _ _ _ _ c.loop-left.invariant.copied c.write_open_record.new.device c.min-count.result c.next_payload_len-len.result (length c.deref.result.now) next size (c.loop-left.invariant.copied.within keeps) (c.write_open_record.ensures.alone keeps)
 
 pub returns-in_err-write-clause-alone : goal.returns-in_err-write-clause-alone

@@ -7,7 +7,7 @@ abbrev pub invariant-records : goal.invariant-records
 invariant-records g l = record {
   size : g.D.Sectors.size l.device ≡ g.D.Sectors.size l.fn.device;
   failures : g.D.Sectors.failures l.device ≡ g.D.Sectors.failures l.fn.device;
-  only_reads : g.D.Sectors.keeps_model → OnlyReads g.D.Sectors.may_read g.D.Sectors.may_leave g.D.Sectors.moment g.D.Sectors.left_since l.fn.device l.device;
+  only_reads : g.D.Sectors.keeps_model → OnlyReads g.D.Sectors l.fn.device l.device;
   in_range : l.gate < l.count;
   counted : l.records ≤ l.gate;
   found : g.D.Sectors.keeps_model → (image : List (List ℕ)) → length image ≡ l.count → ReadsAs (g.D.Sectors.may_read l.fn.device) image → HasRead l.format image l.gate l.records l.digest.bytes l.latest;

@@ -1,7 +1,7 @@
 use Rattle.std.proofs.Common.{◌≡◌, true, false, Some, refl, sym, ap, subst, set, ◌∙◌}
 use Rattle.std.proofs.lemmas.List.{get_or-set_other}
 use Rattle.event_loop.specs.declared.socket.Socket.{Socket}
-use Rattle.event_loop.specs.Lingerings.{Leaves, lingerers_of}
+use Rattle.event_loop.specs.Lingerings.{Leaves, lingers_in}
 use Rattle.model.proofs.Lookups.{some_same}
 use Rattle.event_loop.proofs.Polled.{put_there, there, vacant}
 use Rattle.event_loop.proofs.connections.end_drive_at.Goals as goal
@@ -22,4 +22,4 @@ returns-in-Some-try_remove g c =
     there c.args.now (g.D.Sectors.moment c.args.device.now) c.args.key c.args.table.now.slots c.try_remove.new.self.slots
     (λ other differs. c.try_remove.ensures.updates.others other differs ∙ get_or-set_other c.args.table.now.slots c.args.key other (Some c.end_drive.new.entry) _ differs)
     _ _ c.in-Some.entry.now c.end_drive.new.entry (sym c.in-Some.ensures.value) c.end_drive.ensures.ends true (sym c.if-not-end_drive.false ∙ c.end_drive.ensures.over) c.try_remove.ensures.updates.changed
-    (subst (λ (s : Socket). Leaves c.args.now s (lingerers_of c.args.lingering.now) (lingerers_of c.begin.new.self)) socket c.begin.ensures)
+    (subst (λ (s : Socket). Leaves c.args.now s (lingers_in c.args.lingering.now) (lingers_in c.begin.new.self)) socket c.begin.ensures)

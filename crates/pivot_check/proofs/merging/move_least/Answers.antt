@@ -1,5 +1,6 @@
 use Rattle.std.proofs.Common.{arith}
-use Rattle.pivot_check.proofs.Writers.{lesser_comm, lesser_assoc, least-append}
+use Rattle.pivot_check.specs.Agreeing.{lesser_assoc, least-append}
+use Rattle.pivot_check.proofs.Writers.{lesser_comm}
 use Rattle.pivot_check.proofs.merging.move_least.Goals as goal
 
 pub returns-then-is_in_first-clause-same : goal.returns-then-is_in_first-clause-same

@@ -1,5 +1,5 @@
 use Rattle.std.proofs.Common.{arith}
-use Rattle.pivot_check.proofs.Walks.{pushed}
+use Rattle.pivot_check.proofs.Joined.{pushed}
 use Rattle.pivot_check.proofs.runs.add_run.Goals as goal
 
 pub returns-clause-same : goal.returns-clause-same

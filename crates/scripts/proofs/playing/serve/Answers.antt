@@ -2,6 +2,7 @@ use Rattle.std.proofs.Common.{◌≡◌, ap, subst, ◌∙◌, false, take, min,
 use Rattle.std.proofs.lemmas.List.{take_min}
 use Rattle.sessions.specs.SessionStreams.{Receives, Serves, More, IsPossible, hub_step, stream_of}
 use Rattle.sessions.specs.StandsFor.{StandsFor, room_in}
+use Rattle.sessions.proofs.EventSteps.{room_seen}
 use Rattle.sessions.proofs.Reached.{reached}
 use Rattle.scripts.specs.Transcript.{granted, received}
 use Rattle.scripts.proofs.Steps.{receives_alike, granted_is, not_memory}
@@ -13,7 +14,7 @@ returns-in_default g c h stands =
     let frame = c.args.frame.now in
     let room = room_in (stream_of h s) in
     let came = c.step.ensures.step in
-    let given : c.min-given.result ≡ min room (length frame) = c.min-given.ensures ∙ ap (λ n. min n (length frame)) (c.room.ensures h stands) in
+    let given : c.min-given.result ≡ min room (length frame) = c.min-given.ensures ∙ ap (λ n. min n (length frame)) (c.room.ensures ∙ room_seen _ h stands s) in
     let taken : take c.min-given.result frame ≡ take room frame = ap (λ n. take n frame) given ∙ take_min room frame in
     let same : (hub_step h (Receives s (take c.min-given.result frame)) came.0).0 ≡ received h s frame =
     ap (λ piece. (hub_step h (Receives s piece) came.0).0) taken ∙ ap (λ r. r.0) (receives_alike h s (take room frame) came.0 (granted More false)) in

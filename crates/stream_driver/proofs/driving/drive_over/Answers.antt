@@ -1,17 +1,17 @@
-use Rattle.std.proofs.Common.{inl, inr, ◌≡◌, ◌+◌, ◌<◌, ◌≤◌, length, arith, refl, sym, ap, ◌∙◌, []}
-use Rattle.sessions.specs.declared.events.Status.TheVariants.{Open}
-use Rattle.stream_driver.specs.Sessions.{status_at, pending_at}
-use Rattle.stream_driver.proofs.States.{present_at, leads_none, leads_then, some_after}
+use denote.Struct.Props.{props}
+use Rattle.std.proofs.Common.{inl, inr, ◌≡◌, ◌+◌, ◌<◌, ◌≤◌, length, arith, refl, sym, ap, ◌∙◌}
+use Rattle.sessions.proofs.EventSteps.{pending_seen, status_seen}
+use Rattle.stream_driver.proofs.States.{leads_none, present_in, present_after, seen_after, stands_after}
 use Rattle.stream_driver.proofs.Sends.{tells_map, tells_still, tells_three, tells_two_at}
 use Rattle.stream_driver.proofs.Loops.{again, again_full, driven_none, flushes_out, gone_closed, gone_serving, gone_writing, leaves, out_broke, out_served, waits_to_read, waits_to_write}
 use Rattle.stream_driver.proofs.driving.drive_over.Goals as goal
 
 pub requests-init : goal.requests-init
 requests-init g c =
-    tells_still (leads_none c.args.hub.now c.runs_follow.ensures.none _ (λ h stands. driven_none (present_at c.args.hub.now c.args.s h.hub stands.state _ c.requires (λ k p. p))))
+    tells_still (leads_none c.args.hub.now c.runs_follow.ensures.none _ (λ h stands. driven_none (present_in c.args.s stands.state c.requires.1)))
 
 pub write_out-requires-clause-present : goal.write_out-requires-clause-present
-write_out-requires-clause-present g c = some_after c.args.hub.now c.requests.hub _ _ _ c.requires c.requests.invariant.leads (λ h k before p. p.driven.carried.runs.present)
+write_out-requires-clause-present g c = present_after c.args.s c.args.s c.requires c.requests.invariant.leads (λ h k before p. p.driven.carried.runs.present)
 
 pub returns-in-Blocked : goal.returns-in-Blocked
 returns-in-Blocked g c =
@@ -23,27 +23,29 @@ returns-in-Failed g c =
 
 pub returns-in_default : goal.returns-in_default
 returns-in_default g c =
-    record { driven = leaves c.runs_follow.ensures.follow c.requests.invariant c.depart-in_default.ensures.answer c.in-Empty.ensures.written c.depart-in_default.ensures.left (λ h k l m stands p q r. gone_closed p (omega arith) q (λ e. c.in_default.not-Open (c.status.ensures l.hub stands ∙ e)) r) }
+    record { driven = leaves c.runs_follow.ensures.follow c.requests.invariant c.depart-in_default.ensures.answer c.in-Empty.ensures.written c.depart-in_default.ensures.left (λ h k l m stands p q r. gone_closed p (omega arith) q (λ e. c.in_default.not-Open (c.status.ensures ∙ status_seen _ _ stands c.args.s ∙ e)) r) }
 
 pub serve_one-requires : goal.serve_one-requires
 serve_one-requires g c =
-    some_after c.args.hub.now c.write_out.new.hub _ _ _ c.requires
-    (leads_then c.runs_follow.ensures.follow c.args.hub.now c.requests.hub c.write_out.new.hub _ _ (λ h l. (status_at l.hub c.args.s ≡ Open) × (pending_at l.hub c.args.s ≡ [])) c.requests.invariant.leads c.in-Empty.ensures.written.leads
-    (λ h k l stands p q. (sym (c.in-Open.ensures l.hub stands), q.why.1)))
-    (λ h l before r. r)
+    let some = stands_after c.requires.0 c.requests.invariant.leads in
+    record {
+      stands = stands_after some c.in-Empty.ensures.written.leads;
+      opened = sym c.in-Open.ensures;
+      nothing = seen_after (hlevel props) some c.in-Empty.ensures.written.leads (λ k l was stands q. pending_seen _ _ stands c.args.s ∙ q.why.1);
+    }
 
 pub returns-in-Blocked-serve_one : goal.returns-in-Blocked-serve_one
 returns-in-Blocked-serve_one g c =
     let room : c.saturating_add-sent.result < 262144 = omega (arith, c.if-sent-ge-OUTPUT_MAX.false) in
     let total : c.saturating_add-sent.result ≡ c.requests.sent + length c.pending-owed.result.now = omega (arith, c.saturating_add-sent.ensures) in
-    let flushed = flushes_out c.runs_follow.ensures.follow c.requests.invariant (λ h stands. ap length (c.pending-owed.ensures.bytes h stands)) total c.in-Empty.ensures.written in
+    let flushed = flushes_out c.runs_follow.ensures.follow c.requests.invariant (ap length c.pending-owed.ensures.bytes) total c.in-Empty.ensures.written in
     record { driven = tells_two_at c.runs_follow.ensures.follow flushed c.in-Blocked-serve_one.ensures.served (λ h l p. p.0.driven.carried) (λ h l m was stands p r. waits_to_read p room (omega arith) r) }
 
 pub returns-in_default-serve_one : goal.returns-in_default-serve_one
 returns-in_default-serve_one g c =
     let room : c.saturating_add-sent.result < 262144 = omega (arith, c.if-sent-ge-OUTPUT_MAX.false) in
     let total : c.saturating_add-sent.result ≡ c.requests.sent + length c.pending-owed.result.now = omega (arith, c.saturating_add-sent.ensures) in
-    let flushed = flushes_out c.runs_follow.ensures.follow c.requests.invariant (λ h stands. ap length (c.pending-owed.ensures.bytes h stands)) total c.in-Empty.ensures.written in
+    let flushed = flushes_out c.runs_follow.ensures.follow c.requests.invariant (ap length c.pending-owed.ensures.bytes) total c.in-Empty.ensures.written in
     record {
       driven =
           rw c.depart-in_default-serve_one.ensures.answer
@@ -53,7 +55,7 @@ returns-in_default-serve_one g c =
     }
 
 pub write_out-requires-2-clause-present : goal.write_out-requires-2-clause-present
-write_out-requires-2-clause-present g c = some_after c.args.hub.now c.requests.hub _ _ _ c.requires c.requests.invariant.leads (λ h k before p. p.driven.carried.runs.present)
+write_out-requires-2-clause-present g c = present_after c.args.s c.args.s c.requires c.requests.invariant.leads (λ h k before p. p.driven.carried.runs.present)
 
 pub returns-in-Blocked-write_out : goal.returns-in-Blocked-write_out
 returns-in-Blocked-write_out g c =
@@ -65,24 +67,24 @@ returns-in-Failed-write_out g c =
 
 pub returns-in-Open-status : goal.returns-in-Open-status
 returns-in-Open-status g c =
-    record { driven = tells_two_at c.runs_follow.ensures.follow c.requests.invariant c.in-Empty-write_out.ensures.written (λ h k p. p.driven.carried) (λ h k l was stands p q. again p (omega arith) q (sym (c.in-Open-status.ensures l.hub stands))) }
+    record { driven = tells_two_at c.runs_follow.ensures.follow c.requests.invariant c.in-Empty-write_out.ensures.written (λ h k p. p.driven.carried) (λ h k l was stands p q. again p (omega arith) q (sym (c.in-Open-status.ensures ∙ status_seen _ _ stands c.args.s))) }
 
 pub returns-in_default-status : goal.returns-in_default-status
 returns-in_default-status g c =
-    record { driven = leaves c.runs_follow.ensures.follow c.requests.invariant c.depart-in_default-status.ensures.answer c.in-Empty-write_out.ensures.written c.depart-in_default-status.ensures.left (λ h k l m stands p q r. gone_closed p (omega arith) q (λ e. c.in_default-status.not-Open (c.status-2.ensures l.hub stands ∙ e)) r) }
+    record { driven = leaves c.runs_follow.ensures.follow c.requests.invariant c.depart-in_default-status.ensures.answer c.in-Empty-write_out.ensures.written c.depart-in_default-status.ensures.left (λ h k l m stands p q r. gone_closed p (omega arith) q (λ e. c.in_default-status.not-Open (c.status-2.ensures ∙ status_seen _ _ stands c.args.s ∙ e)) r) }
 
 pub requests-preserved : goal.requests-preserved
 requests-preserved g c =
     let room : c.saturating_add-sent.result < 262144 = omega (arith, c.if-sent-ge-OUTPUT_MAX.false) in
     let total : c.saturating_add-sent.result ≡ c.requests.sent + length c.pending-owed.result.now = omega (arith, c.saturating_add-sent.ensures) in
-    let flushed = flushes_out c.runs_follow.ensures.follow c.requests.invariant (λ h stands. ap length (c.pending-owed.ensures.bytes h stands)) total c.in-Empty.ensures.written in
+    let flushed = flushes_out c.runs_follow.ensures.follow c.requests.invariant (ap length c.pending-owed.ensures.bytes) total c.in-Empty.ensures.written in
     elim c.in-Served.is [
-      | inl e ↦ tells_two_at c.runs_follow.ensures.follow flushed (rw e at c.serve_one.ensures.served) (λ h l p. p.0.driven.carried) (λ h l m stands last p r. out_served p room (sym (c.in-Open.ensures l.hub stands)) r)
+      | inl e ↦ tells_two_at c.runs_follow.ensures.follow flushed (rw e at c.serve_one.ensures.served) (λ h l p. p.0.driven.carried) (λ h l m stands last p r. out_served p room (sym (c.in-Open.ensures ∙ status_seen _ _ stands c.args.s)) r)
       | inr e ↦ tells_two_at c.runs_follow.ensures.follow flushed (rw e at c.serve_one.ensures.served) (λ h l p. p.0.driven.carried) (λ h l m stands last p r. out_broke p room r)
     ]
 
 pub returns-then-sent-ge-OUTPUT_MAX : goal.returns-then-sent-ge-OUTPUT_MAX
 returns-then-sent-ge-OUTPUT_MAX g c =
     let enough : 262144 ≤ c.requests.sent + length c.pending-owed.result.now = omega (arith, c.saturating_add-sent.ensures, c.if-sent-ge-OUTPUT_MAX.true) in
-    let flushed = flushes_out c.runs_follow.ensures.follow c.requests.invariant (λ h stands. ap length (c.pending-owed.ensures.bytes h stands)) refl c.in-Empty.ensures.written in
-    record { driven = tells_map flushed (λ h l stands p. again_full p (omega arith) enough (sym (c.in-Open.ensures l.hub stands))) }
+    let flushed = flushes_out c.runs_follow.ensures.follow c.requests.invariant (ap length c.pending-owed.ensures.bytes) refl c.in-Empty.ensures.written in
+    record { driven = tells_map flushed (λ h l stands p. again_full p (omega arith) enough (sym (c.in-Open.ensures ∙ status_seen _ _ stands c.args.s))) }

@@ -1,29 +1,27 @@
-use Rattle.std.proofs.Common.{◌≡◌, ◌≤◌, ◌∙◌, sym, arith}
+use Rattle.std.proofs.Common.{◌≡◌, ◌∙◌, length, sym, ap, arith}
 use Rattle.std.proofs.lemmas.List.{nil_from_length}
-use Rattle.stream_driver.proofs.States.{present_at, leads_none, some_after, le_after}
+use Rattle.sessions.proofs.EventSteps.{pending_seen}
+use Rattle.stream_driver.proofs.States.{leads_none, present_in, present_after}
 use Rattle.stream_driver.proofs.Sends.{tells_map, tells_still, tells_two_at}
-use Rattle.stream_driver.proofs.Loops.{written_none, written_then, written_stopped}
+use Rattle.stream_driver.proofs.Loops.{owed_now, written_none, written_then, written_stopped}
 use Rattle.stream_driver.proofs.driving.write_out.Goals as goal
 
 pub loop-owed-init : goal.loop-owed-init
 loop-owed-init g c =
     tells_still (leads_none c.args.hub.now c.runs_follow.ensures.none _
-    (λ h stands. written_none (present_at c.args.hub.now c.args.s h.hub stands.state _ c.requires.present (λ k p. p)) (c.requires.pending h.hub stands.state)))
+    (λ h stands. written_none (present_in c.args.s stands.state c.requires.present.1) (c.requires.pending ∙ ap length (pending_seen c.args.hub.now h.hub stands.state c.args.s))))
 
 pub write_some-requires : goal.write_some-requires
-write_some-requires g c =
-    some_after c.args.hub.now c.loop-owed.hub _ _ _ c.requires.present c.loop-owed.invariant.leads
-    (λ h k before p. (p.moves.carried.runs.present, (let owed = p.owed_is in let some = c.loop-owed-test.true in omega arith)))
+write_some-requires g c = record {
+  present = (present_after c.args.s c.args.s c.requires.present c.loop-owed.invariant.leads (λ h k before p. p.moves.carried.runs.present)).1;
+  some = (let owed = owed_now c.requires.present.0 c.loop-owed.invariant in let some = c.loop-owed-test.true in omega arith);
+}
 
 pub overflow_sub-owed : goal.overflow_sub-owed
-overflow_sub-owed g c =
-    le_after c.runs_follow.ensures.follow c.requires.present c.loop-owed.invariant.leads c.in-Moved.ensures.written.leads (λ h k l stands p q. (let owed = p.owed_is in let left = q.why.1 in omega arith))
+overflow_sub-owed g c = let owed = owed_now c.requires.present.0 c.loop-owed.invariant in let within = c.in-Moved.ensures.within.1 in omega arith
 
 pub loop-owed-smaller : goal.loop-owed-smaller
-loop-owed-smaller g c =
-    let some : 1 ≤ c.in-Moved.n = le_after c.runs_follow.ensures.follow c.requires.present c.loop-owed.invariant.leads c.in-Moved.ensures.written.leads (λ h k l stands p q. q.why.0) in
-    let owes = c.loop-owed-test.true in
-    omega arith
+loop-owed-smaller g c = let some = c.in-Moved.ensures.within.0 in let owes = c.loop-owed-test.true in omega arith
 
 pub loop-owed-preserved : goal.loop-owed-preserved
 loop-owed-preserved g c =

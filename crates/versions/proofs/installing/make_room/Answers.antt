@@ -1,18 +1,20 @@
-use Rattle.std.proofs.Common.{sym, subst, ◌∙◌}
-use Rattle.sorted_pages.specs.Pages.{entries, room_at}
-use Rattle.versions.specs.Chains.{Chains, HasPlace, IsRoomier, find_chain}
-use Rattle.versions.proofs.Stores.{roomier-refl, find-roomier, place-found, on_ok, present}
+use Rattle.std.proofs.Common.{arith, sym}
+use Rattle.std.proofs.lemmas.Grind.{common_steps}
+use Rattle.sorted_pages.specs.Pages.{entries}
+use Rattle.versions.proofs.Stores.{roomier-refl, roomier-put, find-put_itself, on_ok}
 use Rattle.versions.proofs.installing.make_room.Goals as goal
 
-pub returns-then-is_some-clause-place : goal.returns-then-is_some-clause-place
-returns-then-is_some-clause-place c =
-    let k = c.args.key.bytes.now in
-    let old = find_chain k (entries c.args.chains.now) in
-    let new = find_chain k (entries c.widen.new.chains) in
-    on_ok c.widen.result (HasPlace c.args.n (room_at k c.widen.new.chains) new)
-    (place-found c.args.n (room_at k c.widen.new.chains) old new (find-roomier k (entries c.args.chains.now) (entries c.widen.new.chains) c.widen.ensures.chains) (present c.get.result old c.get.ensures (sym c.is_some.ensures ∙ c.if-is_some.true)))
+pub returns-in-Some-clause-chains : goal.returns-in-Some-clause-chains
+returns-in-Some-clause-chains c =
+    let is = c.reserve.ensures in
+    rw (c.in-Some.ensures.put c.reserve.new.self)
+    (roomier-put c.args.key.bytes.now c.in-Some.chain.now c.reserve.new.self (entries c.args.chains.now) c.requires (sym c.in-Some.ensures.value) (record { older = is.older; newest = is.newest; room = is.room }))
 
-pub returns-else-is_some-clause-chains : goal.returns-else-is_some-clause-chains
-returns-else-is_some-clause-chains c =
-    let es = entries c.args.chains.now in
-    subst (λ (l : Chains). IsRoomier es l) (sym c.reserve.ensures.entries) (roomier-refl es)
+pub returns-in-Some-clause-room : goal.returns-in-Some-clause-room
+returns-in-Some-clause-room c = rw (c.in-Some.ensures.put c.reserve.new.self, find-put_itself) c.reserve.ensures.made
+
+pub returns-in-Some-clause-place : goal.returns-in-Some-clause-place
+returns-in-Some-clause-place c = grind (arith, common_steps, c.in-Some.ensures.put c.reserve.new.self, find-put_itself, on_ok)
+
+pub returns-in-None-clause-chains : goal.returns-in-None-clause-chains
+returns-in-None-clause-chains c = rw c.reserve-in-None.ensures.entries (roomier-refl (entries c.args.chains.now))

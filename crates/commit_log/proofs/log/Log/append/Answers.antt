@@ -1,10 +1,10 @@
 use Rattle.std.proofs.Common.{◌∙◌, refl, arith}
-use Rattle.commit_log.proofs.Encoding.{payload_size_is, machine_sectors, sectors_of_is}
+use Rattle.commit_log.proofs.Encoding.{payload_size_is, body_sectors_is}
 use Rattle.commit_log.proofs.Protocol.{no_room_if}
 use Rattle.commit_log.proofs.log.Log.append.Goals as goal
 
 pub returns-then-not-room-clause-full : goal.returns-then-not-room-clause-full
 returns-then-not-room-clause-full g c =
-    let is = sectors_of_is c.args.writes.now c.payload_len-len.result (c.payload_len-len.ensures.len ∙ payload_size_is c.args.writes.now) in
+    let is = body_sectors_is c.args.writes.now c.payload_len-len.result (c.payload_len-len.ensures.len ∙ payload_size_is c.args.writes.now) in
     let no = no_room_if _ _ _ c.room.ensures c.if-not-room.true in
-    ((λ _. (c.if-self.false, omega (arith, is, no, machine_sectors c.args.writes.now))), (λ _. refl))
+    ((λ _. (c.if-self.false, omega (arith, is, no))), (λ _. refl))

@@ -2,7 +2,7 @@ use Rattle.std.proofs.Common.{◌≤◌, length, ap, refl, arith}
 use Rattle.model.specs.Bounds.{value_max, payload_bound}
 use Rattle.commit_log.specs.Format.{current}
 use Rattle.commit_log.specs.RecordFormat.{payload_bytes}
-use Rattle.commit_log.proofs.Encoding.{payload_size_is, machine_sectors, length-payload_le}
+use Rattle.commit_log.proofs.Encoding.{payload_size_is, length-payload_le}
 use Rattle.commit_log.proofs.Protocol.{next_record, stands_after}
 use Rattle.commit_log.proofs.log.Log.append_in_room.Goals as goal
 
@@ -13,11 +13,11 @@ encode-requires-clause-bound g c =
 
 pub write_record-requires-clause-room : goal.write_record-requires-clause-room
 write_record-requires-clause-room g c =
-    omega (arith, machine_sectors c.args.writes.now, c.requires.room, ap length c.deref.ensures.value, c.in_ok-body.ensures.sectors)
+    omega (arith, c.requires.room, ap length c.deref.ensures.value, c.in_ok-body.ensures.sectors)
 
 pub write_record-requires-clause-fits : goal.write_record-requires-clause-fits
 write_record-requires-clause-fits g c =
-    omega (arith, machine_sectors c.args.writes.now, c.requires.room, ap length c.deref.ensures.value, c.in_ok-body.ensures.sectors, c.args.self.now.fits)
+    omega (arith, c.requires.room, ap length c.deref.ensures.value, c.in_ok-body.ensures.sectors, c.args.self.now.fits)
 
 pub returns-in-Err-clause-any_moment : goal.returns-in-Err-clause-any_moment
 returns-in-Err-clause-any_moment g c keeps lists stands =
@@ -26,11 +26,11 @@ returns-in-Err-clause-any_moment g c keeps lists stands =
 
 pub overflow_add-self-in-Ok : goal.overflow_add-self-in-Ok
 overflow_add-self-in-Ok g c =
-    omega (arith, machine_sectors c.args.writes.now, c.requires.room, c.len.ensures, c.in_ok-body.body.ok.0, c.in_ok-body.ensures.sectors, c.args.self.now.fits)
+    omega (arith, c.requires.room, c.len.ensures, c.in_ok-body.body.ok.0, c.in_ok-body.ensures.sectors, c.args.self.now.fits)
 
 pub invariant_of-self-in-Ok : goal.invariant_of-self-in-Ok
 invariant_of-self-in-Ok g c = record {
-  in_range = omega (arith, machine_sectors c.args.writes.now, c.requires.room, c.len.ensures, c.in_ok-body.body.ok.0, c.in_ok-body.ensures.sectors, c.write_record.ensures.size);
+  in_range = omega (arith, c.requires.room, c.len.ensures, c.in_ok-body.body.ok.0, c.in_ok-body.ensures.sectors, c.write_record.ensures.size);
   fits = omega (arith, c.args.self.now.fits, c.write_record.ensures.size);
   counted = omega (arith, c.args.self.now.counted);
 }
@@ -58,4 +58,4 @@ returns-clause-left g c keeps lists stands =
 
 pub returns-clause-used : goal.returns-clause-used
 returns-clause-used g c =
-    omega (arith, c.len.ensures, c.in_ok-body.body.ok.0, c.in_ok-body.ensures.sectors, machine_sectors c.args.writes.now)
+    omega (arith, c.len.ensures, c.in_ok-body.body.ok.0, c.in_ok-body.ensures.sectors)

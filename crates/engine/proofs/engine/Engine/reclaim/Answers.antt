@@ -1,6 +1,6 @@
 use Rattle.std.proofs.lemmas.Grind.{common_steps}
-use Rattle.std.proofs.Common.{◌≡◌, ◌≤◌, ◌+◌, ◌&&◌, ℕ, Bool, true, false, List, [], ◌∷◌, refl, ap, sym, subst, ◌∙◌, length, arith, rules, map}
-use Rattle.std.specs.Prelude.{max, nat_lt, ◌==◌}
+use Rattle.std.proofs.Common.{◌≡◌, ◌≤◌, ◌&&◌, ℕ, Bool, true, false, List, [], ◌∷◌, refl, ap, sym, subst, ◌∙◌, length, arith, rules, map}
+use Rattle.std.specs.Prelude.{max, ◌==◌}
 use Rattle.std.specs.List.{AllByRecursion}
 use Rattle.std.specs.BTreeMap.{values}
 use Rattle.std.specs.Map.{values_of}
@@ -10,15 +10,16 @@ use Rattle.std.proofs.lemmas.List.{nil_from_length}
 use Rattle.std.proofs.lemmas.List.Elements.{All-from_recursion, recursion_from_All}
 use Rattle.model.specs.Map.{KeyMap}
 use Rattle.model.specs.History.{Record}
-use Rattle.model.specs.Machine.{State, Running, last}
-use Rattle.versions.specs.Meaning.{is_among, IsReclaimed, due_of}
+use Rattle.model.specs.Machine.{State, Running}
+use Rattle.versions.specs.Meaning.{is_among, IsReclaimed}
 use Rattle.snapshot.specs.View.{View}
-use Rattle.pivot_check.specs.Kept.{CommittedValue, Facts, HasForgotten, runs_due}
+use Rattle.pivot_check.specs.Kept.{CommittedValue, Facts, HasForgotten}
 use Rattle.sector.specs.declared.device.Sectors.{Ghosts}
-use Rattle.engine.specs.HistoryValue.{HistoryValue, HistoryStandsFor}
+use Rattle.engine.specs.HistoryValue.{HistoryValue, KeepsHeld, is_due}
 use Rattle.engine.specs.declared.engine.Engine.{Engine}
 use Rattle.engine.specs.StandsFor.{StandsFor, AreRunning}
 use Rattle.engine.specs.Least.{IsLeast}
+use Rattle.engine.specs.Meaning.{open_begins, HasForgottenOld}
 use Rattle.engine.proofs.engine.Engine.reclaim.Goals as goal
 
 abbrev begins_of : List (ℕ × View) → List ℕ
@@ -51,8 +52,7 @@ module _ (facts : Facts) (held : ℕ → Bool) (base : KeyMap) (history : List R
 
 module _ {D : Type 0} {g : Ghosts D} (e : Engine D g) (new : HistoryValue) (oldest : ℕ) (bs : List ℕ) (least : IsLeast (λ t. t.begin) e.history.committed.facts.last (values e.running) oldest)
     (numbers : length e.running.entries ≤ 64 → bs ≡ begins_of e.running.entries) where
-  reclaimed_stands : ((held : ℕ → Bool) (base : KeyMap) (history : List Record) → HistoryStandsFor e.history held base history → HistoryStandsFor new (λ n. held n && is_among bs n) base history)
-      → new.committed.facts.last ≡ e.history.committed.facts.last → new.committed.facts.oldest ≡ max e.history.committed.facts.oldest oldest → (m : State) → StandsFor e m → StandsFor (record e { history = new }) m
+  reclaimed_stands : KeepsHeld e.history new bs → new.committed.facts.last ≡ e.history.committed.facts.last → new.committed.facts.oldest ≡ max e.history.committed.facts.oldest oldest → (m : State) → StandsFor e m → StandsFor (record e { history = new }) m
   reclaimed_stands stands l o m h =
       let is = h.history.committed.last in let kept = h.kept in let below = least.below_last in
       let after = stands h.held m.base m.history h.history in
@@ -60,14 +60,14 @@ module _ {D : Type 0} {g : Ghosts D} (e : Engine D g) (new : HistoryValue) (olde
       (recursion_from_All (λ t. oldest ≤ t.begin) (values e.running) least.below) (λ n t. subst (λ ns. is_among ns n ≡ true) (sym (numbers h.few_open)) t) h.running in
       grind (arith, common_steps)
 
-  numbers_are : (m : State) → StandsFor e m → bs ≡ map (λ r. r.1.begin) m.running
+  numbers_are : (m : State) → StandsFor e m → bs ≡ open_begins m
   numbers_are m h = numbers h.few_open ∙ begins_same e.history.committed.facts h.held m.base m.history e.running.entries m.running h.running
 
   are_held : (m : State) → (h : StandsFor e m) → (n : ℕ) → is_among bs n ≡ true → h.held n ≡ true
   are_held m h n t = begins_held e.history.committed.facts h.held m.base m.history e.running.entries m.running h.running n (subst (λ ns. is_among ns n ≡ true) (numbers h.few_open) t)
 
-  none_below : (m : State) → StandsFor e m → (n : ℕ) → n ≤ last m → AllByRecursion (λ r. n ≤ r.1.begin) m.running → (facts : Facts) → HasForgotten oldest facts → HasForgotten n facts
-  none_below m h n low each facts forgotten =
+  none_below : (m : State) → StandsFor e m → (facts : Facts) → HasForgotten oldest facts → HasForgottenOld m facts
+  none_below m h facts forgotten n low each =
       let is = h.history.committed.last in
       let below : n ≤ oldest = least.greatest n (omega (arith, is)) (All-from_recursion (λ t. n ≤ t.begin) (values e.running) (begins_low e.history.committed.facts h.held m.base m.history n e.running.entries m.running h.running each)) in
       let upto = forgotten.upto in
@@ -88,10 +88,10 @@ returns g c =
     record {
       keeps = reclaimed_stands e new oldest _ least c.gather_begins-count.ensures.numbers c.reclaim-2.ensures.stands c.reclaim-2.ensures.last c.reclaim-2.ensures.oldest;
       versions = λ m h. subst (IsReclaimed e.history.versions new.versions) (numbers m h) c.reclaim-2.ensures.reclaimed;
-      still = λ m h. subst (λ ns. c.reclaim-2.result ≡ nat_lt 0 (due_of ns new.versions + runs_due new.committed)) (numbers m h) c.reclaim-2.ensures.still;
+      still = λ m h. subst (λ ns. c.reclaim-2.result ≡ is_due ns new) (numbers m h) c.reclaim-2.ensures.still;
       unmixed = λ m h. c.reclaim-2.ensures.unmixed h.held m.base m.history h.history (are_held e new oldest _ least c.gather_begins-count.ensures.numbers m h);
       given_back = search rules;
-      forgotten = λ m h n low each. none_below e new oldest _ least c.gather_begins-count.ensures.numbers m h n low each new.committed.facts c.reclaim-2.ensures.forgotten;
+      forgotten = λ m h. none_below e new oldest _ least c.gather_begins-count.ensures.numbers m h new.committed.facts c.reclaim-2.ensures.forgotten;
       device = search rules;
       stopped = search rules;
     }

@@ -8,8 +8,7 @@ use Rattle.versions.specs.StandsFor.{StandsFor as VersionsStandFor}
 use Rattle.pivot_check.specs.Kept.{IsInReach}
 use Rattle.pivot_check.specs.StandsFor.{StandsFor as CommittedStandsFor, IsRecordOf, IsClear}
 use Rattle.snapshot.specs.View.{View}
-use Rattle.engine.specs.HistoryValue.{HistoryValue}
-use Rattle.engine.proofs.Committing.{Joins}
+use Rattle.engine.specs.HistoryValue.{HistoryValue, Joins}
 use Rattle.engine.proofs.history.History.join.Goals as goal
 
 next_joined : (old new : HistoryValue) (t : View) (ws : List KeyWrite) (n : ℕ) → n ≡ old.committed.facts.last + 1 → ws ≡ t.writes

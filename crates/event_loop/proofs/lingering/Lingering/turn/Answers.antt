@@ -1,5 +1,5 @@
 use Rattle.std.proofs.Common.{◌≡◌, ◌||◌, ◌∙◌, rules, refl, sym, ap, subst}
-use Rattle.event_loop.specs.Lingerings.{AllTurned, lingerers_of}
+use Rattle.event_loop.specs.Lingerings.{AllTurned, lingers_in}
 use Rattle.event_loop.proofs.Turned.{all_turned, none_turned, one_turned}
 use Rattle.event_loop.proofs.lingering.Lingering.turn.Goals as goal
 use Rattle.event_loop.proofs.lingering.Lingering.turn.Goals.{then-is_told, else-is_told}
@@ -16,7 +16,7 @@ returns g c =
       | then-is_told w ↦ w.reads-is ∙ w.if-is_told.true ∙ sym (ap (λ b. b || c.args.self.now.has_more) w.if-is_told.true)
       | else-is_told w ↦ w.reads-is ∙ sym (ap (λ b. b || c.args.self.now.has_more) w.if-is_told.false)
     ] in
-    let all = lingerers_of c.loop.self in record {
+    let all = lingers_in c.loop.self in record {
       turned = subst (λ b. AllTurned c.args.now (g.D.Sectors.moment c.args.device.now) b c.args.self.now.queue.items all.all all.has_more) reads (all_turned c.args.now (g.D.Sectors.moment c.args.device.now) c.if-is_told.reads _ _ all c.loop.counter (search rules) c.loop.invariant);
       refused = c.loop.invariant.refused_is;
     }

@@ -1,6 +1,6 @@
 use Rattle.std.proofs.Common.{◌∙◌, refl, sym, subst}
 use Rattle.mio.specs.Events.{items}
-use Rattle.event_loop.specs.Lingerings.{lingerers_of}
+use Rattle.event_loop.specs.Lingerings.{lingers_in}
 use Rattle.event_loop.specs.Turns.{Accepted}
 use Rattle.event_loop.proofs.OneTurn.{none_closed}
 use Rattle.event_loop.proofs.server.EventLoop.accept_told.Goals as goal
@@ -15,4 +15,4 @@ returns-else-accepts_now-clause-accepts g c =
 
 pub returns-else-accepts_now-clause-lingerers : goal.returns-else-accepts_now-clause-lingerers
 returns-else-accepts_now-clause-lingerers g c =
-    none_closed c.args.self.now.backlog (items c.args.self.now.poller.events) (lingerers_of c.args.self.now.lingering) (sym c.accepts_now.ensures ∙ c.if-accepts_now.false)
+    none_closed c.args.self.now.backlog (items c.args.self.now.poller.events) (lingers_in c.args.self.now.lingering) (sym c.accepts_now.ensures ∙ c.if-accepts_now.false)

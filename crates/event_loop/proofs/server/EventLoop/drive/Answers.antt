@@ -1,10 +1,10 @@
 use Rattle.std.proofs.Common.{ap, ◌∙◌}
 use Rattle.mio.specs.Events.{items}
-use Rattle.stream_driver.proofs.States.{leads_map}
+use Rattle.stream_driver.proofs.States.{leads_map, stands_after}
 use Rattle.event_loop.proofs.Departing.{drives_serve}
 use Rattle.event_loop.specs.contracts.socket.SocketStream.TheImpl.{ghosts}
 use Rattle.event_loop.specs.Tables.{after_poll, slot_at}
-use Rattle.event_loop.proofs.Tables.{below_after, stands_after}
+use Rattle.event_loop.proofs.Tables.{below_after}
 use Rattle.event_loop.proofs.Entries.{driven_entries, ended_entries, ended_remain, polled_entries, polled_remain, polled_sessions, remain_numbers, remain_sessions}
 use Rattle.event_loop.proofs.TableBytes.{drives_bytes}
 use Rattle.event_loop.proofs.server.EventLoop.drive.Goals as goal
@@ -24,7 +24,7 @@ invariant_of-self g c =
     let ended = c.end_drives.ensures.ended in
     record {
       room = old.room;
-      stands = stands_after old.hub later _ old.stands c.drive_ready.ensures.driven.leads;
+      stands = stands_after old.stands c.drive_ready.ensures.driven.leads;
       serving = drives_serve old.hub later old.table.slots new events (record { ready = ready; told = polled; driven = driven; drives = c.drive_ready.ensures.driven; ended = rw c.device.ensures at ended })
           old.sessions c.args.now _ _ (rw c.device.ensures at c.end_drives.ensures.left) old.serving;
       sessions = remain_sessions later driven new (ended_remain driven new ghosts.tells ghosts.traffic _ ended) c.drive_ready.ensures.sessions;

@@ -1,15 +1,23 @@
-use Rattle.std.proofs.Math.Logic.{∥∥₁_map}
+use denote.Struct.Props.{props}
+use Rattle.std.proofs.Common.{ap, subst, sym, ◌∙◌}
+use Rattle.sessions.proofs.EventSteps.{status_seen}
+use Rattle.stream_driver.proofs.States.{present_after, seen_after, stands_after}
 use Rattle.event_loop.proofs.Departing.{rest_serves}
-use Rattle.event_loop.proofs.Entries.{absent_in_each}
-use Rattle.event_loop.proofs.WholeTurns.{in_some}
+use Rattle.event_loop.proofs.WholeTurns.{leads_rest}
+use Rattle.event_loop.proofs.Words.{IsPresentIn, Point, status_at}
 use Rattle.event_loop.proofs.server.EventLoop.give_back.Goals as goal
 
 pub invariant_of-self : goal.invariant_of-self
-invariant_of-self g c = let old = c.args.self.now in record {
-  room = old.room;
-  stands = in_some old.hub c.reclaim-self.new.self c.reclaim-self.ensures.ran _ old.stands;
-  serving = rest_serves old.hub c.reclaim-self.new.self c.reclaim-self.ensures.ran old.table.slots old.lingering.queue.items old.serving;
-  sessions = record { present = λ key entry e alive. in_some old.hub c.reclaim-self.new.self c.reclaim-self.ensures.ran _ (old.sessions.present key entry e alive); own = old.sessions.own };
-  entries = λ k stands s without. absent_in_each c.reclaim-self.new.self s (∥∥₁_map old.stands (λ w. (w.0, c.reclaim-self.ensures.ran.2.stands w.0 w.1, old.entries w.0 w.1 s without))) k stands;
-  numbers = old.numbers;
-}
+invariant_of-self g c =
+    let old = c.args.self.now in
+    let new = c.reclaim-self.new.self in
+    let rests = leads_rest c.reclaim-self.ensures.ran in
+    record {
+      room = old.room;
+      stands = stands_after old.stands rests;
+      serving = rest_serves old.hub new c.reclaim-self.ensures.ran old.table.slots old.lingering.queue.items old.serving;
+      sessions = record { present = λ key entry e alive. present_after entry.session entry.session (old.sessions.present key entry e alive) rests (λ h k p same. subst (λ (q : Point). IsPresentIn q.hub entry.session) (sym same) p); own = old.sessions.own };
+      entries = λ s without.
+          seen_after (hlevel props) old.stands rests (λ h k was stands same. status_seen new k.hub stands s ∙ ap (λ (q : Point). status_at q.hub s) same ∙ sym (status_seen old.hub h.hub was s) ∙ old.entries s without);
+      numbers = old.numbers;
+    }

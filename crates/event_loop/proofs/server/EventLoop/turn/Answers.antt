@@ -4,7 +4,7 @@ use Rattle.mio.specs.Events.{items}
 use Rattle.event_loop.specs.declared.polling.Poller.{Poller}
 use Rattle.event_loop.specs.contracts.socket.SocketStream.TheImpl.{ghosts}
 use Rattle.event_loop.specs.declared.connections.TheConstants.{LINGERER}
-use Rattle.event_loop.specs.Lingerings.{lingerers_of}
+use Rattle.event_loop.specs.Lingerings.{lingers_in}
 use Rattle.event_loop.specs.Turns.{accepts_now, is_told_of}
 use Rattle.event_loop.specs.Waits.{nanos_of}
 use Rattle.event_loop.proofs.Departing.{is_served, turns_serve, keeps_what_leaves}
@@ -15,7 +15,7 @@ use Rattle.event_loop.proofs.server.EventLoop.turn.Goals as goal
 pub invariant_of-self-4-clause-serving : goal.invariant_of-self-4-clause-serving
 invariant_of-self-4-clause-serving g c =
     turns_serve c.drive.new.self.hub c.drive.new.self.table.slots (g.D.Sectors.moment c.device.result.now) (ap (λ d. g.D.Sectors.moment d) c.device.ensures) c.time-now.result c.is_told-comes_more.result
-    (lingerers_of c.drive.new.self.lingering) (lingerers_of c.turn.new.self) c.turn.ensures c.drive.new.self.serving
+    (lingers_in c.drive.new.self.lingering) (lingers_in c.turn.new.self) c.turn.ensures c.drive.new.self.serving
 
 pub returns-clause-turned : goal.returns-clause-turned
 returns-clause-turned g c =
@@ -25,7 +25,7 @@ returns-clause-turned g c =
     turned_by ghosts.tells ghosts.traffic c.args.self.now _ c.accept_told.new.self c.give_back.new.self c.drive.ensures.next c.drive.ensures.port c.drive.ensures.backlog
     c.drive.ensures.refused c.accept_told.ensures.lingerers c.give_back.ensures.gives_back c.look-2.new.self (c.give_back.ensures.poller ∙ c.accept_told.ensures.poller ∙ c.drive.ensures.poller) _ due c.time-now.result c.time-now.ensures
     c.is_told-comes_more.result (c.is_told-comes_more.ensures ∙ ap (λ (p : Poller). is_told_of LINGERER (items p.events)) c.drive.ensures.poller) c.drive.ensures.drives.0
-    (record { begun = lingerers_of c.drive.new.self.lingering; left = c.drive.ensures.drives.1; turned = rw c.device.ensures at c.turn.ensures }) c.accept_told.ensures.accepts
+    (record { begun = lingers_in c.drive.new.self.lingering; left = c.drive.ensures.drives.1; turned = rw c.device.ensures at c.turn.ensures }) c.accept_told.ensures.accepts
     (rest_leads c.runs_follow.ensures.follow c.args.self.now.hub c.accept_told.new.self c.give_back.new.self c.give_back.ensures.gives_back _
     (then_accepts c.runs_follow.ensures.follow c.args.self.now.hub _ c.accept_told.new.self _ c.drive.ensures.drives.0.drives.leads _ c.accept_told.ensures.accepts))
 

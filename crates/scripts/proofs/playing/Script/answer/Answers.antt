@@ -1,12 +1,14 @@
-use Rattle.std.proofs.Common.{◌≡◌, refl, sym, ap, subst, ◌∙◌, length, false, ◌++◌}
+use Rattle.std.proofs.Common.{◌≡◌, ℕ, [], refl, sym, ap, subst, ◌∙◌, length, false, ◌++◌, rules}
 use Rattle.std.specs.Prelude.{IsErrAnd}
 use Rattle.std.specs.Io.KnownBytes.{Appends}
 use Rattle.model.specs.Map.{Bytes}
+use Rattle.sessions.specs.declared.events.Status.{Status}
 use Rattle.sessions.specs.declared.events.Status.TheVariants.{Open}
 use Rattle.sessions.specs.SessionStreams.{HubState, Serves, Sends, More, hub_step, stream_of}
 use Rattle.sessions.specs.StandsFor.{StandsFor, status_in}
+use Rattle.sessions.proofs.EventSteps.{pending_seen, status_seen}
 use Rattle.sessions.proofs.Reached.{reached}
-use Rattle.scripts.specs.Lines.{frame_of, printed_line}
+use Rattle.scripts.specs.Lines.{ScriptLine, frame_of, printed_line}
 use Rattle.scripts.specs.Transcript.{Scene, granted, after, received, PrintsIn}
 use Rattle.scripts.specs.Calls.{Served}
 use Rattle.scripts.specs.declared.faults.ScriptFault.TheVariants.{File, Memory}
@@ -14,11 +16,29 @@ use Rattle.scripts.proofs.Runs.{err_is}
 use Rattle.scripts.proofs.Steps.{sends_alike}
 use Rattle.scripts.proofs.playing.Script.answer.Goals as goal
 
+-- where the session is not open nothing is printed
+none_printed : (status : Status) (here : Scene) (s : ℕ) (line : ScriptLine) → (status ≡ Open → ⊥) → PrintsIn status here s line here []
+none_printed Open here s line differs = absurd (differs refl)
+none_printed _ here s line differs = (refl, refl)
+
+pub returns-in_default : goal.returns-in_default
+returns-in_default g c here is_at =
+    let s = c.args.session in
+    let line = c.args.line.now in
+    let is : c.status.result ≡ status_in (stream_of here.hub s) = c.status.ensures ∙ status_seen _ here.hub is_at.hub s in
+    record {
+      scene = here;
+      printed = [];
+      at = is_at;
+      prints = subst (λ st. PrintsIn st here s line here []) is (none_printed c.status.result here s line c.in_default.not-Open);
+      appends = search rules;
+    }
+
 pub returns : goal.returns
 returns g c here is_at =
     let s = c.args.session in
     let line = c.args.line.now in
-    let opened : status_in (stream_of here.hub s) ≡ Open = sym (c.status.ensures here.hub is_at.hub) ∙ c.in-Open.is in
+    let opened : status_in (stream_of here.hub s) ≡ Open = sym (c.status.ensures ∙ status_seen _ here.hub is_at.hub s) ∙ c.in-Open.is in
     let frame : c.deref.result.now ≡ frame_of line.words = c.deref.ensures.value ∙ c.in_ok-write_frame.ensures.ok ∙ ap (λ xs. xs ++ frame_of line.words) c.clear.ensures.items in
     let came : HubState = received here.hub s (frame_of line.words) in
     let served : Served c.serve.new.hub came s = subst (λ bytes. Served c.serve.new.hub (received here.hub s bytes) s) frame (c.in_ok-serve.ensures here.hub is_at.hub) in
@@ -33,7 +53,7 @@ returns g c here is_at =
       at = record { hub = subst (λ k. StandsFor c.step.new.self k) (ap (λ r. r.0) (sends_alike done s (length reply) leads.0 (granted More false))) (reached c.serve.new.hub c.step.new.self (Sends s (length reply)) c.step.result leads done served.stands).stands; labels = is_at.labels };
       prints = subst (λ st. PrintsIn st here s line (record { hub = after done (Sends s (length reply)); labels = here.labels }) (printed_line line.label reply)) (sym opened) (
         reply,
-        record { front = served.front; failed = served.failed; possible = served.possible; reply_is = c.pending-pending.ensures.bytes done served.stands; new_is = refl },
+        record { front = served.front; failed = served.failed; possible = served.possible; reply_is = c.pending-pending.ensures.bytes ∙ pending_seen _ done served.stands s; new_is = refl },
         refl,
         refl,
       );
@@ -59,7 +79,7 @@ pub returns-in_err-write_out : goal.returns-in_err-write_out
 returns-in_err-write_out g c here is_at =
     let s = c.args.session in
     let line = c.args.line.now in
-    let opened : status_in (stream_of here.hub s) ≡ Open = sym (c.status.ensures here.hub is_at.hub) ∙ c.in-Open.is in
+    let opened : status_in (stream_of here.hub s) ≡ Open = sym (c.status.ensures ∙ status_seen _ here.hub is_at.hub s) ∙ c.in-Open.is in
     let frame : c.deref.result.now ≡ frame_of line.words = c.deref.ensures.value ∙ c.in_ok-write_frame.ensures.ok ∙ ap (λ xs. xs ++ frame_of line.words) c.clear.ensures.items in
     let came : HubState = received here.hub s (frame_of line.words) in
     let served : Served c.serve.new.hub came s = subst (λ bytes. Served c.serve.new.hub (received here.hub s bytes) s) frame (c.in_ok-serve.ensures here.hub is_at.hub) in
@@ -75,7 +95,7 @@ returns-in_err-write_out g c here is_at =
       rest = why.1.1;
       prints = subst (λ st. PrintsIn st here s line next (why.1.0 ++ why.1.1)) (sym opened) (
         reply,
-        record { front = served.front; failed = served.failed; possible = served.possible; reply_is = c.pending-pending.ensures.bytes done served.stands; new_is = refl },
+        record { front = served.front; failed = served.failed; possible = served.possible; reply_is = c.pending-pending.ensures.bytes ∙ pending_seen _ done served.stands s; new_is = refl },
         refl,
         sym why.1.2 ∙ printed,
       );

@@ -1,10 +1,8 @@
 use Rattle.std.proofs.Common.{◌≡◌, ◌≢◌, true, false, [], length, Some, Err, refl, sym, ap, subst, ◌∙◌}
-use Rattle.std.specs.Prelude.{◌==◌, IsErrAnd, MatchResult}
-use Rattle.sessions.specs.SessionStreams.{stream_of}
-use Rattle.sessions.specs.StandsFor.{status_in}
+use Rattle.std.specs.Prelude.{◌==◌, IsErrAnd}
 use Rattle.scripts.specs.declared.faults.ScriptFault.TheVariants.{Memory}
-use Rattle.scripts.specs.Transcript.{Scene, with_label, IsCrowded, PrintsIn}
-use Rattle.scripts.specs.Calls.{Finds, Answers, Ends}
+use Rattle.scripts.specs.Transcript.{Scene, with_label, IsCrowded}
+use Rattle.scripts.specs.Calls.{Finds, RunsLine}
 use Rattle.scripts.proofs.Runs.{err_is, text_runs}
 use Rattle.scripts.proofs.playing.Script.play_text.Goals as goal
 
@@ -16,9 +14,7 @@ returns g c scene is_at =
     let found : Finds scene line.label (Some c.in-Some-2.session) c.session.new.self =
     subst (λ n. Finds scene n (Some c.in-Some-2.session) c.session.new.self) label (subst (λ f. Finds scene c.label.result f c.session.new.self) c.in-Some-2.is (c.in_ok-session.ensures scene is_at)) in
     let here : Scene = with_label scene line.label in
-    let answered = subst (λ s. MatchResult c.answer.result (λ _. Answers c.answer.new.self (g.O.Write.contents c.args.out.now) (g.O.Write.contents c.answer.new.out) (PrintsIn (status_in (stream_of here.hub s)) here s line))
-    (λ fault. Ends fault (g.O.Write.contents c.args.out.now) (g.O.Write.contents c.answer.new.out) (PrintsIn (status_in (stream_of here.hub s)) here s line)))
-    found.0 (c.answer.ensures here found.2) in
+    let answered = subst (λ s. RunsLine here s line c.answer.result c.answer.new.self (g.O.Write.contents c.args.out.now) (g.O.Write.contents c.answer.new.out)) found.0 (c.answer.ensures here found.2) in
     text_runs scene c.args.number c.args.text.now line c.answer.new.self (g.O.Write.contents c.args.out.now) (g.O.Write.contents c.answer.new.out) some c.in-Some.ensures found.1 c.answer.result answered
 
 -- the label got no place for want of memory

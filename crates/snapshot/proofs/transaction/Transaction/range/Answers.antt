@@ -1,27 +1,26 @@
-use Rattle.std.proofs.Common.{◌≡◌, ℕ, ◌≤◌, ◌↔◌, IsTrue, Result, Err, refl, sym, ap, subst, ◌∙◌, length, take}
+use Rattle.std.proofs.Common.{ℕ, ◌≤◌, IsTrue, Err, refl, sym, ap, subst, ◌∙◌, length, take}
 use Rattle.std.specs.Ordering.{nat_cmp}
 use Rattle.std.specs.Cmp.Lexicographic.{slice_cmp}
 use Rattle.std.specs.FinMap.Entries.{where_key}
 use Rattle.model.specs.KeyBytes.{key_bytes, end_bytes}
 use Rattle.model.specs.Map.{is_in_range}
 use Rattle.versions.specs.Meaning.{map_seen}
-use Rattle.snapshot.specs.declared.faults.SnapshotFault.{SnapshotFault}
-use Rattle.snapshot.specs.declared.faults.SnapshotFault.TheVariants.{FullMarks}
 use Rattle.snapshot.specs.View.{View}
 use Rattle.snapshot.specs.Ahead.{merged_pairs}
+use Rattle.snapshot.specs.Merged.{is_full_for_page, has_page}
+use Rattle.snapshot.specs.Made.{IsFullWhen}
 use Rattle.snapshot.proofs.Copies.{err_iff, fault_iff, ok_iff, room_of, never_of}
 use Rattle.snapshot.proofs.Pages.{taken_few, taken_length, taken_within}
-use Rattle.snapshot.proofs.Ranges.{range-reply, range-leaves, range-fault, range-known, looked-rows, rows_now, page_above, full_now, known_now, after_now, unmarked}
+use Rattle.snapshot.proofs.Ranges.{range-reply, range-leaves, range-fault, range-known, looked-rows, rows_now, page_above, page_now, after_now, unmarked}
 use Rattle.snapshot.proofs.transaction.Transaction.range.Goals as goal
 
 pub mark_page-requires : goal.mark_page-requires
 mark_page-requires c =
     let t : View = record { begin = c.self.inside.begin; writes = c.self.inside.buffer; marks = c.self.inside.marks } in
-    let lo = key_bytes c.args.range.lo in
-    let hi = end_bytes c.args.range.hi in
-    let same = looked-rows t c.args.versions.now lo hi c.new-pairs.result c.look.new.self _ _ c.look.ensures.writes c.look.ensures.pairs c.new-pairs.ensures
-    (c.within-writes.ensures ∙ ap (where_key (slice_cmp nat_cmp) (is_in_range lo hi)) c.entries.ensures.writes) c.range.ensures in
-    page_above t c.args.self.now c.args.versions.now lo hi c.args.limit (merged_pairs c.look.new.self) c.self.view_is same
+    let r = c.args.range in
+    let same = looked-rows t c.args.versions.now r c.new-pairs.result c.look.new.self _ _ c.look.ensures.writes c.look.ensures.pairs c.new-pairs.ensures
+    (c.within-writes.ensures ∙ ap (where_key (slice_cmp nat_cmp) (is_in_range (key_bytes r.lo) (end_bytes r.hi))) c.entries.ensures.writes) c.range.ensures in
+    page_above t c.args.self.now c.args.versions.now r c.args.limit (merged_pairs c.look.new.self) c.self.view_is same
 
 -- as many pairs as were found are there still
 pub new-requires : goal.new-requires
@@ -31,23 +30,22 @@ pub returns-in-Ok : goal.returns-in-Ok
 returns-in-Ok c =
     let now = c.args.self.now in
     let v = c.args.versions.now in
-    let lo = key_bytes c.args.range.lo in
-    let hi = end_bytes c.args.range.hi in
+    let r = c.args.range in
     let all = merged_pairs c.look.new.self in
     let t : View = record { begin = c.self.inside.begin; writes = c.self.inside.buffer; marks = c.self.inside.marks } in
-    let same = looked-rows t v lo hi c.new-pairs.result c.look.new.self _ _ c.look.ensures.writes c.look.ensures.pairs c.new-pairs.ensures
-    (c.within-writes.ensures ∙ ap (where_key (slice_cmp nat_cmp) (is_in_range lo hi)) c.entries.ensures.writes) c.range.ensures in
-    let room = sym (full_now t now v lo hi c.args.limit all c.self.view_is same) ∙ room_of c.in-Ok.ensures.full in
-    let after = after_now t now v lo hi c.args.limit all c.self.view_is same c.mark_page.new.marks c.in-Ok.ensures.ok in
+    let same = looked-rows t v r c.new-pairs.result c.look.new.self _ _ c.look.ensures.writes c.look.ensures.pairs c.new-pairs.ensures
+    (c.within-writes.ensures ∙ ap (where_key (slice_cmp nat_cmp) (is_in_range (key_bytes r.lo) (end_bytes r.hi))) c.entries.ensures.writes) c.range.ensures in
+    let room = sym (page_now t now v r c.args.limit all c.self.view_is same is_full_for_page) ∙ room_of c.in-Ok.ensures.full in
+    let after = after_now t now v r c.args.limit all c.self.view_is same c.mark_page.new.marks c.in-Ok.ensures.ok in
     let page = c.new.ensures ∙ ap (λ n. take n all) c.in-Ok.ensures.len ∙ taken_length c.args.limit all in
-    let rows = page ∙ rows_now t now v lo hi c.args.limit all c.self.view_is same in (
-      (refl, λ _. tt, (after, range-leaves now (map_seen v now.begin) lo hi c.args.limit _ room after)),
+    let rows = page ∙ rows_now t now v r c.args.limit all c.self.view_is same in (
+      (refl, λ _. tt, (after, range-leaves now (map_seen v now.begin) r c.args.limit _ room after)),
       record {
         known = λ m qs is h k. refl;
         full = ok_iff c.new.result room;
         few = rw page (taken_few c.args.limit all);
         in_bounds = rw page c.in-Ok.ensures.in_bounds;
-        reply = λ m qs is h. range-reply now v m qs lo hi c.args.limit is h _ room rows;
+        reply = λ m qs is h. range-reply now v m qs r c.args.limit is h _ room rows;
         after = tt;
       },
     )
@@ -56,20 +54,19 @@ pub returns-in-Err : goal.returns-in-Err
 returns-in-Err c =
     let now = c.args.self.now in
     let v = c.args.versions.now in
-    let lo = key_bytes c.args.range.lo in
-    let hi = end_bytes c.args.range.hi in
+    let r = c.args.range in
     let all = merged_pairs c.look.new.self in
     let t : View = record { begin = c.self.inside.begin; writes = c.self.inside.buffer; marks = c.self.inside.marks } in
-    let same = looked-rows t v lo hi c.new-pairs.result c.look.new.self _ _ c.look.ensures.writes c.look.ensures.pairs c.new-pairs.ensures
-    (c.within-writes.ensures ∙ ap (where_key (slice_cmp nat_cmp) (is_in_range lo hi)) c.entries.ensures.writes) c.range.ensures in
-    let full = subst (λ b. (◌≡◌ {A = Result ℕ SnapshotFault} (Err c.in-Err.fault) (Err FullMarks)) ↔ IsTrue b) (full_now t now v lo hi c.args.limit all c.self.view_is same) c.in-Err.ensures.full in (
-      (refl, λ _. tt, unmarked t now v lo hi c.args.limit all c.self.view_is same c.mark_page.new.marks c.in-Err.ensures.err),
+    let same = looked-rows t v r c.new-pairs.result c.look.new.self _ _ c.look.ensures.writes c.look.ensures.pairs c.new-pairs.ensures
+    (c.within-writes.ensures ∙ ap (where_key (slice_cmp nat_cmp) (is_in_range (key_bytes r.lo) (end_bytes r.hi))) c.entries.ensures.writes) c.range.ensures in
+    let full = subst (IsFullWhen {A = ℕ} (Err c.in-Err.fault)) (page_now t now v r c.args.limit all c.self.view_is same is_full_for_page) c.in-Err.ensures.full in (
+      (refl, λ _. tt, unmarked t now v r c.args.limit all c.self.view_is same c.mark_page.new.marks c.in-Err.ensures.err),
       record {
-        known = λ m qs is h k. c.in-Err.ensures.known (subst (λ b. IsTrue b) (sym (known_now t now v lo hi c.args.limit all c.self.view_is same)) (range-known now v m qs lo hi c.args.limit is h k));
+        known = λ m qs is h k. c.in-Err.ensures.known (subst (λ b. IsTrue b) (sym (page_now t now v r c.args.limit all c.self.view_is same has_page)) (range-known now v m qs r c.args.limit is h k));
         full = err_iff full;
         few = tt;
         in_bounds = tt;
-        reply = λ m qs is h. range-fault now v m qs lo hi c.args.limit is h c.in-Err.fault (never_of c.in-Err.ensures.never) (fault_iff full);
+        reply = λ m qs is h. range-fault now v m qs r c.args.limit is h c.in-Err.fault (never_of c.in-Err.ensures.never) (fault_iff full);
         after = tt;
       },
     )

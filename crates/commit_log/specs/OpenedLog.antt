@@ -1,0 +1,57 @@
+-- How opening a log ends, by what the device held.
+use Rattle.std.specs.Prelude.{◌≡◌, ◌⊎◌, ℕ, List, [], length, Result, MatchResult, IsErrAnd, IfErr}
+use Rattle.sector.specs.declared.device.Sectors.{Ghosts}
+use Rattle.sector.specs.SectorModel.{LeavesNoMore}
+use Rattle.model.specs.Map.{KeyMap, KeyWrite}
+use Rattle.commit_log.specs.Format.{current}
+use Rattle.commit_log.specs.LogFaults.{IsDeviceOrMemory}
+use Rattle.commit_log.specs.LogImage.{IsLogImage, IsDamaged, HasHead, IsNoLog}
+use Rattle.commit_log.specs.LogState.{Holds, StandsFor, device_of}
+use Rattle.commit_log.specs.Opening.{CanSettle}
+use Rattle.commit_log.specs.Reading.{LeavesAsBefore, OfEachRead, ReadsAs}
+use Rattle.commit_log.specs.Recovery.{map_after}
+use Rattle.commit_log.specs.declared.faults.LogFault.{LogFault}
+use Rattle.commit_log.specs.declared.faults.LogFault.TheVariants.{NotALog, Damaged, OldFormat}
+use Rattle.commit_log.specs.declared.faults.Unopened.{Unopened}
+use Rattle.commit_log.specs.declared.formats.LogFormat.{LogFormat}
+use Rattle.commit_log.specs.declared.formats.LogFormat.TheVariants.{One}
+use Rattle.commit_log.specs.declared.log.Log.{Log}
+
+-- the log and the map are those of an image that the device might hold before, and now holds
+abbrev pub OpensWhatWas : {D : Type 0} {g : Ghosts D} → D → Log D g → KeyMap → Type 0
+OpensWhatWas {g = g} device log map =
+    (lists : List (List KeyWrite)) × StandsFor log lists × (map ≡ map_after [] lists)
+    × (image : List (List ℕ)) × IsLogImage current lists image × CanSettle (g.size device) (g.may_read device) (g.may_leave device) image × Holds g (device_of log) image
+
+-- a crash since the call began leaves what one before it might have left
+abbrev pub OpeningLeavesAsBefore : {D : Type 0} {g : Ghosts D} → D → Result (Log D g × KeyMap) (Unopened D) → Type 0
+OpeningLeavesAsBefore {g = g} device result = MatchResult result (λ r. LeavesAsBefore g device (device_of r.0)) (λ u. LeavesAsBefore g device u.device)
+
+-- of a device, how opening its log came out, and which fault each error tells
+module _ {D E : Type 0} {g : Ghosts D} (device : D) (result : Result (Log D g × KeyMap) E) (fault_of : E → LogFault) where
+  -- the fault is this one, the device's or memory's
+  abbrev pub FailsWith : LogFault → Type 0
+  FailsWith fault = IsErrAnd result (λ e. (fault_of e ≡ fault) ⊎ IsDeviceOrMemory (fault_of e))
+
+  -- a log is read as what it is
+  abbrev pub FindsLog : Type 0
+  FindsLog = (disk : List (List ℕ)) (lists : List (List KeyWrite)) → length disk ≡ g.size device → ReadsAs (g.may_read device) disk
+      → IsLogImage current lists disk → MatchResult result (λ r. StandsFor r.0 lists × (r.1 ≡ map_after [] lists)) (λ e. IsDeviceOrMemory (fault_of e))
+
+  -- so is one that is damaged
+  abbrev pub FindsDamage : Type 0
+  FindsDamage = (disk : List (List ℕ)) (lists : List (List KeyWrite)) → length disk ≡ g.size device → ReadsAs (g.may_read device) disk
+      → IsDamaged current lists disk → FailsWith (Damaged (length lists))
+
+  -- and what is no log
+  abbrev pub FindsNoLog : Type 0
+  FindsNoLog = OfEachRead (g.size device) (g.may_read device) (λ disk. ((f : LogFormat) → IsNoLog f disk) → FailsWith NotALog)
+
+  -- and what has the head of format 1
+  abbrev pub FindsOldHead : Type 0
+  FindsOldHead = OfEachRead (g.size device) (g.may_read device) (λ disk. HasHead One disk → FailsWith OldFormat)
+
+  -- where each crash leaves some log, one is found
+  abbrev pub FindsWhatIsLeft : Type 0
+  FindsWhatIsLeft = LeavesNoMore (λ c. (lists : List (List KeyWrite)) × IsLogImage current lists c) (g.may_leave device)
+      → IfErr result (λ e. IsDeviceOrMemory (fault_of e))

@@ -1,5 +1,0 @@
-use Rattle.last_readers.proofs.RunLaws.{Decides}
-use Rattle.last_readers.proofs.merges.greatest_in.Given as goal
-
-abbrev pub invariant-loop-run : goal.invariant-loop-run
-invariant-loop-run l = Decides l.begin l.runs l.key.bytes.now l.run-index l.greatest

@@ -1,0 +1,127 @@
+//! Runs of numbers by key, merged in steps.
+ghost use Rattle.std.specs.Prelude.{◌≡◌, ◌≤◌, ◌<◌, ◌++◌, [], ◌∷◌, max};
+ghost use Rattle.std.specs.VecDeque.{deque_len, deque_capacity};
+ghost use Rattle.last_readers.specs.Readers.{IsWithRun, cut, greatest_at};
+ghost use Rattle.last_readers.specs.Inside.{run_of, runs_in, held_of, sizes_of};
+ghost use Rattle.merging_runs.specs.RunSizes.{are_alike};
+ghost use Rattle.last_readers.specs.Agreeing.{Agree, agree_between, none_of_old};
+ghost use Rattle.std.proofs.Common.{refl, ◌∙◌};
+
+use crate::merging::{are_empty, move_greatest};
+use crate::run::ReadRun;
+use crate::step::Step;
+use merging_runs::{Run, Runs};
+use model::KeyRef;
+use std::alloc::Global;
+use std::collections::VecDeque;
+use std::mem;
+
+// The greatest number that a run has at the key, where it is above `begin`. Runs without such a number are passed over.
+pub(crate) fn greatest_in(runs: &[ReadRun], key: KeyRef<'_>, begin: u64) -> u64
+    ensures { cut begin result ≡ cut begin (greatest_at (runs_in runs.now) key.entry.bytes.now) }
+{
+    let mut greatest = 0;
+    for run in runs {
+        if begin < run.last {
+            greatest = greatest.max(run.number(key));
+        }
+    }
+    greatest
+}
+
+// Adds a run in the room that is there.
+pub(crate) fn add_run(runs: &mut Runs<ReadRun>, run: ReadRun)
+    requires { 0 < runs.old.places }
+    ensures sizes { runs.new.sizes ≡ runs.old.sizes ++ sizes_of run ∷ [] }
+    ensures numbers { IsWithRun (runs_in runs.new.runs) (runs_in runs.old.runs) (run_of run) }
+    ensures refused { runs.new.refused ≡ runs.old.refused }
+{
+    runs.push(run);
+}
+
+impl Run for ReadRun {
+    type Places = VecDeque<Step>;
+
+    type Stale = (VecDeque<Step>, VecDeque<Step>, VecDeque<Step>);
+
+    ghost sizes = { sizes_of };
+
+    ghost held = { held_of };
+
+    ghost fit = { λ n places. (deque_len places ≡ 0) × (n ≤ deque_capacity places) };
+
+    // one step, or two of one key
+    ghost each = { 2 };
+
+    ghost alike = { are_alike };
+
+    ghost agree = { Agree };
+
+    fn last(&self) -> u64 {
+        self.last
+    }
+
+    fn size(&self) -> usize {
+        self.first
+            .len()
+            .saturating_add(self.second.len())
+            .saturating_add(self.made.len())
+            .saturating_add(1)
+    }
+
+    fn is_at_rest(&self) -> bool {
+        are_empty(&self.first, &self.second)
+    }
+
+    fn is_alike(&self, second: &ReadRun, oldest: u64) -> bool {
+        oldest < self.last
+            && self.is_at_rest()
+            && second.is_at_rest()
+            && self.made.len() / 2 <= second.made.len()
+    }
+
+    fn places_for(alloc: Global, first: &ReadRun, second: &ReadRun) -> Option<VecDeque<Step>> {
+        match VecDeque::with_capacity(alloc, first.made.len().saturating_add(second.made.len())) {
+            Ok(places) => Some(places),
+            Err(_) => None,
+        }
+    }
+
+    fn join(&mut self, second: ReadRun, places: VecDeque<Step>) {
+        let ReadRun { last, made, .. } = second;
+        self.last = self.last.max(last);
+        self.second = made;
+        self.first = mem::replace(&mut self.made, places);
+    }
+
+    fn move_one(&mut self, oldest: u64) {
+        move_greatest(&mut self.first, &mut self.second, &mut self.made, oldest);
+    }
+
+    fn give_places_back(&mut self) {
+        if self.first.capacity() == 0 && self.second.capacity() == 0 {
+            return;
+        }
+        let alloc = *self.made.allocator();
+        self.first = VecDeque::new(alloc);
+        self.second = VecDeque::new(alloc);
+    }
+
+    fn into_stale(self) -> (VecDeque<Step>, VecDeque<Step>, VecDeque<Step>) {
+        let ReadRun {
+            first,
+            second,
+            made,
+            ..
+        } = self;
+        (first, second, made)
+    }
+
+    ghost same = { λ o rs k. refl };
+
+    ghost through = { λ o xs ys zs first second k. first k ∙ second k };
+
+    ghost between = { agree_between };
+
+    ghost old = { none_of_old };
+}

@@ -1,0 +1,3 @@
+pub mod RunSteps
+pub mod OldRuns
+pub mod Moves

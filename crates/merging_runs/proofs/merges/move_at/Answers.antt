@@ -1,0 +1,32 @@
+use Rattle.std.proofs.Common.{◌<◌, ◌+◌, ◌-◌, ◌*◌, length, ap, arith, rules}
+use Rattle.merging_runs.proofs.Moves.{as_slow}
+use Rattle.merging_runs.proofs.RunSteps.{left_changed, lasts_changed, none_left, number_kept, other_agrees, passed_left, same_run}
+use Rattle.merging_runs.proofs.merges.move_at.Goals as goal
+
+pub returns : goal.returns
+returns g c =
+    let runs = c.args.runs.now in
+    let o = c.args.oldest in
+    let i = c.args.place in
+    let size = g.R.Run.sizes in
+    let within : i < length runs.items = omega (arith, c.if-place-len.false, c.len.ensures, runs.ok.0) in
+    let was = c.index_mut.result.now in
+    let at = c.index_mut.ensures.value in
+    let new = c.move_on.new.run in
+    let moved = c.move_on.ensures in
+    let same = ap (λ r. (size r).last) (same_run runs.items i c.index.result.now was within c.index.ensures at) in
+    let late : o < (size was).last = omega (arith, same, c.last.ensures, c.if-last-oldest.false) in
+    let left = left_changed size o runs.items i was new within at late moved.last in
+    record {
+      agree = other_agrees (g.R.Run.agree o) (g.met.R.Run.between o) runs.items i was new within at moved.agree;
+      most = moved.most;
+      lasts = lasts_changed size runs.items i was new within at moved.last;
+      wholes = λ one. number_kept size (λ s. s.left + s.made) runs.items i was new within at (moved.whole one);
+      len = search rules;
+      moved = omega (arith, left, moved.moved);
+      slowly = as_slow _ _ (size was).left (size new).left (g.R.Run.each * (c.args.most - c.move_on.result)) left moved.slowly;
+      ended = λ some behind. none_left size o runs.items i (i + 1) new (omega arith) (moved.ended some) behind;
+    }
+
+pub returns-then-last-oldest-clause-ended : goal.returns-then-last-oldest-clause-ended
+returns-then-last-oldest-clause-ended g c = λ some behind. passed_left g.R.Run.sizes c.args.oldest c.args.runs.now.items c.args.place (c.args.place + 1) c.index.result.now (omega arith) c.index.ensures (omega (arith, c.last.ensures, c.if-last-oldest.true)) behind

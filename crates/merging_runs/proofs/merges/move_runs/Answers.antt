@@ -1,0 +1,62 @@
+use Rattle.std.proofs.Common.{◌≡◌, ◌≤◌, ◌+◌, ◌-◌, refl, ap, ◌∙◌, drop, map, arith, inl, inr}
+use Rattle.std.specs.Prelude.{min}
+use Rattle.std.specs.Vec.{vec_len}
+use Rattle.std.proofs.lemmas.Bool.{cases_lt}
+use Rattle.merging_runs.specs.RunSizes.{left_above}
+use Rattle.merging_runs.proofs.Moves.{slower, slowest}
+use Rattle.merging_runs.proofs.RunSteps.{past_left}
+use Rattle.merging_runs.proofs.merges.move_runs.Goals as goal
+
+pub loop-after-init : goal.loop-after-init
+loop-after-init g c =
+    let len = c.args.runs.now.ok.0 in
+    record {
+      agree = g.met.R.Run.same c.args.oldest c.args.runs.now.items;
+      len = refl;
+      most = omega arith;
+      lasts = refl;
+      wholes = λ one. refl;
+      moved = omega arith;
+      slowly = omega arith;
+      ended = λ some. past_left g.R.Run.sizes c.args.oldest c.args.runs.now.items (vec_len c.args.runs.now - 0) (omega (arith, len));
+    }
+
+pub loop-after-preserved : goal.loop-after-preserved
+loop-after-preserved g c =
+    let o = c.args.oldest in
+    let runs = c.args.runs.now in
+    let after = c.loop-after.after in
+    let is = c.loop-after.invariant in
+    let moved = c.move_at-rest.ensures in
+    let len = c.len.ensures in
+    let test = c.loop-after-test.true in
+    let end = c.len-after-end.ensures in
+    let at : vec_len runs - (after + 1) ≡ c.len.result - after - 1 = omega (arith, len, is.len) in
+    let behind : c.len.result - after - 1 + 1 ≡ vec_len runs - after = omega (arith, len, is.len, test, end) in
+    record {
+      agree = g.met.R.Run.through o c.move_at-rest.new.runs.items c.loop-after.runs.items runs.items moved.agree is.agree;
+      len = moved.len ∙ is.len;
+      most = omega (arith, is.most, moved.most);
+      lasts = moved.lasts ∙ is.lasts;
+      wholes = λ one. moved.wholes one ∙ is.wholes one;
+      moved = omega (arith, is.moved, moved.moved, is.most, moved.most);
+      slowly = slower g.R.Run.each c.args.most c.loop-after.rest c.move_at-rest.result _ _ _ is.most moved.most is.slowly moved.slowly;
+      ended = λ some.
+          ap (λ n. left_above o (drop n (map g.R.Run.sizes c.move_at-rest.new.runs.items))) at
+          ∙ moved.ended some (ap (λ n. left_above o (drop n (map g.R.Run.sizes c.loop-after.runs.items))) behind ∙ is.ended (omega (arith, some, moved.most)));
+    }
+
+pub returns-clause-moved : goal.returns-clause-moved
+returns-clause-moved g c =
+    let o = c.args.oldest in
+    let is = c.loop-after.invariant in
+    let test = c.loop-after-test.false in
+    let end = c.len-after-end.ensures in
+    let none : vec_len c.args.runs.now - c.loop-after.after ≡ 0 = omega (arith, test, end) in
+    let now = left_above o (map g.R.Run.sizes c.loop-after.runs.items) in
+    let was = left_above o (map g.R.Run.sizes c.args.runs.now.items) in
+    let moved : now + min c.args.most was ≤ was = elim (cases_lt 0 c.loop-after.rest) [
+      | inl some ↦ let all = ap (λ n. left_above o (drop n (map g.R.Run.sizes c.loop-after.runs.items))) none in omega (arith, is.ended some, all)
+      | inr none_left ↦ omega (arith, none_left, is.moved)
+    ] in
+    record { lasts = is.lasts; wholes = is.wholes; moved = moved; slowly = slowest g.R.Run.each c.args.most c.loop-after.rest was now is.most is.slowly }

@@ -1,0 +1,32 @@
+use Rattle.std.proofs.Common.{◌+◌, map, sym, ap, ◌∙◌}
+use Rattle.merging_runs.specs.Held.{size_upto}
+use Rattle.merging_runs.specs.RunSizes.{left_above}
+use Rattle.merging_runs.specs.Value.{held_of}
+use Rattle.merging_runs.proofs.OldRuns.{old_at, part_of, none_old}
+use Rattle.merging_runs.proofs.RunSteps.{left_without, rest_agrees}
+use Rattle.merging_runs.proofs.old.take_old.Goals as goal
+
+pub returns-in-Some : goal.returns-in-Some
+returns-in-Some g c =
+    let r = c.remove.result in
+    let rs = c.args.runs.now.items in
+    let i = c.in-Some.place in
+    let o = c.args.oldest in
+    let size = g.R.Run.sizes in
+    let held = held_of size g.R.Run.held in
+    let at = c.remove.ensures.value in
+    let found = old_at size o rs c.deref.result.now i r (sym c.deref.ensures.value) (sym c.first_old.ensures ∙ c.in-Some.is) at in
+    let items = c.remove.ensures.items in
+    record {
+      agree = rw items (rest_agrees (g.R.Run.agree o) (g.met.R.Run.between o) rs i r found.0 at (g.met.R.Run.old o r found.1));
+      none = λ none. absurd cc;
+      size = part_of held o rs i r found.0 at found.1 ∙ ap (λ l. (held r).size + size_upto o (map held l)) (sym items);
+      left = ap (λ l. left_above o (map size l)) items ∙ left_without size o rs i r found.0 at found.1;
+    }
+
+pub returns-in-None-clause-agree : goal.returns-in-None-clause-agree
+returns-in-None-clause-agree g c = g.met.R.Run.same c.args.oldest c.args.runs.now.items
+
+pub returns-in-None-clause-none : goal.returns-in-None-clause-none
+returns-in-None-clause-none g c = λ none.
+    none_old (held_of g.R.Run.sizes g.R.Run.held) c.args.oldest c.args.runs.now.items c.deref.result.now (sym c.deref.ensures.value) (sym c.first_old.ensures ∙ c.in-None.is)

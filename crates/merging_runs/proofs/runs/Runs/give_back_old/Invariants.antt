@@ -1,0 +1,17 @@
+use Rattle.std.proofs.Common.{◌≡◌, ◌≤◌, ◌<◌, ◌+◌}
+use Rattle.merging_runs.specs.Held.{due_upto}
+use Rattle.merging_runs.specs.RunSizes.{left_above}
+use Rattle.merging_runs.proofs.runs.Runs.give_back_old.Given as goal
+
+abbrev pub invariant-runs : goal.invariant-runs
+invariant-runs g l = record {
+  agree : g.R.Run.agree l.oldest l.self.runs l.fn.self.runs;
+  due : due_upto l.oldest l.fn.self.held + l.left ≡ due_upto l.oldest l.self.held + 1024;
+  left : left_above l.oldest l.self.sizes ≡ left_above l.oldest l.fn.self.sizes;
+  refused : l.self.refused ≡ l.fn.self.refused;
+  most : l.left ≤ 1024;
+  ended : 0 < l.left → l.self.held.taken ≡ 0;
+}
+
+abbrev pub decreases-runs : goal.decreases-runs
+decreases-runs g l = l.left

@@ -1,0 +1,95 @@
+-- How runs are merged, some elements at a time.
+use Rattle.std.specs.Prelude.{◌≡◌, ◌≤◌, ◌+◌, ◌*◌, ◌-◌, ◌^◌, ◌++◌, ◌⊎◌, ◌&&◌, ◌||◌, ◌==◌, ℕ, Bool, true, false, nat_lt, nat_le, max, min, map, drop, List, [], ◌∷◌, if◌then◌else◌}
+
+-- a run: a number that none of its numbers is above, how many elements are still to be moved of the two runs that it is being made of, and
+-- how many were made
+pub record RunSize : Type 0 where
+  pub last : ℕ
+  pub left : ℕ
+  pub made : ℕ
+
+-- how many elements are still to be moved in the runs that have numbers above that one
+abbrev pub left_above : ℕ → List RunSize → ℕ
+left_above o [] = 0
+left_above o (r ∷ rs) = (if nat_lt o r.last then r.left else 0) + left_above o rs
+
+-- nothing is left to move in either run, the first has numbers above that one, and it has at most twice as many elements as the second, and
+-- one
+abbrev pub are_alike : ℕ → RunSize → RunSize → Bool
+are_alike o r s = nat_lt o r.last && (r.left == 0 && (s.left == 0 && nat_le r.made (2 * s.made + 1)))
+
+abbrev pub starts_alike : (RunSize → RunSize → Bool) → RunSize → List RunSize → Bool
+starts_alike alike r [] = false
+starts_alike alike r (s ∷ ss) = alike r s
+
+-- whether two runs beside one another are alike
+abbrev pub has_alike : (RunSize → RunSize → Bool) → List RunSize → Bool
+has_alike alike [] = false
+has_alike alike (r ∷ rs) = starts_alike alike r rs || has_alike alike rs
+
+-- the run that is to be made of both
+abbrev pub joined : RunSize → RunSize → RunSize
+joined r s = record { last = max r.last s.last; left = r.made + s.made; made = 0 }
+
+-- of two runs beside one another that are alike one is being made
+pub record IsBegun (alike : RunSize → RunSize → Bool) (old new : List RunSize) : Type 0 where
+  pub earlier : List RunSize
+  pub first : RunSize
+  pub second : RunSize
+  pub later : List RunSize
+  pub are : alike first second ≡ true
+  pub was : old ≡ earlier ++ first ∷ second ∷ later
+  pub is : new ≡ earlier ++ joined first second ∷ later
+
+-- one refusal more, up to 2^64 - 1
+abbrev pub one_more : ℕ → ℕ
+one_more refused = min (refused + 1) (2 ^ 64 - 1)
+
+-- a merge was begun, or memory for it was refused, which is counted
+abbrev pub IsEnded : (RunSize → RunSize → Bool) → List RunSize → List RunSize → ℕ → ℕ → Type 0
+IsEnded alike old new was is = (IsBegun alike old new × (is ≡ was)) ⊎ ((new ≡ old) × (is ≡ one_more was))
+
+-- so it is where that is true
+abbrev pub EndsIf : Bool → (RunSize → RunSize → Bool) → List RunSize → List RunSize → ℕ → ℕ → Type 0
+EndsIf b alike old new was is = b ≡ true → IsEnded alike old new was is
+
+-- the same, or no two runs beside one another are alike
+abbrev pub IsTried : (RunSize → RunSize → Bool) → List RunSize → List RunSize → ℕ → ℕ → Type 0
+IsTried alike old new was is = IsEnded alike old new was is ⊎ ((has_alike alike old ≡ false) × (new ≡ old) × (is ≡ was))
+
+-- the runs, and one of so many elements with that number, where it has any
+abbrev pub with_run : ℕ → ℕ → List RunSize → List RunSize
+with_run n count rs = if nat_lt 0 count then rs ++ record { last = n; left = 0; made = count } ∷ [] else rs
+
+-- how many moves there are for so many elements that are noted
+abbrev pub moves_for : ℕ → ℕ
+moves_for count = min (16 * count + 64) (2 ^ 64 - 1)
+
+abbrev pub lasts_of : List RunSize → List ℕ
+lasts_of rs = map (λ r. r.last) rs
+
+-- how many elements each run has, made or still to be moved
+abbrev pub wholes_of : List RunSize → List ℕ
+wholes_of rs = map (λ r. r.left + r.made) rs
+
+-- so many moves of so many elements at most
+abbrev pub AtMostMoved : ℕ → ℕ → ℕ → List RunSize → List RunSize → Type 0
+AtMostMoved each o n old new = left_above o old ≤ left_above o new + each * n
+
+-- where nothing was left to move behind the place, nothing is left from it on
+abbrev pub RestsFrom : ℕ → ℕ → List RunSize → List RunSize → Type 0
+RestsFrom o place old new = left_above o (drop (place + 1) old) ≡ 0 → left_above o (drop place new) ≡ 0
+
+-- What is to be moved was moved so many times, unless nothing is left to move; a move takes so many elements at most. Where it takes one
+-- alone, each is kept.
+pub record IsMoved (each o most : ℕ) (old new : List RunSize) : Type 0 where
+  pub lasts : lasts_of new ≡ lasts_of old
+  pub wholes : each ≡ 1 → wholes_of new ≡ wholes_of old
+  pub moved : left_above o new + min most (left_above o old) ≤ left_above o old
+  pub slowly : AtMostMoved each o most old new
+
+-- one merge at most was begun, and those under way were moved on
+pub record IsMergedFor (alike : RunSize → RunSize → Bool) (each o most : ℕ) (old new : List RunSize) (was is : ℕ) : Type 0 where
+  pub begun : List RunSize
+  pub tried : IsTried alike old begun was is
+  pub moved : IsMoved each o most begun new

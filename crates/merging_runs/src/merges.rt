@@ -1,0 +1,98 @@
+//! Runs of a like size made into one, some elements at a time.
+ghost use Rattle.std.specs.Prelude.{◌≡◌, ◌≤◌, ◌<◌, ◌+◌, ◌-◌, ◌*◌, [], ◌∷◌, true, false, map, take, drop};
+ghost use Rattle.std.specs.Vec.{vec_len};
+ghost use Rattle.merging_runs.specs.RunSizes.{AtMostMoved, EndsIf, IsMoved, IsTried, RestsFrom, has_alike, lasts_of, left_above, wholes_of};
+
+use crate::run::Run;
+
+// Begins to make one run of that at the place and the one before it, where they are alike. It takes memory; where that is refused, it counts
+// the refusal, and the runs stay. Are they alike?
+fn open_at<R: Run>(runs: &mut Vec<R>, place: usize, oldest: u64, refused: &mut u64) -> bool
+    requires some { 0 < place }
+    requires within { place < vec_len runs.old }
+    ensures agree { R.agree oldest runs.new.items runs.old.items }
+    ensures alike { EndsIf result (R.alike oldest) (map R.sizes runs.old.items) (map R.sizes runs.new.items) refused.old refused.new }
+    ensures none { result ≡ false → has_alike (R.alike oldest) (take 2 (drop (place - 1) (map R.sizes runs.old.items))) ≡ false }
+    ensures stays { result ≡ false → runs.new ≡ runs.old }
+    ensures refused { result ≡ false → refused.new ≡ refused.old }
+{
+    if !runs[place - 1].is_alike(&runs[place], oldest) {
+        return false;
+    }
+    let alloc = *runs.allocator();
+    let Some(places) = R::places_for(alloc, &runs[place - 1], &runs[place]) else {
+        *refused = refused.saturating_add(1);
+        return true;
+    };
+    let second = runs.remove(place);
+    runs[place - 1].join(second, places);
+    true
+}
+
+// Begins to make one run of the last two beside one another that are alike. It takes memory; where that is refused, it counts the refusal, and
+// the runs stay.
+pub(crate) fn open_last<R: Run>(runs: &mut Vec<R>, oldest: u64, refused: &mut u64)
+    ensures agree { R.agree oldest runs.new.items runs.old.items }
+    ensures tried { IsTried (R.alike oldest) (map R.sizes runs.old.items) (map R.sizes runs.new.items) refused.old refused.new }
+{
+    for after in 1..runs.len() {
+        let place = runs.len() - after;
+        if open_at(runs, place, oldest, refused) {
+            return;
+        }
+    }
+}
+
+// Moves elements of the run so many times at most: how many moves are left, which are none while there is something to move. Once nothing is
+// left of the two runs that it is made of, it gives back their places.
+fn move_on<R: Run>(run: &mut R, oldest: u64, most: usize) -> usize
+    requires { oldest < (R.sizes run.old).last }
+    ensures agree { R.agree oldest (run.new ∷ []) (run.old ∷ []) }
+    ensures last { (R.sizes run.new).last ≡ (R.sizes run.old).last }
+    ensures whole { R.each ≡ 1 → (R.sizes run.new).left + (R.sizes run.new).made ≡ (R.sizes run.old).left + (R.sizes run.old).made }
+    ensures most { result ≤ most }
+    ensures moved { (R.sizes run.new).left + (most - result) ≤ (R.sizes run.old).left }
+    ensures slowly { (R.sizes run.old).left ≤ (R.sizes run.new).left + R.each * (most - result) }
+    ensures ended { 0 < result → (R.sizes run.new).left ≡ 0 }
+{
+    for moved in 0..most {
+        if run.is_at_rest() {
+            run.give_places_back();
+            return most - moved;
+        }
+        run.move_one(oldest);
+    }
+    0
+}
+
+// Moves elements so many times at most in the run at the place, where there is one with numbers above `oldest`: how many moves are left.
+fn move_at<R: Run>(runs: &mut Vec<R>, place: usize, oldest: u64, most: usize) -> usize
+    ensures agree { R.agree oldest runs.new.items runs.old.items }
+    ensures most { result ≤ most }
+    ensures lasts { lasts_of (map R.sizes runs.new.items) ≡ lasts_of (map R.sizes runs.old.items) }
+    ensures wholes { R.each ≡ 1 → wholes_of (map R.sizes runs.new.items) ≡ wholes_of (map R.sizes runs.old.items) }
+    ensures len { vec_len runs.new ≡ vec_len runs.old }
+    ensures moved { left_above oldest (map R.sizes runs.new.items) + (most - result) ≤ left_above oldest (map R.sizes runs.old.items) }
+    ensures slowly { AtMostMoved R.each oldest (most - result) (map R.sizes runs.old.items) (map R.sizes runs.new.items) }
+    ensures ended { 0 < result → RestsFrom oldest place (map R.sizes runs.old.items) (map R.sizes runs.new.items) }
+{
+    if place >= runs.len() {
+        return most;
+    }
+    if runs[place].last() <= oldest {
+        return most;
+    }
+    move_on(&mut runs[place], oldest, most)
+}
+
+// Moves elements so many times at most in the runs that are being made of two, in the last runs first: these are the shortest.
+pub(crate) fn move_runs<R: Run>(runs: &mut Vec<R>, oldest: u64, most: usize)
+    ensures agree { R.agree oldest runs.new.items runs.old.items }
+    ensures moved { IsMoved R.each oldest most (map R.sizes runs.old.items) (map R.sizes runs.new.items) }
+{
+    let mut rest = most;
+    for after in 0..runs.len() {
+        let place = runs.len() - after - 1;
+        rest = move_at(runs, place, oldest, rest);
+    }
+}

@@ -1,0 +1,96 @@
+//! What is asked of a run.
+ghost use Rattle.std.specs.Prelude.{◌≡◌, ◌≤◌, ◌<◌, ◌+◌, ◌-◌, ◌^◌, ◌++◌, ℕ, Bool, true, false, List, [], ◌∷◌, min, IfSome};
+ghost use Rattle.merging_runs.specs.RunSizes.{RunSize, joined};
+
+use crate::give_back::GiveBack;
+use std::alloc::Global;
+
+/// A run of elements with numbers. It is at rest, or is being made of two runs, element by element.
+pub trait Run: Drop {
+    /// Places for the elements of a run that is made of two.
+    type Places: Drop;
+
+    /// What is left of it while it is given back.
+    type Stale: GiveBack;
+
+    /// How far it is merged.
+    ghost sizes: { Self → RunSize };
+
+    /// How many elements it holds.
+    ghost held: { Self → ℕ };
+
+    /// There are places for so many elements.
+    ghost fit: { ℕ → Self.Places → Type 0 };
+
+    /// How many elements a move takes at most.
+    ghost each: { ℕ };
+
+    /// Whether two runs are of a like size, where nothing is asked of the numbers up to that one.
+    ghost alike: { ℕ → RunSize → RunSize → Bool };
+
+    /// Runs answer as others do, where nothing is asked of the numbers up to that one.
+    ghost agree: { ℕ → List Self → List Self → Type 0 };
+
+    /// A number that none of its numbers is above. Takes no memory.
+    fn last(&self) -> u64
+        ensures { result ≡ (sizes self.now).last };
+
+    /// How many elements it holds, and one more: 2^64 - 1 where there were more. Takes no memory.
+    fn size(&self) -> usize
+        ensures { result ≡ min (held self.now + 1) (2 ^ 64 - 1) };
+
+    /// Are this and a later one of a like size? Takes no memory.
+    fn is_alike(&self, second: &Self, oldest: u64) -> bool
+        ensures alike { result ≡ alike oldest (sizes self.now) (sizes second.now) }
+        ensures first { result ≡ true → (sizes self.now).left ≡ 0 }
+        ensures second { result ≡ true → (sizes second.now).left ≡ 0 };
+
+    /// Places for the elements of both, `None` where memory is refused.
+    fn places_for(alloc: Global, first: &Self, second: &Self) -> Option<Self::Places>
+        ensures { IfSome result (fit ((sizes first.now).made + (sizes second.now).made)) };
+
+    /// Begins to make one run of this and a later one, both at rest, in the places that were made for it. Takes no memory.
+    fn join(&mut self, second: Self, places: Self::Places)
+        requires first { (sizes self.old).left ≡ 0 }
+        requires second { (sizes second).left ≡ 0 }
+        requires room { fit ((sizes self.old).made + (sizes second).made) places }
+        ensures sizes { sizes self.new ≡ joined (sizes self.old) (sizes second) }
+        ensures agree { (oldest : ℕ) → agree oldest (self.new ∷ []) (self.old ∷ second ∷ []) };
+
+    /// Is it not being made of two? Takes no memory.
+    fn is_at_rest(&self) -> bool
+        ensures rest { result ≡ true → (sizes self.now).left ≡ 0 }
+        ensures under_way { result ≡ false → 0 < (sizes self.now).left };
+
+    /// Moves an element of the two, or more of one key. Takes no memory.
+    fn move_one(&mut self, oldest: u64)
+        requires late { oldest < (sizes self.old).last }
+        requires some { 0 < (sizes self.old).left }
+        ensures agree { agree oldest (self.new ∷ []) (self.old ∷ []) }
+        ensures last { (sizes self.new).last ≡ (sizes self.old).last }
+        ensures whole { each ≡ 1 → (sizes self.new).left + (sizes self.new).made ≡ (sizes self.old).left + (sizes self.old).made }
+        ensures fewer { (sizes self.new).left < (sizes self.old).left }
+        ensures slowly { (sizes self.old).left ≤ (sizes self.new).left + each };
+
+    /// Gives back the places of the two runs, once nothing is left of them. Takes no memory.
+    fn give_places_back(&mut self)
+        requires { (sizes self.old).left ≡ 0 }
+        ensures sizes { sizes self.new ≡ sizes self.old }
+        ensures agree { (oldest : ℕ) → agree oldest (self.new ∷ []) (self.old ∷ []) };
+
+    /// What there is to give back of it. Takes no memory.
+    fn into_stale(self) -> Self::Stale
+        ensures { held self ≡ Self.Stale.left result };
+
+    /// Runs answer as they do.
+    ghost same: { (o : ℕ) (rs : List Self) → agree o rs rs };
+
+    /// They answer as what answers as they do.
+    ghost through: { (o : ℕ) (xs ys zs : List Self) → agree o xs ys → agree o ys zs → agree o xs zs };
+
+    /// So they do between others.
+    ghost between: { (o : ℕ) (front xs ys behind : List Self) → agree o xs ys → agree o (front ++ (xs ++ behind)) (front ++ (ys ++ behind)) };
+
+    /// A run without a number above that one answers as none.
+    ghost old: { (o : ℕ) (r : Self) → (sizes r).last ≤ o → agree o [] (r ∷ []) };
+}

@@ -1,0 +1,209 @@
+//! Runs, merged and given back in steps.
+ghost use Rattle.std.specs.Prelude.{◌≡◌, ◌≤◌, ◌<◌, ◌+◌, ◌-◌, ◌++◌, [], ◌∷◌, length, nat_lt, OnOk, None};
+ghost use Rattle.merging_runs.specs.Held.{due_upto, given_a_forget, size_in};
+ghost use Rattle.merging_runs.specs.RunSizes.{left_above};
+ghost use Rattle.merging_runs.specs.Value.{AreMerged, size_of};
+
+use crate::give_back::GiveBack;
+use crate::merges::{move_runs, open_last};
+use crate::old::{is_one_old, take_old};
+use crate::run::Run;
+use std::alloc::{AllocError, Global};
+use std::marker::Model;
+
+/// How many moves the merges get for each element that is noted: more than there are lengths of runs that are merged into one another.
+const MOVES_EACH: usize = 16;
+
+/// How many more they get for a commit.
+const MOVES_MORE: usize = 64;
+
+/// The most elements that are given back in one call, where a run counts as one more.
+const GIVEN_BACK_MAX: usize = 1_024;
+
+/// Runs of commits one after another, the earliest first. A clause sees the runs, how many more fit (`places`), how far each is merged
+/// (`sizes`), how much they hold (`held`), and how often memory for a merge was refused (`refused`).
+#[derive(Drop)]
+pub struct Runs<R: Run> {
+    runs: Vec<R>,
+    // a run of which nothing is asked any more
+    stale: Option<R::Stale>,
+    // how often memory for a merge was refused. It stays at 2^64 - 1
+    refused: u64,
+}
+
+impl<R: Run> Model for Runs<R> {
+    ghost use Rattle.std.specs.Prelude.{◌-◌, map};
+    ghost use Rattle.std.specs.Vec.{vec_len, vec_capacity};
+    ghost use Rattle.merging_runs.specs.Value.{RunsValue, held_of, taken_of};
+
+    ghost Value = { RunsValue R };
+
+    ghost view = { λ s. record {
+      runs = s.runs.items;
+      places = vec_capacity s.runs - vec_len s.runs;
+      sizes = map R.sizes s.runs.items;
+      held = record { runs = map (held_of R.sizes R.held) s.runs.items; taken = taken_of R.Stale.left s.stale };
+      refused = s.refused;
+    } };
+}
+
+impl<R: Run> Runs<R> {
+    /// No runs. Takes no memory.
+    pub fn new(alloc: Global) -> Runs<R>
+        ensures runs { result.runs ≡ [] }
+        ensures sizes { result.sizes ≡ [] }
+    {
+        Runs {
+            runs: Vec::new(alloc),
+            stale: None,
+            refused: 0,
+        }
+    }
+
+    /// The runs, the earliest first. Takes no memory.
+    pub fn as_slice(&self) -> &[R]
+        ensures runs { result.now ≡ self.now.runs }
+        ensures len { length result.now ≡ length self.now.sizes }
+    {
+        self.runs.as_slice()
+    }
+
+    /// What the runs hold, each counted as one more: 2^64 - 1 where there was more. Looks at each run, and takes no memory.
+    pub fn size(&self) -> usize
+        ensures { result ≡ size_in self.now.held.runs }
+    {
+        self.runs
+            .iter()
+            .fold(0, |sum: usize, run| sum.saturating_add(run.size()))
+    }
+
+    /// How often memory for a merge was refused, 2^64 - 1 at most: each time two runs of a like size stayed. Takes no memory.
+    pub fn refused(&self) -> u64
+        ensures { result ≡ self.now.refused }
+    {
+        self.refused
+    }
+
+    /// Where it takes memory.
+    pub fn allocator(&self) -> Global {
+        *self.runs.allocator()
+    }
+
+    /// Makes room for one more run. What is held stays in either case.
+    pub fn reserve(&mut self) -> Result<(), AllocError>
+        ensures room { OnOk result (0 < self.new.places) }
+        ensures runs { self.new.runs ≡ self.old.runs }
+        ensures sizes { self.new.sizes ≡ self.old.sizes }
+        ensures held { self.new.held ≡ self.old.held }
+        ensures refused { self.new.refused ≡ self.old.refused }
+    {
+        self.runs.reserve(1)
+    }
+
+    /// Adds a run behind the others, in the room that was made for it. Takes no memory.
+    pub fn push(&mut self, run: R)
+        requires { 0 < self.old.places }
+        ensures runs { self.new.runs ≡ self.old.runs ++ run ∷ [] }
+        ensures sizes { self.new.sizes ≡ self.old.sizes ++ R.sizes run ∷ [] }
+        ensures refused { self.new.refused ≡ self.old.refused }
+    {
+        match self.runs.push(run) {
+            Ok(()) => {}
+            Err(_) => unreachable!(),
+        }
+    }
+
+    /// Begins to merge two runs beside one another that are of a like size, where there are such; where memory for that is refused, it
+    /// counts the refusal. The merges that are under way go on by 16 moves for each of so many elements, and 64, until nothing is left to
+    /// move.
+    pub fn merge(&mut self, oldest: u64, count: usize)
+        ensures agree { R.agree oldest self.new.runs self.old.runs }
+        ensures merged { AreMerged R.alike R.each oldest count self.old self.new }
+    {
+        open_last(&mut self.runs, oldest, &mut self.refused);
+        let most = count.saturating_mul(MOVES_EACH).saturating_add(MOVES_MORE);
+        move_runs(&mut self.runs, oldest, most);
+    }
+
+    // Takes out a run that has no number above `oldest`, if there is one.
+    fn take_old(&mut self, oldest: u64) -> Option<R>
+        ensures agree { R.agree oldest self.new.runs self.old.runs }
+        ensures due { due_upto oldest self.old.held ≡ size_of R.held result + due_upto oldest self.new.held }
+        ensures taken { self.new.held.taken ≡ self.old.held.taken }
+        ensures none { result ≡ None → due_upto oldest self.new.held ≡ self.new.held.taken }
+        ensures left { left_above oldest self.new.sizes ≡ left_above oldest self.old.sizes }
+        ensures refused { self.new.refused ≡ self.old.refused }
+    {
+        take_old(&mut self.runs, oldest)
+    }
+
+    // Gives back so much at most of the run that is being given back, if there is one: how much more may be given back, which is none while
+    // something is left of it.
+    fn give_back(&mut self, most: usize) -> usize
+        ensures runs { self.new.runs ≡ self.old.runs }
+        ensures held { self.new.held.runs ≡ self.old.held.runs }
+        ensures sizes { self.new.sizes ≡ self.old.sizes }
+        ensures refused { self.new.refused ≡ self.old.refused }
+        ensures taken { self.old.held.taken + result ≡ self.new.held.taken + most }
+        ensures ended { 0 < result → self.new.held.taken ≡ 0 }
+    {
+        let Some(stale) = &mut self.stale else {
+            return most;
+        };
+        let left = stale.give_back(most);
+        if left == 0 {
+            return 0;
+        }
+        self.stale = None;
+        left - 1
+    }
+
+    // Gives back so much at most of a run that was taken out, the whole of it at once where that is enough.
+    fn give_back_run(&mut self, run: R, most: usize) -> usize
+        requires none { self.old.held.taken ≡ 0 }
+        requires some { 0 < most }
+        requires most { most ≤ given_a_forget }
+        ensures runs { self.new.runs ≡ self.old.runs }
+        ensures held { self.new.held.runs ≡ self.old.held.runs }
+        ensures sizes { self.new.sizes ≡ self.old.sizes }
+        ensures refused { self.new.refused ≡ self.old.refused }
+        ensures taken { R.held run + 1 + result ≡ self.new.held.taken + most }
+        ensures ended { 0 < result → self.new.held.taken ≡ 0 }
+    {
+        let size = run.size();
+        if size <= most {
+            return most - size;
+        }
+        self.stale = Some(run.into_stale());
+        self.give_back(most)
+    }
+
+    // Gives back runs that have no number above `oldest`, 1,024 of their elements at most.
+    fn give_back_old(&mut self, oldest: u64)
+        ensures agree { R.agree oldest self.new.runs self.old.runs }
+        ensures due { due_upto oldest self.new.held ≡ due_upto oldest self.old.held - given_a_forget }
+        ensures left { left_above oldest self.new.sizes ≡ left_above oldest self.old.sizes }
+        ensures refused { self.new.refused ≡ self.old.refused }
+    {
+        let mut left = self.give_back(GIVEN_BACK_MAX);
+        'runs: while left > 0 {
+            let Some(run) = self.take_old(oldest) else {
+                return;
+            };
+            left = self.give_back_run(run, left);
+        }
+    }
+
+    /// Gives back runs that have no number above `oldest`, 1,024 of their elements a call at most, where a run counts as one more. Answers
+    /// whether it has to be called again until no such run is left. Takes no memory.
+    pub fn forget(&mut self, oldest: u64) -> bool
+        ensures agree { R.agree oldest self.new.runs self.old.runs }
+        ensures due { due_upto oldest self.new.held ≡ due_upto oldest self.old.held - given_a_forget }
+        ensures still { result ≡ nat_lt 0 (due_upto oldest self.new.held) }
+        ensures left { left_above oldest self.new.sizes ≡ left_above oldest self.old.sizes }
+        ensures refused { self.new.refused ≡ self.old.refused }
+    {
+        self.give_back_old(oldest);
+        self.stale.is_some() || is_one_old(&self.runs, oldest)
+    }
+}

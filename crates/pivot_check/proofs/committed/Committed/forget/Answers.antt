@@ -1,0 +1,17 @@
+use Rattle.std.proofs.Common.{sym, subst, arith}
+use Rattle.model.specs.Map.{Bytes}
+use Rattle.last_readers.specs.Readers.{last_reader}
+use Rattle.pivot_check.specs.Kept.{Facts, CommittedValue}
+use Rattle.pivot_check.specs.Inside.{postings_in}
+use Rattle.pivot_check.specs.StandsFor.{StandsFor}
+use Rattle.pivot_check.proofs.Judging.{forgotten}
+use Rattle.pivot_check.proofs.LastSources.{cut_later}
+use Rattle.pivot_check.proofs.committed.Committed.forget.Goals as goal
+
+pub returns-clause-stands_for : goal.returns-clause-stands_for
+returns-clause-stands_for c = λ h s.
+    let f : Facts = record { readers = c.self.inside.readers.readers; postings = postings_in c.self.inside.runs.runs; oldest = c.self.inside.oldest; last = c.self.inside.last } in
+    let was : StandsFor f h = subst (λ (v : CommittedValue). StandsFor v.facts h) (sym c.self.view_is) s in
+    let after = c.forget-are_readers_due.new.self.readers in
+    let cut_to = λ (k : Bytes). cut_later c.self.inside.oldest c.args.oldest (last_reader f.readers k) (last_reader after k) (c.self.invariant.above k) (c.forget-are_readers_due.ensures.forgotten k) in
+    forgotten f h was c.max-self-inside.result (omega (arith, c.max-self-inside.ensures)) after (λ k. grind (arith, cut_to k)) (postings_in c.forget-are_runs_due.new.self.runs) c.forget-are_runs_due.ensures.agree

@@ -1,0 +1,11 @@
+use Rattle.std.proofs.Common.{subst, sym}
+use Rattle.pivot_check.specs.Inside.{postings_in}
+use Rattle.pivot_check.specs.Kept.{CommittedValue, Facts}
+use Rattle.pivot_check.specs.StandsFor.{StandsFor}
+use Rattle.pivot_check.proofs.Judging.{shortened}
+use Rattle.pivot_check.proofs.committed.Committed.merge.Goals as goal
+
+pub returns-clause-stands_for : goal.returns-clause-stands_for
+returns-clause-stands_for c = λ h s.
+    let f : Facts = record { readers = c.self.inside.readers.readers; postings = postings_in c.self.inside.runs.runs; oldest = c.self.inside.oldest; last = c.self.inside.last } in
+    shortened f h (subst (λ (v : CommittedValue). StandsFor v.facts h) (sym c.self.view_is) s) (postings_in c.merge.new.self.runs) c.merge.ensures.agree

@@ -1,0 +1,38 @@
+use Rattle.std.proofs.Common.{◌≡◌, ◌++◌, ℕ, true, length, subst, sym, ap, ◌∙◌, arith}
+use Rattle.std.specs.Prelude.{nat_lt, ◌&&◌}
+use Rattle.std.specs.Vec.{vec_capacity}
+use Rattle.pivot_check.specs.Postings.{Posting, keys_rise, are_upto}
+use Rattle.pivot_check.specs.Parts.{live, left, live_in}
+use Rattle.pivot_check.specs.Inside.{in_run}
+use Rattle.pivot_check.proofs.Joined.{both_agree, joined, both_upto, none_left}
+use Rattle.pivot_check.proofs.merges.WrittenRunRun.join.Goals as goal
+
+pub invariant_of-self : goal.invariant_of-self
+invariant_of-self c =
+    let was = c.args.self.now in
+    let more = c.args.second in
+    let first = c.replace.result in
+    let made = c.replace.new.dest in
+    let value = c.replace.ensures.value in
+    let after = c.replace.ensures.after in
+    let empty = (λ i. length (after i).written.items) ∙ c.requires.room.0 in
+    let none : left made ≡ 0 = omega (arith, empty) in
+    let nothing = none_left made none in
+    let first_left : left first ≡ left was.made = ap left value in
+    let capacity : vec_capacity made.written ≡ vec_capacity c.args.places.written = (λ i. vec_capacity (after i).written) in
+    let room = c.requires.room.1 in
+    record {
+      first_rises = (λ i. keys_rise (nothing i ++ live (value i))) ∙ was.made.rising;
+      second_rises = (λ i. keys_rise (nothing i ++ live more.made)) ∙ more.made.rising;
+      room = omega (arith, empty, first_left, capacity, room);
+      upto = subst (λ (n : ℕ). are_upto n (live_in made first more.made) ≡ true) (sym c.max-self.ensures)
+          (both_upto was.last more.last (in_run was) (in_run more) (live_in made first more.made) was.upto more.upto (λ t. joined t was more made first c.requires.first c.requires.second none value));
+    }
+
+pub returns-clause-agree : goal.returns-clause-agree
+returns-clause-agree c = λ o t.
+    let above = λ (p : Posting). nat_lt o p.number && t p in
+    let was = c.args.self.now in
+    let more = c.args.second in
+    let none : left c.replace.new.dest ≡ 0 = ap left c.replace.ensures.after ∙ omega (arith, c.requires.room.0) in
+    both_agree above was more (live_in c.replace.new.dest c.replace.result more.made) (joined above was more c.replace.new.dest c.replace.result c.requires.first c.requires.second none c.replace.ensures.value)

@@ -1,0 +1,42 @@
+use Rattle.std.proofs.Common.{refl, sym, ap, ◌∙◌}
+use Rattle.std.specs.Prelude.{is_some}
+use Rattle.sorted_pages.proofs.Placings.{page_sorted, find_at}
+use Rattle.sorted_pages.proofs.Values.{entries-with_value, room-with_value}
+use Rattle.sorted_pages.proofs.pages.SortedPages.get_mut.Goals as goal
+
+pub search-requires : goal.search-requires
+search-requires g c =
+    let at = rw c.deref.ensures.value at c.place-i.ensures in
+    page_sorted c.self.inside.pages.items c.bytes-bytes.result.now c.place-i.result c.index.result.now at c.index.ensures c.self.invariant
+
+pub returns-in-Ok : goal.returns-in-Ok
+returns-in-Ok g c =
+    let ps = c.args.self.now in
+    let k = c.args.key.bytes.now in
+    let sorted = rw c.self.view_is at c.self.invariant.sorted in
+    let found = rw c.bytes-bytes.ensures.bytes at c.value_at.ensures.value in (
+      rw c.bytes-bytes.ensures.bytes,
+      record {
+        writes_back = tt;
+        value = sym found;
+        put = λ w. entries-with_value ps k w sorted (ap is_some found);
+        rooms = λ w q. room-with_value q ps k w sorted;
+      },
+    )
+
+pub returns-in-Err : goal.returns-in-Err
+returns-in-Err g c =
+    let ps = c.args.self.now in
+    let k = c.args.key.bytes.now in
+    let sorted = rw c.self.view_is at c.self.invariant.sorted in
+    let at = rw (c.deref.ensures.value, c.self.view_is, c.bytes-bytes.ensures.bytes) at c.place-i.ensures in
+    let is = rw c.self.view_is at c.index.ensures in
+    let absent = rw c.bytes-bytes.ensures.bytes at c.in-Err.ensures.absent.absent in (
+      refl,
+      record {
+        writes_back = tt;
+        value = sym (find_at ps k c.place-i.result c.index.result.now at is ∙ absent);
+        put = tt;
+        rooms = λ w q. room-with_value q ps k w sorted;
+      },
+    )
