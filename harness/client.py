@@ -93,7 +93,8 @@ def expect(holds, text):
 
 # Calls that fail
 
-MEMORY, DEVICE, RECEIVE, SEND, ACCEPT, POLL = range(6)
+KINDS = range(7)
+MEMORY, DEVICE, RECEIVE, SEND, ACCEPT, POLL, OPENING = KINDS
 
 
 class Calls:
@@ -139,13 +140,13 @@ class Refusals:
 
     def __init__(self, folder_name):
         self.name = os.path.join(folder_name, "refusals")
-        self.held_at = Calls.SIZE * (POLL + 1)
+        self.held_at = Calls.SIZE * len(KINDS)
         size = self.held_at + 8
         with open(self.name, "wb") as file:
             file.write(bytes(size))
         with open(self.name, "r+b") as file:
             self.shared = mmap.mmap(file.fileno(), size)
-        self.kinds = [Calls(self.shared, kind) for kind in range(POLL + 1)]
+        self.kinds = [Calls(self.shared, kind) for kind in KINDS]
 
     def of(self, kind):
         return self.kinds[kind]

@@ -11,8 +11,8 @@ import socket
 import subprocess
 
 from client import (
-    HERE, PATIENCE, POLL, PROGRAM, SHIM, TRACER, Connection, Refusals, Server, Tally, check, create, expect, folder, free_port, is_long, need,
-    run, run_harness)
+    DEVICE, DEVICE_FAULT, FILE_FAULT, HERE, OPENING, OUT_OF_MEMORY, PATIENCE, POLL, PROGRAM, SHIM, TRACER, Connection, Refusals, Server, Tally,
+    check, create, expect, folder, free_port, is_long, need, run, run_harness)
 from model import (
     KEY_MAX, LARGEST_REPLY, OLD_HEAD, OK, SECTOR, SESSIONS_MAX, Store, VALUE_MAX, WRITES_MAX, body_sectors, frame, log_image, payload, sectors_used)
 from rows import EXAMPLES, example_files, request_of, shown
@@ -325,6 +325,42 @@ def compactions(tally):
         expect_found(run(["check", "--data", data]), 0, "records 2 keys 1 sectors 6 of 16\n")
 
 
+# By the command, how many of its calls on files have the text of their error: its openings and its writes of zeros, and the syncs before
+# the calls of its log.
+FILE_CALLS = {
+    "create --data NEW --sectors 16": (3, 2), "check --data DATA": (2, 1), "compact --from DATA --to NEW": (4, 2)}
+
+
+def failing_calls(line, kind, error):
+    """How the command ends where its n-th call of a kind fails, for n = 1, 2, 3 .. until a run meets no failure."""
+    found, has_met = [], True
+    while has_met:
+        with folder() as place:
+            data, new, refusals = os.path.join(place, "data"), os.path.join(place, "new"), Refusals(place)
+            with open(data, "wb") as file:
+                file.write(IMAGE)
+            refusals.of(kind).fail(len(found) + 1, error=error)
+            status, out, text = run([{"DATA": data, "NEW": new}.get(word, word) for word in line.split()], environment=refusals.environment())
+            has_met = refusals.of(kind).failed > 0
+            expect((status, out) == (3, b"") if has_met else status == 0, f"call {len(found) + 1}: it answered {(status, out, text)}")
+            expect(text == DEVICE_FAULT or not has_met or not os.path.exists(new), f"call {len(found) + 1}: it left a new file")
+            found += [text] if has_met else []
+    return found
+
+
+def failing_files(tally):
+    """Each opening, read, write and sync of a file fails: the command ends with the text of its error, or with the device's where it is a call of the log's."""
+    for line, (files, syncs) in FILE_CALLS.items():
+        for error, text in ((errno.EIO, FILE_FAULT), (errno.ENOMEM, OUT_OF_MEMORY)):
+            with tally.run(f"{line} whose openings and writes fail with {error}"):
+                found = failing_calls(line, OPENING, error)
+                # The first opens the null device, and nothing looks at its error.
+                expect(found == [FILE_FAULT] + [text] * files, f"they end with {found}")
+            with tally.run(f"{line} whose calls of the device fail with {error}"):
+                found = failing_calls(line, DEVICE, error)
+                expect(set(found) == {text, DEVICE_FAULT} and found.count(text) == syncs, f"they end with {found}")
+
+
 def asked(data, lines):
     """What a server over this file answers to these lines."""
     with Server(data) as server, Connection(server.port) as client:
@@ -531,7 +567,8 @@ def servers(tally):
                     continue    # a machine without it
                 expect(server.line == f"listening {text}:{port}\n".encode(), f"it printed {server.line!r}")
     full_log(tally)
-    refused_poll(tally)
+    refused_poll(tally, errno.EBADF, b"ssikvd: poll fault\n")
+    refused_poll(tally, errno.ENOMEM, OUT_OF_MEMORY)
 
 
 def full_log(tally):
@@ -553,9 +590,9 @@ def full_log(tally):
             expect(file.read() == image, "the file was changed")
 
 
-def refused_poll(tally):
-    """A poll that a signal cuts short changes nothing; one that fails ends the server, with its text, and what was committed stands."""
-    with folder() as place, tally.run("serve with a poll that is refused"):
+def refused_poll(tally, error, text):
+    """A poll that a signal cuts short changes nothing; one that fails ends the server, with its error's text, and what was committed stands."""
+    with folder() as place, tally.run(f"serve with a poll that is refused with {error}"):
         data, refusals = os.path.join(place, "data"), Refusals(place)
         create(data, 8)
         with Server(data, environment=refusals.environment()) as server, Connection(server.port) as client:
@@ -563,10 +600,10 @@ def refused_poll(tally):
             polls.fail(polls.made + 2, polls.made + 20, errno.EINTR)
             replies = [client.ask(frame(*line.split(" "))) for line in lines]
             expect(replies == [b"+OK\r\n", b"+OK\r\n", b":1\r\n"], f"beside polls that were cut short it answered {replies}")
-            polls.fail_all(errno.EBADF)
+            polls.fail_all(error)
             client.send(frame("PING"))
             found = server.status(), server.error_text()
-            expect(found == (3, b"ssikvd: poll fault\n"), f"it ended with {found}")
+            expect(found == (3, text), f"it ended with {found}")
         expect(check(data) == (1, 1, 4, 8), "the commit is not there")
 
 
@@ -620,7 +657,7 @@ def main():
     need(PROGRAM, SHIM, TRACER)
     holds = True
     for name, parts in (
-            ("command lines", [command_lines]), ("data files and addresses", [create_at_bounds, data_files, compactions, names, file_in_folder]),
+            ("command lines", [command_lines]), ("data files and addresses", [create_at_bounds, data_files, compactions, failing_files, names, file_in_folder]),
             ("output that fails", [failing_output]), ("scripts", [scripts]), ("servers", [servers]), ("lines in one write", [whole_lines])):
         tally = Tally(name)
         for part in parts:

@@ -15,10 +15,11 @@
 #include <sys/epoll.h>
 #include <sys/mman.h>
 #include <sys/socket.h>
+#include <sys/stat.h>
 #include <sys/syscall.h>
 #include <unistd.h>
 
-enum kind { MEMORY, DEVICE, RECEIVE, SEND, ACCEPT, POLL, KINDS };
+enum kind { MEMORY, DEVICE, RECEIVE, SEND, ACCEPT, POLL, OPENING, KINDS };
 
 static const uint64_t NOTHING = (uint64_t)1 << 32;
 
@@ -143,6 +144,19 @@ ssize_t send(int file, const void *from, size_t size, int flags) {
 
 int accept4(int file, struct sockaddr *address, socklen_t *length, int flags) {
     return allowed(ACCEPT, 0) < 0 ? -1 : (int)syscall(SYS_accept4, file, address, length, flags);
+}
+
+static int open_file(int folder, const char *path, int flags, mode_t mode) {
+    return is_chosen(OPENING) ? -1 : (int)syscall(SYS_openat, folder, path, flags, mode);
+}
+
+#include "openings.h"
+
+/* A write to a file at its own place, as zeros are written; those to a pipe or a terminal are none of the kind. */
+ssize_t write(int file, const void *from, size_t size) {
+    struct stat status;
+    int is_file = control && fstat(file, &status) == 0 && S_ISREG(status.st_mode);
+    return is_file && is_chosen(OPENING) ? -1 : syscall(SYS_write, file, from, size);
 }
 
 int epoll_wait(int poll, struct epoll_event *events, int most, int timeout) {

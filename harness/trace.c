@@ -7,7 +7,6 @@
 #define _GNU_SOURCE
 #include <errno.h>
 #include <fcntl.h>
-#include <stdarg.h>
 #include <stdint.h>
 #include <stdlib.h>
 #include <string.h>
@@ -63,33 +62,7 @@ static int open_file(int folder, const char *path, int flags, mode_t mode) {
     return (int)note(OPEN, file, flags, file, path, (int64_t)strlen(path));
 }
 
-#define MODE_OF(flags)                            \
-    ({                                            \
-        mode_t mode = 0;                          \
-        if ((flags) & (O_CREAT | O_TMPFILE)) {    \
-            va_list rest;                         \
-            va_start(rest, flags);                \
-            mode = va_arg(rest, mode_t);          \
-            va_end(rest);                         \
-        }                                         \
-        mode;                                     \
-    })
-
-int open(const char *path, int flags, ...) {
-    return open_file(AT_FDCWD, path, flags, MODE_OF(flags));
-}
-
-int open64(const char *path, int flags, ...) {
-    return open_file(AT_FDCWD, path, flags, MODE_OF(flags));
-}
-
-int openat(int folder, const char *path, int flags, ...) {
-    return open_file(folder, path, flags, MODE_OF(flags));
-}
-
-int openat64(int folder, const char *path, int flags, ...) {
-    return open_file(folder, path, flags, MODE_OF(flags));
-}
+#include "openings.h"
 
 int close(int file) {
     return (int)note(CLOSE, file, 0, syscall(SYS_close, file), NULL, 0);

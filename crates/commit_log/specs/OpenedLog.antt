@@ -23,20 +23,24 @@ OpensWhatWas {g = g} device log map =
     (lists : List (List KeyWrite)) × StandsFor log lists × (map ≡ map_after [] lists)
     × (image : List (List ℕ)) × IsLogImage current lists image × CanSettle (g.size device) (g.may_read device) (g.may_leave device) image × Holds g (device_of log) image
 
--- a crash since the call began leaves what one before it might have left
-abbrev pub OpeningLeavesAsBefore : {D : Type 0} {g : Ghosts D} → D → Result (Log D g × KeyMap) (Unopened D) → Type 0
-OpeningLeavesAsBefore {g = g} device result = MatchResult result (λ r. LeavesAsBefore g device (device_of r.0)) (λ u. LeavesAsBefore g device u.device)
+-- these are the log and the map of the write sets
+abbrev pub IsLogOf : {D : Type 0} {g : Ghosts D} → List (List KeyWrite) → Log D g × KeyMap → Type 0
+IsLogOf lists opened = StandsFor opened.0 lists × (opened.1 ≡ map_after [] lists)
 
--- of a device, how opening its log came out, and which fault each error tells
-module _ {D E : Type 0} {g : Ghosts D} (device : D) (result : Result (Log D g × KeyMap) E) (fault_of : E → LogFault) where
+-- a crash since the call began leaves what one before it might have left
+abbrev pub OpeningLeavesAsBefore : {D R : Type 0} → Ghosts D → D → (R → D) → Result R (Unopened D) → Type 0
+OpeningLeavesAsBefore g device device_in result = MatchResult result (λ r. LeavesAsBefore g device (device_in r)) (λ u. LeavesAsBefore g device u.device)
+
+-- of a device, how opening what is on it came out, and which fault each error tells
+module _ {D R E : Type 0} (g : Ghosts D) (device : D) (result : Result R E) (fault_of : E → LogFault) where
   -- the fault is this one, the device's or memory's
   abbrev pub FailsWith : LogFault → Type 0
   FailsWith fault = IsErrAnd result (λ e. (fault_of e ≡ fault) ⊎ IsDeviceOrMemory (fault_of e))
 
-  -- a log is read as what it is
-  abbrev pub FindsLog : Type 0
-  FindsLog = (disk : List (List ℕ)) (lists : List (List KeyWrite)) → length disk ≡ g.size device → ReadsAs (g.may_read device) disk
-      → IsLogImage current lists disk → MatchResult result (λ r. StandsFor r.0 lists × (r.1 ≡ map_after [] lists)) (λ e. IsDeviceOrMemory (fault_of e))
+  -- a log is opened as what it is
+  abbrev pub FindsLog : (List (List KeyWrite) → R → Type 0) → Type 0
+  FindsLog IsOf = (disk : List (List ℕ)) (lists : List (List KeyWrite)) → length disk ≡ g.size device → ReadsAs (g.may_read device) disk
+      → IsLogImage current lists disk → MatchResult result (IsOf lists) (λ e. IsDeviceOrMemory (fault_of e))
 
   -- so is one that is damaged
   abbrev pub FindsDamage : Type 0

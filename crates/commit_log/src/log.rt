@@ -31,7 +31,7 @@ impl<D: Sectors> Log<D> {
     ghost use Rattle.commit_log.specs.RecordFormat.{IsWriteSet};
     ghost use Rattle.commit_log.specs.LogFaults.{IsOpenFault, IsAppendFault};
     ghost use Rattle.commit_log.specs.Reading.{LeavesAsBefore, TellsFailure};
-    ghost use Rattle.commit_log.specs.OpenedLog.{OpensWhatWas, OpeningLeavesAsBefore, FindsLog, FindsDamage, FindsNoLog, FindsOldHead, FindsWhatIsLeft};
+    ghost use Rattle.commit_log.specs.OpenedLog.{IsLogOf, OpensWhatWas, OpeningLeavesAsBefore, FindsLog, FindsDamage, FindsNoLog, FindsOldHead, FindsWhatIsLeft};
     ghost use Rattle.commit_log.specs.LogState.{StandsFor, OfItsLists, HasSameRecords, LacksRoom, AppendLeaves, AppendLeft, record_count, used_sectors, is_stopped, device_of, sector_count, failure_count};
 
     /// Opens the log that a device holds, and gives the map that its write sets make of the empty one. It syncs the device, and reads
@@ -54,16 +54,16 @@ impl<D: Sectors> Log<D> {
         ensures stands { D.keeps_model → IfOk result (λ r. OpensWhatWas device r.0 r.1) }
 
         // During the call, also where it fails, a crash leaves what one before it could have left.
-        ensures during { D.keeps_model → OpeningLeavesAsBefore device result }
+        ensures during { D.keeps_model → OpeningLeavesAsBefore D.Sectors device (λ r. device_of r.0) result }
 
         // A log is read as what it is.
-        ensures found { D.keeps_model → FindsLog device result (λ u. u.fault) }
-        ensures damaged { D.keeps_model → FindsDamage device result (λ u. u.fault) }
-        ensures no_log { D.keeps_model → FindsNoLog device result (λ u. u.fault) }
-        ensures older { D.keeps_model → FindsOldHead device result (λ u. u.fault) }
+        ensures found { D.keeps_model → FindsLog D.Sectors device result (λ u. u.fault) IsLogOf }
+        ensures damaged { D.keeps_model → FindsDamage D.Sectors device result (λ u. u.fault) }
+        ensures no_log { D.keeps_model → FindsNoLog D.Sectors device result (λ u. u.fault) }
+        ensures older { D.keeps_model → FindsOldHead D.Sectors device result (λ u. u.fault) }
 
         // Where each crash leaves some log, one is found.
-        ensures undamaged { D.keeps_model → FindsWhatIsLeft device result (λ u. u.fault) }
+        ensures undamaged { D.keeps_model → FindsWhatIsLeft D.Sectors device result (λ u. u.fault) }
     {
         let found = match read_log(alloc, &mut device) {
             Ok(found) => found,
@@ -99,13 +99,13 @@ impl<D: Sectors> Log<D> {
         ensures during { D.keeps_model → IfOk result (λ r. LeavesAsBefore D.Sectors device (device_of r.0)) }
 
         // A log is read as what it is.
-        ensures found { D.keeps_model → FindsLog device result (λ e. e) }
-        ensures damaged { D.keeps_model → FindsDamage device result (λ e. e) }
-        ensures no_log { D.keeps_model → FindsNoLog device result (λ e. e) }
-        ensures older { D.keeps_model → FindsOldHead device result (λ e. e) }
+        ensures found { D.keeps_model → FindsLog D.Sectors device result (λ e. e) IsLogOf }
+        ensures damaged { D.keeps_model → FindsDamage D.Sectors device result (λ e. e) }
+        ensures no_log { D.keeps_model → FindsNoLog D.Sectors device result (λ e. e) }
+        ensures older { D.keeps_model → FindsOldHead D.Sectors device result (λ e. e) }
 
         // Where each crash leaves some log, one is found.
-        ensures undamaged { D.keeps_model → FindsWhatIsLeft device result (λ e. e) }
+        ensures undamaged { D.keeps_model → FindsWhatIsLeft D.Sectors device result (λ e. e) }
     {
         match Log::open_or_return(alloc, device) {
             Ok(opened) => Ok(opened),

@@ -7,17 +7,15 @@ use std::alloc::Global;
 use std::collections::BTreeMap;
 
 impl<D: Sectors> Engine<D> {
-    ghost use Rattle.std.specs.Prelude.{◌≡◌, ◌⊎◌, ◌<◌, ℕ, [], false, length, IfOk, IfErr, IsErrAnd};
+    ghost use Rattle.std.specs.Prelude.{◌≡◌, ◌⊎◌, ◌<◌, ℕ, [], false, IfOk, IfErr, IsErrAnd};
     ghost use Rattle.model.specs.Map.{KeyMap};
     ghost use Rattle.model.specs.Machine.{State, opened};
     ghost use Rattle.sector.specs.Failures.{Stayed};
-    ghost use Rattle.commit_log.specs.declared.formats.LogFormat.{LogFormat};
-    ghost use Rattle.commit_log.specs.declared.formats.LogFormat.TheVariants.{One};
-    ghost use Rattle.commit_log.specs.Format.{current};
-    ghost use Rattle.commit_log.specs.LogImage.{IsLogImage, IsDamaged, HasHead, IsNoLog};
-    ghost use Rattle.commit_log.specs.LogFaults.{IsDeviceOrMemory, IsOpenFault};
-    ghost use Rattle.engine.specs.Meaning.{StandsFor, failures_of, is_stopped};
-    ghost use Rattle.engine.specs.Opening.{WhereDisk, WhereImage, Finds, FailsBy, LeavesLog, TellsFailure, SurvivesOpening};
+    ghost use Rattle.commit_log.specs.LogFaults.{IsOpenFault};
+    ghost use Rattle.commit_log.specs.OpenedLog.{OpeningLeavesAsBefore, FindsLog, FindsDamage, FindsNoLog, FindsOldHead, FindsWhatIsLeft};
+    ghost use Rattle.commit_log.specs.Reading.{TellsFailure};
+    ghost use Rattle.engine.specs.Meaning.{StandsFor, device_of, failures_of, is_stopped};
+    ghost use Rattle.engine.specs.Opening.{IsStoreOf};
 
     /// Opens the store whose log a device holds. Nothing is open in it, and nothing has committed since.
     ///
@@ -31,20 +29,20 @@ impl<D: Sectors> Engine<D> {
         ensures faults { IfErr result (λ u. IsOpenFault u.fault) }
 
         // `Device` is told exactly where a call has failed: the device then counts more failures.
-        ensures cause { IfErr result (λ u. TellsFailure u.fault (D.failures dev) (D.failures u.device)) }
+        ensures cause { IfErr result (λ u. TellsFailure (D.failures dev) (D.failures u.device) u.fault) }
         ensures short { D.size dev < 2 → IsErrAnd result (λ u. (u.fault ≡ LogFault.NotALog) ⊎ (u.fault ≡ LogFault.Device)) }
 
         // A log is opened with the map that its write sets make.
-        ensures found { D.keeps_model → WhereImage dev (IsLogImage current) result (Finds dev) }
-        ensures damaged { D.keeps_model → WhereImage dev (IsDamaged current) result (λ lists. FailsBy (LogFault.Damaged (length lists))) }
-        ensures no_log { D.keeps_model → WhereDisk dev (λ disk. (f : LogFormat) → IsNoLog f disk) result (FailsBy LogFault.NotALog) }
-        ensures older { D.keeps_model → WhereDisk dev (HasHead One) result (FailsBy LogFault.OldFormat) }
+        ensures found { D.keeps_model → FindsLog D.Sectors dev result (λ u. u.fault) (IsStoreOf (D.size dev)) }
+        ensures damaged { D.keeps_model → FindsDamage D.Sectors dev result (λ u. u.fault) }
+        ensures no_log { D.keeps_model → FindsNoLog D.Sectors dev result (λ u. u.fault) }
+        ensures older { D.keeps_model → FindsOldHead D.Sectors dev result (λ u. u.fault) }
 
         // Where each crash leaves some log, one is found.
-        ensures undamaged { D.keeps_model → LeavesLog (D.may_leave dev) → IfErr result (λ u. IsDeviceOrMemory u.fault) }
+        ensures undamaged { D.keeps_model → FindsWhatIsLeft D.Sectors dev result (λ u. u.fault) }
 
         // During the call, also where it fails, a crash leaves what one before it could have left.
-        ensures during { D.keeps_model → SurvivesOpening dev result }
+        ensures during { D.keeps_model → OpeningLeavesAsBefore D.Sectors dev device_of result }
     {
         let (log, map) = match Log::open_or_return(alloc, dev) {
             Ok(opened) => opened,

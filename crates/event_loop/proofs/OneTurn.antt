@@ -1,5 +1,6 @@
 -- The parts of a turn make it, and those of its wait.
 use Rattle.std.proofs.Common.{◌≡◌, Bool, true, false, List, Option, Result, Ok, Err, refl, sym, subst}
+use Rattle.std.specs.declared.io.Error.{Error}
 use Rattle.std.specs.declared.time.Duration.{Duration}
 use Rattle.mio.specs.Events.{items}
 use Rattle.event_loop.specs.declared.connections.Backlog.{Backlog}
@@ -52,11 +53,11 @@ module _ {D : Type 0} {g : Ghosts D} (tells : Type 0) (traffic : Socket → Traf
 
 -- ---- its wait
 
-module _ {D A E : Type 0} {g : Ghosts D} (timeout : Option Duration) (old new : EventLoop D g) (before : Poller) (looked : Looked old.poller before) (polled : Poller) (unread : NothingRead before polled) (waited : nanos_of polled.waited ≡ turn_waits old before.time timeout) where
-  pub wait_failed : (result : Result A E) (fault : E) → result ≡ Err fault → polls_of polled ≡ after_wait {A = A} {E = E} (Err fault) (polls_of before) → new.poller ≡ polled → Waits timeout old result new
+module _ {D A : Type 0} {g : Ghosts D} (timeout : Option Duration) (old new : EventLoop D g) (before : Poller) (looked : Looked old.poller before) (polled : Poller) (unread : NothingRead before polled) (waited : nanos_of polled.waited ≡ turn_waits old before.time timeout) where
+  pub wait_failed : (result : Result A Error) (fault : Error) → result ≡ Err fault → polls_of polled ≡ after_wait {A = A} (Err fault) (polls_of before) → new.poller ≡ polled → Waits timeout old result new
   wait_failed result fault is told same =
-      subst (λ (r : Result A E). Waits timeout old r new) (sym is) (record { before = before; looked = looked; polled = polled; told = told; waited = waited; unread = unread; again = same; room = new.room })
+      subst (λ (r : Result A Error). Waits timeout old r new) (sym is) (record { before = before; looked = looked; polled = polled; told = told; waited = waited; unread = unread; again = same; room = new.room })
 
-  pub wait_told : (value : A) → polls_of polled ≡ after_wait {A = A} {E = E} (Ok value) (polls_of before) → (after : Poller) → Looked polled after → new.poller ≡ after → Waits {A = A} {E = E} timeout old (Ok value) new
+  pub wait_told : (value : A) → polls_of polled ≡ after_wait {A = A} (Ok value) (polls_of before) → (after : Poller) → Looked polled after → new.poller ≡ after → Waits {A = A} timeout old (Ok value) new
   wait_told value told after again same =
       record { before = before; looked = looked; polled = polled; told = told; waited = waited; unread = unread; again = subst (λ (p : Poller). Looked polled p) (sym same) again; room = new.room }

@@ -1,20 +1,24 @@
 -- How the calls of the system's poll came out.
-use Rattle.std.specs.Prelude.{◌≡◌, ℕ, Result, Ok, Err}
+use Rattle.std.specs.Prelude.{◌≡◌, ℕ, Option, Some, None, Result, Ok, Err}
+use Rattle.std.specs.IoError.{error_kind}
+use Rattle.std.specs.declared.io.Error.{Error}
+use Rattle.std.specs.declared.io.ErrorKind.{ErrorKind}
 use Rattle.stream_driver.specs.Traffic.{one_more}
 use Rattle.event_loop.specs.declared.polling.Poller.{Poller}
 
--- how often it told, be it of no event, and how often it failed
+-- how often it told, be it of no event, how often it failed, and of what kind the last call's fault was, none where that told
 pub record Polls : Type 0 where
   pub told : ℕ
   pub failed : ℕ
+  pub fault : Option ErrorKind
 
 abbrev pub polls_of : Poller → Polls
-polls_of poller = record { told = poller.told; failed = poller.failed }
+polls_of poller = record { told = poller.told; failed = poller.failed; fault = poller.fault }
 
 -- the counts after one call that answered so
-abbrev pub after_wait : {A E : Type 0} → Result A E → Polls → Polls
-after_wait (Ok told) polls = record polls { told = one_more polls.told }
-after_wait (Err fault) polls = record polls { failed = one_more polls.failed }
+abbrev pub after_wait : {A : Type 0} → Result A Error → Polls → Polls
+after_wait (Ok told) polls = record polls { told = one_more polls.told; fault = None }
+after_wait (Err fault) polls = record polls { failed = one_more polls.failed; fault = Some (error_kind fault) }
 
 -- the clock was read once more
 abbrev pub Looked : Poller → Poller → Type 0

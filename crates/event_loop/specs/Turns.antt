@@ -1,5 +1,6 @@
 -- What one turn of the loop does to its hub and its table.
 use Rattle.std.specs.Prelude.{◌≡◌, ◌==◌, ◌||◌, ℕ, ◌+◌, ◌≤◌, Bool, true, false, List, [], Option, Result}
+use Rattle.std.specs.declared.io.Error.{Error}
 use Rattle.std.specs.declared.time.Duration.{Duration}
 use Rattle.std.specs.declared.time.Instant.{Instant}
 use Rattle.std.specs.List.{list_any}
@@ -142,7 +143,7 @@ turn_waits events now timeout =
 
 -- A turn reads the clock, polls so long, and reads the clock again where that told. There is room for an event of each session, of each
 -- connection that lingers, and of the listener.
-pub record Waits {D A E : Type 0} {g : Ghosts D} (timeout : Option Duration) (old : EventLoop D g) (result : Result A E) (new : EventLoop D g) : Type 0 where
+pub record Waits {D A : Type 0} {g : Ghosts D} (timeout : Option Duration) (old : EventLoop D g) (result : Result A Error) (new : EventLoop D g) : Type 0 where
   pub before : Poller
   pub looked : Looked old.poller before
   pub polled : Poller

@@ -12,13 +12,15 @@ use std::time::{Clock, Duration, Instant};
 /// The system's poll, with what it told last, and the clock by which it is used.
 ///
 /// How often it told, how often it failed and how often the clock was read is counted. A count is a u64: it rises with its answer, and
-/// once it stands at 2^64 - 1 it stays. It leaves open of what it tells, and what the clock says.
+/// once it stands at 2^64 - 1 it stays. The kind of the last fault is kept. It leaves open of what it tells, and what the clock says.
 #[derive(Drop)]
 pub(crate) struct Poller {
     poll: Poll,
     events: Events,
     told: u64,
     failed: u64,
+    /// The kind of the fault of the last poll, none where that told.
+    fault: Option<io::ErrorKind>,
     /// The wait that it was given last.
     waited: Option<Duration>,
     /// How often the clock was read.
@@ -37,6 +39,7 @@ impl Poller {
             events: Events::with_capacity(alloc, capacity)?,
             told: 0,
             failed: 0,
+            fault: None,
             waited: None,
             readings: 0,
             time: None,
@@ -82,10 +85,12 @@ impl Poller {
         match self.poll.poll(&mut self.events, timeout) {
             Ok(()) => {
                 self.told = self.told.saturating_add(1);
+                self.fault = None;
                 Ok(())
             }
             Err(fault) => {
                 self.failed = self.failed.saturating_add(1);
+                self.fault = Some(fault.kind());
                 Err(fault)
             }
         }

@@ -141,8 +141,8 @@ impl<D: Sectors> EventLoop<D> {
     /// `LINGERING_SECONDS` seconds, where `LINGERING_MAX` others have come to linger since, or where an accept fails, perhaps because there
     /// are no more descriptors. While some linger, a turn may wait no longer than the oldest may.
     ///
-    /// It polls once, and answers a fault exactly where that failed; nothing else was done then. It may grow the table, and what the sessions'
-    /// requests grow.
+    /// It polls once, and answers a fault exactly where that failed, of that fault's kind; nothing else was done then. It may grow the
+    /// table, and what the sessions' requests grow.
     ///
     /// The hub's events are those of the drives, each of its own session over its own stream, and then the joins of the accepts, and no
     /// others: which entries are ready is what the poll reported. No entry is taken out but one whose session has left. Before the turn and

@@ -5,10 +5,11 @@
 ghost use Rattle.sector.specs.FileModel.{FileKeepsModel};
 ghost use Rattle.commit_log.specs.Format.{current};
 ghost use Rattle.commit_log.specs.RecordFormat.{IsWriteSet};
+ghost use Rattle.commit_log.specs.LogState.{AppendLeaves};
+ghost use Rattle.sessions.specs.Crashes.{AppliesWhole, KeepsCommitted};
 ghost use Rattle.sessions.specs.StandsFor.{event_of};
 ghost use Rattle.sessions.specs.Lives.{LivesLoseNothing, LivesFromNothing};
 ghost use Rattle.sessions.specs.OneOrder.{LivesHaveOneHistory};
-ghost use Rattle.file_premise.specs.Survival.{AppendsWhole, AppliesWhole, KeepsCommitted};
 
 use commit_log::{Log, LogFault};
 use model::Write;
@@ -19,7 +20,7 @@ use std::alloc::Global;
 /// Appends a record to a log over a file: a crash at any moment of the call leaves the log with the record or without it.
 pub fn append(log: &mut Log<FileSectors>, alloc: Global, writes: &[Write]) -> Result<u64, LogFault>
     requires { IsWriteSet current writes.now }
-    ensures { FileKeepsModel → AppendsWhole log.old log.new writes.now }
+    ensures { FileKeepsModel → AppendLeaves log.old log.new writes.now }
 {
     log.append(alloc, writes)
 }

@@ -15,6 +15,8 @@ mod log;
 #[cfg(test)]
 mod long_use;
 #[cfg(test)]
+mod pages;
+#[cfg(test)]
 mod readers;
 #[cfg(test)]
 mod replies;

@@ -5,7 +5,7 @@ use Rattle.std.proofs.lemmas.Bool.{both_ways}
 use Rattle.sessions.specs.Calls.{has_failed}
 use Rattle.sector.specs.SectorModel.{LeavesOnly}
 use Rattle.model.specs.Laws.{MachineLaw}
-use Rattle.sessions.specs.Crashes.{HoldsBeforeOrAfter, IsLeftByEvent, IsStored, SurvivesCrash, SurvivesEvent, ServesCommit, Commits}
+use Rattle.sessions.specs.Crashes.{HoldsBeforeOrAfter, IsLeftByEvent, KeepsCommitted, AppliesWhole, SurvivesEvent, ServesCommit, Commits}
 use Rattle.sessions.specs.SessionStreams.{HubState, HubEvent, Choice, IsPossible, hub_step, run, IsReachedHub}
 use Rattle.sessions.specs.StandsFor.{Ghosts, Hub, StandsFor, device, failures, is_stopped}
 use Rattle.sessions.specs.Laws.{IsLawful, IsSound, LeadsTo, Ran, Steps}
@@ -25,7 +25,7 @@ lawful_at law h reached =
     record { reached = machine; isolated = (law h.machine machine).0; serializable = (law h.machine machine).1; transactions = (always h reached).ends; present = streams.present; gone = streams.gone }
 
 -- between two events
-pub sound : {D : Type 0} {g : Ghosts D} (hub : Hub D g) → MachineLaw → IsStored hub → IsSound hub
+pub sound : {D : Type 0} {g : Ghosts D} (hub : Hub D g) → MachineLaw → (g.keeps_model → KeepsCommitted hub) → IsSound hub
 sound hub law stored = record { lawful = λ h s. lawful_at law h s.reached; stored = λ keeps h s up c left. (stored keeps h s).running up c left }
 
 -- ---- parts of a run
@@ -93,7 +93,7 @@ module _ {D : Type 0} {g : Ghosts D} (any : Hub D g) (only_now : OnlyNow D g) (c
   loses_nothing old mid new es fs p q h s up =
       survivors_lose_nothing old mid new h es fs (ran_survives old mid es p h s) (ran_survives mid new fs q (run h es) (ran_stands old mid es p h s)) only_now keeps up
 
-pub survives : {D : Type 0} {g : Ghosts D} (old new : Hub D g) (e : HubEvent) → OnlyNow D g → IsStored old → SurvivesEvent old new e → SurvivesCrash old new e
+pub survives : {D : Type 0} {g : Ghosts D} (old new : Hub D g) (e : HubEvent) → OnlyNow D g → (g.keeps_model → KeepsCommitted old) → SurvivesEvent old new e → g.keeps_model → AppliesWhole old new e
 survives old new e only_now stored (inl same) keeps h stands = grind (arith, common_steps)
 survives {D} {g} old new e only_now stored (inr x) keeps h stands =
     let f = stream-some old h stands x.0 x.1 (sym x.3) in
@@ -124,7 +124,7 @@ choice_is c b e = λ i. record { front = c.front; refused = c.refused; failed = 
 
 -- ---- one event
 
-module _ {D : Type 0} {g : Ghosts D} (old new : Hub D g) (e : HubEvent) (sound_old : IsSound old) (sound_new : IsSound new) (counted : failures old ≤ failures new) (crash : SurvivesCrash old new e) (still : is_stopped old ≡ true → device new ≡ device old)
+module _ {D : Type 0} {g : Ghosts D} (old new : Hub D g) (e : HubEvent) (sound_old : IsSound old) (sound_new : IsSound new) (counted : failures old ≤ failures new) (crash : g.keeps_model → AppliesWhole old new e) (still : is_stopped old ≡ true → device new ≡ device old)
     (c : Choice) (told : c.failed ≡ has_failed old.engine new.engine) (leads : (h : HubState) → StandsFor old h → IsPossible h e c × StandsFor new (hub_step h e c).0) where
   abbrev Alone : Type 0
   Alone = (d : Choice) × ((h : HubState) → StandsFor old h → (hub_step h e d).0 ≡ (hub_step h e c).0) × Ran old new ((e, d) ∷ [])

@@ -56,11 +56,11 @@ HoldsBeforeOrAfter h e c = HoldsMap c (committed_map h.machine) ⊎ ((s : ℕ) �
 abbrev pub IsLeftByEvent : {D : Type 0} {g : Ghosts D} → Hub D g → HubState → HubEvent → List (List ℕ) → Type 0
 IsLeftByEvent {D} {g} old h e c = ((h.machine.stopped ≡ false) × HoldsBeforeOrAfter h e c) ⊎ ((h.machine.stopped ≡ true) × g.may_leave (device old) c)
 
--- a crash at any moment of the event leaves only that, where the device keeps its model
-abbrev pub SurvivesCrash : {D : Type 0} {g : Ghosts D} → Hub D g → Hub D g → HubEvent → Type 0
-SurvivesCrash {D} {g} old new e = g.keeps_model → (h : HubState) → StandsFor old h → LeavesOnly g.moment g.left_since (device old) (device new) (IsLeftByEvent old h e)
+-- a crash at any moment of the event leaves only that
+abbrev pub AppliesWhole : {D : Type 0} {g : Ghosts D} → Hub D g → Hub D g → HubEvent → Type 0
+AppliesWhole {D} {g} old new e = (h : HubState) → StandsFor old h → LeavesOnly g.moment g.left_since (device old) (device new) (IsLeftByEvent old h e)
 
 -- a crash now leaves the map that is committed; once the store is stopped, that or the one with the writes of the COMMIT that was
 -- answered a store fault
-abbrev pub IsStored : {D : Type 0} {g : Ghosts D} → Hub D g → Type 0
-IsStored {D} {g} hub = g.keeps_model → (h : HubState) → StandsFor hub h → LeavesCommitted h.machine (g.may_leave (device hub))
+abbrev pub KeepsCommitted : {D : Type 0} {g : Ghosts D} → Hub D g → Type 0
+KeepsCommitted {D} {g} hub = (h : HubState) → StandsFor hub h → LeavesCommitted h.machine (g.may_leave (device hub))

@@ -3,7 +3,7 @@ ghost use Rattle.std.specs.Prelude.{◌≡◌, ◌≤◌, ℕ, true, [], length,
 ghost use Rattle.engine.specs.Meaning.{device_of};
 ghost use Rattle.engine.specs.Meaning.{StandsFor as EngineStandsFor};
 ghost use Rattle.model.specs.Machine.{State};
-ghost use Rattle.sessions.specs.Crashes.{SurvivesEvent, SurvivesCrash, IsStored};
+ghost use Rattle.sessions.specs.Crashes.{SurvivesEvent, AppliesWhole, KeepsCommitted};
 ghost use Rattle.sessions.specs.Laws.{GivesBack, IsLawful, NoneRuns, Runs, RunsAlone, RunsFollow, RunsLead, RunsPart};
 ghost use Rattle.sessions.specs.Life.{LosesNothing};
 ghost use Rattle.sessions.specs.Lives.{CutsReopen, KeepsAnswered, LivesLoseNothing, LivesFromNothing};
@@ -226,7 +226,7 @@ impl<D: Sectors> Hub<D> {
     /// Does nothing, and takes no memory. Its contract says what a crash between two events leaves: the map that is committed; once the
     /// store is stopped, that or the one with the writes of the COMMIT that was answered a store fault.
     pub fn is_stored(&self)
-        ensures { IsStored self.now }
+        ensures { D.keeps_model → KeepsCommitted self.now }
     {
         self.engine.is_stored();
     }
@@ -243,9 +243,9 @@ impl<D: Sectors> Hub<D> {
     #[inline(always)]
     pub fn step(&mut self, event: &Event<'_>) -> Outcome
         ensures step { HubLeads self.old self.new (event_of event.now) result }
-        ensures crash { SurvivesCrash self.old self.new (event_of event.now) }
+        ensures crash { D.keeps_model → AppliesWhole self.old self.new (event_of event.now) }
         ensures still { is_stopped self.old ≡ true → device self.new ≡ device self.old }
-        ensures stored { IsStored self.new }
+        ensures stored { D.keeps_model → KeepsCommitted self.new }
         ensures ran { RunsAlone self.old self.new (event_of event.now) }
         ensures device { failures self.old ≤ failures self.new }
     {

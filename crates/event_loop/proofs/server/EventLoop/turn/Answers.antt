@@ -1,4 +1,4 @@
-use Rattle.std.proofs.Common.{◌≡◌, ◌∙◌, refl, sym, ap}
+use Rattle.std.proofs.Common.{◌≡◌, ◌∙◌, Err, refl, sym, ap}
 use Rattle.std.proofs.lemmas.Result.{err_from_is_err_and}
 use Rattle.mio.specs.Events.{items}
 use Rattle.event_loop.specs.declared.polling.Poller.{Poller}
@@ -38,7 +38,7 @@ pub returns-in_err-wait-clause-waits : goal.returns-in_err-wait-clause-waits
 returns-in_err-wait-clause-waits g c =
     let p = err_from_is_err_and c.from_residual.result c.from_residual.ensures.1 in
     wait_failed c.args.timeout c.args.self.now _ c.look.new.self c.look.ensures c.wait.new.self c.wait.ensures.clock (ap nanos_of c.wait.ensures.waited ∙ c.next_wait-wait.ensures)
-    c.from_residual.result p.0 p.1 c.in_err-wait.ensures.polls refl
+    c.from_residual.result c.in_err-wait.field-0.0 (p.1 ∙ ap Err p.2) c.in_err-wait.ensures.polls refl
 
 pub returns-clause-waits : goal.returns-clause-waits
 returns-clause-waits g c =
