@@ -20,9 +20,9 @@ fn peer(alloc: Global, bytes: &[u8], times: u32, last: &[u8]) -> Result<Script, 
 /// Two requests and the beginning of a third: the peer's end makes the session leave.
 #[test]
 fn driving_streams(rt: HostRuntime) -> Result<(), Fail> {
+    let mut stream = peer(rt.alloc(), PING, 2, b"*1")?;
     let mut driven = Driven::new(rt.alloc())?;
     driven.join(1);
-    let mut stream = peer(rt.alloc(), PING, 2, b"*1")?;
     assert!(rt; driven.drive(1, &mut stream) == Progress::Gone);
     assert!(rt; !driven.is_present(1));
     assert!(rt; stream.taken() == b"+PONG\r\n+PONG\r\n".as_slice());
@@ -32,9 +32,9 @@ fn driving_streams(rt: HostRuntime) -> Result<(), Fail> {
 /// After 64 requests the driver lets others have their turn.
 #[test]
 fn driving_a_flood(rt: HostRuntime) -> Result<(), Fail> {
+    let mut stream = peer(rt.alloc(), PING, 65, b"")?;
     let mut driven = Driven::new(rt.alloc())?;
     driven.join(2);
-    let mut stream = peer(rt.alloc(), PING, 65, b"")?;
     for (progress, taken) in [(Progress::Again, 448), (Progress::Gone, 455)] {
         let answered = driven.drive(2, &mut stream) == progress;
         assert!(rt; answered && stream.taken().len() == taken);
@@ -64,31 +64,41 @@ fn first_drive(trouble: Trouble, nth: u64) -> (Progress, usize) {
     }
 }
 
-/// The n-th call of the stream moves one byte, blocks or fails, for each n: no other bytes come out, a call that fails is the last, and the
-/// transaction is aborted, since more than 64 may begin one after another.
+/// Are no other bytes written than the replies before the trouble, is a call that fails the last, and has the session then left?
+fn is_right(alloc: Global, driven: &mut Driven, trouble: Trouble, nth: u64) -> Result<bool, Fail> {
+    driven.join(nth);
+    let input = OPEN_TRANSACTION.to_vec(alloc)?;
+    let mut stream = Script::new(input, Vec::new(alloc), nth, trouble);
+    let (progress, written) = first_drive(trouble, nth);
+    let mut held = driven.drive(nth, &mut stream) == progress
+        && REPLIES.get(..written) == Some(stream.taken());
+    if progress == Progress::Waiting {
+        held = held
+            && driven.drive(nth, &mut stream) == Progress::Gone
+            && stream.taken() == REPLIES;
+    }
+    Ok(held && !driven.is_present(nth))
+}
+
+/// The first n whose call in trouble isn't as it should be.
+fn first_wrong(alloc: Global, driven: &mut Driven, trouble: Trouble) -> Result<Option<u64>, Fail> {
+    for nth in 1..=80u64 {
+        if !is_right(alloc, driven, trouble, nth)? {
+            return Ok(Some(nth));
+        }
+    }
+    Ok(None)
+}
+
+/// The n-th call of the stream moves one byte, blocks or fails, for each n. The transaction is aborted, since more than 64 may begin one
+/// after another.
 #[test]
 fn a_call_in_trouble(rt: HostRuntime) -> Result<(), Fail> {
     for trouble in [Trouble::Fewer, Trouble::Blocked, Trouble::Failed] {
         let mut driven = Driven::new(rt.alloc())?;
-        for nth in 1..=80u64 {
-            driven.join(nth);
-            let input = OPEN_TRANSACTION.to_vec(rt.alloc())?;
-            let mut stream = Script::new(input, Vec::new(rt.alloc()), nth, trouble);
-            let (progress, written) = first_drive(trouble, nth);
-            assert!(rt;
-                driven.drive(nth, &mut stream) == progress,
-                "{trouble:?} at {nth}"
-            );
-            assert!(rt;
-                REPLIES.get(..written) == Some(stream.taken()),
-                "{trouble:?} at {nth}"
-            );
-            if progress == Progress::Waiting {
-                assert!(rt; driven.drive(nth, &mut stream) == Progress::Gone);
-                assert!(rt; stream.taken() == REPLIES);
-            }
-            assert!(rt; !driven.is_present(nth));
-        }
+        let wrong = first_wrong(rt.alloc(), &mut driven, trouble);
+        drop(driven);
+        assert_eq!(rt; wrong?, None, "{trouble:?}");
     }
     Ok(())
 }
@@ -99,12 +109,12 @@ fn a_call_in_trouble(rt: HostRuntime) -> Result<(), Fail> {
 fn a_broken_frame_among_requests(rt: HostRuntime) -> Result<(), Fail> {
     let due = b"+PONG\r\n+PONG\r\n-ERR frame\r\n".as_slice();
     for (nth, written) in [(0u64, 26usize), (4, 14)] {
-        let mut driven = Driven::new(rt.alloc())?;
-        driven.join(1);
         let mut input = PING.to_vec(rt.alloc())?;
         input.extend_from_slice(PING)?;
         input.extend_from_slice(b"*01\r\n")?;
         input.extend_from_slice(PING)?;
+        let mut driven = Driven::new(rt.alloc())?;
+        driven.join(1);
         let mut stream = Script::new(input, Vec::new(rt.alloc()), nth, Trouble::Blocked);
         let progress = driven.drive(1, &mut stream);
         assert!(rt; (progress == Progress::Waiting) == (nth == 4));

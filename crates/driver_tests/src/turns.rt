@@ -93,24 +93,22 @@ impl Crowd {
             next,
             mut table,
         } = self;
-        if next == u64::MAX {
-            return Err("no number is left".into());
+        if next < u64::MAX
+            && table.reserve(1).is_ok()
+            && let Outcome::Done = hub.step(&Event::Joined(next))
+        {
+            table.insert_reserved(Entry {
+                session: next,
+                stream,
+                state,
+            });
+            return Ok(Crowd {
+                hub,
+                next: next + 1,
+                table,
+            });
         }
-        table.reserve(1)?;
-        match hub.step(&Event::Joined(next)) {
-            Outcome::Done => {}
-            _ => return Err("a session did not join".into()),
-        }
-        table.insert_reserved(Entry {
-            session: next,
-            stream,
-            state,
-        });
-        Ok(Crowd {
-            hub,
-            next: next + 1,
-            table,
-        })
+        Err("a session did not join".into())
     }
 
     fn turn(&mut self) {
@@ -142,23 +140,43 @@ fn agree(one: &Hub<MemSectors>, other: &Hub<MemSectors>, session: u64) -> bool {
         && one.pending(session) == other.pending(session)
 }
 
-/// Each connection that is ready stands as a drive of it alone leaves it, over an equal hub; the others are as they were.
+/// Does the peer's connection, after a turn over this hub, stand as a drive of it alone leaves it, over an equal hub; or as it was, where it
+/// wasn't ready?
+fn stands(
+    alloc: Global,
+    hub: &Hub<MemSectors>,
+    entry: &Entry<Script>,
+    session: u64,
+    peer: Peer,
+) -> Result<bool, Fail> {
+    let mut stream = peer.script(alloc)?;
+    let mut alone = hub_of(alloc, &peers())?;
+    if peer.before == EntryState::Ready {
+        let _ = alone.drive(session, &mut stream);
+    }
+    let stands = entry.session == session && entry.state == peer.after;
+    Ok(stands && entry.stream == stream && agree(hub, &alone.hub, session))
+}
+
+/// The first session whose connection doesn't.
+fn first_wrong(alloc: Global, crowd: &Crowd) -> Result<Option<u64>, Fail> {
+    for (session, ((_, entry), peer)) in (FIRST..u64::MAX).zip(crowd.table.iter().zip(peers())) {
+        if !stands(alloc, &crowd.hub, entry, session, peer)? {
+            return Ok(Some(session));
+        }
+    }
+    Ok(None)
+}
+
 #[test]
 fn a_turn(rt: HostRuntime) -> Result<(), Fail> {
-    let peers = peers();
-    let mut crowd = crowd_of(rt.alloc(), &peers)?;
+    let mut crowd = crowd_of(rt.alloc(), &peers())?;
     crowd.turn();
-    for (session, ((_, entry), peer)) in (FIRST..u64::MAX).zip(crowd.table.iter().zip(peers)) {
-        let mut alone = hub_of(rt.alloc(), &peers)?;
-        let mut stream = peer.script(rt.alloc())?;
-        if peer.before == EntryState::Ready {
-            let _ = alone.drive(session, &mut stream);
-        }
-        let stands = entry.session == session && entry.state == peer.after;
-        let is_driven = entry.stream == stream && agree(&crowd.hub, &alone.hub, session);
-        assert!(rt; stands && is_driven, "session {session}");
-    }
-    assert!(rt; crowd.table.len() == peers.len());
+    let wrong = first_wrong(rt.alloc(), &crowd);
+    let connections = crowd.table.len();
+    drop(crowd);
+    assert_eq!(rt; wrong?, None);
+    assert!(rt; connections == peers().len());
     Ok(())
 }
 
@@ -168,14 +186,20 @@ fn pinged(alloc: Global) -> Result<Script, Fail> {
     Ok(Script::new(input, Vec::new(alloc), 0, Trouble::Fewer))
 }
 
-/// The first and the third of three connections are ready: they are answered, and gone at their ends, and the second is left alone.
+/// Three of them, of which the first and the third are ready.
+fn three_pinged(alloc: Global) -> Result<Crowd, Fail> {
+    let mut crowd = Crowd::new(alloc)?;
+    for state in [EntryState::Ready, EntryState::Idle, EntryState::Ready] {
+        crowd = crowd.join(pinged(alloc)?, state)?;
+    }
+    Ok(crowd)
+}
+
+/// The first and the third are answered, and gone at their ends, and the second is left alone.
 #[test]
 fn one_of_three_is_idle(rt: HostRuntime) -> Result<(), Fail> {
-    let (idle, ready, gone) = (EntryState::Idle, EntryState::Ready, EntryState::Gone);
-    let mut crowd = Crowd::new(rt.alloc())?;
-    for state in [ready, idle, ready] {
-        crowd = crowd.join(pinged(rt.alloc())?, state)?;
-    }
+    let (idle, gone) = (EntryState::Idle, EntryState::Gone);
+    let mut crowd = three_pinged(rt.alloc())?;
     crowd.turn();
     let pong = b"+PONG\r\n".as_slice();
     let due = [(gone, pong), (idle, b"".as_slice()), (gone, pong)];

@@ -2,12 +2,14 @@
 //! type that `serve` runs. No function here has a proof of its own.
 #![tactic(auto)]
 
+ghost use Rattle.std.specs.Prelude.{◌≡◌, ◌≢◌, ◌↔◌, ◌+◌, true, false, [], ◌∷◌, ◌++◌, IfErr, IfOk, OnOk, IsErrOf};
+ghost use Rattle.sector.specs.Failures.{Rose};
 ghost use Rattle.sector.specs.FileModel.{FileKeepsModel};
 ghost use Rattle.commit_log.specs.Format.{current};
 ghost use Rattle.commit_log.specs.RecordFormat.{IsWriteSet};
-ghost use Rattle.commit_log.specs.LogState.{AppendLeaves};
+ghost use Rattle.commit_log.specs.LogState.{AppendLeaves, AppendLeft, LacksRoom, OfItsLists, StandsFor as LogStandsFor, failure_count, is_stopped, record_count};
 ghost use Rattle.sessions.specs.Crashes.{AppliesWhole, KeepsCommitted};
-ghost use Rattle.sessions.specs.StandsFor.{event_of};
+ghost use Rattle.sessions.specs.StandsFor.{HubLeads, event_of};
 ghost use Rattle.sessions.specs.Lives.{LivesLoseNothing, LivesFromNothing};
 ghost use Rattle.sessions.specs.OneOrder.{LivesHaveOneHistory};
 
@@ -17,10 +19,19 @@ use sector::FileSectors;
 use sessions::{Event, Hub, Outcome};
 use std::alloc::Global;
 
-/// Appends a record to a log over a file: a crash at any moment of the call leaves the log with the record or without it.
+/// Appends a record to a log over a file, as `Log::append` does, which says when each fault comes: a crash at any moment of the call
+/// leaves the log with the record or without it.
 pub fn append(log: &mut Log<FileSectors>, alloc: Global, writes: &[Write]) -> Result<u64, LogFault>
     requires { IsWriteSet current writes.now }
-    ensures { FileKeepsModel → AppendLeaves log.old log.new writes.now }
+    ensures index { IfOk result (λ index. index ≡ record_count log.old) }
+    ensures counted { OnOk result (record_count log.new ≡ record_count log.old + 1) }
+    ensures stopped { IsErrOf result LogFault.Stopped ↔ (is_stopped log.old ≡ true) }
+    ensures full { IsErrOf result LogFault.Full ↔ ((is_stopped log.old ≡ false) × LacksRoom log.old writes.now) }
+    ensures device { IsErrOf result LogFault.Device → Rose (failure_count log.old) (failure_count log.new) }
+    ensures unchanged { IfErr result (λ e. e ≢ LogFault.Device → log.new ≡ log.old) }
+    ensures crash { FileKeepsModel → AppendLeaves log.old log.new writes.now }
+    ensures left { FileKeepsModel → AppendLeft log.old log.new writes.now }
+    ensures appended { FileKeepsModel → OfItsLists log.old (λ lists. OnOk result (LogStandsFor log.new (lists ++ writes.now ∷ []))) }
 {
     log.append(alloc, writes)
 }
@@ -28,6 +39,7 @@ pub fn append(log: &mut Log<FileSectors>, alloc: Global, writes: &[Write]) -> Re
 /// Applies an event to the sessions over a file: a crash at any moment of it leaves the map committed before it or, where it executes a
 /// COMMIT, that with the transaction's writes. After it a crash leaves the map that is then committed.
 pub fn step(hub: &mut Hub<FileSectors>, event: &Event<'_>) -> Outcome
+    ensures step { HubLeads hub.old hub.new (event_of event.now) result }
     ensures crash { FileKeepsModel → AppliesWhole hub.old hub.new (event_of event.now) }
     ensures stored { FileKeepsModel → KeepsCommitted hub.new }
 {

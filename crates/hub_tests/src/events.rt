@@ -38,12 +38,15 @@ fn hub_events(rt: HostRuntime) -> Result<(), Fail> {
         (Event::Left(5), Outcome::Done, none, 0),
         (Event::Sent(5, 0), Outcome::Unknown, none, 0),
     ];
+    let mut held = true;
     for (event, outcome, pending, room) in &steps {
-        let answered = hub.step(event) == *outcome;
-        if !answered || hub.pending(5) != *pending || hub.room(5) != *room {
-            return Err("another outcome, output or room".into());
-        }
+        held = held
+            && hub.step(event) == *outcome
+            && hub.pending(5) == *pending
+            && hub.room(5) == *room;
     }
+    drop(hub);
+    assert!(rt; held, "another outcome, output or room");
     Ok(())
 }
 
@@ -84,22 +87,23 @@ fn expect<S: Store>(alloc: Global, store: &mut S, asked: &str, due: &str) -> Res
     Ok(())
 }
 
+/// 64 transactions may be open, and another one once one of them has ended.
+fn sixty_four_begin(alloc: Global, store: &mut Pieces) -> Result<(), Fail> {
+    for session in 1..65u64 {
+        let asked = format!(in alloc; "{session} BEGIN")?;
+        expect(alloc, store, &asked, "+OK")?;
+    }
+    expect(alloc, store, "65 BEGIN", "-FULL transactions")?;
+    expect(alloc, store, "1 ABORT", "+OK")?;
+    expect(alloc, store, "65 BEGIN", "+OK")
+}
+
 #[test]
 fn sixty_four_transactions(rt: HostRuntime) -> Result<(), Fail> {
     let mut store = Pieces::new(new_hub(rt.alloc(), 4096)?, FRAME_MAX);
-    for session in 1..65u64 {
-        let asked = format!(in rt.alloc(); "{session} BEGIN")?;
-        expect(rt.alloc(), &mut store, &asked, "+OK")?;
-    }
-    let rest = [
-        ("65 BEGIN", "-FULL transactions"),
-        ("1 ABORT", "+OK"),
-        ("65 BEGIN", "+OK"),
-    ];
-    for (asked, due) in rest {
-        expect(rt.alloc(), &mut store, asked, due)?;
-    }
-    Ok(())
+    let begun = sixty_four_begin(rt.alloc(), &mut store);
+    drop(store);
+    begun
 }
 
 /// An old transaction keeps versions and records; once it has ended, the next event drops them.
@@ -120,15 +124,8 @@ fn kept_versions_and_records(rt: HostRuntime) -> Result<(), Fail> {
         ("1 ABORT", "+OK"),
     ];
     for (lines, versions, records) in [(10usize, 2usize, 2usize), (12, 1, 0)] {
-        let mut store = Pieces::new(new_hub(rt.alloc(), 4096)?, FRAME_MAX);
-        for (line, due) in &asked[..lines] {
-            expect(rt.alloc(), &mut store, line, due)?;
-        }
-        let engine = store.hub.into_engine();
-        let Some(key) = KeyRef::new(b"a") else {
-            return Err("no key".into());
-        };
-        assert!(rt; engine.kept_versions(key) == versions && engine.kept_records() == records);
+        let store = played(rt.alloc(), &asked[..lines])?;
+        assert!(rt; kept(store) == (Some(versions), records));
     }
     Ok(())
 }
@@ -168,8 +165,10 @@ fn each_end_drops_versions(rt: HostRuntime) -> Result<(), Fail> {
     ];
     for (asked, end, due) in ends {
         let mut store = played(rt.alloc(), asked)?;
-        expect(rt.alloc(), &mut store, end, due)?;
-        assert!(rt; versions_of_a(store) == Some(1), "{end}: {due}");
+        let ended = expect(rt.alloc(), &mut store, end, due);
+        let (versions, _) = kept(store);
+        ended?;
+        assert!(rt; versions == Some(1), "{end}: {due}");
     }
     Ok(())
 }
@@ -179,9 +178,9 @@ fn each_end_drops_versions(rt: HostRuntime) -> Result<(), Fail> {
 fn who_leaves_drops_versions(rt: HostRuntime) -> Result<(), Fail> {
     let mut store = played(rt.alloc(), READER)?;
     store.hub.run(&[Event::Left(1)]);
-    assert!(rt; versions_of_a(store) == Some(1));
-    let kept = played(rt.alloc(), READER)?;
-    assert!(rt; versions_of_a(kept) == Some(2));
+    assert!(rt; kept(store).0 == Some(1));
+    let with_reader = played(rt.alloc(), READER)?;
+    assert!(rt; kept(with_reader).0 == Some(2));
     Ok(())
 }
 
@@ -194,7 +193,9 @@ fn played(alloc: Global, asked: &[(&str, &str)]) -> Result<Pieces, Fail> {
     Ok(store)
 }
 
-/// How many versions of `a` are kept.
-fn versions_of_a(store: Pieces) -> Option<usize> {
-    Some(store.hub.into_engine().kept_versions(KeyRef::new(b"a")?))
+/// How many versions of `a` are kept, and how many records.
+fn kept(store: Pieces) -> (Option<usize>, usize) {
+    let engine = store.hub.into_engine();
+    let versions = KeyRef::new(b"a").map(|key| engine.kept_versions(key));
+    (versions, engine.kept_records())
 }

@@ -132,8 +132,10 @@ fn over_the_hub(alloc: Global, name: &str, sectors: u64, lines: &[Line]) -> Resu
     requires { sectors ≤ 4096 }
 {
     for size in [1usize, 2, 3, 7, FRAME_MAX] {
-        let hub = new_hub(alloc, sectors)?;
-        expect_row(alloc, name, &mut Pieces::new(hub, size), lines)?;
+        let mut store = Pieces::new(new_hub(alloc, sectors)?, size);
+        let held = expect_row(alloc, name, &mut store, lines);
+        drop(store);
+        held?;
     }
     Ok(())
 }

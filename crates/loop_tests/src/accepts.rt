@@ -59,13 +59,13 @@ impl Listener for Waiting {
 #[test]
 fn two_turns(rt: HostRuntime) -> Result<(), Fail> {
     let alloc = rt.alloc();
-    let mut hub = new_hub(alloc, 4096)?;
     let poll = Poll::new(&rt)?;
     let listener = TcpListener::bind(&rt, SocketAddr::from((Ipv4Addr::LOCALHOST, 0)))?;
     let mut streams = Vec::new(alloc);
     for _ in 0..130u32 {
         streams.push(TcpStream::connect(&rt, listener.local_addr()?)?)?;
     }
+    let mut hub = new_hub(alloc, 4096)?;
     let mut waiting = Waiting::new(streams, false);
     let mut table = Slab::<Entry<BufferedStream<Socket>>>::new(alloc);
     let mut next = 0u64;
@@ -100,8 +100,8 @@ fn two_turns(rt: HostRuntime) -> Result<(), Fail> {
 #[test]
 fn a_failed_accept(rt: HostRuntime) -> Result<(), Fail> {
     let alloc = rt.alloc();
-    let mut hub = new_hub(alloc, 4096)?;
     let poll = Poll::new(&rt)?;
+    let mut hub = new_hub(alloc, 4096)?;
     let mut failing = Waiting::new(Vec::new(alloc), true);
     let mut table = Slab::<Entry<BufferedStream<Socket>>>::new(alloc);
     let mut next = 0u64;

@@ -2,21 +2,21 @@
 use commands::{DONE, FAULT, SystemFiles, create, run};
 use event_loop::EventLoop;
 use hub_tests::{new_hub, opened};
-use sector::{FileSectors, Sectors};
+use sector::{FileSectors, MemSectors, Sectors};
 use std::alloc::Global;
 use std::fs::{self, File};
 use std::io::{self, Read, Write};
-use std::net::{Ipv4Addr, Net, SocketAddr, TcpStream};
+use std::net::{Ipv4Addr, Net, OpenStream, SocketAddr, TcpStream};
 use std::rt::Files;
 use std::sync::Wait;
 use std::test::Fail;
 use std::time::{Clock, Duration};
 
 /// Sends a request, and runs turns until a reply of this length is there or the turns are over. Is it this reply?
-pub(crate) fn asks<D: Sectors, C: Clock>(
+pub(crate) fn asks<D: Sectors, C: Clock, S: Read + Write>(
     clock: &C,
     events: &mut EventLoop<D>,
-    client: &mut TcpStream,
+    client: &mut S,
     request: &[u8],
     reply: &[u8],
 ) -> io::Result<bool> {
@@ -41,34 +41,53 @@ pub(crate) fn anywhere() -> SocketAddr {
     SocketAddr::from((Ipv4Addr::LOCALHOST, 0))
 }
 
-/// Two clients, each request with its reply.
-#[test]
-fn write_skew(rt: HostRuntime) -> Result<(), Fail> {
-    let hub = new_hub(rt.alloc(), 4096)?;
-    let mut events = EventLoop::bind(&rt, rt.alloc(), anywhere(), hub)?;
+/// A loop over an empty store of 4,096 sectors in memory.
+pub(crate) fn new_loop<R: Net>(rt: &R, alloc: Global) -> Result<EventLoop<MemSectors>, Fail> {
+    let hub = new_hub(alloc, 4096)?;
+    Ok(EventLoop::bind(rt, alloc, anywhere(), hub)?)
+}
+
+/// Two clients, each request with its reply: has each this one?
+fn skews<R: Net + Clock>(rt: &R, events: &mut EventLoop<MemSectors>) -> io::Result<bool> {
     let address = events.address()?;
-    let mut clients = [
-        TcpStream::connect(&rt, address)?,
-        TcpStream::connect(&rt, address)?,
-    ];
+    let mut one = TcpStream::connect(rt, address)?;
+    let mut other = TcpStream::connect(rt, address)?;
+    one.set_nonblocking(true)?;
+    other.set_nonblocking(true)?;
     let begin =
         b"*1\r\n$5\r\nBEGIN\r\n*2\r\n$3\r\nGET\r\n$1\r\nx\r\n*2\r\n$3\r\nGET\r\n$1\r\ny\r\n";
     let begun = b"+OK\r\n$-1\r\n$-1\r\n".as_slice();
     let commit = b"*1\r\n$6\r\nCOMMIT\r\n".as_slice();
     let lines = [
-        (0usize, begin.as_slice(), begun),
-        (1, begin, begun),
-        (0, b"*3\r\n$3\r\nSET\r\n$1\r\nx\r\n$1\r\n1\r\n", b"+OK\r\n"),
-        (1, b"*3\r\n$3\r\nSET\r\n$1\r\ny\r\n$1\r\n1\r\n", b"+OK\r\n"),
-        (0, commit, b":1\r\n"),
-        (1, commit, b"-CONFLICT pivot self\r\n"),
+        (true, begin.as_slice(), begun),
+        (false, begin, begun),
+        (
+            true,
+            b"*3\r\n$3\r\nSET\r\n$1\r\nx\r\n$1\r\n1\r\n",
+            b"+OK\r\n",
+        ),
+        (
+            false,
+            b"*3\r\n$3\r\nSET\r\n$1\r\ny\r\n$1\r\n1\r\n",
+            b"+OK\r\n",
+        ),
+        (true, commit, b":1\r\n"),
+        (false, commit, b"-CONFLICT pivot self\r\n"),
     ];
-    for (client, request, reply) in lines {
-        let client = &mut clients[client];
-        client.set_nonblocking(true)?;
-        assert!(rt; asks(&rt, &mut events, client, request, reply)?);
+    let mut held = true;
+    for (is_first, request, reply) in lines {
+        let client = if is_first { &mut one } else { &mut other };
+        held = held && asks(rt, events, client, request, reply)?;
     }
-    assert!(rt; !events.stopped());
+    Ok(held && !events.stopped())
+}
+
+#[test]
+fn write_skew(rt: HostRuntime) -> Result<(), Fail> {
+    let mut events = new_loop(&rt, rt.alloc())?;
+    let held = skews(&rt, &mut events);
+    drop(events);
+    assert!(rt; held?);
     Ok(())
 }
 
@@ -99,6 +118,15 @@ fn copies<R: Files<File = File> + Net + Wait + Clock>(rt: &R, alloc: Global, fro
     refused && done && again && fs::remove_file(rt, to).is_ok()
 }
 
+/// Is a commit through the loop answered?
+fn commits<R: Net + Clock, D: Sectors>(rt: &R, events: &mut EventLoop<D>) -> io::Result<bool> {
+    let mut client = TcpStream::connect(rt, events.address()?)?;
+    client.set_nonblocking(true)?;
+    let request =
+        b"*1\r\n$5\r\nBEGIN\r\n*3\r\n$3\r\nSET\r\n$1\r\na\r\n$1\r\n1\r\n*1\r\n$6\r\nCOMMIT\r\n";
+    asks(rt, events, &mut client, request, b"+OK\r\n+OK\r\n:1\r\n")
+}
+
 /// One commit through the loop into a file of four sectors, which is then counted and copied.
 #[test]
 fn data_file(rt: HostRuntime) -> Result<(), Fail> {
@@ -108,20 +136,9 @@ fn data_file(rt: HostRuntime) -> Result<(), Fail> {
     let device = FileSectors::open(&rt, name)?;
     let hub = opened(rt.alloc(), device)?;
     let mut events = EventLoop::bind(&rt, rt.alloc(), anywhere(), hub)?;
-    let mut client = TcpStream::connect(&rt, events.address()?)?;
-    client.set_nonblocking(true)?;
-    let request =
-        b"*1\r\n$5\r\nBEGIN\r\n*3\r\n$3\r\nSET\r\n$1\r\na\r\n$1\r\n1\r\n*1\r\n$6\r\nCOMMIT\r\n";
-    assert!(rt;
-        asks(
-            &rt,
-            &mut events,
-            &mut client,
-            request,
-            b"+OK\r\n+OK\r\n:1\r\n"
-        )?
-    );
+    let committed = commits(&rt, &mut events);
     drop(events);
+    assert!(rt; committed?);
     let mut out = Vec::new(rt.alloc());
     let mut err = Vec::new(rt.alloc());
     let words = ["ssikvd", "check", "--data", name];
