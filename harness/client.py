@@ -19,6 +19,7 @@ TRACER = os.path.join(HERE, "out", "trace.so")
 PATIENCE = 20.0
 ALL = 2 ** 64 - 1
 NOTHING = 2 ** 32
+LATE = 2 ** 33
 
 OUT_OF_MEMORY = b"ssikvd: out of memory\n"
 DEVICE_FAULT = b"ssikvd: device fault\n"
@@ -121,8 +122,8 @@ class Calls:
         return self._get(1)
 
     def fail(self, first, last=None, error=errno.ENOMEM):
-        """The calls from the first to the last, counted from 1, fail with this error; where it is 0 they move one byte, and where it is
-        NOTHING none."""
+        """The calls from the first to the last, counted from 1, fail with this error; where it is 0 they move one byte, where it is
+        NOTHING none, and where it is LATE all, but 1.2 seconds late."""
         self._put(3, 0)
         self._put(2, first)
         self._put(4, error)

@@ -7,11 +7,12 @@ down by the library of trace.c, and a server's first line is read from a pipe, o
 """
 import errno
 import os
+import pty
 import socket
 import subprocess
 
 from client import (
-    DEVICE, DEVICE_FAULT, FILE_FAULT, HERE, OPENING, OUT_OF_MEMORY, PATIENCE, POLL, PROGRAM, SHIM, TRACER, Connection, Refusals, Server, Tally,
+    DEVICE, DEVICE_FAULT, FILE_FAULT, HERE, LATE, OPENING, OUT_OF_MEMORY, PATIENCE, POLL, PROGRAM, SHIM, TRACER, Connection, Refusals, Server, Tally,
     check, create, expect, folder, free_port, is_long, need, run, run_harness)
 from model import (
     KEY_MAX, LARGEST_REPLY, OLD_HEAD, OK, SECTOR, SESSIONS_MAX, Store, VALUE_MAX, WRITES_MAX, body_sectors, frame, log_image, payload, sectors_used)
@@ -323,6 +324,45 @@ def compactions(tally):
         os.replace(new, data)
         expect(asked(data, ("BEGIN", "GET a", "SET a 2", "COMMIT")) == [b"+OK", b"$1\r\n1", b"+OK", b":1"], "it is not served again")
         expect_found(run(["check", "--data", data]), 0, "records 2 keys 1 sectors 6 of 16\n")
+
+
+COPYING = b"ssikvd: the map is read, the copy is being written\r\n"
+
+
+def on_a_terminal(words, environment):
+    """The status of a command whose error output is a terminal, and what it prints there."""
+    ours, terminal = pty.openpty()
+    with subprocess.Popen([PROGRAM, *words], stdin=subprocess.DEVNULL, stdout=subprocess.PIPE, stderr=terminal, env=environment) as process:
+        os.close(terminal)
+        process.communicate(timeout=PATIENCE)
+        printed = b""
+        while (piece := read_terminal(ours)):
+            printed += piece
+        os.close(ours)
+        return process.returncode, printed
+
+
+def read_terminal(terminal):
+    """What a terminal shows next, and nothing once all who had it have closed it."""
+    try:
+        return os.read(terminal, 4_096)
+    except OSError:
+        return b""
+
+
+def late_copies(tally):
+    """`compact` reports that the copy is being written where its error output is a terminal and reading took a second, and only there."""
+    for is_late, is_terminal in ((True, True), (False, True), (True, False)):
+        with folder() as place, tally.run(f"compact that reads {'late' if is_late else 'at once'}, {'on' if is_terminal else 'without'} a terminal"):
+            data, refusals = os.path.join(place, "data"), Refusals(place)
+            with open(data, "wb") as file:
+                file.write(IMAGE)
+            if is_late:
+                refusals.of(DEVICE).fail(2, error=LATE)
+            words = ["compact", "--from", data, "--to", os.path.join(place, "new")]
+            status, text = on_a_terminal(words, refusals.environment()) if is_terminal else run(words, environment=refusals.environment())[::2]
+            expect((status, text) == (0, COPYING if is_late and is_terminal else b""), f"it answered {(status, text)}")
+            expect(refusals.of(DEVICE).failed == is_late, "no call was late")
 
 
 # By the command, how many of its calls on files have the text of their error: its openings and its writes of zeros, and the syncs before
@@ -657,7 +697,7 @@ def main():
     need(PROGRAM, SHIM, TRACER)
     holds = True
     for name, parts in (
-            ("command lines", [command_lines]), ("data files and addresses", [create_at_bounds, data_files, compactions, failing_files, names, file_in_folder]),
+            ("command lines", [command_lines]), ("data files and addresses", [create_at_bounds, data_files, compactions, late_copies, failing_files, names, file_in_folder]),
             ("output that fails", [failing_output]), ("scripts", [scripts]), ("servers", [servers]), ("lines in one write", [whole_lines])):
         tally = Tally(name)
         for part in parts:

@@ -2,8 +2,8 @@
  *
  * Preloaded into a program. The file named by REFUSE_CONTROL is shared with whoever drives the test, who may read and write it at any
  * moment. It holds, for each kind of call, five numbers of 64 bits: how many calls were made, how many failed, the first and the last call
- * to fail, counted from 1, and the errno that they fail with, or 0 where they move one byte in place of all, or 2^32 where they move none
- * and answer 0. Behind these stands how many bytes of memory are held: what was taken less what was freed. Without that variable, and
+ * to fail, counted from 1, and the errno that they fail with, or 0 where they move one byte in place of all, 2^32 where they move none
+ * and answer 0, or 2^33 where they move all, 1.2 seconds late. Behind these stands how many bytes of memory are held: what was taken less what was freed. Without that variable, and
  * before the program's own code runs, all calls are passed on and none is counted.
  */
 #define _GNU_SOURCE
@@ -17,11 +17,12 @@
 #include <sys/socket.h>
 #include <sys/stat.h>
 #include <sys/syscall.h>
+#include <time.h>
 #include <unistd.h>
 
 enum kind { MEMORY, DEVICE, RECEIVE, SEND, ACCEPT, POLL, OPENING, KINDS };
 
-static const uint64_t NOTHING = (uint64_t)1 << 32;
+static const uint64_t NOTHING = (uint64_t)1 << 32, LATE = (uint64_t)1 << 33;
 
 struct calls {
     uint64_t made, failed, first, last, error;
@@ -69,6 +70,10 @@ static ssize_t allowed(enum kind kind, size_t size) {
         return (ssize_t)size;
     if (control->calls[kind].error == NOTHING)
         return 0;
+    if (control->calls[kind].error == LATE) {
+        nanosleep(&(struct timespec){.tv_sec = 1, .tv_nsec = 200000000}, NULL);
+        return (ssize_t)size;
+    }
     return errno ? -1 : size > 0;
 }
 

@@ -1,5 +1,5 @@
 //! The calls of an open file, each counted.
-ghost use Rattle.std.specs.Prelude.{◌≡◌, ◌↔◌, ◌-◌, ◌^◌, IsErr, replicate, is_ok};
+ghost use Rattle.std.specs.Prelude.{◌≡◌, ◌<◌, ◌↔◌, ◌-◌, ◌^◌, IfErr, IsErr, replicate, is_ok};
 
 use crate::opened::OpenedFile;
 use std::io::{self, ErrorKind, Read};
@@ -16,7 +16,7 @@ pub struct CountedFile {
 }
 
 impl CountedFile {
-    ghost use Rattle.file_calls.specs.HappenedCalls.{WasRead, WasWritten, WasSynced};
+    ghost use Rattle.file_calls.specs.HappenedCalls.{WasAnswered, WasRead, WasWritten, WasSynced};
     ghost use Rattle.file_calls.specs.OpenFacts.{next};
 
     /// An opened file, of so many sectors, of which no call was made. Takes no memory.
@@ -51,6 +51,7 @@ impl CountedFile {
         ensures next { self.new ≡ next self.old }
         ensures over { self.old.calls ≡ 2 ^ 64 - 1 → IsErr result }
         ensures happened { WasRead self.old offset into.new (is_ok result) }
+        ensures error { self.old.calls < 2 ^ 64 - 1 → IfErr result (λ e. WasAnswered e) }
     {
         self.count_call()?;
         self.file.file.read_exact_at(into, offset)
@@ -61,6 +62,7 @@ impl CountedFile {
         ensures next { self.new ≡ next self.old }
         ensures over { self.old.calls ≡ 2 ^ 64 - 1 → IsErr result }
         ensures happened { WasWritten self.old offset from.now (is_ok result) }
+        ensures error { self.old.calls < 2 ^ 64 - 1 → IfErr result (λ e. WasAnswered e) }
     {
         self.count_call()?;
         self.file.file.write_all_at(from, offset)
@@ -71,6 +73,7 @@ impl CountedFile {
         ensures next { self.new ≡ next self.old }
         ensures over { self.old.calls ≡ 2 ^ 64 - 1 → IsErr result }
         ensures happened { WasSynced self.old (is_ok result) }
+        ensures error { self.old.calls < 2 ^ 64 - 1 → IfErr result (λ e. WasAnswered e) }
     {
         self.count_call()?;
         self.file.file.sync_data()
@@ -82,6 +85,7 @@ impl CountedFile {
         ensures next { self.new ≡ next self.old }
         ensures over { self.old.calls ≡ 2 ^ 64 - 1 → IsErr result }
         ensures happened { WasWritten self.old 0 (replicate len 0) (is_ok result) }
+        ensures error { self.old.calls < 2 ^ 64 - 1 → IfErr result (λ e. WasAnswered e) }
     {
         self.count_call()?;
         let _written = io::copy(&mut io::repeat(0).take(len), &mut &self.file.file)?;
@@ -93,6 +97,7 @@ impl CountedFile {
         ensures next { self.new ≡ next self.old }
         ensures over { self.old.calls ≡ 2 ^ 64 - 1 → IsErr result }
         ensures happened { WasSynced self.old (is_ok result) }
+        ensures error { self.old.calls < 2 ^ 64 - 1 → IfErr result (λ e. WasAnswered e) }
     {
         self.count_call()?;
         self.file.file.sync_all()

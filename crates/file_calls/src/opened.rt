@@ -21,7 +21,8 @@ impl OpenedFile {
 
     /// Makes a new file, to be read and written. Answers the system's error, also where a file of this name exists. Takes no memory.
     pub fn make<R: Files<File = File> + Clock>(rt: &R, path: &str) -> io::Result<OpenedFile>
-        ensures { IfOk result (λ f. WasMade f path.now) }
+        ensures made { IfOk result (λ f. WasMade f path.now) }
+        ensures error { IfErr result (λ e. WasAnswered e) }
     {
         let mut options = OpenOptions::new();
         options.read(true).write(true).create_new(true);
@@ -79,7 +80,8 @@ impl OpenedFile {
     /// Asks the system to drop its copies of the file's pages, so that what is read next comes from the device; pages that wait to be
     /// written stay. Under the sector model this changes nothing, so it is no counted call. Answers the system's error. Takes no memory.
     pub fn drop_copies(&self) -> io::Result<()>
-        ensures { OnOk result (HadCopiesDropped self.now) }
+        ensures dropped { OnOk result (HadCopiesDropped self.now) }
+        ensures error { IfErr result (λ e. WasAnswered e) }
     {
         let advised = libc::posix_fadvise(self.file.as_raw_fd(), 0, 0, libc::POSIX_FADV_DONTNEED);
         if advised == 0 {

@@ -1,49 +1,58 @@
 //! The versions that are kept.
-ghost use Rattle.std.specs.Prelude.{◌≡◌, ◌^◌, ◌<◌, OnOk, IfSome, option_map};
-ghost use Rattle.model.specs.Key.{IsValue};
+ghost use Rattle.model.specs.Bounds.{value_max};
+ghost use Rattle.std.specs.Prelude.{◌≡◌, ◌≤◌, ◌^◌, ◌<◌, IfSome, length};
 
 use crate::helpers::{is_pair, key, put};
-use model::{Key, KeyRef, Map, Memory, RangeRef, Write};
-use std::alloc::Global;
-use std::test::Fail;
+use model::{Key, KeyRef, Map, RangeRef, Write};
+use std::process::Abort;
 use versions::Versions;
 
 // Commits one write, or a deletion, with this number.
-fn commit(
-    alloc: Global,
+fn commit<R: Abort + AllocGlobal>(
+    rt: &R,
     versions: &mut Versions,
     n: u64,
     key: KeyRef<'_>,
-    value: Option<Vec<u8>>,
-) -> Result<(), Memory>
-    requires bound { IfSome (option_map (λ v. v.items) value) IsValue }
+    value: Option<&[u8]>,
+)
+    requires bound { IfSome value (λ v. length v.now ≤ value_max) }
     requires above { versions.old.last < n }
     requires fits { n < 2 ^ 63 }
-    ensures { OnOk result (versions.new.last ≡ n) }
+    ensures { versions.new.last ≡ n }
 {
-    let mut writes = Vec::new(alloc);
-    writes.push(Write::new(Key::from_ref(alloc, key)?, value))?;
-    versions.prepare(&writes)?;
+    let value = match value {
+        Some(bytes) => Some(Vec::from_slice(rt.alloc(), bytes).expect(rt, "memory")),
+        None => None,
+    };
+    let key = Key::from_ref(rt.alloc(), key).expect(rt, "memory");
+    let mut writes = Vec::new(rt.alloc());
+    writes.push(Write::new(key, value)).expect(rt, "memory");
+    versions.prepare(&writes).expect(rt, "memory");
     versions.install(n, writes);
-    Ok(())
+}
+
+// The versions of the map alone.
+fn versions_of<R: Abort + AllocGlobal>(rt: &R, map: Map) -> Versions
+    ensures { result.last ≡ 0 }
+{
+    Versions::from_map(rt.alloc(), map).expect(rt, "memory")
 }
 
 // The versions of a map with `1` at `a`, after a commit that writes `2` there and one that deletes it.
-fn after_two_commits(alloc: Global) -> Result<Versions, Memory> {
-    let mut map = Map::new(alloc);
-    put(alloc, &mut map, b"a", b"1")?;
-    let value = Vec::from_slice(alloc, b"2")?;
-    let mut versions = Versions::from_map(alloc, map)?;
-    commit(alloc, &mut versions, 1, key(b"a"), Some(value))?;
-    commit(alloc, &mut versions, 2, key(b"a"), None)?;
-    Ok(versions)
+fn after_two_commits<R: Abort + AllocGlobal>(rt: &R) -> Versions {
+    let mut map = Map::new(rt.alloc());
+    put(rt.alloc(), &mut map, b"a", b"1").expect(rt, "memory");
+    let mut versions = versions_of(rt, map);
+    commit(rt, &mut versions, 1, key(b"a"), Some(b"2"));
+    commit(rt, &mut versions, 2, key(b"a"), None);
+    versions
 }
 
 /// A reader of the opened map sees it while two commits go past, and then its version goes.
 #[test]
-fn kept_versions(rt: HostRuntime) -> Result<(), Fail> {
+fn kept_versions(rt: HostRuntime) {
     let (a, b) = (key(b"a"), key(b"b"));
-    let mut versions = after_two_commits(rt.alloc())?;
+    let mut versions = after_two_commits(&rt);
     assert!(rt; versions.kept(a) == 3);
     versions.reclaim(&[0]);
     assert!(rt; versions.kept(a) == 2 && versions.kept(b) == 0);
@@ -54,58 +63,25 @@ fn kept_versions(rt: HostRuntime) -> Result<(), Fail> {
     assert!(rt; versions.range(2, from_a).next().is_none());
     versions.reclaim(&[]);
     assert!(rt; versions.kept(a) == 1);
-    Ok(())
 }
 
 // Versions of `a` by five commits, of which the last deletes it, and one of `b`.
-fn after_five_commits(alloc: Global) -> Result<Versions, Memory> {
-    let mut versions = Versions::from_map(alloc, Map::new(alloc))?;
-    let a = key(b"a");
-    commit(
-        alloc,
-        &mut versions,
-        1,
-        a,
-        Some(Vec::from_slice(alloc, b"1")?),
-    )?;
-    commit(
-        alloc,
-        &mut versions,
-        2,
-        a,
-        Some(Vec::from_slice(alloc, b"2")?),
-    )?;
-    commit(
-        alloc,
-        &mut versions,
-        3,
-        a,
-        Some(Vec::from_slice(alloc, b"3")?),
-    )?;
-    commit(
-        alloc,
-        &mut versions,
-        4,
-        a,
-        Some(Vec::from_slice(alloc, b"4")?),
-    )?;
-    commit(alloc, &mut versions, 5, a, None)?;
-    commit(
-        alloc,
-        &mut versions,
-        6,
-        key(b"b"),
-        Some(Vec::from_slice(alloc, b"6")?),
-    )?;
-    Ok(versions)
+fn after_six_commits<R: Abort + AllocGlobal>(rt: &R) -> Versions {
+    let mut versions = versions_of(rt, Map::new(rt.alloc()));
+    for n in 1..5 {
+        commit(rt, &mut versions, n, key(b"a"), Some(b"1"));
+    }
+    commit(rt, &mut versions, 5, key(b"a"), None);
+    commit(rt, &mut versions, 6, key(b"b"), Some(b"6"));
+    versions
 }
 
 /// Where no number before the last is held, older versions go in three calls, since each of six commits has a list, and a call looks at two.
 /// The deleted key before the other isn't shown.
 #[test]
-fn few_lists_go_in_three_calls(rt: HostRuntime) -> Result<(), Fail> {
+fn few_lists_go_in_three_calls(rt: HostRuntime) {
     let (a, b) = (key(b"a"), key(b"b"));
-    let mut versions = after_five_commits(rt.alloc())?;
+    let mut versions = after_six_commits(&rt);
     assert!(rt; versions.kept(a) == 5);
     assert!(rt; versions.reclaim(&[6]));
     assert!(rt; versions.reclaim(&[6]));
@@ -116,22 +92,20 @@ fn few_lists_go_in_three_calls(rt: HostRuntime) -> Result<(), Fail> {
     assert!(rt; is_pair(versions.range(6, from_a).next(), b"b", b"6"));
     let from_a_to_b = RangeRef { lo: a, hi: Some(b) };
     assert!(rt; versions.range(6, from_a_to_b).next().is_none());
-    Ok(())
 }
 
 // The versions of a map with ten keys, after ten commits that write one of them each: ten lists of an older version.
-fn after_ten_commits(alloc: Global) -> Result<Versions, Memory> {
-    let mut map = Map::new(alloc);
+fn after_ten_commits<R: Abort + AllocGlobal>(rt: &R) -> Versions {
+    let mut map = Map::new(rt.alloc());
     for n in 0..10u8 {
-        put(alloc, &mut map, &[n], b"old")?;
+        put(rt.alloc(), &mut map, &[n], b"old").expect(rt, "memory");
     }
-    let mut versions = Versions::from_map(alloc, map)?;
+    let mut versions = versions_of(rt, map);
     for commits in 0..10 {
-        let value = Vec::from_slice(alloc, b"new")?;
         let bytes = [commits as u8];
-        commit(alloc, &mut versions, commits + 1, key(&bytes), Some(value))?;
+        commit(rt, &mut versions, commits + 1, key(&bytes), Some(b"new"));
     }
-    Ok(versions)
+    versions
 }
 
 // How many of the ten keys have an older version.
@@ -148,14 +122,12 @@ fn older_versions(versions: &Versions) -> u64 {
 
 /// Ten lists go in five calls, two in each, and each call but the last asks for another.
 #[test]
-fn lists_go_in_instalments(rt: HostRuntime) -> Result<(), Fail> {
-    let mut versions = after_ten_commits(rt.alloc())?;
+fn lists_go_in_instalments(rt: HostRuntime) {
+    let mut versions = after_ten_commits(&rt);
     assert!(rt; older_versions(&versions) == 10);
-    assert!(rt; versions.reclaim(&[10]) && older_versions(&versions) == 8);
-    assert!(rt; versions.reclaim(&[10]) && older_versions(&versions) == 6);
-    assert!(rt; versions.reclaim(&[10]) && older_versions(&versions) == 4);
-    assert!(rt; versions.reclaim(&[10]) && older_versions(&versions) == 2);
-    assert!(rt; !versions.reclaim(&[10]) && older_versions(&versions) == 0);
+    for left in [8, 6, 4, 2, 0] {
+        assert!(rt; versions.reclaim(&[10]) == (left > 0), "{left}");
+        assert!(rt; older_versions(&versions) == left, "{left}");
+    }
     assert!(rt; versions.at(10, key(&[7])) == Some(b"new".as_slice()));
-    Ok(())
 }

@@ -1,10 +1,9 @@
 //! Versions in long use: their pages, the places of these and the groups of older versions stay few.
-ghost use Rattle.std.specs.Prelude.{◌≡◌, ◌^◌, ◌<◌, OnOk};
+ghost use Rattle.std.specs.Prelude.{◌≡◌, ◌^◌, ◌<◌};
 
 use crate::helpers::key;
-use model::{Key, Map, Memory, Write};
-use std::alloc::Global;
-use std::test::Fail;
+use model::{Key, Map, Write};
+use std::process::Abort;
 use versions::Versions;
 
 // How many commits there are in each test.
@@ -20,22 +19,22 @@ fn scattered(number: u64) -> [u8; 2] {
 }
 
 // Writes a key of this number, or deletes it.
-fn commit(alloc: Global, versions: &mut Versions, n: u64) -> Result<(), Memory>
+fn commit<R: Abort + AllocGlobal>(rt: &R, versions: &mut Versions, n: u64)
     requires above { versions.old.last < n }
     requires fits { n < 2 ^ 63 }
-    ensures { OnOk result (versions.new.last ≡ n) }
+    ensures { versions.new.last ≡ n }
 {
     let value = if n % 5 == 0 {
         None
     } else {
-        Some(Vec::from_slice(alloc, b"1")?)
+        Some(Vec::from_slice(rt.alloc(), b"1").expect(rt, "memory"))
     };
     let bytes = scattered(n);
-    let mut writes = Vec::new(alloc);
-    writes.push(Write::new(Key::from_ref(alloc, key(&bytes))?, value))?;
-    versions.prepare(&writes)?;
+    let key = Key::from_ref(rt.alloc(), key(&bytes)).expect(rt, "memory");
+    let mut writes = Vec::new(rt.alloc());
+    writes.push(Write::new(key, value)).expect(rt, "memory");
+    versions.prepare(&writes).expect(rt, "memory");
     versions.install(n, writes);
-    Ok(())
 }
 
 // Ends the old transaction at one of the places, and has another begin.
@@ -63,11 +62,12 @@ fn are_small(versions: &Versions, keys: usize) -> bool {
 
 /// Random keys are written, and deleted, while old transactions come and go.
 #[test]
-fn pages_places_and_groups_stay_few(rt: HostRuntime) -> Result<(), Fail> {
-    let mut versions = Versions::from_map(rt.alloc(), Map::new(rt.alloc()))?;
+fn pages_places_and_groups_stay_few(rt: HostRuntime) {
+    let map = Map::new(rt.alloc());
+    let mut versions = Versions::from_map(rt.alloc(), map).expect(&rt, "memory");
     let mut begins = [0; 4];
     for n in 1..COMMITS {
-        commit(rt.alloc(), &mut versions, n)?;
+        commit(&rt, &mut versions, n);
         renew(&mut begins, n);
         versions.reclaim(&begins);
         assert!(rt; versions.groups() <= 5, "after commit {n}");
@@ -78,5 +78,4 @@ fn pages_places_and_groups_stay_few(rt: HostRuntime) -> Result<(), Fail> {
         versions.reclaim(&[]);
     }
     assert!(rt; versions.groups() <= 1);
-    Ok(())
 }

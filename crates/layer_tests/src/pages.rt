@@ -1,10 +1,9 @@
 //! Pages of entries: how many values are looked at for a number that sees none of them.
 use crate::helpers::key;
-use model::{Key, KeyRef, Memory, RangeRef};
+use model::{Key, KeyRef, RangeRef};
 use sorted_pages::{Aging, SortedPages};
-use std::alloc::Global;
 use std::cell::Cell;
-use std::test::Fail;
+use std::process::Abort;
 
 // A value of which number 0 sees nothing, and each other number sees it. It counts how often this is asked.
 #[derive(Drop)]
@@ -58,20 +57,33 @@ impl Aging for Watched<'_> {
 }
 
 // Adds a value of the key of these bytes, where it has none.
-fn add<'a>(
-    alloc: Global,
+fn add<'a, R: Abort + AllocGlobal>(
+    rt: &R,
     pages: &mut SortedPages<Watched<'a>>,
     bytes: &[u8],
     asked: &'a Cell<u64>,
-) -> Result<(), Memory> {
-    let Some(at) = KeyRef::new(bytes) else {
-        return Err(Memory);
-    };
-    pages.reserve(at, 1)?;
+) {
+    let at = KeyRef::new(bytes).expect(rt, "a key");
+    pages.reserve(at, 1).expect(rt, "memory");
     if pages.get(at).is_none() && pages.room(at) > 0 {
-        pages.insert(Key::from_ref(alloc, at)?, Watched { asked });
+        let key = Key::from_ref(rt.alloc(), at).expect(rt, "memory");
+        pages.insert(key, Watched { asked });
     }
-    Ok(())
+}
+
+// Changes a page that isn't the first, in one of three ways, or not at all.
+fn change<'a, R: Abort + AllocGlobal>(
+    rt: &R,
+    pages: &mut SortedPages<Watched<'a>>,
+    way: u64,
+    asked: &'a Cell<u64>,
+) {
+    match way {
+        0 => {}
+        1 => pages.reserve(key(b"\x07\xcf"), 1).expect(rt, "memory"),
+        2 => add(rt, pages, b"\x07\xd0", asked),
+        _ => assert!(rt; !pages.trim_at(key(b"\x07\xcf"), &[], 0)),
+    }
 }
 
 // Lends the value of the key of these bytes for writing. Has it one?
@@ -94,26 +106,19 @@ fn looks(pages: &SortedPages<Watched<'_>>, asked: &Cell<u64>) -> u64 {
 
 /// Of a page that is passed over no value is looked at, also where one was lent for writing, once another page's was.
 #[test]
-fn pages_passed_over(rt: HostRuntime) -> Result<(), Fail> {
-    let alloc = rt.alloc();
+fn pages_passed_over(rt: HostRuntime) {
     let asked = Cell::new(0);
-    let mut pages = SortedPages::new(alloc);
+    let mut pages = SortedPages::new(rt.alloc());
     for i in 0..2_000u16 {
-        add(alloc, &mut pages, i.to_be_bytes().as_slice(), &asked)?;
+        add(&rt, &mut pages, i.to_be_bytes().as_slice(), &asked);
     }
     assert!(rt; pages.pages() > 3 && lend(&mut pages, &[0, 0]));
     let before = looks(&pages, &asked);
     assert!(rt; before < 1_000);
-    for change in 0..4 {
+    for way in 0..4 {
         assert!(rt; lend(&mut pages, &[4, 0]));
-        match change {
-            0 => {}
-            1 => pages.reserve(key(b"\x07\xcf"), 1)?,
-            2 => add(alloc, &mut pages, b"\x07\xd0".as_slice(), &asked)?,
-            _ => assert!(rt; !pages.trim_at(key(b"\x07\xcf"), &[], 0)),
-        }
+        change(&rt, &mut pages, way, &asked);
         assert!(rt; looks(&pages, &asked) == before + 1);
         assert!(rt; lend(&mut pages, &[0, 0]) && looks(&pages, &asked) == before);
     }
-    Ok(())
 }

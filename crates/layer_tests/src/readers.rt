@@ -5,9 +5,9 @@ ghost use Rattle.last_readers.specs.Readers.{AreUpto};
 use crate::helpers::key;
 use last_readers::LastReaders;
 use marks::{Marks, MarksFault};
-use model::{KeyRef, Memory, RangeRef};
+use model::{KeyRef, RangeRef};
 use std::alloc::Global;
-use std::test::Fail;
+use std::process::Abort;
 
 /// How many keys of one byte the plain list has.
 const KEYS: u8 = 48;
@@ -30,15 +30,13 @@ impl Commits {
     }
 
     // One more commit, which has read what the marks cover: its number.
-    fn commit(&mut self, marks: &Marks) -> Result<u64, Memory> {
-        if self.last == u64::MAX {
-            return Err(Memory);
-        }
+    fn commit<R: Abort>(&mut self, rt: &R, marks: &Marks) -> u64 {
+        assert!(rt; self.last < u64::MAX);
         let number = self.last + 1;
-        self.readers.reserve(marks)?;
+        self.readers.reserve(marks).expect(rt, "memory");
         self.readers.note(number);
         self.last = number;
-        Ok(number)
+        number
     }
 
     fn forget(&mut self, oldest: u64) {
@@ -68,8 +66,8 @@ fn mark(marks: &mut Marks, kind: u64, first: &[u8], end: &[u8]) -> Result<(), Ma
 }
 
 // A few marks, and the next number of a fixed sequence.
-fn some_marks(alloc: Global, seed: u64) -> Result<(Marks, u64), MarksFault> {
-    let mut marks = Marks::new(alloc);
+fn some_marks<R: Abort + AllocGlobal>(rt: &R, seed: u64) -> (Marks, u64) {
+    let mut marks = Marks::new(rt.alloc());
     let mut next = seed;
     for _ in 0..seed % 5 {
         next = next
@@ -77,10 +75,10 @@ fn some_marks(alloc: Global, seed: u64) -> Result<(Marks, u64), MarksFault> {
             .wrapping_add(1_442_695_040_888_963_407);
         let lo = (next / 65_536 % 48) as u8;
         let hi = (next / 16_777_216 % 48) as u8;
-        mark(&mut marks, next / 4_294_967_296, &[lo], &[hi])?;
+        mark(&mut marks, next / 4_294_967_296, &[lo], &[hi]).expect(rt, "marked");
     }
     next = next.wrapping_mul(6_364_136_223_846_793_005).wrapping_add(1);
-    Ok((marks, next / 2))
+    (marks, next / 2)
 }
 
 // Is each key's last reader after this number that of the plain list, where those up to `oldest` are forgotten?
@@ -109,15 +107,15 @@ fn note(plain: &mut [u64], marks: &Marks, number: u64) {
 }
 
 #[test]
-fn many_commits_beside_a_plain_list(rt: HostRuntime) -> Result<(), Fail> {
+fn many_commits_beside_a_plain_list(rt: HostRuntime) {
     let mut commits = Commits::new(rt.alloc());
     let mut plain = [0; 48];
     let mut oldest = 0;
     let mut seed = 4;
     for i in 0..90u64 {
-        let (marks, next) = some_marks(rt.alloc(), seed)?;
+        let (marks, next) = some_marks(&rt, seed);
         seed = next;
-        let number = commits.commit(&marks)?;
+        let number = commits.commit(&rt, &marks);
         note(&mut plain, &marks, number);
         if i % 16 == 15 {
             oldest = i - 12;
@@ -128,18 +126,17 @@ fn many_commits_beside_a_plain_list(rt: HostRuntime) -> Result<(), Fail> {
             "commit {number}"
         );
     }
-    Ok(())
 }
 
 /// Runs and their steps stay few while old transactions come and go, and none is left once all are forgotten.
 #[test]
-fn last_readers_stay_in_few_runs(rt: HostRuntime) -> Result<(), Fail> {
+fn last_readers_stay_in_few_runs(rt: HostRuntime) {
     let mut commits = Commits::new(rt.alloc());
     let mut seed = 4;
     for i in 0..3_000u64 {
-        let (marks, next) = some_marks(rt.alloc(), seed)?;
+        let (marks, next) = some_marks(&rt, seed);
         seed = next;
-        commits.commit(&marks)?;
+        commits.commit(&rt, &marks);
         if i % 16 == 15 {
             commits.forget(i / 2);
         }
@@ -151,16 +148,15 @@ fn last_readers_stay_in_few_runs(rt: HostRuntime) -> Result<(), Fail> {
     }
     assert!(rt; commits.readers.runs() == 0);
     assert!(rt; commits.readers.steps() == 0);
-    Ok(())
 }
 
 #[test]
-fn worked_last_readers(rt: HostRuntime) -> Result<(), Fail> {
+fn worked_last_readers(rt: HostRuntime) {
     let mut commits = Commits::new(rt.alloc());
     for (kind, first, end) in [(1, b"a", b"c"), (5, b"b", b"b"), (3, b"c", b"d")] {
         let mut marks = Marks::new(rt.alloc());
-        mark(&mut marks, kind, first, end)?;
-        commits.commit(&marks)?;
+        mark(&mut marks, kind, first, end).expect(&rt, "marked");
+        commits.commit(&rt, &marks);
     }
     let rows: [(&[u8], Option<u64>, Option<u64>); 6] = [
         (b"a", Some(1), None),
@@ -171,14 +167,11 @@ fn worked_last_readers(rt: HostRuntime) -> Result<(), Fail> {
         (b"e", None, None),
     ];
     for (name, from_the_start, later) in rows {
-        let Some(key) = KeyRef::new(name) else {
-            return Ok(());
-        };
+        let key = KeyRef::new(name).expect(&rt, "a key");
         assert!(rt; commits.readers.last(key, 0) == from_the_start, "{name:?}");
         assert!(rt; commits.readers.last(key, 2) == later, "{name:?}");
     }
     commits.forget(2);
     assert!(rt; commits.readers.last(key(b"b"), 0).is_none());
     assert!(rt; commits.readers.last(key(b"c"), 0) == Some(3));
-    Ok(())
 }

@@ -3,7 +3,6 @@ use crate::helpers::{key, put};
 use model::{Key, Map, Memory, RANGE_REPLY_MAX, Refusal, Reply, VALUE_MAX};
 use resp::{BRIEF_MAX, write_pairs, write_reply};
 use std::alloc::Global;
-use std::test::Fail;
 
 fn write(alloc: Global, reply: &Reply<'_>) -> Result<Vec<u8>, Memory> {
     let mut out = Vec::from_slice(alloc, b"1")?;
@@ -40,14 +39,15 @@ fn writes_replies(rt: HostRuntime) {
 }
 
 #[test]
-fn writes_overwritten_keys(rt: HostRuntime) -> Result<(), Fail> {
-    let short = Refusal::Overwritten(Key::from_ref(rt.alloc(), key(b"k"))?);
+fn writes_overwritten_keys(rt: HostRuntime) {
+    let key_k = Key::from_ref(rt.alloc(), key(b"k")).expect(&rt, "memory");
+    let short = Refusal::Overwritten(key_k);
     let text = b"-CONFLICT overwritten 6b\r\n";
     assert!(rt; is_text(rt.alloc(), &Reply::Refused(&short), text));
-    let long = Refusal::Overwritten(Key::from_ref(rt.alloc(), key(&[255; 256]))?);
-    let out = write(rt.alloc(), &Reply::Refused(&long))?;
+    let longest = Key::from_ref(rt.alloc(), key(&[255; 256])).expect(&rt, "memory");
+    let long = Refusal::Overwritten(longest);
+    let out = write(rt.alloc(), &Reply::Refused(&long)).expect(&rt, "memory");
     assert!(rt; out.len() == 1 + BRIEF_MAX);
-    Ok(())
 }
 
 fn write_map(alloc: Global, map: &Map) -> Result<Vec<u8>, Memory> {
@@ -75,15 +75,15 @@ fn writes_pairs(rt: HostRuntime) {
 }
 
 #[test]
-fn writes_the_longest_pairs(rt: HostRuntime) -> Result<(), Fail> {
+fn writes_the_longest_pairs(rt: HostRuntime) {
     let mut key = [0u8; 256];
     let mut map = Map::new(rt.alloc());
     let mut value = Vec::new(rt.alloc());
-    value.resize(VALUE_MAX, 1)?;
+    value.resize(VALUE_MAX, 1).expect(&rt, "memory");
     for i in 0..128u8 {
         key[255] = i;
         assert!(rt; put(rt.alloc(), &mut map, &key, &value).is_ok());
     }
-    assert!(rt; write_map(rt.alloc(), &map)?.len() == RANGE_REPLY_MAX);
-    Ok(())
+    let text = write_map(rt.alloc(), &map).expect(&rt, "memory");
+    assert!(rt; text.len() == RANGE_REPLY_MAX);
 }

@@ -2,7 +2,6 @@
 use model::{Command, FRAME_MAX, Memory, Refusal, VALUE_MAX};
 use resp::{Decoded, command, decode};
 use std::alloc::Global;
-use std::test::Fail;
 
 // What the front of the input is: the start of a request, none, a command, or what its request is refused for.
 fn answer(input: &[u8]) -> &'static str {
@@ -149,19 +148,18 @@ fn decodes_requests(rt: HostRuntime) {
 }
 
 #[test]
-fn decodes_the_largest_request(rt: HostRuntime) -> Result<(), Fail> {
-    let line = format!(in rt.alloc(); "${}\r\n", VALUE_MAX)?;
+fn decodes_the_largest_request(rt: HostRuntime) {
+    let line = format!(in rt.alloc(); "${}\r\n", VALUE_MAX).expect(&rt, "memory");
     let mut longest = Vec::new(rt.alloc());
-    longest.resize(VALUE_MAX, 7u8)?;
-    let mut input = Vec::from_slice(rt.alloc(), b"*4\r\n")?;
+    longest.resize(VALUE_MAX, 7u8).expect(&rt, "memory");
+    let mut input = Vec::from_slice(rt.alloc(), b"*4\r\n").expect(&rt, "memory");
     for _ in 0..4 {
-        input.extend_from_slice(line.as_bytes())?;
-        input.extend_from_slice(&longest)?;
-        input.extend_from_slice(b"\r\n")?;
+        for piece in [line.as_bytes(), &longest, b"\r\n"] {
+            input.extend_from_slice(piece).expect(&rt, "memory");
+        }
     }
     let part = longest.as_slice();
     assert!(rt; is_request(&input, &[part, part, part, part], FRAME_MAX));
-    Ok(())
 }
 
 // The answer to a request with a key of so many bytes between these two.

@@ -25,21 +25,31 @@ fn largest_set(alloc: Global, number: u16) -> Result<String, Memory> {
     Ok(line)
 }
 
-/// What the stores reply to the COMMIT of a transaction with 64 such writes, and what to a GET of another one.
+/// What stores over so many sectors reply to the COMMIT of a transaction with 64 such writes, and what to a RANGE of another one.
 fn replies_over(alloc: Global, sectors: u64) -> Result<(String, String), Fail> {
     let mut stores = SideBySide::new(alloc, sectors, false)?;
-    reply_to(alloc, &mut stores, "1 BEGIN")?;
+    replies_of(alloc, &mut stores)
+}
+
+fn replies_of(alloc: Global, stores: &mut SideBySide) -> Result<(String, String), Fail> {
+    set_largest(alloc, stores)?;
+    let committed = reply_to(alloc, stores, "1 COMMIT")?;
+    reply_to(alloc, stores, "2 BEGIN")?;
+    let rows = reply_to(alloc, stores, "2 RANGE 1 \"\" 1")?;
+    Ok((committed, rows))
+}
+
+/// Begins a transaction, which writes the 64 largest pairs.
+fn set_largest(alloc: Global, stores: &mut SideBySide) -> Result<(), Fail> {
+    reply_to(alloc, stores, "1 BEGIN")?;
     for number in 10..74 {
         let line = largest_set(alloc, number)?;
-        let reply = reply_to(alloc, &mut stores, &line)?;
+        let reply = reply_to(alloc, stores, &line)?;
         if reply.as_str() != "+OK" {
             return Err(Fail::new(format_args!("SET {number}: {reply}")));
         }
     }
-    let committed = reply_to(alloc, &mut stores, "1 COMMIT")?;
-    reply_to(alloc, &mut stores, "2 BEGIN")?;
-    let rows = reply_to(alloc, &mut stores, "2 RANGE 1 \"\" 1")?;
-    Ok((committed, rows))
+    Ok(())
 }
 
 #[test]

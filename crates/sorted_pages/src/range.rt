@@ -15,6 +15,12 @@ pub struct Entries<'a, V: Aging> {
 }
 
 impl<'a, V: Aging> Clone for Entries<'a, V> {
+    ghost use Rattle.std.specs.Prelude.{◌≡◌, ⊤};
+
+    ghost is_clone = { λ x y. y ≡ x };
+
+    ghost is_infallible = { λ _. ⊤ };
+
     fn clone(&self) -> Result<Self, AllocError> {
         Ok(*self)
     }

@@ -1,11 +1,10 @@
 //! Each byte of a log changed.
 ghost use Rattle.std.specs.Prelude.{◌≡◌, ◌%◌, length, OnOk};
 
-use crate::log::helpers::{content, delete, empty_log, has, put};
+use crate::log::helpers::{append, content, delete, empty_log, has, put};
 use commit_log::{Log, LogFault};
 use sector::MemSectors;
-use std::alloc::Global;
-use std::test::Fail;
+use std::process::Abort;
 
 /// What opening answers: so many records, the first of which puts a to 1 and the second of which deletes a, or a fault.
 #[derive(Clone, Copy, Debug, PartialEq, Eq)]
@@ -16,19 +15,33 @@ enum Answer {
     WrongMap,
 }
 
-fn opened(alloc: Global, image: &[u8]) -> Result<Answer, Fail>
+fn opened<R: Abort + AllocGlobal>(rt: &R, image: &[u8]) -> Answer
     requires { length image.now % 512 ≡ 0 }
 {
-    match Log::open(alloc, MemSectors::from_image(alloc, image)?) {
-        Err(fault) => Ok(Answer::Fault(fault)),
+    let device = MemSectors::from_image(rt.alloc(), image).expect(rt, "memory");
+    match Log::open(rt.alloc(), device) {
+        Err(fault) => Answer::Fault(fault),
         Ok((log, map)) => {
             if (log.records() == 1) == has(&map, b"a", b"1") {
-                Ok(Answer::Records(log.records()))
+                Answer::Records(log.records())
             } else {
-                Ok(Answer::WrongMap)
+                Answer::WrongMap
             }
         }
     }
+}
+
+/// The bytes of a log of 8 sectors with the two records.
+fn two_records<R: Abort + AllocGlobal>(rt: &R) -> [u8; 4096] {
+    let mut log = empty_log(rt, 8);
+    append(rt, &mut log, &put(rt, b"a", b"1"));
+    append(rt, &mut log, &delete(rt, b"a"));
+    let mut device = log.into_device();
+    let mut image = [0; 4096];
+    for (at, sector) in image.chunks_exact_mut(512).enumerate() {
+        sector.copy_from_slice(&content(rt, &mut device, at as u64));
+    }
+    image
 }
 
 /// What is wanted where this byte is one higher.
@@ -45,21 +58,13 @@ fn wanted(place: usize) -> Answer {
 }
 
 #[test]
-fn every_byte_of_the_log_changed(rt: HostRuntime) -> Result<(), Fail> {
-    let alloc = rt.alloc();
-    let mut log = empty_log(alloc, 8)?;
-    let _first = log.append(alloc, &put(alloc, b"a", b"1")?)?;
-    let _second = log.append(alloc, &delete(alloc, b"a")?)?;
-    let mut device = log.into_device();
-    let mut image = [0; 4096];
-    for (at, sector) in image.chunks_exact_mut(512).enumerate() {
-        sector.copy_from_slice(&content(&mut device, at as u64)?);
-    }
+fn every_byte_of_the_log_changed(rt: HostRuntime) {
+    let mut image = two_records(&rt);
     let mut unchanged = 0u64;
     for place in 0..4096 {
         let byte = image[place];
         image[place] = byte.wrapping_add(1);
-        let answer = opened(alloc, &image)?;
+        let answer = opened(&rt, &image);
         assert_eq!(rt; answer, wanted(place), "at byte {place}");
         if answer == Answer::Records(2) {
             unchanged = unchanged.saturating_add(1);
@@ -67,5 +72,4 @@ fn every_byte_of_the_log_changed(rt: HostRuntime) -> Result<(), Fail> {
         image[place] = byte;
     }
     assert_eq!(rt; unchanged, 2557);
-    Ok(())
 }

@@ -1,21 +1,25 @@
 //! Copies of a map into a log of its own, and crashes and failures at each device call of one.
 ghost use Rattle.std.specs.Prelude.{◌<◌, ◌^◌};
 
-use crate::log::helpers::{FILLS, Fill, crashed, empty_log, has, put};
+use crate::helpers::put as put_key;
+use crate::log::helpers::{FILLS, Fill, append, crashed, empty_log, has, opened, put};
 use crate::log::stated::{FIRST_BODY, SECOND_BODY};
 use commit_log::{Log, LogFault, copy_into, copy_sectors, read_map};
-use model::{Key, KeyRef, Map};
+use model::Map;
 use sector::MemSectors;
-use std::alloc::Global;
-use std::test::Fail;
+use std::process::Abort;
 use test_devices::Stopping;
 
 /// The map of a to 1.
-fn one_key(alloc: Global) -> Result<Map, Fail> {
-    let mut map = Map::new(alloc);
-    let key = Key::from_ref(alloc, KeyRef::new(b"a").ok_or("no key")?)?;
-    map.put(key, b"1".to_vec(alloc)?)?;
-    Ok(map)
+fn one_key<R: Abort + AllocGlobal>(rt: &R) -> Map {
+    let mut map = Map::new(rt.alloc());
+    put_key(rt.alloc(), &mut map, b"a", b"1").expect(rt, "memory");
+    map
+}
+
+/// A device of zeros.
+fn zeros<R: Abort + AllocGlobal>(rt: &R, count: u64) -> MemSectors {
+    MemSectors::new(rt.alloc(), count).expect(rt, "memory")
 }
 
 /// What is found on a device.
@@ -27,8 +31,8 @@ enum Found {
     Other,
 }
 
-fn what_stands_on(alloc: Global, device: MemSectors) -> Found {
-    match Log::open(alloc, device) {
+fn what_stands_on<R: Abort + AllocGlobal>(rt: &R, device: MemSectors) -> Found {
+    match Log::open(rt.alloc(), device) {
         Ok((log, map)) => {
             if (log.records(), log.used()) == (1, 4) && has(&map, b"a", b"1") {
                 Found::Copy
@@ -42,28 +46,27 @@ fn what_stands_on(alloc: Global, device: MemSectors) -> Found {
 }
 
 /// What is found where a device of zeros stops after so many calls of the copy.
-fn stopped_after(alloc: Global, calls: u64, fill: Fill) -> Result<Found, Fail> {
-    let mut device = Stopping::new(MemSectors::new(alloc, 8)?, calls);
-    let _outcome = copy_into(alloc, &mut device, &one_key(alloc)?);
-    Ok(what_stands_on(alloc, crashed(device.device, fill)))
+fn stopped_after<R: Abort + AllocGlobal>(rt: &R, calls: u64, fill: Fill) -> Found {
+    let mut device = Stopping::new(zeros(rt, 8), calls);
+    let _outcome = copy_into(rt.alloc(), &mut device, &one_key(rt));
+    what_stands_on(rt, crashed(device.device, fill))
 }
 
 /// What is found where a device of zeros stops within this call of the copy, the first being 1, which then answers `Device`.
-fn stopped_within(alloc: Global, call: u64, fill: Fill) -> Result<Found, Fail>
+fn stopped_within<R: Abort + AllocGlobal>(rt: &R, call: u64, fill: Fill) -> Found
     requires { call < 2 ^ 32 }
 {
-    let mut device = crashed(MemSectors::new(alloc, 8)?, Fill::New);
+    let mut device = crashed(zeros(rt, 8), Fill::New);
     device.fail_call(call + 1);
-    if copy_into(alloc, &mut device, &one_key(alloc)?) != Err(LogFault::Device) {
-        return Ok(Found::Other);
+    if copy_into(rt.alloc(), &mut device, &one_key(rt)) != Err(LogFault::Device) {
+        return Found::Other;
     }
-    Ok(what_stands_on(alloc, crashed(device, fill)))
+    what_stands_on(rt, crashed(device, fill))
 }
 
 /// The copy syncs and reads the first sector, writes a gate at 1, a body at 2 and a closed gate at 3, syncs, writes the head, and syncs.
 #[test]
-fn crash_points_of_a_copy(rt: HostRuntime) -> Result<(), Fail> {
-    let alloc = rt.alloc();
+fn crash_points_of_a_copy(rt: HostRuntime) {
     for fill in FILLS {
         // The head is unsettled from within its write on.
         let headed = if fill == Fill::New {
@@ -74,56 +77,53 @@ fn crash_points_of_a_copy(rt: HostRuntime) -> Result<(), Fail> {
         for calls in 0..8 {
             let early = calls < 6;
             assert_eq!(rt;
-                stopped_within(alloc, calls, fill)?,
+                stopped_within(&rt, calls, fill),
                 if early { Found::NoLog } else { headed },
                 "{fill:?} within {calls}"
             );
             assert_eq!(rt;
-                stopped_after(alloc, calls, fill)?,
+                stopped_after(&rt, calls, fill),
                 if calls < 7 { Found::NoLog } else { headed },
                 "{fill:?} after {calls}"
             );
         }
-        assert_eq!(rt; stopped_after(alloc, 8, fill)?, Found::Copy, "{fill:?}");
+        assert_eq!(rt; stopped_after(&rt, 8, fill), Found::Copy, "{fill:?}");
     }
-    Ok(())
 }
 
 #[test]
-fn a_copy_refuses_what_has_no_room_or_is_not_empty(rt: HostRuntime) -> Result<(), Fail> {
+fn a_copy_refuses_what_has_no_room_or_is_not_empty(rt: HostRuntime) {
     let alloc = rt.alloc();
-    let map = one_key(alloc)?;
+    let map = one_key(&rt);
     assert_eq!(rt; copy_sectors(&map), Some(4));
-    let mut small = MemSectors::new(alloc, 3)?;
+    let mut small = zeros(&rt, 3);
     assert_eq!(rt; copy_into(alloc, &mut small, &map), Err(LogFault::Full));
-    let mut device = MemSectors::new(alloc, 4)?;
+    let mut device = zeros(&rt, 4);
     assert_eq!(rt; copy_into(alloc, &mut device, &map), Ok(1));
     assert_eq!(rt;
         copy_into(alloc, &mut device, &map),
         Err(LogFault::NotEmpty)
     );
-    assert_eq!(rt; what_stands_on(alloc, device), Found::Copy);
-    Ok(())
+    assert_eq!(rt; what_stands_on(&rt, device), Found::Copy);
 }
 
 /// The map of a log, copied to a device of zeros: the number of its format, and the records, sectors used and keys of the copy.
-fn copied(
-    alloc: Global,
+fn copied<R: Abort + AllocGlobal>(
+    rt: &R,
     device: &mut MemSectors,
     count: u64,
-) -> Result<(u8, u64, u64, usize), Fail> {
-    let (map, format) = read_map(alloc, device)?;
-    let mut device = MemSectors::new(alloc, count)?;
-    let records = copy_into(alloc, &mut device, &map)?;
-    let (log, map) = Log::open(alloc, device)?;
-    if log.records() != records {
-        return Err(LogFault::NotALog.into());
-    }
-    Ok((format, records, log.used(), map.len()))
+) -> (u8, u64, u64, usize) {
+    let (map, format) = read_map(rt.alloc(), device).expect(rt, "a map");
+    let mut device = zeros(rt, count);
+    let records = copy_into(rt.alloc(), &mut device, &map).expect(rt, "copied");
+    let (log, map) = opened(rt, device);
+    assert!(rt; log.records() == records);
+    (format, records, log.used(), map.len())
 }
 
+/// The map of a log of format 1 of two records, of which opening says that the format is old.
 #[test]
-fn compact_an_old_log(rt: HostRuntime) -> Result<(), Fail> {
+fn compact_an_old_log(rt: HostRuntime) {
     let alloc = rt.alloc();
     let mut image = [0; 4096];
     image[..8].copy_from_slice(b"SSIKVLG1");
@@ -131,27 +131,22 @@ fn compact_an_old_log(rt: HostRuntime) -> Result<(), Fail> {
     image[1024..1081].copy_from_slice(&FIRST_BODY);
     image[1536] = 1;
     image[2048..2100].copy_from_slice(&SECOND_BODY);
-    match Log::open(alloc, MemSectors::from_image(alloc, &image)?) {
+    let mut old = MemSectors::from_image(alloc, &image).expect(&rt, "memory");
+    assert_eq!(rt; copied(&rt, &mut old, 8), (1, 0, 2, 0));
+    match Log::open(alloc, old) {
         Ok(_) => assert!(rt; false, "opened"),
         Err(fault) => assert_eq!(rt; fault, LogFault::OldFormat),
     }
-    let mut old = MemSectors::from_image(alloc, &image)?;
-    assert_eq!(rt; copied(alloc, &mut old, 8)?, (1, 0, 2, 0));
-    Ok(())
 }
 
 #[test]
-fn compact_many_keys(rt: HostRuntime) -> Result<(), Fail> {
-    let alloc = rt.alloc();
-    let mut log = empty_log(alloc, 200)?;
+fn compact_many_keys(rt: HostRuntime) {
+    let mut log = empty_log(&rt, 200);
     for n in 1..66u8 {
-        let _index = log.append(
-            alloc,
-            &put(alloc, &[b'k', b'0' + n / 10, b'0' + n % 10], b"1")?,
-        )?;
+        let key = [b'k', b'0' + n / 10, b'0' + n % 10];
+        append(&rt, &mut log, &put(&rt, &key, b"1"));
     }
     assert_eq!(rt; log.used(), 132);
     let mut device = log.into_device();
-    assert_eq!(rt; copied(alloc, &mut device, 200)?, (2, 2, 7, 65));
-    Ok(())
+    assert_eq!(rt; copied(&rt, &mut device, 200), (2, 2, 7, 65));
 }

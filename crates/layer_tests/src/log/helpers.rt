@@ -1,34 +1,40 @@
 //! Write sets, logs and devices for the tests.
 ghost use Rattle.model.specs.Bounds.{value_max};
-ghost use Rattle.std.specs.Prelude.{◌≡◌, ◌≤◌, length, IfOk};
+ghost use Rattle.std.specs.Prelude.{◌≡◌, ◌≤◌, length, IfSome, option_map};
+ghost use Rattle.model.specs.Key.{IsValue};
 ghost use Rattle.commit_log.specs.Format.{current};
 ghost use Rattle.commit_log.specs.RecordFormat.{IsWriteSet};
 
 use commit_log::{Log, format};
 use model::{Key, KeyRef, Map, Write};
-use sector::{DeviceFault, MemSectors, Sector, Sectors};
-use std::alloc::Global;
-use std::test::Fail;
+use sector::{MemSectors, Sector, Sectors};
+use std::process::Abort;
 
 /// The write set that puts this value.
-pub fn put(alloc: Global, key: &[u8], value: &[u8]) -> Result<Vec<Write>, Fail>
+pub fn put<R: Abort + AllocGlobal>(rt: &R, key: &[u8], value: &[u8]) -> Vec<Write>
     requires { length value.now ≤ value_max }
-    ensures { IfOk result (λ v. IsWriteSet current v.items) }
+    ensures { IsWriteSet current result.items }
 {
-    let key = Key::from_ref(alloc, KeyRef::new(key).ok_or("no key")?)?;
-    let mut writes = Vec::new(alloc);
-    writes.push(Write::new(key, Some(value.to_vec(alloc)?)))?;
-    Ok(writes)
+    let value = value.to_vec(rt.alloc()).expect(rt, "memory");
+    write_set(rt, key, Some(value))
 }
 
 /// The write set that deletes the key.
-pub fn delete(alloc: Global, key: &[u8]) -> Result<Vec<Write>, Fail>
-    ensures { IfOk result (λ v. IsWriteSet current v.items) }
+pub fn delete<R: Abort + AllocGlobal>(rt: &R, key: &[u8]) -> Vec<Write>
+    ensures { IsWriteSet current result.items }
 {
-    let key = Key::from_ref(alloc, KeyRef::new(key).ok_or("no key")?)?;
-    let mut writes = Vec::new(alloc);
-    writes.push(Write::new(key, None))?;
-    Ok(writes)
+    write_set(rt, key, None)
+}
+
+fn write_set<R: Abort + AllocGlobal>(rt: &R, key: &[u8], value: Option<Vec<u8>>) -> Vec<Write>
+    requires { IfSome (option_map (λ v. v.items) value) IsValue }
+    ensures { IsWriteSet current result.items }
+{
+    let key = KeyRef::new(key).expect(rt, "a key");
+    let key = Key::from_ref(rt.alloc(), key).expect(rt, "memory");
+    let mut writes = Vec::new(rt.alloc());
+    writes.push(Write::new(key, value)).expect(rt, "memory");
+    writes
 }
 
 /// Has the key this value in the map?
@@ -40,20 +46,31 @@ pub fn has(map: &Map, key: &[u8], value: &[u8]) -> bool {
 }
 
 /// An empty log on a device of this many sectors.
-pub fn empty_log(alloc: Global, count: u64) -> Result<Log<MemSectors>, Fail> {
-    let mut device = MemSectors::new(alloc, count)?;
-    format(&mut device)?;
-    let (log, _) = Log::open(alloc, device)?;
-    Ok(log)
+pub fn empty_log<R: Abort + AllocGlobal>(rt: &R, count: u64) -> Log<MemSectors> {
+    let mut device = MemSectors::new(rt.alloc(), count).expect(rt, "memory");
+    format(&mut device).expect(rt, "an empty log");
+    opened(rt, device).0
+}
+
+/// The log that the device holds, and its map.
+pub fn opened<D: Sectors, R: Abort + AllocGlobal>(rt: &R, device: D) -> (Log<D>, Map) {
+    Log::open(rt.alloc(), device).expect(rt, "a log")
+}
+
+/// The index of the record that is appended.
+pub fn append<D: Sectors, R: Abort + AllocGlobal>(rt: &R, log: &mut Log<D>, writes: &[Write]) -> u64
+    requires { IsWriteSet current writes.now }
+{
+    log.append(rt.alloc(), writes).expect(rt, "appended")
 }
 
 /// What a sector holds, and 255s where there is none.
-pub fn content<D: Sectors>(device: &mut D, at: u64) -> Result<Sector, DeviceFault> {
+pub fn content<D: Sectors, R: Abort + AllocGlobal>(rt: &R, device: &mut D, at: u64) -> Sector {
     let mut sector = [255; 512];
     if at < device.count() {
-        device.read(at, &mut sector)?;
+        device.read(at, &mut sector).expect(rt, "read");
     }
-    Ok(sector)
+    sector
 }
 
 /// What a crash leaves in an unsettled sector.

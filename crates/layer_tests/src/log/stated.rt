@@ -1,9 +1,9 @@
 //! Stated bytes, and a log with no room. The digests are those of another SHA-256.
-use crate::log::helpers::{content, delete, empty_log, has, put};
+use crate::log::helpers::{append, content, delete, empty_log, has, opened, put};
 use commit_log::{Log, LogFault, payload_len};
 use model::VALUE_MAX;
 use sector::{MemSectors, Sector, Sectors};
-use std::test::Fail;
+use std::process::Abort;
 
 /// The body of the record of index 0 that puts a to 1: length, index, digest, payload.
 pub const FIRST_BODY: [u8; 57] = [
@@ -28,14 +28,20 @@ fn sector_of(front: &[u8]) -> Sector {
     sector
 }
 
+/// Writes a sector of these bytes, and zeros behind them, where there is such a sector.
+fn write<R: Abort + AllocGlobal>(rt: &R, device: &mut MemSectors, at: u64, front: &[u8]) {
+    if at < device.count() {
+        device.write(at, &sector_of(front)).expect(rt, "written");
+    }
+}
+
 #[test]
-fn bytes_of_two_records(rt: HostRuntime) -> Result<(), Fail> {
-    let alloc = rt.alloc();
-    let mut log = empty_log(alloc, 8)?;
-    let first = put(alloc, b"a", b"1")?;
+fn bytes_of_two_records(rt: HostRuntime) {
+    let mut log = empty_log(&rt, 8);
+    let first = put(&rt, b"a", b"1");
     assert_eq!(rt; payload_len(&first), 13);
-    assert_eq!(rt; log.append(alloc, &first)?, 0);
-    assert_eq!(rt; log.append(alloc, &delete(alloc, b"a")?)?, 1);
+    assert_eq!(rt; append(&rt, &mut log, &first), 0);
+    assert_eq!(rt; append(&rt, &mut log, &delete(&rt, b"a")), 1);
     assert_eq!(rt;
         (log.records(), log.used(), log.is_stopped()),
         (2, 6, false)
@@ -52,78 +58,65 @@ fn bytes_of_two_records(rt: HostRuntime) -> Result<(), Fail> {
         (6, [0; 512]),
         (7, [0; 512]),
     ] {
-        assert_eq!(rt; content(&mut device, at)?, wanted, "sector {at}");
+        assert!(rt; content(&rt, &mut device, at) == wanted, "sector {at}");
     }
-    let (log, map) = Log::open(alloc, device)?;
+    let (log, map) = opened(&rt, device);
     assert_eq!(rt; (log.records(), log.used(), map.len()), (2, 6, 0));
-    Ok(())
 }
 
 #[test]
-fn log_full(rt: HostRuntime) -> Result<(), Fail> {
-    let alloc = rt.alloc();
-    let mut log = empty_log(alloc, 4)?;
+fn log_full(rt: HostRuntime) {
+    let mut log = empty_log(&rt, 4);
     assert!(rt; log.room(468));
     assert!(rt; !log.room(469));
-    assert_eq!(rt; log.append(alloc, &put(alloc, b"a", b"1")?)?, 0);
+    assert_eq!(rt; append(&rt, &mut log, &put(&rt, b"a", b"1")), 0);
     assert!(rt; !log.room(0));
-    assert_eq!(rt;
-        log.append(alloc, &put(alloc, b"a", b"2")?),
-        Err(LogFault::Full)
-    );
+    let refused = log.append(rt.alloc(), &put(&rt, b"a", b"2"));
+    assert_eq!(rt; refused, Err(LogFault::Full));
     assert_eq!(rt;
         (log.records(), log.used(), log.is_stopped()),
         (1, 4, false)
     );
-    let (log, map) = Log::open(alloc, log.into_device())?;
+    let (log, map) = opened(&rt, log.into_device());
     assert_eq!(rt; (log.records(), log.used()), (1, 4));
     assert!(rt; has(&map, b"a", b"1"));
     let mut device = log.into_device();
-    if 3 < device.count() {
-        device.write(3, &sector_of(&[1]))?;
-    }
-    match Log::open(alloc, device) {
+    write(&rt, &mut device, 3, &[1]);
+    match Log::open(rt.alloc(), device) {
         Ok(_) => assert!(rt; false, "opened"),
         Err(fault) => assert_eq!(rt; fault, LogFault::Damaged(1)),
     }
-    Ok(())
 }
 
 /// A record of the longest value has 33 body sectors: it takes a device of 36 sectors to the end, and does not fit one of 35.
 #[test]
-fn large_values(rt: HostRuntime) -> Result<(), Fail> {
+fn large_values(rt: HostRuntime) {
     let alloc = rt.alloc();
     let mut value = Vec::new(alloc);
-    value.resize(VALUE_MAX, b'v')?;
-    let writes = put(alloc, b"a", &value)?;
-    assert_eq!(rt;
-        empty_log(alloc, 35)?.append(alloc, &writes),
-        Err(LogFault::Full)
-    );
-    let mut log = empty_log(alloc, 36)?;
-    assert_eq!(rt; log.append(alloc, &writes)?, 0);
+    value.resize(VALUE_MAX, b'v').expect(&rt, "memory");
+    let writes = put(&rt, b"a", &value);
+    let refused = empty_log(&rt, 35).append(alloc, &writes);
+    assert_eq!(rt; refused, Err(LogFault::Full));
+    let mut log = empty_log(&rt, 36);
+    assert_eq!(rt; append(&rt, &mut log, &writes), 0);
     assert_eq!(rt; log.used(), 36);
-    let (_, map) = Log::open(alloc, log.into_device())?;
+    let (_, map) = opened(&rt, log.into_device());
     assert!(rt; has(&map, b"a", &value));
-    Ok(())
 }
 
 /// An empty log of format 1 is told as such; a head of no format isn't a log.
 #[test]
-fn old_format(rt: HostRuntime) -> Result<(), Fail> {
+fn old_format(rt: HostRuntime) {
     let alloc = rt.alloc();
     for (head, due) in [
         (b"SSIKVLG1".as_slice(), LogFault::OldFormat),
         (b"SSIKVLG3".as_slice(), LogFault::NotALog),
     ] {
-        let mut device = MemSectors::new(alloc, 2)?;
-        if 0 < device.count() {
-            device.write(0, &sector_of(head))?;
-        }
+        let mut device = MemSectors::new(alloc, 2).expect(&rt, "memory");
+        write(&rt, &mut device, 0, head);
         match Log::open(alloc, device) {
             Ok(_) => assert!(rt; false, "opened"),
             Err(fault) => assert_eq!(rt; fault, due),
         }
     }
-    Ok(())
 }

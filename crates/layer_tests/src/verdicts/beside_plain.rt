@@ -1,9 +1,9 @@
 use crate::verdicts::plain::History;
-use model::{Key, KeyRef, Map, Memory, RangeRef};
+use model::{KeyRef, Map, RangeRef};
 use pivot_check::{Committed, Verdict};
 use snapshot::Transaction;
 use std::alloc::Global;
-use std::test::Fail;
+use std::process::Abort;
 use versions::Versions;
 
 // The check and the plain one over the same commits.
@@ -21,330 +21,276 @@ impl Both {
         }
     }
 
-    // Commits where both give the same answer, and answers `None` where they differ.
-    fn commit(&mut self, tx: &Transaction) -> Result<Option<Verdict>, Memory> {
-        let checked = commit(&mut self.committed, tx)?;
-        let plain = self.history.commit(tx)?;
-        if checked == plain {
-            Ok(Some(checked))
-        } else {
-            Ok(None)
-        }
+    // Commits, where both give the same answer: this one.
+    fn commit<R: Abort>(&mut self, rt: &R, tx: &Transaction) -> Verdict {
+        let checked = commit(rt, &mut self.committed, tx);
+        let plain = self.history.commit(tx).expect(rt, "memory");
+        assert_eq!(rt; checked, plain);
+        checked
     }
 }
 
-// Commits as the next number, where the transaction is in reach.
-fn commit(committed: &mut Committed, tx: &Transaction) -> Result<Verdict, Memory> {
+// Commits as the next number a transaction that is in reach.
+fn commit<R: Abort>(rt: &R, committed: &mut Committed, tx: &Transaction) -> Verdict {
     let last = committed.last();
-    if tx.begin() > last || tx.begin() < committed.oldest() || last == u64::MAX {
-        return Err(Memory);
-    }
+    assert!(rt; tx.begin() <= last && committed.oldest() <= tx.begin() && last < u64::MAX);
     let verdict = committed.verdict(tx);
     if let Verdict::Clear(has_earlier_target) = verdict {
-        committed.reserve(tx)?;
+        committed.reserve(tx).expect(rt, "memory");
         committed.note(tx, last + 1, has_earlier_target);
     }
-    Ok(verdict)
+    verdict
 }
 
-fn read(tx: &mut Transaction, versions: &Versions, key: &[u8]) -> Result<(), Memory> {
-    let Some(key) = KeyRef::new(key) else {
-        return Err(Memory);
-    };
-    match tx.get(versions, key) {
-        Ok(_) => Ok(()),
-        Err(_) => Err(Memory),
-    }
+// A request of a transaction, by keys of one letter.
+fn read<R: Abort>(rt: &R, tx: &mut Transaction, versions: &Versions, key: &[u8]) {
+    let key = KeyRef::new(key).expect(rt, "a key");
+    assert!(rt; tx.get(versions, key).is_ok());
 }
 
-fn read_range(
-    tx: &mut Transaction,
-    versions: &Versions,
-    lo: &[u8],
-    hi: &[u8],
-) -> Result<(), Memory> {
-    let (Some(lo), Some(hi)) = (KeyRef::new(lo), KeyRef::new(hi)) else {
-        return Err(Memory);
-    };
-    match tx.range(versions, RangeRef { lo, hi: Some(hi) }, 10) {
-        Ok(_) => Ok(()),
-        Err(_) => Err(Memory),
-    }
+fn read_range<R: Abort>(rt: &R, tx: &mut Transaction, versions: &Versions, lo: &[u8], hi: &[u8]) {
+    let lo = KeyRef::new(lo).expect(rt, "a key");
+    let hi = KeyRef::new(hi);
+    assert!(rt; tx.range(versions, RangeRef { lo, hi }, 10).is_ok());
 }
 
-fn write(tx: &mut Transaction, key: &[u8]) -> Result<(), Memory> {
-    let Some(key) = KeyRef::new(key) else {
-        return Err(Memory);
-    };
-    match tx.put(key, b"1") {
-        Ok(()) => Ok(()),
-        Err(_) => Err(Memory),
-    }
+fn write<R: Abort>(rt: &R, tx: &mut Transaction, key: &[u8]) {
+    let key = KeyRef::new(key).expect(rt, "a key");
+    assert!(rt; tx.put(key, b"1") == Ok(()));
+}
+
+fn no_versions<R: Abort + AllocGlobal>(rt: &R) -> Versions {
+    Versions::from_map(rt.alloc(), Map::new(rt.alloc())).expect(rt, "memory")
 }
 
 // A transaction that has read some keys and then written others, each of one letter.
-fn transaction(
-    alloc: Global,
+fn transaction<R: Abort + AllocGlobal>(
+    rt: &R,
     begin: u64,
     reads: &[u8],
     writes: &[u8],
-) -> Result<Transaction, Memory> {
-    let versions = Versions::from_map(alloc, Map::new(alloc))?;
-    let mut tx = Transaction::new(alloc, begin);
+) -> Transaction {
+    let versions = no_versions(rt);
+    let mut tx = Transaction::new(rt.alloc(), begin);
     for letter in reads {
-        read(&mut tx, &versions, &[*letter])?;
+        read(rt, &mut tx, &versions, &[*letter]);
     }
     for letter in writes {
-        write(&mut tx, &[*letter])?;
+        write(rt, &mut tx, &[*letter]);
     }
-    Ok(tx)
+    tx
 }
 
-fn run(
-    alloc: Global,
-    both: &mut Both,
-    begin: u64,
-    reads: &[u8],
-    writes: &[u8],
-) -> Result<Option<Verdict>, Memory> {
-    let tx = transaction(alloc, begin, reads, writes)?;
-    both.commit(&tx)
-}
+// A commit: the begin, the keys that are read and those that are written, and the verdict.
+type Commit = (u64, &'static [u8], &'static [u8], Verdict);
 
-fn forget(both: &mut Both, oldest: u64) {
-    if oldest <= both.committed.last() {
-        both.committed.forget(oldest);
-    }
-}
-
-const CLEAR: Result<Option<Verdict>, Memory> = Ok(Some(Verdict::Clear(false)));
+const CLEAR: Verdict = Verdict::Clear(false);
 
 // It may commit, and has read what a concurrent one wrote that committed before it.
-const CLEAR_WITH_TARGET: Result<Option<Verdict>, Memory> = Ok(Some(Verdict::Clear(true)));
+const CLEAR_WITH_TARGET: Verdict = Verdict::Clear(true);
 
-const PIVOT_SELF: Result<Option<Verdict>, Memory> = Ok(Some(Verdict::PivotSelf));
+const FIRST_COMMITTER_WINS: [Commit; 4] = [
+    (0, b"", b"jk", CLEAR),
+    (0, b"", b"k", Verdict::Overwritten(0)),
+    (0, b"", b"ajk", Verdict::Overwritten(1)),
+    (1, b"", b"ajk", CLEAR),
+];
 
-fn overwritten(place: usize) -> Result<Option<Verdict>, Memory> {
-    Ok(Some(Verdict::Overwritten(place)))
-}
+const WRITE_SKEW: [Commit; 2] = [
+    (0, b"xy", b"x", CLEAR),
+    (0, b"xy", b"y", Verdict::PivotSelf),
+];
 
-fn pivot(number: u64) -> Result<Option<Verdict>, Memory> {
-    Ok(Some(Verdict::Pivot(number)))
-}
+const READ_ONLY_ANOMALY: [Commit; 3] = [
+    (0, b"y", b"y", CLEAR),
+    (1, b"xy", b"", CLEAR),
+    (0, b"xy", b"x", Verdict::PivotSelf),
+];
 
-#[test]
-fn first_committer_wins(rt: HostRuntime) -> Result<(), Fail> {
-    let alloc = rt.alloc();
-    let mut both = Both::new(alloc);
-    assert_eq!(rt; run(alloc, &mut both, 0, b"", b"jk"), CLEAR);
-    assert_eq!(rt; run(alloc, &mut both, 0, b"", b"k"), overwritten(0));
-    assert_eq!(rt; run(alloc, &mut both, 0, b"", b"ajk"), overwritten(1));
-    assert_eq!(rt; run(alloc, &mut both, 1, b"", b"ajk"), CLEAR);
-    assert_eq!(rt; both.committed.last(), 2);
-    Ok(())
-}
+const READER_FINDS_A_COMMITTED_PIVOT: [Commit; 3] = [
+    (0, b"", b"m", CLEAR),
+    (0, b"m", b"k", CLEAR_WITH_TARGET),
+    (0, b"k", b"", Verdict::Pivot(2)),
+];
 
-#[test]
-fn write_skew(rt: HostRuntime) -> Result<(), Fail> {
-    let alloc = rt.alloc();
-    let mut both = Both::new(alloc);
-    assert_eq!(rt; run(alloc, &mut both, 0, b"xy", b"x"), CLEAR);
-    assert_eq!(rt; run(alloc, &mut both, 0, b"xy", b"y"), PIVOT_SELF);
-    Ok(())
-}
+// That a writer finds a committed pivot behind an earlier reader is harmless.
+const EARLIER_READER_AND_COMMITTED_PIVOT: [Commit; 3] = [
+    (0, b"k", b"", CLEAR),
+    (0, b"m", b"k", CLEAR),
+    (0, b"", b"m", CLEAR),
+];
 
-fn phantom(alloc: Global, written: &[u8]) -> Result<Transaction, Memory> {
-    let versions = Versions::from_map(alloc, Map::new(alloc))?;
-    let mut tx = Transaction::new(alloc, 0);
-    read_range(&mut tx, &versions, b"a", b"c")?;
-    write(&mut tx, written)?;
-    Ok(tx)
-}
+const EARLIER_READER_IS_HARMLESS: [Commit; 3] = [
+    (0, b"k", b"", CLEAR),
+    (0, b"", b"m", CLEAR),
+    (0, b"m", b"k", CLEAR_WITH_TARGET),
+];
 
-#[test]
-fn phantom_skew(rt: HostRuntime) -> Result<(), Fail> {
-    let alloc = rt.alloc();
-    let mut both = Both::new(alloc);
-    let (Ok(first), Ok(second)) = (phantom(alloc, b"a"), phantom(alloc, b"b")) else {
-        return Err(Fail::from("out of memory"));
-    };
-    assert_eq!(rt; both.commit(&first), CLEAR);
-    assert_eq!(rt; both.commit(&second), PIVOT_SELF);
-    Ok(())
-}
+const PIVOT_WITH_A_LATER_WRITER_IS_HARMLESS: [Commit; 3] = [
+    (0, b"m", b"k", CLEAR),
+    (0, b"k", b"", CLEAR_WITH_TARGET),
+    (0, b"", b"m", CLEAR),
+];
 
-#[test]
-fn read_only_anomaly(rt: HostRuntime) -> Result<(), Fail> {
-    let alloc = rt.alloc();
-    let mut both = Both::new(alloc);
-    assert_eq!(rt; run(alloc, &mut both, 0, b"y", b"y"), CLEAR);
-    assert_eq!(rt; run(alloc, &mut both, 1, b"xy", b""), CLEAR);
-    assert_eq!(rt; run(alloc, &mut both, 0, b"xy", b"x"), PIVOT_SELF);
-    Ok(())
-}
+const ONE_AFTER_THE_OTHER: [Commit; 2] = [(0, b"xy", b"x", CLEAR), (1, b"xy", b"y", CLEAR)];
 
-#[test]
-fn reader_finds_a_committed_pivot(rt: HostRuntime) -> Result<(), Fail> {
-    let alloc = rt.alloc();
-    let mut both = Both::new(alloc);
-    assert_eq!(rt; run(alloc, &mut both, 0, b"", b"m"), CLEAR);
-    assert_eq!(rt; run(alloc, &mut both, 0, b"m", b"k"), CLEAR_WITH_TARGET);
-    assert_eq!(rt; run(alloc, &mut both, 0, b"k", b""), pivot(2));
-    Ok(())
-}
+static WORKED: [(&str, &[Commit]); 8] = [
+    ("first committer wins", &FIRST_COMMITTER_WINS),
+    ("write skew", &WRITE_SKEW),
+    ("read-only anomaly", &READ_ONLY_ANOMALY),
+    (
+        "reader finds a committed pivot",
+        &READER_FINDS_A_COMMITTED_PIVOT,
+    ),
+    (
+        "writer finds a committed pivot",
+        &EARLIER_READER_AND_COMMITTED_PIVOT,
+    ),
+    ("earlier reader is harmless", &EARLIER_READER_IS_HARMLESS),
+    (
+        "pivot with a later writer is harmless",
+        &PIVOT_WITH_A_LATER_WRITER_IS_HARMLESS,
+    ),
+    ("one after the other", &ONE_AFTER_THE_OTHER),
+];
 
-#[test]
-fn writer_finds_a_committed_pivot(rt: HostRuntime) -> Result<(), Fail> {
-    let alloc = rt.alloc();
-    let mut both = Both::new(alloc);
-    assert_eq!(rt; run(alloc, &mut both, 0, b"k", b""), CLEAR);
-    assert_eq!(rt; run(alloc, &mut both, 0, b"m", b"k"), CLEAR);
-    assert_eq!(rt; run(alloc, &mut both, 0, b"", b"m"), CLEAR);
-    Ok(())
+// Commits one after the other, each with its verdict.
+fn run<R: Abort + AllocGlobal>(rt: &R, both: &mut Both, name: &str, commits: &[Commit]) {
+    for (begin, reads, writes, verdict) in commits {
+        let tx = transaction(rt, *begin, reads, writes);
+        assert_eq!(rt; both.commit(rt, &tx), *verdict, "{name}");
+    }
 }
 
 #[test]
-fn earlier_reader_is_harmless(rt: HostRuntime) -> Result<(), Fail> {
-    let alloc = rt.alloc();
-    let mut both = Both::new(alloc);
-    assert_eq!(rt; run(alloc, &mut both, 0, b"k", b""), CLEAR);
-    assert_eq!(rt; run(alloc, &mut both, 0, b"", b"m"), CLEAR);
-    assert_eq!(rt; run(alloc, &mut both, 0, b"m", b"k"), CLEAR_WITH_TARGET);
-    Ok(())
+fn worked_verdicts(rt: HostRuntime) {
+    for (name, commits) in &WORKED {
+        let mut both = Both::new(rt.alloc());
+        run(&rt, &mut both, name, commits);
+    }
+}
+
+fn phantom<R: Abort + AllocGlobal>(rt: &R, written: &[u8]) -> Transaction {
+    let versions = no_versions(rt);
+    let mut tx = Transaction::new(rt.alloc(), 0);
+    read_range(rt, &mut tx, &versions, b"a", b"c");
+    write(rt, &mut tx, written);
+    tx
 }
 
 #[test]
-fn pivot_with_a_later_writer_is_harmless(rt: HostRuntime) -> Result<(), Fail> {
-    let alloc = rt.alloc();
-    let mut both = Both::new(alloc);
-    assert_eq!(rt; run(alloc, &mut both, 0, b"m", b"k"), CLEAR);
-    assert_eq!(rt; run(alloc, &mut both, 0, b"k", b""), CLEAR_WITH_TARGET);
-    assert_eq!(rt; run(alloc, &mut both, 0, b"", b"m"), CLEAR);
-    Ok(())
+fn phantom_skew(rt: HostRuntime) {
+    let mut both = Both::new(rt.alloc());
+    assert_eq!(rt; both.commit(&rt, &phantom(&rt, b"a")), CLEAR);
+    assert_eq!(rt; both.commit(&rt, &phantom(&rt, b"b")), Verdict::PivotSelf);
 }
 
+fn forget(committed: &mut Committed, oldest: u64) {
+    if oldest <= committed.last() {
+        committed.forget(oldest);
+    }
+}
+
+const TARGET_AND_PIVOT: [Commit; 2] = [(0, b"", b"m", CLEAR), (0, b"m", b"k", CLEAR_WITH_TARGET)];
+
+const READER_OF_THE_PIVOT: [Commit; 1] = [(1, b"k", b"", Verdict::Pivot(2))];
+
 #[test]
-fn pivot_after_its_target_was_forgotten(rt: HostRuntime) -> Result<(), Fail> {
-    let alloc = rt.alloc();
-    let mut both = Both::new(alloc);
-    assert_eq!(rt; run(alloc, &mut both, 0, b"", b"m"), CLEAR);
-    assert_eq!(rt; run(alloc, &mut both, 0, b"m", b"k"), CLEAR_WITH_TARGET);
-    forget(&mut both, 1);
+fn pivot_after_its_target_was_forgotten(rt: HostRuntime) {
+    let mut both = Both::new(rt.alloc());
+    run(&rt, &mut both, "before", &TARGET_AND_PIVOT);
+    forget(&mut both.committed, 1);
     assert_eq!(rt; both.committed.kept(), 1);
-    assert_eq!(rt; run(alloc, &mut both, 1, b"k", b""), pivot(2));
-    Ok(())
+    run(&rt, &mut both, "after", &READER_OF_THE_PIVOT);
 }
 
-#[test]
-fn one_after_the_other(rt: HostRuntime) -> Result<(), Fail> {
-    let alloc = rt.alloc();
-    let mut both = Both::new(alloc);
-    assert_eq!(rt; run(alloc, &mut both, 0, b"xy", b"x"), CLEAR);
-    assert_eq!(rt; run(alloc, &mut both, 1, b"xy", b"y"), CLEAR);
-    Ok(())
-}
+const READER_AND_PIVOT: [Commit; 2] = [(0, b"k", b"", CLEAR), (0, b"m", b"k", CLEAR)];
+
+const WRITER_OF_THE_TARGET: [Commit; 1] = [(1, b"", b"m", CLEAR)];
 
 #[test]
-fn pivot_after_its_neighbour_was_forgotten(rt: HostRuntime) -> Result<(), Fail> {
-    let alloc = rt.alloc();
-    let mut both = Both::new(alloc);
-    assert_eq!(rt; run(alloc, &mut both, 0, b"k", b""), CLEAR);
-    assert_eq!(rt; run(alloc, &mut both, 0, b"m", b"k"), CLEAR);
-    forget(&mut both, 1);
-    assert_eq!(rt; both.committed.oldest(), 1);
+fn pivot_after_its_neighbour_was_forgotten(rt: HostRuntime) {
+    let mut both = Both::new(rt.alloc());
+    run(&rt, &mut both, "before", &READER_AND_PIVOT);
+    forget(&mut both.committed, 1);
+    assert_eq!(rt; (both.committed.oldest(), both.committed.kept()), (1, 1));
+    run(&rt, &mut both, "after", &WRITER_OF_THE_TARGET);
+    forget(&mut both.committed, 2);
     assert_eq!(rt; both.committed.kept(), 1);
-    assert_eq!(rt; run(alloc, &mut both, 1, b"", b"m"), CLEAR);
-    forget(&mut both, 2);
-    assert_eq!(rt; both.committed.kept(), 1);
-    Ok(())
 }
 
 // A transaction that writes 64 keys, which no other such one writes.
-fn writer(alloc: Global, begin: u64, n: u8) -> Result<Transaction, Memory> {
-    let mut tx = Transaction::new(alloc, begin);
+fn writer<R: Abort + AllocGlobal>(rt: &R, begin: u64, n: u8) -> Transaction {
+    let mut tx = Transaction::new(rt.alloc(), begin);
     for k in 0..64u8 {
-        write(&mut tx, &[n, k])?;
+        write(rt, &mut tx, &[n, k]);
     }
-    Ok(tx)
+    tx
 }
 
 /// What 40 transactions have written, 64 keys each, is given back 1,024 keys a call, where each run counts as a key more.
 #[test]
-fn old_runs_go_in_steps(rt: HostRuntime) -> Result<(), Fail> {
+fn old_runs_go_in_steps(rt: HostRuntime) {
     let mut committed = Committed::new(rt.alloc());
     for n in 0..40u8 {
-        let tx = writer(rt.alloc(), committed.last(), n)?;
-        assert!(rt; commit(&mut committed, &tx)? == Verdict::Clear(false));
+        let tx = writer(&rt, committed.last(), n);
+        assert!(rt; commit(&rt, &mut committed, &tx) == CLEAR);
     }
     let last = committed.last();
     assert!(rt; last == 40 && !committed.forget(0));
     assert!(rt; committed.forget(last) && committed.forget(last));
     assert!(rt; !committed.forget(last) && !committed.forget(last));
-    Ok(())
 }
 
 // A transaction that has read what a `writer` wrote, some of its keys, and then written a key that no other one writes.
-fn reader_of(alloc: Global, begin: u64, writer: u8, n: u8) -> Result<Transaction, Memory> {
-    let versions = Versions::from_map(alloc, Map::new(alloc))?;
-    let mut tx = Transaction::new(alloc, begin);
-    read_range(&mut tx, &versions, &[writer, n % 64], &[writer, 64])?;
-    write(&mut tx, &[64, n])?;
-    Ok(tx)
+fn reader_of<R: Abort + AllocGlobal>(rt: &R, begin: u64, writer: u8, n: u8) -> Transaction {
+    let versions = no_versions(rt);
+    let mut tx = Transaction::new(rt.alloc(), begin);
+    read_range(rt, &mut tx, &versions, &[writer, n % 64], &[writer, 64]);
+    write(rt, &mut tx, &[64, n]);
+    tx
 }
 
 // Commits one that has read what a `writer` wrote, which is found to have committed since its begin.
-fn finds(both: &mut Both, alloc: Global, writer: u8, n: u8) -> Result<bool, Memory> {
-    let tx = reader_of(alloc, 0, writer, n)?;
-    Ok(both.commit(&tx)? == Some(Verdict::Clear(true)))
+fn finds<R: Abort + AllocGlobal>(rt: &R, both: &mut Both, writer: u8, n: u8) -> bool {
+    let tx = reader_of(rt, 0, writer, n);
+    both.commit(rt, &tx) == CLEAR_WITH_TARGET
 }
 
 // Two thousand written keys, and beside them commits that move the merges of their runs on by few steps each, so that large ones are half
 // done again and again. Each of these has read what one of the others wrote.
 #[test]
-fn while_large_runs_are_merged(rt: HostRuntime) -> Result<(), Fail> {
-    let alloc = rt.alloc();
-    let mut both = Both::new(alloc);
+fn while_large_runs_are_merged(rt: HostRuntime) {
+    let mut both = Both::new(rt.alloc());
     for n in 0..33u8 {
-        let tx = writer(alloc, both.committed.last(), n)?;
-        assert!(rt; both.commit(&tx)? == Some(Verdict::Clear(false)));
-        assert!(rt; finds(&mut both, alloc, n, 3 * n)?);
-        assert!(rt; finds(&mut both, alloc, n - n / 4, 3 * n + 1)?);
-        assert!(rt; finds(&mut both, alloc, n / 2, 3 * n + 2)?);
-    }
-    Ok(())
-}
-
-// Forgets what committed up to this number.
-fn forget_upto(committed: &mut Committed, oldest: u64) {
-    if oldest <= committed.last() {
-        committed.forget(oldest);
+        let tx = writer(&rt, both.committed.last(), n);
+        assert!(rt; both.commit(&rt, &tx) == CLEAR);
+        assert!(rt; finds(&rt, &mut both, n, 3 * n));
+        assert!(rt; finds(&rt, &mut both, n - n / 4, 3 * n + 1));
+        assert!(rt; finds(&rt, &mut both, n / 2, 3 * n + 2));
     }
 }
 
 /// Runs of written keys stay few while old transactions come and go, and hold three places at most for each of the two keys that a commit
 /// wrote, of those that are kept and 64 more; none is left once all are forgotten.
 #[test]
-fn written_keys_stay_in_few_runs(rt: HostRuntime) -> Result<(), Fail> {
+fn written_keys_stay_in_few_runs(rt: HostRuntime) {
     let mut committed = Committed::new(rt.alloc());
     for n in 0..2_000u64 {
-        let tx = transaction(
-            rt.alloc(),
-            n,
-            &[(n % 97) as u8],
-            &[(n % 101) as u8, (n % 89) as u8],
-        )?;
-        assert!(rt; commit(&mut committed, &tx) == Ok(Verdict::Clear(false)));
+        let reads = [(n % 97) as u8];
+        let writes = [(n % 101) as u8, (n % 89) as u8];
+        let tx = transaction(&rt, n, &reads, &writes);
+        assert!(rt; commit(&rt, &mut committed, &tx) == CLEAR);
         if n % 16 == 15 {
-            forget_upto(&mut committed, n / 2);
+            forget(&mut committed, n / 2);
         }
         assert!(rt; committed.runs() <= 24, "after commit {n}");
         let most = committed.kept().saturating_add(64).saturating_mul(6);
         assert!(rt; committed.postings() <= most, "after commit {n}");
     }
     for _ in 0..100 {
-        forget_upto(&mut committed, 2_000);
+        forget(&mut committed, 2_000);
     }
     assert!(rt; committed.runs() == 0);
     assert!(rt; committed.postings() == 0);
-    Ok(())
 }

@@ -2,4 +2,4 @@ use Rattle.std.proofs.Common.{◌≤◌}
 use Rattle.layer_tests.proofs.kept.after_ten_commits.Given as goal
 
 abbrev pub invariant-loop-commits : goal.invariant-loop-commits
-invariant-loop-commits l = l.versions.last ≤ l.commits
+invariant-loop-commits g l = l.versions.last ≤ l.commits

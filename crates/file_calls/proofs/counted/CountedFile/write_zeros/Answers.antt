@@ -1,4 +1,4 @@
-use Rattle.file_calls.specs.HappenedCalls.{real_write}
+use Rattle.file_calls.specs.HappenedCalls.{real_error, real_write}
 use Rattle.file_calls.proofs.counted.CountedFile.write_zeros.Goals as goal
 
 pub returns-clause-happened : goal.returns-clause-happened
@@ -6,6 +6,9 @@ returns-clause-happened c = real_write _ _ _ _
 
 pub returns-in_err-_written-clause-happened : goal.returns-in_err-_written-clause-happened
 returns-in_err-_written-clause-happened c = real_write _ _ _ _
+
+pub returns-in_err-_written-clause-error : goal.returns-in_err-_written-clause-error
+returns-in_err-_written-clause-error c _ = real_error _
 
 -- no call was made
 pub returns-in_err-count_call-clause-happened : goal.returns-in_err-count_call-clause-happened

@@ -1,6 +1,9 @@
 use Rattle.std.proofs.Common.{rules}
-use Rattle.file_calls.specs.HappenedCalls.{real_make}
+use Rattle.file_calls.specs.HappenedCalls.{real_error, real_make}
 use Rattle.file_calls.proofs.opened.OpenedFile.make.Goals as goal
 
 pub returns : goal.returns
 returns g c = search (rules, real_make)
+
+pub returns-in_err-open-clause-error : goal.returns-in_err-open-clause-error
+returns-in_err-open-clause-error g c = real_error _
