@@ -1,15 +1,13 @@
 //! The loop, with clients over sockets of the same process.
 use crate::hubs::{new_hub, opened};
-use commands::{DONE, FAULT, SystemFiles, create, run};
+use commit_log::{Log, format};
 use event_loop::EventLoop;
 use sector::{FileSectors, MemSectors, Sectors};
-use std::alloc::Global;
 use std::fs::{self, File};
 use std::io::{Read, Write};
 use std::net::{Ipv4Addr, Net, OpenStream, SocketAddr, TcpStream};
 use std::process::Abort;
 use std::rt::Files;
-use std::sync::Wait;
 use std::time::{Clock, Duration};
 
 /// Sends a request, and runs turns until a reply of this length is there or the turns are over. Is it this reply?
@@ -89,33 +87,6 @@ fn write_skew(rt: HostRuntime) {
     assert!(rt; !events.stopped());
 }
 
-/// Is a log of four sectors copied, with its counts, and refused as full before the new file is made where this may have three alone?
-fn copies<R: Files<File = File> + Net + Wait + Clock>(rt: &R, alloc: Global, from: &str) -> bool {
-    let to = "copied.data";
-    let _ = fs::remove_file(rt, to);
-    let mut out = Vec::new(alloc);
-    let mut err = Vec::new(alloc);
-    let few = [
-        "ssikvd",
-        "compact",
-        "--from",
-        from,
-        "--to",
-        to,
-        "--sectors",
-        "3",
-    ];
-    let input = b"".as_slice();
-    let refused = run(rt, alloc, &few, input, &mut out, &mut err) == FAULT
-        && err.as_slice() == b"ssikvd: log full\n".as_slice()
-        && fs::remove_file(rt, to).is_err();
-    let done = run(rt, alloc, &few[..6], input, &mut out, &mut err) == DONE
-        && out.as_slice() == b"records 1 keys 1 sectors 4 of 4\n".as_slice();
-    // Its name is taken now.
-    let again = run(rt, alloc, &few[..6], input, &mut out, &mut err) == FAULT;
-    refused && done && again && fs::remove_file(rt, to).is_ok()
-}
-
 /// A commit through a loop over the file of this name.
 fn commit_into<R: Files<File = File> + Net + Clock + Abort + AllocGlobal>(rt: &R, name: &str) {
     let device = FileSectors::open(rt, name).expect(rt, "a file");
@@ -128,20 +99,17 @@ fn commit_into<R: Files<File = File> + Net + Clock + Abort + AllocGlobal>(rt: &R
     assert!(rt; asks(rt, &mut events, &mut client, request, reply));
 }
 
-/// One commit through the loop into a file of four sectors, which is then counted and copied.
+/// One commit through the loop into a file of four sectors, whose log has its record then.
 #[test]
 fn data_file(rt: HostRuntime) {
     let name = "loop.data";
     let _ = fs::remove_file(&rt, name);
-    assert!(rt; create(&mut SystemFiles::new(&rt), name, 4).is_ok());
+    let mut device = FileSectors::create(&rt, name, 4).expect(&rt, "made");
+    format(&mut device).expect(&rt, "an empty log");
+    drop(device);
     commit_into(&rt, name);
-    let mut out = Vec::new(rt.alloc());
-    let mut err = Vec::new(rt.alloc());
-    let words = ["ssikvd", "check", "--data", name];
-    let status = run(&rt, rt.alloc(), &words, b"".as_slice(), &mut out, &mut err);
-    assert!(rt;
-        status == DONE && out.as_slice() == b"records 1 keys 1 sectors 4 of 4\n".as_slice()
-    );
-    assert!(rt; copies(&rt, rt.alloc(), name));
+    let device = FileSectors::open(&rt, name).expect(&rt, "a file");
+    let (log, map) = Log::open(rt.alloc(), device).expect(&rt, "a log");
+    assert!(rt; (log.records(), log.used(), map.len()) == (1, 4, 1));
     assert!(rt; fs::remove_file(&rt, name).is_ok());
 }
