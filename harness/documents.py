@@ -359,6 +359,12 @@ def sealed(tally):
             own = f"crates/{crate}/"
             due = {f"{own}specs/HappenedCalls.antt", *(f"{own}proofs/{name}/Answers.antt" for name in calls)}
             expect(found == due, f"they are named in {sorted(found)}")
+    with tally.run("an opened file, which is counted once"):
+        code = "".join(text_of(f"crates/file_calls/src/{name}.rt") for name in ("opened", "counted"))
+        made = re.findall(r"fn (\w+)[^{]*-> (?:io::Result<)?OpenedFile\b", code)
+        expect(made == ["make", "open", "open_to_read"], f"{made} give an opened file")
+        expect(not re.search(r"derive\([^)]*(?:Clone|Copy)", code) and "impl Clone" not in code, "a file can be copied")
+        expect(len(re.findall(r"\bOpenedFile \{\n", code)) == 3 + 2, "an opened file is made elsewhere")
 
 
 def names(tally):
