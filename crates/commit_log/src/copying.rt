@@ -152,9 +152,10 @@ fn settle_zeros<D: Sectors>(device: &mut D) -> Result<(), LogFault>
 /// settled; the head is written last, and settled.
 ///
 /// Faults come in this order: `Full` exactly where the device has fewer sectors than `copy_sectors` tells; `Memory` where the memory
-/// for one record is refused; `NotEmpty` where the first sector isn't all zeros; `Device` where a call of the device fails. After
-/// `Full` and `Memory` the device wasn't called, and after `NotEmpty` it holds what it held. After `Device` its first sector may hold
-/// anything if the head was being written, and else what it held. What stands behind the log's sectors is left as it is. All memory is made before the first call of the device.
+/// for one record is refused; `Device` where the sync or the read of the first sector fails; `NotEmpty` where that isn't all zeros;
+/// `Device` where a later call of the device fails. After `Full` and `Memory` the device wasn't called, and after `NotEmpty` it holds what
+/// it held. After `Device` its first sector may hold anything if the head was being written, and else what it held. What stands behind the
+/// log's sectors is left as it is. All memory is made before the first call of the device.
 pub fn copy_into<D: Sectors>(alloc: Global, device: &mut D, map: &Map) -> Result<u64, LogFault>
     // When each fault comes, and what it leaves.
     ensures errors { IfErr result IsCopyFault }

@@ -178,7 +178,7 @@ impl Transaction {
         }
     }
 
-    /// Writes a value of at most 4,096 bytes to a key. It takes a copy of the value, and for a new key a copy of the key and a place;
+    /// Writes a value of at most `VALUE_MAX` bytes to a key. It takes a copy of the value, and for a new key a copy of the key and a place;
     /// `FullWrites`, where the key is new and 64 are written, or `Memory`.
     pub fn put(&mut self, key: KeyRef<'_>, value: &[u8]) -> Result<(), SnapshotFault>
         requires { length value.now ≤ VALUE_MAX }

@@ -63,7 +63,7 @@ impl WriteBuffer {
         }
     }
 
-    /// Writes a value of at most 4,096 bytes to the key. It takes a copy of the value, and for a new key a copy of the key and a place.
+    /// Writes a value of at most `VALUE_MAX` bytes to the key. It takes a copy of the value, and for a new key a copy of the key and a place.
     /// The buffer is as it was where it answers `FullWrites`, which it does where the key is new and 64 are written, or `Memory`.
     pub fn put(&mut self, key: KeyRef<'_>, value: &[u8]) -> Result<(), WritesFault>
         requires { length value.now ≤ VALUE_MAX }
