@@ -326,6 +326,23 @@ def compactions(tally):
         expect_found(run(["check", "--data", data]), 0, "records 2 keys 1 sectors 6 of 16\n")
 
 
+# Of the two records of LOG_FORMAT.md's example the sector of the body, its length and index, and its payload.
+WORKED_BODIES = ((2, "0000000d0000000000000000", "00000001000161010000000131"), (4, "000000080000000000000001", "0000000100016100"))
+
+
+def worked_log(tally):
+    """The example of LOG_FORMAT.md: its bytes, and the line of `check`."""
+    with folder() as place, tally.run("the example of LOG_FORMAT.md"):
+        data = os.path.join(place, "data")
+        create(data, 8)
+        expect(asked(data, ("BEGIN", "SET a 1", "COMMIT", "BEGIN", "DEL a", "COMMIT"))[2::3] == [b":1", b":2"], "another reply")
+        expect_found(run(["check", "--data", data]), 0, "records 2 keys 0 sectors 6 of 8\n")
+        sectors = [read(data)[at:at + SECTOR] for at in range(0, 8 * SECTOR, SECTOR)]
+        for at, front, content in WORKED_BODIES:
+            expect(sectors[at].startswith(bytes.fromhex(front)) and sectors[at][44:].startswith(bytes.fromhex(content)), f"sector {at} is another")
+        expect([sectors[at][0] for at in (1, 3, 5)] == [1, 1, 0], "another gate")
+
+
 COPYING = b"ssikvd: the map is read, the copy is being written\r\n"
 
 
@@ -697,7 +714,7 @@ def main():
     need(PROGRAM, SHIM, TRACER)
     holds = True
     for name, parts in (
-            ("command lines", [command_lines]), ("data files and addresses", [create_at_bounds, data_files, compactions, late_copies, failing_files, names, file_in_folder]),
+            ("command lines", [command_lines]), ("data files and addresses", [create_at_bounds, data_files, worked_log, compactions, late_copies, failing_files, names, file_in_folder]),
             ("output that fails", [failing_output]), ("scripts", [scripts]), ("servers", [servers]), ("lines in one write", [whole_lines])):
         tally = Tally(name)
         for part in parts:
