@@ -19,6 +19,22 @@ fn text_option<'a>(alloc: Global, name: &'a str, value: &'a str, help: &'a str) 
         .action(ArgAction::Set)
 }
 
+// The command with one argument more. A function of its own, so that what is dropped where memory is refused is proved once.
+fn with_argument<'a>(
+    command: Result<Command<'a>, AllocError>,
+    argument: Arg<'a>,
+) -> Result<Command<'a>, AllocError> {
+    command?.arg(argument)
+}
+
+// The command with one below it more.
+fn with_command<'a>(
+    command: Result<Command<'a>, AllocError>,
+    below: Result<Command<'a>, AllocError>,
+) -> Result<Command<'a>, AllocError> {
+    command?.subcommand(below?)
+}
+
 fn create<'a>(alloc: Global) -> Result<Command<'a>, AllocError> {
     let sectors = Arg::new(alloc, "sectors")
         .long("sectors")
@@ -27,24 +43,27 @@ fn create<'a>(alloc: Global) -> Result<Command<'a>, AllocError> {
         .required(true)
         .action(ArgAction::Set)
         .value_parser(clap::value_parser!(u64).range(2..=4_194_304));
-    Command::new(alloc, "create")
+    let command = Command::new(alloc, "create")
         .about("Makes a data file and formats it")
         .after_help(AFTER_CREATE)
-        .arg(text_option(alloc, "data", "FILE", "The file, which must not exist"))?
-        .arg(sectors)
+        .arg(text_option(alloc, "data", "FILE", "The file, which must not exist"));
+    with_argument(command, sectors)
 }
 
 fn serve<'a>(alloc: Global) -> Result<Command<'a>, AllocError> {
-    Command::new(alloc, "serve")
+    let command = Command::new(alloc, "serve")
         .about("Serves a data file")
         .after_help(AFTER_SERVE)
-        .arg(text_option(alloc, "data", "FILE", "The file"))?
-        .arg(text_option(
+        .arg(text_option(alloc, "data", "FILE", "The file"));
+    with_argument(
+        command,
+        text_option(
             alloc,
             "listen",
             "ADDR:PORT",
             "The numeric address and port, as 127.0.0.1:7777 or [::1]:7777",
-        ))
+        ),
+    )
 }
 
 fn check<'a>(alloc: Global) -> Result<Command<'a>, AllocError> {
@@ -63,12 +82,15 @@ fn compact<'a>(alloc: Global) -> Result<Command<'a>, AllocError> {
         )
         .action(ArgAction::Set)
         .value_parser(clap::value_parser!(u64).range(2..=4_194_304));
-    Command::new(alloc, "compact")
+    let command = Command::new(alloc, "compact")
         .about("Copies the map of a data file into a new data file")
         .after_help(AFTER_COMPACT)
-        .arg(text_option(alloc, "from", "FILE", "The file, which is only read"))?
-        .arg(text_option(alloc, "to", "FILE", "The new file, which must not exist"))?
-        .arg(sectors)
+        .arg(text_option(alloc, "from", "FILE", "The file, which is only read"));
+    let command = with_argument(
+        command,
+        text_option(alloc, "to", "FILE", "The new file, which must not exist"),
+    );
+    with_argument(command, sectors)
 }
 
 fn play<'a>(alloc: Global) -> Result<Command<'a>, AllocError> {
@@ -87,14 +109,14 @@ fn play<'a>(alloc: Global) -> Result<Command<'a>, AllocError> {
 
 /// The whole command line. It may grow what `clap` keeps of it.
 pub(crate) fn command<'a>(alloc: Global) -> Result<Command<'a>, AllocError> {
-    Command::new(alloc, "ssikvd")
+    let program = Command::new(alloc, "ssikvd")
         .about("An ordered store whose transactions are serializable")
         .after_help(AFTER_PROGRAM)
         .version(VERSION)
         .subcommand_required(true)
-        .subcommand(create(alloc)?)?
-        .subcommand(serve(alloc)?)?
-        .subcommand(check(alloc)?)?
-        .subcommand(compact(alloc)?)?
-        .subcommand(play(alloc)?)
+        .subcommand(create(alloc)?);
+    let program = with_command(program, serve(alloc));
+    let program = with_command(program, check(alloc));
+    let program = with_command(program, compact(alloc));
+    with_command(program, play(alloc))
 }

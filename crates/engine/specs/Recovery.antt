@@ -43,8 +43,8 @@ pub record IsInDoubt (map : KeyMap) (may_leave : List (List ℕ) → Type 0) : T
 abbrev pub LeavesInDoubt : {D : Type 0} {g : Ghosts D} → Log D g → Log D g → Type 0
 LeavesInDoubt {g = g} old new = WhereStored old (λ map. IsInDoubt map (g.may_leave (device_of new)))
 
--- What a crash leaves: the map that is committed and, once the store is stopped, that or the one with the writes of the COMMIT that was
--- answered a store fault.
+-- What a crash leaves: the map that is committed and, once the store is stopped, that or the one with the writes of one COMMIT more. Which COMMIT
+-- that is, the clause `crash` of `Engine::commit` says.
 pub record LeavesCommitted (m : State) (may_leave : List (List ℕ) → Type 0) : Type 0 where
   pub running : m.stopped ≡ false → (c : List (List ℕ)) → may_leave c → HoldsMap c (committed_map m)
   pub stopped : m.stopped ≡ true → IsInDoubt (committed_map m) may_leave

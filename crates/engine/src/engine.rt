@@ -132,8 +132,8 @@ impl<D: Sectors> Engine<D> {
         machine_is_serializable();
     }
 
-    /// Does nothing: a crash leaves the map of all that has committed; of a store that is stopped, that or the one with the writes of the
-    /// COMMIT that was answered a store fault.
+    /// Does nothing: a crash leaves the map of all that has committed; of a store that is stopped, that or the one with the writes of one
+    /// COMMIT more, which the clause `crash` of `commit` names.
     pub fn is_stored(&self)
         ensures { D.keeps_model → (m : State) → StandsFor self.now m → LeavesCommitted m (D.may_leave (device_of self.now)) }
     {}

@@ -1,4 +1,4 @@
-//! The last readers of keys: worked commits, and many beside a plain list.
+//! The last readers of keys: worked commits, and how much is kept of many.
 ghost use Rattle.std.specs.Prelude.{◌≤◌};
 ghost use Rattle.last_readers.specs.Readers.{AreUpto};
 
@@ -8,9 +8,6 @@ use marks::{Marks, MarksFault};
 use model::{KeyRef, RangeRef};
 use std::alloc::Global;
 use std::process::Abort;
-
-/// How many keys of one byte the plain list has.
-const KEYS: u8 = 48;
 
 // The last readers after some commits, and the number of the last of these.
 #[derive(Drop)]
@@ -81,53 +78,6 @@ fn some_marks<R: Abort + AllocGlobal>(rt: &R, seed: u64) -> (Marks, u64) {
     (marks, next / 2)
 }
 
-// Is each key's last reader after this number that of the plain list, where those up to `oldest` are forgotten?
-fn are_as_in(readers: &LastReaders, plain: &[u64], begin: u64, oldest: u64) -> bool {
-    for byte in 0..KEYS {
-        let want = match plain.get(byte as usize) {
-            Some(number) if *number > begin && *number > oldest => Some(*number),
-            _ => None,
-        };
-        if readers.last(key(&[byte]), begin) != want {
-            return false;
-        }
-    }
-    true
-}
-
-// Notes the commit in the plain list.
-fn note(plain: &mut [u64], marks: &Marks, number: u64) {
-    for byte in 0..KEYS {
-        if marks.covers(key(&[byte])) {
-            if let Some(last) = plain.get_mut(byte as usize) {
-                *last = number;
-            }
-        }
-    }
-}
-
-#[test]
-fn many_commits_beside_a_plain_list(rt: HostRuntime) {
-    let mut commits = Commits::new(rt.alloc());
-    let mut plain = [0; 48];
-    let mut oldest = 0;
-    let mut seed = 4;
-    for i in 0..90u64 {
-        let (marks, next) = some_marks(&rt, seed);
-        seed = next;
-        let number = commits.commit(&rt, &marks);
-        note(&mut plain, &marks, number);
-        if i % 16 == 15 {
-            oldest = i - 12;
-            commits.forget(oldest);
-        }
-        assert!(rt;
-            are_as_in(&commits.readers, &plain, i / 2, oldest),
-            "commit {number}"
-        );
-    }
-}
-
 /// Runs and their steps stay few while old transactions come and go, and none is left once all are forgotten.
 #[test]
 fn last_readers_stay_in_few_runs(rt: HostRuntime) {
@@ -156,7 +106,7 @@ fn worked_last_readers(rt: HostRuntime) {
     for (kind, first, end) in [(1, b"a", b"c"), (5, b"b", b"b"), (3, b"c", b"d")] {
         let mut marks = Marks::new(rt.alloc());
         mark(&mut marks, kind, first, end).expect(&rt, "marked");
-        commits.commit(&rt, &marks);
+        commits.commit(&rt, &marks.copy().expect(&rt, "memory"));
     }
     let rows: [(&[u8], Option<u64>, Option<u64>); 6] = [
         (b"a", Some(1), None),

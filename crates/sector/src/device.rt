@@ -27,7 +27,7 @@ pub trait Sectors: Drop {
     /// How many sectors there are. No call changes it.
     ghost size: { Self → ℕ };
 
-    /// How many reads, writes and syncs have failed. A count at 2^64 - 1 stays there.
+    /// How many reads, writes and syncs have failed.
     ghost failures: { Self → ℕ };
 
     /// The devices of this type keep the sector model.
