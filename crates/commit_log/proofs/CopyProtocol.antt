@@ -10,11 +10,11 @@ use Rattle.sector.proofs.Runs.{writes_on}
 use Rattle.model.specs.Map.{KeyWrite, KeyMap}
 use Rattle.model.specs.Machine.{payload_size}
 use Rattle.commit_log.specs.Reading.{LeavesAsBefore, OnlyReads}
-use Rattle.commit_log.specs.Copying.{OnlyWrites, log_sectors, open_record, ReadsFrom, LeavesZeros, IsCopyOrNoLog, IsCopyStep, LeavesSteps, puts, write_sets_of}
+use Rattle.commit_log.specs.Copying.{log_sectors, open_record, ReadsFrom, LeavesZeros, IsCopyOrNoLog, IsCopyStep, LeavesSteps, puts, write_sets_of}
 use Rattle.commit_log.specs.Format.{current, head_sector}
 use Rattle.commit_log.specs.RecordFormat.{closed_gate, first_digest, open_gate, sectors_for, body_sectors, padded_body, record_body, record_digest}
 use Rattle.commit_log.specs.LogImage.{IsLogImage, span, last_digest, next_index}
-use Rattle.commit_log.specs.LogState.{IsSameBefore}
+use Rattle.commit_log.specs.LogState.{IsSameBefore, OnlyWrites}
 use Rattle.commit_log.proofs.Calls.{Passes, Leaves, leaves_no_more}
 use Rattle.commit_log.proofs.Records.{closed_gate_shut, slice_get_there, span-append, next_index-is, last_digest-push, length-log_sectors, log_made, first_of_log, set_first, log_if_head, zeros_are_no_log, same_first, log_sectors-push, reads_more, record_sectors}
 use Rattle.commit_log.proofs.Putting.{AreWriteSets, no_sets, sets_split, next_set}

@@ -1,7 +1,7 @@
 -- A copy of a map: the log whose records put the map's pairs, by rising key, 64 to a record.
 use Rattle.std.specs.Prelude.{◌≡◌, ◌⊎◌, ◌<◌, ℕ, zero, suc, ◌+◌, ◌/◌, List, [], ◌∷◌, ◌++◌, length, take, drop, replicate, slice_get, get_or, Some}
 use Rattle.sector.specs.declared.device.Sectors.{Ghosts}
-use Rattle.sector.specs.SectorModel.{FollowsWrites, IsSameElsewhere, LeavesNoMore, LeavesOnly, ReadsNoMoreOutside}
+use Rattle.sector.specs.SectorModel.{IsSameElsewhere, LeavesNoMore, LeavesOnly}
 use Rattle.model.specs.Map.{KeyMap, KeyWrite}
 use Rattle.commit_log.specs.Format.{current, head_sector}
 use Rattle.commit_log.specs.RecordFormat.{first_digest, open_gate, record_body, record_digest, sectors_in}
@@ -49,12 +49,6 @@ open_record body = open_gate ∷ sectors_in (length body / 512) body
 -- reads from this sector on give these sectors
 abbrev pub ReadsFrom : (ℕ → List ℕ → Type 0) → ℕ → List (List ℕ) → Type 0
 ReadsFrom may_read at sectors = (k : ℕ) (s : List ℕ) → k < length sectors → may_read (at + k) s → s ≡ get_or sectors k []
-
--- Only these n sectors are written: reads of the others give no more than before, and a crash at any moment leaves those as before.
-pub record OnlyWrites {D : Type 0} (g : Ghosts D) (at n : ℕ) (old new : D) : Type 0 where
-  pub others : ReadsNoMoreOutside at n (g.may_read old) (g.may_read new)
-  pub left : LeavesNoMore (FollowsWrites at n (g.may_leave old)) (g.may_leave new)
-  pub time : LeavesOnly g.moment g.left_since old new (FollowsWrites at n (g.may_leave old))
 
 -- a sector of zeros
 unfoldable pub zero_sector : List ℕ

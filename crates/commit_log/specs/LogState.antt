@@ -1,7 +1,7 @@
 -- What a log stands for.
-use Rattle.std.specs.Prelude.{◌≡◌, ◌⊎◌, ◌≤◌, ℕ, ◌+◌, ◌/◌, Bool, false, List, [], ◌∷◌, ◌++◌, length, take, slice_set, Result, OnOk}
+use Rattle.std.specs.Prelude.{◌≡◌, ◌⊎◌, ◌≤◌, ℕ, ◌+◌, ◌-◌, ◌/◌, Bool, false, List, [], ◌∷◌, ◌++◌, length, take, slice_set, Result, OnOk}
 use Rattle.sector.specs.declared.device.Sectors.{Ghosts}
-use Rattle.sector.specs.SectorModel.{IsSettled, IsSameElsewhere, LeavesNoMore, LeavesOnly}
+use Rattle.sector.specs.SectorModel.{FollowsWrites, IsSettled, IsSameElsewhere, LeavesNoMore, LeavesOnly, ReadsNoMoreOutside}
 use Rattle.model.specs.Map.{KeyWrite}
 use Rattle.commit_log.specs.Format.{current}
 use Rattle.commit_log.specs.RecordFormat.{IsWriteSet, body_sectors, padded_body, first_digest, closed_gate}
@@ -78,6 +78,16 @@ AppendLeaves {g = g} old new writes = OfItsLists old (λ lists. LeavesEither g (
 -- so does a crash behind it
 abbrev pub AppendLeft : {D : Type 0} {g : Ghosts D} → Log D g → Log D g → List KeyWrite → Type 0
 AppendLeft {g = g} old new writes = OfItsLists old (λ lists. LeavesNoMore (IsBeforeOrAfter lists writes) (g.may_leave (device_of new)))
+
+-- Only these n sectors are written: reads of the others give no more than before, and a crash at any moment leaves those as before.
+pub record OnlyWrites {D : Type 0} (g : Ghosts D) (at n : ℕ) (old new : D) : Type 0 where
+  pub others : ReadsNoMoreOutside at n (g.may_read old) (g.may_read new)
+  pub left : LeavesNoMore (FollowsWrites at n (g.may_leave old)) (g.may_leave new)
+  pub time : LeavesOnly g.moment g.left_since old new (FollowsWrites at n (g.may_leave old))
+
+-- only the record of these writes is written, from the gate where it begins to the closed gate behind it
+abbrev pub OnlyAppends : {D : Type 0} {g : Ghosts D} → Log D g → Log D g → List KeyWrite → Type 0
+OnlyAppends {g = g} old new writes = OnlyWrites g (used_sectors old - 1) (body_sectors writes + 2) (device_of old) (device_of new)
 
 -- an image that is the same as one of these before this sector
 abbrev pub IsSameBefore : ℕ → (List (List ℕ) → Type 0) → List (List ℕ) → Type 0

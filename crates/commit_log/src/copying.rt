@@ -6,10 +6,10 @@ ghost use Rattle.model.specs.Map.{IsMap, IsInBounds};
 ghost use Rattle.commit_log.specs.RecordFormat.{closed_gate};
 ghost use Rattle.commit_log.specs.LogImage.{span};
 ghost use Rattle.commit_log.specs.Reading.{FaultIs, OnlyReads};
-ghost use Rattle.commit_log.specs.LogState.{HoldsLog};
+ghost use Rattle.commit_log.specs.LogState.{HoldsLog, OnlyWrites};
 ghost use Rattle.commit_log.specs.Opening.{MightHold};
 ghost use Rattle.commit_log.specs.Recovery.{map_after};
-ghost use Rattle.commit_log.specs.Copying.{write_sets_of, set_count, copy_size, records_of, open_record, ReadsFrom, OnlyWrites, IsBlank, LeavesZeros, LeavesSteps, LeavesCopyOrNoLog, IsCopyFault};
+ghost use Rattle.commit_log.specs.Copying.{write_sets_of, set_count, copy_size, records_of, open_record, ReadsFrom, IsBlank, LeavesZeros, LeavesSteps, LeavesCopyOrNoLog, IsCopyFault};
 
 use crate::decode::is_same;
 use crate::encode::sectors_for;

@@ -32,7 +32,7 @@ impl<D: Sectors> Log<D> {
     ghost use Rattle.commit_log.specs.LogFaults.{IsOpenFault, IsAppendFault};
     ghost use Rattle.commit_log.specs.Reading.{LeavesAsBefore, TellsFailure};
     ghost use Rattle.commit_log.specs.OpenedLog.{IsLogOf, OpensWhatWas, OpeningLeavesAsBefore, FindsLog, FindsDamage, FindsNoLog, FindsOldHead, FindsWhatIsLeft};
-    ghost use Rattle.commit_log.specs.LogState.{StandsFor, OfItsLists, HasSameRecords, LacksRoom, AppendLeaves, AppendLeft, record_count, used_sectors, is_stopped, device_of, sector_count, failure_count};
+    ghost use Rattle.commit_log.specs.LogState.{StandsFor, OfItsLists, HasSameRecords, LacksRoom, AppendLeaves, AppendLeft, OnlyAppends, record_count, used_sectors, is_stopped, device_of, sector_count, failure_count};
 
     /// Opens the log that a device holds, and gives the map that its write sets make of the empty one. It syncs the device, and reads
     /// each sector up to the last closed gate once.
@@ -144,6 +144,9 @@ impl<D: Sectors> Log<D> {
 
         // So does a crash after it, also where it failed.
         ensures left { D.keeps_model → AppendLeft self.old self.new writes.now }
+
+        // No sector is written but the record's and the closed gate behind it.
+        ensures alone { D.keeps_model → OnlyAppends self.old self.new writes.now }
     {
         if self.stopped {
             return Err(LogFault::Stopped);
@@ -191,6 +194,9 @@ impl<D: Sectors> Log<D> {
 
         // So does a crash after it, also where it failed.
         ensures left { D.keeps_model → AppendLeft self.old self.new writes.now }
+
+        // No sector is written but the record's and the closed gate behind it.
+        ensures alone { D.keeps_model → OnlyAppends self.old self.new writes.now }
     {
         let before = self.digest;
         let (body, digest) = encode(alloc, &before, self.records, writes, len)?;

@@ -2,7 +2,7 @@
 ghost use Rattle.std.specs.Prelude.{◌≡◌, ◌<◌, ◌+◌, ◌/◌, ◌%◌, ◌^◌, length, OnOk, OnErr};
 ghost use Rattle.sector.specs.Failures.{Rose, Stayed};
 ghost use Rattle.commit_log.specs.RecordFormat.{open_gate, closed_gate};
-ghost use Rattle.commit_log.specs.LogState.{AtOk, HoldsBoth, LeavesEither, LeavesStaged, OfNextRecord, OfStaged};
+ghost use Rattle.commit_log.specs.LogState.{AtOk, HoldsBoth, LeavesEither, LeavesStaged, OfNextRecord, OfStaged, OnlyWrites};
 
 use crate::blocks::write_sectors;
 use sector::{DeviceFault, SECTOR_SIZE, Sector, Sectors};
@@ -33,6 +33,9 @@ fn stage<D: Sectors>(device: &mut D, gate: u64, body: &[u8]) -> Result<(), Devic
     // At `Ok` each crash leaves the record behind its gate.
     ensures staged { D.keeps_model → OfNextRecord D.Sectors device.old gate body.now (AtOk result (LeavesStaged D.Sectors device.new)) }
     ensures any_moment { D.keeps_model → OfNextRecord D.Sectors device.old gate body.now (LeavesEither D.Sectors device.old device.new) }
+
+    // No sector is written but the body's and the one behind it.
+    ensures alone { D.keeps_model → OnlyWrites D.Sectors (gate + 1) (length body.now / 512 + 1) device.old device.new }
 {
     let next = gate + 1 + (body.len() / SECTOR_SIZE) as u64;
     write_sectors(device, gate + 1, body)?;
@@ -49,6 +52,7 @@ fn open_staged<D: Sectors>(device: &mut D, gate: u64) -> Result<(), DeviceFault>
     ensures fault { OnErr result (Rose (D.failures device.old) (D.failures device.new)) }
     ensures acknowledged { D.keeps_model → OfStaged D.Sectors device.old gate (AtOk result (HoldsBoth D.Sectors device.new)) }
     ensures any_moment { D.keeps_model → OfStaged D.Sectors device.old gate (LeavesEither D.Sectors device.old device.new) }
+    ensures alone { D.keeps_model → OnlyWrites D.Sectors gate 1 device.old device.new }
 {
     device.write(gate, &open_gate())?;
     device.sync()?;
@@ -69,6 +73,9 @@ pub fn write_record<D: Sectors>(device: &mut D, gate: u64, body: &[u8]) -> Resul
 
     // A crash at any moment of the call leaves the log with the record or without it.
     ensures any_moment { D.keeps_model → OfNextRecord D.Sectors device.old gate body.now (LeavesEither D.Sectors device.old device.new) }
+
+    // No sector is written but the record's and the closed gate behind it.
+    ensures alone { D.keeps_model → OnlyWrites D.Sectors gate (length body.now / 512 + 2) device.old device.new }
 {
     stage(device, gate, body)?;
     open_staged(device, gate)?;
