@@ -94,24 +94,27 @@ fn few_lists_go_in_three_calls(rt: HostRuntime) {
     assert!(rt; versions.range(6, from_a_to_b).next().is_none());
 }
 
-// The versions of a map with ten keys, after ten commits that write one of them each: ten lists of an older version.
-fn after_ten_commits<R: Abort + AllocGlobal>(rt: &R) -> Versions {
+// The versions of a map with so many keys, after as many commits that write one of them each: as many lists of an older version.
+fn after_commits<R: Abort + AllocGlobal>(rt: &R, keys: u8) -> Versions
+    ensures { result.last ≤ keys }
+{
     let mut map = Map::new(rt.alloc());
-    for n in 0..10u8 {
+    for n in 0..keys {
         put(rt.alloc(), &mut map, &[n], b"old").expect(rt, "memory");
     }
     let mut versions = versions_of(rt, map);
-    for commits in 0..10 {
-        let bytes = [commits as u8];
-        commit(rt, &mut versions, commits + 1, key(&bytes), Some(b"new"));
+    for commits in 0..keys {
+        let bytes = [commits];
+        let n = u64::from(commits) + 1;
+        commit(rt, &mut versions, n, key(&bytes), Some(b"new"));
     }
     versions
 }
 
-// How many of the ten keys have an older version.
-fn older_versions(versions: &Versions) -> u64 {
+// How many of so many keys have an older version.
+fn older_versions(versions: &Versions, keys: u8) -> u64 {
     let mut count = 0u64;
-    for n in 0..10u8 {
+    for n in 0..keys {
         let bytes = [n];
         if versions.kept(key(&bytes)) > 1 {
             count += 1;
@@ -123,11 +126,38 @@ fn older_versions(versions: &Versions) -> u64 {
 /// Ten lists go in five calls, two in each, and each call but the last asks for another.
 #[test]
 fn lists_go_in_instalments(rt: HostRuntime) {
-    let mut versions = after_ten_commits(&rt);
-    assert!(rt; older_versions(&versions) == 10);
+    let mut versions = after_commits(&rt, 10);
+    assert!(rt; older_versions(&versions, 10) == 10);
     for left in [8, 6, 4, 2, 0] {
         assert!(rt; versions.reclaim(&[10]) == (left > 0), "{left}");
-        assert!(rt; older_versions(&versions) == left, "{left}");
+        assert!(rt; older_versions(&versions, 10) == left, "{left}");
     }
     assert!(rt; versions.at(10, key(&[7])) == Some(b"new".as_slice()));
+}
+
+// Commits a value of the key with this number, and reclaims what none of two numbers sees.
+fn commit_and_reclaim<R: Abort + AllocGlobal>(
+    rt: &R,
+    versions: &mut Versions,
+    n: u64,
+    key: KeyRef<'_>,
+)
+    requires above { versions.old.last < n }
+    requires fits { n < 2 ^ 63 }
+    ensures { versions.new.last ≡ n }
+{
+    commit(rt, versions, n, key, Some(b"new"));
+    versions.reclaim(&[200, 230]);
+}
+
+/// While 200 lists are due, a key that each commit writes has three versions at most, and one of the lists at least goes with each commit.
+#[test]
+fn no_chain_grows_while_lists_are_due(rt: HostRuntime) {
+    let mut versions = after_commits(&rt, 200);
+    let at = key(b"key");
+    for n in 201..301 {
+        commit_and_reclaim(&rt, &mut versions, n, at);
+        assert!(rt; versions.kept(at) <= 3);
+        assert!(rt; older_versions(&versions, 200) <= 400 - n);
+    }
 }

@@ -15,11 +15,11 @@ use Rattle.versions.specs.Groups.{GroupValue, Listed}
 use Rattle.versions.specs.Witnesses.{AreUnderWitnesses, IsUnderWitness}
 use Rattle.versions.specs.Meaning.{is_among, due_for, due_in, lists_a_reclaim}
 use Rattle.versions.proofs.Stores.{rising_found}
-use Rattle.std.proofs.lemmas.List.{take_all, take_more_set}
+use Rattle.std.proofs.lemmas.List.{drop_all, take_all, length-set}
 use Rattle.std.proofs.lemmas.List.Folds.{list_all-append}
 use Rattle.std.proofs.lemmas.List.Recursion.{is_sum_by}
 use Rattle.std.specs.List.{sum_by}
-use Rattle.model.proofs.Elements.{all-each, all-get, all-here, all-map, all-more, all-next, all-remove, all-rest, all-set, all-take, any-remove, any-set}
+use Rattle.model.proofs.Elements.{all-each, all-get, all-map, all-more, all-remove, all-set, all-take, any-remove, any-set}
 use Rattle.versions.proofs.Witnesses.{lists-fewer}
 use Rattle.versions.proofs.UnderWitnesses.{IsUnder}
 use Rattle.versions.proofs.ChainLaws.{any-weaker, between-wider}
@@ -44,6 +44,30 @@ rest-swap_remove P xs i d lt h = rest-filled P xs i (length xs - 1) d (omega ari
 
 length-swap_remove : {X : Type 0} (xs : List X) (i : ℕ) (d : X) → i < length xs → length (swap_remove xs i d) + 1 ≡ length xs
 length-swap_remove xs i d lt = grind (arith, common_steps)
+
+-- behind the last there is none
+all-none : {X : Type 0} (P : X → Type 0) (xs : List X) → AllByRecursion P (drop (length xs) xs)
+all-none P [] = tt
+all-none P (x ∷ xs) = all-none P xs
+
+-- one is put before those that are such
+all-put : {X : Type 0} (P : X → Type 0) (xs : List X) (i : ℕ) (y : X) → i < length xs → P y → AllByRecursion P (drop (suc i) xs) → AllByRecursion P (drop i (set xs i y))
+all-put P [] i y lt p h = absurd (omega arith)
+all-put P (x ∷ xs) zero y lt p h = (p, h)
+all-put P (x ∷ xs) (suc i) y lt p h = all-put P xs i y (omega arith) p h
+
+-- those before it stay
+all-ahead : {X : Type 0} (P : X → Type 0) (xs : List X) (i : ℕ) (y : X) → AllByRecursion P (take (suc i) xs) → AllByRecursion P (take i (set xs i y))
+all-ahead P [] zero y h = tt
+all-ahead P [] (suc i) y h = tt
+all-ahead P (x ∷ xs) zero y h = tt
+all-ahead P (x ∷ xs) (suc i) y h = (h.0, all-ahead P xs i y h.1)
+
+-- and it was one of them
+all-last : {X : Type 0} (P : X → Type 0) (xs : List X) (i : ℕ) (x : X) → i < length xs → x ≡ get_or xs i x → AllByRecursion P (take (suc i) xs) → P x
+all-last P [] i x lt at h = absurd (omega arith)
+all-last P (y ∷ xs) zero x lt at h = subst P (sym at) h.0
+all-last P (y ∷ xs) (suc i) x lt at h = all-last P xs i x (omega arith) at h.1
 
 -- ---- one of the numbers sees the version
 
@@ -153,57 +177,87 @@ due-sum bs = is_sum_by (due_in bs) (due_for bs) refl (λ _ _. refl)
 due-set : (bs : List ℕ) (gs : List GroupValue) (i : ℕ) (g h : GroupValue) → i < length gs → g ≡ get_or gs i g → due_in bs (set gs i h) + due_for bs g ≡ due_in bs gs + due_for bs h
 due-set bs gs i g h lt at = grind (arith, common_steps, due-sum bs)
 
+-- what is due from there on
+due-put : (bs : List ℕ) (gs : List GroupValue) (i : ℕ) (h : GroupValue) → i < length gs → due_in bs (drop i (set gs i h)) ≡ due_for bs h + due_in bs (drop (suc i) gs)
+due-put bs [] i h lt = absurd (omega arith)
+due-put bs (g ∷ gs) zero h lt = refl
+due-put bs (g ∷ gs) (suc i) h lt = due-put bs gs i h (omega arith)
+
 -- the witness is one of the numbers or 0
 abbrev pub IsHeld : List ℕ → GroupValue → Type 0
 IsHeld bs g = is_among (0 ∷ bs) g.witness ≡ true
 
--- the groups before i were looked at, and `most` of the lists that are due may be looked at still
-pub record Settling (bs : List ℕ) (old now : Chains) (olds gs : List GroupValue) (i most : ℕ) : Type 0 where
+-- the groups from `left` on were looked at, and `most` of the lists that are due may be looked at still
+pub record Settling (bs : List ℕ) (old now : Chains) (olds gs : List GroupValue) (left most : ℕ) : Type 0 where
+  pub in_range : left ≤ length gs
   pub part : IsPartReclaimed bs old now
   pub kept : (last : ℕ) → IsKept old last → IsKept now last
   pub listed : IsListed now gs
-  pub settled : AllByRecursion (IsLookedAfter bs now) (take i gs)
+  pub settled : AllByRecursion (IsLookedAfter bs now) (drop left gs)
   pub looked_at : due_in bs gs + lists_a_reclaim ≡ due_in bs olds + most
-  pub none_before : 0 < most → due_in bs (take i gs) ≡ 0
+  pub none_behind : 0 < most → due_in bs (drop left gs) ≡ 0
   pub few : most ≤ lists_a_reclaim
-  pub held : AllByRecursion (IsHeld bs) (take i gs)
-  pub truly : AllByRecursion (IsTrulyMixed bs) (take i gs)
+  pub held : AllByRecursion (IsHeld bs) (drop left gs)
+  pub truly : AllByRecursion (IsTrulyMixed bs) (drop left gs)
   pub lists : lists_in gs ≤ lists_in olds
-  pub each : (more held : ℕ → Bool) (v u : ChainsValue) → StandsUnder bs more v held u → AreUnderWitnesses more v olds → AreUnderWitnesses held u (take i gs)
-  pub later : (more : ℕ → Bool) (v : ChainsValue) → AreUnderWitnesses more v olds → AreUnderWitnesses more v (drop i gs)
-  pub mixed : AreMixedSettled bs now (take i gs)
+  pub each : (more held : ℕ → Bool) (v u : ChainsValue) → StandsUnder bs more v held u → AreUnderWitnesses more v olds → AreUnderWitnesses held u (drop left gs)
+  pub before : (more : ℕ → Bool) (v : ChainsValue) → AreUnderWitnesses more v olds → AreUnderWitnesses more v (take left gs)
+  pub mixed : AreMixedSettled bs now (drop left gs)
 
--- the next group was looked at
-pub settling-settled : (bs : List ℕ) (old now new : Chains) (olds gs : List GroupValue) (i last most more : ℕ) (g h : GroupValue) → i < length gs → g ≡ get_or gs i g → IsKept old last → IsPartReclaimed bs now new → ((last : ℕ) → IsKept now last → IsKept new last)
-    → more ≡ most - due_for bs g → due_for bs h ≡ due_for bs g - most → IsLookedAfter bs new h → AreKept g.versions h.versions new → IsHeld bs h → IsTrulyMixed bs h → h.lists ≤ g.lists → h.witness ≡ witness_for bs g.witness → StaysUnder g h → AllByRecursion (IsSettled bs new) h.mixed → Settling bs old now olds gs i most
-    → Settling bs old new olds (set gs i h) (i + 1) more
-settling-settled bs old now new olds gs i last most more g h lt at ordered p keeps spare due settled left held truly counted is stays mixed s =
+-- no group was looked at
+pub settling-none : (bs : List ℕ) (es : Chains) (gs : List GroupValue) → IsListed es gs → Settling bs es es gs gs (length gs) lists_a_reclaim
+settling-none bs es gs listed =
+    let none = drop_all (length gs) gs (omega arith) in
+    record {
+      in_range = omega arith;
+      part = λ k. inl refl;
+      kept = λ n h. h;
+      listed = listed;
+      settled = all-none (IsLookedAfter bs es) gs;
+      looked_at = refl;
+      none_behind = λ some. ap (due_in bs) none;
+      few = omega arith;
+      held = all-none (IsHeld bs) gs;
+      truly = all-none (IsTrulyMixed bs) gs;
+      lists = omega arith;
+      each = λ more held v u stands under. all-none (IsUnder held u) gs;
+      before = λ more v under. subst (AreUnderWitnesses more v) (sym (take_all (length gs) gs (omega arith))) under;
+      mixed = all-none (λ x. AllByRecursion (IsSettled bs es) x.mixed) gs;
+    }
+
+-- the group before them was looked at
+pub settling-settled : (bs : List ℕ) (old now new : Chains) (olds gs : List GroupValue) (i left last most more : ℕ) (g h : GroupValue) → left ≡ i + 1 → g ≡ get_or gs i g → IsKept old last → IsPartReclaimed bs now new → ((last : ℕ) → IsKept now last → IsKept new last)
+    → more ≡ most - due_for bs g → due_for bs h ≡ due_for bs g - most → IsLookedAfter bs new h → AreKept g.versions h.versions new → IsHeld bs h → IsTrulyMixed bs h → h.lists ≤ g.lists → h.witness ≡ witness_for bs g.witness → StaysUnder g h → AllByRecursion (IsSettled bs new) h.mixed → Settling bs old now olds gs left most
+    → Settling bs old new olds (set gs i h) i more
+settling-settled bs old now new olds gs i left last most more g h next at ordered p keeps spare due settled kept held truly counted is stays mixed t =
+    let s = subst (λ n. Settling bs old now olds gs n most) {x = left} {y = suc i} (omega (arith, next)) t in
+    let lt : i < length gs = (let within = s.in_range in omega (arith, within)) in
     let sum = due-set bs gs i g h lt at in
     let looked = s.looked_at in
     let few = s.few in
-    let none = s.none_before in
-    let here = ap (due_in bs) (take_more_set gs i h lt) in
+    let none = s.none_behind in
     let lists = s.lists in
     let fewer = lists-fewer gs i g h lt at counted in
     record {
+      in_range = omega (arith, lt, length-set {A = GroupValue});
       part = part-trans bs old now new last ordered s.part p;
       kept = λ n k. keeps n (s.kept n k);
       listed = listed-part bs now new gs (set gs i h) last (s.kept last ordered) p (λ k n high there.
-          let kept = left k n high in listed-set gs i g h k n high lt at (λ e. grind arith)) s.listed;
-      settled = all-next (IsLookedAfter bs new) gs i h lt settled
-          (all-each (IsLookedAfter bs now) _ (take i gs) (λ x f e. all-settled-part bs now new p x.versions (f e)) s.settled);
+          let stays = kept k n high in listed-set gs i g h k n high lt at (λ e. grind arith)) s.listed;
+      settled = all-put (IsLookedAfter bs new) gs i h lt settled
+          (all-each (IsLookedAfter bs now) _ (drop (suc i) gs) (λ x f e. all-settled-part bs now new p x.versions (f e)) s.settled);
       looked_at = omega (arith, sum, looked, spare, due);
-      none_before = λ some. grind (arith, common_steps, due-sum bs);
+      none_behind = λ some. (let here = due-put bs gs i h lt in omega (arith, here, spare, due, none, some));
       few = omega (arith, few, spare);
-      held = all-next (IsHeld bs) gs i h lt held s.held;
-      truly = all-next (IsTrulyMixed bs) gs i h lt truly s.truly;
+      held = all-put (IsHeld bs) gs i h lt held s.held;
+      truly = all-put (IsTrulyMixed bs) gs i h lt truly s.truly;
       lists = omega (arith, lists, fewer);
       each = λ more held v u stands under.
-          let own = all-here (IsUnder more v) gs i g lt at (s.later more v under) in
-          all-next (IsUnder held u) gs i h lt (stays-under bs more held v u g h is stays stands own) (s.each more held v u stands under);
-      later = λ more v under. all-rest (IsUnder more v) gs i h lt (s.later more v under);
-      mixed = all-next (λ x. AllByRecursion (IsSettled bs new) x.mixed) gs i h lt mixed
-          (all-each (λ x. AllByRecursion (IsSettled bs now) x.mixed) _ (take i gs) (λ x. all-settled-part bs now new p x.mixed) s.mixed);
+          let own = all-last (IsUnder more v) gs i g lt at (s.before more v under) in
+          all-put (IsUnder held u) gs i h lt (stays-under bs more held v u g h is stays stands own) (s.each more held v u stands under);
+      before = λ more v under. all-ahead (IsUnder more v) gs i h (s.before more v under);
+      mixed = all-put (λ x. AllByRecursion (IsSettled bs new) x.mixed) gs i h lt mixed
+          (all-each (λ x. AllByRecursion (IsSettled bs now) x.mixed) _ (drop (suc i) gs) (λ x. all-settled-part bs now new p x.mixed) s.mixed);
     }
 
 -- ---- the end of the loop
@@ -235,22 +289,21 @@ all-settled bs es [] none h = tt
 all-settled bs es (g ∷ gs) none h = (h.0 (omega (arith, none)), all-settled bs es gs (omega (arith, none)) h.1)
 
 -- so many lists are due no more
-pub settling-due : (bs : List ℕ) (old now : Chains) (olds gs : List GroupValue) (i most : ℕ) → length gs ≤ i → Settling bs old now olds gs i most → due_in bs gs ≡ due_in bs olds - lists_a_reclaim
-settling-due bs old now olds gs i most all s =
+pub settling-due : (bs : List ℕ) (old now : Chains) (olds gs : List GroupValue) (most : ℕ) → Settling bs old now olds gs 0 most → due_in bs gs ≡ due_in bs olds - lists_a_reclaim
+settling-due bs old now olds gs most s =
     let looked = s.looked_at in
     let few = s.few in
-    let none = s.none_before in
-    grind (arith, ap (due_in bs) (take_all i gs all))
+    let none : 0 < most → due_in bs gs ≡ 0 = s.none_behind in
+    grind arith
 
 -- each witness is one of the numbers or 0
-pub settling-held : (bs : List ℕ) (old now : Chains) (olds gs : List GroupValue) (i most : ℕ) → length gs ≤ i → Settling bs old now olds gs i most → AreAmong (0 ∷ bs) (witnesses gs)
-settling-held bs old now olds gs i most all s =
-    all-map (λ n. is_among (0 ∷ bs) n ≡ true) (λ g. g.witness) gs (subst (AllByRecursion (IsHeld bs)) (take_all i gs all) s.held)
+pub settling-held : (bs : List ℕ) (old now : Chains) (olds gs : List GroupValue) (most : ℕ) → Settling bs old now olds gs 0 most → AreAmong (0 ∷ bs) (witnesses gs)
+settling-held bs old now olds gs most s = all-map (λ n. is_among (0 ∷ bs) n ≡ true) (λ g. g.witness) gs s.held
 
 -- where none is due, all chains were reclaimed
-pub settling-ended : (bs : List ℕ) (old now : Chains) (olds gs : List GroupValue) (i most : ℕ) → length gs ≤ i → Settling bs old now olds gs i most → due_in bs gs ≡ 0 → (k : Bytes) → find_chain k now ≡ option_map (reclaimed bs) (find_chain k old)
-settling-ended bs old now olds gs i most all s none k =
-    let settled = all-settled bs now gs none (subst (AllByRecursion (IsLookedAfter bs now)) (take_all i gs all) s.settled) in
+pub settling-ended : (bs : List ℕ) (old now : Chains) (olds gs : List GroupValue) (most : ℕ) → Settling bs old now olds gs 0 most → due_in bs gs ≡ 0 → (k : Bytes) → find_chain k now ≡ option_map (reclaimed bs) (find_chain k old)
+settling-ended bs old now olds gs most s none k =
+    let settled = all-settled bs now gs none s.settled in
     let same = reclaimed-needed bs (find_chain k now) (chain-needed bs now k gs (find_chain k now) refl settled (s.listed k)) in
     grind (arith, s.part k)
 

@@ -262,7 +262,8 @@ impl Group {
     }
 }
 
-// Takes in which numbers are held, and looks at the first of the lists that are due: what none of the numbers sees goes.
+// Takes in which numbers are held, and looks at the first lists that are due, from the last group on: what none of the numbers sees goes.
+// So the list of a commit is looked at before those that others left, and no chain grows while these are many.
 fn reclaim_groups(chains: &mut SortedPages<Chain>, groups: &mut [Group], begins: &[u64])
     requires kept { (last : ℕ) × IsKept (entries chains.old) last }
     requires listed { IsListed (entries chains.old) groups.old }
@@ -278,8 +279,10 @@ fn reclaim_groups(chains: &mut SortedPages<Chain>, groups: &mut [Group], begins:
     ensures mixed { AreMixedSettled begins.now (entries chains.new) groups.new }
 {
     let mut most = LISTS_A_RECLAIM;
-    for i in 0..groups.len() {
-        most = groups[i].reclaim(chains, begins, most);
+    let mut left = groups.len();
+    while left > 0 {
+        left -= 1;
+        most = groups[left].reclaim(chains, begins, most);
     }
 }
 

@@ -107,24 +107,24 @@ impl Several {
         }
     }
 
-    // Drops the older versions that none of the numbers sees.
+    // Drops the older versions that none of the numbers sees, in one walk.
     pub(crate) fn reclaim(&mut self, begins: &[u64])
         ensures { self.new ≡ thinned begins.now self.old }
     {
         let last = self.newest.number;
-        let mut i = 0;
-        while i < self.older.len() {
+        let mut kept = 0;
+        for i in 0..self.older.len() {
             let next = if i + 1 < self.older.len() {
                 self.older[i + 1].number
             } else {
                 last
             };
             if is_any_between(begins, self.older[i].number, next) {
-                i += 1;
-            } else {
-                let _ = self.older.remove(i);
+                self.older.swap(kept, i);
+                kept += 1;
             }
         }
+        self.older.truncate(kept);
     }
 
     // Is there no version but the newest?

@@ -2,6 +2,9 @@ use Rattle.sorted_pages.specs.Pages.{entries}
 use Rattle.versions.proofs.Groups.{Settling}
 use Rattle.versions.proofs.reclaiming.reclaim_groups.Given as goal
 
--- the groups before i were looked at
-abbrev pub invariant-loop-i : goal.invariant-loop-i
-invariant-loop-i l = Settling l.begins (entries l.initial.chains) (entries l.chains) l.initial.groups l.groups l.i l.most
+-- the groups from `left` on were looked at
+abbrev pub invariant-loop-left : goal.invariant-loop-left
+invariant-loop-left l = Settling l.begins (entries l.initial.chains) (entries l.chains) l.initial.groups l.groups l.left l.most
+
+abbrev pub decreases-loop-left : goal.decreases-loop-left
+decreases-loop-left l = l.left
