@@ -1,5 +1,5 @@
 //! The writes that were collected.
-ghost use Rattle.std.specs.Prelude.{◌≡◌, ◌≤◌, [], reverse, length, vec_capacity, IfOk, IfSome};
+ghost use Rattle.std.specs.Prelude.{◌≡◌, ◌<◌, ◌≤◌, ◌/◌, [], reverse, length, vec_capacity, IfOk, IfSome};
 ghost use Rattle.model.specs.Key.{IsValue};
 ghost use Rattle.model.specs.Map.{after_write, after_writes};
 
@@ -101,6 +101,7 @@ fn give_back(entries: &mut Vec<Entry>)
     ensures items { entries.new.items ≡ entries.old.items }
     ensures less { vec_capacity entries.new ≤ vec_capacity entries.old }
     ensures none { length entries.old.items ≡ 0 → vec_capacity entries.new ≡ 0 }
+    ensures rare { vec_capacity entries.old / 2 < length entries.old.items → entries.new ≡ entries.old }
 {
     if entries.len() <= entries.capacity() / 2 {
         entries.shrink_to_fit();

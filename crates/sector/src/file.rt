@@ -1,9 +1,9 @@
 //! A device over a file. What a file gives back and keeps is left open.
-ghost use Rattle.std.specs.Prelude.{true, false, ◌≡◌, ◌≢◌, ◌<◌, ◌≤◌, ◌*◌, ◌%◌, ◌^◌, ◌↔◌, MatchOption, IfSome, IfOk, IsOk, IsErrAnd, OnOk, OnErr, replicate, IfErr};
+ghost use Rattle.std.specs.Prelude.{true, false, ◌≡◌, ◌≢◌, ◌<◌, ◌≤◌, ◌*◌, ◌%◌, ◌^◌, ◌↔◌, MatchOption, IfSome, IfOk, IsOk, IsErrAnd, OnOk, OnErr, replicate, IfErr, Bool, length};
 ghost use Rattle.std.specs.IoError.{error_kind};
-ghost use Rattle.file_calls.specs.HappenedCalls.{WasOpened, WasOpenedToRead, WasWritten, WasSynced, HadNameSettled, HadCopiesDropped};
+ghost use Rattle.file_calls.specs.HappenedCalls.{WasOpened, WasOpenedToRead, WasRead, WasWritten, WasSynced, HadNameSettled, HadCopiesDropped};
 ghost use Rattle.file_calls.specs.OpenFacts.{next};
-ghost use Rattle.sector.specs.Failures.{Rose, Stayed, greatest};
+ghost use Rattle.sector.specs.Failures.{Rose, Stayed, Tells, greatest};
 ghost use Rattle.sector.specs.FileOpening.{WasMadeOfZeros, WasOpenedWhole, WasOpenedWholeToRead, IsWhole, WhyNotOpened};
 
 use crate::{DeviceFault, SECTOR_SIZE, Sector, Sectors};
@@ -164,10 +164,10 @@ fn settle_zeros<R: Files<File = File>>(
     file.opened().settle_name(rt, path)
 }
 
+// Each call of the device is one call of the file; from the premise on files it then follows what the trait says of it.
 impl Sectors for FileSectors {
     ghost use Rattle.file_calls.specs.OpenFacts as facts;
-    ghost use Rattle.sector.specs.FileModel.{FileKeepsModel, TimeKeeps};
-    ghost use Rattle.sector.specs.SectorModel.{LeavesNoMore, ReadsNoMore, Syncs};
+    ghost use Rattle.sector.specs.FileModel.{FileKeepsModel};
 
     ghost size = { λ f. f.file.sectors };
 
@@ -193,24 +193,51 @@ impl Sectors for FileSectors {
         self.file.sectors()
     }
 
-    fn read(&mut self, at: u64, into: &mut Sector) -> Result<(), DeviceFault> {
+    /// It makes one call of the file: one that failed isn't tried again.
+    fn read(&mut self, at: u64, into: &mut Sector) -> Result<(), DeviceFault>
+        requires { at ≤ self.old.file.sectors }
+        ensures ok { OnOk result (Stayed self.old.failures self.new.failures) }
+        ensures fault { OnErr result (Rose self.old.failures self.new.failures) }
+        ensures long { length into.new ≡ 512 }
+        ensures one_call { self.new.file ≡ next self.old.file }
+        ensures happened { Tells result self.old.failures (WasRead self.old.file (at * 512) into.new) }
+    {
+        self.read_sectors(at, into)
+    }
+
+    /// It makes one call of the file: one that failed isn't tried again.
+    fn write(&mut self, at: u64, from: &Sector) -> Result<(), DeviceFault>
+        requires { at ≤ self.old.file.sectors }
+        ensures ok { OnOk result (Stayed self.old.failures self.new.failures) }
+        ensures fault { OnErr result (Rose self.old.failures self.new.failures) }
+        ensures long { length from.now ≡ 512 }
+        ensures one_call { self.new.file ≡ next self.old.file }
+        ensures happened { Tells result self.old.failures (WasWritten self.old.file (at * 512) from.now) }
+    {
+        self.write_sectors(at, from)
+    }
+
+    /// It makes one call of the file: one that failed isn't tried again.
+    fn read_sectors(&mut self, at: u64, into: &mut [u8]) -> Result<(), DeviceFault>
+        requires { at ≤ self.old.file.sectors }
+        ensures ok { OnOk result (Stayed self.old.failures self.new.failures) }
+        ensures fault { OnErr result (Rose self.old.failures self.new.failures) }
+        ensures long { length into.new ≡ length into.old }
+        ensures one_call { self.new.file ≡ next self.old.file }
+        ensures happened { Tells result self.old.failures (WasRead self.old.file (at * 512) into.new) }
+    {
         let outcome = self.file.read(at * SECTOR_SIZE as u64, into);
         self.told(outcome)
     }
 
-    fn write(&mut self, at: u64, from: &Sector) -> Result<(), DeviceFault> {
-        let outcome = self.file.write(at * SECTOR_SIZE as u64, from);
-        self.told(outcome)
-    }
-
-    /// It makes one call of the file.
-    fn read_sectors(&mut self, at: u64, into: &mut [u8]) -> Result<(), DeviceFault> {
-        let outcome = self.file.read(at * SECTOR_SIZE as u64, into);
-        self.told(outcome)
-    }
-
-    /// It makes one call of the file.
-    fn write_sectors(&mut self, at: u64, from: &[u8]) -> Result<(), DeviceFault> {
+    /// It makes one call of the file: one that failed isn't tried again.
+    fn write_sectors(&mut self, at: u64, from: &[u8]) -> Result<(), DeviceFault>
+        requires { at ≤ self.old.file.sectors }
+        ensures ok { OnOk result (Stayed self.old.failures self.new.failures) }
+        ensures fault { OnErr result (Rose self.old.failures self.new.failures) }
+        ensures one_call { self.new.file ≡ next self.old.file }
+        ensures happened { Tells result self.old.failures (WasWritten self.old.file (at * 512) from.now) }
+    {
         let outcome = self.file.write(at * SECTOR_SIZE as u64, from);
         self.told(outcome)
     }
@@ -218,17 +245,10 @@ impl Sectors for FileSectors {
     /// It makes one call of the file: one that failed isn't tried again. Of a file that was opened, the first that succeeds then drops the
     /// system's copies of its pages; where these can't be dropped, it fails.
     fn sync(&mut self) -> Result<(), DeviceFault>
-        ensures size { self.new.file.sectors ≡ self.old.file.sectors }
         ensures ok { OnOk result (Stayed self.old.failures self.new.failures) }
         ensures fault { OnErr result (Rose self.old.failures self.new.failures) }
-        ensures settles { FileKeepsModel → OnOk result (Syncs (λ f. f.sectors) facts.may_read facts.may_leave self.old.file self.new.file) }
-        ensures reads { FileKeepsModel → OnErr result (ReadsNoMore (facts.may_read self.old.file) (facts.may_read self.new.file)) }
-        ensures crash { FileKeepsModel → LeavesNoMore (facts.may_leave self.old.file) (facts.may_leave self.new.file) }
-        ensures time { FileKeepsModel → TimeKeeps self.old.file self.new.file }
-
-        // One call of the file was made, and it was a sync that succeeded where this one did.
         ensures one_call { self.new.file ≡ next self.old.file }
-        ensures told { OnOk result (WasSynced self.old.file true) }
+        ensures happened { (ok : Bool) × WasSynced self.old.file ok × (IsOk result → ok ≡ true) }
 
         // Where the system's copies were still to be dropped, they were.
         ensures dropped { self.old.drops_copies ≡ true → OnOk result (HadCopiesDropped self.old.file.file) }
