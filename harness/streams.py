@@ -1,9 +1,9 @@
 """Each command with each of its standard streams closed, each pair of them, and all three.
 
 A file that is opened then may get the descriptor of a closed stream, and what the program prints may land in it. So behind each run the data
-file must be byte for byte what it should be. A command does what it does with all streams open, of which a closed one shows nothing, or it
-ends with status 3 and `file fault`. A server may so end before it listens; else it serves a commit, which is there once it was killed. The
-faults of the commands, and a store that stops, are played as well, since their texts could land in the file too.
+file must be byte for byte what it should be. A command does what it does with all streams open, of which a closed one shows nothing: what it
+writes there goes nowhere, and is no fault. A server serves a commit, which is there once it was killed. The faults of the commands, and a
+store that stops, are played as well, since their texts could land in the file too.
 
 `long` plays each five times.
 """
@@ -13,7 +13,7 @@ import socket
 from itertools import combinations
 
 from client import (
-    ALL, DEVICE, STORE_STOPPED, Connection, Refusals, Server, Tally, check, expect, folder, free_port, is_long, need, run,
+    ALL, DEVICE, STORE_STOPPED, Connection, Deviation, Refusals, Server, Tally, check, expect, folder, free_port, is_long, need, run,
     run_harness)
 from model import OK, SECTOR, frame, log_image, refusal, sectors_used
 
@@ -35,10 +35,9 @@ def shown(closed):
 
 
 def expect_end(found, closed, status, out, err):
-    """It ended with this status and these texts, as far as the streams are open, or for the stream that isn't."""
+    """It ended with this status and these texts, as far as the streams are open."""
     due = (status, b"" if 1 in closed else out, b"" if 2 in closed else err)
-    refused = (3, b"", b"" if 2 in closed else b"ssikvd: file fault\n")
-    expect(found == due or closed and found == refused, f"it ended with {found}, due is {due}")
+    expect(found == due, f"it ended with {found}, due is {due}")
 
 
 def expect_file(data, image):
@@ -68,12 +67,8 @@ def with_file(image):
 
 def create(place, closed):
     data = os.path.join(place, "data")
-    found = run(["create", "--data", data, "--sectors", str(SECTORS)], closed=closed)
-    expect_end(found, closed, 0, b"", b"")
-    if found[0] == 0:
-        expect_file(data, EMPTY)
-    else:
-        expect(not os.path.exists(data), "it left a file behind")
+    expect_end(run(["create", "--data", data, "--sectors", str(SECTORS)], closed=closed), closed, 0, b"", b"")
+    expect_file(data, EMPTY)
 
 
 def play(place, closed):
@@ -105,14 +100,10 @@ def server_over(data, closed, environment=None):
     return Server(data, environment, listen=address, closed=closed)
 
 
-def is_refused(server, data, closed):
-    """Did the server end before it listened, and left the file as it was?"""
-    if server.port is not None:
-        return False
-    found = (server.status(), server.line, server.error_text())
-    expect(found == (3, b"", b"" if 2 in closed else b"ssikvd: file fault\n") and closed, f"it ended with {found}")
-    expect_file(data, IMAGE)
-    return True
+def expect_served(server):
+    """It didn't end before it listened."""
+    if server.port is None:
+        raise Deviation(f"it ended with {(server.status(), server.line, server.error_text())}")
 
 
 def commit(server, due):
@@ -123,17 +114,15 @@ def commit(server, due):
 
 
 def serve(place, closed):
-    """A server that is killed behind its commit. Was it one that served?"""
+    """A server that is killed behind its commit."""
     data = os.path.join(place, "data")
     with server_over(data, closed) as server:
-        if is_refused(server, data, closed):
-            return False
+        expect_served(server)
         commit(server, b":1\r\n")
         texts = server.error_text()
     expect(texts == b"", f"it wrote {texts!r}")
     expect_file(data, LONGER)
     expect(check(data)[0] == 3, "the commit isn't found")
-    return True
 
 
 def stop(first):
@@ -142,8 +131,7 @@ def stop(first):
         data, refusals = os.path.join(place, "data"), Refusals(place)
         calls = refusals.of(DEVICE)
         with server_over(data, closed, refusals.environment()) as server:
-            if is_refused(server, data, closed):
-                return False
+            expect_served(server)
             calls.fail(calls.made + first, ALL, errno.EIO)
             commit(server, refusal("STORE fault"))
             commit_after(server)
@@ -151,7 +139,6 @@ def stop(first):
         expect(texts == (b"" if 2 in closed else STORE_STOPPED), f"it wrote {texts!r}")
         expect_file(data, LONGER if first == CALLS_OF_COMMIT else IMAGE)
         expect(check(data)[0] == (3 if first == CALLS_OF_COMMIT else 2), "another number of records is found")
-        return True
 
     return play
 
@@ -175,8 +162,6 @@ COMMANDS = {
     "serve of a damaged log": with_file(DAMAGED)(
         ["serve", "--data", "DATA", "--listen", "127.0.0.1:0"], b"", b"ssikvd: damaged record 0\n", 3),
     "serve at a taken address": taken_address,
-}
-SERVERS = {
     "serve": serve,
     "serve, whose store stops at a write": stop(1),
     "serve, whose store stops at the last sync": stop(CALLS_OF_COMMIT),
@@ -185,14 +170,13 @@ SERVERS = {
 
 def main():
     need()
-    tally, served, servers = Tally("closed streams"), 0, 0
+    tally = Tally("closed streams")
     for _ in range(TIMES_OF_LONG if is_long() else 1):
         for closed in CLOSED:
-            for name, command in {**COMMANDS, **SERVERS}.items():
-                servers += name in SERVERS
+            for name, command in COMMANDS.items():
                 with folder() as place, tally.run(f"{name}, {shown(closed)}"):
-                    served += bool(command(place, closed))
-    return 0 if tally.end(f"; of {servers} servers {served} served, and were right to the end") else 1
+                    command(place, closed)
+    return 0 if tally.end() else 1
 
 
 if __name__ == "__main__":

@@ -11,3 +11,7 @@ cut_either o a b n same = grind (arith, nat_tests)
 -- above the later of two
 pub cut_twice : (o m n : ℕ) → o ≤ m → cut m (cut o n) ≡ cut m n
 cut_twice o m n le = grind (arith, nat_tests)
+
+-- what was cut is not cut again
+pub cut_again : (o n m : ℕ) → m ≡ cut o n → m ≡ cut o m
+cut_again o n m is = grind (arith, nat_tests)

@@ -1,6 +1,6 @@
 -- Two step functions made into one, from their ends.
-use Rattle.std.proofs.Common.{◌≡◌, ◌-◌, ℕ, true, List, [], ◌∷◌, ◌++◌, length, refl, sym, ap, subst, ◌∙◌, arith, inl, inr}
-use Rattle.std.specs.Prelude.{max}
+use Rattle.std.proofs.Common.{◌≡◌, ℕ, Bool, true, false, List, [], ◌∷◌, ◌++◌, length, refl, sym, ap, subst, ◌∙◌, arith}
+use Rattle.std.specs.Prelude.{max, if◌then◌else◌}
 use Rattle.std.specs.declared.cmp.Ordering.TheVariants.{Less, Equal}
 use Rattle.std.specs.Ordering.{is_le}
 use Rattle.std.proofs.lemmas.Bool.{and_parts}
@@ -8,9 +8,9 @@ use Rattle.std.proofs.lemmas.Bool.Decides.{nat_tests}
 use Rattle.std.proofs.lemmas.List.{append_assoc, length_push, same_from_push}
 use Rattle.std.proofs.Math.Nat.{max_comm}
 use Rattle.model.specs.Map.{Bytes, key_cmp}
-use Rattle.last_readers.specs.Steps.{StepValue, by_order, number_from, number_at, merged_at, end_of, are_over, steps_rise, are_under}
+use Rattle.last_readers.specs.Steps.{StepValue, is_level, by_order, number_from, number_at, merged_at, end_of, are_over, steps_rise, are_under}
 use Rattle.last_readers.specs.Readers.{cut}
-use Rattle.last_readers.specs.Merging.{later, EndsOver, EndsEqual, IsParted, IsJoined, IsAdded}
+use Rattle.last_readers.specs.Merging.{later, EndsOver, EndsEqual, IsParted, IsJoined, with_step}
 use Rattle.model.proofs.Entries.{turned}
 use Rattle.model.proofs.KeyOrder.{itself, same_keys, turned_less}
 use Rattle.last_readers.proofs.StepLaws.{around, put_between, over_less, under_more, low, high, end_push, number_push, end_is, under_last}
@@ -103,30 +103,31 @@ module _ (o : ℕ) (xs xs' ys ys' ts : List StepValue) (m : StepValue) (j : IsJo
   in_front over b k = grind (arith, low b ts k, low m.at ts k, over_less k m.key ts, same_keys k m.key)
 
   -- it says nothing new
-  nothing_new : m.at ≡ later o (end_of xs') (end_of ys') → m.above ≡ later o (end_of xs') (end_of ys') → (k : Bytes) →
+  nothing_new : is_level (later o (end_of xs') (end_of ys')) m ≡ true → (k : Bytes) →
       cut o (max (number_at xs' k) (number_at ys' k)) ≡ cut o (by_order (key_cmp k m.key) (max (number_at xs' k) (number_at ys' k)) m.at m.above)
-  nothing_new at above k =
+  nothing_new level k =
       let up = turned k m.key in
       let same = same_keys k m.key in
       let first = under_more m.key k xs' in
       let second = under_more m.key k ys' in
       grind (arith, nat_tests, itself m.key, j.first.under, j.second.under, first, second, high 0 xs' k, high 0 ys' k)
 
-  pub moved : (ts' : List StepValue) → steps_rise (xs ++ ts) ≡ true → steps_rise (ys ++ ts) ≡ true → IsAdded m (later o (end_of xs') (end_of ys')) ts ts' → IsMoved o xs xs' ys ys' ts ts'
-  moved ts' first second added =
+  moved_if : (b : Bool) → is_level (later o (end_of xs') (end_of ys')) m ≡ b → steps_rise (xs ++ ts) ≡ true → steps_rise (ys ++ ts) ≡ true → IsMoved o xs xs' ys ys' ts (if b then ts else m ∷ ts)
+  moved_if true level first second = record {
+    same = λ k. base_cut o _ _ ts k (nothing_new level k ∙ together k);
+    first = j.first.rising ts first;
+    second = j.second.rising ts second;
+  }
+  moved_if false level first second =
       let rises = j.rising ts first second in
-      elim added [
-        | inl is ↦ subst (λ l. IsMoved o xs xs' ys ys' ts l) (sym is) (record {
-          same = λ k. ap (cut o) (in_front (and_parts _ _ rises).0 _ k) ∙ base_cut o _ _ ts k (together k);
-          first = put_between xs' ts m j.first.under rises (j.first.rising ts first);
-          second = put_between ys' ts m j.second.under rises (j.second.rising ts second);
-        })
-        | inr h ↦ subst (λ l. IsMoved o xs xs' ys ys' ts l) (sym h.2) (record {
-          same = λ k. base_cut o _ _ ts k (nothing_new h.0 h.1 k ∙ together k);
-          first = j.first.rising ts first;
-          second = j.second.rising ts second;
-        })
-      ]
+      record {
+        same = λ k. ap (cut o) (in_front (and_parts _ _ rises).0 _ k) ∙ base_cut o _ _ ts k (together k);
+        first = put_between xs' ts m j.first.under rises (j.first.rising ts first);
+        second = put_between ys' ts m j.second.under rises (j.second.rising ts second);
+      }
+
+  pub moved : (ts' : List StepValue) → steps_rise (xs ++ ts) ≡ true → steps_rise (ys ++ ts) ≡ true → ts' ≡ with_step m (later o (end_of xs') (end_of ys')) ts → IsMoved o xs xs' ys ys' ts ts'
+  moved ts' first second added = subst (λ l. IsMoved o xs xs' ys ys' ts l) (sym added) (moved_if _ refl first second)
 
 -- ---- which list ends above the other
 

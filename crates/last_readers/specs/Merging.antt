@@ -1,8 +1,8 @@
 -- Two step functions made into one, from their ends.
-use Rattle.std.specs.Prelude.{◌≡◌, ◌<◌, ℕ, max, true, List, length, [], ◌∷◌, ◌++◌, ◌⊎◌}
+use Rattle.std.specs.Prelude.{◌≡◌, ◌<◌, ℕ, max, true, List, length, [], ◌∷◌, ◌++◌, if◌then◌else◌}
 use Rattle.std.specs.declared.cmp.Ordering.TheVariants.{Less}
 use Rattle.model.specs.Map.{Bytes, key_cmp}
-use Rattle.last_readers.specs.Steps.{StepValue, number_at, merged_at, end_of, steps_rise, are_under}
+use Rattle.last_readers.specs.Steps.{StepValue, is_level, number_at, merged_at, end_of, steps_rise, are_under}
 use Rattle.last_readers.specs.Readers.{cut}
 
 -- the number that is kept of two: the greater, where it is above o
@@ -35,9 +35,13 @@ pub record IsJoined (o : ℕ) (xs xs' ys ys' : List StepValue) (m : StepValue) :
   pub above : m.above ≡ later o (end_of xs) (end_of ys)
   pub rising : (ts : List StepValue) → steps_rise (xs ++ ts) ≡ true → steps_rise (ys ++ ts) ≡ true → steps_rise (m ∷ ts) ≡ true
 
--- m was put in front, or says no more than that all numbers from it on are those below it
-abbrev pub IsAdded : StepValue → ℕ → List StepValue → List StepValue → Type 0
-IsAdded m below ts ts' = (ts' ≡ m ∷ ts) ⊎ ((m.at ≡ below) × (m.above ≡ below) × (ts' ≡ ts))
+-- m in front, unless it says no more than that all numbers from it on are those below it
+abbrev pub with_step : StepValue → ℕ → List StepValue → List StepValue
+with_step m below ts = if is_level below m then ts else m ∷ ts
+
+-- so a step was put in front of what was made, where xs and ys are left; its numbers up to o count as none
+abbrev pub IsMade : ℕ → List StepValue → List StepValue → List StepValue → List StepValue → Type 0
+IsMade o xs ys ts ts' = (m : StepValue) × (m.at ≡ cut o m.at) × (m.above ≡ cut o m.above) × (ts' ≡ with_step m (later o (end_of xs) (end_of ys)) ts)
 
 -- at each key the number of the lists that are being merged stays, where those up to o count as none
 abbrev pub StayMerged : ℕ → List StepValue → List StepValue → List StepValue → List StepValue → List StepValue → List StepValue → Type 0

@@ -41,6 +41,10 @@ pub record RunValue : Type 0 where
 abbrev pub number_in : RunValue → Bytes → ℕ
 number_in r k = merged_at r.first r.second r.made k
 
+-- whether the step says no more than that the numbers from its key on are this one
+abbrev pub is_level : ℕ → StepValue → Bool
+is_level n s = s.at == n && s.above == n
+
 -- the number at the keys above all steps
 abbrev pub end_from : ℕ → List StepValue → ℕ
 end_from below [] = below

@@ -4,7 +4,7 @@ ghost use Rattle.std.specs.VecDeque.{deque_len, deque_capacity};
 ghost use Rattle.std.specs.declared.cmp.Ordering.TheVariants.{Less, Equal, Greater};
 ghost use Rattle.model.specs.Map.{Bytes};
 ghost use Rattle.last_readers.specs.Steps.{number_at, end_of, steps_rise};
-ghost use Rattle.last_readers.specs.Merging.{EndsOver, EndsEqual, IsJoined, IsAdded, StayMerged, later};
+ghost use Rattle.last_readers.specs.Merging.{EndsOver, EndsEqual, IsJoined, IsMade, StayMerged, later, with_step};
 
 use crate::step::{Step, end_of};
 use std::cmp::Ordering;
@@ -92,7 +92,7 @@ fn take_greatest(first: &mut VecDeque<Step>, second: &mut VecDeque<Step>, oldest
 // on are those below it.
 fn add_step(to: &mut VecDeque<Step>, step: Step, below: u64)
     requires { deque_len to.old < deque_capacity to.old }
-    ensures added { IsAdded step below to.old.items to.new.items }
+    ensures added { to.new.items ≡ with_step step below to.old.items }
     ensures len { deque_len to.new ≤ deque_len to.old + 1 }
     ensures capacity { deque_capacity to.new ≡ deque_capacity to.old }
 {
@@ -114,6 +114,7 @@ pub(crate) fn move_greatest(
     requires some { 0 < deque_len first.old + deque_len second.old }
     requires room { deque_len to.old < deque_capacity to.old }
     ensures same { StayMerged oldest first.new.items second.new.items to.new.items first.old.items second.old.items to.old.items }
+    ensures made { IsMade oldest first.new.items second.new.items to.old.items to.new.items }
     ensures first { IsTrue (steps_rise (first.new.items ++ to.new.items)) }
     ensures second { IsTrue (steps_rise (second.new.items ++ to.new.items)) }
     ensures fewer { deque_len first.new + deque_len second.new < deque_len first.old + deque_len second.old }

@@ -4,6 +4,7 @@ ghost use Rattle.std.specs.VecDeque.{deque_len, deque_capacity};
 ghost use Rattle.last_readers.specs.Readers.{IsWithRun, cut, greatest_at};
 ghost use Rattle.last_readers.specs.Inside.{run_of, runs_in, held_of, sizes_of};
 ghost use Rattle.merging_runs.specs.RunSizes.{are_alike};
+ghost use Rattle.last_readers.specs.Merging.{IsMade};
 ghost use Rattle.last_readers.specs.Agreeing.{Agree, agree_between, none_of_old};
 ghost use Rattle.std.proofs.Common.{refl, ◌∙◌};
 
@@ -54,6 +55,8 @@ impl Run for ReadRun {
     ghost each = { 2 };
 
     ghost alike = { are_alike };
+
+    ghost makes = { λ o old new. IsMade o new.first.items new.second.items old.made.items new.made.items };
 
     ghost agree = { Agree };
 

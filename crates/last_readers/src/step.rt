@@ -2,7 +2,7 @@
 ghost use Rattle.std.specs.Prelude.{◌≡◌, ◌≤◌, IsTrue, true, if◌then◌else◌};
 ghost use Rattle.std.specs.Ordering.{is_eq};
 ghost use Rattle.model.specs.Map.{key_cmp};
-ghost use Rattle.last_readers.specs.Steps.{StepValue, number_from, end_of, steps_rise, in_place_of, renumbered};
+ghost use Rattle.last_readers.specs.Steps.{StepValue, is_level, number_from, end_of, steps_rise, in_place_of, renumbered};
 
 use model::{Key, KeyRef};
 use std::collections::VecDeque;
@@ -70,7 +70,7 @@ impl Step {
 
     // Does it say no more than that the numbers from its key on are this one?
     pub(crate) fn is_level(&self, number: u64) -> bool
-        ensures level { result ≡ true → (self.now.at ≡ number) × (self.now.above ≡ number) }
+        ensures { result ≡ is_level number self.now }
     {
         self.at == number && self.above == number
     }

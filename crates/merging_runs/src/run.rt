@@ -1,5 +1,5 @@
 //! What is asked of a run.
-ghost use Rattle.std.specs.Prelude.{◌≡◌, ◌≤◌, ◌<◌, ◌+◌, ◌-◌, ◌^◌, ◌++◌, ℕ, Bool, true, false, List, [], ◌∷◌, min, IfSome};
+ghost use Rattle.std.specs.Prelude.{◌≡◌, ◌≤◌, ◌<◌, ◌+◌, ◌-◌, ◌^◌, ◌++◌, ℕ, Bool, true, false, List, [], ◌∷◌, min, IfSome, ⊤};
 ghost use Rattle.merging_runs.specs.RunSizes.{RunSize, joined};
 
 use crate::give_back::GiveBack;
@@ -27,6 +27,9 @@ pub trait Run: Drop {
 
     /// Whether two runs are of a like size, where nothing is asked of the numbers up to that one.
     ghost alike: { ℕ → RunSize → RunSize → Bool };
+
+    /// What a move may make of a run, where nothing is asked of the numbers up to that one.
+    ghost makes: { ℕ → Self → Self → Type 0 } = { λ _ _ _. ⊤ };
 
     /// Runs answer as others do, where nothing is asked of the numbers up to that one.
     ghost agree: { ℕ → List Self → List Self → Type 0 };
@@ -66,6 +69,7 @@ pub trait Run: Drop {
     fn move_one(&mut self, oldest: u64)
         requires late { oldest < (sizes self.old).last }
         requires some { 0 < (sizes self.old).left }
+        ensures makes { makes oldest self.old self.new }
         ensures agree { agree oldest (self.new ∷ []) (self.old ∷ []) }
         ensures last { (sizes self.new).last ≡ (sizes self.old).last }
         ensures whole { each ≡ 1 → (sizes self.new).left + (sizes self.new).made ≡ (sizes self.old).left + (sizes self.old).made }

@@ -1,5 +1,6 @@
-use Rattle.std.proofs.Common.{ℕ, subst, ◌∙◌}
-use Rattle.last_readers.specs.Merging.{IsAdded, later}
+use Rattle.std.proofs.Common.{◌∙◌}
+use Rattle.last_readers.specs.Merging.{with_step, later}
+use Rattle.last_readers.proofs.Cuts.{cut_again}
 use Rattle.last_readers.proofs.StepLaws.{rises_left}
 use Rattle.last_readers.proofs.MergeLaws.{moved}
 use Rattle.last_readers.proofs.merging.move_greatest.Goals as goal
@@ -16,10 +17,12 @@ returns c =
     let o = c.args.oldest in
     let to = c.args.to.now.items in
     let below = c.later-below.ensures ∙ (λ i. later o (c.end_of.ensures i) (c.end_of-2.ensures i)) in
-    let added = subst (λ (n : ℕ). IsAdded step.result n to c.add_step.new.to.items) below c.add_step.ensures.added in
+    let added = c.add_step.ensures.added ∙ (λ i. with_step step.result (below i) to) in
+    let made = step.ensures.joined in
     let all = moved o _ step.new.first.items _ step.new.second.items to step.result step.ensures.joined c.add_step.new.to.items c.requires.first c.requires.second added in
     record {
       same = all.same;
+      made = (step.result, cut_again o _ _ made.at, cut_again o _ _ made.above, added);
       first = all.first;
       second = all.second;
       fewer = step.ensures.fewer;
