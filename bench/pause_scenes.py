@@ -22,6 +22,8 @@ SESSIONS, FLOODING = 128, 60
 PAIRS, LARGE_VALUE, MIDDLE_VALUE = 128, 16_384, 4_096
 QUEUE, STEP = 1_000, 32
 SMALL_COMMITS = 50
+# Transactions that write one key each: at most so many leave lists of older versions, so many follow, and so many are sent at once.
+SINGLE_WRITES, SAME_KEY, AT_ONCE = 20_000, 2_000, 20
 
 
 # The client that sends PING
@@ -218,6 +220,13 @@ def small_commits(client):
         commit_all(client, [sets([before_all(number)])])
 
 
+def single_writes(client, keys):
+    """A transaction for each of the keys, which writes it."""
+    for at in range(0, len(keys), AT_ONCE):
+        some = keys[at : at + AT_ONCE]
+        client.ask_lines(b"".join(BEGIN + sets([key]) + COMMIT for key in some), 3 * len(some))
+
+
 def opened(client):
     """A transaction is opened, and has read."""
     client.ask(BEGIN)
@@ -288,6 +297,20 @@ def younger(options):
         with scene.part("the end of the younger of two old ones"):
             young.ask(COMMIT)
             small_commits(client)
+    return scene
+
+
+def same_key(options):
+    """Many commits of one write each beside an old transaction leave as many lists of older versions at its end."""
+    keys = [scattered(number) for number in range(min(options.keys, SINGLE_WRITES))]
+    with Scene(options, 0, 2 * len(keys) + SAME_KEY + 8) as scene:
+        old, client = scene.client(), scene.client()
+        single_writes(client, keys)
+        opened(old)
+        single_writes(client, keys)
+        with scene.part("one key written again and again, while many lists of older versions are left"):
+            old.ask(COMMIT)
+            single_writes(client, [b"same"] * SAME_KEY)
     return scene
 
 
@@ -417,7 +440,7 @@ def coming_and_going(options):
 
 
 SCENES = {
-    "quiet": quiet, "load": load, "written_again": written_again, "old_commit": old_commit, "younger": younger, "queue": queue,
+    "quiet": quiet, "load": load, "written_again": written_again, "old_commit": old_commit, "younger": younger, "same_key": same_key, "queue": queue,
     "half_deleted": half_deleted, "straddling": straddling, "largest_ranges": largest_ranges, "middle_ranges": middle_ranges,
     "coming_and_going": coming_and_going,
 }
