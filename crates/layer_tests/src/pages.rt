@@ -5,28 +5,30 @@ use sorted_pages::{Aging, SortedPages};
 use std::cell::Cell;
 use std::process::Abort;
 
-// A value of which number 0 sees nothing, and each other number sees it. It counts how often this is asked.
+// A value that the numbers from `first` on and below `last` see. It counts how often this is asked.
 #[derive(Drop)]
 struct Watched<'a> {
     asked: &'a Cell<u64>,
+    first: u64,
+    last: u64,
 }
 
 impl Aging for Watched<'_> {
-    ghost use Rattle.std.specs.Prelude.{◌==◌, true, false};
+    ghost use Rattle.std.specs.Prelude.{◌||◌, nat_le, nat_lt, false};
 
     ghost trimmed = { λ _ value. value };
 
     ghost has = { λ _ _. false };
 
-    ghost hides = { λ number _. number == 0 };
+    ghost hides = { λ number value. nat_lt number value.first || nat_le value.last number };
 
-    ghost is_blank = { λ _. false };
+    ghost is_blank = { λ value. nat_le value.last value.first };
 
-    ghost shows = { λ _. true };
+    ghost shows = { λ _. false };
 
-    ghost first = { λ _. 1 };
+    ghost first = { λ value. value.first };
 
-    ghost last = { λ _. 1 };
+    ghost last = { λ value. value.last };
 
     fn trim(&mut self, _numbers: &[u64]) {}
 
@@ -36,23 +38,32 @@ impl Aging for Watched<'_> {
 
     fn hides(&self, number: u64) -> bool {
         self.asked.set(self.asked.get().saturating_add(1));
-        number == 0
+        number < self.first || self.last <= number
     }
 
     fn is_blank(&self) -> bool {
-        false
+        self.last <= self.first
     }
 
     fn shows(&self) -> bool {
-        true
+        false
     }
 
     fn first(&self) -> u64 {
-        1
+        self.first
     }
 
     fn last(&self) -> u64 {
-        1
+        self.last
+    }
+}
+
+// A value that all numbers but 0 see.
+fn live(asked: &Cell<u64>) -> Watched<'_> {
+    Watched {
+        asked,
+        first: 1,
+        last: u64::MAX,
     }
 }
 
@@ -61,14 +72,32 @@ fn add<'a, R: Abort + AllocGlobal>(
     rt: &R,
     pages: &mut SortedPages<Watched<'a>>,
     bytes: &[u8],
-    asked: &'a Cell<u64>,
+    value: Watched<'a>,
 ) {
     let at = KeyRef::new(bytes).expect(rt, "a key");
     pages.reserve(at, 1).expect(rt, "memory");
     if pages.get(at).is_none() && pages.room(at) > 0 {
         let key = Key::from_ref(rt.alloc(), at).expect(rt, "memory");
-        pages.insert(key, Watched { asked });
+        pages.insert(key, value);
     }
+}
+
+// Pages of 2,000 values, of which the first `count` are seen below `last` and the others by all numbers but 0.
+fn filled<'a, R: Abort + AllocGlobal>(
+    rt: &R,
+    count: u16,
+    last: u64,
+    asked: &'a Cell<u64>,
+) -> SortedPages<Watched<'a>> {
+    let mut pages = SortedPages::new(rt.alloc());
+    for i in 0..2_000u16 {
+        let mut value = live(asked);
+        if i < count {
+            value.last = last;
+        }
+        add(rt, &mut pages, i.to_be_bytes().as_slice(), value);
+    }
+    pages
 }
 
 // Changes a page that isn't the first, in one of three ways, or not at all.
@@ -81,7 +110,7 @@ fn change<'a, R: Abort + AllocGlobal>(
     match way {
         0 => {}
         1 => pages.reserve(key(b"\x07\xcf"), 1).expect(rt, "memory"),
-        2 => add(rt, pages, b"\x07\xd0", asked),
+        2 => add(rt, pages, b"\x07\xd0", live(asked)),
         _ => assert!(rt; !pages.trim_at(key(b"\x07\xcf"), &[], 0)),
     }
 }
@@ -94,13 +123,11 @@ fn lend(pages: &mut SortedPages<Watched<'_>>, bytes: &[u8]) -> bool {
     }
 }
 
-// How many values are looked at until a number that sees none has come to the end.
-fn looks(pages: &SortedPages<Watched<'_>>, asked: &Cell<u64>) -> u64 {
+// How many values are looked at until the number has come to the first that it sees, or to the end.
+fn looks(pages: &SortedPages<Watched<'_>>, number: u64, asked: &Cell<u64>) -> u64 {
     asked.set(0);
     let lo = key(b"\0");
-    if pages.range(RangeRef { lo, hi: None }, 0).next().is_some() {
-        return u64::MAX;
-    }
+    let _ = pages.range(RangeRef { lo, hi: None }, number).next();
     asked.get()
 }
 
@@ -108,17 +135,41 @@ fn looks(pages: &SortedPages<Watched<'_>>, asked: &Cell<u64>) -> u64 {
 #[test]
 fn pages_passed_over(rt: HostRuntime) {
     let asked = Cell::new(0);
-    let mut pages = SortedPages::new(rt.alloc());
-    for i in 0..2_000u16 {
-        add(&rt, &mut pages, i.to_be_bytes().as_slice(), &asked);
-    }
+    let mut pages = filled(&rt, 0, 0, &asked);
     assert!(rt; pages.pages() > 3 && lend(&mut pages, &[0, 0]));
-    let before = looks(&pages, &asked);
+    let before = looks(&pages, 0, &asked);
     assert!(rt; before < 1_000);
     for way in 0..4 {
         assert!(rt; lend(&mut pages, &[4, 0]));
         change(&rt, &mut pages, way, &asked);
-        assert!(rt; looks(&pages, &asked) == before + 1);
-        assert!(rt; lend(&mut pages, &[0, 0]) && looks(&pages, &asked) == before);
+        assert!(rt; looks(&pages, 0, &asked) == before + 1);
+        assert!(rt; lend(&mut pages, &[0, 0]) && looks(&pages, 0, &asked) == before);
     }
+}
+
+/// Nor is one looked at of a page of which nothing is seen any more, though older numbers see all of it.
+#[test]
+fn deleted_pages_are_passed_over(rt: HostRuntime) {
+    let asked = Cell::new(0);
+    let pages = filled(&rt, 2_000, 5, &asked);
+    assert!(rt; looks(&pages, 4, &asked) == 1);
+    assert!(rt; looks(&pages, 5, &asked) < 1_000);
+}
+
+/// Values at the front of a page that no number sees are passed over once one of the page was trimmed.
+#[test]
+fn blank_values_are_passed_over(rt: HostRuntime) {
+    let asked = Cell::new(0);
+    let mut pages = filled(&rt, 1_000, 0, &asked);
+    let before = looks(&pages, 1, &asked);
+    assert!(rt; !pages.trim_at(key(b"\x03\xe7"), &[], 0));
+    assert!(rt; looks(&pages, 1, &asked).saturating_add(100) < before);
+}
+
+/// Pages have places in whole steps of 192, also where each entry has asked for one.
+#[test]
+fn places_are_whole_steps(rt: HostRuntime) {
+    let asked = Cell::new(0);
+    let pages = filled(&rt, 0, 0, &asked);
+    assert!(rt; pages.places() >= 2_000 && pages.places() % 192 == 0);
 }

@@ -1,13 +1,14 @@
 -- The loop over a group's lists.
-use Rattle.std.proofs.Common.{◌≡◌, ℕ, Bool, true, List, [], ◌∷◌, ◌++◌, length, take, drop, get_or, set, ◌+◌, ◌<◌, refl, sym, ap, subst, ◌∙◌, arith}
+use Rattle.std.proofs.Common.{◌≡◌, ℕ, Bool, true, false, List, [], ◌∷◌, ◌++◌, length, take, drop, get_or, set, ◌+◌, ◌<◌, refl, sym, ap, subst, ◌∙◌, arith}
 use Rattle.std.specs.Prelude.{◌==◌}
 use Rattle.std.specs.Vec.{vec_len}
 use Rattle.std.specs.List.{AllByRecursion, list_all}
 use Rattle.std.specs.declared.vec.Vec.{Vec}
-use Rattle.std.proofs.lemmas.List.{append-nil, append_assoc, nil_from_length, take-append-drop}
+use Rattle.std.proofs.lemmas.List.{append-nil, append_assoc, length-append, nil_from_length, take-append-drop}
 use Rattle.std.proofs.lemmas.Grind.{common_steps}
 use Rattle.std.proofs.lemmas.List.Folds.{list_any-append}
-use Rattle.std.proofs.lemmas.Bool.{and_parts, eqb-true}
+use Rattle.std.proofs.lemmas.Bool.{and_parts, both_ways, eqb-true}
+use Rattle.std.proofs.lemmas.Bool.Decides.{nat_tests}
 use Rattle.versions.specs.Chains.{Chains, ChainsValue, IsKept}
 use Rattle.versions.specs.Listings.{is_seen_from, AreSeenFrom, is_of, IsSettled, IsPartReclaimed, AreKept, versions_in}
 use Rattle.versions.specs.Groups.{Listed}
@@ -27,6 +28,11 @@ in-empty [] t = refl
 in-empty (x ∷ xs) t =
     let q = and_parts (vec_len x == 0) _ t in
     ap (λ l. l ++ versions_in xs) (nil_from_length x.items (sym x.ok.0 ∙ eqb-true _ _ q.0)) ∙ in-empty xs q.1
+
+-- where not each list is empty, there is one
+pub in-some : {Z : Type 0} (xs : List (Vec Listed Z)) → list_all (λ x. vec_len x == 0) xs ≡ false → 0 < length (versions_in xs)
+in-some [] f = absurd (both_ways _ f refl)
+in-some (x ∷ xs) f = let long = x.ok.0 in grind (arith, nat_tests, in-some xs, length-append x.items (versions_in xs))
 
 -- each version of each list is seen
 pub in-seen : {Z : Type 0} (n : ℕ) (xs : List (Vec Listed Z)) → list_all (λ x. list_all (is_seen_from n) x.items) xs ≡ true → AreSeenFrom n (versions_in xs)

@@ -1,5 +1,5 @@
 -- Under which numbers the older versions are listed, from call to call.
-use Rattle.std.proofs.Common.{◌≡◌, ℕ, ◌-◌, ◌<◌, ◌≤◌, Bool, true, false, ◌&&◌, List, [], ◌∷◌, ◌++◌, Option, Some, None, refl, sym, ap, subst, ◌∙◌, arith, inl, inr}
+use Rattle.std.proofs.Common.{◌≡◌, ℕ, ◌-◌, ◌<◌, ◌≤◌, Bool, true, false, ◌&&◌, List, [], ◌∷◌, ◌++◌, Option, Some, None, refl, sym, ap, subst, ◌∙◌, arith, inl, inr, length}
 use Rattle.std.specs.Prelude.{option_map, nat_le, nat_lt, max, fold, ◌==◌, ◌⊎◌, IsTrue, if◌then◌else◌}
 use Rattle.std.specs.List.{AllByRecursion, list_all, list_any}
 use Rattle.std.proofs.lemmas.Bool.{and_parts, cases_lt, both_ways, or_cases}
@@ -178,7 +178,10 @@ module _ (bs : List ℕ) (held : ℕ → Bool) (u : ChainsValue) (last : ℕ) (a
   -- where each mixed version is settled, there is none
   pub groups-unmixed : (gs : List GroupValue) → AreAmong (0 ∷ bs) (witnesses gs) → AreUnderWitnesses held u gs → AreMixedSettled bs u.chains gs → AllByRecursion (IsTrulyMixed bs) gs → AllByRecursion IsUnmixed gs
   groups-unmixed [] t h s m = tt
-  groups-unmixed (g ∷ gs) t h s m = (elim m.0 [ inl none ↦ none | inr f ↦ unmixed_list g.witness g.mixed t.0 h.0.1 s.0 f ], groups-unmixed gs t.1 h.1 s.1 m.1)
+  groups-unmixed (g ∷ gs) t h s m =
+      let filled = m.0.0 in
+      let none : g.mixed ≡ [] = elim m.0.1 [ inl none ↦ none | inr f ↦ unmixed_list g.witness g.mixed t.0 h.0.1 s.0 f ] in
+      ((none, omega (arith, filled, ap length none)), groups-unmixed gs t.1 h.1 s.1 m.1)
 
 -- ---- an install
 

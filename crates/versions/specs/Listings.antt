@@ -17,6 +17,10 @@ abbrev pub spare_in : {Z : Type 0} → List (Vec Listed Z) → ℕ
 spare_in [] = 0
 spare_in (v ∷ vs) = vec_capacity v - vec_len v
 
+-- there are no more lists than versions in them
+abbrev pub AreFilled : {Z : Type 0} → List (Vec Listed Z) → Type 0
+AreFilled vs = length vs ≤ length (versions_in vs)
+
 -- the number sees the version
 abbrev pub is_seen_from : ℕ → Listed → Bool
 is_seen_from n v = nat_le v.number n && nat_lt n v.next
@@ -103,9 +107,9 @@ IsTakenIn bs g = IsTrue (is_among bs g.witness) ⊎ (g.seen ≡ 0)
 abbrev pub sees_mixed : List ℕ → GroupValue → Bool
 sees_mixed bs g = is_among bs g.witness && list_all (is_seen_from g.witness) g.mixed
 
--- no version stands in a mixed list, or the witness is none of the numbers or doesn't see all of those versions
+-- there are no more mixed lists than versions in them; and there is no such version, or the witness is none of the numbers or doesn't see all of them
 abbrev pub IsTrulyMixed : List ℕ → GroupValue → Type 0
-IsTrulyMixed bs g = (g.mixed ≡ []) ⊎ (sees_mixed bs g ≡ false)
+IsTrulyMixed bs g = (g.lists ≤ g.seen + g.due + length g.mixed) × ((g.mixed ≡ []) ⊎ (sees_mixed bs g ≡ false))
 
 -- each of the versions is among the others
 abbrev pub AreIn : List Listed → List Listed → Type 0
@@ -179,4 +183,4 @@ AreMixedSettled bs chains gs = AllByRecursion (λ g. AllByRecursion (IsSettled b
 
 -- no list is mixed
 abbrev pub IsUnmixed : GroupValue → Type 0
-IsUnmixed g = g.mixed ≡ []
+IsUnmixed g = (g.mixed ≡ []) × (g.lists ≤ g.seen + g.due)

@@ -60,14 +60,14 @@ pub(crate) struct Group {
 
 impl Model for Group {
     ghost use Rattle.std.specs.Prelude.{◌+◌, ◌<◌, ◌^◌, ◌++◌, length};
-    ghost use Rattle.versions.specs.Listings.{AreSeenFrom, versions_in};
+    ghost use Rattle.versions.specs.Listings.{AreFilled, AreSeenFrom, versions_in};
     ghost use Rattle.versions.specs.Groups.{GroupValue};
 
     ghost Value = { GroupValue };
 
     ghost view = { λ g. record { witness = g.witness; versions = versions_in g.lists ++ (versions_in g.due ++ versions_in g.mixed); mixed = versions_in g.mixed; seen = length g.lists; due = length g.due; lists = length g.lists + length g.due + length g.mixed } };
 
-    ghost invariant = { λ g. AreSeenFrom g.witness (versions_in g.lists) × (length g.lists + length g.due + length g.mixed < 2 ^ 63) };
+    ghost invariant = { λ g. AreSeenFrom g.witness (versions_in g.lists) × (length g.lists + length g.due + length g.mixed < 2 ^ 63) × AreFilled g.mixed };
 }
 
 impl Group {

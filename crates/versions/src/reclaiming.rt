@@ -8,7 +8,7 @@ ghost use Rattle.std.specs.Vec.{vec_len};
 ghost use Rattle.sorted_pages.specs.Pages.{entries};
 ghost use Rattle.versions.specs.Chains.{Chains, IsKept, IsReclaimedAt, find_chain};
 ghost use Rattle.versions.specs.Witnesses.{GroupStaysUnder, GroupTakesUnder, GroupsJoinUnder, GroupsStayUnder, MoveUnderWitnesses, StayUnder};
-ghost use Rattle.versions.specs.Listings.{AreAmong, AreApart, AreFound, AreIn, AreKept, AreMixedSettled, AreOfBoth, AreSeenFrom, CanJoin, IsAllReclaimed, IsListed, IsPartReclaimed, IsSettled, IsTakenIn, IsTrulyMixed, StaySettled, has_version, lists_in, versions_in, witness_for, witnesses};
+ghost use Rattle.versions.specs.Listings.{AreAmong, AreApart, AreFilled, AreFound, AreIn, AreKept, AreMixedSettled, AreOfBoth, AreSeenFrom, CanJoin, IsAllReclaimed, IsListed, IsPartReclaimed, IsSettled, IsTakenIn, IsTrulyMixed, StaySettled, has_version, lists_in, versions_in, witness_for, witnesses};
 ghost use Rattle.versions.specs.Meaning.{due_for, due_in};
 ghost use Rattle.versions.specs.Meaning.{is_among, lists_a_reclaim};
 
@@ -115,6 +115,7 @@ fn settle_lists(
     requires kept { (last : ℕ) × IsKept (entries chains.old) last }
     requires next { IfSome next (λ n. IsTrue (is_among begins.now n)) }
     ensures fewer { length lists.new ≤ length lists.old }
+    ensures filled { AreFilled lists.new }
     ensures part { IsPartReclaimed begins.now (entries chains.old) (entries chains.new) }
     ensures kept { (last : ℕ) → IsKept (entries chains.old) last → IsKept (entries chains.new) last }
     ensures settled { AllByRecursion (IsSettled begins.now (entries chains.new)) (versions_in lists.new) }
@@ -156,6 +157,7 @@ impl Group {
     // Puts lists that were looked at under the witness, where it is held and sees all of them, and else to the mixed. Takes no memory.
     fn keep(&mut self, lists: LinkedList<Vec<OldVersion>>, begins: &[u64])
         requires fits { self.old.lists + length lists < 2 ^ 63 }
+        requires filled { AreFilled lists }
         requires taken_in { IsTakenIn begins.now self.old }
         ensures found { AreIn self.old.versions self.new.versions }
         ensures kept { AreIn (versions_in lists) self.new.versions }

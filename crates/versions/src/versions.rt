@@ -200,8 +200,9 @@ impl Versions {
     /// that is the newest version of its key stays. Answers whether it has to be called again until all those versions are gone.
     ///
     /// What each commit replaced is a list, of as many versions as it wrote, under a number that sees them. Once that number is none of
-    /// these, the list is due, and a call looks at 2 of the lists that are due. So what a call costs is bounded, beside the numbers
-    /// themselves, and called again with the same numbers it ends. Takes no memory: where the lists of two commits come under one number,
+    /// these, the list is due, and a call looks at 2 of the lists that are due, from the last group on: so a new list need not wait for those
+    /// that an old number left. For each version in a list it walks the key's chain once, beside the numbers themselves, and called again
+    /// with the same numbers it ends. Takes no memory: where the lists of two commits come under one number,
     /// they are linked. What stands under one number is one group, so there are no more groups than numbers and one. Lists that are needed
     /// though their number isn't held, or doesn't see all of them, are mixed, and looked at by each call; no others are. Where each of the
     /// numbers was held at the calls before, or is at least that of the last commit, there are none.

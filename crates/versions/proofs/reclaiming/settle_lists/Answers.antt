@@ -4,7 +4,7 @@ use Rattle.std.specs.List.{AllByRecursion}
 use Rattle.sorted_pages.specs.Pages.{entries}
 use Rattle.versions.specs.Witnesses.{IsUnderWitness}
 use Rattle.versions.specs.Listings.{AreSeenFrom, versions_in}
-use Rattle.versions.proofs.Lists.{in-append, in-empty, in-none, one-less, settled-list}
+use Rattle.versions.proofs.Lists.{in-append, in-empty, in-none, in-some, one-less, settled-list}
 use Rattle.versions.proofs.reclaiming.settle_lists.Goals.{then-not-are_empty, else-not-are_empty}
 use Rattle.versions.proofs.reclaiming.settle_lists.Goals as goal
 
@@ -24,9 +24,14 @@ loop-preserved c =
       | then-not-are_empty w ↦ omega (arith, ap length (w.lists-is ∙ w.append.ensures), length-append c.loop.lists left, c.settle_first.ensures.one)
       | else-not-are_empty w ↦ omega (arith, ap length w.lists-is)
     ] in
+    let filled : length c.if-not-are_empty.lists ≤ length c.loop.lists + length (versions_in left) = elim c.if-not-are_empty.branch [
+      | then-not-are_empty w ↦ omega (arith, ap length (w.lists-is ∙ w.append.ensures), length-append c.loop.lists left, c.settle_first.ensures.one, in-some left (sym w.if-not-are_empty.ensures))
+      | else-not-are_empty w ↦ omega (arith, ap length w.lists-is)
+    ] in
     record {
       left = omega (arith, shorter);
       counted = omega (arith, shorter, counted);
+      filled = omega (arith, filled, ap length is, length-append (versions_in c.loop.lists) (versions_in left), c.loop.invariant.filled);
       settled = settled-list c.args.begins.now (entries c.args.chains.now) (entries c.loop.chains) (entries c.settle_first.new.chains) (versions_in c.args.lists.now) c.loop.lists c.if-not-are_empty.lists c.loop.rest c.take_front-first.result left c.take_front-first.new.lists
           c.requires.kept.0 c.requires.kept.1 c.take_front-first.ensures.front c.take_front-first.ensures.rest is c.settle_first.ensures.part c.settle_first.ensures.kept c.settle_first.ensures.settled c.settle_first.ensures.left c.settle_first.ensures.seen c.settle_first.ensures.each c.loop.invariant.settled;
     }

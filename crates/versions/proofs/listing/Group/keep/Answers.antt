@@ -22,6 +22,7 @@ invariant_of-self c =
       subst (AreSeenFrom n) (sym (ap versions_in c.append.ensures ∙ in-append lists c.args.lists))
           (all-append (λ (v : Listed). is_seen_from n v ≡ true) (versions_in lists) (versions_in c.args.lists) c.self.invariant.0 (in-seen n c.args.lists (sym c.if-are_seen_from.ensures))),
       omega (arith, all, more, fits),
+      c.self.invariant.2,
     )
 
 pub returns-then-are_seen_from-clause-settled : goal.returns-then-are_seen_from-clause-settled
@@ -40,7 +41,10 @@ returns-else-is_among-clause-truly c = λ none.
       | else-is_among-via-then-is_among+else-are_seen_from b ↦ unseen bs w c.args.lists (sym b.are_seen_from.ensures ∙ b.if-are_seen_from.false)
       | else-is_among-via-else-is_among b ↦ unheld bs w c.args.lists (sym c.is_among.ensures ∙ b.if-is_among.false)
     ] in
-    inr (unseen-put bs w (versions_in mixed) (versions_in c.args.lists) (versions_in c.append-else-is_among.new.lists) (ap versions_in c.append-else-is_among.ensures ∙ in-append mixed c.args.lists) (ap (λ (x : GroupValue). x.mixed) c.self.view_is ∙ none) unfit)
+    let put = c.append-else-is_among.ensures in
+    let lists = ap length put ∙ length-append mixed c.args.lists in
+    let listed = ap (λ l. length (versions_in l)) put ∙ ap length (in-append mixed c.args.lists) ∙ length-append (versions_in mixed) (versions_in c.args.lists) in
+    (omega (arith, lists, listed, c.self.invariant.2, c.requires.filled), inr (unseen-put bs w (versions_in mixed) (versions_in c.args.lists) (versions_in c.append-else-is_among.new.lists) (ap versions_in put ∙ in-append mixed c.args.lists) (ap (λ (x : GroupValue). x.mixed) c.self.view_is ∙ none) unfit))
 
 pub returns-then-are_seen_from-clause-each : goal.returns-then-are_seen_from-clause-each
 returns-then-are_seen_from-clause-each c = λ held v w h hm g.
