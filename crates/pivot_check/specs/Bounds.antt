@@ -1,5 +1,5 @@
 -- Bounds of the numbers of postings, by which postings are passed over.
-use Rattle.std.specs.Prelude.{◌≡◌, ◌<◌, ◌≤◌, ℕ, ◌*◌, Bool, true, not, ◌&&◌, ◌||◌, List, Option, Some, nat_le, length, take, drop, slice_index_or}
+use Rattle.std.specs.Prelude.{◌≡◌, ◌<◌, ◌≤◌, ℕ, ◌+◌, ◌-◌, ◌*◌, ◌==◌, Bool, true, not, ◌&&◌, ◌||◌, List, Option, Some, nat_lt, nat_le, length, take, drop, slice_index_or, if◌then◌else◌}
 use Rattle.std.specs.List.{list_all, AllByRecursion}
 use Rattle.pivot_check.specs.declared.bound.Bound.{Bound}
 use Rattle.pivot_check.specs.declared.looks.Looked.{Looked}
@@ -12,6 +12,14 @@ is_from_bound b p = nat_le b.number p.number && (nat_le p.number b.last && (not 
 
 abbrev pub are_from_bound : Bound → List Posting → Bool
 are_from_bound b ps = list_all (is_from_bound b) ps
+
+-- whether the bound tells that a posting that is asked for, above `begin`, may have a number up to `most`
+abbrev pub allows : Bound → ℕ → ℕ → Bool → Bool
+allows b most begin flagged = nat_lt begin most && (nat_lt begin b.last && nat_le (if flagged then b.flagged else b.number) most)
+
+-- how many bounds there are, of which there were so many, once n postings stand: one more where a block ends there, and there is room for it
+abbrev pub bound_count : ℕ → ℕ → ℕ → ℕ
+bound_count n room count = if n - 64 * count == 64 && nat_lt count room then count + 1 else count
 
 -- each bound is one of its block of 64 postings; behind the blocks with a bound there may be more postings
 abbrev pub AreBounds : List Bound → List Posting → Type 0

@@ -1,7 +1,7 @@
 //! Bounds of the numbers of written keys.
 ghost use Rattle.std.specs.Prelude.{◌≡◌, ◌<◌, IsTrue, ℕ, true, false};
 ghost use Rattle.pivot_check.specs.Postings.{Posting, is_asked};
-ghost use Rattle.pivot_check.specs.Bounds.{is_from_bound, are_from_bound};
+ghost use Rattle.pivot_check.specs.Bounds.{allows, is_from_bound, are_from_bound};
 
 use crate::written::Written;
 
@@ -53,7 +53,8 @@ impl Bound {
 
     // May a posting of this bound that is asked for, above `begin`, have a number up to `most`?
     pub(crate) fn allows(self, most: u64, begin: u64, flagged: bool) -> bool
-        ensures { result ≡ false → (p : Posting) → is_from_bound self p ≡ true → is_asked begin flagged p ≡ true → most < p.number }
+        ensures allows { result ≡ allows self most begin flagged }
+        ensures none { result ≡ false → (p : Posting) → is_from_bound self p ≡ true → is_asked begin flagged p ≡ true → most < p.number }
     {
         let least = if flagged { self.flagged } else { self.number };
         begin < most && begin < self.last && least <= most

@@ -2,7 +2,7 @@
 ghost use Rattle.std.specs.Prelude.{◌≡◌, ◌≤◌, ◌<◌, ◌+◌, ◌*◌, ◌-◌, ◌++◌, IsTrue, length, drop, [], ◌∷◌};
 ghost use Rattle.std.specs.Vec.{vec_capacity};
 ghost use Rattle.pivot_check.specs.Postings.{keys_rise};
-ghost use Rattle.pivot_check.specs.Bounds.{are_from_bound, AreBounds};
+ghost use Rattle.pivot_check.specs.Bounds.{are_from_bound, AreBounds, bound_count};
 
 use crate::bound::{BLOCK, Bound};
 use crate::written::Written;
@@ -71,6 +71,8 @@ impl Part {
     fn add_bound(&mut self)
         ensures written { self.new.written ≡ self.old.written }
         ensures start { self.new.start ≡ self.old.start }
+        ensures bounds { length self.new.bounds.items
+            ≡ bound_count (length self.old.written.items) (vec_capacity self.old.bounds) (length self.old.bounds.items) }
     {
         let first = BLOCK * self.bounds.len();
         if self.written.len() - first == BLOCK && self.bounds.len() < self.bounds.capacity() {
@@ -85,6 +87,8 @@ impl Part {
         ensures added { drop self.new.start self.new.written.items ≡ drop self.old.start self.old.written.items ++ written ∷ [] }
         ensures start { self.new.start ≡ self.old.start }
         ensures len { length self.new.written.items ≡ length self.old.written.items + 1 }
+        ensures bounds { length self.new.bounds.items
+            ≡ bound_count (length self.old.written.items + 1) (vec_capacity self.old.bounds) (length self.old.bounds.items) }
         ensures capacity { vec_capacity self.old.written ≤ vec_capacity self.new.written }
     {
         self.bound = self.bound.with(&written);

@@ -16,5 +16,5 @@ returns-in-Some c = λ none.
     let bs = run.bounds.items in
     let read = c.in-Some.ensures.lookup.1 ∙ ap (λ (l : List Bound). get_or l c.args.block b) c.deref.ensures.value in
     let within : c.args.block < length bs = ltb-true c.args.block (length bs) (ap (λ (l : List Bound). nat_lt c.args.block (length l)) (sym c.deref.ensures.value) ∙ sym c.in-Some.ensures.lookup.0) in
-    kept c.args.found run.bound.last c.most_below.result c.args.begin c.args.flagged b c.most_below.ensures (c.allows.ensures none) (take 64 (drop at ps))
+    kept c.args.found run.bound.last c.most_below.result c.args.begin c.args.flagged b c.most_below.ensures (c.allows.ensures.none none) (take 64 (drop at ps))
     (all-take _ (drop at ps) 64 (all_left _ at ps (upto_last run.bound ps run.bounded))) (ap (λ x. are_from_bound x (take 64 (drop at ps))) read ∙ run.blocks c.args.block b within)
