@@ -136,7 +136,7 @@ fn settle_lists(
 
 impl Group {
     // Takes in which numbers are held. Where the witness is none of them, the greatest below takes its place, or 0 where there is none, and
-    // all lists are due.
+    // all lists are due, before those that were.
     fn take_in(&mut self, begins: &[u64])
         ensures found { AreIn self.old.versions self.new.versions }
         ensures due { self.new.due ≡ due_for begins.now self.old }
@@ -149,8 +149,12 @@ impl Group {
             return;
         }
         let alloc = *self.lists.allocator();
-        let lists = mem::replace(&mut self.lists, LinkedList::new(alloc));
-        append(&mut self.due, lists);
+        let mut lists = mem::replace(&mut self.lists, LinkedList::new(alloc));
+        append(
+            &mut lists,
+            mem::replace(&mut self.due, LinkedList::new(alloc)),
+        );
+        self.due = lists;
         self.witness = greatest_below(begins, self.witness);
     }
 
