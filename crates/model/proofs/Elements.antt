@@ -1,7 +1,7 @@
 -- A fact of each element of a list.
-use Rattle.std.proofs.Common.{filter, ◌≡◌, Bool, true, ◌||◌, ℕ, zero, suc, ◌+◌, ◌<◌, List, [], ◌∷◌, ◌++◌, length, map, take, drop, get_or, set, refl, sym, ap, subst, ◌∙◌, arith, remove, drop-cons, drop-set-lt}
+use Rattle.std.proofs.Common.{filter, ◌≡◌, Bool, true, ◌||◌, ℕ, zero, suc, ◌+◌, ◌<◌, List, [], ◌∷◌, ◌++◌, length, map, take, drop, get_or, set, refl, sym, ap, subst, ◌∙◌, arith, remove, drop-cons}
 use Rattle.std.specs.List.{AllByRecursion, list_all, list_any}
-use Rattle.std.proofs.lemmas.{Bool.and_parts, List.drop_more, List.set-get_or, List.take_more_set}
+use Rattle.std.proofs.lemmas.{Bool.and_parts, List.set-get_or}
 use Rattle.std.proofs.lemmas.List.Elements.{All-append, All-drop, All-filter, All-from_recursion, All-get_or, All-map, All-set, All-take, All-weaker, recursion_from_All}
 
 module _ {X : Type 0} (P : X → Type 0) where
@@ -36,24 +36,9 @@ module _ {X : Type 0} (P : X → Type 0) where
       let f = All-from_recursion P xs h in
       recursion_from_All P (remove xs i) (All-append P (take i xs) (drop (suc i) xs) (All-take P i xs f) (All-drop P (suc i) xs f))
 
-  -- those from a place on are it and those behind it
-  pub all-here : (xs : List X) (i : ℕ) (x : X) → i < length xs → x ≡ get_or xs i x → AllByRecursion P (drop i xs) → P x
-  all-here xs i x lt at h = subst P (sym at) (subst (AllByRecursion P) (drop-cons xs i x lt) h).0
-
   pub all-more : (xs : List X) (i : ℕ) (x : X) → i < length xs → x ≡ get_or xs i x → P x
       → AllByRecursion P (drop (suc i) xs) → AllByRecursion P (drop i xs)
   all-more xs i x lt at p h = subst (AllByRecursion P) (sym (drop-cons xs i x lt)) (subst P at p, h)
-
-  -- the next is such, in its place
-  pub all-next : (xs : List X) (i : ℕ) (y : X) → i < length xs → P y → AllByRecursion P (take i xs)
-      → AllByRecursion P (take (i + 1) (set xs i y))
-  all-next xs i y lt p h = subst (AllByRecursion P) (sym (take_more_set xs i y lt)) (all-append (take i xs) (y ∷ []) h (p, tt))
-
-  -- those behind a place stay, whatever is put there
-  pub all-rest : (xs : List X) (i : ℕ) (y : X) → i < length xs → AllByRecursion P (drop i xs) → AllByRecursion P (drop (i + 1) (set xs i y))
-  all-rest xs i y lt h =
-      let rest = (subst (AllByRecursion P) (drop_more xs i y lt) h).1 in
-      subst (AllByRecursion P) (sym (drop-set-lt (i + 1) xs i y (omega arith))) rest
 
 pub all-map : {X Y : Type 0} (P : Y → Type 0) (f : X → Y) (xs : List X) → AllByRecursion (λ x. P (f x)) xs → AllByRecursion P (map f xs)
 all-map P f xs h = recursion_from_All P (map f xs) (All-map P f xs (All-from_recursion (λ x. P (f x)) xs h))
