@@ -1,13 +1,15 @@
 -- The lives of a store, one after another: each is opened over what the end of the one before left.
-use Rattle.std.specs.Prelude.{◌≡◌, ℕ, List, [], ◌∷◌, ◌++◌, length, Result, Ok, MatchResult, ⊤}
+use Rattle.std.specs.Prelude.{◌≡◌, ◌⊎◌, ◌<◌, ℕ, List, [], ◌∷◌, ◌++◌, length, Result, Ok, MatchResult, IfErr, IsErrAnd, ⊤}
 use Rattle.sector.specs.SectorModel.{IsSettled, LeavesOnly}
 use Rattle.model.specs.Map.{KeyMap}
 use Rattle.model.specs.Machine.{opened}
+use Rattle.commit_log.specs.declared.faults.LogFault.TheVariants.{NotALog, Device}
 use Rattle.commit_log.specs.declared.faults.Unopened.{Unopened}
 use Rattle.commit_log.specs.Format.{current}
-use Rattle.commit_log.specs.LogFaults.{IsDeviceOrMemory}
+use Rattle.commit_log.specs.LogFaults.{IsDeviceOrMemory, IsOpenFault}
 use Rattle.commit_log.specs.LogImage.{IsLogImage}
-use Rattle.commit_log.specs.Reading.{ReadsAs}
+use Rattle.commit_log.specs.OpenedLog.{FindsDamage, FindsNoLog, FindsOldHead}
+use Rattle.commit_log.specs.Reading.{ReadsAs, TellsFailure}
 use Rattle.engine.specs.Recovery.{HoldsMap}
 use Rattle.sessions.specs.Laws.{Ran}
 use Rattle.sessions.specs.Life.{Holds, MayFind}
@@ -28,6 +30,15 @@ EndsWith dev result map = MatchResult result (λ hub. Begins dev hub map) (λ u.
 pub record Opens {D : Type 0} {g : Ghosts D} (dev : D) (result : Result (Hub D g) (Unopened D)) : Type 0 where
   pub during : LeavesOnly g.moment g.left_since dev (device_after result) (g.may_leave dev)
   pub ends : (image : List (List ℕ)) (map : KeyMap) → length image ≡ g.size dev → ReadsAs (g.may_read dev) image → HoldsMap image map → EndsWith dev result map
+
+-- An opening tells why it gives no hub: `Device` exactly where a call failed; and what is too short, damaged, no log or has an old head as that.
+pub record TellsWhy {D : Type 0} {g : Ghosts D} (dev : D) (result : Result (Hub D g) (Unopened D)) : Type 0 where
+  pub faults : IfErr result (λ u. IsOpenFault u.fault)
+  pub cause : IfErr result (λ u. TellsFailure (g.failures dev) (g.failures u.device) u.fault)
+  pub short : g.size dev < 2 → IsErrAnd result (λ u. (u.fault ≡ NotALog) ⊎ (u.fault ≡ Device))
+  pub damaged : g.keeps_model → FindsDamage g dev result (λ u. u.fault)
+  pub no_log : g.keeps_model → FindsNoLog g dev result (λ u. u.fault)
+  pub older : g.keeps_model → FindsOldHead g dev result (λ u. u.fault)
 
 -- the hub is what an opening gave
 pub record IsOpened {D : Type 0} {g : Ghosts D} (hub : Hub D g) : Type 0 where

@@ -8,7 +8,7 @@ use std::alloc::Global;
 impl<D: Sectors> Hub<D> {
     ghost use Rattle.std.specs.Prelude.{IfOk};
     ghost use Rattle.model.specs.Map.{KeyMap};
-    ghost use Rattle.sessions.specs.Lives.{Begins, Opens};
+    ghost use Rattle.sessions.specs.Lives.{Begins, Opens, TellsWhy};
 
     /// A hub over the store whose log a device holds. Nobody has joined. Faults are those of `Engine::open`; the device is given back with
     /// each.
@@ -19,6 +19,7 @@ impl<D: Sectors> Hub<D> {
     pub fn open(alloc: Global, dev: D) -> Result<Hub<D>, Unopened<D>>
         ensures begins { IfOk result (λ hub. (map : KeyMap) × Begins dev hub map) }
         ensures opens { D.keeps_model → Opens dev result }
+        ensures tells { TellsWhy dev result }
     {
         match Engine::open(alloc, dev) {
             Ok(engine) => Ok(Hub::new(alloc, engine)),

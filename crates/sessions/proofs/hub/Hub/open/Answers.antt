@@ -20,3 +20,23 @@ returns-in-Ok-clause-opens g c keeps = record {
       let P : KeyMap → Type 0 = λ m. StandsFor c.new.result (hub_over (opened m (2 + span x.0) (g.D.Sectors.size c.args.dev))) in
       record { used = 2 + span x.0; stands = subst P x.2 (c.new.ensures.stands _ found) });
 }
+
+pub returns-in-Ok-clause-tells : goal.returns-in-Ok-clause-tells
+returns-in-Ok-clause-tells g c = record {
+  faults = tt;
+  cause = tt;
+  short = c.in-Ok.ensures.short;
+  damaged = c.in-Ok.ensures.damaged;
+  no_log = c.in-Ok.ensures.no_log;
+  older = c.in-Ok.ensures.older;
+}
+
+pub returns-in-Err-clause-tells : goal.returns-in-Err-clause-tells
+returns-in-Err-clause-tells g c = record {
+  faults = c.in-Err.ensures.faults;
+  cause = c.in-Err.ensures.cause;
+  short = c.in-Err.ensures.short;
+  damaged = c.in-Err.ensures.damaged;
+  no_log = c.in-Err.ensures.no_log;
+  older = c.in-Err.ensures.older;
+}
