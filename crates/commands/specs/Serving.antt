@@ -7,7 +7,7 @@ use Rattle.std.specs.declared.net.socket_addr.SocketAddr.{SocketAddr}
 use Rattle.model.specs.Map.{KeyMap}
 use Rattle.sector.specs.declared.device.Sectors.{Ghosts}
 use Rattle.commit_log.specs.declared.faults.Unopened.{Unopened}
-use Rattle.sessions.specs.Lives.{Begins, IsOpened, Opens}
+use Rattle.sessions.specs.Lives.{Begins, IsOpened, Opens, TellsWhy}
 use Rattle.sessions.specs.declared.hub.Hub.{Hub}
 use Rattle.commands.specs.Faults.{of_log}
 use Rattle.commands.specs.Notices.{listening_line, stopped_line}
@@ -27,7 +27,7 @@ TakesOpened {D} {g} takes = (hub : Hub D g) → IsOpened hub → takes hub
 -- what opening a store over this device came to
 abbrev pub Starts : {D : Type 0} {g : Ghosts D} → D → Result (Hub D g) (Unopened D) → Type 0
 Starts {D = D} {g = g} device result =
-    MatchResult result (λ hub. ((map : KeyMap) × Begins device hub map) × (g.keeps_model → Opens device (Ok hub)))
+    TellsWhy {D = D} {g = g} device result × MatchResult result (λ hub. ((map : KeyMap) × Begins device hub map) × (g.keeps_model → Opens device (Ok hub)))
     (λ unopened. g.keeps_model → Opens {D = D} {g = g} device (Err unopened))
 
 -- Opening a file of this name and listening at the address that a text spells: the first that fails ends it, with its fault, and no later

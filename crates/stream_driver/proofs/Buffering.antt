@@ -6,7 +6,7 @@ use Rattle.std.proofs.lemmas.Grind.{common_steps}
 use Rattle.std.proofs.lemmas.List.{append-nil, take-append-drop}
 use Rattle.model.proofs.Elements.{all-each}
 use Rattle.stream_driver.specs.Types.{ReadAnswer, Moved, Blocked as ReadBlocked, Failed as ReadFailed, WriteAnswer, Wrote, WriteBlocked, WriteFailed, Call, Read, Write, HeldBytes, Flushed, All, FlushedBlocked as Blocked, FlushedFailed as Failed, BufferedStream}
-use Rattle.stream_driver.specs.Buffers.{held_in, room_in, BehindEnds, BehindMoved, FlushFails, Flushes, GivesSome, KeepsBytes, ShortAfter, TakesSome, WasRead, WhyGave, WhyTook, traffic_through, ReadFails, RoomFails, StaysFailed, StaysWithRoom, WhyFlushed, WhyRoom, WriteFails, WritesHeld}
+use Rattle.stream_driver.specs.Buffers.{held_in, room_in, BehindEnds, BehindMoved, FlushFails, Flushes, GivesSome, KeepsBytes, ShortAfter, TakesSome, WasRead, WhyGave, WhyTook, traffic_through, ReadFails, RoomFails, StaysFailed, WhyFlushed, WhyRoom, WriteFails, WritesHeld}
 use Rattle.stream_driver.specs.Traffic.{AllMoved, Departure, DepartAt, EndsWith, IsBeginning, ReadsWithin, Traffic, WritesWithin, bytes_read, bytes_written}
 use Rattle.stream_driver.proofs.Answered.{ends_same, ends_then, moved_then, none_called}
 use Rattle.stream_driver.proofs.Carry.{all_then, grown}
@@ -82,11 +82,13 @@ module _ {T : Type 0} where
   -- where there was no room, what is held was written
   pub room_flushed : (a : BufferedStream T) (answer : Flushed) (b : BufferedStream T) → room_in a.held ≡ 0 → FlushFails a answer b → RoomFails a answer b
   room_flushed a Failed b none s = s
-  room_flushed a _ b none s = elim s [ inl x ↦ inl x.1 | inr y ↦ inr (none, y.1) ]
+  room_flushed a Blocked b none s = s
+  room_flushed a All b none s = (elim s [ inl x ↦ inl x.1 | inr y ↦ inr (none, y.1) ], s)
 
-  write_fails : (old new : BufferedStream T) (answer : WriteAnswer) → held_in new.held ≡ [] → StaysWithRoom old new → WriteFails old answer new
-  write_fails old new WriteFailed none stays = inr (none, stays)
-  write_fails old new _ none stays = stays
+  write_fails : (old new : BufferedStream T) (answer : WriteAnswer) → held_in new.held ≡ [] → RoomFails old All new → WriteFails old answer new
+  write_fails old new (Wrote n) none stays = stays.0
+  write_fails old new WriteBlocked none stays = stays.1
+  write_fails old new WriteFailed none stays = inr (none, stays.1)
 
   read_fails : (old new : BufferedStream T) (answer : ReadAnswer) → held_in new.held ≡ [] → StaysFailed old new → ReadFails old answer new
   read_fails old new ReadFailed none stays = inr (none, stays)
@@ -208,7 +210,7 @@ module _ {T : Type 0} where
           short = record { short = shorter; drained = flushed.kept.drained; reads_on = flushed.kept.reads_on };
         }
 
-    module _ {old mid : BufferedStream T} (kept : KeepsBytes tells traffic moment old mid) (stays : StaysWithRoom old mid) (moved : BehindMoved traffic old mid) {from : List ℕ} where
+    module _ {old mid : BufferedStream T} (kept : KeepsBytes tells traffic moment old mid) (stays : RoomFails old All mid) (moved : BehindMoved traffic old mid) {from : List ℕ} where
       -- the stream behind took them
       pub takes_on : {inner : T} {answer : WriteAnswer} → held_in mid.held ≡ [] → WritesWithin answer (length from) → (tells → (traffic inner).given ≡ (traffic mid.inner).given)
           → (tells → (traffic inner).taken ≡ (traffic mid.inner).taken ++ take (bytes_written answer) from) → (tells → DepartAt moment (traffic mid.inner) (traffic inner)) → EndsWith (Write answer) (traffic mid.inner) (traffic inner)
@@ -242,7 +244,7 @@ module _ {T : Type 0} where
             departed = λ t. departed_and_taken (take n from) refl all (kept.departed t);
             counts = kept.counts;
             why = moved;
-            failed = stays;
+            failed = stays.0;
             short = kept.short;
             drained = kept.drained;
             reads_on = kept.reads_on;

@@ -98,15 +98,15 @@ module _ {T : Type 0} where
   StaysWithRoom old new = (new.has_failed ≡ old.has_failed) ⊎ ((room_in old.held ≡ 0) × (new.has_failed ≡ false))
 
   abbrev pub RoomFails : BufferedStream T → Flushed → BufferedStream T → Type 0
-  RoomFails old All new = StaysWithRoom old new
-  RoomFails old FlushBlocked new = StaysWithRoom old new
+  RoomFails old All new = StaysWithRoom old new × StaysFailed old new
+  RoomFails old FlushBlocked new = StaysFailed old new
   RoomFails old FlushFailed new = HasFailed new
 
   -- once bytes were to be taken
   abbrev pub WriteFails : BufferedStream T → WriteAnswer → BufferedStream T → Type 0
   WriteFails old (Wrote n) new = StaysWithRoom old new
-  WriteFails old WriteBlocked new = StaysWithRoom old new
-  WriteFails old WriteFailed new = HasFailed new ⊎ ((held_in new.held ≡ []) × StaysWithRoom old new)
+  WriteFails old WriteBlocked new = StaysFailed old new
+  WriteFails old WriteFailed new = HasFailed new ⊎ ((held_in new.held ≡ []) × StaysFailed old new)
 
   -- once bytes were to be given
   abbrev pub ReadFails : BufferedStream T → ReadAnswer → BufferedStream T → Type 0
