@@ -1,7 +1,8 @@
-"""What opening a log costs as it grows: the processor time of `serve` until it listens, over a log of so many commits and over one of 16 times as many.
+"""What opening a log costs as it grows: the processor time of `serve` until it listens, over a log of so many writes and over one of 16 times as many.
 
-The larger may take at most two and a half times as much for each commit. There are logs of keys in random order, of keys that rise, and of one key. Each is opened several
-times, and the least counts, since other work of the machine can only add. The judge is shown to fail by figures that grow as the square does.
+The larger may take at most two and a half times as much for each write. There are logs of keys in random order, of keys that rise, and of few keys. Each
+is opened several times, and the least counts, since other work of the machine can only add. The judge is shown to fail by figures that grow as the
+square does.
 """
 import os
 import sys
@@ -12,14 +13,14 @@ sys.path.append(os.path.join(HERE, "..", "bench"))
 
 from logs import write_records      # noqa: E402
 
-SMALL, TIMES, TRIES = 1_000, 16, 3
-# How many times as much for each commit the larger may take.
+SMALL, TIMES, TRIES, COMMIT_WRITES = 1_024, 16, 3, 64
+# How many times as much for each write the larger may take.
 BOUND = 2.5
 VALUE = b"v" * 100
 LOGS = {
     "keys in random order": lambda number: b"%016x" % (number * 0x9E3779B97F4A7C15 % (1 << 64)),
     "keys that rise": lambda number: b"%016x" % number,
-    "one key": lambda number: b"same",
+    "few keys": lambda number: b"%016x" % (number % (2 * COMMIT_WRITES)),
 }
 
 
@@ -36,9 +37,9 @@ def opening_seconds(data):
 
 
 def judge(small, large):
-    """By how much the opening of the larger log takes more for each commit, which is below the bound."""
+    """How many times as much the larger log takes for each write, which is below the bound."""
     growth = large / small / TIMES
-    expect(growth <= BOUND, f"the larger log takes {growth:.2f} times as much for each commit, {small:.4f} and {large:.4f} s, the bound is {BOUND}")
+    expect(growth <= BOUND, f"the larger log takes {growth:.2f} times as much for each write, {small:.4f} and {large:.4f} s, the bound is {BOUND}")
     return growth
 
 
@@ -50,12 +51,18 @@ def is_refused(small, large):
     return False
 
 
+def records(key_of, writes):
+    """The records of a log of so many writes."""
+    for start in range(0, writes, COMMIT_WRITES):
+        yield sorted((key_of(number), VALUE) for number in range(start, start + COMMIT_WRITES))
+
+
 def of_log(place, key_of):
     """What opening such logs of both sizes takes."""
     took = []
-    for commits in (SMALL, TIMES * SMALL):
+    for writes in (SMALL, TIMES * SMALL):
         data = os.path.join(place, "data")
-        write_records(data, ([(key_of(number), VALUE)] for number in range(commits)), free_sectors=64)
+        write_records(data, records(key_of, writes), free_sectors=64)
         took.append(opening_seconds(data))
     return took
 
@@ -69,7 +76,7 @@ def main():
                 growths.append(judge(*of_log(place, key_of)))
     with tally.run("the bound"):
         expect(is_refused(1, TIMES ** 2) and not is_refused(1, TIMES), "growth by the square is taken, or growth by the size is not")
-    return 0 if tally.end(f"; for each commit at most {max(growths, default=0):.2f} times as much, of {BOUND}") else 1
+    return 0 if tally.end(f"; for each write at most {max(growths, default=0):.2f} times as much, of {BOUND}") else 1
 
 
 if __name__ == "__main__":
