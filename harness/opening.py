@@ -76,7 +76,7 @@ def main():
                 growths.append(judge(*of_log(place, key_of)))
     with tally.run("the bound"):
         expect(is_refused(1, TIMES ** 2) and not is_refused(1, TIMES), "growth by the square is taken, or growth by the size is not")
-    return 0 if tally.end(f"; for each write at most {max(growths, default=0):.2f} times as much, of {BOUND}") else 1
+    return 0 if tally.end(f"; for each write at most {max(growths):.2f} times as much, of {BOUND}" if growths else "") else 1
 
 
 if __name__ == "__main__":
