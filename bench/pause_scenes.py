@@ -24,7 +24,7 @@ PAIRS, LARGE_VALUE, MIDDLE_VALUE = 128, 16_384, 4_096
 QUEUE, STEP = 1_000, 32
 SMALL_COMMITS = 50
 # Transactions that write one key each: at most so many leave lists of older versions, so many follow, and so many are sent at once.
-SINGLE_WRITES, SAME_KEY, AT_ONCE = 20_000, 2_000, 20
+SINGLE_WRITES, SAME_KEY, AT_ONCE = 20_000, 5_000, 20
 # In two scenes so many times as many keys are written. Of transactions of three requests a turn serves so many of a session.
 TIMES, THREES = 4, 21
 
