@@ -7,6 +7,7 @@ import mmap
 import multiprocessing
 import os
 import select
+import signal
 import socket
 import struct
 import tempfile
@@ -23,7 +24,9 @@ PAIRS, LARGE_VALUE, MIDDLE_VALUE = 128, 16_384, 4_096
 QUEUE, STEP = 1_000, 32
 SMALL_COMMITS = 50
 # Transactions that write one key each: at most so many leave lists of older versions, so many follow, and so many are sent at once.
-SINGLE_WRITES, SAME_KEY, AT_ONCE = 20_000, 2_000, 20
+SINGLE_WRITES, SAME_KEY, AT_ONCE = 20_000, 5_000, 20
+# In two scenes so many times as many keys are written. Of transactions of three requests a turn serves so many of a session.
+TIMES, THREES = 4, 21
 
 
 # The client that sends PING
@@ -152,6 +155,15 @@ class Scene:
 
     def client(self):
         return Client(self.store.address)
+
+    @contextlib.contextmanager
+    def stopped(self):
+        """The server is stopped within, so that it finds in one turn what came meanwhile."""
+        os.kill(self.store.process.pid, signal.SIGSTOP)
+        try:
+            yield
+        finally:
+            os.kill(self.store.process.pid, signal.SIGCONT)
 
     def settle(self):
         """Waits until the turn that answered last has ended."""
@@ -369,6 +381,46 @@ def straddling(options):
     return scene
 
 
+def overlapping(options):
+    """The same, where each range holds those that were read before it. A first commit after the begin writes a key that none holds, so that the
+    numbers before the begin tell of each block of keys that some might be less."""
+    half = TIMES * options.keys // 2
+    with Scene(options, 0, 2 * half // COMMIT_WRITES + SMALL_COMMITS + 8) as scene:
+        older, old, client = scene.client(), scene.client(), scene.client()
+        opened(older)
+        delete_all(client, map_keys(scattered, 0, half))
+        old.ask(BEGIN)
+        for number in reversed(range(MARKS)):
+            if old.ask(frame(b"RANGE", b"0%02x" % number, b"g", b"%d" % PAIRS)):
+                raise Failure("a range isn't empty")
+        old.ask(sets([b"own"]))
+        commit_all(client, [sets([b"other"])])
+        set_all(client, scattered, half, half)
+        with scene.part("256 ranges, each within the next, over a run that straddles the begin"):
+            old.ask(COMMIT)
+            small_commits(client)
+    return scene
+
+
+def written_before(options):
+    """Keys are deleted, though they aren't there, and an older transaction keeps that they were. Each transaction reads all of them after that."""
+    keys = TIMES * options.keys
+    with Scene(options, 0, keys // COMMIT_WRITES + 8) as scene:
+        older, client = scene.client(), scene.client()
+        opened(older)
+        delete_all(client, map_keys(scattered, 0, keys))
+        readers = [scene.client() for _ in range(FLOODING)]
+        with scene.part("many COMMITs in one turn, of transactions that have read all that was written before their begin"):
+            with scene.stopped():
+                for reader in readers:
+                    reader.socket.sendall(THREES * (BEGIN + frame(b"RANGE", b"0", b"g", b"1") + COMMIT))
+            for reader in readers:
+                for _ in range(THREES):
+                    if [reader.reply() for _ in range(3)][1]:
+                        raise Failure("a range isn't empty")
+    return scene
+
+
 def large_key(number):
     return b"large%03d" % number
 
@@ -441,8 +493,8 @@ def coming_and_going(options):
 
 SCENES = {
     "quiet": quiet, "load": load, "written_again": written_again, "old_commit": old_commit, "younger": younger, "same_key": same_key, "queue": queue,
-    "half_deleted": half_deleted, "straddling": straddling, "largest_ranges": largest_ranges, "middle_ranges": middle_ranges,
-    "coming_and_going": coming_and_going,
+    "half_deleted": half_deleted, "straddling": straddling, "overlapping": overlapping, "written_before": written_before,
+    "largest_ranges": largest_ranges, "middle_ranges": middle_ranges, "coming_and_going": coming_and_going,
 }
 
 

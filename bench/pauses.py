@@ -7,8 +7,9 @@
 One client sends PING each millisecond, from a process of its own, beside: a random load; everything written again beside an old transaction, and
 the end of that one; the COMMIT of one with 256 ranges and 64 writes beside which everything was written again; the end of the younger of two old
 ones; one key written again and again while many lists of older versions are left; a queue beside an old reader; half of the keys deleted, and
-ranges over them; 256 ranges over a run of written keys that straddles the begin; 60 clients with the largest RANGEs, and with such of a quarter of
-the bytes; 128 connections coming and going. Each has a server of its own over a data file in memory (--folder).
+ranges over them; 256 ranges over a run of written keys that straddles the begin, side by side and each within the next; many COMMITs that have read
+all that was written before their begin; 60 clients with the largest RANGEs, and with such of a quarter of the bytes; 128 connections coming and
+going. Each has a server of its own over a data file in memory (--folder).
 
 The figures of each: the median of the waits, what all but one in a thousand stay below, the longest; the longest processor time of the server
 between the return of a poll and the next, and of all together. The waits go by the clock, so other work of the machine is in them; by how much the

@@ -166,6 +166,43 @@ fn who_leaves_drops_versions(rt: HostRuntime) {
     assert!(rt; kept(with_reader).0 == Some(2));
 }
 
+/// Beside an old transaction each of four keys got a version more, in a commit of its own. Its end leaves two of them to the ends that follow.
+const FOUR_KEYS: &[(&str, &str)] = &[
+    ("2 BEGIN", "+OK"),
+    ("2 SET b 1", "+OK"),
+    ("2 SET c 1", "+OK"),
+    ("2 SET d 1", "+OK"),
+    ("2 SET e 1", "+OK"),
+    ("2 COMMIT", ":1"),
+    ("1 BEGIN", "+OK"),
+    ("2 BEGIN", "+OK"),
+    ("2 SET b 2", "+OK"),
+    ("2 COMMIT", ":2"),
+    ("2 BEGIN", "+OK"),
+    ("2 SET c 2", "+OK"),
+    ("2 COMMIT", ":3"),
+    ("2 BEGIN", "+OK"),
+    ("2 SET d 2", "+OK"),
+    ("2 COMMIT", ":4"),
+    ("2 BEGIN", "+OK"),
+    ("2 SET e 2", "+OK"),
+    ("2 COMMIT", ":5"),
+    ("2 BEGIN", "+OK"),
+    ("2 SET a 1", "+OK"),
+    ("2 COMMIT", ":6"),
+    ("1 ABORT", "+OK"),
+    ("2 BEGIN", "+OK"),
+    ("2 SET a 2", "+OK"),
+    ("2 COMMIT", ":7"),
+];
+
+/// What a COMMIT replaces goes at its end, before what an older transaction has left. So a key's versions don't pile up meanwhile.
+#[test]
+fn what_was_replaced_goes_first(rt: HostRuntime) {
+    let store = played(&rt, FOUR_KEYS);
+    assert!(rt; kept(store).0 == Some(1));
+}
+
 /// A store in which these lines were asked, and answered so.
 fn played<R: Abort + AllocGlobal>(rt: &R, asked: &[(&str, &str)]) -> Pieces {
     let mut store = Pieces::new(new_hub(rt, 4096), FRAME_MAX);

@@ -1,0 +1,83 @@
+"""What opening a log costs as it grows: the processor time of `serve` until it listens, over a log of so many writes and over one of 16 times as many.
+
+The larger may take at most two and a half times as much for each write. There are logs of keys in random order, of keys that rise, and of few keys. Each
+is opened several times, and the least counts, since other work of the machine can only add. The judge is shown to fail by figures that grow as the
+square does.
+"""
+import os
+import sys
+
+from client import HERE, PROGRAM, Deviation, Server, Tally, expect, folder, need, run_harness
+
+sys.path.append(os.path.join(HERE, "..", "bench"))
+
+from logs import write_records      # noqa: E402
+
+SMALL, TIMES, TRIES, COMMIT_WRITES = 1_024, 16, 3, 64
+# How many times as much for each write the larger may take.
+BOUND = 2.5
+VALUE = b"v" * 100
+LOGS = {
+    "keys in random order": lambda number: b"%016x" % (number * 0x9E3779B97F4A7C15 % (1 << 64)),
+    "keys that rise": lambda number: b"%016x" % number,
+    "few keys": lambda number: b"%016x" % (number % (2 * COMMIT_WRITES)),
+}
+
+
+def opening_seconds(data):
+    """The least processor time until the log was open."""
+    least = None
+    for _ in range(TRIES):
+        with Server(data) as server:
+            expect(server.is_listening(), f"it doesn't listen: {server.line!r}")
+            with open(f"/proc/{server.process.pid}/schedstat", encoding="ascii") as file:
+                took = int(file.read().split()[0]) / 1e9
+        least = took if least is None else min(least, took)
+    return least
+
+
+def judge(small, large):
+    """How many times as much the larger log takes for each write, which is below the bound."""
+    growth = large / small / TIMES
+    expect(growth <= BOUND, f"the larger log takes {growth:.2f} times as much for each write, {small:.4f} and {large:.4f} s, the bound is {BOUND}")
+    return growth
+
+
+def is_refused(small, large):
+    try:
+        judge(small, large)
+    except Deviation:
+        return True
+    return False
+
+
+def records(key_of, writes):
+    """The records of a log of so many writes."""
+    for start in range(0, writes, COMMIT_WRITES):
+        yield sorted((key_of(number), VALUE) for number in range(start, start + COMMIT_WRITES))
+
+
+def of_log(place, key_of):
+    """What opening such logs of both sizes takes."""
+    took = []
+    for writes in (SMALL, TIMES * SMALL):
+        data = os.path.join(place, "data")
+        write_records(data, records(key_of, writes), free_sectors=64)
+        took.append(opening_seconds(data))
+    return took
+
+
+def main():
+    need(PROGRAM)
+    tally, growths = Tally("opening"), []
+    with folder() as place:
+        for name, key_of in LOGS.items():
+            with tally.run(name):
+                growths.append(judge(*of_log(place, key_of)))
+    with tally.run("the bound"):
+        expect(is_refused(1, TIMES ** 2) and not is_refused(1, TIMES), "growth by the square is taken, or growth by the size is not")
+    return 0 if tally.end(f"; for each write at most {max(growths):.2f} times as much, of {BOUND}" if growths else "") else 1
+
+
+if __name__ == "__main__":
+    run_harness(main)
