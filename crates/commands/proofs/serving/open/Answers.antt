@@ -18,9 +18,9 @@ returns-in_err-hub g c =
 pub returns-in-Ok-listen : goal.returns-in-Ok-listen
 returns-in-Ok-listen g c =
     Opened c.in-Ok.address c.in_ok-device.device c.in_ok-hub.hub c.in-Ok-listen.server c.open.new.self c.listen.new.self c.in-Ok.ensures.value c.in_ok-device.ensures
-    (c.in_ok-hub.ensures.tells, c.in_ok-hub.ensures.begins, c.in_ok-hub.ensures.opens) c.in-Ok-listen.ensures
+    (c.in_ok-hub.ensures.tells, (c.in_ok-hub.ensures.begins, c.in_ok-hub.ensures.opens)) c.in-Ok-listen.ensures
 
 pub returns-in-Err : goal.returns-in-Err
 returns-in-Err g c =
     NoPort c.in-Ok.address c.in_ok-device.device c.in_ok-hub.hub c.in-Err.error c.or_memory.result c.open.new.self c.listen.new.self c.in-Ok.ensures.value c.in_ok-device.ensures
-    (c.in_ok-hub.ensures.tells, c.in_ok-hub.ensures.begins, c.in_ok-hub.ensures.opens) c.in-Err.ensures c.or_memory.ensures
+    (c.in_ok-hub.ensures.tells, (c.in_ok-hub.ensures.begins, c.in_ok-hub.ensures.opens)) c.in-Err.ensures c.or_memory.ensures
