@@ -3,7 +3,7 @@
 The processor time is that of the server's thread alone, so other work of the machine is hardly in it. `polls.c` takes it. A virtual machine counts as
 processor time what its host took away meanwhile, once 29 ms in a turn of under one, and that can only add: so a scene that is above a bound runs
 again, and each part is judged by the least of up to three runs. The bounds are more than six times the longest of three runs over 10,000 keys on a
-busy machine, and more than three times in the scenes of one key written again, of ranges within each other and of many COMMITs in one turn, each of
+busy machine, and more than twice in the scenes of one key written again, of ranges within each other and of many COMMITs in one turn, each of
 which is there for a wrong body that only costs. The judge is shown to fail: by a figure above each bound, and by a server that wastes more in one
 turn than any bound allows.
 """
