@@ -1,7 +1,6 @@
 -- Files that are opened one after the other.
 use Rattle.std.proofs.Common.{◌≡◌, List, [], ◌∷◌, ◌++◌, zero, suc, arith, Option, None, Some, ℤ, pos, refl, sym, subst, ap, ◌∙◌}
-use Rattle.std.proofs.lemmas.List.{map-append}
-use Rattle.std.proofs.lemmas.List.Elements.{All-append, All-nil}
+use Rattle.std.proofs.{lemmas.List.map-append, lemmas.List.Elements.All-append, lemmas.List.Elements.All-nil}
 use Rattle.std.specs.Prelude.{◌≤ℤ◌, ◌<ℤ◌, IfSome}
 use Rattle.std.specs.List.{All}
 use Rattle.commands.specs.Openings.{OpensAll, KeepsSoFar}

@@ -3,8 +3,7 @@ use Rattle.std.proofs.Common.{◌≡◌, ◌≤◌, ◌<◌, ◌^◌, ℕ, arith
 use Rattle.std.specs.Prelude.{◌≢◌, IfErr, IfSome, IfNone, IsErrOf}
 use Rattle.model.specs.Map.{KeyMap}
 use Rattle.commit_log.specs.Copying.{copy_size}
-use Rattle.commands.specs.declared.faults.Fault.{Fault}
-use Rattle.commands.specs.declared.faults.Fault.TheVariants.{LogFull, Device}
+use Rattle.commands.specs.{declared.faults.Fault.Fault, declared.faults.Fault.TheVariants.LogFull, declared.faults.Fault.TheVariants.Device}
 use Rattle.commands.specs.Compacting.{copy_count, HasTooFew, Needs}
 
 -- formatting a device of two sectors or more fails by the device alone

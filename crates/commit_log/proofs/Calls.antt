@@ -1,12 +1,6 @@
 -- What a crash leaves while calls of a device follow one another, and how a run of reads goes on.
-use Rattle.std.proofs.lemmas.Grind.{common_steps}
-use Rattle.std.proofs.Common.{ℕ, List, ◌≡◌, ◌≤◌, ◌+◌, ◌-◌, ◌*◌, length, take, drop, ◌++◌, slice_get, Some, ◌∙◌, ap, arith, length-drop, append_assoc}
-use Rattle.std.proofs.lemmas.List.{take-append-le, take-take, drop-append-le, drop-take, length-take}
+use Rattle.commit_log.proofs.Words.{common_steps, ℕ, List, ◌≡◌, ◌≤◌, ◌+◌, ◌-◌, ◌*◌, length, take, drop, ◌++◌, slice_get, Some, ◌∙◌, ap, arith, length-drop, append_assoc, take-append-le, take-take, drop-append-le, drop-take, length-take, Ghosts, LeavesNoMore, LeavesOnly, ReadsNoMore, TimeGoesOn, of_one_more, of_more, OnlyReads}
 use Rattle.std.proofs.Math.Seq.{drop-append-add}
-use Rattle.sector.specs.declared.device.Sectors.{Ghosts}
-use Rattle.sector.specs.SectorModel.{LeavesNoMore, LeavesOnly, ReadsNoMore, TimeGoesOn}
-use Rattle.sector.proofs.Crashes.{of_one_more, of_more}
-use Rattle.commit_log.specs.Reading.{OnlyReads}
 
 module _ {D : Type 0} (S : Ghosts D) where
   -- time goes on over a call

@@ -1,24 +1,10 @@
 -- What a device reads and a crash leaves while some of its sectors alone are written, how far a copy of a map has come, and how it ends:
 -- its records are settled, and then its head is written.
-use Rattle.std.proofs.lemmas.Grind.{common_steps}
-use Rattle.std.proofs.Common.{⊎_elim, ℕ, ◌≤◌, ◌<◌, ◌≢◌, ◌≡◌, ◌+◌, ◌-◌, List, take, drop, refl, sym, ◌∙◌, ap, arith, inl, inr, [], ◌∷◌, set, slice_get, Some, subst, ◌*◌, ◌/◌, ◌++◌, length, min, replicate, append_assoc, length-append}
-use Rattle.std.proofs.lemmas.List.{take-take, drop-drop, append-nil}
-use Rattle.sector.specs.declared.device.Sectors.{Ghosts}
-use Rattle.sector.specs.SectorModel.{FollowsWrite, FollowsWrites, Settles, IsSettled, IsSameElsewhere, LeavesNoMore, LeavesOnly, ReadsNoMore, ReadsNoMoreOutside, TimeGoesOn}
-use Rattle.sector.proofs.Crashes.{of_none, of_one_more, of_more}
+use Rattle.commit_log.proofs.Words.{common_steps, ⊎_elim, ℕ, ◌≤◌, ◌<◌, ◌≢◌, ◌≡◌, ◌+◌, ◌-◌, List, take, drop, refl, sym, ◌∙◌, ap, arith, inl, inr, [], ◌∷◌, set, slice_get, Some, subst, ◌*◌, ◌/◌, ◌++◌, length, min, replicate, append_assoc, length-append, take-take, drop-drop, append-nil, Ghosts, FollowsWrite, FollowsWrites, Settles, IsSettled, IsSameElsewhere, LeavesNoMore, LeavesOnly, ReadsNoMore, ReadsNoMoreOutside, TimeGoesOn, of_none, of_one_more, of_more, KeyWrite, KeyMap, payload_size, LeavesAsBefore, OnlyReads, log_sectors, open_record, ReadsFrom, LeavesZeros, IsCopyOrNoLog, IsCopyStep, LeavesSteps, puts, write_sets_of, current, head_sector, closed_gate, first_digest, open_gate, sectors_for, body_sectors, padded_body, record_body, record_digest, IsLogImage, span, last_digest, next_index, IsSameBefore, OnlyWrites}
 use Rattle.sector.proofs.Runs.{writes_on}
-use Rattle.model.specs.Map.{KeyWrite, KeyMap}
-use Rattle.model.specs.Machine.{payload_size}
-use Rattle.commit_log.specs.Reading.{LeavesAsBefore, OnlyReads}
-use Rattle.commit_log.specs.Copying.{log_sectors, open_record, ReadsFrom, LeavesZeros, IsCopyOrNoLog, IsCopyStep, LeavesSteps, puts, write_sets_of}
-use Rattle.commit_log.specs.Format.{current, head_sector}
-use Rattle.commit_log.specs.RecordFormat.{closed_gate, first_digest, open_gate, sectors_for, body_sectors, padded_body, record_body, record_digest}
-use Rattle.commit_log.specs.LogImage.{IsLogImage, span, last_digest, next_index}
-use Rattle.commit_log.specs.LogState.{IsSameBefore, OnlyWrites}
-use Rattle.commit_log.proofs.Calls.{Passes, Leaves, leaves_no_more}
+use Rattle.commit_log.proofs.{Calls.Passes, Calls.Leaves, Calls.leaves_no_more, Encoding.payload_size_is, Encoding.body_sectors_is}
 use Rattle.commit_log.proofs.Records.{closed_gate_shut, slice_get_there, span-append, next_index-is, last_digest-push, length-log_sectors, log_made, first_of_log, set_first, log_if_head, zeros_are_no_log, same_first, log_sectors-push, reads_more, record_sectors}
 use Rattle.commit_log.proofs.Putting.{AreWriteSets, no_sets, sets_split, next_set}
-use Rattle.commit_log.proofs.Encoding.{payload_size_is, body_sectors_is}
 
 as_before : (at n : ℕ) (base : List (List ℕ) → Type 0) (c : List (List ℕ)) → base c → FollowsWrites at n base c
 as_before at n base c left = (c, left, record { size = refl; before = refl; behind = refl })

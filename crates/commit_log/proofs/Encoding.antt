@@ -1,23 +1,8 @@
 -- How long a record is, what its first bytes say, and what the encoder makes.
-use Rattle.std.proofs.lemmas.Grind.{common_steps}
-use Rattle.std.proofs.Common.{◌≡◌, ℕ, ◌<◌, ◌≤◌, ◌+◌, ◌-◌, ◌*◌, ◌^◌, List, ◌++◌, length, get_or, replicate, ◌∙◌, ap, arith, lit<, append_assoc, length-append, sym, suc, [], ◌∷◌, take, drop, refl}
-use Rattle.std.proofs.lemmas.List.{length-replicate, append-nil, take_all, take_more}
-use Rattle.std.proofs.lemmas.List.Concat.{length-flat_map, flat_map-append}
-use Rattle.std.proofs.lemmas.List.Sums.{sum_by-le}
-use Rattle.std.proofs.lemmas.Nat.{mul-le}
-use Rattle.std.specs.List.{flat_map}
-use Rattle.std.proofs.Math.Nat.{mul_comm}
-use Rattle.byteorder.specs.Endian.{big_bytes, big_number}
-use Rattle.byteorder.specs.Numbers.{big_number-reads_back}
+use Rattle.commit_log.proofs.Words.{common_steps, ◌≡◌, ℕ, ◌<◌, ◌≤◌, ◌+◌, ◌-◌, ◌*◌, ◌^◌, List, ◌++◌, length, get_or, replicate, ◌∙◌, ap, arith, lit<, append_assoc, length-append, sym, suc, [], ◌∷◌, take, drop, refl, length-replicate, append-nil, take_all, take_more, flat_map, big_bytes, big_number, big_number-reads_back, sha256, KeyWrite, entry_bound, payload_bound, body_bound, payload_size, write_size, IsWithinLimits, IsWriteSet, entry_bytes, payload_bytes, record_digest, body_bytes, padded_body, sectors_for, LogFormat, value_bound, IsUnsealed}
+use Rattle.std.proofs.{lemmas.List.Concat.length-flat_map, lemmas.List.Concat.flat_map-append, lemmas.List.Sums.sum_by-le, lemmas.Nat.mul-le, Math.Nat.mul_comm}
 use Rattle.sha2.proofs.Facts256.{length-sha256}
-use Rattle.sha2.specs.Sha256.{sha256}
-use Rattle.model.specs.Map.{KeyWrite}
-use Rattle.model.specs.Bounds.{entry_bound, payload_bound, body_bound}
-use Rattle.model.specs.Machine.{payload_size, write_size, body_sectors}
-use Rattle.commit_log.specs.RecordFormat.{IsWithinLimits, IsWriteSet, entry_bytes, payload_bytes, record_digest, body_bytes, padded_body, sectors_for}
-use Rattle.commit_log.specs.declared.formats.LogFormat.{LogFormat}
-use Rattle.commit_log.specs.Format.{value_bound}
-use Rattle.commit_log.specs.Encoding.{IsUnsealed}
+use Rattle.model.specs.Machine.{body_sectors}
 
 -- a value's length takes four bytes, and a payload's as well
 pub value_small : (f : LogFormat) → value_bound f < 2 ^ 16

@@ -6,3 +6,4 @@ pub mod Encoding
 pub mod Protocol
 pub mod Putting
 pub mod CopyProtocol
+pub mod Words

@@ -1,28 +1,12 @@
 -- Bytes have one reading at most: keys that rise, entries, the parts of a record's body, and when the sectors that were read are a record.
-use Rattle.std.proofs.lemmas.Grind.{common_steps, flat_map-append}
-use Rattle.std.proofs.Common.{◌≡◌, ℕ, zero, suc, ◌+◌, ◌-◌, ◌<◌, ◌==◌, true, false, List, [], ◌∷◌, ◌++◌, length, get_or, subst, arith, Ordering, ◌≤◌, ◌^◌, Bool, take, drop, All, IfSome, Option, None, sym, ◌∙◌, ap, append_assoc, length-append, ◌*◌, slice_get, Some, add-zero, length-drop, take-append-drop}
-use Rattle.std.specs.Cmp.Lexicographic.{slice_cmp, nat_list_cmp_total}
-use Rattle.std.specs.FinMap.Entries.{is_sorted, below_all}
+use Rattle.commit_log.proofs.Words.{common_steps, flat_map-append, ◌≡◌, ℕ, zero, suc, ◌+◌, ◌-◌, ◌<◌, ◌==◌, true, false, List, [], ◌∷◌, ◌++◌, length, get_or, subst, arith, Ordering, ◌≤◌, ◌^◌, Bool, take, drop, All, IfSome, Option, None, sym, ◌∙◌, ap, append_assoc, length-append, ◌*◌, slice_get, Some, add-zero, length-drop, Less, drop_all, get_or-take, append-nil, nil_from_length, length-replicate, get_or-replicate, same_lists, get_or_default, take_all, All-tail, flat_map, concat, big_bytes, big_number, big_number-reads_back, length-bytes_high_first, sha256, KeyWrite, key_cmp, IsKey, body_bound, IsRising, IsValueIn, IsWithinLimits, IsWriteSet, entry_bytes, value_bytes, payload_bytes, record_digest, body_bytes, body_sectors, sectors_for, padded_body, sectors_in, record_body, LogFormat, IsRecordAt, value_bound}
+use Rattle.std.proofs.Common.{take-append-drop}
+use Rattle.std.specs.{Cmp.Lexicographic.slice_cmp, Cmp.Lexicographic.nat_list_cmp_total, FinMap.Entries.is_sorted, FinMap.Entries.below_all}
 use Rattle.std.specs.Ordering.{nat_cmp, ordering_index}
-use Rattle.std.specs.declared.cmp.Ordering.TheVariants.{Less}
-use Rattle.std.proofs.Math.Seq.{drop-cons}
-use Rattle.std.proofs.lemmas.List.{drop_all, get_or-take, append-nil, nil_from_length, length-replicate, get_or-replicate, same_lists, get_or_default, take_all}
-use Rattle.std.proofs.lemmas.List.Elements.{All-tail}
-use Rattle.std.proofs.lemmas.Bool.Decides.{nat_tests}
-use Rattle.std.specs.List.{flat_map, concat}
-use Rattle.byteorder.specs.Endian.{big_bytes, big_number}
-use Rattle.byteorder.specs.Numbers.{big_number-reads_back, length-bytes_high_first}
-use Rattle.sha2.specs.Sha256.{sha256}
+use Rattle.std.proofs.{Math.Seq.drop-cons, lemmas.Bool.Decides.nat_tests}
 use Rattle.sha2.proofs.Facts256.{length-sha256}
 use Rattle.model.proofs.InOrder.{parts, both, less, is_less, below_later}
-use Rattle.model.specs.Map.{KeyWrite, key_cmp}
-use Rattle.model.specs.Key.{IsKey}
 use Rattle.model.proofs.Fronts.{same_front}
-use Rattle.model.specs.Bounds.{body_bound}
-use Rattle.commit_log.specs.RecordFormat.{IsRising, IsValueIn, IsWithinLimits, IsWriteSet, entry_bytes, value_bytes, payload_bytes, record_digest, body_bytes, body_sectors, sectors_for, padded_body, sectors_in, record_body}
-use Rattle.commit_log.specs.declared.formats.LogFormat.{LogFormat}
-use Rattle.commit_log.specs.LogImage.{IsRecordAt}
-use Rattle.commit_log.specs.Format.{value_bound}
 use Rattle.commit_log.proofs.Encoding.{value_small, zeros_of, padded_split, length-payload_le, length-body, body_sectors_bounds, length-padded_body, number-padded_body, body_sectors_is}
 use Rattle.commit_log.proofs.Records.{begins, slice_get-drop, length-sectors_in, get_or-sectors_in}
 

@@ -1,22 +1,9 @@
 -- The order of writes. A device is made an empty log: the gate is closed and settled before the head is written. An append has two
 -- phases: until the body is settled each crash leaves the log from before it; from then on the body and a closed gate stand behind
 -- its gate, whatever that gate holds.
-use Rattle.std.proofs.lemmas.Grind.{common_steps}
-use Rattle.std.proofs.Common.{◌≡◌, inl, ℕ, suc, ◌≤◌, List, [], ◌∷◌, get_or, set, slice_get, Some, sym, ◌∙◌, ap, arith, ◌≢◌, ⊎_elim, ◌<◌, ◌+◌, ◌*◌, ◌/◌, true, false, ◌++◌, length, subst, ◌↔◌, Bool, IsTrue, length-append}
-use Rattle.std.proofs.lemmas.List.{set-get_or, take-set-le}
+use Rattle.commit_log.proofs.Words.{common_steps, ◌≡◌, inl, ℕ, suc, ◌≤◌, List, [], ◌∷◌, get_or, set, slice_get, Some, sym, ◌∙◌, ap, arith, ◌≢◌, ⊎_elim, ◌<◌, ◌+◌, ◌*◌, ◌/◌, true, false, ◌++◌, length, subst, ◌↔◌, Bool, IsTrue, length-append, set-get_or, take-set-le, Ghosts, IsSameElsewhere, FollowsWrite, Settles, LeavesNoMore, LeavesOnly, IsSettled, ReadsBytes, of_none, of_one_more, KeyWrite, closed_gate, IsWriteSet, is_open, body_sectors, padded_body, record_digest, IsBeingMade, IsNextRecord, IsBeforeOrAfter, IsSameBefore, HoldsBoth, LeavesLog, LeavesStaged, StandsFor, current, IsLogImage, span}
 use Rattle.std.proofs.lemmas.Bool.{cases_lt}
-use Rattle.sector.specs.declared.device.Sectors.{Ghosts}
-use Rattle.sector.specs.SectorModel.{IsSameElsewhere, FollowsWrite, Settles, LeavesNoMore, LeavesOnly, IsSettled, ReadsBytes}
-use Rattle.sector.proofs.Crashes.{of_none, of_one_more}
-use Rattle.model.specs.Map.{KeyWrite}
-use Rattle.commit_log.specs.RecordFormat.{closed_gate, IsWriteSet, is_open, body_sectors, padded_body, record_digest}
-use Rattle.commit_log.specs.LogState.{IsBeingMade, IsNextRecord, IsBeforeOrAfter, IsSameBefore, HoldsBoth, LeavesLog, LeavesStaged, StandsFor}
-use Rattle.commit_log.specs.Format.{current}
-use Rattle.commit_log.specs.LogImage.{IsLogImage, span}
-use Rattle.commit_log.specs.Staging.{IsStaged}
-use Rattle.commit_log.specs.Opening.{IsOpened}
-use Rattle.commit_log.specs.declared.log.Log.{Log}
-use Rattle.commit_log.specs.declared.read.Found.{Found}
+use Rattle.commit_log.specs.{Staging.IsStaged, Opening.IsOpened, declared.log.Log.Log, declared.read.Found.Found}
 use Rattle.commit_log.proofs.Calls.{Leaves, Passes}
 use Rattle.commit_log.proofs.Records.{slice_get_there, same_log, staged-set, image_staged_gate, image_staged_open, image_staged_from, span-append, next_index-is, last_digest-push}
 

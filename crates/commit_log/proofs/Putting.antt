@@ -1,20 +1,9 @@
 -- The puts of a map's pairs, cut into write sets.
-use Rattle.std.proofs.lemmas.Grind.{common_steps, flat_map-append}
-use Rattle.std.proofs.Common.{◌≡◌, ℕ, zero, suc, ◌<◌, ◌≤◌, ◌+◌, ◌*◌, Bool, ◌&&◌, T, List, [], ◌∷◌, ◌++◌, length, take, drop, Some, All, min, refl, sym, ◌∙◌, ap, subst, arith, append_assoc, length-drop}
-use Rattle.std.proofs.lemmas.List.{append-nil, length-take, take_all, drop_all, take-append-drop}
-use Rattle.std.specs.List.{flat_map}
-use Rattle.std.specs.Cmp.Lexicographic.{slice_cmp, nat_list_cmp_total}
-use Rattle.std.specs.Ordering.{nat_cmp, is_lt, ordering_reverse}
+use Rattle.commit_log.proofs.Words.{common_steps, flat_map-append, ◌≡◌, ℕ, zero, suc, ◌<◌, ◌≤◌, ◌+◌, ◌*◌, Bool, ◌&&◌, T, List, [], ◌∷◌, ◌++◌, length, take, drop, Some, All, min, refl, sym, ◌∙◌, ap, subst, arith, append_assoc, length-drop, append-nil, length-take, take_all, drop_all, take-append-drop, flat_map, Greater, IsValue, Bytes, KeyMap, KeyWrite, IsMap, IsInBounds, after_writes, payload_size, current, IsWithinLimits, IsWriteSet, entry_bytes, puts, first_sets, set_count, write_sets_of}
+use Rattle.std.specs.{Cmp.Lexicographic.slice_cmp, Cmp.Lexicographic.nat_list_cmp_total, Ordering.nat_cmp, Ordering.is_lt, Ordering.ordering_reverse}
 use Rattle.std.specs.FinMap.Entries.{put, is_sorted, below_all}
-use Rattle.std.specs.declared.cmp.Ordering.TheVariants.{Greater}
 use Rattle.model.proofs.InOrder.{parts, less, below_right, sorted_take, sorted_drop}
-use Rattle.model.specs.Key.{IsValue}
-use Rattle.model.specs.Map.{Bytes, KeyMap, KeyWrite, IsMap, IsInBounds, after_writes}
-use Rattle.model.specs.Machine.{payload_size}
-use Rattle.commit_log.specs.Format.{current}
-use Rattle.commit_log.specs.RecordFormat.{IsWithinLimits, IsWriteSet, entry_bytes}
 use Rattle.commit_log.specs.Recovery.{map_after}
-use Rattle.commit_log.specs.Copying.{puts, first_sets, set_count, write_sets_of}
 use Rattle.commit_log.proofs.Encoding.{payload_size-push}
 
 -- one pair more

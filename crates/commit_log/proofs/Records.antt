@@ -1,17 +1,7 @@
 -- Images of records, and what a changed sector makes of them; the sectors of a copy, and the log that they are.
-use Rattle.std.proofs.lemmas.Grind.{common_steps}
-use Rattle.std.proofs.Common.{◌≡◌, ◌⊎◌, ⊎_elim, ℕ, zero, suc, ◌<◌, ◌≤◌, ◌+◌, ◌*◌, true, false, List, [], ◌∷◌, ◌++◌, length, take, drop, set, get_or, slice_get, Some, None, refl, sym, ◌∙◌, ap, arith, subst, ◌-◌, ◌/◌, unwrap_or, inl, inr, add-zero, append_assoc, length-append}
-use Rattle.std.proofs.lemmas.List.{take_at, drop_at, take-append-drop, take-take, drop-take, drop-drop, drop_more, take-set-le, drop-set-add, append-nil, get_or_append_left, get_or-append-add}
-use Rattle.std.proofs.lemmas.Bool.{cases_Bool, cases_lt}
-use Rattle.std.proofs.lemmas.Option.{slice_get-get_or, slice_get_within, get_or_from_slice_get}
-use Rattle.std.proofs.lemmas.Slice.Eq.{bytes_eq-Decides}
-use Rattle.model.specs.Map.{KeyWrite}
-use Rattle.commit_log.specs.Format.{current, head_sector}
-use Rattle.commit_log.specs.RecordFormat.{IsWriteSet, is_open, open_gate, closed_gate, first_digest, body_sectors, record_body, record_digest, padded_body, sectors_in}
-use Rattle.commit_log.specs.LogImage.{HoldsRecords, IsLogImage, span, last_digest, next_index}
+use Rattle.commit_log.proofs.Words.{common_steps, ◌≡◌, ◌⊎◌, ⊎_elim, ℕ, zero, suc, ◌<◌, ◌≤◌, ◌+◌, ◌*◌, true, false, List, [], ◌∷◌, ◌++◌, length, take, drop, set, get_or, slice_get, Some, None, refl, sym, ◌∙◌, ap, arith, subst, ◌-◌, ◌/◌, unwrap_or, inl, inr, add-zero, append_assoc, length-append, take_at, drop_at, take-append-drop, take-take, drop-take, drop-drop, drop_more, take-set-le, drop-set-add, append-nil, get_or_append_left, get_or-append-add, slice_get-get_or, slice_get_within, get_or_from_slice_get, KeyWrite, current, head_sector, IsWriteSet, is_open, open_gate, closed_gate, first_digest, body_sectors, record_body, record_digest, padded_body, sectors_in, HoldsRecords, IsLogImage, span, last_digest, next_index, LogFormat, log_sectors, ReadsFrom, IsCopyOrNoLog, zero_sector}
+use Rattle.std.proofs.{lemmas.Bool.cases_Bool, lemmas.Bool.cases_lt, lemmas.Slice.Eq.bytes_eq-Decides}
 use Rattle.commit_log.specs.Staging.{Staged, IsStaged}
-use Rattle.commit_log.specs.declared.formats.LogFormat.{LogFormat}
-use Rattle.commit_log.specs.Copying.{log_sectors, ReadsFrom, IsCopyOrNoLog, zero_sector}
 use Rattle.commit_log.proofs.Putting.{AreWriteSets}
 
 pub closed_gate_shut : is_open closed_gate ≡ false

@@ -1,23 +1,10 @@
 -- What is read of an image: records one after the other. And it is a log of one list of write sets at most, or damaged in one place.
-use Rattle.std.proofs.lemmas.Grind.{common_steps}
-use Rattle.std.proofs.Common.{◌≡◌, ℕ, ◌+◌, true, false, List, [], ◌∷◌, ◌++◌, length, drop, get_or, slice_get, Some, replicate, refl, sym, ◌∙◌, ap, subst, arith, append_assoc, length-append, ◌⊎◌, inl, inr, ◌≤◌, take, length-drop}
+use Rattle.commit_log.proofs.Words.{common_steps, ◌≡◌, ℕ, ◌+◌, true, false, List, [], ◌∷◌, ◌++◌, length, drop, get_or, slice_get, Some, replicate, refl, sym, ◌∙◌, ap, subst, arith, append_assoc, length-append, ◌⊎◌, inl, inr, ◌≤◌, take, length-drop, append-nil, drop-drop, take_all, same_lists, slice_get-get_or, get_or_from_slice_get, big_bytes, length-bytes_high_first, KeyMap, KeyWrite, after_writes, is_open, body_sectors, record_digest, first_digest, IsWriteSet, payload_bytes, record_body, padded_body, sectors_in, IsRecordAt, HoldsRecords, HoldsDamage, span, last_digest, next_index, IsLogImage, IsDamaged, HasHead, IsNoLog, LogFormat, ReadsAs, current, head_sector}
 use Rattle.std.proofs.lemmas.Bool.Decides.{nat_tests}
-use Rattle.std.proofs.lemmas.List.{append-nil, drop-drop, take_all, same_lists}
-use Rattle.std.proofs.lemmas.Option.{slice_get-get_or, get_or_from_slice_get}
-use Rattle.byteorder.specs.Endian.{big_bytes}
-use Rattle.byteorder.specs.Numbers.{length-bytes_high_first}
-use Rattle.model.specs.Map.{KeyMap, KeyWrite, after_writes}
-use Rattle.commit_log.specs.RecordFormat.{is_open, body_sectors, record_digest, first_digest, IsWriteSet, payload_bytes, record_body, padded_body, sectors_in}
-use Rattle.commit_log.specs.LogImage.{IsRecordAt, HoldsRecords, HoldsDamage, span, last_digest, next_index, IsLogImage, IsDamaged, HasHead, IsNoLog}
-use Rattle.commit_log.specs.Recovery.{map_after, map_after-push}
-use Rattle.commit_log.specs.LogFaults.{IsDeviceOrMemory}
+use Rattle.commit_log.specs.{Recovery.map_after, Recovery.map_after-push, LogFaults.IsDeviceOrMemory, declared.faults.LogFault.LogFault}
 use Rattle.commit_log.specs.Opening.{IsDamagedAt, IsReadFault, CanSettle, IsRefusal}
-use Rattle.commit_log.specs.declared.faults.LogFault.{LogFault}
-use Rattle.commit_log.specs.declared.formats.LogFormat.{LogFormat}
-use Rattle.commit_log.specs.Reading.{ReadsAs}
 use Rattle.commit_log.specs.declared.faults.LogFault.TheVariants.{NotALog, Damaged, OldFormat}
 use Rattle.commit_log.specs.declared.formats.LogFormat.TheVariants.{One}
-use Rattle.commit_log.specs.Format.{current, head_sector}
 use Rattle.commit_log.proofs.Records.{drop_here, span-append, next_index-is, last_digest-push, slice_get_there}
 use Rattle.commit_log.proofs.Encoding.{value_small, padded_split, zeros_of, length-padded_body, length-payload_le, body_sectors_is}
 use Rattle.commit_log.proofs.Parsing.{length_read, same_bytes, same_parts, length-digest, reading}

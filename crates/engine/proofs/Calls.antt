@@ -1,38 +1,10 @@
 -- What each kind of call does to the states that an engine stands for.
-use Rattle.std.proofs.lemmas.Grind.{common_steps}
-use Rattle.std.proofs.Common.{◌≡◌, ◌<◌, ◌≤◌, ◌↔◌, ℕ, Bool, true, false, T, List, [], ◌∷◌, ◌++◌, Option, Some, None, refl, sym, ap, subst, ◌∙◌, length, arith, ◌||◌}
-use Rattle.std.specs.Prelude.{nat_le, not, ◌==◌, IsTrue, IsFalse, is_some}
-use Rattle.std.specs.Ordering.{nat_cmp}
-use Rattle.std.specs.Map.{set_value}
-use Rattle.std.specs.BTreeMap.{insert_entry, is_at}
+use Rattle.engine.proofs.Words.{common_steps, ◌≡◌, ◌<◌, ◌≤◌, ◌↔◌, ℕ, Bool, true, false, T, List, [], ◌∷◌, ◌++◌, Option, Some, None, refl, sym, ap, subst, ◌∙◌, length, arith, ◌||◌, nat_le, not, ◌==◌, IsTrue, IsFalse, is_some, nat_cmp, set_value, insert_entry, is_at, lt-ltb, le-ltb, or_left, iff_false, false_from_ne_true, nat_tests, Refusal, AlreadyOpen, StoreStopped, FullTransactions, KeyMap, IsMap, Operation, Response, Begin, Abort, Done, Refused, copy_of, copy_after, respond, answer, map_at, State, Running, last, snapshot, running_of, with_running, leave, step_outside, own_step, step_inside, step, IsReached, map_seen, View, new_view, HasMade, WhereMade, WhereSeen, is_refused, Ghosts, is_stopped, HistoryStandsFor, Engine, StandsFor, IsRunning, AreRunning, entry_of, IsSameStore, Leaves, StandsForSame, IsNotRefused, Leads}
 use Rattle.std.specs.FinMap.Entries.{put, where_key, is_sorted, is_sorted-put, is_sorted-where_key}
-use Rattle.std.proofs.lemmas.Cmp.{nat_cmp_total}
-use Rattle.std.proofs.lemmas.Bool.{lt-ltb, le-ltb, or_left, iff_false, false_from_ne_true}
-use Rattle.std.proofs.lemmas.Bool.Decides.{nat_tests}
-use Rattle.std.proofs.lemmas.Map.Steps.{set_value_same}
-use Rattle.std.proofs.lemmas.Slice.Zip.{AllZip-long}
-use Rattle.model.specs.declared.refusals.Refusal.{Refusal}
-use Rattle.model.specs.declared.refusals.Refusal.TheVariants.{AlreadyOpen, StoreStopped, FullTransactions}
-use Rattle.model.specs.Map.{KeyMap, IsMap}
-use Rattle.model.specs.Operations.{Operation, Response}
-use Rattle.model.specs.Operations.Operation.{Begin, Abort}
-use Rattle.model.specs.Operations.Response.{Done, Refused}
-use Rattle.model.specs.PrivateCopy.{copy_of, copy_after, respond, answer}
-use Rattle.model.specs.History.{map_at}
-use Rattle.model.specs.Machine.{State, Running, last, snapshot, running_of, with_running, leave, step_outside, own_step, step_inside, step, IsReached}
+use Rattle.std.proofs.{lemmas.Cmp.nat_cmp_total, lemmas.Map.Steps.set_value_same, lemmas.Slice.Zip.AllZip-long}
 use Rattle.model.specs.Machine.Input.{Leaves as Quits}
 use Rattle.model.proofs.Steps.{copy_after-push}
-use Rattle.versions.specs.Meaning.{map_seen}
 use Rattle.versions.specs.Laws.{HoldingLaw}
-use Rattle.snapshot.specs.View.{View, new_view}
-use Rattle.snapshot.specs.Made.{HasMade, WhereMade, WhereSeen, is_refused}
-use Rattle.sector.specs.declared.device.Sectors.{Ghosts}
-use Rattle.commit_log.specs.LogState.{is_stopped}
-use Rattle.engine.specs.HistoryValue.{HistoryStandsFor}
-use Rattle.engine.specs.declared.engine.Engine.{Engine}
-use Rattle.engine.specs.StandsFor.{StandsFor, IsRunning, AreRunning}
-use Rattle.engine.specs.Changes.{entry_of, IsSameStore, Leaves}
-use Rattle.engine.specs.Meaning.{StandsForSame, IsNotRefused, Leads}
 use Rattle.engine.proofs.Sessions.{IsFound, beside_none, beside_some, beside_insert, beside_remove, beside_set, beside_weaker}
 use Rattle.engine.proofs.Steps.{step_is, reached_by, reached_next, reached_map}
 

@@ -1,43 +1,16 @@
 -- What a commit does to the states that an engine stands for.
-use Rattle.std.proofs.lemmas.Grind.{common_steps}
-use Rattle.std.proofs.Common.{◌≡◌, ◌⊎◌, ◌≤◌, ◌+◌, ◌-◌, ◌^◌, ℕ, suc, Bool, true, false, List, [], ◌∷◌, ◌++◌, Option, Some, None, refl, sym, ap, subst, ◌∙◌, length, length-append, arith, ⊎_elim, inl}
-use Rattle.std.specs.Prelude.{slice_index_or, Err}
-use Rattle.std.proofs.lemmas.Bool.{lt-ltb, le-ltb, eq-eqb, ne_eqb, or_left, or_right, both_ways}
+use Rattle.engine.proofs.Words.{common_steps, ◌≡◌, ◌⊎◌, ◌≤◌, ◌+◌, ◌-◌, ◌^◌, ℕ, suc, Bool, true, false, List, [], ◌∷◌, ◌++◌, Option, Some, None, refl, sym, ap, subst, ◌∙◌, length, length-append, arith, ⊎_elim, inl, slice_index_or, lt-ltb, le-ltb, eq-eqb, ne_eqb, or_left, or_right, both_ways, Refusal, StoreStopped, FullNumbers, FullLog, StoreFault, Overwritten, Bytes, KeyMap, KeyWrite, after_writes, Operation, Response, Commit, Number, Refused, Record, State, Running, last, snapshot, leave, record_to_commit, refuse, join_history, body_sectors, store, store_unless, commit, step, View, HasMade, is_refused, writes, Facts, CommittedValue, IsInReach, Ghosts, Log, is_stopped, used_sectors, sector_count, HistoryValue, IsSameHistory, Joins, Engine, StandsFor, IsRunning, entry_of, Leaves, IsWritten, HasLogRoom, IsLogged, IsLogStopped, sectors_taken, StandsForSame, Leads, IsNotRefused, IsReadOnly, IsLeftByCommit, has_risen, response_to, IsStored, WhereStored, SurvivesAppend, LeavesInDoubt, HoldsMap, committed_map}
+use Rattle.std.specs.Prelude.{Err}
 use Rattle.std.proofs.lemmas.Option.{get_or_from_slice_get}
-use Rattle.model.specs.declared.refusals.Refusal.{Refusal}
-use Rattle.model.specs.declared.refusals.Refusal.TheVariants.{StoreStopped, FullNumbers, FullLog, StoreFault, Overwritten}
-use Rattle.model.specs.Map.{Bytes, KeyMap, KeyWrite, after_writes}
-use Rattle.model.specs.Operations.{Operation, Response}
-use Rattle.model.specs.Operations.Operation.{Commit}
-use Rattle.model.specs.Operations.Response.{Number, Refused}
-use Rattle.model.specs.History.{Record}
 use Rattle.model.specs.Verdict.{verdict}
-use Rattle.model.specs.Machine.{State, Running, last, snapshot, leave, record_to_commit, refuse, join_history, body_sectors, store, store_unless, commit, step}
-use Rattle.model.proofs.Lookups.{some_same}
-use Rattle.model.proofs.Machines.{map_at-append}
+use Rattle.model.proofs.{Lookups.some_same, Machines.map_at-append}
 use Rattle.versions.specs.StandsFor.{StandsFor as VersionsStandFor}
-use Rattle.snapshot.specs.View.{View}
-use Rattle.snapshot.specs.Made.{HasMade, is_refused}
-use Rattle.model.specs.PrivateCopy.{writes}
-use Rattle.pivot_check.specs.Kept.{Facts, CommittedValue, IsInReach}
 use Rattle.pivot_check.specs.StandsFor.{IsRecordOf, IsVerdict, IsClear, StandsFor as CommittedStandsFor}
 use Rattle.pivot_check.specs.declared.Verdict.TheVariants as verdicts
-use Rattle.sector.specs.declared.device.Sectors.{Ghosts}
-use Rattle.sector.specs.Failures.{Rose, Stayed}
-use Rattle.sector.specs.SectorModel.{LeavesOnly}
-use Rattle.commit_log.specs.declared.log.Log.{Log}
-use Rattle.commit_log.specs.LogState.{is_stopped, used_sectors, sector_count}
-use Rattle.engine.specs.HistoryValue.{HistoryValue, IsSameHistory, Joins}
-use Rattle.engine.specs.declared.engine.Engine.{Engine}
-use Rattle.engine.specs.StandsFor.{StandsFor, IsRunning}
-use Rattle.engine.specs.Changes.{entry_of, Leaves, IsWritten, HasLogRoom, IsLogged, IsLogStopped, sectors_taken}
-use Rattle.engine.specs.declared.faults.EngineFault.{EngineFault}
-use Rattle.engine.specs.declared.faults.EngineFault.TheVariants.{Refused as Refusing}
-use Rattle.engine.specs.Meaning.{StandsForSame, Leads, IsNotRefused, IsReadOnly, IsLeftByCommit, has_risen, response_to}
-use Rattle.engine.specs.Recovery.{IsStored, WhereStored, SurvivesAppend, LeavesInDoubt, HoldsMap, committed_map}
-use Rattle.engine.proofs.Sessions.{IsFound, beside_weaker}
+use Rattle.sector.specs.{Failures.Rose, Failures.Stayed, SectorModel.LeavesOnly}
+use Rattle.engine.specs.{declared.faults.EngineFault.EngineFault, declared.faults.EngineFault.TheVariants.Refused as Refusing}
+use Rattle.engine.proofs.{Sessions.IsFound, Sessions.beside_weaker, Calls.Held, Calls.found_open, Calls.leave_call}
 use Rattle.engine.proofs.Steps.{step_is, reached_by, store_full, store_fault, store_joined, map_at_next}
-use Rattle.engine.proofs.Calls.{Held, found_open, leave_call}
 use Rattle.engine.specs.Judgements.{IsRefused, IsToJudge, IsToCommit}
 
 -- ---- the device's failures

@@ -3,3 +3,4 @@ pub mod Steps
 pub mod Calls
 pub mod Requests
 pub mod Committing
+pub mod Words

@@ -1,31 +1,11 @@
 -- What a request of an open transaction is answered, and what it makes of the transaction.
-use Rattle.std.proofs.lemmas.Grind.{common_steps}
-use Rattle.std.proofs.Common.{arith, ◌≡◌, ℕ, Some, None, Err, refl, sym, ap, subst, ◌∙◌}
-use Rattle.std.specs.Prelude.{IsTrue}
+use Rattle.engine.proofs.Words.{common_steps, arith, ◌≡◌, ℕ, Some, None, Err, refl, sym, ap, subst, ◌∙◌, IsTrue, Refusal, Bytes, KeyMap, Operation, Response, Get, Refused, PrivateCopy, respond, copy_of, copy_after, answer, State, Running, running_of, snapshot, map_seen, View, after_get, is_known_get, WhereSeen, MakesOneMoreOver, IsFault, IsKnownRange, range_read, Ghosts, Engine, entry_of, StandsFor, WhereOpen, response_to, response_to_read, copy_in, IsKnownKey}
 use Rattle.model.specs.declared.ranges.RangeRef.{RangeRef}
-use Rattle.model.specs.declared.refusals.Refusal.{Refusal}
 use Rattle.model.specs.declared.refusals.Refusal.TheVariants as refusals
-use Rattle.model.specs.Map.{Bytes, KeyMap}
-use Rattle.model.specs.Operations.{Operation, Response}
-use Rattle.model.specs.Operations.Operation.{Get}
-use Rattle.model.specs.Operations.Response.{Refused}
-use Rattle.model.specs.PrivateCopy.{PrivateCopy, respond, copy_of, copy_after, answer}
-use Rattle.model.specs.Machine.{State, Running, running_of, snapshot}
 use Rattle.versions.specs.Chains.{ChainsValue}
-use Rattle.versions.specs.Meaning.{map_seen}
-use Rattle.snapshot.specs.declared.faults.SnapshotFault.{SnapshotFault}
+use Rattle.snapshot.specs.{declared.faults.SnapshotFault.SnapshotFault, Merged.after_range}
 use Rattle.snapshot.specs.declared.faults.SnapshotFault.TheVariants.{FullWrites, FullMarks, Memory}
-use Rattle.snapshot.specs.View.{View, after_get, is_known_get}
-use Rattle.snapshot.specs.Made.{WhereSeen, MakesOneMoreOver, IsFault, IsKnownRange, range_read}
-use Rattle.snapshot.specs.Merged.{after_range}
-use Rattle.sector.specs.declared.device.Sectors.{Ghosts}
-use Rattle.engine.specs.declared.engine.Engine.{Engine}
-use Rattle.engine.specs.Changes.{entry_of}
-use Rattle.engine.specs.declared.faults.EngineFault.{EngineFault}
-use Rattle.engine.specs.declared.faults.ReadFault.{ReadFault}
-use Rattle.engine.specs.Faults.{of_read, of_write}
-use Rattle.engine.specs.StandsFor.{StandsFor}
-use Rattle.engine.specs.Meaning.{WhereOpen, response_to, response_to_read, copy_in, IsKnownKey}
+use Rattle.engine.specs.{declared.faults.EngineFault.EngineFault, declared.faults.ReadFault.ReadFault, Faults.of_read, Faults.of_write}
 use Rattle.snapshot.proofs.Copies.{any_keys}
 use Rattle.model.proofs.Lookups.{some_same}
 use Rattle.engine.proofs.Calls.{Answered, Held, found_open, not_open, made_same, map_is}

@@ -1,14 +1,7 @@
 -- Open transactions by session: the engine's beside the machine's.
-use Rattle.std.proofs.lemmas.Grind.{common_steps}
-use Rattle.std.proofs.Common.{◌≡◌, ℕ, T, List, [], ◌∷◌, Some, None, refl, arith, inl, inr}
-use Rattle.std.specs.Prelude.{not, ◌==◌}
+use Rattle.engine.proofs.Words.{common_steps, ◌≡◌, ℕ, T, List, [], ◌∷◌, Some, None, refl, arith, inl, inr, not, ◌==◌, is_eq, nat_cmp, lookup, remove_entry, set_value, insert_entry, is_at, cases_Bool, nat_tests}
 use Rattle.std.specs.List.{AllZip}
-use Rattle.std.specs.Ordering.{is_eq, nat_cmp}
-use Rattle.std.specs.Map.{lookup, remove_entry, set_value}
-use Rattle.std.specs.BTreeMap.{insert_entry, is_at}
 use Rattle.std.specs.FinMap.Entries.{find, put, where_key, below_all, is_sorted}
-use Rattle.std.proofs.lemmas.Bool.{cases_Bool}
-use Rattle.std.proofs.lemmas.Bool.Decides.{nat_tests}
 use Rattle.std.proofs.lemmas.Cmp.{nat_cmp_total}
 use Rattle.model.proofs.InOrder.{parts, less, find_none, below_later, below_equal}
 

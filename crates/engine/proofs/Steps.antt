@@ -1,20 +1,8 @@
 -- The machine's steps, case by case.
-use Rattle.std.proofs.lemmas.Grind.{common_steps}
-use Rattle.std.proofs.Common.{◌≡◌, ◌<◌, ◌≤◌, ◌+◌, ℕ, suc, Bool, true, false, List, [], ◌∷◌, ◌++◌, Option, refl, sym, ap, subst, ◌∙◌, length, length-append, arith}
-use Rattle.std.proofs.lemmas.Bool.{le-leb, lt-leb}
-use Rattle.std.proofs.lemmas.Bool.Decides.{nat_tests}
-use Rattle.model.specs.declared.refusals.Refusal.TheVariants.{FullLog, StoreFault}
-use Rattle.model.specs.Map.{KeyMap, KeyWrite, IsMap, after_writes}
-use Rattle.model.specs.Operations.{Operation, Response}
-use Rattle.model.specs.Operations.Response.{Refused}
-use Rattle.model.specs.PrivateCopy.{PrivateCopy, respond}
-use Rattle.model.specs.History.{Record, map_at, IsNumberedFrom}
-use Rattle.model.specs.Machine.{State, Running, Input, opened, running_of, leave, refuse, join_history, body_sectors, store, step_of, step, next, state_after, IsReached}
+use Rattle.engine.proofs.Words.{common_steps, ◌≡◌, ◌<◌, ◌≤◌, ◌+◌, ℕ, suc, Bool, true, false, List, [], ◌∷◌, ◌++◌, Option, refl, sym, ap, subst, ◌∙◌, length, length-append, arith, le-leb, lt-leb, nat_tests, FullLog, StoreFault, KeyMap, KeyWrite, IsMap, after_writes, Operation, Response, Refused, PrivateCopy, respond, Record, map_at, IsNumberedFrom, State, Running, Input, opened, running_of, leave, refuse, join_history, body_sectors, store, step_of, step, next, state_after, IsReached, is_refused, sectors_taken, HasLogRoom}
 use Rattle.model.specs.Machine.Input.{Asks}
 use Rattle.model.proofs.Machines.{machine_law}
 use Rattle.versions.proofs.Histories.{map_at-push, maps-history}
-use Rattle.snapshot.specs.Made.{is_refused}
-use Rattle.engine.specs.Changes.{sectors_taken, HasLogRoom}
 
 pub step_is : (m : State) (s : ℕ) (q : Operation) (failed : Bool) (o : Option Running) → running_of m s ≡ o → step m s q failed ≡ step_of o m s q failed
 unfolding step

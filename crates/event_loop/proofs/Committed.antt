@@ -1,29 +1,17 @@
 -- Each number that a session was answered is that of a transaction in the machine's history.
-use Rattle.std.proofs.Common.{◌≡◌, ◌+◌, ℕ, Bool, List, [], ◌∷◌, ◌++◌, map, Option, Some, None, refl, sym, ap, subst, ◌∙◌, append_assoc}
+use Rattle.event_loop.proofs.Words.{◌≡◌, ◌+◌, ℕ, Bool, List, [], ◌∷◌, ◌++◌, map, Option, Some, None, refl, sym, ap, subst, ◌∙◌, append_assoc, All, AllByRecursion, Contains, list_any, values_of, append-nil, map-append, All-nil, All-weaker, Contains-append_left, Contains-push, HubState, HubEvent, Choice, Effect, Front, SessionState, SessionStream, Joins, Receives, Serves, Sends, Whole, More, Bad, asks, depart, hub_step, is_open, may_serve, new_stream, receive, room, run, send, serve, serve_front, serve_session, stream_of, run_then}
 use Rattle.std.specs.Prelude.{◌==◌, ◌^◌, ◌-◌, IfSome, nat_le, nat_lt, length, take, not}
-use Rattle.std.specs.Ordering.{nat_cmp}
-use Rattle.std.specs.List.{All, AllByRecursion, Contains, list_any}
-use Rattle.std.specs.Map.{values_of}
-use Rattle.std.specs.BTreeMap.{is_at}
-use Rattle.std.proofs.lemmas.List.{append-nil, map-append}
-use Rattle.std.proofs.lemmas.List.Elements.{All-nil, All-weaker, Contains-append_left, Contains-push}
+use Rattle.std.specs.{Ordering.nat_cmp, BTreeMap.is_at}
 use Rattle.std.proofs.lemmas.Map.Views.{All-map-remove_entry, All-values-insert_entry, All-values-set_value, IfSome-lookup_from_All}
-use Rattle.model.specs.declared.refusals.Refusal.{Refusal}
+use Rattle.model.specs.{declared.refusals.Refusal.Refusal, History.Record, Operations.Operation, Operations.Response, PrivateCopy.Mark.OfKey, Verdict.verdict}
 use Rattle.model.specs.Map.{Bytes, KeyWrite, is_empty_range, pairs_in_range, value_at}
-use Rattle.model.specs.History.{Record}
-use Rattle.model.specs.Operations.{Operation, Response}
 use Rattle.model.specs.Operations.Operation.{Begin, Get, Set, Del, Range, Commit, Abort}
 use Rattle.model.specs.Operations.Response.{Number, Value, Pairs}
 use Rattle.model.specs.PrivateCopy.{Mark, PrivateCopy, after_put, after_read, copy_after, copy_of, is_same_mark, is_written, mark_asked, respond}
-use Rattle.model.specs.PrivateCopy.Mark.{OfKey}
-use Rattle.model.specs.Verdict.{verdict}
 use Rattle.model.specs.Machine.{State, Running, body_sectors, commit, join_history, last, record_to_commit, running_of, snapshot, step, step_of, store, store_unless}
 use Rattle.model.proofs.Elements.{all-append, all-each}
-use Rattle.sessions.specs.declared.events.Outcome.{Outcome}
-use Rattle.sessions.specs.SessionStreams.{HubState, HubEvent, Choice, Effect, Front, SessionState, SessionStream, Joins, Receives, Serves, Sends, Leaves, Whole, More, Bad, asks, depart, hub_step, is_open, may_serve, new_stream, receive, room, run, send, serve, serve_front, serve_session, stream_of}
-use Rattle.sessions.proofs.LifeLaws.{CommitsBy, commits_in_event}
-use Rattle.sessions.proofs.LifeLaws.CommitsBy.{Fails, NoMore, OneMore}
-use Rattle.stream_driver.proofs.Carry.{run_then}
+use Rattle.sessions.specs.{declared.events.Outcome.Outcome, SessionStreams.Leaves}
+use Rattle.sessions.proofs.{LifeLaws.CommitsBy, LifeLaws.commits_in_event, LifeLaws.CommitsBy.Fails, LifeLaws.CommitsBy.NoMore, LifeLaws.CommitsBy.OneMore}
 use Rattle.event_loop.specs.Departures.{IsCommitted}
 use Rattle.event_loop.proofs.Present.{by_if, join_step}
 

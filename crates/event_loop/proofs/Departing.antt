@@ -1,41 +1,16 @@
 -- What left over the connections stays told before as the loop goes on, and is kept, also where a turn takes a connection out or closes it.
-use Rattle.std.proofs.Common.{◌≡◌, ◌≢◌, ◌⊎◌, inl, inr, ℕ, ◌+◌, ◌-◌, ◌||◌, Bool, true, false, List, [], ◌∷◌, ◌++◌, Option, Some, None, length, append_assoc, drop, refl, sym, ap, subst, ◌∙◌, arith}
-use Rattle.std.proofs.lemmas.Bool.{cases_eq}
-use Rattle.std.proofs.lemmas.List.{append-nil}
-use Rattle.std.proofs.lemmas.List.Elements.{All-drop, All-from_recursion, recursion_from_All}
+use Rattle.event_loop.proofs.Words.{◌≡◌, ◌≢◌, ◌⊎◌, inl, inr, ℕ, ◌+◌, ◌-◌, ◌||◌, Bool, true, false, List, [], ◌∷◌, ◌++◌, Option, Some, None, length, append_assoc, drop, refl, sym, ap, subst, ◌∙◌, arith, cases_eq, append-nil, All-drop, All-from_recursion, recursion_from_All, AllByRecursion, items, IsLawful, IsSessionStream, IsSound, NoneRuns, Ran, Ready, Gone, run_then, some_same, at_point, point_of, EndAll, EndEach, LeavesAs, LeavesIf, NoneEnded, AllTurned, AreTurned, DropsIf, Leaves, Lingerers, lingers_in, IsNewSocket, SocketsTell, session_of, traffic_of, ConnectionsSpeak, HaveBytes, Nobody, OneMore, LINGERER, EventLoop, Accepted, DrivesReady, IsTurn, KeepsWhatLeaves, accepts_now, is_told_of, Instant, Event, Ghosts, Hub, HubState, HubEvent, Choice, SessionStream, replies_text, run, stream_of, StandsFor, device, BufferedStream, Entry, held_in, traffic_through, DrivenAll, EndsDrive, HaveSessions, is_over, Adds, Point, StandsAt, Departure, DepartAt, IsBeginning, Traffic, Socket, AdmitsEach, ComeEach, EndsTurn, joins_of, slot_at}
 use Rattle.std.proofs.Math.Logic.{∥∥₁_map}
-use Rattle.std.specs.List.{AllByRecursion}
-use Rattle.mio.specs.Events.{items}
 use Rattle.model.proofs.Elements.{all-append, all-each}
-use Rattle.sessions.specs.Laws.{IsLawful, IsSessionStream, IsSound, NoneRuns, Ran}
-use Rattle.sessions.specs.Life.{Holds, LosesNothing, MayFind}
-use Rattle.sessions.specs.Lives.{IsOpened, IsServed, Served}
+use Rattle.sessions.specs.{Life.Holds, Life.LosesNothing, Life.MayFind, Lives.IsOpened, Lives.IsServed, Lives.Served}
 use Rattle.sessions.proofs.LivesLaws.{lose_nothing}
 use Rattle.sessions.proofs.Runs.{CountsNow, OnlyNow, no_event, ran_parts, ran_stands, ran_then}
-use Rattle.stream_driver.specs.declared.entries.EntryState.TheVariants.{Ready, Gone}
 use Rattle.stream_driver.specs.Sends.{AreToldBefore, HasSent, HaveSent, IsAnswered}
-use Rattle.stream_driver.proofs.Carry.{run_then}
-use Rattle.model.proofs.Lookups.{some_same}
 use Rattle.stream_driver.proofs.Sends.{all_before, all_since, answered_since, answered_then, begins_through}
-use Rattle.stream_driver.proofs.States.{at_point, point_of}
-use Rattle.event_loop.specs.declared.lingering.Dropped.{Dropped}
-use Rattle.event_loop.specs.declared.lingering.Lingerer.{Lingerer}
-use Rattle.event_loop.specs.declared.lingering.TheConstants.{LINGERING_MAX}
+use Rattle.event_loop.specs.{declared.lingering.Dropped.Dropped, declared.lingering.Lingerer.Lingerer, declared.lingering.TheConstants.LINGERING_MAX}
 use Rattle.event_loop.specs.Departures.{EntriesTell, HoldsAtEnds, IsCommitted, IsKept, IsServing, IsTold, KeepsWhatLeft, LingerersTell, Serving, Tells, first_state, present_state, AreKept}
-use Rattle.event_loop.specs.Leavings.{EndAll, EndEach, LeavesAs, LeavesIf}
-use Rattle.event_loop.specs.Leavings.EndEach.{NoneEnded, OneMore as OneEnded}
-use Rattle.event_loop.specs.Lingerings.{AllTurned, AreTurned, DropsIf, Leaves, Lingerers, lingers_in}
-use Rattle.event_loop.specs.Sockets.{IsNewSocket, SocketsTell, session_of, traffic_of}
-use Rattle.event_loop.specs.TableBytes.{ConnectionsSpeak, HaveBytes}
-use Rattle.event_loop.specs.Tables.AdmitsEach.{Nobody, OneMore}
-use Rattle.event_loop.specs.declared.connections.TheConstants.{LINGERER}
-use Rattle.event_loop.specs.declared.server.EventLoop.{EventLoop}
-use Rattle.event_loop.specs.Turns.{Accepted, DrivesReady, IsTurn, KeepsWhatLeaves, accepts_now, is_told_of}
-use Rattle.event_loop.proofs.Words.{Instant, Event, Ghosts, Hub, HubState, HubEvent, Choice, SessionStream, replies_text, run, stream_of, StandsFor, device}
-use Rattle.event_loop.proofs.Words.{BufferedStream, Entry, held_in, traffic_through, DrivenAll, EndsDrive, HaveSessions, is_over, Adds, Point, StandsAt, Departure, DepartAt, IsBeginning, Traffic, Socket, AdmitsEach, ComeEach, EndsTurn, joins_of, slot_at}
-use Rattle.event_loop.proofs.Tables.{TableStands}
-use Rattle.event_loop.proofs.Entries.{no_entry, polled_sessions}
-use Rattle.event_loop.proofs.Polled.{each_rest, was_driven, was_polled}
+use Rattle.event_loop.specs.Leavings.EndEach.{OneMore as OneEnded}
+use Rattle.event_loop.proofs.{Tables.TableStands, Entries.no_entry, Entries.polled_sessions, Polled.each_rest, Polled.was_driven, Polled.was_polled}
 use Rattle.event_loop.proofs.TableBytes.{driven_was, drives_bytes, finished, polled_bytes}
 use Rattle.event_loop.proofs.Committed.{answered_committed}
 use Rattle.event_loop.proofs.WholeTurns.{all_found, each_bytes, new_begins, they_speak}

@@ -1,22 +1,8 @@
 -- Each session that is present has an entry that isn't gone.
 use denote.Struct.Props.{props}
-use Rattle.std.proofs.Common.{◌≡◌, ◌≢◌, inl, inr, ℕ, zero, suc, ◌<◌, List, [], ◌∷◌, Option, Some, None, refl, sym, ap, subst, ◌∙◌}
-use Rattle.std.proofs.lemmas.Bool.{cases_eq}
-use Rattle.std.specs.Map.{lookup}
-use Rattle.sessions.specs.declared.events.Status.TheVariants.{Absent}
-use Rattle.stream_driver.specs.declared.answers.Progress.{Progress}
-use Rattle.stream_driver.specs.declared.answers.Progress.TheVariants.{Gone}
-use Rattle.stream_driver.specs.declared.entries.EntryState.TheVariants.{Idle, Ready, Gone as EntryGone}
+use Rattle.event_loop.proofs.Words.{◌≡◌, ◌≢◌, inl, inr, ℕ, zero, suc, ◌<◌, List, [], ◌∷◌, Option, Some, None, refl, sym, ap, subst, ◌∙◌, cases_eq, lookup, Absent, Idle, Ready, Gone as EntryGone, status_seen, test, some_same, ends_other, seen_after, AreBelow, Event, Ghosts, Hub, IsReachedHub, Continued, Leaves, status_in, BufferedStream, Entry, EntryState, DrivenAll, DrivenIn, DrivenSlot, DrivenOnce, HaveSessions, state_after, Point, Leads, IsPresent, Stands, status_at, Traffic, untouched, EndsTurn, HasNobody, HaveEntries, IsWithoutEntry, after_poll, slot_at, Slots}
+use Rattle.stream_driver.specs.{declared.answers.Progress.Progress, declared.answers.Progress.TheVariants.Gone, Drives.EndsAs}
 use Rattle.sessions.specs.StandsFor.{status_or_absent}
-use Rattle.sessions.proofs.EventSteps.{status_seen}
-use Rattle.stream_driver.specs.Drives.{EndsAs}
-use Rattle.stream_driver.proofs.Events.{test}
-use Rattle.model.proofs.Lookups.{some_same}
-use Rattle.stream_driver.proofs.OneEntry.{ends_other}
-use Rattle.stream_driver.proofs.States.{seen_after}
-use Rattle.event_loop.specs.Numbers.{AreBelow}
-use Rattle.event_loop.proofs.Words.{Event, Ghosts, Hub, IsReachedHub, Continued, Leaves, status_in}
-use Rattle.event_loop.proofs.Words.{BufferedStream, Entry, EntryState, DrivenAll, DrivenIn, DrivenSlot, DrivenOnce, HaveSessions, state_after, Point, Leads, IsPresent, Stands, status_at, Traffic, untouched, EndsTurn, HasNobody, HaveEntries, IsWithoutEntry, after_poll, slot_at, Slots}
 use Rattle.event_loop.proofs.Polled.{gone_as, gone_before, then_polled, was_driven, was_polled}
 use Rattle.event_loop.proofs.Present.{reached-run, absent_then}
 

@@ -1,19 +1,8 @@
 -- The parts of a turn make it, and those of its wait.
-use Rattle.std.proofs.Common.{◌≡◌, Bool, true, false, List, Option, Result, Ok, Err, refl, sym, subst}
-use Rattle.std.specs.declared.io.Error.{Error}
-use Rattle.std.specs.declared.time.Duration.{Duration}
-use Rattle.mio.specs.Events.{items}
-use Rattle.event_loop.specs.declared.connections.Backlog.{Backlog}
-use Rattle.event_loop.specs.declared.connections.Backlog.TheVariants.{Empty}
-use Rattle.event_loop.specs.declared.connections.TheConstants.{LINGERER}
-use Rattle.event_loop.specs.declared.polling.Poller.{Poller}
-use Rattle.event_loop.specs.declared.server.EventLoop.{EventLoop}
-use Rattle.event_loop.specs.Leavings.{LingerOn}
-use Rattle.event_loop.specs.Lingerings.{Lingerers, lingers_in, unless_failed}
+use Rattle.event_loop.proofs.Words.{◌≡◌, Bool, true, false, List, Option, Result, Ok, Err, refl, sym, subst, items, LINGERER, EventLoop, LingerOn, Lingerers, lingers_in, unless_failed, Accepted, DrivesReady, IsGivenBack, IsTurn, Waits, accepted_joins, accepts_now, is_told_of, turn_waits, Instant, Event, Ghosts, device, traffic_through, DrivenAll, Adds, Leads, Point, Traffic, Socket}
+use Rattle.std.specs.{declared.io.Error.Error, declared.time.Duration.Duration}
+use Rattle.event_loop.specs.{declared.connections.Backlog.Backlog, declared.connections.Backlog.TheVariants.Empty, declared.polling.Poller.Poller, Waits.nanos_of}
 use Rattle.event_loop.specs.Polls.{Looked, NothingRead, after_wait, polls_of}
-use Rattle.event_loop.specs.Turns.{Accepted, DrivesReady, IsGivenBack, IsTurn, Waits, accepted_joins, accepts_now, is_told_of, turn_waits}
-use Rattle.event_loop.specs.Waits.{nanos_of}
-use Rattle.event_loop.proofs.Words.{Instant, Event, Ghosts, device, traffic_through, DrivenAll, Adds, Leads, Point, Traffic, Socket}
 
 -- where a turn doesn't accept, none of those that linger is closed
 pub none_closed : (backlog : Backlog) (events : List Event) (all : Lingerers) → accepts_now backlog events ≡ false → all ≡ unless_failed backlog all

@@ -1,17 +1,8 @@
 -- What a poll and the end of a turn make of a slot, and what becomes of its connection.
-use Rattle.std.proofs.Common.{◌≡◌, ◌≢◌, inl, inr, ℕ, ◌<◌, ◌≤◌, ◌==◌, ◌||◌, Bool, true, false, cond, List, [], ◌∷◌, ◌++◌, map, set, Option, Some, None, option_map, refl, sym, ap, subst, ◌∙◌, arith}
-use Rattle.std.proofs.lemmas.Bool.{and_parts, cases_eq, cases_lt, eqb-false, eqb-true}
-use Rattle.std.proofs.lemmas.List.{get_or-set_same, get_or-set_other}
+use Rattle.event_loop.proofs.Words.{◌≡◌, ◌≢◌, inl, inr, ℕ, ◌<◌, ◌≤◌, ◌==◌, ◌||◌, Bool, true, false, cond, List, [], ◌∷◌, ◌++◌, map, set, Option, Some, None, option_map, refl, sym, ap, subst, ◌∙◌, arith, and_parts, cases_eq, cases_lt, eqb-false, eqb-true, get_or-set_same, get_or-set_other, Idle, Ready, Gone, some_same, below, EndAll, EndEach, EndsAt, LeavesAs, LeavesIf, NoneEnded, Lingerers, SocketsTell, traffic_of, Instant, Event, BufferedStream, Entry, EntryState, is_settled, traffic_through, EndsDrive, is_gone, is_over, Traffic, Socket, EndsTurn, after_event, after_poll, readied, slot_at, told, told_slot, Slots}
 use Rattle.std.proofs.Math.ListN.{get_or-eq_default}
 use Rattle.mio.specs.Event.{event_token, is_priority, is_read_closed}
-use Rattle.stream_driver.specs.declared.entries.EntryState.TheVariants.{Idle, Ready, Gone}
-use Rattle.model.proofs.Lookups.{some_same}
-use Rattle.stream_driver.proofs.OneEntry.{below}
-use Rattle.event_loop.specs.Leavings.{EndAll, EndEach, EndsAt, LeavesAs, LeavesIf}
-use Rattle.event_loop.specs.Leavings.EndEach.{NoneEnded, OneMore}
-use Rattle.event_loop.specs.Lingerings.{Lingerers}
-use Rattle.event_loop.specs.Sockets.{SocketsTell, traffic_of}
-use Rattle.event_loop.proofs.Words.{Instant, Event, BufferedStream, Entry, EntryState, is_settled, traffic_through, EndsDrive, is_gone, is_over, Traffic, Socket, EndsTurn, after_event, after_poll, readied, slot_at, told, told_slot, Slots}
+use Rattle.event_loop.specs.Leavings.EndEach.{OneMore}
 
 mapped_some : {A B : Type 0} (f : A → B) (o p : Option A) (y : A) → option_map f p ≡ option_map f o → p ≡ Some y → (x : A) × (o ≡ Some x) × (f y ≡ f x)
 mapped_some f None p y same is = absurd (cc (ap (option_map f) is))

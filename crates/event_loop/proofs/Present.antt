@@ -1,15 +1,8 @@
 -- The sessions that are present: what a join does to them, and that they stand by rising number, so one that has left is absent.
-use Rattle.std.proofs.Common.{◌≡◌, ℕ, ◌+◌, ◌<◌, ◌≤◌, true, not, nat_le, nat_lt, List, [], ◌∷◌, length, Some, None, refl, ap, nat_cmp, arith, ◌≢◌, Bool, false, cond, if◌then◌else◌, sym}
-use Rattle.std.specs.Map.{lookup, set_value, remove_entry}
-use Rattle.std.specs.BTreeMap.{insert_entry}
-use Rattle.std.proofs.lemmas.Bool.Decides.{nat_tests}
-use Rattle.std.proofs.lemmas.Grind.{common_steps}
-use Rattle.std.specs.declared.cmp.Ordering.TheVariants.{Equal}
-use Rattle.sessions.specs.declared.events.Status.TheVariants.{Absent}
-use Rattle.sessions.specs.SessionStreams.{HubState, SessionStream, HubEvent, Joins, Receives, Serves, Sends, Leaves, Choice, ArePossible, IsReachedHub, Begun, Continued, hub_step, run, stream_of, new_stream, receive, serve_session, send, depart, is_open, room, is_above}
-use Rattle.sessions.specs.declared.events.Outcome.TheVariants.{Done, Unknown, Crowded, Memory}
-use Rattle.stream_driver.proofs.Events.{test}
-use Rattle.event_loop.proofs.Words.{Outcome, status_in}
+use Rattle.event_loop.proofs.Words.{◌≡◌, ℕ, ◌+◌, ◌<◌, ◌≤◌, true, not, nat_le, nat_lt, List, [], ◌∷◌, length, Some, None, refl, ap, nat_cmp, arith, ◌≢◌, Bool, false, cond, if◌then◌else◌, sym, lookup, set_value, remove_entry, Absent, HubState, SessionStream, HubEvent, Joins, Receives, Serves, Sends, Choice, ArePossible, IsReachedHub, Begun, Continued, hub_step, run, stream_of, new_stream, receive, serve_session, send, depart, is_open, room, is_above, Done, Unknown, Crowded, Memory, test, Outcome, status_in}
+use Rattle.std.specs.{BTreeMap.insert_entry, declared.cmp.Ordering.TheVariants.Equal}
+use Rattle.std.proofs.{lemmas.Bool.Decides.nat_tests, lemmas.Grind.common_steps}
+use Rattle.sessions.specs.SessionStreams.{Leaves}
 
 other_test : (q s : ℕ) → q ≢ s → test q s ≡ false
 other_test q s apart = grind (arith, nat_tests)

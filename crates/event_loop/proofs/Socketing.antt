@@ -1,16 +1,9 @@
 -- One call of a socket, under the premise that sockets tell the bytes that they move.
-use Rattle.std.proofs.Common.{◌≡◌, ◌≢◌, inl, inr, ℕ, ◌-◌, ◌^◌, List, [], ◌∷◌, ◌++◌, map, take, refl, Option, Some, None, Result, Ok, Err, IfOk, IfSome, IsErr, OnOk, sym, ap, subst, ◌∙◌}
-use Rattle.std.proofs.lemmas.Bool.{cases_eq}
-use Rattle.std.proofs.lemmas.List.{append-nil, map-append}
+use Rattle.event_loop.proofs.Words.{◌≡◌, ◌≢◌, inl, inr, ℕ, ◌-◌, ◌^◌, List, [], ◌∷◌, ◌++◌, map, take, refl, Option, Some, None, Result, Ok, Err, IfOk, IfSome, IsErr, OnOk, sym, ap, subst, ◌∙◌, cases_eq, append-nil, map-append, none_departed, IsNewSocket, SocketsTell, departure_of, traffic_of, BufferedStream, IsNew, DepartAt, IsUncalled, Traffic, bytes_read, bytes_written, Socket}
 use Rattle.std.specs.Result.{result_ok}
 use Rattle.socket_calls.specs.OpenFacts.{departed, given, latest, moved, next, taken}
-use Rattle.socket_calls.specs.HappenedCalls.{SendsAtOnce, WasReceived, WasSent}
-use Rattle.socket_calls.specs.declared.counted.CountedSocket.{CountedSocket}
-use Rattle.stream_driver.specs.declared.answers.ReadAnswer.{ReadAnswer}
-use Rattle.stream_driver.specs.declared.answers.WriteAnswer.{WriteAnswer}
-use Rattle.stream_driver.proofs.Buffering.{none_departed}
-use Rattle.event_loop.specs.Sockets.{IsNewSocket, SocketsTell, departure_of, traffic_of}
-use Rattle.event_loop.proofs.Words.{BufferedStream, IsNew, DepartAt, IsUncalled, Traffic, bytes_read, bytes_written, Socket}
+use Rattle.socket_calls.specs.{HappenedCalls.SendsAtOnce, HappenedCalls.WasReceived, HappenedCalls.WasSent, declared.counted.CountedSocket.CountedSocket}
+use Rattle.stream_driver.specs.{declared.answers.ReadAnswer.ReadAnswer, declared.answers.WriteAnswer.WriteAnswer}
 
 latest-append : (none : List ℕ) (ds : List (List ℕ × ℕ)) (d : List ℕ × ℕ) → latest none (ds ++ d ∷ []) ≡ d.0
 latest-append none [] d = refl

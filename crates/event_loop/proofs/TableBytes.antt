@@ -1,21 +1,11 @@
 -- What the drives of a turn leave of each entry: its session, the number of its connection, and the bytes of its session.
-use Rattle.std.proofs.Common.{◌≡◌, ◌≢◌, inl, inr, ℕ, zero, suc, List, [], ◌∷◌, ◌++◌, Option, Some, None, refl, sym, ap, subst, ◌∙◌, arith}
-use Rattle.stream_driver.specs.declared.answers.Call.TheVariants.{Read, Write}
-use Rattle.stream_driver.specs.declared.answers.Progress.{Progress}
+use Rattle.event_loop.proofs.Words.{◌≡◌, ◌≢◌, inl, inr, ℕ, zero, suc, List, [], ◌∷◌, ◌++◌, Option, Some, None, refl, sym, ap, subst, ◌∙◌, arith, Idle, Ready, Gone as EntryGone, flushed_same, none_departed, one_history, some_same, ends_last, entry_other, HasItsBytes, HaveBytes, Event, HubState, SessionStream, stream_of, BufferedStream, Entry, EntryState, fresh, traffic_through, DrivenAll, DrivenEntry, DrivenIn, DrivenSlot, EndsIn, state_after, Point, DepartAt, Traffic, EndsTurn, after_poll, slot_at, Slots}
+use Rattle.stream_driver.specs.{declared.answers.Call.TheVariants.Read, declared.answers.Call.TheVariants.Write, declared.answers.Progress.Progress, Drives.Why}
 use Rattle.stream_driver.specs.declared.answers.Progress.TheVariants.{Waiting, Again, Gone}
 use Rattle.stream_driver.specs.declared.answers.ReadAnswer.TheVariants.{Blocked as ReadBlocked, Failed as ReadFailed, Ended as ReadEnded}
 use Rattle.stream_driver.specs.declared.answers.WriteAnswer.TheVariants.{Blocked as WriteBlocked, Failed as WriteFailed}
-use Rattle.stream_driver.specs.declared.entries.EntryState.TheVariants.{Idle, Ready, Gone as EntryGone}
-use Rattle.stream_driver.specs.Drives.{Why}
 use Rattle.stream_driver.proofs.Answered.{ends_same}
-use Rattle.stream_driver.proofs.Buffering.{flushed_same, none_departed}
-use Rattle.stream_driver.proofs.Carry.{one_history}
-use Rattle.model.proofs.Lookups.{some_same}
-use Rattle.stream_driver.proofs.OneEntry.{ends_last, entry_other}
-use Rattle.event_loop.specs.TableBytes.{HasItsBytes, HaveBytes}
-use Rattle.event_loop.proofs.Words.{Event, HubState, SessionStream, stream_of, BufferedStream, Entry, EntryState, fresh, traffic_through, DrivenAll, DrivenEntry, DrivenIn, DrivenSlot, EndsIn, state_after, Point, DepartAt, Traffic, EndsTurn, after_poll, slot_at, Slots}
-use Rattle.event_loop.proofs.Entries.{no_entry}
-use Rattle.event_loop.proofs.Polled.{gone_as, was_driven, was_polled}
+use Rattle.event_loop.proofs.{Entries.no_entry, Polled.gone_as, Polled.was_driven, Polled.was_polled}
 
 -- a drive keeps the number of a stream's connection
 why_same : (s : ℕ) (last : HubState) (before after : Traffic) (served sent : ℕ) (answer : Progress) → Why s last before after served sent answer → after.connection ≡ before.connection

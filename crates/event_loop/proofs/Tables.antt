@@ -1,24 +1,10 @@
 -- The table keeps a session of its own for each entry, under a number that is below the next, as a connection comes too; and what leads a hub on as they come.
 use denote.Struct.Props.{props}
-use Rattle.std.proofs.Common.{◌≡◌, ◌≢◌, ◌⊎◌, inl, inr, ℕ, ◌+◌, ◌<◌, get_or, sym, ap, subst, ◌∙◌, arith, Some, None, ◌≤◌, ◌-◌, ◌^◌, min, max, Bool, false, cond, [], ◌∷◌, ◌++◌, count_by, is_some, refl}
-use Rattle.std.proofs.lemmas.Bool.{cases_eq}
+use Rattle.event_loop.proofs.Words.{◌≡◌, ◌≢◌, ◌⊎◌, inl, inr, ℕ, ◌+◌, ◌<◌, get_or, sym, ap, subst, ◌∙◌, arith, Some, None, ◌≤◌, ◌-◌, ◌^◌, min, max, Bool, false, cond, [], ◌∷◌, ◌++◌, count_by, is_some, refl, cases_eq, Absent, Open, Done, NoneRuns, RunsAlone, status_seen, Ready, Gone, some_same, Follow, leads_event, leads_none, leads_then, adds_none, adds_then, AreBelow, Nobody, OneMore, Ghosts, Outcome, Hub, HubState, Joins, hub_step, HubLeads, StandsFor, status_in, status_of, Entry, HaveSessions, KeepSessions, Stands, IsPresent, Leads, status_at, Admits, LetsIn, HaveEntries, IsTried, IsWithoutEntry, slot_at, Slots, HubEvent, failures, Adds, one_more, ComeEach, Comes, join_of, joins_of, refusals_in, refusals_of}
 use Rattle.std.proofs.Math.Logic.{∥∥₁_elim}
 use Rattle.slab.specs.Slab.{Slab, Updates}
-use Rattle.sessions.specs.declared.events.Status.TheVariants.{Absent, Open}
-use Rattle.sessions.specs.declared.events.Outcome.TheVariants.{Done}
-use Rattle.sessions.specs.Laws.{NoneRuns, RunsAlone}
-use Rattle.sessions.proofs.EventSteps.{status_seen}
 use Rattle.sessions.proofs.Reached.{Reached, reached}
-use Rattle.stream_driver.specs.declared.entries.EntryState.TheVariants.{Ready, Gone}
-use Rattle.model.proofs.Lookups.{some_same}
-use Rattle.stream_driver.proofs.States.{Follow, leads_event, leads_none, leads_then}
-use Rattle.stream_driver.proofs.Events.{adds_none}
-use Rattle.stream_driver.proofs.Carry.{adds_then}
-use Rattle.event_loop.specs.Numbers.{AreBelow}
 use Rattle.event_loop.specs.Accepts.{Accepts, after_taken, more}
-use Rattle.event_loop.specs.Tables.AdmitsEach.{Nobody, OneMore}
-use Rattle.event_loop.proofs.Words.{Ghosts, Outcome, Hub, HubState, Joins, hub_step, HubLeads, StandsFor, status_in, status_of}
-use Rattle.event_loop.proofs.Words.{Entry, HaveSessions, KeepSessions, Stands, IsPresent, Leads, status_at, Admits, LetsIn, HaveEntries, IsTried, IsWithoutEntry, slot_at, Slots, HubEvent, failures, Adds, one_more, ComeEach, Comes, join_of, joins_of, refusals_in, refusals_of}
 use Rattle.event_loop.proofs.Present.{joins_other, joins_same, joins_not}
 
 -- a session was to join

@@ -1,9 +1,9 @@
 -- One connection that lingers after another.
-use Rattle.std.proofs.Common.{◌≡◌, ◌<◌, ◌+◌, ◌||◌, inl, inr, ℕ, suc, Bool, false, List, [], ◌∷◌, ◌++◌, length, append_assoc, append-nil, Option, refl, sym, ap, subst, ◌∙◌, arith}
+use Rattle.event_loop.proofs.Words.{◌≡◌, ◌<◌, ◌+◌, ◌||◌, inl, inr, ℕ, suc, Bool, false, List, [], ◌∷◌, ◌++◌, length, append_assoc, Option, refl, sym, ap, subst, ◌∙◌, arith, AllTurned, FirstTurned, Lingerers, is_all}
+use Rattle.std.proofs.Common.{append-nil}
 use Rattle.std.proofs.Math.Bool.{or-false, or_assoc}
 use Rattle.std.specs.declared.time.Instant.{Instant}
 use Rattle.event_loop.specs.declared.lingering.Lingerer.{Lingerer}
-use Rattle.event_loop.specs.Lingerings.{AllTurned, FirstTurned, Lingerers, is_all}
 
 module _ (now : Option Instant) (moment : ℕ) (reads : Bool) where
   -- with what becomes of those that come, all are turned

@@ -1,30 +1,9 @@
 -- Drives, accepts and turns keep the bytes of the connections those of their sessions, and so does a hub that rests as it gives back what nobody needs.
-use Rattle.std.proofs.Common.{◌≡◌, ◌≢◌, ◌⊎◌, inl, inr, ℕ, ◌<◌, List, [], ◌++◌, Some, IfSome, sym, ap, subst, ◌∙◌, arith, Bool, true, false, refl}
-use Rattle.std.proofs.lemmas.Bool.{cases_eq}
-use Rattle.std.proofs.lemmas.List.{append-nil}
-use Rattle.std.proofs.lemmas.List.Elements.{All-from_recursion}
+use Rattle.event_loop.proofs.Words.{◌≡◌, ◌≢◌, ◌⊎◌, inl, inr, ℕ, ◌<◌, List, [], ◌++◌, Some, IfSome, sym, ap, subst, ◌∙◌, arith, Bool, true, false, refl, cases_eq, append-nil, All-from_recursion, AllByRecursion, lookup, Done, IsLawful, IsSessionStream, Ran, Gone, run_then, test, some_same, Follow, leads_map, leads_two_at, leads_then, adds_none, AreBelow, IsNewSocket, SocketsTell, traffic_of, HaveBytes, KeepBytes, SpeaksFor, Nobody, OneMore, EventLoop, Accepted, IsGivenBack, accepted_joins, Ghosts, Outcome, Hub, HubState, SessionStream, Joins, hub_step, new_stream, run, stream_of, StandsFor, HubLeads, BufferedStream, Entry, traffic_through, Leads, Adds, Point, Traffic, Socket, Admits, AdmitsEach, LetsIn, join_of, join_tried, joins_of, slot_at, Slots}
 use Rattle.std.proofs.lemmas.Map.Entries.{All-lookup}
-use Rattle.std.specs.List.{AllByRecursion}
-use Rattle.std.specs.Map.{lookup}
 use Rattle.slab.specs.Slab.{Slab}
-use Rattle.sessions.specs.declared.events.Outcome.TheVariants.{Done}
-use Rattle.sessions.specs.Laws.{IsLawful, IsSessionStream, Ran}
 use Rattle.sessions.proofs.Reached.{reached}
-use Rattle.stream_driver.specs.declared.entries.EntryState.TheVariants.{Gone}
-use Rattle.stream_driver.proofs.Carry.{run_then}
-use Rattle.stream_driver.proofs.Events.{test}
-use Rattle.model.proofs.Lookups.{some_same}
-use Rattle.stream_driver.proofs.States.{Follow, leads_map, leads_two_at, leads_then}
-use Rattle.stream_driver.proofs.Events.{adds_none}
-use Rattle.event_loop.specs.Numbers.{AreBelow}
-use Rattle.event_loop.specs.Sockets.{IsNewSocket, SocketsTell, traffic_of}
-use Rattle.event_loop.specs.TableBytes.{HaveBytes, KeepBytes, SpeaksFor}
-use Rattle.event_loop.specs.Tables.AdmitsEach.{Nobody, OneMore}
-use Rattle.event_loop.specs.declared.server.EventLoop.{EventLoop}
-use Rattle.event_loop.specs.Turns.{Accepted, IsGivenBack, accepted_joins}
-use Rattle.event_loop.proofs.Words.{Ghosts, Outcome, Hub, HubState, SessionStream, Joins, hub_step, new_stream, run, stream_of, StandsFor, HubLeads, BufferedStream, Entry, traffic_through, Leads, Adds, Point, Traffic, Socket, Admits, AdmitsEach, LetsIn, join_of, join_tried, joins_of, slot_at, Slots}
-use Rattle.event_loop.proofs.Tables.{TableStands, admits_table}
-use Rattle.event_loop.proofs.Present.{joins_not, joins_other, joins_same}
+use Rattle.event_loop.proofs.{Tables.TableStands, Tables.admits_table, Present.joins_not, Present.joins_other, Present.joins_same}
 
 -- ---- a connection that comes
 

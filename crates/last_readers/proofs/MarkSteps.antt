@@ -1,18 +1,8 @@
 -- The steps of marks.
-use Rattle.std.proofs.Common.{◌≡◌, ◌-◌, ℕ, zero, suc, Bool, cond, ◌||◌, List, [], ◌∷◌, None, length, take, drop, refl, ap, ◌∙◌, arith}
-use Rattle.std.specs.declared.cmp.Ordering.TheVariants.{Less, Equal, Greater}
+use Rattle.last_readers.proofs.Words.{◌≡◌, ◌-◌, ℕ, zero, suc, Bool, cond, ◌||◌, List, [], ◌∷◌, None, length, take, drop, refl, ap, ◌∙◌, arith, Less, Equal, Greater, nat_tests, take_rest, Bytes, key_cmp, by_order, span_at, later, turned, same_keys, less_trans}
 use Rattle.std.specs.Cmp.Lexicographic.{nat_list_cmp_total}
-use Rattle.std.proofs.lemmas.Bool.Decides.{nat_tests}
-use Rattle.std.proofs.lemmas.List.{take_rest}
-use Rattle.model.specs.Map.{Bytes, key_cmp}
-use Rattle.model.specs.PrivateCopy.{covers, is_covered}
-use Rattle.model.specs.PrivateCopy.Mark.{OfKey, OfRange}
-use Rattle.marks.specs.declared.owned.OwnedMark.{OwnedMark}
-use Rattle.marks.specs.Marked.{marks_of}
-use Rattle.last_readers.specs.Steps.{by_order, span_at}
-use Rattle.last_readers.specs.Merging.{later}
-use Rattle.model.proofs.Entries.{turned}
-use Rattle.model.proofs.KeyOrder.{same_keys, less_trans}
+use Rattle.model.specs.{PrivateCopy.covers, PrivateCopy.is_covered, PrivateCopy.Mark.OfKey, PrivateCopy.Mark.OfRange}
+use Rattle.marks.specs.{declared.owned.OwnedMark.OwnedMark, Marked.marks_of}
 
 -- ---- one mark
 

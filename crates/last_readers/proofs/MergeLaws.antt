@@ -1,18 +1,6 @@
 -- Two step functions made into one, from their ends.
-use Rattle.std.proofs.Common.{◌≡◌, ℕ, Bool, true, false, List, [], ◌∷◌, ◌++◌, length, refl, sym, ap, subst, ◌∙◌, arith}
-use Rattle.std.specs.Prelude.{max, if◌then◌else◌}
-use Rattle.std.specs.declared.cmp.Ordering.TheVariants.{Less, Equal}
-use Rattle.std.specs.Ordering.{is_le}
-use Rattle.std.proofs.lemmas.Bool.{and_parts}
-use Rattle.std.proofs.lemmas.Bool.Decides.{nat_tests}
-use Rattle.std.proofs.lemmas.List.{append_assoc, length_push, same_from_push}
-use Rattle.std.proofs.Math.Nat.{max_comm}
-use Rattle.model.specs.Map.{Bytes, key_cmp}
-use Rattle.last_readers.specs.Steps.{StepValue, is_level, by_order, number_from, number_at, merged_at, end_of, are_over, steps_rise, are_under}
-use Rattle.last_readers.specs.Readers.{cut}
-use Rattle.last_readers.specs.Merging.{later, EndsOver, EndsEqual, IsParted, IsJoined, with_step}
-use Rattle.model.proofs.Entries.{turned}
-use Rattle.model.proofs.KeyOrder.{itself, same_keys, turned_less}
+use Rattle.last_readers.proofs.Words.{◌≡◌, ℕ, Bool, true, false, List, [], ◌∷◌, ◌++◌, length, refl, sym, ap, subst, ◌∙◌, arith, max, if◌then◌else◌, Less, Equal, is_le, nat_tests, append_assoc, length_push, same_from_push, Bytes, key_cmp, StepValue, is_level, by_order, number_from, number_at, merged_at, end_of, are_over, steps_rise, are_under, cut, later, EndsOver, EndsEqual, IsParted, IsJoined, with_step, turned, itself, same_keys, turned_less}
+use Rattle.std.proofs.{lemmas.Bool.and_parts, Math.Nat.max_comm}
 use Rattle.last_readers.proofs.StepLaws.{around, put_between, over_less, under_more, low, high, end_push, number_push, end_is, under_last}
 
 -- ---- the steps below a key

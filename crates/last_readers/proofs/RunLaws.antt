@@ -1,15 +1,7 @@
 -- The greatest numbers of several runs.
-use Rattle.std.proofs.Common.{◌≡◌, ◌+◌, ℕ, List, [], ◌∷◌, ◌++◌, length, drop, sym, ap, ◌∙◌, arith}
-use Rattle.std.specs.Prelude.{max}
-use Rattle.std.specs.VecDeque.{deque_len}
-use Rattle.std.proofs.lemmas.List.{nil_from_length}
-use Rattle.model.specs.Map.{Bytes}
-use Rattle.last_readers.specs.declared.run.ReadRun.{ReadRun}
-use Rattle.last_readers.specs.Steps.{StepValue, number_at, number_in, merged_at}
-use Rattle.last_readers.specs.Readers.{cut, greatest_at}
-use Rattle.last_readers.specs.Inside.{run_of, runs_in}
+use Rattle.last_readers.proofs.Words.{◌≡◌, ◌+◌, ℕ, List, [], ◌∷◌, ◌++◌, length, drop, sym, ap, ◌∙◌, arith, max, deque_len, nil_from_length, Bytes, StepValue, number_at, number_in, merged_at, cut, greatest_at}
+use Rattle.last_readers.specs.{declared.run.ReadRun.ReadRun, Inside.run_of, Inside.runs_in, Agreeing.greatest-append}
 use Rattle.last_readers.proofs.StepLaws.{at_rest}
-use Rattle.last_readers.specs.Agreeing.{greatest-append}
 
 pub greatest_added : (rs : List ReadRun) (r : ReadRun) (k : Bytes) → greatest_at (runs_in (rs ++ r ∷ [])) k ≡ max (greatest_at (runs_in rs) k) (number_in (run_of r) k)
 greatest_added rs r k = let all = greatest-append rs (r ∷ []) k in omega (arith, all)

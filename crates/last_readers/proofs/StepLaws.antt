@@ -1,17 +1,7 @@
 -- Steps by rising key, and the numbers at keys below, between and above them.
-use Rattle.std.proofs.Common.{◌≡◌, ◌≤◌, ◌<◌, ◌-◌, ℕ, zero, suc, true, false, cond, ◌&&◌, List, [], ◌∷◌, ◌++◌, length, get_or, take, drop, map, ◌+◌, refl, sym, ap, ◌∙◌, arith}
-use Rattle.std.specs.List.Sorted.{IsPartitionedBy, IsPartitionPoint}
-use Rattle.std.specs.declared.cmp.Ordering.TheVariants.{Less}
-use Rattle.std.specs.Ordering.{is_eq, is_le, is_lt}
-use Rattle.std.specs.Cmp.Lexicographic.{nat_list_cmp_total}
-use Rattle.std.proofs.lemmas.Bool.{and_parts, and_from}
-use Rattle.std.proofs.lemmas.Bool.Decides.{nat_tests}
-use Rattle.std.proofs.lemmas.List.{take-append-drop, take_all, take_more, append-nil, nil_from_length}
-use Rattle.std.proofs.lemmas.List.Folds.{list_all-append, list_all-map}
-use Rattle.model.specs.Map.{Bytes, key_cmp}
-use Rattle.last_readers.specs.Steps.{StepValue, by_order, number_from, number_at, merged_at, end_from, end_of, are_over, steps_rise, are_under, in_place_of, renumbered}
-use Rattle.model.proofs.Entries.{turned}
-use Rattle.model.proofs.KeyOrder.{less, turned_less, less_trans, lt_trans, lt_le_trans, le_of_lt, lt_of_not_le}
+use Rattle.last_readers.proofs.Words.{◌≡◌, ◌≤◌, ◌<◌, ◌-◌, ℕ, zero, suc, true, false, cond, ◌&&◌, List, [], ◌∷◌, ◌++◌, length, get_or, take, drop, map, ◌+◌, refl, sym, ap, ◌∙◌, arith, Less, is_eq, is_le, is_lt, nat_tests, take-append-drop, take_all, take_more, append-nil, nil_from_length, Bytes, key_cmp, StepValue, by_order, number_from, number_at, merged_at, end_from, end_of, are_over, steps_rise, are_under, in_place_of, renumbered, turned, less, turned_less, less_trans, lt_trans, lt_le_trans, le_of_lt, lt_of_not_le}
+use Rattle.std.specs.{List.Sorted.IsPartitionedBy, List.Sorted.IsPartitionPoint, Cmp.Lexicographic.nat_list_cmp_total}
+use Rattle.std.proofs.{lemmas.Bool.and_parts, lemmas.Bool.and_from, lemmas.List.Folds.list_all-append, lemmas.List.Folds.list_all-map}
 
 -- ---- lists that rise
 

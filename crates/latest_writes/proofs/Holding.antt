@@ -1,15 +1,7 @@
 -- How much is held of writes.
-use Rattle.std.proofs.lemmas.Grind.{common_steps}
-use Rattle.std.proofs.Common.{◌≡◌, ◌≢◌, ◌<◌, ◌⊎◌, ℕ, ◌+◌, ◌-◌, ◌^◌, min, true, false, List, [], ◌∷◌, ◌++◌, None, ap, subst, inl, inr, arith, append_assoc}
-use Rattle.std.specs.declared.cmp.Ordering.{Ordering}
-use Rattle.std.specs.declared.cmp.Ordering.TheVariants.{Less}
-use Rattle.std.specs.Ordering.{is_eq, is_lt, is_gt}
-use Rattle.std.specs.Cmp.Lexicographic.{nat_list_cmp_total}
+use Rattle.latest_writes.proofs.Words.{common_steps, ◌≡◌, ◌≢◌, ◌<◌, ◌⊎◌, ℕ, ◌+◌, ◌-◌, ◌^◌, min, true, false, List, [], ◌∷◌, ◌++◌, None, ap, subst, inl, inr, arith, append_assoc, Ordering, Less, is_eq, is_lt, is_gt, nat_list_cmp_total, Bytes, KeyWrite, key_cmp, is_same_key, same_key, weight, HasOneOfEach, IsHeld}
 use Rattle.std.proofs.lemmas.List.Sums.{sum_by_push}
-use Rattle.model.specs.Map.{Bytes, KeyWrite, key_cmp, is_same_key}
 use Rattle.model.proofs.KeyOrder.{less}
-use Rattle.model.proofs.Lookups.{same_key}
-use Rattle.latest_writes.specs.Held.{weight, HasOneOfEach, IsHeld}
 use Rattle.latest_writes.proofs.Sweeping.{IsUpTo}
 
 abbrev pub IsUnder : Bytes → Bytes → Type 0

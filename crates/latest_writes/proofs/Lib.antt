@@ -3,3 +3,4 @@ pub mod Holding
 pub mod Ordered
 pub mod Stable
 pub mod Sweeping
+pub mod Words

@@ -1,12 +1,6 @@
 -- The first bytes of two keys stand as the keys do, where they differ.
-use Rattle.std.proofs.lemmas.Grind.{common_steps}
-use Rattle.std.proofs.Common.{◌≡◌, ℕ, zero, suc, ◌+◌, ◌*◌, ◌^◌, ◌<◌, ◌≤◌, List, [], ◌∷◌, drop, refl, ap, ◌∙◌, arith}
-use Rattle.std.proofs.Math.Nat.{mul-le-mul_left}
-use Rattle.std.specs.declared.cmp.Ordering.{Ordering}
-use Rattle.std.specs.declared.cmp.Ordering.TheVariants.{Less, Greater}
-use Rattle.std.specs.Ordering.{nat_cmp, ordering_then, ordering_reverse}
-use Rattle.std.specs.Cmp.Lexicographic.{slice_cmp, nat_list_cmp_total}
-use Rattle.std.proofs.lemmas.Cmp.{ranked, by_ranked}
+use Rattle.latest_writes.proofs.Words.{common_steps, ◌≡◌, ℕ, zero, suc, ◌+◌, ◌*◌, ◌^◌, ◌<◌, ◌≤◌, List, [], ◌∷◌, drop, refl, ap, ◌∙◌, arith, Ordering, Less, Greater, nat_cmp, ordering_then, ordering_reverse, slice_cmp, nat_list_cmp_total}
+use Rattle.std.proofs.{Math.Nat.mul-le-mul_left, lemmas.Cmp.ranked, lemmas.Cmp.by_ranked}
 use Rattle.latest_writes.specs.Heads.{head, AreBytes}
 
 pub head_fits : (n : ℕ) (xs : List ℕ) → AreBytes xs → head n xs < 256 ^ n

@@ -1,16 +1,8 @@
 -- Writes that are sorted by key, those of one key in their order, make the map that they made.
-use Rattle.std.proofs.lemmas.Grind.{common_steps}
-use Rattle.std.proofs.Common.{arith, ◌≡◌, true, false, not, cond, ◌&&◌, List, [], ◌∷◌, ◌++◌, Option, None, refl, sym, ap, ◌∙◌}
-use Rattle.std.specs.List.{filter}
-use Rattle.std.specs.List.Sorted.{ties, IsStableBy}
-use Rattle.std.specs.Cmp.{IsStrictWeakOrder}
+use Rattle.latest_writes.proofs.Words.{common_steps, arith, ◌≡◌, true, false, not, cond, ◌&&◌, List, [], ◌∷◌, ◌++◌, Option, None, refl, sym, ap, ◌∙◌, Ordering, is_eq, is_lt, ordering_reverse, nat_list_cmp_total, Bytes, KeyMap, KeyWrite, value_at, key_cmp, is_same_key, after_write, after_writes, value_after_write, IsMap-after_writes, value_after_alike, same_map}
+use Rattle.std.specs.{List.filter, List.Sorted.ties, List.Sorted.IsStableBy, Cmp.IsStrictWeakOrder}
 use Rattle.std.proofs.lemmas.List.Sorted.{ranks_by}
-use Rattle.std.specs.declared.cmp.Ordering.{Ordering}
-use Rattle.std.specs.Ordering.{is_eq, is_lt, ordering_reverse}
-use Rattle.std.specs.Cmp.Lexicographic.{nat_list_cmp_total}
 use Rattle.latest_writes.specs.Rising.{is_before}
-use Rattle.model.specs.Map.{Bytes, KeyMap, KeyWrite, value_at, key_cmp, is_same_key, after_write, after_writes}
-use Rattle.model.proofs.Lookups.{value_after_write, IsMap-after_writes, value_after_alike, same_map}
 
 pub after_writes-push : (m : KeyMap) (ws : List KeyWrite) (w : KeyWrite) → after_writes m (ws ++ w ∷ []) ≡ after_write (after_writes m ws) w.0 w.1
 after_writes-push m [] w = refl

@@ -1,17 +1,9 @@
 -- Of sorted writes those that another has replaced can be left out, and deletions of keys that are not there.
-use Rattle.std.proofs.lemmas.Grind.{common_steps}
-use Rattle.std.proofs.Common.{◌≡◌, ◌⊎◌, ℕ, suc, ◌+◌, Bool, true, false, cond, List, [], ◌∷◌, ◌++◌, get_or, Option, None, refl, sym, ap, subst, ◌∙◌, inl, inr, arith}
+use Rattle.latest_writes.proofs.Words.{common_steps, ◌≡◌, ◌⊎◌, ℕ, suc, ◌+◌, Bool, true, false, cond, List, [], ◌∷◌, ◌++◌, get_or, Option, None, refl, sym, ap, subst, ◌∙◌, inl, inr, arith, Ordering, Less, Equal, Greater, is_eq, is_lt, is_gt, ordering_reverse, nat_list_cmp_total, same_key, value_after_write, IsMap-after_write, same_map, Bytes, KeyMap, KeyWrite, IsMap, value_at, key_cmp, is_same_key, after_write, after_writes}
 use Rattle.std.specs.List.Sorted.{IsSortedBy}
-use Rattle.std.specs.declared.cmp.Ordering.{Ordering}
-use Rattle.std.specs.declared.cmp.Ordering.TheVariants.{Less, Equal, Greater}
-use Rattle.std.specs.Ordering.{is_eq, is_lt, is_gt, ordering_reverse}
-use Rattle.std.specs.Cmp.Lexicographic.{nat_list_cmp_total}
-use Rattle.std.proofs.lemmas.Map.Lookups.{exact_bytes}
-use Rattle.std.proofs.lemmas.Cmp.{tied_itself, upto}
+use Rattle.std.proofs.{lemmas.Map.Lookups.exact_bytes, lemmas.Cmp.tied_itself, lemmas.Cmp.upto}
 use Rattle.latest_writes.specs.Rising.{is_before}
 use Rattle.latest_writes.proofs.Stable.{after_writes-push}
-use Rattle.model.proofs.Lookups.{same_key, value_after_write, IsMap-after_write, same_map}
-use Rattle.model.specs.Map.{Bytes, KeyMap, KeyWrite, IsMap, value_at, key_cmp, is_same_key, after_write, after_writes}
 
 -- q is at most k
 abbrev pub IsUpTo : Bytes → Bytes → Type 0

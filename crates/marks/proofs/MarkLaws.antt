@@ -1,12 +1,9 @@
 -- Marks, and whether one more fits.
 use Rattle.std.proofs.Common.{◌≡◌, ℕ, zero, suc, ◌+◌, take, get_or, ◌<◌, ◌≤◌, Bool, true, false, not, ◌&&◌, List, [], ◌∷◌, ◌++◌, length, Result, Err, refl, sym, ap, ◌∙◌, arith}
 use Rattle.std.specs.Prelude.{nat_lt, if◌then◌else◌, IsTrue, ◌↔◌}
-use Rattle.std.proofs.lemmas.Bool.{both_ways, lt-ltb, le-ltb}
-use Rattle.std.proofs.lemmas.List.{take_more}
+use Rattle.std.proofs.{lemmas.Bool.both_ways, lemmas.Bool.lt-ltb, lemmas.Bool.le-ltb, lemmas.List.take_more}
 use Rattle.model.specs.PrivateCopy.{Mark}
-use Rattle.marks.specs.declared.owned.OwnedMark.{OwnedMark}
-use Rattle.marks.specs.declared.faults.MarksFault.{MarksFault}
-use Rattle.marks.specs.declared.faults.MarksFault.TheVariants.{FullMarks}
+use Rattle.marks.specs.{declared.owned.OwnedMark.OwnedMark, declared.faults.MarksFault.MarksFault, declared.faults.MarksFault.TheVariants.FullMarks}
 use Rattle.marks.specs.Marked.{mark_of, marks_of, has_mark, is_full_for, with_mark}
 
 pub length-marks_of : (hs : List OwnedMark) → length (marks_of hs) ≡ length hs

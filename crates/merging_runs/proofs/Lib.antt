@@ -1,3 +1,4 @@
 pub mod RunSteps
 pub mod OldRuns
 pub mod Moves
+pub mod Words

@@ -1,12 +1,7 @@
 -- How much is to be given back of runs.
-use Rattle.std.proofs.Common.{◌≡◌, ◌≤◌, ◌<◌, ◌+◌, ℕ, zero, suc, List, [], ◌∷◌, None, Some, length, get_or, map, refl, ap, ◌∙◌, arith}
-use Rattle.std.specs.Prelude.{nat_lt, nat_le, is_some}
+use Rattle.merging_runs.proofs.Words.{◌≡◌, ◌≤◌, ◌<◌, ◌+◌, ℕ, zero, suc, List, [], ◌∷◌, None, Some, length, get_or, map, refl, ap, ◌∙◌, arith, nat_lt, nat_le, is_some, RunSize, HeldRun, size_upto}
 use Rattle.std.specs.List.{remove, position}
-use Rattle.std.proofs.lemmas.Bool.Decides.{nat_tests}
-use Rattle.std.proofs.lemmas.Bool.{leb-true}
-use Rattle.std.proofs.lemmas.List.Quantifiers.{position-Some}
-use Rattle.merging_runs.specs.RunSizes.{RunSize}
-use Rattle.merging_runs.specs.Held.{HeldRun, size_upto}
+use Rattle.std.proofs.{lemmas.Bool.Decides.nat_tests, lemmas.Bool.leb-true, lemmas.List.Quantifiers.position-Some}
 
 -- the run that was found
 pub old_at : {R : Type 0} (size : R → RunSize) (o : ℕ) (rs looked : List R) (i : ℕ) (r : R) → rs ≡ looked → position (λ r. nat_le (size r).last o) looked ≡ Some i → r ≡ get_or rs i r → (i < length rs) × ((size r).last ≤ o)

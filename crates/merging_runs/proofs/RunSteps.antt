@@ -1,12 +1,8 @@
 -- How far runs are merged.
-use Rattle.std.proofs.Common.{◌≡◌, ◌+◌, ◌≤◌, ◌<◌, ℕ, zero, suc, Bool, true, false, List, [], ◌∷◌, ◌++◌, length, get_or, take, drop, map, refl, sym, ap, subst, ◌∙◌, arith}
-use Rattle.std.specs.Prelude.{◌||◌}
+use Rattle.merging_runs.proofs.Words.{◌≡◌, ◌+◌, ◌≤◌, ◌<◌, ℕ, zero, suc, Bool, true, false, List, [], ◌∷◌, ◌++◌, length, get_or, take, drop, map, refl, sym, ap, subst, ◌∙◌, arith, ◌||◌, RunSize, left_above, has_alike, joined, IsBegun, lasts_of}
 use Rattle.std.specs.List.{remove}
-use Rattle.std.proofs.Math.ListN.{set}
-use Rattle.std.proofs.Math.Seq.{drop-cons, drop-nil}
-use Rattle.std.proofs.lemmas.Bool.Decides.{nat_tests}
+use Rattle.std.proofs.{Math.ListN.set, Math.Seq.drop-cons, Math.Seq.drop-nil, lemmas.Bool.Decides.nat_tests}
 use Rattle.std.proofs.lemmas.List.{append_assoc, at_drop_all, drop-drop, drop-map, get_or_at, get_or_read, length-map, length-take-le, map-append, nil_from_length, set_at, take-append-drop, take_more}
-use Rattle.merging_runs.specs.RunSizes.{RunSize, left_above, has_alike, joined, IsBegun, lasts_of}
 
 -- ---- two runs beside one another
 

@@ -1,12 +1,6 @@
 -- What is answered: to a COMMIT a number that is at most the begin number of a later BEGIN, and no conflict where no other has committed since its
 -- own; to a faulty request one of four faults.
-use Rattle.std.proofs.lemmas.{Grind.common_steps, Bool.both_ways, Bool.cases_lt}
-use Rattle.std.proofs.Common.{◌≡◌, ℕ, ◌≤◌, Bool, List, [], ◌∷◌, Option, Some, None, arith, ◌<◌, true, false, refl, sym, ap, ◌∙◌, if◌then◌else◌, inl, inr, length-append, nat_lt, find, le-ltb, length, Result, Ok, IfErr, ◌==◌}
-use Rattle.model.specs.{declared.refusals.Refusal.Refusal, Map.KeyWrite, Map.Bytes, Operations.Response, History.Record}
-use Rattle.model.specs.{Operations.Operation.Commit, Operations.Response.Number, Operations.Response.Refused}
-use Rattle.model.specs.Machine.{State, Running, Input, last, record_to_commit, store, store_unless, commit, step, next, state_after, step_of}
-use Rattle.model.specs.Laws.{AnswersComeBefore, LastMayCommit, ConflictsAreRecent, IsOfForm, FaultsAreOfForm}
-use Rattle.model.specs.Verdict.{verdict, is_conflict, conflict_of, HasNoDangerousPivot}
+use Rattle.model.proofs.Words.{common_steps, both_ways, cases_lt, ◌≡◌, ℕ, ◌≤◌, Bool, List, [], ◌∷◌, Option, Some, None, arith, ◌<◌, true, false, refl, sym, ap, ◌∙◌, if◌then◌else◌, inl, inr, length-append, nat_lt, find, le-ltb, length, Result, Ok, IfErr, ◌==◌, Refusal, KeyWrite, Bytes, Response, Record, Commit, Number, Refused, State, Running, Input, last, record_to_commit, store, store_unless, commit, step, next, state_after, step_of, AnswersComeBefore, LastMayCommit, ConflictsAreRecent, IsOfForm, FaultsAreOfForm, verdict, is_conflict, conflict_of, HasNoDangerousPivot}
 use Rattle.model.specs.CommandTable.{◌>>=◌, arity, is_key, key_in, end_in, or_limit, alone_in, get_in, set_in, del_in, range_in, command_in}
 use Rattle.model.proofs.{Steps.running_of-with_running, Pivots.kept_above, Pivots.verdict_by_kept, SerialOrders.filter_none, Members.In, Members.at_in, Members.each_in}
 use Rattle.model.proofs.Machines.{Sound, IsTrueRunning, commit_low, reached_sound, at_found}

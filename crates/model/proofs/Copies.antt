@@ -1,11 +1,5 @@
 -- One transaction on private copies of two maps that agree on what it reads: the same replies, marks and writes.
-use Rattle.std.proofs.lemmas.{Grind.common_steps, Bool.cases_Bool, Bool.both_ways, Bool.or_cases, Bool.or_left, Bool.or_right, Bool.and_parts}
-use Rattle.std.proofs.Common.{arith, ◌≡◌, Bool, true, false, ◌||◌, cond, List, [], ◌∷◌, ◌++◌, Option, Some, None, refl, sym, ap, ◌∙◌, length, take, nat_lt}
-use Rattle.std.specs.List.{list_any}
-use Rattle.model.specs.{declared.refusals.Refusal.TheVariants.FullWrites, Operations.Operation, Operations.Response, Operations.Response.Pairs, Operations.Response.Refused}
-use Rattle.model.specs.Map.{Bytes, KeyMap, IsMap, value_at, is_same_key, after_write, after_writes, is_empty_range, pairs_in_range}
-use Rattle.model.specs.Operations.Operation.{Get, Set, Del, Range}
-use Rattle.model.specs.PrivateCopy.{Mark, mark_of_reply, covers, is_covered, is_same_end, is_same_mark, PrivateCopy, copy_of, is_written, after_read, after_put, respond, copy_after, responses, reads, writes}
+use Rattle.model.proofs.Words.{common_steps, cases_Bool, both_ways, or_cases, or_left, or_right, and_parts, arith, ◌≡◌, Bool, true, false, ◌||◌, cond, List, [], ◌∷◌, ◌++◌, Option, Some, None, refl, sym, ap, ◌∙◌, length, take, nat_lt, list_any, FullWrites, Operation, Response, Pairs, Refused, Bytes, KeyMap, IsMap, value_at, is_same_key, after_write, after_writes, is_empty_range, pairs_in_range, Get, Set, Del, Range, Mark, mark_of_reply, covers, is_covered, is_same_end, is_same_mark, PrivateCopy, copy_of, is_written, after_read, after_put, respond, copy_after, responses, reads, writes}
 use Rattle.model.specs.PrivateCopy.Mark.{OfKey, OfRange, OfClosedRange}
 use Rattle.model.proofs.Lookups.{same_taken, same_key, same_key_itself, held_key, any-insert_key, value_after_write, IsMap-after_write, IsMap-after_writes, value_after_values, same_map}
 

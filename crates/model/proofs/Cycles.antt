@@ -1,10 +1,6 @@
 -- Each cycle of dependencies has a pivot, and a dangerous one, if no two concurrent transactions write one key.
-use Rattle.std.proofs.lemmas.{Grind.common_steps, Bool.Decides.nat_tests, Bool.and_parts, Bool.and_from, Bool.cases_lt}
-use Rattle.std.proofs.Common.{◌≡◌, ◌≢◌, ◌<◌, ◌≤◌, List, [], ◌∷◌, ◌++◌, refl, ap, length, length-append, arith, inl, inr, IsTrue, All, Contains, take, le-leb, lt-ltb}
-use Rattle.std.specs.List.{AllByRecursion, list_any}
-use Rattle.std.proofs.lemmas.List.Elements.{All-contains, All-contains_itself, recursion_from_All, All-from_recursion}
-use Rattle.model.specs.{History.Record, Cycle.IsPath, Cycle.IsCycle, Cycle.CycleLaw, Cycle.DangerousPivotLaw, Cycle.DangerousCycleLaw}
-use Rattle.model.specs.Dependency.{is_concurrent, write_alike, dependency, concurrent_read_write, makes_pivot, makes_dangerous_pivot, is_dangerous_pivot, NoConcurrentWriters}
+use Rattle.model.proofs.Words.{common_steps, nat_tests, and_parts, and_from, cases_lt, ◌≡◌, ◌≢◌, ◌<◌, ◌≤◌, List, [], ◌∷◌, ◌++◌, refl, ap, length, length-append, arith, inl, inr, IsTrue, All, Contains, take, le-leb, lt-ltb, AllByRecursion, list_any, All-contains, All-contains_itself, recursion_from_All, All-from_recursion, Record, is_concurrent, write_alike, dependency, concurrent_read_write, makes_pivot, makes_dangerous_pivot, is_dangerous_pivot, NoConcurrentWriters}
+use Rattle.model.specs.Cycle.{IsPath, IsCycle, CycleLaw, DangerousPivotLaw, DangerousCycleLaw}
 use Rattle.model.proofs.Elements.{all-append, all-back, all-each, all-front}
 use Rattle.model.proofs.Members.{In, in_from_Contains, any_from_in, any_witness}
 

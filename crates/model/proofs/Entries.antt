@@ -1,9 +1,7 @@
 -- What a binary search by key finds among entries that stand by strictly rising key.
-use Rattle.std.proofs.lemmas.{Grind.common_steps, Map.Lookups.exact_bytes, Cmp.tied_itself}
-use Rattle.std.proofs.Common.{◌≡◌, ℕ, zero, suc, ◌-◌, ◌<◌, ◌≤◌, true, false, T, not, List, [], ◌∷◌, length, take, drop, get_or, Result, Ok, Err, IfOk, IfErr, refl, ap, subst, arith, Less, Greater, is_lt, nat_cmp}
-use Rattle.std.specs.{List.Sorted.IsSearchInRange, List.Sorted.IsBinarySearchResult, Ordering.ordering_reverse}
-use Rattle.std.specs.{Cmp.Lexicographic.slice_cmp, Cmp.Lexicographic.nat_list_cmp_total, FinMap.Entries.where_key, FinMap.Entries.is_sorted, FinMap.Entries.below_all}
-use Rattle.model.specs.{Map.Bytes, Map.key_cmp, Entries.IsAt, Entries.IsGap, Entries.IsSplit}
+use Rattle.model.proofs.Words.{common_steps, exact_bytes, tied_itself, ◌≡◌, ℕ, zero, suc, ◌-◌, ◌<◌, ◌≤◌, true, false, T, not, List, [], ◌∷◌, length, take, drop, get_or, Result, Ok, Err, IfOk, IfErr, refl, ap, subst, arith, Less, Greater, is_lt, nat_cmp, ordering_reverse, slice_cmp, nat_list_cmp_total, where_key, is_sorted, below_all, Bytes, key_cmp}
+use Rattle.std.specs.List.Sorted.{IsSearchInRange, IsBinarySearchResult}
+use Rattle.model.specs.Entries.{IsAt, IsGap, IsSplit}
 pub use Rattle.model.proofs.InOrder.{parts}
 use Rattle.model.proofs.InOrder.{below_at, rise}
 

@@ -1,7 +1,6 @@
 -- Entries by strictly rising key, whatever the keys and their order: parts of such a list, and what it has at a key.
-use Rattle.std.proofs.lemmas.Grind.{common_steps}
-use Rattle.std.proofs.Common.{◌≡◌, ℕ, suc, ◌<◌, ◌≤◌, Bool, T, cond, ◌&&◌, List, [], ◌∷◌, ◌++◌, length, take, drop, get_or, None, Some, refl, sym, ap, subst, ◌∙◌, arith, Ordering, Less, Equal, is_eq, is_lt, take-append-drop}
-use Rattle.std.specs.{Cmp.IsTotalOrder, List.Sorted.IsNonDecreasingBy, Ordering.ordering_index, FinMap.Entries.find, FinMap.Entries.below_all, FinMap.Entries.is_sorted}
+use Rattle.model.proofs.Words.{common_steps, ◌≡◌, ℕ, suc, ◌<◌, ◌≤◌, Bool, T, cond, ◌&&◌, List, [], ◌∷◌, ◌++◌, length, take, drop, get_or, None, Some, refl, sym, ap, subst, ◌∙◌, arith, Ordering, Less, Equal, is_eq, is_lt, take-append-drop, ordering_index, below_all, is_sorted}
+use Rattle.std.specs.{Cmp.IsTotalOrder, List.Sorted.IsNonDecreasingBy, FinMap.Entries.find}
 
 pub parts : (a b : Bool) → T (a && b) → T a × T b
 parts a b h = grind (arith, common_steps)

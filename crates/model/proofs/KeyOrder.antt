@@ -1,8 +1,5 @@
 -- The order of keys by its tests.
-use Rattle.std.proofs.lemmas.{Grind.common_steps, Cmp.tied_itself, Map.Lookups.exact_bytes}
-use Rattle.std.proofs.Common.{arith, ◌≡◌, true, false, not, ap, ◌∙◌, Ordering, Less, Equal, Greater, is_lt, is_le}
-use Rattle.std.specs.{Ordering.ordering_reverse, Cmp.Lexicographic.nat_list_cmp_total}
-use Rattle.model.specs.Map.{Bytes, key_cmp}
+use Rattle.model.proofs.Words.{common_steps, tied_itself, exact_bytes, arith, ◌≡◌, true, false, not, ap, ◌∙◌, Ordering, Less, Equal, Greater, is_lt, is_le, ordering_reverse, nat_list_cmp_total, Bytes, key_cmp}
 use Rattle.model.proofs.Entries.{turned}
 
 pub less : (o : Ordering) → is_lt o ≡ true → o ≡ Less

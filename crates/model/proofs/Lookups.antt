@@ -1,11 +1,6 @@
 -- What a map has at a key after writes, when two maps are one, a map without a pair, and the first pairs of a range.
-use Rattle.std.proofs.lemmas.{Grind.common_steps, Map.Lookups.exact_bytes, Cmp.tied_itself, Cmp.eq_by_cmp_equiv, Bool.Decides.nat_tests, List.take-append-le}
-use Rattle.std.proofs.Common.{arith, ◌≡◌, Bool, true, false, not, cond, ◌||◌, List, [], ◌∷◌, Option, Some, None, unwrap_or, refl, sym, ap, is_eq, nat_cmp, ℕ, suc, ◌<◌, T, get_or, ◌∙◌, length, remove, zero, ◌≤◌, ◌&&◌, ◌++◌, subst, take, Less, is_le, is_lt}
-use Rattle.std.specs.{Cmp.Lexicographic.slice_cmp, Cmp.Lexicographic.nat_list_cmp_total, List.list_any, BTreeSet.insert_key}
-use Rattle.std.specs.FinMap.Entries.{find-put, find-where_key, is_sorted-put, is_sorted-where_key, same_entries, put, where_key, below_all}
-use Rattle.std.proofs.lemmas.Bool.{cases_Bool, or_cases, or_parts, and_parts, and_from}
-use Rattle.model.specs.Map.{Bytes, KeyMap, KeyWrite, IsMap, value_at, is_same_key, after_write, after_writes, is_in_range, pairs_in_range, IsInBounds, key_cmp}
-use Rattle.model.specs.PrivateCopy.{values_at, covers, last_key, page_end, mark_up_to, mark_of_reply}
+use Rattle.model.proofs.Words.{common_steps, exact_bytes, tied_itself, eq_by_cmp_equiv, nat_tests, take-append-le, arith, ◌≡◌, Bool, true, false, not, cond, ◌||◌, List, [], ◌∷◌, Option, Some, None, unwrap_or, refl, sym, ap, is_eq, nat_cmp, ℕ, suc, ◌<◌, T, get_or, ◌∙◌, length, remove, zero, ◌≤◌, ◌&&◌, ◌++◌, subst, take, Less, is_le, is_lt, slice_cmp, nat_list_cmp_total, list_any, find-put, find-where_key, is_sorted-put, is_sorted-where_key, same_entries, put, where_key, below_all, cases_Bool, or_cases, or_parts, and_parts, and_from, Bytes, KeyMap, KeyWrite, IsMap, value_at, is_same_key, after_write, after_writes, is_in_range, pairs_in_range, IsInBounds, key_cmp, values_at, covers, last_key, page_end, mark_up_to, mark_of_reply}
+use Rattle.std.specs.BTreeSet.{insert_key}
 use Rattle.model.specs.{Key.IsKey, Key.IsValue, Entries.IsAt}
 use Rattle.model.proofs.{Entries.turned, InOrder.parts, InOrder.less, InOrder.below_at}
 use Rattle.model.proofs.KeyOrder.{less as less_by_test, itself, same_keys, lt_le_trans}

@@ -1,17 +1,7 @@
 -- The machine keeps its history faithful, without dangerous pivots and without concurrent writers of one key.
-use Rattle.std.proofs.lemmas.{Grind.common_steps, Bool.Decides.nat_tests, Bool.and_parts, Bool.and_from, Bool.cond_both, Bool.lt-leb, Bool.false_from_ne_true}
-use Rattle.std.proofs.lemmas.List.Elements.{All-contains, All-from_recursion, All-push}
-use Rattle.std.proofs.Common.{◌≡◌, ◌⊎◌, ℕ, suc, ◌+◌, ◌-◌, ◌<◌, ◌≤◌, Bool, true, false, cond, ◌&&◌, List, [], ◌∷◌, ◌++◌, Option, Some, None, refl, sym, ap, subst, ◌∙◌, length, length-append, arith, inl, inr, not, IsTrue, nat_lt, nat_le, ◌==◌, nat_cmp, ◌^◌, ◌≢◌}
-use Rattle.std.specs.{List.AllByRecursion, FinMap.Entries.find as value_of, FinMap.Entries.put, FinMap.Entries.where_key}
-use Rattle.model.specs.{declared.refusals.Refusal.Refusal, Machine.Input.Asks, Machine.Input.Leaves, Laws.MachineLaw, Laws.VerdictHolds}
-use Rattle.model.specs.{Map.KeyMap, Map.KeyWrite, Map.is_same_key, Map.after_writes, Operations.Operation, Operations.Response}
-use Rattle.model.specs.Operations.Operation.{Begin, Commit, Abort}
-use Rattle.model.specs.PrivateCopy.{PrivateCopy, copy_of, copy_after, respond, responses}
-use Rattle.model.specs.History.{Record, record_of, map_at, IsNumberedFrom, IsFaithful, IsTrueRecord}
-use Rattle.model.specs.Dependency.{is_concurrent, writes_key, write_alike, is_dangerous_pivot, NoConcurrentWriters}
-use Rattle.model.specs.{Verdict.verdict, Verdict.is_overwritten, Verdict.HasNoDangerousPivot, Restarts.ReplaysFollow, Restarts.HaveOneOrder, Restarts.RestartLaw}
-use Rattle.model.specs.Machine.{Running, State, Input, IsReached, last, snapshot, running_of, store, commit, step_outside, own_step, step_inside, step_of, step, next, state_after, store_unless, record_to_commit}
-use Rattle.model.specs.SerialOrder.{serial_order, IsSerialOrder, replay, ReplaysReplies}
+use Rattle.model.proofs.Words.{common_steps, nat_tests, and_parts, and_from, cond_both, lt-leb, false_from_ne_true, All-contains, All-from_recursion, All-push, ◌≡◌, ◌⊎◌, ℕ, suc, ◌+◌, ◌-◌, ◌<◌, ◌≤◌, Bool, true, false, cond, ◌&&◌, List, [], ◌∷◌, ◌++◌, Option, Some, None, refl, sym, ap, subst, ◌∙◌, length, length-append, arith, inl, inr, not, IsTrue, nat_lt, nat_le, ◌==◌, nat_cmp, ◌^◌, ◌≢◌, AllByRecursion, put, where_key, Refusal, MachineLaw, VerdictHolds, KeyMap, KeyWrite, is_same_key, after_writes, Operation, Response, Begin, Commit, Abort, PrivateCopy, copy_of, copy_after, respond, responses, Record, record_of, map_at, IsNumberedFrom, IsFaithful, IsTrueRecord, is_concurrent, writes_key, write_alike, is_dangerous_pivot, NoConcurrentWriters, verdict, is_overwritten, HasNoDangerousPivot, Running, State, Input, IsReached, last, snapshot, running_of, store, commit, step_outside, own_step, step_inside, step_of, step, next, state_after, store_unless, record_to_commit, serial_order, IsSerialOrder, replay, ReplaysReplies}
+use Rattle.std.specs.FinMap.Entries.{find as value_of}
+use Rattle.model.specs.{Machine.Input.Asks, Machine.Input.Leaves, Restarts.ReplaysFollow, Restarts.HaveOneOrder, Restarts.RestartLaw}
 use Rattle.model.proofs.{Elements.all-each, Elements.all-filter, Lookups.same_key_comm, SerialOrders.replay_law}
 pub use Rattle.model.proofs.Members.{commit_low}
 use Rattle.model.proofs.Members.{In, in_from_Contains, Contains-from_in, at_in, each_in, any_from_in, any_witness, none_found}

@@ -1,12 +1,6 @@
 -- What the check of a commit may keep of a history: for each record, whether it has a read-write dependency to a concurrent one that
 -- committed before it. It is fixed once the record has committed.
-use Rattle.std.proofs.lemmas.{Grind.common_steps, Bool.Decides.nat_tests}
-use Rattle.std.proofs.Common.{◌≡◌, ℕ, ◌<◌, ◌≤◌, Bool, true, false, not, cond, ◌&&◌, ◌||◌, List, [], ◌∷◌, ◌++◌, Some, refl, sym, ap, ◌∙◌, arith, nat_lt, nat_le, ◌==◌, find, filter, le-ltb, lt-ltb, ltb-true, eq-eqb}
-use Rattle.std.specs.List.{list_any, AllByRecursion}
-use Rattle.std.proofs.lemmas.Bool.{both_ways, and_left, and_right, and_parts, or_cases, or_left, or_right, not_from_true, cases_lt, false_from_ne_true}
-use Rattle.model.specs.{declared.refusals.Refusal.TheVariants.PivotSelf, History.Record}
-use Rattle.model.specs.Dependency.{is_concurrent, concurrent_read_write, makes_dangerous_pivot, is_dangerous_pivot}
-use Rattle.model.specs.Verdict.{verdict, conflict_of, pivot_refusal, is_overwritten, HasNoDangerousPivot}
+use Rattle.model.proofs.Words.{common_steps, nat_tests, ◌≡◌, ℕ, ◌<◌, ◌≤◌, Bool, true, false, not, cond, ◌&&◌, ◌||◌, List, [], ◌∷◌, ◌++◌, Some, refl, sym, ap, ◌∙◌, arith, nat_lt, nat_le, ◌==◌, find, filter, le-ltb, lt-ltb, ltb-true, eq-eqb, list_any, AllByRecursion, both_ways, and_left, and_right, and_parts, or_cases, or_left, or_right, not_from_true, cases_lt, false_from_ne_true, PivotSelf, Record, is_concurrent, concurrent_read_write, makes_dangerous_pivot, is_dangerous_pivot, verdict, conflict_of, pivot_refusal, is_overwritten, HasNoDangerousPivot}
 use Rattle.model.proofs.Members.{In, each_in, Contains-from_in}
 
 -- ---- tests of lists

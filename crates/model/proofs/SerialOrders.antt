@@ -1,16 +1,8 @@
 -- The serial order of a history: each dependency leads to a later place. Sorted by place, the history has each record once, keeps real time, and
 -- replays.
-use Rattle.std.proofs.lemmas.{Grind.common_steps, Grind.fold-append, Bool.Decides.nat_tests, List.Kept.AllPairs-cons}
-use Rattle.std.proofs.lemmas.List.Elements.{All-contains, All-filter, All-from_recursion, filter_passes, recursion_from_All}
-use Rattle.std.proofs.Common.{◌≡◌, ◌⊎◌, ◌<◌, ◌≤◌, false, ◌&&◌, List, Option, Some, None, refl, ap, arith, inl, inr, IsTrue, nat_lt, Contains, le-leb, ltb-true, lt-ltb, fold, ◌≢◌, ℕ, suc, ◌+◌, Bool, true, cond, [], ◌∷◌, ◌++◌, sym, subst, ◌∙◌, length, get_or, append_assoc, append-nil, nat_le, AllPairs, IsPermutation, filter}
-use Rattle.std.proofs.lemmas.Bool.{and_parts, and_from, cases_lt, cases_Bool, both_ways, lt-leb, cond_both}
-use Rattle.std.specs.List.{AllByRecursion}
+use Rattle.model.proofs.Words.{common_steps, fold-append, nat_tests, All-contains, All-filter, All-from_recursion, filter_passes, recursion_from_All, ◌≡◌, ◌⊎◌, ◌<◌, ◌≤◌, false, ◌&&◌, List, Option, Some, None, refl, ap, arith, inl, inr, IsTrue, nat_lt, Contains, le-leb, ltb-true, lt-ltb, fold, ◌≢◌, ℕ, suc, ◌+◌, Bool, true, cond, [], ◌∷◌, ◌++◌, sym, subst, ◌∙◌, length, get_or, append_assoc, append-nil, nat_le, AllPairs, IsPermutation, filter, and_parts, and_from, cases_lt, cases_Bool, both_ways, lt-leb, cond_both, AllByRecursion, KeyMap, Bytes, IsMap, value_at, after_writes, HasNoDangerousPivot, Record, IsFaithful, IsTrueRecord, map_at, copy_of, copy_after, is_covered, PlacesRise, PlacesKeepTime, ReplayLaw, IsAhead, OrdersKeepTime, concurrent_read_write, is_dangerous_pivot, writes_key, reads_key, write_alike, reads_from, dependency, NoConcurrentWriters, Place, is_before, place, place_before, first_overwriter, placed, by_place, serial_order, replay, ReplaysReplies}
+use Rattle.std.proofs.lemmas.List.Kept.{AllPairs-cons}
 use Rattle.std.proofs.lemmas.List.Sorted.{All-permutation, IsPermutation-refl, IsPermutation-cons, IsPermutation-middle, IsPermutation-trans, Contains-permutation}
-use Rattle.model.specs.{Map.KeyMap, Map.Bytes, Map.IsMap, Map.value_at, Map.after_writes, Verdict.HasNoDangerousPivot}
-use Rattle.model.specs.{History.Record, History.IsFaithful, History.IsTrueRecord, History.map_at, PrivateCopy.copy_of, PrivateCopy.copy_after, PrivateCopy.is_covered}
-use Rattle.model.specs.Laws.{PlacesRise, PlacesKeepTime, ReplayLaw, IsAhead, OrdersKeepTime}
-use Rattle.model.specs.Dependency.{concurrent_read_write, is_dangerous_pivot, writes_key, reads_key, write_alike, reads_from, dependency, NoConcurrentWriters}
-use Rattle.model.specs.SerialOrder.{Place, is_before, place, place_before, first_overwriter, placed, by_place, serial_order, replay, ReplaysReplies}
 use Rattle.model.proofs.{Cycles.dependency_in, Copies.replayed, Elements.all-each, Elements.all-front, Elements.all-back}
 use Rattle.model.proofs.Members.{In, in_from_Contains, any_from_in, found, none_found, first_is_least, IsRising, rising_from_numbered, Contains-from_in, at_in, each_in, commit_low}
 use Rattle.model.proofs.Lookups.{any_at_key, value_after_alike, value_after_others, IsMap-after_writes, same_map}

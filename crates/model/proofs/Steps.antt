@@ -1,9 +1,5 @@
 -- What one more request adds to a transaction, and what a step leaves of the sessions: for those who show that an engine steps as the machine does.
-use Rattle.std.proofs.Common.{◌≡◌, ℕ, not, cond, List, [], ◌∷◌, ◌++◌, Some, None, refl, sym, ap, ◌==◌, nat_cmp}
-use Rattle.std.specs.{Ordering.eq_by_cmp, FinMap.Entries.find-put, FinMap.Entries.find-where_key}
-use Rattle.std.proofs.lemmas.{Cmp.nat_cmp_total, Map.Lookups.exact_unsigned}
-use Rattle.model.specs.{Operations.Operation, PrivateCopy.PrivateCopy, PrivateCopy.copy_after, PrivateCopy.respond}
-use Rattle.model.specs.Machine.{Running, State, running_of, with_running, leave}
+use Rattle.model.proofs.Words.{◌≡◌, ℕ, not, cond, List, [], ◌∷◌, ◌++◌, Some, None, refl, sym, ap, ◌==◌, nat_cmp, eq_by_cmp, find-put, find-where_key, nat_cmp_total, exact_unsigned, Operation, PrivateCopy, copy_after, respond, Running, State, running_of, with_running, leave}
 
 -- ---- a transaction after one more request
 

@@ -1,13 +1,5 @@
 -- Of two tests of records the ends decide: the first record that passes the one, and the last that passes the other.
-use Rattle.std.proofs.Common.{◌≡◌, ◌<◌, ℕ, Bool, true, ◌&&◌, List, [], ◌∷◌, Option, Some, None, refl, ap, ◌∙◌, arith}
-use Rattle.std.specs.Prelude.{nat_le, find}
-use Rattle.std.specs.List.{list_any, AllByRecursion}
-use Rattle.std.specs.Option.{option_map}
-use Rattle.std.proofs.lemmas.Bool.Decides.{nat_tests}
-use Rattle.model.specs.History.{Record}
-use Rattle.model.proofs.Members.{IsRising}
-use Rattle.model.proofs.Pivots.{any_alike}
-use Rattle.pivot_check.specs.Kept.{last_that, are_in_order}
+use Rattle.pivot_check.proofs.Words.{◌≡◌, ◌<◌, ℕ, Bool, true, ◌&&◌, List, [], ◌∷◌, Option, Some, None, refl, ap, ◌∙◌, arith, nat_le, find, list_any, AllByRecursion, option_map, nat_tests, Record, IsRising, any_alike, last_that, are_in_order}
 
 abbrev pub number_of : Option Record → Option ℕ
 number_of o = option_map (λ (r : Record). r.commit) o

@@ -1,25 +1,9 @@
 -- What is kept decides the verdict over the whole history, and stays what is kept of it.
-use Rattle.std.proofs.Common.{◌≡◌, ℕ, ◌+◌, ◌<◌, ◌≤◌, Bool, true, cond, ◌&&◌, List, [], ◌∷◌, ◌++◌, Option, Some, None, refl, sym, ap, ◌∙◌, length, map, arith}
-use Rattle.std.specs.Prelude.{nat_lt, find, All}
-use Rattle.std.specs.List.{list_any, filter, AllByRecursion}
-use Rattle.std.specs.Option.{option_map}
-use Rattle.std.proofs.lemmas.Bool.{or_left, lt-ltb, ltb-true, false_from_ne_true}
-use Rattle.std.proofs.lemmas.Bool.Decides.{nat_tests}
-use Rattle.std.proofs.lemmas.Grind.{common_steps}
-use Rattle.std.proofs.lemmas.List.Elements.{All-append, All-contains, All-filter, All-from_recursion, filter-append, recursion_from_All}
-use Rattle.std.proofs.lemmas.List.{map-append}
+use Rattle.pivot_check.proofs.Words.{◌≡◌, ℕ, ◌+◌, ◌<◌, ◌≤◌, Bool, true, cond, ◌&&◌, List, [], ◌∷◌, ◌++◌, Option, Some, None, refl, sym, ap, ◌∙◌, length, map, arith, nat_lt, find, All, list_any, filter, AllByRecursion, option_map, or_left, lt-ltb, ltb-true, false_from_ne_true, nat_tests, common_steps, All-append, All-contains, All-filter, All-from_recursion, filter-append, recursion_from_All, map-append, Bytes, is_same_key, is_covered, Record, IsNumberedFrom, In, at_in, each_in, Contains-from_in, in_from_Contains, IsRising, rising_from_numbered, any_filter, any_same, find_alike, find_same, read_write_kept, has_earlier_target, stands_between, earlier_target-push, own_earlier_target, verdict_by_kept, View, KeptRecord, Facts, key_of, keys_of, is_written, leads_to, follows, becomes_pivot, first_number, last_that, last_number, are_in_order, is_own_pivot, own_record, IsInReach, StandsFor, IsRecordOf, kept_of, kept_above}
 use Rattle.model.specs.declared.refusals.Refusal.TheVariants as refusal
-use Rattle.model.specs.Map.{Bytes, is_same_key}
-use Rattle.model.specs.PrivateCopy.{is_covered}
-use Rattle.model.specs.History.{Record, IsNumberedFrom}
 use Rattle.model.specs.Dependency.{writes_key, concurrent_read_write}
 use Rattle.model.specs.Verdict.{verdict, conflict_of, pivot_refusal, is_overwritten, HasNoDangerousPivot}
-use Rattle.model.proofs.Members.{In, at_in, each_in, Contains-from_in, in_from_Contains, IsRising, rising_from_numbered}
 use Rattle.model.proofs.Machines.{in_append_cases, numbered-append, commit_low, clear_from}
-use Rattle.model.proofs.Pivots.{any_filter, any_same, find_alike, find_same, read_write_kept, has_earlier_target, stands_between, earlier_target-push, own_earlier_target, verdict_by_kept}
-use Rattle.snapshot.specs.View.{View}
-use Rattle.pivot_check.specs.Kept.{KeptRecord, Facts, key_of, keys_of, is_written, leads_to, follows, becomes_pivot, first_number, last_that, last_number, are_in_order, is_own_pivot, own_record, IsInReach}
-use Rattle.pivot_check.specs.StandsFor.{StandsFor, IsRecordOf, kept_of, kept_above}
 use Rattle.pivot_check.proofs.Lists.{any-map, find-map, filter-map, last_that-map, last_that_same, map_same}
 use Rattle.pivot_check.proofs.Ends.{number_of, by_ends}
 

@@ -1,14 +1,8 @@
 -- What a mark covers is an interval from its start on.
-use Rattle.std.proofs.Common.{◌≡◌, Bool, false, ◌&&◌, Option, Some, None, arith}
+use Rattle.pivot_check.proofs.Words.{◌≡◌, Bool, false, ◌&&◌, Option, Some, None, arith, is_lt, is_le, common_steps, Bytes, key_cmp, is_below, Mark, covers, start_of}
 use Rattle.std.specs.declared.cmp.Ordering.TheVariants.{Less}
-use Rattle.std.specs.Ordering.{is_lt, is_le}
-use Rattle.std.proofs.lemmas.Grind.{common_steps}
-use Rattle.model.specs.Map.{Bytes, key_cmp, is_below}
-use Rattle.model.specs.PrivateCopy.{Mark, covers}
 use Rattle.model.specs.PrivateCopy.Mark.{OfKey, OfRange, OfClosedRange}
-use Rattle.model.proofs.Entries.{turned}
-use Rattle.model.proofs.KeyOrder.{less_trans, same_keys}
-use Rattle.marks.specs.Marked.{start_of}
+use Rattle.model.proofs.{Entries.turned, KeyOrder.less_trans, KeyOrder.same_keys}
 
 -- none of the keys below the start
 pub covers_below : (m : Mark) (q : Bytes) → key_cmp q (start_of m) ≡ Less → covers m q ≡ false

@@ -1,20 +1,6 @@
 -- Two lists of postings made into one, from their heads, and what runs answer.
-use Rattle.std.proofs.Common.{◌≡◌, ◌≤◌, ◌+◌, ℕ, Bool, true, List, [], ◌∷◌, ◌++◌, None, refl, sym, ap, ◌∙◌, arith}
-use Rattle.std.specs.Prelude.{max, nat_lt, is_some, not}
-use Rattle.std.specs.List.{list_all, AllByRecursion}
-use Rattle.std.specs.Ordering.{is_le}
-use Rattle.std.proofs.lemmas.Bool.{and_parts, and_from}
-use Rattle.std.proofs.lemmas.Bool.Decides.{nat_tests}
-use Rattle.std.proofs.lemmas.List.{append_assoc, drop_all}
-use Rattle.std.proofs.lemmas.List.Folds.{list_all-append}
-use Rattle.model.specs.Map.{Bytes, key_cmp}
-use Rattle.pivot_check.specs.declared.run.WrittenRun.{WrittenRun}
-use Rattle.pivot_check.specs.declared.part.Part.{Part}
-use Rattle.pivot_check.specs.Postings.{Posting, least, lesser, keys_rise, are_upto}
-use Rattle.pivot_check.specs.Parts.{live, left, live_in}
-use Rattle.pivot_check.specs.Inside.{in_run, postings_in}
-use Rattle.pivot_check.specs.Merging.{are_keys_from, BeginsBelow}
-use Rattle.pivot_check.specs.Agreeing.{lesser_none, least-append, least-runs}
+use Rattle.pivot_check.proofs.Words.{◌≡◌, ◌≤◌, ◌+◌, ℕ, Bool, true, List, [], ◌∷◌, ◌++◌, None, refl, sym, ap, ◌∙◌, arith, max, nat_lt, is_some, not, list_all, AllByRecursion, is_le, and_parts, and_from, nat_tests, append_assoc, drop_all, list_all-append, Bytes, key_cmp, Posting, least, lesser, keys_rise, are_upto, live, left, live_in, in_run, postings_in, lesser_none, least-append, least-runs}
+use Rattle.pivot_check.specs.{declared.run.WrittenRun.WrittenRun, declared.part.Part.Part, Merging.are_keys_from, Merging.BeginsBelow}
 use Rattle.pivot_check.proofs.Walks.{le_trans, rise_between}
 
 -- ---- one was moved from the head of xs behind ms

@@ -1,28 +1,12 @@
 -- What is kept decides the verdict over the whole history, and goes on standing for it.
-use Rattle.std.proofs.Common.{◌≡◌, ◌≤◌, ◌<◌, ◌+◌, ℕ, Bool, true, false, cond, List, [], ◌∷◌, ◌++◌, Option, Some, None, map, length, refl, sym, ap, subst, ◌∙◌, arith}
-use Rattle.std.specs.Prelude.{nat_lt, is_some, find, option_map, ◌&&◌, not}
-use Rattle.std.specs.List.{list_any, filter, position}
-use Rattle.model.specs.declared.refusals.Refusal.{Refusal}
+use Rattle.pivot_check.proofs.Words.{◌≡◌, ◌≤◌, ◌<◌, ◌+◌, ℕ, Bool, true, false, cond, List, [], ◌∷◌, ◌++◌, Option, Some, None, map, length, refl, sym, ap, subst, ◌∙◌, arith, nat_lt, is_some, find, not, list_any, filter, position, Bytes, KeyWrite, Mark, Record, IsRising as RecordsRise, rising_from_numbered, all-map, find_alike, length_push, nil_from_length, View, KeptRecord, Facts, keys_of, is_written, leads_to, follows, becomes_pivot, first_number, last_number, are_in_order, own_record, IsInReach, Posting, postings_by, least, lesser, covered_of, are_upto, StandsFor, IsRecordOf, IsClear, Says, AreWriters, verdict_found, kept_of, kept_above, Readers, last_reader, IsNoted, IsForgotten}
+use Rattle.std.specs.Prelude.{option_map, ◌&&◌}
+use Rattle.model.specs.{declared.refusals.Refusal.Refusal, Verdict.verdict, Verdict.conflict_of}
 use Rattle.model.specs.declared.refusals.Refusal.TheVariants as refusal
-use Rattle.model.specs.Map.{Bytes, KeyWrite}
-use Rattle.model.specs.PrivateCopy.{Mark}
-use Rattle.model.specs.History.{Record}
-use Rattle.model.specs.Verdict.{verdict, conflict_of}
-use Rattle.model.proofs.Members.{IsRising as RecordsRise, rising_from_numbered}
-use Rattle.model.proofs.Elements.{all-map}
-use Rattle.model.proofs.Pivots.{find_alike}
-use Rattle.std.proofs.lemmas.List.{length_push, nil_from_length}
-use Rattle.snapshot.specs.View.{View}
-use Rattle.pivot_check.specs.Kept.{KeptRecord, Facts, keys_of, is_written, leads_to, follows, becomes_pivot, first_number, last_number, are_in_order, own_record, IsInReach}
-use Rattle.pivot_check.specs.Postings.{Posting, postings_by, least, lesser, covered_of, are_upto}
-use Rattle.pivot_check.specs.StandsFor.{StandsFor, IsRecordOf, IsClear, Says, AreWriters, verdict_found, kept_of, kept_above}
 use Rattle.pivot_check.specs.Index.{is_written_since, target, source, other_pivot, answer_found}
-use Rattle.pivot_check.specs.declared.verdict.Verdict.{Verdict}
-use Rattle.pivot_check.specs.declared.verdict.Verdict.TheVariants.{Clear, Overwritten}
-use Rattle.pivot_check.proofs.Lists.{found_at, found_nowhere}
+use Rattle.pivot_check.specs.{declared.verdict.Verdict.Verdict, declared.verdict.Verdict.TheVariants.Clear, declared.verdict.Verdict.TheVariants.Overwritten}
+use Rattle.pivot_check.proofs.{Lists.found_at, Lists.found_nowhere, LastSources.source_found, LastSources.noted_readers, LastSources.forgotten_readers}
 use Rattle.pivot_check.proofs.Histories.{history_rises, kept_later, verdict_is, all_kept, numbered, begun, no_pivot}
-use Rattle.last_readers.specs.Readers.{Readers, last_reader, IsNoted, IsForgotten}
-use Rattle.pivot_check.proofs.LastSources.{source_found, noted_readers, forgotten_readers}
 use Rattle.pivot_check.proofs.Writers.{IsRising, any_is_found, written as written_by, target as target_by, pivot as pivot_by, noted as writers_noted, forgotten as writers_forgotten, by_upto}
 
 rising_map : (h rs : List Record) → RecordsRise rs → IsRising (map (kept_of h) rs)

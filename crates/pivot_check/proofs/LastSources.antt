@@ -1,20 +1,7 @@
 -- The last of the concurrent records that has read a key of the transaction's own, found by looking up the last reader of each key.
-use Rattle.std.proofs.Common.{◌≡◌, ◌≤◌, ◌<◌, ◌+◌, ℕ, suc, Bool, false, cond, ◌||◌, List, [], ◌∷◌, ◌++◌, Some, None, length, map, refl, sym, ap, ◌∙◌, arith}
-use Rattle.std.specs.Prelude.{nat_lt, max}
-use Rattle.std.specs.List.{list_any, filter, AllByRecursion}
-use Rattle.std.proofs.lemmas.Bool.{le-ltb}
-use Rattle.std.proofs.lemmas.Bool.Decides.{nat_tests}
-use Rattle.model.specs.Map.{Bytes}
-use Rattle.model.specs.PrivateCopy.{Mark, is_covered}
-use Rattle.model.specs.History.{Record, IsNumberedFrom}
-use Rattle.model.proofs.Members.{IsRising}
-use Rattle.snapshot.specs.View.{View}
-use Rattle.last_readers.specs.Readers.{cut, after}
+use Rattle.pivot_check.proofs.Words.{◌≡◌, ◌≤◌, ◌<◌, ◌+◌, ℕ, suc, Bool, false, cond, ◌||◌, List, [], ◌∷◌, ◌++◌, Some, None, length, map, refl, sym, ap, ◌∙◌, arith, nat_lt, max, list_any, filter, AllByRecursion, le-ltb, nat_tests, Bytes, Mark, is_covered, Record, IsNumberedFrom, IsRising, View, cut, after, KeptRecord, keys_of, leads_to, AreAbove, last_that, last_number, greater, last_source, kept_of, greatest, last_reader_in, AreReaders}
 use Rattle.last_readers.proofs.Cuts.{cut_twice}
-use Rattle.pivot_check.specs.Kept.{KeptRecord, keys_of, leads_to, AreAbove, last_that, last_number, greater, last_source}
-use Rattle.pivot_check.specs.StandsFor.{kept_of, greatest, last_reader_in, AreReaders}
-use Rattle.pivot_check.proofs.Lists.{last_that-map}
-use Rattle.pivot_check.proofs.Ends.{number_of}
+use Rattle.pivot_check.proofs.{Lists.last_that-map, Ends.number_of}
 
 -- ---- numbers above another
 

@@ -10,3 +10,4 @@ pub mod Walks
 pub mod PlacedMarks
 pub mod Judging
 pub mod Joined
+pub mod Words

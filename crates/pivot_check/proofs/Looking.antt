@@ -1,12 +1,6 @@
 -- Postings that were looked at, and those behind them.
-use Rattle.std.proofs.Common.{◌≡◌, ◌≤◌, ◌-◌, ℕ, Bool, cond, List, [], ◌∷◌, ◌++◌, Option, Some, None, sym, ap, subst, ◌∙◌, arith}
-use Rattle.std.specs.Prelude.{min}
-use Rattle.model.proofs.Elements.{all-each, all-append}
-use Rattle.pivot_check.specs.Postings.{Posting, least, lesser, is_asked, between}
-use Rattle.pivot_check.specs.Bounds.{KeepsFound}
-use Rattle.pivot_check.specs.Agreeing.{lesser_assoc, least-append}
-use Rattle.pivot_check.proofs.Writers.{lesser_comm}
-use Rattle.pivot_check.proofs.Passing.{passed_over, kept_part, split_at}
+use Rattle.pivot_check.proofs.Words.{◌≡◌, ◌≤◌, ◌-◌, ℕ, Bool, cond, List, [], ◌∷◌, ◌++◌, Option, Some, None, sym, ap, subst, ◌∙◌, arith, min, all-each, all-append, Posting, least, lesser, is_asked, between, KeepsFound, lesser_assoc, least-append}
+use Rattle.pivot_check.proofs.{Writers.lesser_comm, Passing.passed_over, Passing.kept_part, Passing.split_at}
 
 -- ---- what was found
 

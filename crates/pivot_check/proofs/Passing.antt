@@ -1,18 +1,8 @@
 -- Postings are passed over where none that is asked for has a number below the one that was found.
-use Rattle.std.proofs.Common.{◌≡◌, ◌≤◌, ◌<◌, ◌+◌, ◌-◌, ◌*◌, ℕ, zero, suc, Bool, true, not, ◌&&◌, ◌||◌, List, [], ◌∷◌, ◌++◌, Option, Some, length, length-drop, get_or, take, drop, refl, sym, ap, subst, ◌∙◌, arith, inl, inr}
-use Rattle.std.specs.Prelude.{nat_le, min}
-use Rattle.std.specs.List.{AllByRecursion}
-use Rattle.std.proofs.Math.ListN.{set}
-use Rattle.std.proofs.Math.Seq.{take-add}
-use Rattle.std.proofs.lemmas.List.{drop-drop, drop-append-le, take-append-le, take-take, drop-take, append-nil, get_or_append_left, get_or_push, length_push}
-use Rattle.std.proofs.lemmas.List.Folds.{list_all-append}
-use Rattle.std.proofs.lemmas.List.Elements.{All-drop, All-from_recursion, recursion_from_All}
-use Rattle.std.proofs.lemmas.Bool.{and_parts, and_from, leb-true, cases_lt}
-use Rattle.model.proofs.Elements.{all-take}
+use Rattle.pivot_check.proofs.Words.{◌≡◌, ◌≤◌, ◌<◌, ◌+◌, ◌-◌, ◌*◌, ℕ, zero, suc, Bool, true, ◌&&◌, ◌||◌, List, [], ◌∷◌, ◌++◌, Option, Some, length, length-drop, get_or, take, drop, refl, sym, ap, subst, ◌∙◌, arith, inl, inr, nat_le, min, AllByRecursion, drop-drop, drop-append-le, take-append-le, take-take, drop-take, append-nil, get_or_append_left, get_or_push, length_push, list_all-append, All-drop, All-from_recursion, recursion_from_All, and_parts, and_from, leb-true, cases_lt, all-take, Posting, least, lesser, is_asked, between, is_from_bound, are_from_bound, AreBounds, KeepsFound, lesser_none, lesser_assoc}
+use Rattle.std.proofs.Common.{not}
+use Rattle.std.proofs.{Math.ListN.set, Math.Seq.take-add}
 use Rattle.pivot_check.specs.declared.bound.Bound.{Bound}
-use Rattle.pivot_check.specs.Postings.{Posting, least, lesser, is_asked, between}
-use Rattle.pivot_check.specs.Bounds.{is_from_bound, are_from_bound, AreBounds, KeepsFound}
-use Rattle.pivot_check.specs.Agreeing.{lesser_none, lesser_assoc}
 
 -- ---- bounds
 

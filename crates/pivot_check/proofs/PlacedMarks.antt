@@ -1,22 +1,9 @@
 -- Marks by their places, in whatever order.
-use Rattle.std.proofs.Common.{◌≡◌, ◌≤◌, ◌<◌, ◌+◌, ℕ, zero, suc, Bool, false, ◌&&◌, ◌||◌, List, [], ◌∷◌, Option, None, length, get_or, take, drop, refl, sym, ap, ◌∙◌, add-one, arith}
-use Rattle.std.specs.Prelude.{IsPermutation}
-use Rattle.std.specs.List.{list_any}
-use Rattle.std.proofs.Math.Seq.{take-add}
-use Rattle.std.proofs.lemmas.List.{take_all, drop_all, at_drop_all, at_drop_more}
-use Rattle.std.proofs.lemmas.List.Folds.{list_any-append}
-use Rattle.std.proofs.lemmas.List.Sorted.{list_any-IsPermutation}
-use Rattle.model.specs.Map.{Bytes}
-use Rattle.model.specs.PrivateCopy.{Mark, covers, is_covered}
-use Rattle.model.proofs.Pivots.{or_false}
+use Rattle.pivot_check.proofs.Words.{◌≡◌, ◌≤◌, ◌<◌, ◌+◌, ℕ, zero, suc, Bool, false, ◌&&◌, ◌||◌, List, [], ◌∷◌, Option, None, length, get_or, take, drop, refl, sym, ap, ◌∙◌, add-one, arith, IsPermutation, list_any, take_all, drop_all, at_drop_all, at_drop_more, list_any-append, Bytes, Mark, covers, is_covered, or_false, mark_of, marks_of, Posting, least, lesser, is_asked, asked_of, covered_of, places_upto, is_covered_at, covered_at, AreAllPlaces, lesser_none, lesser_assoc}
+use Rattle.std.proofs.{Math.Seq.take-add, lemmas.List.Sorted.list_any-IsPermutation}
 use Rattle.marks.specs.declared.owned.OwnedMark.{OwnedMark}
-use Rattle.marks.specs.Marked.{mark_of, marks_of}
 use Rattle.marks.proofs.MarkLaws.{length-marks_of}
-use Rattle.pivot_check.specs.Postings.{Posting, least, lesser, is_asked, asked_of, covered_of}
-use Rattle.pivot_check.specs.Places.{places_upto, is_covered_at, covered_at, AreAllPlaces}
-use Rattle.pivot_check.proofs.Walks.{least-or, none_asked}
-use Rattle.pivot_check.specs.Agreeing.{lesser_none, lesser_assoc}
-use Rattle.pivot_check.proofs.Writers.{least_alike}
+use Rattle.pivot_check.proofs.{Walks.least-or, Walks.none_asked, Writers.least_alike}
 
 -- ---- all places
 

@@ -1,24 +1,10 @@
 -- Which postings a mark covers, and walks over marks and runs.
-use Rattle.std.proofs.Common.{◌≡◌, ◌≤◌, ◌<◌, ◌+◌, ℕ, zero, suc, Bool, true, false, not, ◌&&◌, ◌||◌, List, [], ◌∷◌, Some, None, length, length-drop, get_or, take, drop, refl, sym, ap, ◌∙◌, arith}
-use Rattle.std.specs.Prelude.{◌++◌, slice_get}
-use Rattle.std.specs.List.{list_all, AllByRecursion, insert}
-use Rattle.std.proofs.lemmas.List.{take-append-drop, get_or-drop, get_or-take, length-take}
-use Rattle.std.proofs.lemmas.List.Elements.{recursion_from_All}
-use Rattle.std.proofs.lemmas.List.Folds.{list_all-append}
-use Rattle.std.specs.List.Sorted.{IsPartitionPoint, IsPartitionedBy}
-use Rattle.std.specs.Ordering.{is_lt, is_le}
-use Rattle.std.proofs.lemmas.Bool.{both_ways, and_parts, and_from, not-true, true_from_ne_false}
-use Rattle.std.proofs.lemmas.Grind.{common_steps}
-use Rattle.model.specs.Map.{Bytes, key_cmp}
-use Rattle.model.specs.PrivateCopy.{Mark, covers}
-use Rattle.model.proofs.Elements.{all-each, all-get, all-pass}
+use Rattle.pivot_check.proofs.Words.{◌≡◌, ◌≤◌, ◌<◌, ◌+◌, ℕ, zero, suc, Bool, true, false, ◌&&◌, ◌||◌, List, [], ◌∷◌, Some, None, length, length-drop, get_or, take, drop, refl, sym, ap, ◌∙◌, arith, slice_get, list_all, AllByRecursion, insert, take-append-drop, get_or-drop, get_or-take, length-take, recursion_from_All, list_all-append, IsPartitionPoint, IsPartitionedBy, is_lt, is_le, both_ways, and_parts, and_from, not-true, true_from_ne_false, common_steps, Bytes, key_cmp, Mark, covers, all-each, all-get, all-pass, start_of, Posting, keys_rise, are_from, least, lesser, lesser_none, lesser_assoc, least-append}
+use Rattle.std.proofs.Common.{not}
+use Rattle.std.specs.Prelude.{◌++◌}
 use Rattle.model.proofs.Entries.{turned}
 use Rattle.model.proofs.KeyOrder.{itself, less, less_trans, same_keys}
-use Rattle.marks.specs.Marked.{start_of}
-use Rattle.pivot_check.specs.Postings.{Posting, keys_rise, are_from, least, lesser}
-use Rattle.pivot_check.proofs.Intervals.{covers_below, covers_above}
-use Rattle.pivot_check.specs.Agreeing.{lesser_none, lesser_assoc, least-append}
-use Rattle.pivot_check.proofs.Writers.{lesser_comm}
+use Rattle.pivot_check.proofs.{Intervals.covers_below, Intervals.covers_above, Writers.lesser_comm}
 
 -- ---- the order of keys
 

@@ -1,19 +1,6 @@
 -- What is asked of records through the postings of the keys that they wrote.
-use Rattle.std.proofs.Common.{◌≡◌, ◌≤◌, ◌<◌, ℕ, Bool, true, false, cond, ◌&&◌, ◌||◌, List, [], ◌∷◌, ◌++◌, Option, Some, None, refl, sym, ap, ◌∙◌, arith}
-use Rattle.std.specs.Prelude.{nat_lt, is_some, not}
-use Rattle.std.specs.List.{list_any, filter, AllByRecursion}
-use Rattle.std.specs.Option.{option_map}
-use Rattle.std.proofs.lemmas.Bool.Decides.{nat_tests}
-use Rattle.std.proofs.lemmas.List.Elements.{filter-append}
-use Rattle.model.specs.Map.{Bytes, is_same_key}
-use Rattle.model.specs.PrivateCopy.{is_covered}
+use Rattle.pivot_check.proofs.Words.{◌≡◌, ◌≤◌, ◌<◌, ℕ, Bool, true, false, cond, ◌&&◌, ◌||◌, List, [], ◌∷◌, ◌++◌, Option, Some, None, refl, sym, ap, ◌∙◌, arith, nat_lt, is_some, not, list_any, filter, AllByRecursion, option_map, nat_tests, filter-append, Bytes, is_same_key, is_covered, find_alike, View, KeptRecord, first_number, follows, becomes_pivot, is_written, Posting, postings_by, least, lesser, asked_of, covered_of, lesser_none, lesser_assoc, least-append, postings_of, all_postings, AreWriters}
 use Rattle.model.specs.PrivateCopy.Mark.{OfKey}
-use Rattle.model.proofs.Pivots.{find_alike}
-use Rattle.snapshot.specs.View.{View}
-use Rattle.pivot_check.specs.Kept.{KeptRecord, first_number, follows, becomes_pivot, is_written}
-use Rattle.pivot_check.specs.Postings.{Posting, postings_by, least, lesser, asked_of, covered_of}
-use Rattle.pivot_check.specs.Agreeing.{lesser_none, lesser_assoc, least-append}
-use Rattle.pivot_check.specs.StandsFor.{postings_of, all_postings, AreWriters}
 
 -- the records stand by rising commit number
 abbrev pub IsRising : List KeptRecord → Type 0

@@ -1,9 +1,5 @@
 -- What a reader found at the front decides which answer is right, since no request begins another.
-use Rattle.std.proofs.lemmas.Grind.{common_steps}
-use Rattle.std.proofs.Common.{◌≡◌, ℕ, ◌-◌, ◌≤◌, List, [], ◌++◌, length, take, drop, refl, sym, ap, ◌∙◌, append_assoc, arith, length-append}
-use Rattle.std.proofs.lemmas.List.{append-nil, take-append-drop, take_at, length-take-le}
-use Rattle.model.specs.Grammar.{array_of_bulks, Spells, FrontSpells, IsProperBeginning}
-use Rattle.resp.specs.Reading.{IsForeign}
+use Rattle.resp.proofs.Words.{common_steps, ◌≡◌, ℕ, ◌-◌, ◌≤◌, List, [], ◌++◌, length, take, drop, refl, sym, ap, ◌∙◌, append_assoc, arith, length-append, append-nil, take-append-drop, take_at, length-take-le, array_of_bulks, Spells, FrontSpells, IsProperBeginning, IsForeign}
 use Rattle.resp.proofs.Requests.{array_one_form}
 
 one_more : (more : List ℕ) → 1 ≤ length more → (rest : List ℕ) → rest ++ more ≡ [] → ⊥

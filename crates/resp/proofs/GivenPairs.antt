@@ -1,18 +1,7 @@
 -- The pairs that an iterator gives, written one after the other.
-use Rattle.std.proofs.lemmas.Grind.{common_steps}
-use Rattle.std.proofs.Common.{◌≡◌, ℕ, ◌*◌, ◌≤◌, List, [], ◌∷◌, ◌++◌, length, map, Option, None, refl, sym, subst, append_assoc, arith, length-append}
-use Rattle.std.specs.Prelude.{codes}
-use Rattle.std.specs.List.{flat_map}
-use Rattle.std.specs.Borrow.{Bor}
-use Rattle.std.specs.Fmt.{decimal}
+use Rattle.resp.proofs.Words.{common_steps, ◌≡◌, ℕ, ◌*◌, ◌≤◌, List, [], ◌∷◌, ◌++◌, length, map, Option, None, refl, sym, subst, append_assoc, arith, length-append, codes, flat_map, Bor, decimal, append-nil, map-append, flat_map-append, crlf, pair_text, reply_text}
 use Rattle.std.specs.Iterator.{Yields, AlwaysYields}
-use Rattle.std.proofs.lemmas.List.{append-nil, map-append}
-use Rattle.std.proofs.lemmas.List.Concat.{flat_map-append}
-use Rattle.model.specs.declared.keys.KeyRef.{KeyRef}
-use Rattle.model.specs.Grammar.{crlf}
-use Rattle.model.specs.KeyBytes.{pair_bytes}
-use Rattle.model.specs.Operations.Response.{Pairs}
-use Rattle.model.specs.ReplyText.{pair_text, reply_text}
+use Rattle.model.specs.{declared.keys.KeyRef.KeyRef, KeyBytes.pair_bytes, Operations.Response.Pairs}
 
 -- what an iterator gave is a front of all that it gives
 pub given_front : {S A B : Type 0} (steps : S → Option A → S → Type 0) (view : A → B) (s : S) (all : List B) (xs : List A) (t : S) → AlwaysYields steps view s all → Yields steps s xs t → (rest : List B) × (map view xs ++ rest ≡ all)

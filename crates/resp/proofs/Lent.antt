@@ -1,9 +1,5 @@
 -- The parts that a request lends.
-use Rattle.std.proofs.lemmas.Grind.{common_steps}
-use Rattle.std.proofs.Common.{◌≡◌, ◌<◌, [], ◌∷◌, List, ℕ, length, take, map, arith, ◌+◌, ◌++◌, set, ap, ◌∙◌, length-append}
-use Rattle.std.proofs.lemmas.List.{map-set, take_more_set, length-map}
-use Rattle.model.specs.Grammar.{IsPart, IsRequest}
-use Rattle.std.specs.Borrow.{Bor}
+use Rattle.resp.proofs.Words.{common_steps, ◌≡◌, ◌<◌, [], ◌∷◌, List, ℕ, length, take, map, arith, ◌+◌, ◌++◌, set, ap, ◌∙◌, length-append, map-set, take_more_set, length-map, IsPart, IsRequest, Bor}
 
 -- the bytes that are lent
 abbrev pub lent : Bor (List ℕ) → List ℕ

@@ -1,14 +1,9 @@
 -- The number whose decimal some digits are.
-use Rattle.std.proofs.lemmas.Grind.{common_steps}
-use Rattle.std.proofs.Common.{◌≡◌, ℕ, zero, suc, ◌<◌, ◌≤◌, ◌^◌, List, Some, None, refl, sym, ap, ◌∙◌, arith}
+use Rattle.resp.proofs.Words.{common_steps, ◌≡◌, ℕ, zero, suc, ◌<◌, ◌≤◌, ◌^◌, List, Some, None, refl, sym, ap, ◌∙◌, arith, decimal, decimal_injective, cases_Bool}
 use Rattle.std.specs.Prelude.{Result, Ok, Err}
-use Rattle.std.specs.Fmt.{decimal}
-use Rattle.std.proofs.lemmas.Fmt.{decimal_injective}
 use Rattle.std.proofs.lemmas.Slice.Eq.{bytes_eq-Decides}
-use Rattle.std.proofs.lemmas.Bool.{cases_Bool}
-use Rattle.model.specs.declared.refusals.Refusal.{Refusal}
+use Rattle.model.specs.{declared.refusals.Refusal.Refusal, CommandTable.number_up_to, CommandTable.or_limit, CommandTable.limit_in}
 use Rattle.model.specs.declared.refusals.Refusal.TheVariants as refusals
-use Rattle.model.specs.CommandTable.{number_up_to, or_limit, limit_in}
 
 number_found : (most n : ℕ) (digits : List ℕ) → most < 2 ^ 64 → 1 ≤ n → n ≤ most → digits ≡ decimal n → number_up_to most digits ≡ Some n
 unfolding number_up_to

@@ -1,12 +1,6 @@
 -- The two kinds of line with a number.
-use Rattle.std.proofs.lemmas.Grind.{common_steps}
-use Rattle.std.proofs.Common.{◌≡◌, ℕ, ◌+◌, ◌-◌, ◌^◌, ◌<◌, ◌≤◌, List, [], ◌∷◌, ◌++◌, length, get_or, take, drop, refl, sym, ap, subst, ◌∙◌, append_assoc, arith}
-use Rattle.std.specs.Fmt.{decimal}
-use Rattle.std.proofs.lemmas.Fmt.{decimal_digit, decimal_injective}
-use Rattle.std.proofs.lemmas.List.{append-nil, take_rest}
+use Rattle.resp.proofs.Words.{common_steps, ◌≡◌, ℕ, ◌+◌, ◌-◌, ◌^◌, ◌<◌, ◌≤◌, List, [], ◌∷◌, ◌++◌, length, get_or, take, drop, refl, sym, ap, subst, ◌∙◌, append_assoc, arith, decimal, decimal_digit, decimal_injective, append-nil, take_rest, crlf, Stop, More, Bad, Stops, Only, CountLine, LengthLine}
 use Rattle.model.specs.Bounds.{value_max}
-use Rattle.model.specs.Grammar.{crlf}
-use Rattle.resp.specs.Reading.{Stop, More, Bad, Stops, Only, CountLine, LengthLine}
 use Rattle.resp.proofs.Behind.{stops_behind}
 use Rattle.resp.proofs.Digits.{IsDigit, AreDigits, same_digits, is_front, decimal_digits, front_of_decimal}
 

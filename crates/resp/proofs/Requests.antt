@@ -1,17 +1,8 @@
 -- Parts and requests: one form, and where a reader stops within one.
-use Rattle.std.proofs.lemmas.Grind.{common_steps}
-use Rattle.std.proofs.Common.{◌≡◌, ℕ, ◌+◌, ◌-◌, ◌<◌, ◌≤◌, List, [], ◌∷◌, ◌++◌, length, replicate, refl, sym, ap, ◌∙◌, append_assoc, arith, All, length-append}
-use Rattle.std.specs.List.{flat_map}
-use Rattle.std.specs.Fmt.{decimal}
-use Rattle.std.proofs.lemmas.List.{append-nil, length-replicate}
-use Rattle.std.proofs.lemmas.List.Concat.{flat_map-append}
-use Rattle.std.proofs.lemmas.List.Elements.{All-append, All-replicate, All-nil, All-cons, All-head, All-tail}
+use Rattle.resp.proofs.Words.{common_steps, ◌≡◌, ℕ, ◌+◌, ◌-◌, ◌<◌, ◌≤◌, List, [], ◌∷◌, ◌++◌, length, replicate, refl, sym, ap, ◌∙◌, append_assoc, arith, All, length-append, flat_map, decimal, append-nil, length-replicate, flat_map-append, All-append, All-replicate, All-nil, All-cons, All-head, All-tail, crlf, bulk, array_of_bulks, IsPart, IsRequest, Spells, Stop, More, Stops, Only, CountLine, LengthLine, PartText}
 use Rattle.model.specs.Bounds.{value_max}
 use Rattle.model.proofs.Fronts.{same_front}
-use Rattle.model.specs.Grammar.{crlf, bulk, array_of_bulks, IsPart, IsRequest, Spells}
-use Rattle.resp.specs.Reading.{Stop, More, Stops, Only, CountLine, LengthLine, PartText}
-use Rattle.resp.proofs.Behind.{stops_behind}
-use Rattle.resp.proofs.Lines.{line_one_form}
+use Rattle.resp.proofs.{Behind.stops_behind, Lines.line_one_form}
 
 -- ---- parts
 

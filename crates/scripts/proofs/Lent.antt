@@ -1,9 +1,5 @@
 -- The words of a line, lent from its text, and the parts that they stand for.
-use Rattle.std.proofs.Common.{◌≡◌, ◌<◌, ◌≤◌, ◌+◌, ◌-◌, [], ◌∷◌, ◌++◌, List, ℕ, length, take, drop, map, set, get_or, ap, sym, refl, ◌∙◌, arith}
-use Rattle.std.specs.Borrow.{Bor}
-use Rattle.std.proofs.lemmas.List.{take_more, take_all, length-map, length-set, map-append, take-map, drop-take}
-use Rattle.resp.proofs.Lent.{lent, lent_more}
-use Rattle.scripts.specs.Lines.{part_of}
+use Rattle.scripts.proofs.Words.{◌≡◌, ◌<◌, ◌≤◌, ◌+◌, ◌-◌, [], ◌∷◌, ◌++◌, List, ℕ, length, take, drop, map, set, get_or, ap, sym, refl, ◌∙◌, arith, Bor, take_more, take_all, length-map, length-set, map-append, take-map, drop-take, lent, lent_more, part_of}
 
 -- what a word stands for
 abbrev pub lent_part : Bor (List ℕ) → List ℕ

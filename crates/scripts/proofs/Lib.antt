@@ -6,3 +6,4 @@ pub mod Steps
 pub mod Reading
 pub mod Runs
 pub mod Writing
+pub mod Words

@@ -1,19 +1,9 @@
 -- The words of a text, as its pieces between spaces come.
-use Rattle.std.proofs.Common.{◌≡◌, ◌<◌, [], ◌∷◌, ◌++◌, List, ℕ, length, map, Some, None, Bool, true, false, cond, ap, sym, ◌∙◌, arith, length-append}
-use Rattle.std.specs.Prelude.{not, ◌==◌}
-use Rattle.std.specs.List.{filter, slice_split}
-use Rattle.std.specs.Fn.{CalledAt}
-use Rattle.std.specs.Borrow.{Bor}
-use Rattle.std.specs.Iterator.{Yields}
+use Rattle.scripts.proofs.Words.{◌≡◌, ◌<◌, [], ◌∷◌, ◌++◌, List, ℕ, length, map, Some, None, Bool, true, false, cond, ap, sym, ◌∙◌, arith, length-append, not, ◌==◌, filter, slice_split, Bor, map-append, lent, words_of}
+use Rattle.std.specs.{Fn.CalledAt, Iterator.Yields, declared.slice.Split.Split}
 use Rattle.std.specs.Slice.Iter.{split_steps, split_rest, split_done, split_callee}
-use Rattle.std.specs.declared.slice.Split.{Split}
-use Rattle.std.proofs.iter.Next.{Yields-more}
-use Rattle.std.proofs.lemmas.List.{map-append}
-use Rattle.std.proofs.lemmas.List.Elements.{filter-append}
-use Rattle.std.proofs.lemmas.Iterator.Splits.{YieldsList-from_slice_split}
+use Rattle.std.proofs.{iter.Next.Yields-more, lemmas.List.Elements.filter-append, lemmas.Iterator.Splits.YieldsList-from_slice_split}
 use Rattle.resp.proofs.GivenPairs.{given_front, same_given}
-use Rattle.resp.proofs.Lent.{lent}
-use Rattle.scripts.specs.Lines.{words_of}
 use denote.Param.Members.{Mut}
 
 -- a piece that is a word

@@ -1,18 +1,8 @@
 -- What is read of a script.
-use Rattle.std.proofs.Common.{◌≡◌, ℕ, suc, ◌+◌, ◌-◌, ◌<◌, Bool, true, false, [], ◌∷◌, length, get_or, take, drop, cond, Option, Some, None, refl, sym, ap, ◌∙◌, arith}
-use Rattle.std.specs.Prelude.{IfSome, ◌==◌, ◌&&◌, nat_lt}
-use Rattle.std.specs.List.{ends_with}
-use Rattle.std.specs.Cmp.Lexicographic.{pointwise}
-use Rattle.std.specs.Io.Buffered.{reader_remaining, reader_buffer, reader_capacity}
-use Rattle.std.specs.Io.BufRead.{take_through, ends_with_byte, DropsThrough}
-use Rattle.std.specs.Io.KnownBytes.{prepend_known}
+use Rattle.scripts.proofs.Words.{◌≡◌, ℕ, suc, ◌+◌, ◌-◌, ◌<◌, Bool, true, false, [], ◌∷◌, length, get_or, take, drop, cond, Option, Some, None, refl, sym, ap, ◌∙◌, arith, IfSome, ◌==◌, ◌&&◌, nat_lt, ends_with, take_through, ends_with_byte, DropsThrough, prepend_known, drop_more, Bytes, ReadsLine}
+use Rattle.std.specs.{Cmp.Lexicographic.pointwise, Io.Buffered.reader_remaining, Io.Buffered.reader_buffer, Io.Buffered.reader_capacity}
 use Rattle.std.specs.declared.io.buffered.BufReader.{BufReader}
-use Rattle.std.proofs.Math.Dec.{eqb}
-use Rattle.std.proofs.Math.ListN.{drop_of_length-le}
-use Rattle.std.proofs.lemmas.Bool.Decides.{nat_tests}
-use Rattle.std.proofs.lemmas.List.{drop_more}
-use Rattle.model.specs.Map.{Bytes}
-use Rattle.scripts.specs.Calls.{ReadsLine}
+use Rattle.std.proofs.{Math.Dec.eqb, Math.ListN.drop_of_length-le, lemmas.Bool.Decides.nat_tests}
 
 same_test : (y k : ℕ) → (eqb 10 y && true) ≡ (nat_lt 0 (suc k) && (y == 10))
 same_test y k = grind (arith, nat_tests)

@@ -1,21 +1,8 @@
 -- A script's lines, one after the other.
-use Rattle.std.proofs.Common.{◌≡◌, ◌≢◌, ℕ, ◌+◌, true, false, List, [], ◌∷◌, ◌++◌, Option, Some, None, Result, Ok, Err, refl, sym, ap, subst, ◌∙◌, append_assoc, arith, length-append, inl, inr}
-use Rattle.std.specs.Prelude.{IfSome, IsErrAnd, ◌⊎◌}
-use Rattle.std.specs.Io.KnownBytes.{Appends, Keeps}
-use Rattle.std.specs.Io.BufRead.{drop_through}
-use Rattle.std.proofs.lemmas.List.{append-nil}
+use Rattle.scripts.proofs.Words.{◌≡◌, ◌≢◌, ℕ, ◌+◌, true, false, List, [], ◌∷◌, ◌++◌, Option, Some, None, Result, Ok, Err, refl, sym, ap, subst, ◌∙◌, append_assoc, arith, length-append, inl, inr, IfSome, IsErrAnd, ◌⊎◌, Appends, Keeps, drop_through, append-nil, Bytes, HubState, StandsFor, BadLine, Crowded, File, Log, Memory, ScriptLine, IsLine, lines_of, Scene, Transcript, Begun, Continued, IsCrowded, LinePrints, TextPrints, RunsSome, Plays, session_of, with_label, IsAt, ReadsLine, Runs, RunsLine, RunSoFar}
 use Rattle.sector.specs.declared.device.Sectors.{Ghosts}
-use Rattle.model.specs.Map.{Bytes}
 use Rattle.sessions.specs.Laws.{IsLawful}
-use Rattle.sessions.specs.SessionStreams.{HubState}
-use Rattle.sessions.specs.StandsFor.{StandsFor}
-use Rattle.scripts.specs.declared.faults.ScriptFault.{ScriptFault}
-use Rattle.scripts.specs.declared.faults.ScriptFault.TheVariants.{BadLine, Crowded, File, Log, Memory}
-use Rattle.scripts.specs.declared.playing.Script.{Script}
-use Rattle.scripts.specs.Faults.{IsFromReading, IsOpening}
-use Rattle.scripts.specs.Lines.{ScriptLine, IsLine, lines_of}
-use Rattle.scripts.specs.Transcript.{Scene, Transcript, Begun, Continued, IsCrowded, LinePrints, TextPrints, RunsSome, Plays, session_of, with_label}
-use Rattle.scripts.specs.Calls.{IsAt, ReadsLine, Runs, RunsLine, RunSoFar}
+use Rattle.scripts.specs.{declared.faults.ScriptFault.ScriptFault, declared.playing.Script.Script, Faults.IsFromReading, Faults.IsOpening}
 use Rattle.scripts.proofs.Texts.{first_of_lines}
 
 pub lift : {A : Type 0} (o : Option A) (P Q : A → Type 0) → ((x : A) → P x → Q x) → IfSome o P → IfSome o Q

@@ -1,10 +1,8 @@
 -- The lines of a text, taken off its front.
-use Rattle.std.proofs.Common.{◌≡◌, ◌-◌, List, ℕ, suc, [], ◌∷◌, length, take, get_or, Bool, true, false, cond, eqb, ltb, ap, sym, refl, ◌∙◌, arith}
+use Rattle.scripts.proofs.Words.{◌≡◌, ◌-◌, List, ℕ, suc, [], ◌∷◌, length, take, get_or, Bool, true, false, cond, ltb, ap, sym, refl, ◌∙◌, arith, onto_first, take_through, drop_through, strip_last, first_piece, lines_of}
+use Rattle.std.proofs.Common.{eqb}
 use Rattle.std.specs.Prelude.{◌≢◌}
-use Rattle.std.specs.List.{onto_first}
-use Rattle.std.specs.Io.BufRead.{take_through, drop_through, strip_last, first_piece}
 use Rattle.std.proofs.lemmas.Bool.{lt-ltb}
-use Rattle.scripts.specs.Lines.{lines_of}
 
 onto_both : (b : Bool) (x : ℕ) (xs ys : List ℕ) → cond b (x ∷ xs) (x ∷ ys) ≡ x ∷ cond b xs ys
 onto_both true x xs ys = refl

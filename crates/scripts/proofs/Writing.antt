@@ -1,8 +1,5 @@
 -- What a writer took so far.
-use Rattle.std.proofs.Common.{◌≡◌, ℕ, [], ◌∷◌, ◌++◌, length, take, drop, Option, refl, sym, ap, subst, ◌∙◌, append_assoc, arith}
-use Rattle.std.proofs.lemmas.List.{append-nil, take-append-drop}
-use Rattle.std.specs.Io.KnownBytes.{Appends, Keeps}
-use Rattle.model.specs.Map.{Bytes}
+use Rattle.scripts.proofs.Words.{◌≡◌, ℕ, [], ◌∷◌, ◌++◌, length, take, drop, Option, refl, sym, ap, subst, ◌∙◌, append_assoc, arith, append-nil, take-append-drop, Appends, Keeps, Bytes}
 use Rattle.scripts.proofs.Runs.{appends_nothing, appends_then, keeps_on}
 
 -- it took the first bytes, and `rest` is left

@@ -1,7 +1,5 @@
 -- What a crash leaves at any moment of several calls.
-use Rattle.std.proofs.lemmas.Grind.{common_steps}
-use Rattle.std.proofs.Common.{ℕ, List, arith}
-use Rattle.sector.specs.SectorModel.{Elapses, LeavesOnly}
+use Rattle.sector.proofs.Words.{common_steps, ℕ, List, arith, Elapses, LeavesOnly}
 
 module _ {D : Type 0} {moment : D → ℕ} {left_since : D → ℕ → List (List ℕ) → Type 0} where
   -- of no call

@@ -1,13 +1,8 @@
 -- Under the premise on files a file that was made of zeros holds zeros, and a crash leaves them.
-use Rattle.std.proofs.lemmas.Grind.{common_steps}
-use Rattle.std.proofs.Common.{◌≡◌, ℕ, suc, ◌+◌, ◌-◌, ◌*◌, ◌<◌, true, List, ◌∷◌, length, Some, take, replicate, slice_get, refl, sym, ap, subst, ◌∙◌, arith}
-use Rattle.std.proofs.lemmas.List.{take-replicate, drop-replicate, length-replicate}
+use Rattle.sector.proofs.Words.{common_steps, ◌≡◌, ℕ, suc, ◌+◌, ◌-◌, ◌*◌, ◌<◌, true, List, ◌∷◌, length, Some, take, replicate, slice_get, refl, sym, ap, subst, ◌∙◌, arith, take-replicate, drop-replicate, length-replicate, IsSettled, sector_in}
 use Rattle.std.proofs.lemmas.Option.{slice_get_within}
-use Rattle.file_calls.specs.OpenFacts.{may_read, may_leave, next}
-use Rattle.file_calls.specs.declared.counted.CountedFile.{CountedFile}
-use Rattle.sector.specs.FileModel.{FileKeepsModel}
-use Rattle.sector.specs.FileOpening.{WasMadeOfZeros}
-use Rattle.sector.specs.SectorModel.{IsSettled, sector_in}
+use Rattle.file_calls.specs.{OpenFacts.may_read, OpenFacts.may_leave, OpenFacts.next, declared.counted.CountedFile.CountedFile}
+use Rattle.sector.specs.{FileModel.FileKeepsModel, FileOpening.WasMadeOfZeros}
 
 all_same : (image : List (List ℕ)) (n : ℕ) (s : List ℕ) → length image ≡ n → ((i : ℕ) (x : List ℕ) → slice_get image i ≡ Some x → x ≡ s) → image ≡ replicate n s
 all_same (x ∷ image) (suc n) s size each =

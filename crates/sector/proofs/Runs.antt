@@ -1,11 +1,7 @@
 -- How calls of single sectors go on to a call of several.
-use Rattle.std.proofs.lemmas.Grind.{common_steps}
-use Rattle.std.proofs.Common.{◌≡◌, ◌≢◌, inl, inr, ℕ, ◌<◌, ◌≤◌, ◌+◌, ◌-◌, ◌*◌, List, length, take, drop, sym, ◌∙◌, ap, subst, arith, length-set}
-use Rattle.std.proofs.lemmas.Bool.{cases_lt}
-use Rattle.std.proofs.lemmas.List.{take-set-le, drop-set-lt}
-use Rattle.std.proofs.lemmas.Slice.{between_is, take-put_mid_below, between-put_mid}
+use Rattle.sector.proofs.Words.{common_steps, ◌≡◌, ◌≢◌, inl, inr, ℕ, ◌<◌, ◌≤◌, ◌+◌, ◌-◌, ◌*◌, List, length, take, drop, sym, ◌∙◌, ap, subst, arith, length-set, take-set-le, drop-set-lt, Elapses, FollowsWrite, FollowsWrites, sector_in}
+use Rattle.std.proofs.{lemmas.Bool.cases_lt, lemmas.Slice.between_is, lemmas.Slice.take-put_mid_below, lemmas.Slice.between-put_mid}
 use borrow.Rule.Slice.PartMut.{put_mid}
-use Rattle.sector.specs.SectorModel.{Elapses, FollowsWrite, FollowsWrites, sector_in}
 
 -- time goes on, and after the second run a crash leaves nothing that one after the first might not
 pub elapses_on : (m0 m1 m2 : ℕ) (s0 s1 s2 : ℕ → List (List ℕ) → Type 0) (P Q : List (List ℕ) → Type 0) → Elapses m0 m1 s0 s1 P → Elapses m1 m2 s1 s2 Q → ((c : List (List ℕ)) → Q c → P c) → Elapses m0 m2 s0 s2 P

@@ -1,13 +1,8 @@
 -- What writes and syncs change in the slots of a device in memory.
-use Rattle.std.proofs.Common.{◌≡◌, ◌≢◌, ℕ, zero, suc, ◌+◌, ◌<◌, replicate, All, List, [], ◌∷◌, ◌++◌, length, map, set, get_or, slice_get, take, drop, None, Some, refl, sym, ◌∙◌, ap, arith, append_assoc, take-append-drop}
-use Rattle.std.proofs.lemmas.List.{append-nil, replicate-append-replicate, map-set}
+use Rattle.sector.proofs.Words.{◌≡◌, ◌≢◌, ℕ, zero, suc, ◌+◌, ◌<◌, replicate, All, List, [], ◌∷◌, ◌++◌, length, map, set, get_or, slice_get, take, drop, None, Some, refl, sym, ◌∙◌, ap, arith, append_assoc, take-append-drop, append-nil, replicate-append-replicate, map-set, common_steps, written, settled_slot, MayLeave, IsLeft, IsSettledSlot, settled_content, is_settled, Settles, FollowsWrite}
 use Rattle.std.proofs.Math.Seq.{map-set_same}
-use Rattle.std.proofs.lemmas.Grind.{common_steps}
 use Rattle.std.specs.List.{concat}
-use Rattle.sector.specs.declared.memory.Slot.{Slot}
-use Rattle.sector.specs.Slots.{written, settled_slot, MayLeave, IsLeft, IsSettledSlot, settled_content, is_settled}
-use Rattle.sector.specs.SectorModel.{Settles, FollowsWrite}
-use Rattle.sector.specs.Settled.{AreSettledBefore, AreSettledFrom}
+use Rattle.sector.specs.{declared.memory.Slot.Slot, Settled.AreSettledBefore, Settled.AreSettledFrom}
 
 pub written-settled : (slots : List Slot) → written (map settled_slot slots) ≡ written slots
 written-settled [] = refl

@@ -1,14 +1,7 @@
 -- What an event does to a hub, by its outcome.
-use Rattle.std.proofs.lemmas.Grind.{common_steps}
-use Rattle.std.proofs.Common.{◌≡◌, ℕ, Bool, List, [], ◌∷◌, length, Some, None, option_map, refl, sym, ap, subst, ◌∙◌, nat_cmp, arith}
-use Rattle.std.specs.Map.{lookup, remove_entry, set_value}
-use Rattle.std.specs.BTreeMap.{insert_entry, is_at}
-use Rattle.std.proofs.lemmas.List.{length-map}
+use Rattle.sessions.proofs.Words.{common_steps, ◌≡◌, ℕ, Bool, List, [], ◌∷◌, length, Some, None, option_map, refl, sym, ap, subst, ◌∙◌, nat_cmp, arith, lookup, remove_entry, set_value, insert_entry, is_at, length-map, Outcome, HubState, SessionState, SessionStream, HubEvent, Serves, Front, Choice, IsPossible, hub_step, stream_of, Continued, HasEffect, ServesSession, chosen, has_failed, Ghosts, Hub, StandsFor, HubLeads, at_hand, status_or_absent, room_or_none, pending_or_none, status_of, room_of, pending_of, status_in, room_in, pending_in}
 use Rattle.std.proofs.lemmas.Map.Made.{lookup-map_values}
 use Rattle.engine.specs.Meaning.{StandsFor as EngineStandsFor}
-use Rattle.sessions.specs.SessionStreams.{Outcome, HubState, SessionState, SessionStream, HubEvent, Serves, Front, Choice, IsPossible, hub_step, stream_of, Continued}
-use Rattle.sessions.specs.Calls.{HasEffect, ServesSession, chosen, has_failed}
-use Rattle.sessions.specs.StandsFor.{Ghosts, Hub, StandsFor, HubLeads, at_hand, status_or_absent, room_or_none, pending_or_none, status_of, room_of, pending_of, status_in, room_in, pending_in}
 
 -- ---- what is at hand in the list of sessions
 

@@ -1,15 +1,9 @@
 -- A hub's events, evaluated by the definitions.
-use Rattle.std.proofs.Common.{flat_map, lit≤, lit<, ◌<◌, ◌≡◌, ℕ, suc, ◌-◌, List, [], ◌∷◌, ◌++◌, take, refl, codes, replicate, zero, length, drop, Some, None, Option, false}
+use Rattle.sessions.proofs.Words.{flat_map, lit≤, lit<, ◌<◌, ◌≡◌, ℕ, suc, ◌-◌, List, [], ◌∷◌, ◌++◌, take, refl, codes, replicate, zero, length, drop, Some, None, Option, false, inbox_max, array_of_bulks, IsPart, IsRequest, crlf, step, opened, Bytes, Unknown, Idle, NoRoom, BadCount, HubState, ArePossible, HubEvent, Choice, hub_step, run, outcomes, stream_of, Joins, Receives, Serves, Sends, Leaves, Whole, More, SessionStream, Front, hub_over, Bad, room_in, pending_in, status_in}
 use Rattle.std.specs.Fmt.{digits}
 use Rattle.std.proofs.lemmas.List.Elements.{All-from_recursion}
-use Rattle.model.specs.Bounds.{inbox_max}
 use Rattle.model.specs.CommandTable.{command_in, alone_in, get_in, set_in}
-use Rattle.model.specs.Grammar.{array_of_bulks, IsPart, IsRequest, crlf}
-use Rattle.model.specs.Machine.{step, opened}
-use Rattle.model.specs.Map.{Bytes}
-use Rattle.sessions.specs.declared.events.Status.TheVariants.{Absent, Ending}
-use Rattle.sessions.specs.SessionStreams.{Done, Unknown, Idle, NoRoom, BadCount, HubState, ArePossible, HubEvent, Choice, hub_step, run, outcomes, stream_of, Joins, Receives, Serves, Sends, Leaves, Whole, More, SessionStream, Front, hub_over, Bad}
-use Rattle.sessions.specs.StandsFor.{room_in, pending_in, status_in}
+use Rattle.sessions.specs.{declared.events.Status.TheVariants.Absent, declared.events.Status.TheVariants.Ending, SessionStreams.Done}
 use Rattle.model.specs.Verdict.{verdict}
 
 start : HubState

@@ -1,18 +1,7 @@
 -- Runs that follow each other, and what a crash leaves of them.
-use Rattle.std.proofs.lemmas.Grind.{common_steps}
-use Rattle.std.proofs.Common.{Option, ◌≡◌, ◌≤◌, ◌+◌, ◌⊎◌, inl, inr, ℕ, zero, suc, Bool, true, false, List, [], ◌∷◌, ◌++◌, length, length-append, Some, None, refl, sym, ap, subst, ◌∙◌, arith}
-use Rattle.std.proofs.lemmas.Bool.{both_ways, cases_Bool}
-use Rattle.sector.specs.SectorModel.{LeavesOnly}
-use Rattle.model.specs.Map.{KeyMap}
-use Rattle.model.specs.Operations.{Operation, Commit}
+use Rattle.sessions.proofs.Words.{common_steps, Option, ◌≡◌, ◌≤◌, ◌+◌, ◌⊎◌, inl, inr, ℕ, zero, suc, Bool, true, false, List, [], ◌∷◌, ◌++◌, length, length-append, Some, None, refl, sym, ap, subst, ◌∙◌, arith, both_ways, cases_Bool, LeavesOnly, KeyMap, Operation, Commit, State, Running, step, step_of, running_of, commit, record_to_commit, HubState, HubEvent, Choice, hub_step, run, Ghosts, Hub, StandsFor, device, HoldsBeforeOrAfter, IsSound, Steps as StepsBy, MayFind, Holds, FoundAfter, FoundDuring}
 use Rattle.model.specs.History.{Record, map_at}
-use Rattle.model.specs.Machine.{State, Running, step, step_of, running_of, commit, record_to_commit}
 use Rattle.engine.specs.Recovery.{committed_map}
-use Rattle.sessions.specs.SessionStreams.{HubState, HubEvent, Choice, hub_step, run}
-use Rattle.sessions.specs.StandsFor.{Ghosts, Hub, StandsFor, device}
-use Rattle.sessions.specs.Crashes.{HoldsBeforeOrAfter}
-use Rattle.sessions.specs.Laws.{IsSound, Steps as StepsBy}
-use Rattle.sessions.specs.Life.{MayFind, Holds, FoundAfter, FoundDuring}
 use Rattle.sessions.proofs.StreamLaws.{Moved, Steps, moved}
 
 -- ---- what a step makes of the commits

@@ -1,22 +1,13 @@
 -- The lives of a store, one after another.
-use Rattle.std.proofs.lemmas.Grind.{common_steps}
-use Rattle.std.proofs.Common.{◌∙◌, arith, ◌≡◌, ℕ, List, [], ◌∷◌, ◌++◌, length, Result, refl, sym, subst, zero, suc, false}
-use Rattle.model.specs.Map.{KeyMap}
-use Rattle.model.specs.Machine.{opened, State, IsReached, Asks, step}
+use Rattle.sessions.proofs.Words.{common_steps, ◌∙◌, arith, ◌≡◌, ℕ, List, [], ◌∷◌, ◌++◌, length, Result, refl, sym, subst, zero, suc, false, KeyMap, opened, State, IsReached, Asks, step, Ghosts, Hub, Ran, HubState, HubEvent, Choice, hub_over, hub_step, MayFind, Commit}
 use Rattle.commit_log.specs.declared.faults.Unopened.{Unopened}
 use Rattle.engine.specs.Recovery.{HoldsMap, committed_map}
-use Rattle.sessions.specs.StandsFor.{Ghosts, Hub}
-use Rattle.sessions.specs.Laws.{Ran}
-use Rattle.sessions.specs.SessionStreams.{HubState, HubEvent, Choice, hub_over, hub_step}
-use Rattle.sessions.specs.Life.{MayFind}
 use Rattle.sessions.specs.Lives.{Begins, CutsReopen, EndOfLife, EndsWith, FollowOn, IsLeftAt, Life, LoseNothing, MapAt, Opens, KeepsAnswered, InOpening, InRun, IsLeftLast}
 use Rattle.sessions.proofs.Runs.{CountsNow, OnlyNow, loses_nothing, ran_parts}
-use Rattle.model.specs.Operations.{Commit}
 use Rattle.model.specs.Restarts.{FollowEachOther, RestartLaw}
 use Rattle.sessions.specs.OneOrder.{MayComeTo, LeavesStates, ComeTo, HaveOneHistory}
 use Rattle.engine.proofs.Steps.{reached_next}
-use Rattle.sessions.proofs.StreamLaws.{machine_reached, moved, reached_moved}
-use Rattle.sessions.proofs.LifeLaws.{commits_in_event, commits_in_step}
+use Rattle.sessions.proofs.{StreamLaws.machine_reached, StreamLaws.moved, StreamLaws.reached_moved, LifeLaws.commits_in_event, LifeLaws.commits_in_step}
 
 -- one image was left
 pub cuts_reopen : {D : Type 0} {g : Ghosts D} (hub : Hub D g) → CutsReopen hub

@@ -1,13 +1,7 @@
 -- Where the place found last, or a binary search, stands among sessions by rising number.
-use Rattle.std.proofs.lemmas.Grind.{common_steps}
-use Rattle.std.proofs.Common.{◌≡◌, ℕ, zero, suc, ◌<◌, ◌≤◌, Bool, true, false, T, cond, List, [], ◌∷◌, length, get_or, set, insert, Some, Result, Ok, Err, IfOk, IfErr, Less, Equal, Greater, nat_cmp, refl, sym, ap, subst, ◌∙◌, arith}
-use Rattle.std.specs.List.Sorted.{IsSearchInRange, IsBinarySearchResult}
-use Rattle.std.specs.Ordering.{is_lt, ordering_reverse}
-use Rattle.std.specs.FinMap.Entries.{put, below_all, is_sorted, is_sorted-put}
-use Rattle.std.specs.Map.{lookup, remove_entry}
-use Rattle.std.specs.BTreeMap.{insert_entry, is_at}
-use Rattle.std.proofs.lemmas.Cmp.{nat_cmp_total, tied_itself}
-use Rattle.std.proofs.lemmas.Map.Lookups.{exact_unsigned}
+use Rattle.sessions.proofs.Words.{common_steps, ◌≡◌, ℕ, zero, suc, ◌<◌, ◌≤◌, Bool, true, false, T, cond, List, [], ◌∷◌, length, get_or, set, insert, Some, Result, Ok, Err, IfOk, IfErr, Less, Equal, Greater, nat_cmp, refl, sym, ap, subst, ◌∙◌, arith, put, below_all, is_sorted, is_sorted-put, lookup, remove_entry, insert_entry, is_at}
+use Rattle.std.specs.{List.Sorted.IsSearchInRange, List.Sorted.IsBinarySearchResult, Ordering.is_lt, Ordering.ordering_reverse}
+use Rattle.std.proofs.{lemmas.Cmp.nat_cmp_total, lemmas.Cmp.tied_itself, lemmas.Map.Lookups.exact_unsigned}
 use Rattle.model.proofs.InOrder.{parts, both, below_at, rise}
 use Rattle.sessions.specs.Places.{IsPlace, IsGap}
 

@@ -1,9 +1,6 @@
 -- What an event led to, said of its step.
-use Rattle.std.proofs.lemmas.Grind.{common_steps}
-use Rattle.std.proofs.Common.{arith, ◌≡◌}
+use Rattle.sessions.proofs.Words.{common_steps, arith, ◌≡◌, Outcome, HubState, HubEvent, Choice, IsPossible, hub_step, Ghosts, Hub, StandsFor, HubLeads}
 use Rattle.model.proofs.Leading.{stepped}
-use Rattle.sessions.specs.SessionStreams.{Outcome, HubState, HubEvent, Choice, IsPossible, hub_step}
-use Rattle.sessions.specs.StandsFor.{Ghosts, Hub, StandsFor, HubLeads}
 
 pub record Reached {D : Type 0} {g : Ghosts D} (new : Hub D g) (h : HubState) (e : HubEvent) (c : Choice) (outcome : Outcome) : Type 0 where
   pub possible : IsPossible h e c

@@ -1,25 +1,13 @@
 -- How a request's parts make one step of the machine, and the parts of a Serve its effect.
-use Rattle.std.proofs.lemmas.Grind.{common_steps}
-use Rattle.std.proofs.Common.{◌≡◌, ◌≢◌, ℕ, Bool, true, false, not, List, [], ◌∷◌, ◌++◌, Option, Some, None, Result, Ok, Err, OnOk, OnErr, IsTrue, refl, sym, ap, subst, ◌∙◌, nat_cmp, arith, length, drop, if◌then◌else◌, inl, inr, ◌==◌, Vec, Global}
+use Rattle.sessions.proofs.Words.{common_steps, ◌≡◌, ◌≢◌, ℕ, Bool, true, false, not, List, [], ◌∷◌, ◌++◌, Option, Some, None, Result, Ok, Err, OnOk, OnErr, IsTrue, refl, sym, ap, subst, ◌∙◌, nat_cmp, arith, length, drop, if◌then◌else◌, inl, inr, ◌==◌, Vec, Global, put, where_key, Bytes, Operation, Response, Commit, Done, Refused as Refusing, State, step, leave, reply_text, Writes, Executes, has_failed, refusal_to_read, LeavesSame, Aborts, HasEffect, ServesSession, Open, Ending, Idle as OfIdle, Outcome, takes_memory, SessionState, Choice, IsServed, Whole, More, Bad, IsFront, asks, bad_frame, serve_front, may_serve, IsProperBeginning, array_of_bulks, LeavesOnly, SurvivesCommit, SurvivesRequest, SurvivesFront}
 use Rattle.sector.specs.declared.device.Sectors.{Ghosts}
-use Rattle.std.specs.FinMap.Entries.{put, where_key}
 use Rattle.model.specs.declared.refusals.Memory.{Memory}
-use Rattle.model.specs.Map.{Bytes}
-use Rattle.model.specs.Operations.{Operation, Response, Commit, Done, Refused as Refusing}
-use Rattle.model.specs.Machine.{State, step, leave}
-use Rattle.model.specs.ReplyText.{reply_text}
 use Rattle.model.proofs.Leading.{stepped}
-use Rattle.engine.specs.declared.engine.Engine.{Engine}
+use Rattle.engine.specs.{declared.engine.Engine.Engine, declared.faults.EngineFault.EngineFault, declared.faults.ReadFault.ReadFault}
 use Rattle.engine.specs.Meaning.{StandsFor, Leads, IsNotRefused, device_of, failures_of, has_risen, response_to, response_to_read, IsLeftByCommit}
 use Rattle.snapshot.specs.Made.{is_refused}
-use Rattle.engine.specs.declared.faults.EngineFault.{EngineFault}
 use Rattle.engine.specs.declared.faults.EngineFault.TheVariants.{Refused as RefusedFor, Memory as OutOfMemory}
-use Rattle.engine.specs.declared.faults.ReadFault.{ReadFault}
-use Rattle.sessions.specs.Calls.{Writes, Executes, has_failed, refusal_to_read, LeavesSame, Aborts, HasEffect, ServesSession}
-use Rattle.sessions.specs.SessionStreams.{Open, Ending, Refused, Done as OfDone, Idle as OfIdle, Memory as OfMemory, Outcome, takes_memory, SessionState, Choice, IsServed, Whole, More, Bad, IsFront, asks, bad_frame, serve_front, may_serve}
-use Rattle.model.specs.Grammar.{IsProperBeginning, array_of_bulks}
-use Rattle.sector.specs.SectorModel.{LeavesOnly}
-use Rattle.sessions.specs.Crashes.{SurvivesCommit, SurvivesRequest, SurvivesFront}
+use Rattle.sessions.specs.SessionStreams.{Refused, Done as OfDone, Memory as OfMemory}
 
 -- ---- the machine
 

@@ -1,21 +1,9 @@
 -- Runs, event by event.
-use Rattle.std.proofs.lemmas.Grind.{common_steps}
-use Rattle.std.proofs.Common.{◌≡◌, ◌≤◌, ℕ, zero, suc, Bool, true, false, inl, inr, List, [], ◌∷◌, ◌++◌, take, length, refl, sym, subst, ◌∙◌, arith, ◌⊎◌}
-use Rattle.std.proofs.lemmas.Bool.{both_ways}
-use Rattle.sessions.specs.Calls.{has_failed}
-use Rattle.sector.specs.SectorModel.{LeavesOnly}
+use Rattle.sessions.proofs.Words.{common_steps, ◌≡◌, ◌≤◌, ℕ, zero, suc, Bool, true, false, inl, inr, List, [], ◌∷◌, ◌++◌, take, length, refl, sym, subst, ◌∙◌, arith, ◌⊎◌, both_ways, has_failed, LeavesOnly, HoldsBeforeOrAfter, IsLeftByEvent, KeepsCommitted, AppliesWhole, SurvivesEvent, ServesCommit, Commits, HubState, HubEvent, Choice, IsPossible, hub_step, run, IsReachedHub, Ghosts, Hub, StandsFor, device, failures, is_stopped, IsLawful, IsSound, LeadsTo, Ran, Steps, Holds, Operation, State, step}
 use Rattle.model.specs.Laws.{MachineLaw}
-use Rattle.sessions.specs.Crashes.{HoldsBeforeOrAfter, IsLeftByEvent, KeepsCommitted, AppliesWhole, SurvivesEvent, ServesCommit, Commits}
-use Rattle.sessions.specs.SessionStreams.{HubState, HubEvent, Choice, IsPossible, hub_step, run, IsReachedHub}
-use Rattle.sessions.specs.StandsFor.{Ghosts, Hub, StandsFor, device, failures, is_stopped}
-use Rattle.sessions.specs.Laws.{IsLawful, IsSound, LeadsTo, Ran, Steps}
-use Rattle.sessions.specs.Life.{Holds}
 use Rattle.sessions.proofs.LifeLaws.{hub-stopped, Survives, goes_on, nothing, one_event, weaker, loses_nothing as survivors_lose_nothing}
 pub use Rattle.sessions.proofs.LifeLaws.{CountsNow, OnlyNow}
-use Rattle.model.specs.Operations.{Operation}
-use Rattle.model.specs.Machine.{State, step}
-use Rattle.sessions.proofs.StreamLaws.{always, machine_reached, are_streams}
-use Rattle.sessions.proofs.EventSteps.{stream-some}
+use Rattle.sessions.proofs.{StreamLaws.always, StreamLaws.machine_reached, StreamLaws.are_streams, EventSteps.stream-some}
 
 -- every state that events lead to is lawful
 pub lawful_at : MachineLaw → (h : HubState) → IsReachedHub h → IsLawful h

@@ -1,27 +1,11 @@
 -- Every state that a hub stands for is lawful.
-use Rattle.std.proofs.lemmas.Grind.{common_steps}
-use Rattle.std.proofs.Common.{arith, ◌≡◌, ℕ, Bool, true, false, not, length, List, [], ◌∷◌, ◌++◌, take, drop, Option, Some, None, IsTrue, refl, sym, ap, subst, ◌∙◌, nat_cmp, nat_le, nat_lt, if◌then◌else◌, map, inl, inr, append_assoc}
+use Rattle.sessions.proofs.Words.{common_steps, arith, ◌≡◌, ℕ, Bool, true, false, not, length, List, [], ◌∷◌, ◌++◌, take, drop, Option, Some, None, IsTrue, refl, sym, ap, subst, ◌∙◌, nat_cmp, nat_le, nat_lt, if◌then◌else◌, map, inl, inr, append_assoc, lookup, remove_entry, set_value, insert_entry, is_at, append-nil, take-append-drop, map-append, Bytes, Operation, Response, Begin, Commit, Abort, Done, State, Asks, IsReached, step, leave, Running, step_of, running_of, snapshot, reply_text, Outcome, bad_frame, is_above, HubState, SessionState, SessionStream, HubEvent, Joins, Receives, Serves, Sends, Leaves, Front, Whole, More, Bad, Choice, Effect, IsFront, IsServed, IsPossible, IsServePossible, hub_step, stream_of, new_stream, is_open, may_serve, serve, serve_front, out_of_memory, broken_frame, served_with, no_effect, asks, replies_text, receive, serve_session, send, depart, IsReachedHub, Begun, Continued, with_stream, IsSessionStream, EndsStream, EndsItsStream, IsLawful, SameBytes, EndsOutput, own_bytes, cases_eq, cond_both, not-false, find, put}
 use Rattle.std.specs.List.{AllByRecursion, flat_map}
-use Rattle.std.proofs.lemmas.List.Concat.{flat_map-append}
-use Rattle.std.specs.Map.{lookup, remove_entry, set_value}
-use Rattle.std.specs.BTreeMap.{insert_entry, is_at}
-use Rattle.std.proofs.lemmas.List.{append-nil, take-append-drop, map-append}
-use Rattle.model.specs.Map.{Bytes}
-use Rattle.model.specs.Operations.{Operation, Response, Begin, Commit, Abort, Done}
-use Rattle.model.specs.Machine.{State, Asks, Leaves as LeavesIt, IsReached, step, leave, Running, step_of, running_of, snapshot}
-use Rattle.model.specs.ReplyText.{reply_text}
-use Rattle.model.proofs.Elements.{all-append}
+use Rattle.std.proofs.{lemmas.List.Concat.flat_map-append, lemmas.List.Elements.recursion_from_All}
+use Rattle.model.specs.{Machine.Leaves as LeavesIt, Laws.IsIsolated, PrivateCopy.copy_of, PrivateCopy.responses}
+use Rattle.model.proofs.{Elements.all-append, Lookups.some_same, Steps.running_of-with_running, Steps.running_of-leave}
 use Rattle.engine.proofs.Steps.{reached_next}
-use Rattle.sessions.specs.SessionStreams.{Outcome, bad_frame, is_above, HubState, SessionState, SessionStream, HubEvent, Joins, Receives, Serves, Sends, Leaves, Front, Whole, More, Bad, Choice, Effect, IsFront, IsServed, IsPossible, IsServePossible, hub_step, stream_of, new_stream, is_open, may_serve, serve, serve_front, out_of_memory, broken_frame, served_with, no_effect, asks, replies_text, receive, serve_session, send, depart, IsReachedHub, Begun, Continued, with_stream}
-use Rattle.sessions.specs.Laws.{IsSessionStream, EndsStream, EndsItsStream, IsLawful, SameBytes, EndsOutput, own_bytes}
 use Rattle.sessions.proofs.RequestSteps.{is_open_there, nothing_pending}
-use Rattle.std.proofs.lemmas.Bool.{cases_eq, cond_both, not-false}
-use Rattle.std.specs.FinMap.Entries.{find, put}
-use Rattle.model.proofs.Lookups.{some_same}
-use Rattle.model.proofs.Steps.{running_of-with_running, running_of-leave}
-use Rattle.std.proofs.lemmas.List.Elements.{recursion_from_All}
-use Rattle.model.specs.Laws.{IsIsolated}
-use Rattle.model.specs.PrivateCopy.{copy_of, responses}
 
 -- ---- the machine of a hub
 

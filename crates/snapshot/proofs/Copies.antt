@@ -1,37 +1,20 @@
 -- A transaction's writes and marks against its private copy.
-use Rattle.std.proofs.lemmas.Grind.{common_steps}
-use Rattle.std.proofs.Common.{◌≡◌, ◌≢◌, ℕ, suc, Bool, true, false, T, cond, List, [], ◌∷◌, ◌++◌, length, Option, Some, None, Result, Ok, Err, refl, sym, ap, subst, ◌∙◌, arith, inl, inr}
-use Rattle.std.specs.Prelude.{is_some, IsTrue, ◌↔◌, option_copied, if◌then◌else◌}
-use Rattle.std.specs.Borrow.{Bor}
-use Rattle.std.specs.List.{AllByRecursion, list_any}
-use Rattle.std.specs.BTreeSet.{insert_key}
-use Rattle.std.specs.declared.cmp.Ordering.TheVariants.{Less}
-use Rattle.std.specs.Ordering.{is_eq, nat_cmp}
-use Rattle.std.specs.Cmp.Lexicographic.{slice_cmp, nat_list_cmp_total}
-use Rattle.std.specs.FinMap.Entries.{put, is_sorted, below_all, find-put, is_sorted-put}
-use Rattle.std.proofs.lemmas.Bool.{both_ways, cases_Bool, not-true, not-false}
+use Rattle.snapshot.proofs.Words.{common_steps, ◌≡◌, ◌≢◌, ℕ, suc, Bool, true, false, T, cond, List, [], ◌∷◌, ◌++◌, length, Option, Some, None, Result, Ok, Err, refl, sym, ap, subst, ◌∙◌, arith, inl, inr, is_some, ◌↔◌, option_copied, if◌then◌else◌, is_eq, nat_cmp, slice_cmp, nat_list_cmp_total, put, is_sorted, below_all, find-put, is_sorted-put, both_ways, cases_Bool, not-true, not-false, Bytes, KeyMap, KeyWrite, IsMap, key_cmp, is_same_key, value_at, after_write, after_writes, PrivateCopy, Mark, copy_of, respond, answer, after_read, writes, values_at, after_put as copy_put, AreEntries, written, with_write, FullWrites, FullMarks, Memory, View, new_view, or_else, value_read, after_get, keys_of, copy_held, is_full_get, marked, HasMade, MakesOneMore, IsFullWhen, IsDoneReply, IsFault, is_refused, OnErr, map_seen}
+use Rattle.std.specs.Prelude.{IsTrue}
+use Rattle.std.specs.{Borrow.Bor, List.AllByRecursion, List.list_any, BTreeSet.insert_key, declared.cmp.Ordering.TheVariants.Less}
 use Rattle.model.specs.declared.refusals.Refusal.TheVariants as refusal
-use Rattle.model.specs.Map.{Bytes, KeyMap, KeyWrite, IsMap, key_cmp, is_same_key, value_at, after_write, after_writes}
-use Rattle.model.specs.Operations.{Operation, Response}
-use Rattle.model.specs.Operations.Operation.{Get, Set, Del}
-use Rattle.model.specs.Operations.Response.{Done, Value, Refused}
-use Rattle.model.specs.PrivateCopy.{PrivateCopy, Mark, copy_of, respond, answer, after_read, writes, values_at, after_put as copy_put}
-use Rattle.model.specs.PrivateCopy.Mark.{OfKey}
+use Rattle.model.specs.{Operations.Operation, Operations.Response, Operations.Operation.Get, Operations.Operation.Set, Operations.Operation.Del}
+use Rattle.model.specs.{Operations.Response.Done, Operations.Response.Value, Operations.Response.Refused, PrivateCopy.Mark.OfKey}
 use Rattle.model.proofs.InOrder.{parts, less, below_later, find_none}
 use Rattle.model.proofs.Lookups.{same_key, same_key_comm, same_key_itself, same_map, value_after_write, IsMap-after_write, IsMap-after_writes}
 use Rattle.model.proofs.Steps.{copy_after-push}
 use Rattle.marks.specs.Marked.{is_full_for}
 use Rattle.write_buffer.specs.Buffered as buffer
-use Rattle.write_buffer.specs.Buffered.{AreEntries, written, with_write}
-use Rattle.snapshot.specs.declared.faults.SnapshotFault.{SnapshotFault}
-use Rattle.snapshot.specs.declared.faults.SnapshotFault.TheVariants.{FullWrites, FullMarks, Memory}
-use Rattle.snapshot.specs.View.{View, new_view, or_else, value_read, after_get, after_put, keys_of, copy_held, is_full_get, marked}
-use Rattle.snapshot.specs.Made.{HasMade, MakesOneMore, IsFullWhen, IsDoneReply, IsFault, is_refused}
+use Rattle.snapshot.specs.{declared.faults.SnapshotFault.SnapshotFault, View.after_put}
 use Rattle.write_buffer.specs.declared.faults.WritesFault as faults
 use Rattle.write_buffer.specs.declared.faults.WritesFault.TheVariants as writes_fault
-use Rattle.std.specs.Prelude.{OnOk, OnErr}
+use Rattle.std.specs.Prelude.{OnOk}
 use Rattle.versions.specs.Chains.{ChainsValue}
-use Rattle.versions.specs.Meaning.{map_seen}
 
 -- ---- lookups over writes
 

@@ -1,19 +1,8 @@
 -- The first pairs of a range, and the last of their keys.
-use Rattle.std.proofs.lemmas.Grind.{common_steps}
-use Rattle.std.proofs.Common.{◌≡◌, ℕ, zero, suc, ◌+◌, ◌<◌, ◌≤◌, Bool, true, false, cond, List, [], ◌∷◌, length, take, drop, Option, Some, None, refl, sym, ap, subst, ◌∙◌, arith, add-one, eqb}
+use Rattle.snapshot.proofs.Words.{common_steps, ◌≡◌, ℕ, zero, suc, ◌+◌, ◌<◌, ◌≤◌, Bool, true, false, cond, List, [], ◌∷◌, length, take, drop, Option, Some, None, refl, sym, ap, subst, ◌∙◌, arith, add-one, eqb, is_le, nat_cmp, slice_cmp, where_key, and_parts, eqb-true, key_bytes, end_bytes, Bytes, KeyMap, KeyWrite, IsInBounds, key_cmp, is_in_range, is_below, pairs_in_range, last_key, page_end, View, with_value, merged_one, merged, all_rows, rows_of}
 use Rattle.std.specs.List.{AllByRecursion}
-use Rattle.std.specs.Ordering.{is_le, nat_cmp}
-use Rattle.std.specs.Cmp.Lexicographic.{slice_cmp}
-use Rattle.std.specs.FinMap.Entries.{where_key}
 use Rattle.std.proofs.lemmas.List.{take_all}
-use Rattle.std.proofs.lemmas.Bool.{and_parts, eqb-true}
-use Rattle.model.specs.declared.ranges.RangeRef.{RangeRef}
-use Rattle.model.specs.Key.{IsKey, IsValue}
-use Rattle.model.specs.KeyBytes.{key_bytes, end_bytes}
-use Rattle.model.specs.Map.{Bytes, KeyMap, KeyWrite, IsInBounds, key_cmp, is_in_range, is_below, pairs_in_range}
-use Rattle.model.specs.PrivateCopy.{last_key, page_end}
-use Rattle.snapshot.specs.View.{View}
-use Rattle.snapshot.specs.Merged.{with_value, merged_one, merged, all_rows, rows_of}
+use Rattle.model.specs.{declared.ranges.RangeRef.RangeRef, Key.IsKey, Key.IsValue}
 
 -- ---- one pair after another
 

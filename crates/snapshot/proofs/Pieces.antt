@@ -1,23 +1,12 @@
 -- Entries of a range, and pairs with writes over them.
-use Rattle.std.proofs.lemmas.Grind.{common_steps}
-use Rattle.std.proofs.Common.{arith, ◌≡◌, ℕ, Bool, true, false, T, not, cond, ◌&&◌, List, [], ◌∷◌, ◌-◌, length, take, drop, Option, Some, None, refl, sym, ap, subst, ◌∙◌}
+use Rattle.snapshot.proofs.Words.{common_steps, arith, ◌≡◌, ℕ, Bool, true, false, T, not, cond, ◌&&◌, List, [], ◌∷◌, ◌-◌, length, take, drop, Option, Some, None, refl, sym, ap, subst, ◌∙◌, is_lt, is_le, nat_cmp, ordering_reverse, slice_cmp, nat_list_cmp_total, where_key, is_sorted, below_all, by_order, is_sorted-where_key, find-where_key, Bytes, KeyMap, KeyWrite, IsMap, key_cmp, is_same_key, value_at, after_writes, is_below, is_in_range, pairs_in_range, written, or_else, with_value, merged, merged_one}
 use Rattle.std.specs.declared.cmp.Ordering.{Ordering}
 use Rattle.std.specs.declared.cmp.Ordering.TheVariants.{Less, Equal, Greater}
-use Rattle.std.specs.Ordering.{is_lt, is_le, nat_cmp, ordering_reverse}
-use Rattle.std.specs.Cmp.Lexicographic.{slice_cmp, nat_list_cmp_total}
-use Rattle.std.specs.FinMap.Entries.{where_key, is_sorted, below_all, by_order, is_sorted-where_key, find-where_key}
-use Rattle.std.proofs.Math.Seq.{take-length}
-use Rattle.std.proofs.lemmas.List.{length-drop}
-use Rattle.std.proofs.lemmas.Map.Lookups.{exact_bytes}
-use Rattle.model.specs.Map.{Bytes, KeyMap, KeyWrite, IsMap, key_cmp, is_same_key, value_at, after_writes, is_below, is_in_range, pairs_in_range}
+use Rattle.std.proofs.{Math.Seq.take-length, lemmas.List.length-drop, lemmas.Map.Lookups.exact_bytes}
 use Rattle.model.proofs.InOrder.{parts, both, less, is_less, find_none, below_later}
 use Rattle.model.proofs.Lookups.{same_key, same_map, value_in_range, IsMap-after_writes}
-use Rattle.model.proofs.Entries.{turned}
-use Rattle.model.proofs.KeyOrder.{turned_greater}
-use Rattle.write_buffer.specs.Buffered.{written}
+use Rattle.model.proofs.{Entries.turned, KeyOrder.turned_greater}
 use Rattle.versions.proofs.Visibles.{where_twice}
-use Rattle.snapshot.specs.View.{or_else}
-use Rattle.snapshot.specs.Merged.{with_value, merged, merged_one}
 use Rattle.snapshot.proofs.Copies.{value_held}
 
 pub rest_all : {X : Type 0} (l : List X) (a : ℕ) → take (length l - a) (drop a l) ≡ drop a l

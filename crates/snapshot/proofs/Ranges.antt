@@ -1,35 +1,15 @@
 -- A read of a range against the private copy.
-use Rattle.std.proofs.lemmas.Grind.{common_steps}
-use Rattle.std.proofs.Common.{arith, ◌≡◌, ◌≢◌, ℕ, zero, suc, true, false, ◌&&◌, List, [], ◌∷◌, ◌++◌, take, Option, Some, None, refl, sym, ap, subst, ◌∙◌}
-use Rattle.std.specs.Prelude.{IsTrue, ◌↔◌, if◌then◌else◌}
-use Rattle.std.specs.Ordering.{is_lt, is_le, nat_cmp}
-use Rattle.std.specs.Cmp.Lexicographic.{slice_cmp, nat_list_cmp_total}
-use Rattle.std.specs.FinMap.Entries.{where_key}
-use Rattle.std.proofs.lemmas.Bool.{not-true, both_ways}
+use Rattle.snapshot.proofs.Words.{common_steps, arith, ◌≡◌, ◌≢◌, ℕ, zero, suc, true, false, ◌&&◌, List, [], ◌∷◌, ◌++◌, take, Option, Some, None, refl, sym, ap, subst, ◌∙◌, ◌↔◌, if◌then◌else◌, is_lt, is_le, nat_cmp, slice_cmp, nat_list_cmp_total, where_key, not-true, both_ways, key_bytes, end_bytes, Bytes, KeyMap, KeyWrite, IsMap, key_cmp, after_writes, is_in_range, is_empty_range, pairs_in_range, Mark, PrivateCopy, page_end, copy_of, copy_after, respond, answer, AreEntries, map_seen, FullWrites, FullMarks, View, copy_held, marked, merged_pairs, with_ahead, merged, page_mark, with_page, has_page, all_rows, rows_of, after_range, is_full_range, HasMade, MakesOneMoreOver, IsFault, IsKnownRange, range_read, is_refused}
+use Rattle.std.specs.Prelude.{IsTrue}
 use Rattle.std.proofs.lemmas.Map.Lookups.{exact_bytes}
-use Rattle.model.specs.declared.ranges.RangeRef.{RangeRef}
+use Rattle.model.specs.{declared.ranges.RangeRef.RangeRef, Operations.Operation, Operations.Response, Operations.Response.Pairs, Operations.Response.Refused}
 use Rattle.model.specs.declared.refusals.Refusal.TheVariants as refusal
-use Rattle.model.specs.KeyBytes.{key_bytes, end_bytes}
-use Rattle.model.specs.Map.{Bytes, KeyMap, KeyWrite, IsMap, key_cmp, after_writes, is_in_range, is_empty_range, pairs_in_range}
-use Rattle.model.specs.Operations.{Operation, Response}
-use Rattle.model.specs.Operations.Response.{Pairs, Refused}
-use Rattle.model.specs.PrivateCopy.{Mark, PrivateCopy, page_end, copy_of, copy_after, respond, answer}
 use Rattle.model.proofs.Steps.{copy_after-push}
 use Rattle.marks.specs.Marked.{with_mark}
-use Rattle.write_buffer.specs.Buffered.{AreEntries}
-use Rattle.versions.specs.Chains.{ChainsValue}
-use Rattle.versions.specs.Meaning.{map_seen}
-use Rattle.versions.specs.Lent.{range_pairs}
-use Rattle.snapshot.specs.declared.faults.SnapshotFault.{SnapshotFault}
-use Rattle.snapshot.specs.declared.faults.SnapshotFault.TheVariants.{FullWrites, FullMarks}
-use Rattle.snapshot.specs.View.{View, copy_held, marked}
-use Rattle.snapshot.specs.declared.merge.MergedPairs.{MergedPairs}
-use Rattle.snapshot.specs.Ahead.{merged_pairs, with_ahead}
-use Rattle.snapshot.specs.Merged.{merged, page_mark, with_page, has_page, all_rows, rows_of, after_range, is_full_range}
-use Rattle.snapshot.specs.Made.{HasMade, MakesOneMoreOver, IsFault, IsKnownRange, range_read, is_refused}
+use Rattle.versions.specs.{Chains.ChainsValue, Lent.range_pairs}
+use Rattle.snapshot.specs.{declared.faults.SnapshotFault.SnapshotFault, declared.merge.MergedPairs.MergedPairs}
 use Rattle.snapshot.proofs.Copies.{marked_as, refused_as, read_fault, answer_held}
-use Rattle.snapshot.proofs.Pieces.{merged-range}
-use Rattle.snapshot.proofs.Pages.{end_above}
+use Rattle.snapshot.proofs.{Pieces.merged-range, Pages.end_above}
 
 -- no key lies in an empty range
 nothing_between : (lo h q : Bytes) → is_lt (key_cmp lo h) ≡ false → (is_le (key_cmp lo q) && is_lt (key_cmp q h)) ≡ false

@@ -1,17 +1,6 @@
 -- Entries by rising key in parts: what stands before a key and after it, and what `find` and `put` do in the middle.
-use Rattle.std.proofs.lemmas.Grind.{common_steps}
-use Rattle.std.proofs.Common.{◌≡◌, ◌<◌, true, false, cond, List, [], ◌∷◌, ◌++◌, length, Some, refl, ap, ◌∙◌, arith}
-use Rattle.std.specs.declared.cmp.Ordering.TheVariants.{Less, Equal, Greater}
-use Rattle.std.specs.Ordering.{is_eq, is_le}
-use Rattle.std.specs.Cmp.Lexicographic.{nat_list_cmp_total}
-use Rattle.std.specs.FinMap.Entries.{find, put, by_order}
-use Rattle.std.proofs.lemmas.Bool.{both_ways}
-use Rattle.model.specs.Map.{Bytes, key_cmp}
-use Rattle.model.proofs.Elements.{all-each}
-use Rattle.model.proofs.Entries.{IsSorted, IsBelowAll, turned}
-use Rattle.model.proofs.InOrder.{parts, less, both, is_less, below_right, below_later, find_none}
+use Rattle.sorted_pages.proofs.Words.{common_steps, ◌≡◌, ◌<◌, true, false, cond, List, [], ◌∷◌, ◌++◌, length, Some, refl, ap, ◌∙◌, arith, Less, Equal, Greater, is_eq, is_le, nat_list_cmp_total, find, put, by_order, both_ways, Bytes, key_cmp, all-each, IsSorted, IsBelowAll, turned, parts, less, both, is_less, below_right, below_later, find_none, AreBelow, starts_by}
 use Rattle.model.proofs.KeyOrder.{less_trans, same_keys, turned_less}
-use Rattle.sorted_pages.specs.Pages.{AreBelow, starts_by}
 
 pub below_trans : (y x k : Bytes) → key_cmp y x ≡ Less → is_le (key_cmp x k) ≡ true → key_cmp y k ≡ Less
 below_trans y x k lt le = grind (arith, less_trans y x k, same_keys x k)

@@ -4,3 +4,4 @@ pub mod Placings
 pub mod Seen
 pub mod Tails
 pub mod Values
+pub mod Words

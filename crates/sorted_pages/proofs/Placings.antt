@@ -1,22 +1,7 @@
 -- Pages: where a key stands among them, and what a changed page does to all entries and to the rooms.
-use Rattle.std.proofs.lemmas.Grind.{common_steps}
-use Rattle.std.proofs.Common.{◌≡◌, ℕ, zero, suc, max, ◌+◌, ◌-◌, ◌*◌, ◌<◌, ◌≤◌, Bool, true, false, List, [], ◌∷◌, ◌++◌, length, get_or, set, take, drop, min, refl, sym, ap, subst, ◌∙◌, arith, inl, inr}
-use Rattle.std.specs.Prelude.{if◌then◌else◌, ◌⊎◌}
-use Rattle.std.specs.List.{AllByRecursion, insert}
+use Rattle.sorted_pages.proofs.Words.{common_steps, ◌≡◌, ℕ, zero, suc, max, ◌+◌, ◌-◌, ◌*◌, ◌<◌, ◌≤◌, Bool, true, false, List, [], ◌∷◌, ◌++◌, length, get_or, set, take, drop, min, refl, sym, ap, subst, ◌∙◌, arith, inl, inr, if◌then◌else◌, ◌⊎◌, AllByRecursion, insert, is_le, nat_list_cmp_total, find, put, is_sorted-put, both_ways, cases_Bool, append_assoc, append-nil, length-append, length-set, set_at, get_or_at, get_or-drop, length-take, length-take-le, length-drop, take-append-drop, Bytes, key_cmp, all-append, all-front, all-back, IsSorted, IsBelowAll, below_left, below_right, sorted_left, sorted_right, parts, AreAllFull, AreFull, AreTight, Page, entries, starts_by, last_room, room_at, last_page, count_at, page_entries, stands_behind, IsHalved, AreLoose, IsFilled, AreRestFilled, IsInOrder, AreBelow, IsPlace, IsRoomier, StaysTight}
 use Rattle.std.specs.List.Sorted.{IsPartitionedBy, IsPartitionPoint}
-use Rattle.std.specs.Ordering.{is_le}
-use Rattle.std.specs.Cmp.Lexicographic.{nat_list_cmp_total}
-use Rattle.std.specs.FinMap.Entries.{find, put, is_sorted-put}
-use Rattle.std.proofs.lemmas.Bool.{both_ways, cases_Bool}
-use Rattle.std.proofs.lemmas.List.Edits.{length-insert}
-use Rattle.std.proofs.lemmas.List.{append_assoc, append-nil, length-append, length-set, set_at, get_or_at, get_or-drop, length-take, length-take-le, length-drop, take-append-drop}
-use Rattle.std.proofs.lemmas.List.Elements.{All-from_get_or, recursion_from_All}
-use Rattle.std.proofs.Math.Seq.{drop-cons}
-use Rattle.model.specs.Map.{Bytes, key_cmp}
-use Rattle.model.proofs.Elements.{all-append, all-front, all-back}
-use Rattle.model.proofs.Entries.{IsSorted, IsBelowAll}
-use Rattle.model.proofs.InOrder.{below_left, below_right, sorted_left, sorted_right, parts}
-use Rattle.sorted_pages.specs.Pages.{AreAllFull, AreFull, AreTight, Page, entries, starts_by, last_room, room_at, last_page, count_at, page_entries, stands_behind, IsHalved, AreLoose, IsFilled, AreRestFilled, IsInOrder, AreBelow, IsPlace, IsRoomier, StaysTight}
+use Rattle.std.proofs.{lemmas.List.Edits.length-insert, lemmas.List.Elements.All-from_get_or, lemmas.List.Elements.recursion_from_All, Math.Seq.drop-cons}
 use Rattle.sorted_pages.proofs.Keys.{below_of, above_of, first_of, starts_lower, starts-append, starts-put, filled-put, find_middle, put_middle}
 
 -- ---- lists

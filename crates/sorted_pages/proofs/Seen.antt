@@ -1,16 +1,6 @@
 -- What numbers see of entries: those that are hidden, how many at the front are blank, and summaries.
-use Rattle.std.proofs.Common.{◌≡◌, ℕ, ◌+◌, ◌<◌, ◌≤◌, Bool, true, false, cond, List, [], ◌∷◌, ◌++◌, length, take, drop, get_or, set, refl, sym, ap, subst, ◌∙◌, arith, zero, suc, ◌-◌, ◌||◌, min, max, Option, Some, None}
-use Rattle.std.specs.List.{AllByRecursion, insert}
-use Rattle.std.proofs.lemmas.List.{length-append, length-set, length-take, take-append-drop, take-append-le, take-set-le, take-take, take_more}
-use Rattle.std.proofs.lemmas.List.Edits.{length-insert}
-use Rattle.std.proofs.lemmas.Grind.{common_steps}
-use Rattle.std.specs.Prelude.{◌⊎◌, count_by, remove}
-use Rattle.std.proofs.lemmas.List.Sums.{sum_by-remove, sum_by-cons}
-use Rattle.model.specs.Map.{Bytes}
-use Rattle.model.proofs.Elements.{all-append, all-take, all-remove}
-use Rattle.model.proofs.Entries.{IsSorted, IsBelowAll}
-use Rattle.model.proofs.InOrder.{both, parts}
-use Rattle.sorted_pages.specs.Blanks.{IsBlankTo, shown}
+use Rattle.sorted_pages.proofs.Words.{◌≡◌, ℕ, ◌+◌, ◌<◌, ◌≤◌, Bool, true, false, cond, List, [], ◌∷◌, ◌++◌, length, take, drop, get_or, set, refl, sym, ap, subst, ◌∙◌, arith, zero, suc, ◌-◌, ◌||◌, min, max, Option, Some, None, AllByRecursion, insert, length-append, length-set, length-take, take-append-drop, take-append-le, take-set-le, take-take, take_more, common_steps, ◌⊎◌, count_by, remove, Bytes, all-append, all-take, all-remove, IsSorted, IsBelowAll, both, parts, IsBlankTo, shown}
+use Rattle.std.proofs.{lemmas.List.Edits.length-insert, lemmas.List.Sums.sum_by-remove, lemmas.List.Sums.sum_by-cons}
 use Rattle.sorted_pages.specs.Summaries.{AreHidden, AreOver, IsSummary, IsSummaryBut, all_but}
 use Rattle.sorted_pages.specs.declared.summary.Summary.{Summary}
 

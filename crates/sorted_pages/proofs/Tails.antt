@@ -1,27 +1,9 @@
 -- The entries of a range: the tail of all entries from its lower bound on, up to its upper bound.
-use Rattle.std.proofs.lemmas.Grind.{common_steps}
-use Rattle.std.proofs.Common.{◌≡◌, ℕ, Bool, true, false, T, not, cond, ◌&&◌, List, [], ◌∷◌, ◌++◌, length, take, drop, get_or, ◌+◌, Option, Some, None, refl, sym, ap, subst, ◌∙◌, arith}
-use Rattle.std.specs.List.{AllByRecursion}
-use Rattle.std.specs.declared.cmp.Ordering.TheVariants.{Less}
-use Rattle.std.specs.Ordering.{is_lt, is_le}
-use Rattle.std.specs.Cmp.Lexicographic.{nat_list_cmp_total}
-use Rattle.std.specs.FinMap.Entries.{where_key}
-use Rattle.std.proofs.lemmas.Bool.{and_parts, and_right, not-true}
-use Rattle.std.proofs.lemmas.Cmp.{tied_itself}
-use Rattle.std.proofs.lemmas.List.{take-append-drop, append_assoc}
-use Rattle.std.proofs.Math.Seq.{drop-append-add}
-use Rattle.model.specs.Map.{Bytes, key_cmp, is_below, is_in_range}
+use Rattle.sorted_pages.proofs.Words.{common_steps, ◌≡◌, ℕ, Bool, true, false, T, not, cond, ◌&&◌, List, [], ◌∷◌, ◌++◌, length, take, drop, get_or, ◌+◌, Option, Some, None, refl, sym, ap, subst, ◌∙◌, arith, AllByRecursion, Less, is_lt, is_le, nat_list_cmp_total, where_key, and_parts, and_right, not-true, take-append-drop, append_assoc, Bytes, key_cmp, is_below, is_in_range, all-append, all-each, IsSorted, IsBelowAll, less, sorted_right, parts, Page, entries, IsPlace, IsInOrder, AreBelow, up_to, AreFrom, IsTail, first_key, shown}
+use Rattle.std.proofs.{lemmas.Cmp.tied_itself, Math.Seq.drop-append-add}
 use Rattle.model.specs.Entries.{IsSplit}
-use Rattle.model.proofs.Elements.{all-append, all-each}
-use Rattle.model.proofs.Entries.{IsSorted, IsBelowAll}
 use Rattle.model.proofs.KeyOrder.{from_lo, turned_less}
-use Rattle.model.proofs.InOrder.{less, sorted_right, parts}
-use Rattle.sorted_pages.specs.Pages.{Page, entries, IsPlace, IsInOrder, AreBelow}
-use Rattle.sorted_pages.specs.Ranges.{up_to, AreFrom, IsTail, first_key}
-use Rattle.sorted_pages.specs.Blanks.{shown}
-use Rattle.sorted_pages.proofs.Seen.{all-shown, shown-append, sorted-shown}
-use Rattle.sorted_pages.proofs.Keys.{below_trans, above_it}
-use Rattle.sorted_pages.proofs.Placings.{entries_at, page_is}
+use Rattle.sorted_pages.proofs.{Seen.all-shown, Seen.shown-append, Seen.sorted-shown, Keys.below_trans, Keys.above_it, Placings.entries_at, Placings.page_is}
 
 -- what is above a key that isn't below hi isn't
 not_below : (q p : Bytes) (hi : Option Bytes) → key_cmp q p ≡ Less → is_below q hi ≡ false → is_below p hi ≡ false

@@ -1,23 +1,8 @@
 -- Another value at a key that the pages have: the entries are those with that value put in, and no room changes.
-use Rattle.std.proofs.lemmas.Grind.{common_steps}
-use Rattle.std.proofs.Common.{arith, ◌≡◌, ℕ, true, false, cond, List, [], ◌∷◌, ◌++◌, get_or, set, None, IsSome, refl, sym, ap, ◌∙◌, Option, Some}
-use Rattle.std.specs.Prelude.{is_some, if◌then◌else◌, option_map}
-use Rattle.std.specs.declared.cmp.Ordering.TheVariants.{Less}
-use Rattle.std.specs.Ordering.{is_lt, is_eq}
-use Rattle.std.specs.Cmp.Lexicographic.{nat_list_cmp_total}
-use Rattle.std.specs.FinMap.Entries.{find, put, find-put}
-use Rattle.std.proofs.lemmas.Bool.{both_ways}
-use Rattle.std.proofs.lemmas.Map.Lookups.{exact_bytes}
-use Rattle.std.proofs.lemmas.List.{append-nil}
-use Rattle.std.proofs.lemmas.Cmp.{tied_itself}
-use Rattle.model.specs.Map.{Bytes, key_cmp}
+use Rattle.sorted_pages.proofs.Words.{common_steps, arith, ◌≡◌, ℕ, true, false, cond, List, [], ◌∷◌, ◌++◌, get_or, set, None, IsSome, refl, sym, ap, ◌∙◌, Option, Some, is_some, if◌then◌else◌, option_map, Less, is_lt, is_eq, nat_list_cmp_total, find, put, find-put, both_ways, append-nil, Bytes, key_cmp, all-front, all-back, IsSorted, IsBelowAll, turned, less, below_right, sorted_left, sorted_right, parts, Page, entries, starts_by, last_room, room_at, AreBelow, IsPlace, IsInOrder, put_some, changed_at}
+use Rattle.std.proofs.{lemmas.Map.Lookups.exact_bytes, lemmas.Cmp.tied_itself}
 use Rattle.model.specs.Entries.{IsAt}
-use Rattle.model.proofs.Elements.{all-front, all-back}
-use Rattle.model.proofs.Entries.{IsSorted, IsBelowAll, turned}
-use Rattle.model.proofs.InOrder.{less, below_right, sorted_left, sorted_right, parts}
-use Rattle.sorted_pages.specs.Pages.{Page, entries, starts_by, last_room, room_at, AreBelow, IsPlace, IsInOrder}
 use Rattle.sorted_pages.specs.Lent.{with_value, with_value_in}
-use Rattle.sorted_pages.specs.Trims.{put_some, changed_at}
 use Rattle.sorted_pages.proofs.Keys.{find_behind, put_behind}
 use Rattle.sorted_pages.proofs.Placings.{page_is, set_is, find_at, grown, inserted}
 

@@ -1,7 +1,5 @@
 -- Calls of a stream follow one another.
-use Rattle.std.proofs.Common.{◌≡◌, ap, refl, ◌∙◌}
-use Rattle.stream_driver.specs.Types.{Call, Read, Write, Moved, Blocked, Failed, Ended, Wrote, WriteBlocked, WriteFailed}
-use Rattle.stream_driver.specs.Traffic.{Traffic, SameCounts, one_more, after_call, AllMoved, EndsWith}
+use Rattle.stream_driver.proofs.Words.{◌≡◌, ap, refl, ◌∙◌, Call, Read, Write, Moved, Blocked, Failed, Ended, Wrote, WriteBlocked, WriteFailed, Traffic, SameCounts, one_more, after_call, AllMoved, EndsWith}
 
 pub none_called : (t : Traffic) → AllMoved t t
 none_called t = (refl, refl, refl, refl, refl, refl)

@@ -1,13 +1,7 @@
 -- A buffer that holds nothing has room.
-use Rattle.std.proofs.Common.{◌≡◌, ◌≢◌, inl, inr, ℕ, ◌-◌, ◌<◌, ◌≤◌, ◌⊎◌, ◌↔◌, not, nat_lt, true, false, List, [], ◌∷◌, ◌++◌, append_assoc, Bool, length, take, drop, vec_len, refl, sym, ap, subst, ◌∙◌, length-drop, arith}
-use Rattle.std.specs.List.{AllByRecursion}
-use Rattle.std.proofs.lemmas.Bool.Decides.{nat_tests}
-use Rattle.std.proofs.lemmas.Grind.{common_steps}
-use Rattle.std.proofs.lemmas.List.{append-nil, take-append-drop}
-use Rattle.model.proofs.Elements.{all-each}
-use Rattle.stream_driver.specs.Types.{ReadAnswer, Moved, Blocked as ReadBlocked, Failed as ReadFailed, WriteAnswer, Wrote, WriteBlocked, WriteFailed, Call, Read, Write, HeldBytes, Flushed, All, FlushedBlocked as Blocked, FlushedFailed as Failed, BufferedStream}
-use Rattle.stream_driver.specs.Buffers.{held_in, room_in, BehindEnds, BehindMoved, FlushFails, Flushes, GivesSome, KeepsBytes, ShortAfter, TakesSome, WasRead, WhyGave, WhyTook, traffic_through, ReadFails, RoomFails, StaysFailed, WhyFlushed, WhyRoom, WriteFails, WritesHeld}
-use Rattle.stream_driver.specs.Traffic.{AllMoved, Departure, DepartAt, EndsWith, IsBeginning, ReadsWithin, Traffic, WritesWithin, bytes_read, bytes_written}
+use Rattle.stream_driver.proofs.Words.{◌≡◌, ◌≢◌, inl, inr, ℕ, ◌-◌, ◌<◌, ◌≤◌, ◌⊎◌, ◌↔◌, not, nat_lt, true, false, List, [], ◌∷◌, ◌++◌, append_assoc, Bool, length, take, drop, vec_len, refl, sym, ap, subst, ◌∙◌, arith, AllByRecursion, nat_tests, common_steps, append-nil, take-append-drop, all-each, ReadAnswer, Moved, Blocked as ReadBlocked, Failed as ReadFailed, WriteAnswer, Wrote, WriteBlocked, WriteFailed, Call, Read, Write, HeldBytes, Flushed, All, FlushedBlocked as Blocked, FlushedFailed as Failed, BufferedStream, held_in, BehindEnds, BehindMoved, FlushFails, GivesSome, KeepsBytes, ShortAfter, TakesSome, WasRead, WhyGave, WhyTook, traffic_through, ReadFails, RoomFails, StaysFailed, WhyRoom, WriteFails, WritesHeld, AllMoved, Departure, DepartAt, EndsWith, IsBeginning, ReadsWithin, Traffic, WritesWithin, bytes_read, bytes_written}
+use Rattle.std.proofs.Common.{length-drop}
+use Rattle.stream_driver.specs.Buffers.{room_in, Flushes, WhyFlushed}
 use Rattle.stream_driver.proofs.Answered.{ends_same, ends_then, moved_then, none_called}
 use Rattle.stream_driver.proofs.Carry.{all_then, grown}
 

@@ -1,18 +1,6 @@
 -- Parts of a run follow one another.
-use Rattle.std.proofs.Common.{◌≡◌, ◌⊎◌, inr, ℕ, ◌≤◌, true, List, [], ◌∷◌, ◌++◌, length, map, Some, refl, sym, ap, subst, ◌∙◌, arith, append_assoc}
-use Rattle.std.specs.List.{flat_map, AllByRecursion}
-use Rattle.std.proofs.lemmas.Bool.Decides.{nat_tests}
-use Rattle.std.proofs.lemmas.List.{append-nil, map-append}
+use Rattle.stream_driver.proofs.Words.{◌≡◌, ◌⊎◌, inr, ℕ, ◌≤◌, true, List, [], ◌∷◌, ◌++◌, length, map, Some, refl, sym, ap, subst, ◌∙◌, arith, append_assoc, flat_map, AllByRecursion, nat_tests, append-nil, map-append, reply_text, all-append, HubState, SessionStream, HubEvent, Choice, ArePossible, run, hub_step, Traffic, failures_in, has_risen, Adds, ComeInTurn, GoesOn, Point, Runs, session_of, status_at, IsPresentIn, Moves, Carried}
 use Rattle.std.proofs.lemmas.List.Concat.{flat_map-append}
-use Rattle.model.specs.ReplyText.{reply_text}
-use Rattle.model.proofs.Elements.{all-append}
-use Rattle.sessions.specs.SessionStreams.{HubState, SessionStream, HubEvent, Choice, ArePossible, run, hub_step}
-use Rattle.stream_driver.specs.Traffic.{Traffic}
-use Rattle.sessions.specs.Laws.{failures_in}
-use Rattle.engine.specs.Meaning.{has_risen}
-use Rattle.stream_driver.specs.Sessions.{Adds, ComeInTurn, GoesOn, Point, Runs, session_of, status_at, IsPresentIn}
-use Rattle.stream_driver.specs.Calls.{Moves}
-use Rattle.stream_driver.specs.Drives.{Carried}
 use Rattle.stream_driver.proofs.Events.{no_events}
 
 -- two lists that grow one after the other

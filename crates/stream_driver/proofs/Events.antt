@@ -1,24 +1,8 @@
 -- What one event does to the history of its session.
-use Rattle.std.proofs.Common.{◌≡◌, ◌≢◌, ◌⊎◌, inl, inr, ℕ, ◌≤◌, Bool, nat_le, nat_lt, true, false, if◌then◌else◌, List, [], ◌∷◌, ◌++◌, length, take, drop, Option, Some, None, refl, sym, ap, subst, ◌∙◌, arith, nat_cmp}
-use Rattle.std.specs.List.{flat_map}
-use Rattle.std.specs.Map.{lookup, set_value, remove_entry}
-use Rattle.std.proofs.lemmas.Bool.Decides.{nat_tests}
-use Rattle.std.proofs.lemmas.List.{append-nil, take-append-drop}
-use Rattle.model.specs.Map.{Bytes}
-use Rattle.model.specs.Machine.{State, step}
-use Rattle.model.specs.Grammar.{IsProperBeginning}
-use Rattle.model.specs.Operations.{Response}
-use Rattle.model.specs.ReplyText.{reply_text}
-use Rattle.sessions.specs.declared.events.Status.TheVariants.{Absent, Open, Ending, Refused}
-use Rattle.sessions.specs.declared.events.Outcome.{Outcome}
-use Rattle.sessions.specs.declared.events.Outcome.TheVariants.{Done, Memory, Idle}
-use Rattle.sessions.specs.SessionStreams.{HubState, SessionState, SessionStream, HubEvent, Receives, Serves, Sends, Leaves, Front, Whole, More, Bad, IsFront, Choice, Effect, IsPossible, IsServePossible, hub_step, stream_of, with_stream, with_effect, depart, may_serve, serve_front, out_of_memory, served_with, no_effect, asks, room}
-use Rattle.sessions.specs.StandsFor.{status_in}
-use Rattle.sessions.specs.Laws.{failures_in}
-use Rattle.engine.specs.Meaning.{has_risen}
-use Rattle.stream_driver.specs.Sessions.{Adds, GoesOn, Point, Runs, session_of, status_at, IsPresentIn}
-use Rattle.std.specs.BTreeMap.{is_at}
-use Rattle.std.proofs.lemmas.Grind.{common_steps}
+use Rattle.stream_driver.proofs.Words.{◌≡◌, ◌≢◌, ◌⊎◌, inl, inr, ℕ, ◌≤◌, Bool, nat_le, nat_lt, true, false, if◌then◌else◌, List, [], ◌∷◌, ◌++◌, length, take, drop, Option, Some, None, refl, sym, ap, subst, ◌∙◌, arith, nat_cmp, flat_map, nat_tests, append-nil, take-append-drop, IsProperBeginning, reply_text, Absent, Open, Ending, Refused, Outcome, Done, Memory, HubState, SessionState, SessionStream, HubEvent, Receives, Serves, Sends, Leaves, Front, Whole, More, Bad, IsFront, Choice, Effect, IsPossible, IsServePossible, hub_step, stream_of, with_stream, with_effect, depart, may_serve, serve_front, out_of_memory, served_with, no_effect, asks, room, status_in, failures_in, has_risen, Adds, GoesOn, Point, Runs, session_of, status_at, IsPresentIn, common_steps}
+use Rattle.std.specs.{Map.lookup, Map.set_value, Map.remove_entry, BTreeMap.is_at}
+use Rattle.model.specs.{Map.Bytes, Machine.State, Machine.step, Operations.Response}
+use Rattle.sessions.specs.declared.events.Outcome.TheVariants.{Idle}
 
 -- ---- sessions in the list of those that are present, after one of them has changed or gone
 

@@ -1,13 +1,7 @@
 -- The beginning of a request is short: an inbox that holds no more has room.
-use Rattle.std.proofs.Common.{lit<, ◌≡◌, ℕ, ◌*◌, ◌<◌, ◌≤◌, List, ◌++◌, length, sum_by, sym, subst, arith, length-append}
-use Rattle.std.specs.List.{flat_map}
+use Rattle.stream_driver.proofs.Words.{lit<, ◌≡◌, ℕ, ◌*◌, ◌<◌, ◌≤◌, List, ◌++◌, length, sum_by, sym, subst, arith, length-append, flat_map, value_digits, part_max, frame_max, inbox_max, bulk, array_of_bulks, IsPart, IsRequest, IsProperBeginning}
 use Rattle.std.specs.Fmt.{decimal}
-use Rattle.std.proofs.lemmas.Fmt.{length-decimal-le}
-use Rattle.std.proofs.lemmas.List.Concat.{length-flat_map}
-use Rattle.std.proofs.lemmas.List.Sums.{sum_by-le}
-use Rattle.std.proofs.lemmas.List.Elements.{All-weaker}
-use Rattle.model.specs.Bounds.{value_digits, part_max, frame_max, inbox_max}
-use Rattle.model.specs.Grammar.{bulk, array_of_bulks, IsPart, IsRequest, IsProperBeginning}
+use Rattle.std.proofs.{lemmas.Fmt.length-decimal-le, lemmas.List.Concat.length-flat_map, lemmas.List.Sums.sum_by-le, lemmas.List.Elements.All-weaker}
 
 bulk_short : (part : List ℕ) → IsPart part → length (bulk part) ≤ part_max
 bulk_short part is =

@@ -1,30 +1,10 @@
 -- The turns of the loops.
-use Rattle.std.proofs.Common.{◌≡◌, ◌≢◌, ◌⊎◌, inl, inr, ℕ, ◌+◌, ◌-◌, ◌<◌, ◌≤◌, List, [], ◌++◌, length, Some, refl, sym, ap, subst, ◌∙◌, arith, length-append, ◌∷◌}
-use Rattle.std.proofs.lemmas.List.{append-nil}
+use Rattle.stream_driver.proofs.Words.{◌≡◌, ◌≢◌, ◌⊎◌, inl, inr, ℕ, ◌+◌, ◌-◌, ◌<◌, ◌≤◌, List, [], ◌++◌, length, Some, refl, sym, ap, subst, ◌∙◌, arith, length-append, ◌∷◌, append-nil, inbox_max, flat_map, reply_text, IsProperBeginning, Absent, Open, Ending, Refused, Outcome, Done, Memory, SessionStream, Serves, Choice, hub_step, stream_of, RunsAlone, StandsFor, HubLeads, pending_of, status_in, pending_in, room_in, failures, pending_seen, Read, Write, ReadAnswer, WriteAnswer, Moved, Blocked, Failed, Ended, Wrote, WriteBlocked, WriteFailed, Progress, Waiting, Again, Gone, OutputState, Empty, FlushBlocked, FlushFailed, Exchange, Served, Broke as ExchangeBroke, Starved as ExchangeStarved, ExchangeBlocked, ExchangeFailed, ExchangeEnded, Traffic, AllMoved, EndsWith, Ghosts, Hub, Leads, Stands, Point, Runs, AwaitsMore, status_at, pending_at, room_at, inbox_at, inbox_in, IsPresentIn, Carried, ComeWithin, Departs, Drove, EndsAs, Why, Moves, WritesSome, ReadsSome, Flushes, Exchanges, WhyExchanged, WhyFlushed, WrittenSoFar, ReadSoFar, DrivenSoFar, DrivenOut, served_in, LeadsTelling}
 use Rattle.std.proofs.Math.Nat.{ℕ_set}
-use Rattle.model.specs.Bounds.{inbox_max}
-use Rattle.std.specs.List.{flat_map}
-use Rattle.model.specs.ReplyText.{reply_text}
-use Rattle.model.specs.Grammar.{IsProperBeginning}
 use Rattle.sessions.specs.declared.events.Status.{Status}
-use Rattle.sessions.specs.declared.events.Status.TheVariants.{Absent, Open, Ending, Refused}
-use Rattle.sessions.specs.declared.events.Outcome.{Outcome}
-use Rattle.sessions.specs.declared.events.Outcome.TheVariants.{Done, Memory}
-use Rattle.sessions.specs.SessionStreams.{SessionStream, Serves, Choice, hub_step, stream_of}
-use Rattle.sessions.specs.Laws.{RunsAlone}
-use Rattle.sessions.specs.StandsFor.{StandsFor, HubLeads, pending_of, status_in, pending_in, room_in, failures}
-use Rattle.sessions.proofs.EventSteps.{pending_seen}
-use Rattle.stream_driver.specs.Types.{Read, Write, ReadAnswer, WriteAnswer, Moved, Blocked, Failed, Ended, Wrote, WriteBlocked, WriteFailed, Progress, Waiting, Again, Gone, OutputState, Empty, FlushBlocked, FlushFailed, Exchange, Served, Broke as ExchangeBroke, Starved as ExchangeStarved, ExchangeBlocked, ExchangeFailed, ExchangeEnded}
-use Rattle.stream_driver.specs.Traffic.{Traffic, AllMoved, EndsWith}
-use Rattle.stream_driver.specs.Sessions.{Ghosts, Hub, Leads, Stands, Point, Runs, AwaitsMore, status_at, pending_at, room_at, inbox_at, inbox_in, IsPresentIn}
-use Rattle.stream_driver.specs.Drives.{Carried, ComeWithin, Departs, Drove, EndsAs, Why}
-use Rattle.stream_driver.specs.Calls.{Moves, WritesSome, ReadsSome, Flushes, Exchanges, WhyExchanged, WhyFlushed, WrittenSoFar, ReadSoFar, DrivenSoFar, DrivenOut, served_in}
-use Rattle.stream_driver.specs.Sends.{LeadsTelling}
-use Rattle.stream_driver.proofs.States.{Follow, seen_after}
+use Rattle.stream_driver.proofs.{States.Follow, States.seen_after, Inboxes.beginning_short, Answered.none_called, Answered.moved_then, Answered.ends_then}
 use Rattle.stream_driver.proofs.Sends.{tells_step, tells_still, tells_three, tells_two_at}
-use Rattle.stream_driver.proofs.Inboxes.{beginning_short}
 use Rattle.stream_driver.proofs.Events.{Happens, point_after, Comes, comes_idle, comes_to, one_each, serves_is, served_event, effect, open_present}
-use Rattle.stream_driver.proofs.Answered.{none_called, moved_then, ends_then}
 use Rattle.stream_driver.proofs.Carry.{nothing, alone, and_then}
 use Rattle.model.specs.Operations.{Response}
 

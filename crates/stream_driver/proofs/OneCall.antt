@@ -1,22 +1,8 @@
 -- One read and one write.
-use Rattle.std.proofs.Common.{◌≡◌, ◌≢◌, ℕ, ◌+◌, ◌-◌, ◌<◌, ◌≤◌, List, ◌++◌, length, take, drop, Some, refl, sym, ap, subst, ◌∙◌, arith, length-append}
-use Rattle.std.proofs.lemmas.List.{append-nil, length-drop}
-use Rattle.model.specs.Bounds.{inbox_max}
+use Rattle.stream_driver.proofs.Words.{◌≡◌, ◌≢◌, ℕ, ◌+◌, ◌-◌, ◌<◌, ◌≤◌, List, ◌++◌, length, take, drop, Some, refl, sym, ap, subst, ◌∙◌, arith, length-append, append-nil, length-drop, inbox_max, Absent, Open, Outcome, Done, NoneRuns, RunsAlone, Receives, Sends, hub_step, with_stream, stream_of, HubLeads, status_of, pending_of, status_in, pending_in, room_in, failures, pending_seen, Read, Write, ReadAnswer, Moved, WriteAnswer, Wrote, Traffic, EndsWith, ReadsWithin, bytes_read, bytes_written, Ghosts, Hub, AwaitsMore, Leads, Runs, pending_at, room_at, WritesSome, ReadsSome}
 use Rattle.model.specs.Map.{Bytes}
-use Rattle.sessions.specs.declared.events.Status.TheVariants.{Absent, Open}
-use Rattle.sessions.specs.declared.events.Outcome.{Outcome}
-use Rattle.sessions.specs.declared.events.Outcome.TheVariants.{Done}
-use Rattle.sessions.specs.Laws.{NoneRuns, RunsAlone}
-use Rattle.sessions.specs.SessionStreams.{Receives, Sends, hub_step, with_stream, stream_of}
-use Rattle.sessions.specs.StandsFor.{HubLeads, status_of, pending_of, status_in, pending_in, room_in, failures}
-use Rattle.sessions.proofs.EventSteps.{pending_seen}
-use Rattle.stream_driver.specs.Types.{Read, Write, ReadAnswer, Moved, WriteAnswer, Wrote}
-use Rattle.stream_driver.specs.Traffic.{Traffic, EndsWith, ReadsWithin, bytes_read, bytes_written}
-use Rattle.stream_driver.specs.Sessions.{Ghosts, Hub, AwaitsMore, Leads, Runs, pending_at, room_at}
-use Rattle.stream_driver.specs.Calls.{WritesSome, ReadsSome}
 use Rattle.stream_driver.proofs.Events.{found, point_after, one_event, received_by, receives, bytes_came, sent_from, sends, bytes_went, open_present}
-use Rattle.stream_driver.proofs.Carry.{answered, moved_by}
-use Rattle.stream_driver.proofs.States.{leads_event, leads_none, present_in}
+use Rattle.stream_driver.proofs.{Carry.answered, Carry.moved_by, States.leads_event, States.leads_none, States.present_in}
 
 module _ {D : Type 0} {g : Ghosts D} {hub new : Hub D g} {s : ℕ} {tells : Type 0} {b a : Traffic} where
   pub wrote_moved : (n : ℕ) → 0 < n → {outcome : Outcome} → HubLeads hub new (Sends s n) outcome → RunsAlone hub new (Sends s n) → failures hub ≤ failures new

@@ -1,15 +1,7 @@
 -- One entry of a table, before its drive and after it.
-use Rattle.std.proofs.Common.{◌≡◌, ◌≢◌, ◌⊎◌, inl, inr, ℕ, ◌<◌, List, length, set, get_or, refl, sym, ap, subst, ◌∙◌, Option, Some, None}
-use Rattle.std.proofs.lemmas.Bool.{cases_lt, cases_eq}
-use Rattle.std.proofs.lemmas.List.{get_or-set_same, get_or-set_other}
-use Rattle.std.proofs.Math.ListN.{get_or-eq_default}
+use Rattle.stream_driver.proofs.Words.{◌≡◌, ◌≢◌, ◌⊎◌, inl, inr, ℕ, ◌<◌, List, length, set, get_or, refl, sym, ap, subst, ◌∙◌, Option, Some, None, get_or-set_same, get_or-set_other, stream_of, Progress, Gone, EntryState, Idle, Ready, EntryGone, Entry, Traffic, Point, IsPresentIn, EndsAs, DrivenIn, state_after}
+use Rattle.std.proofs.{lemmas.Bool.cases_lt, lemmas.Bool.cases_eq, Math.ListN.get_or-eq_default}
 use Rattle.model.proofs.Lookups.{some_same}
-use Rattle.sessions.specs.SessionStreams.{stream_of}
-use Rattle.stream_driver.specs.Types.{Progress, Gone, EntryState, Idle, Ready, EntryGone, Entry}
-use Rattle.stream_driver.specs.Traffic.{Traffic}
-use Rattle.stream_driver.specs.Sessions.{Point, IsPresentIn}
-use Rattle.stream_driver.specs.Drives.{EndsAs}
-use Rattle.stream_driver.specs.Entries.{DrivenIn, state_after}
 use Rattle.stream_driver.proofs.Events.{leaves_others}
 
 pub ends_other : (s : ℕ) (last new : Point) (answer : Progress) (t : ℕ) → t ≢ s → EndsAs s last new answer → stream_of new.hub t ≡ stream_of last.hub t

@@ -1,17 +1,5 @@
 -- What left over a stream is told before, from run to run.
-use Rattle.std.proofs.Common.{◌≡◌, ◌≤◌, ◌⊎◌, inl, inr, ℕ, List, [], ◌++◌, Some, take, drop, refl, sym, ap, subst, ◌∙◌, append_assoc}
-use Rattle.std.specs.List.{AllByRecursion}
-use Rattle.std.proofs.lemmas.List.{append-nil, take-append-drop}
-use Rattle.sessions.specs.declared.events.Outcome.{Outcome}
-use Rattle.sessions.specs.Laws.{NoneRuns, Ran, RunsAlone}
-use Rattle.sessions.specs.SessionStreams.{HubState, HubEvent, Choice, SessionStream, hub_step, run, stream_of}
-use Rattle.sessions.specs.StandsFor.{StandsFor, HubLeads, device, failures, pending_in, pending_of}
-use Rattle.sessions.proofs.EventSteps.{pending_seen}
-use Rattle.model.proofs.Elements.{all-each}
-use Rattle.stream_driver.specs.Drives.{Carried}
-use Rattle.stream_driver.specs.Sends.{IsAnswered, IsToldBefore, AreToldBefore, HasSent, LeadsTelling}
-use Rattle.stream_driver.specs.Sessions.{Ghosts, Hub, Leads, Point}
-use Rattle.stream_driver.specs.Traffic.{Departure, DepartAt, IsBeginning, Traffic}
+use Rattle.stream_driver.proofs.Words.{◌≡◌, ◌≤◌, ◌⊎◌, inl, inr, ℕ, List, [], ◌++◌, Some, take, drop, refl, sym, ap, subst, ◌∙◌, append_assoc, AllByRecursion, append-nil, take-append-drop, Outcome, NoneRuns, Ran, RunsAlone, HubState, HubEvent, Choice, SessionStream, hub_step, run, stream_of, StandsFor, HubLeads, device, failures, pending_in, pending_of, pending_seen, all-each, Carried, IsAnswered, IsToldBefore, AreToldBefore, HasSent, LeadsTelling, Ghosts, Hub, Leads, Point, Departure, DepartAt, IsBeginning, Traffic}
 use Rattle.stream_driver.proofs.Carry.{all_then, and_then, grown, one_history, run_then}
 use Rattle.stream_driver.proofs.Events.{Happens, point_after}
 use Rattle.stream_driver.proofs.States.{Follow, at_point, leads_event, leads_map, leads_two_at, point_of}

@@ -1,18 +1,9 @@
 -- From hub to hub.
-use Rattle.std.proofs.Common.{◌≡◌, ◌≢◌, ℕ, ◌≤◌, arith, List, [], ◌∷◌, ◌++◌, refl, sym, ap, ◌∙◌}
+use Rattle.stream_driver.proofs.Words.{◌≡◌, ◌≢◌, ℕ, ◌≤◌, arith, List, [], ◌∷◌, ◌++◌, refl, sym, ap, ◌∙◌, Absent, Outcome, has_risen, HubState, HubEvent, Choice, hub_step, StandsFor, HubLeads, failures, status_of, HasRun, NoneRuns, Ran, RunsAlone, status_seen, Ghosts, Hub, Point, StandsAt, Stands, IsPresent, Leads, IsPresentIn}
 use Rattle.std.proofs.Math.Logic.{∥∥₁_elim}
 use Rattle.model.proofs.Leading.{compose, weaken}
-use Rattle.sessions.specs.declared.events.Status.TheVariants.{Absent}
-use Rattle.sessions.specs.declared.events.Outcome.{Outcome}
-use Rattle.engine.specs.Meaning.{has_risen}
-use Rattle.sessions.specs.SessionStreams.{HubState, HubEvent, Choice, hub_step}
-use Rattle.sessions.specs.StandsFor.{StandsFor, HubLeads, failures, status_of}
-use Rattle.sessions.specs.Laws.{HasRun, NoneRuns, Ran, RunsAlone}
-use Rattle.sessions.proofs.EventSteps.{status_seen}
 use Rattle.sessions.proofs.Reached.{reached}
-use Rattle.stream_driver.specs.Sessions.{Ghosts, Hub, Point, StandsAt, Stands, IsPresent, Leads, IsPresentIn}
-use Rattle.stream_driver.proofs.Events.{Happens, adds_none, point_after}
-use Rattle.stream_driver.proofs.Carry.{adds_then}
+use Rattle.stream_driver.proofs.{Events.Happens, Events.adds_none, Events.point_after, Carry.adds_then}
 
 abbrev pub point_of : {D : Type 0} {g : Ghosts D} → Hub D g → HubState → Point
 point_of hub h = record { hub = h; failures = failures hub; events = [] }

@@ -1,20 +1,10 @@
 -- The turns of a walk over the table, and what left over its streams, told entry by entry.
-use Rattle.std.proofs.Common.{◌≡◌, ◌≢◌, inl, inr, ℕ, ◌+◌, ◌<◌, ◌≤◌, List, [], ◌∷◌, ◌++◌, length, set, take, drop, get_or, refl, sym, ap, subst, ◌∙◌, arith, Option, Some, None, add-zero, ◌⊎◌}
+use Rattle.stream_driver.proofs.Words.{◌≡◌, ◌≢◌, inl, inr, ℕ, ◌+◌, ◌<◌, ◌≤◌, List, [], ◌∷◌, ◌++◌, length, set, take, drop, get_or, refl, sym, ap, subst, ◌∙◌, arith, Option, Some, None, add-zero, ◌⊎◌, take_all, take_more, take_more_set, get_or-drop, drop-drop, drop-set-lt, length-set, NoneRuns, status_in, StandsFor, Progress, Gone, EntryState, Ready, EntryGone, Idle, Entry, Traffic, Ghosts, Hub, Point, Leads, IsPresent, StandsAt, Drove, HaveSessions, DrivenEntry, DrivenIn, DrivenSlot, DrivenAll, EntriesSoFar, state_after, KeepSessions, DrivesTelling, LeadsTelling, AreToldBefore, IsAnswered, HasSent, HaveSent, Choice, HubEvent, HubState, run}
 use Rattle.std.proofs.lemmas.Bool.{cases_lt}
 use Rattle.model.proofs.Lookups.{some_same}
-use Rattle.std.proofs.lemmas.List.{take_all, take_more, take_more_set, get_or-drop, drop-drop, drop-set-lt, length-set}
-use Rattle.sessions.specs.Laws.{NoneRuns}
-use Rattle.sessions.specs.StandsFor.{status_in, StandsFor}
-use Rattle.stream_driver.specs.Types.{Progress, Gone, EntryState, Ready, EntryGone, Idle, Entry}
-use Rattle.stream_driver.specs.Traffic.{Traffic}
-use Rattle.stream_driver.specs.Sessions.{Ghosts, Hub, Point, Leads, IsPresent, StandsAt}
-use Rattle.stream_driver.specs.Drives.{Drove}
-use Rattle.stream_driver.specs.Entries.{HaveSessions, DrivenEntry, DrivenIn, DrivenSlot, DrivenAll, EntriesSoFar, state_after, KeepSessions}
-use Rattle.stream_driver.specs.Sends.{DrivesTelling, LeadsTelling, AreToldBefore, IsAnswered, HasSent, HaveSent}
 use Rattle.stream_driver.proofs.OneEntry.{below, entry_other, entry_present, get_set, ends_last}
 use Rattle.stream_driver.proofs.Sends.{tells_still, all_told_then, answered_on, more_since, none_left, sent_after}
 use Rattle.stream_driver.proofs.States.{Follow, leads_none, present_after, at_point, leads_map, leads_two_at, point_of}
-use Rattle.sessions.specs.SessionStreams.{Choice, HubEvent, HubState, run}
 use Rattle.stream_driver.proofs.Carry.{run_then}
 
 module _ {T : Type 0} (tells : Type 0) (traffic : T → Traffic) where

@@ -1,28 +1,8 @@
 -- What the calls answer, from where the search ended.
-use Rattle.std.proofs.Common.{◌≡◌, ℕ, ◌+◌, ◌-◌, ◌<◌, ◌≤◌, true, T, List, [], ◌∷◌, ◌++◌, length, take, get_or, Option, Some, None, refl, sym, ap, subst, ◌∙◌, arith}
-use Rattle.std.specs.Prelude.{option_map}
-use Rattle.std.specs.List.{AllByRecursion}
+use Rattle.versions.proofs.Words.{◌≡◌, ℕ, ◌+◌, ◌-◌, ◌<◌, ◌≤◌, true, T, List, [], ◌∷◌, ◌++◌, length, take, get_or, Option, Some, None, refl, sym, ap, subst, ◌∙◌, arith, option_map, AllByRecursion, append_assoc, take_more, nat_cmp, slice_cmp, put, is_sorted, Bytes, key_cmp, KeyMap, KeyWrite, IsMap, value_at, ChainValue, Chains, ChainsValue, find_chain, seen_in, visible, IsKept, IsRoomier, HasPlace, HasRoom, added, stamped, fresh_chain, IsReady, base_chains, StandsFor, AreUnderWitnesses, IsAddedTo, Page, room_at, is_seen_from, AreSeenFrom, IsFollowed, is_in, is_listed, IsListed, unwitnessed, followed, GroupValue, Listed, kept_in, writes_of, or_right, nat_tests, IsSorted, parts, sorted_left, all-append, all-each, all-get}
 use Rattle.std.proofs.Math.Seq.{take-append_seam}
-use Rattle.std.proofs.lemmas.List.{append_assoc, take_more}
-use Rattle.std.specs.Ordering.{nat_cmp}
-use Rattle.std.specs.Cmp.Lexicographic.{slice_cmp}
-use Rattle.std.specs.FinMap.Entries.{put, is_sorted}
-use Rattle.model.specs.Map.{Bytes, key_cmp, KeyMap, KeyWrite, IsMap, value_at}
-use Rattle.versions.specs.Chains.{ChainValue, Chains, ChainsValue, find_chain, seen_in, visible, IsKept, IsRoomier, HasPlace, HasRoom, added, stamped, fresh_chain, IsReady, base_chains}
-use Rattle.versions.specs.StandsFor.{StandsFor}
-use Rattle.versions.specs.Witnesses.{AreUnderWitnesses, IsAddedTo}
-use Rattle.sorted_pages.specs.Pages.{Page, room_at}
-use Rattle.versions.specs.Listings.{is_seen_from, AreSeenFrom, IsFollowed, is_in, is_listed, IsListed, unwitnessed, followed}
-use Rattle.versions.specs.Groups.{GroupValue, Listed}
-use Rattle.versions.specs.Meaning.{kept_in, writes_of}
-use Rattle.std.proofs.lemmas.Bool.{or_right}
-use Rattle.std.proofs.lemmas.Bool.Decides.{nat_tests}
-use Rattle.model.proofs.Entries.{IsSorted}
-use Rattle.model.proofs.InOrder.{parts, sorted_left}
-use Rattle.versions.proofs.Visibles.{value-visible}
+use Rattle.versions.proofs.{Visibles.value-visible, Listings.groups-found, Listings.listed-write}
 use Rattle.versions.proofs.Stores.{HavePlaces, sorted_base, find-roomier, room-more, room-roomier, room_roomier, places-more, place-roomier, places-roomier, places-apart, written_map, written_number, ready-apart, maps-step, newest-step, kept-step, ready-prepared, kept-put, rising_one, visible-base, newest-base}
-use Rattle.model.proofs.Elements.{all-append, all-each, all-get}
-use Rattle.versions.proofs.Listings.{groups-found, listed-write}
 use Rattle.versions.proofs.UnderWitnesses.{added-put, added-refl, added-trans, followed-write}
 
 -- what was found is what number n sees

@@ -1,12 +1,5 @@
 -- One chain: a version more, and what a reclaim leaves.
-use Rattle.std.proofs.Common.{◌≡◌, ℕ, ◌<◌, ◌≤◌, Bool, true, false, ◌&&◌, List, [], ◌∷◌, ◌++◌, Option, Some, None, refl, sym, ap, ◌∙◌, arith, inl, inr}
-use Rattle.std.specs.Prelude.{nat_le, nat_lt, if◌then◌else◌, ◌==◌}
-use Rattle.std.specs.List.{AllByRecursion, list_any}
-use Rattle.std.proofs.lemmas.Bool.{both_ways, or_cases, or_right}
-use Rattle.std.proofs.lemmas.Bool.Decides.{nat_tests}
-use Rattle.model.proofs.Elements.{all-append, all-each}
-use Rattle.versions.specs.Chains.{Stamped, ChainValue, last_at, version_at, value_of, seen, seen_in, added, first_number, is_between, seen_by, reclaimed, IsRisingTo, IsRisingChain}
-use Rattle.versions.specs.Meaning.{is_among, IsSeen, IsTightChain}
+use Rattle.versions.proofs.Words.{◌≡◌, ℕ, ◌<◌, ◌≤◌, Bool, true, false, ◌&&◌, List, [], ◌∷◌, ◌++◌, Option, Some, None, refl, sym, ap, ◌∙◌, arith, inl, inr, nat_le, nat_lt, if◌then◌else◌, ◌==◌, AllByRecursion, list_any, both_ways, or_cases, or_right, nat_tests, all-append, all-each, Stamped, ChainValue, last_at, version_at, value_of, seen, seen_in, added, first_number, is_between, seen_by, reclaimed, IsRisingTo, IsRisingChain, is_among, IsSeen, IsTightChain}
 
 pub last_at-push : (n : ℕ) (d : Option Stamped) (vs : List Stamped) (v : Stamped) → last_at n d (vs ++ v ∷ []) ≡ (if nat_le v.number n then Some v else last_at n d vs)
 last_at-push n d [] v = refl

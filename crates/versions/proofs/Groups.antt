@@ -1,28 +1,7 @@
 -- The loops over what is listed.
-use Rattle.std.proofs.Common.{◌≡◌, ℕ, zero, suc, ◌+◌, ◌-◌, ◌<◌, ◌≤◌, Bool, true, false, ◌&&◌, ◌||◌, List, [], ◌∷◌, ◌++◌, length, take, drop, get_or, set, Option, Some, None, refl, sym, ap, subst, ◌∙◌, arith, inl, inr}
-use Rattle.std.specs.Prelude.{option_map, nat_lt, nat_le, ◌==◌, ◌⊎◌, if◌then◌else◌, swap_remove, IfSome}
-use Rattle.std.proofs.lemmas.Grind.{common_steps}
-use Rattle.std.specs.declared.vec.Vec.{Vec}
-use Rattle.std.specs.List.{AllByRecursion, list_any, list_all, remove}
-use Rattle.std.proofs.lemmas.List.Sorted.{list_any-IsPermutation, IsPermutation-swap_remove}
-use Rattle.std.proofs.lemmas.Bool.{both_ways, and_left, and_right}
-use Rattle.std.proofs.lemmas.Bool.Decides.{nat_tests}
-use Rattle.model.specs.Map.{Bytes}
-use Rattle.model.proofs.Lookups.{same_key, same_key_itself}
-use Rattle.versions.specs.Chains.{Stamped, ChainValue, Chains, ChainsValue, find_chain, first_number, is_between, reclaimed, IsKept, IsReclaimedAt}
-use Rattle.versions.specs.Listings.{is_seen_from, is_seen_by, AreSeenFrom, is_of, is_in, is_listed, AreListed, IsListedChain, IsListed, AreFound, has_version, AreNeeded, IsNeededChain, IsSettled, IsPartReclaimed, AreKept, AreAmong, AreMixedSettled, IsTrulyMixed, versions_in, witness_for, witnesses, lists_in}
-use Rattle.versions.specs.Groups.{GroupValue, Listed}
-use Rattle.versions.specs.Witnesses.{AreUnderWitnesses, IsUnderWitness}
-use Rattle.versions.specs.Meaning.{is_among, due_for, due_in, lists_a_reclaim}
-use Rattle.versions.proofs.Stores.{rising_found}
-use Rattle.std.proofs.lemmas.List.{drop_all, take_all, length-set}
-use Rattle.std.proofs.lemmas.List.Folds.{list_all-append}
-use Rattle.std.proofs.lemmas.List.Recursion.{is_sum_by}
-use Rattle.std.specs.List.{sum_by}
-use Rattle.model.proofs.Elements.{all-each, all-get, all-map, all-more, all-remove, all-set, all-take, any-remove, any-set}
-use Rattle.versions.proofs.Witnesses.{lists-fewer}
-use Rattle.versions.proofs.UnderWitnesses.{IsUnder}
-use Rattle.versions.proofs.ChainLaws.{any-weaker, between-wider}
+use Rattle.versions.proofs.Words.{◌≡◌, ℕ, zero, suc, ◌+◌, ◌-◌, ◌<◌, ◌≤◌, Bool, true, false, ◌&&◌, ◌||◌, List, [], ◌∷◌, ◌++◌, length, take, drop, get_or, set, Option, Some, None, refl, sym, ap, subst, ◌∙◌, arith, inl, inr, option_map, nat_lt, nat_le, ◌==◌, ◌⊎◌, if◌then◌else◌, swap_remove, IfSome, common_steps, Vec, AllByRecursion, list_any, list_all, remove, both_ways, and_left, and_right, nat_tests, Bytes, same_key, same_key_itself, Stamped, ChainValue, Chains, ChainsValue, find_chain, first_number, is_between, reclaimed, IsKept, IsReclaimedAt, is_seen_from, is_seen_by, AreSeenFrom, is_of, is_in, is_listed, AreListed, IsListedChain, IsListed, AreFound, has_version, AreNeeded, IsNeededChain, IsSettled, IsPartReclaimed, AreKept, AreAmong, AreMixedSettled, IsTrulyMixed, versions_in, witness_for, witnesses, lists_in, GroupValue, Listed, AreUnderWitnesses, IsUnderWitness, is_among, due_for, due_in, lists_a_reclaim, drop_all, take_all, length-set, list_all-append, sum_by, all-each, all-get, all-map, all-more, all-remove, all-set, all-take, any-remove, any-set}
+use Rattle.std.proofs.{lemmas.List.Sorted.list_any-IsPermutation, lemmas.List.Sorted.IsPermutation-swap_remove, lemmas.List.Recursion.is_sum_by}
+use Rattle.versions.proofs.{Stores.rising_found, Witnesses.lists-fewer, UnderWitnesses.IsUnder, ChainLaws.any-weaker, ChainLaws.between-wider}
 use Rattle.versions.proofs.Listings.{needed-chain, reclaimed-needed, part-at, part-trans, all-settled-part, left-part, listed-part}
 
 -- ---- a fact of each element

@@ -1,16 +1,7 @@
 -- The histories that versions stand for, from call to call.
-use Rattle.std.proofs.Common.{◌≡◌, ℕ, ◌+◌, ◌<◌, ◌≤◌, Bool, ◌&&◌, List, [], ◌∷◌, ◌++◌, length, Option, Some, refl, sym, subst, ◌∙◌, arith, length-append}
-use Rattle.std.specs.Prelude.{◌↔◌, option_map, nat_le, if◌then◌else◌}
-use Rattle.std.proofs.lemmas.Bool.{cond_both}
-use Rattle.std.proofs.lemmas.Bool.Decides.{nat_tests}
-use Rattle.model.specs.Map.{Bytes, KeyMap, KeyWrite, IsMap, after_writes, value_at}
-use Rattle.model.specs.History.{Record, map_at}
-use Rattle.model.proofs.Lookups.{IsMap-after_writes}
-use Rattle.model.specs.Dependency.{writes_key}
-use Rattle.versions.specs.Chains.{ChainsValue, IsRoomier}
-use Rattle.versions.specs.Meaning.{is_among, IsSameMeaning, IsInstalled, IsReclaimed}
-use Rattle.versions.specs.StandsFor.{StandsFor, last_writer_from}
-use Rattle.versions.specs.Witnesses.{AreUnderWitnesses}
+use Rattle.versions.proofs.Words.{◌≡◌, ℕ, ◌+◌, ◌<◌, ◌≤◌, Bool, ◌&&◌, List, [], ◌∷◌, ◌++◌, length, Option, Some, refl, sym, subst, ◌∙◌, arith, ◌↔◌, option_map, nat_le, if◌then◌else◌, cond_both, nat_tests, Bytes, KeyMap, KeyWrite, IsMap, after_writes, value_at, IsMap-after_writes, ChainsValue, IsRoomier, is_among, IsSameMeaning, IsInstalled, IsReclaimed, StandsFor, last_writer_from, AreUnderWitnesses}
+use Rattle.std.proofs.Common.{length-append}
+use Rattle.model.specs.{History.Record, History.map_at, Dependency.writes_key}
 use Rattle.versions.proofs.UnderWitnesses.{groups-under, under-roomier, under-roomy}
 
 pub map_at-push : (base : KeyMap) (rs : List Record) (r : Record) (n : ℕ) → map_at base (rs ++ r ∷ []) n ≡ (if nat_le r.commit n then after_writes (map_at base rs n) r.writes else map_at base rs n)

@@ -1,22 +1,7 @@
 -- Each older version is listed: where chains are made, get more room, a version more, or are reclaimed.
-use Rattle.std.proofs.Common.{◌≡◌, ℕ, ◌+◌, ◌-◌, ◌≤◌, Bool, true, false, cond, List, [], ◌∷◌, ◌++◌, length, Option, Some, None, refl, sym, ap, subst, ◌∙◌, arith, inl, inr}
-use Rattle.std.specs.Prelude.{option_map, if◌then◌else◌, ◌==◌, IfSome}
-use Rattle.std.specs.List.{AllByRecursion, list_any}
-use Rattle.std.proofs.lemmas.List.Folds.{list_any-append}
-use Rattle.std.specs.Ordering.{nat_cmp}
-use Rattle.std.specs.Cmp.Lexicographic.{slice_cmp}
-use Rattle.std.specs.FinMap.Entries.{put}
-use Rattle.std.proofs.lemmas.Bool.{or_left, or_right, eq-eqb, cond_both}
-use Rattle.model.proofs.Elements.{all-each}
-use Rattle.std.proofs.lemmas.Bool.Decides.{nat_tests}
-use Rattle.model.specs.Map.{Bytes, KeyMap, is_same_key}
-use Rattle.model.proofs.Lookups.{same_key, same_key_itself}
-use Rattle.versions.specs.Chains.{Stamped, ChainValue, Chains, find_chain, added, stamped, first_number, is_between, seen_by, reclaimed, room_left, base_chains, IsKept, IsRisingTo, IsRisingChain, IsReclaimedAt, IsRoomier}
-use Rattle.versions.specs.Listings.{is_of, is_in, is_listed, AreListed, IsListedChain, IsListed, AreFound, unwitnessed, followed, has_version, AreNeeded, IsNeededChain, IsSettled, IsPartReclaimed, AreKept}
-use Rattle.versions.specs.Groups.{GroupValue, Listed}
-use Rattle.versions.proofs.ChainLaws.{any-weaker, between-wider, first_rises}
+use Rattle.versions.proofs.Words.{◌≡◌, ℕ, ◌+◌, ◌-◌, ◌≤◌, Bool, true, false, cond, List, [], ◌∷◌, ◌++◌, length, Option, Some, None, refl, sym, ap, subst, ◌∙◌, arith, inl, inr, option_map, if◌then◌else◌, ◌==◌, IfSome, AllByRecursion, list_any, list_any-append, nat_cmp, slice_cmp, put, or_left, or_right, eq-eqb, cond_both, all-each, nat_tests, Bytes, KeyMap, is_same_key, same_key, same_key_itself, Stamped, ChainValue, Chains, find_chain, added, stamped, first_number, is_between, seen_by, reclaimed, room_left, base_chains, IsKept, IsRisingTo, IsRisingChain, IsReclaimedAt, IsRoomier, is_of, is_in, is_listed, AreListed, IsListedChain, IsListed, AreFound, unwitnessed, followed, has_version, AreNeeded, IsNeededChain, IsSettled, IsPartReclaimed, AreKept, GroupValue, Listed}
+use Rattle.versions.proofs.{ChainLaws.any-weaker, ChainLaws.between-wider, ChainLaws.first_rises, Visibles.find_chain-put}
 use Rattle.versions.proofs.Stores.{RoomierFound, find-roomier, twice, rising_found, rising_older}
-use Rattle.versions.proofs.Visibles.{find_chain-put}
 
 -- ---- more groups
 

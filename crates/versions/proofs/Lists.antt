@@ -1,19 +1,5 @@
 -- The loop over a group's lists.
-use Rattle.std.proofs.Common.{◌≡◌, ℕ, Bool, true, false, List, [], ◌∷◌, ◌++◌, length, take, drop, get_or, set, ◌+◌, ◌<◌, refl, sym, ap, subst, ◌∙◌, arith}
-use Rattle.std.specs.Prelude.{◌==◌}
-use Rattle.std.specs.Vec.{vec_len}
-use Rattle.std.specs.List.{AllByRecursion, list_all}
-use Rattle.std.specs.declared.vec.Vec.{Vec}
-use Rattle.std.proofs.lemmas.List.{append-nil, append_assoc, length-append, nil_from_length, take-append-drop}
-use Rattle.std.proofs.lemmas.Grind.{common_steps}
-use Rattle.std.proofs.lemmas.List.Folds.{list_any-append}
-use Rattle.std.proofs.lemmas.Bool.{and_parts, both_ways, eqb-true}
-use Rattle.std.proofs.lemmas.Bool.Decides.{nat_tests}
-use Rattle.versions.specs.Chains.{Chains, ChainsValue, IsKept}
-use Rattle.versions.specs.Listings.{is_seen_from, AreSeenFrom, is_of, IsSettled, IsPartReclaimed, AreKept, versions_in}
-use Rattle.versions.specs.Groups.{Listed}
-use Rattle.versions.specs.Witnesses.{IsUnderWitness}
-use Rattle.model.proofs.Elements.{all-append, all-back, all-front, all-pass}
+use Rattle.versions.proofs.Words.{◌≡◌, ℕ, Bool, true, false, List, [], ◌∷◌, ◌++◌, length, take, drop, get_or, set, ◌+◌, ◌<◌, refl, sym, ap, subst, ◌∙◌, arith, ◌==◌, vec_len, AllByRecursion, list_all, Vec, append-nil, append_assoc, length-append, nil_from_length, take-append-drop, common_steps, list_any-append, and_parts, both_ways, eqb-true, nat_tests, Chains, ChainsValue, IsKept, is_seen_from, AreSeenFrom, is_of, IsSettled, IsPartReclaimed, AreKept, versions_in, Listed, IsUnderWitness, all-append, all-back, all-front, all-pass}
 use Rattle.versions.proofs.Listings.{part-trans, all-settled-part, left-part}
 
 -- ---- lists, one after the other

@@ -1,18 +1,6 @@
 -- The lists of one group: those that are seen, those that are due, and the mixed.
-use Rattle.std.proofs.Common.{◌≡◌, ℕ, true, List, ◌++◌, length, sym, ap, subst, arith, inl, inr}
-use Rattle.std.specs.Prelude.{◌⊎◌}
-use Rattle.std.specs.List.{AllByRecursion}
-use Rattle.std.specs.declared.vec.Vec.{Vec}
-use Rattle.std.specs.List.{list_any}
-use Rattle.std.proofs.lemmas.List.{nil_from_length}
-use Rattle.std.proofs.lemmas.List.Folds.{list_any-append}
-use Rattle.versions.specs.Groups.{Listed, GroupValue}
-use Rattle.versions.specs.Chains.{Chains}
-use Rattle.versions.specs.Meaning.{is_among, due_for}
-use Rattle.versions.specs.Listings.{AreIn, AreKept, AreSeenFrom, IsSettled, IsTakenIn, IsPartReclaimed, is_of, versions_in}
-use Rattle.model.proofs.Elements.{all-append, all-back, all-front}
-use Rattle.versions.proofs.Listings.{left-part}
-use Rattle.versions.proofs.Groups.{all-between}
+use Rattle.versions.proofs.Words.{◌≡◌, ℕ, true, List, ◌++◌, length, sym, ap, subst, arith, inl, inr, ◌⊎◌, AllByRecursion, Vec, list_any, nil_from_length, list_any-append, Listed, GroupValue, Chains, is_among, due_for, AreIn, AreKept, AreSeenFrom, IsSettled, IsTakenIn, IsPartReclaimed, is_of, versions_in, all-append, all-back, all-front}
+use Rattle.versions.proofs.{Listings.left-part, Groups.all-between}
 
 -- ---- versions that are among others
 

@@ -1,27 +1,9 @@
 -- All chains: what is made, what more room leaves, what an install adds and what a reclaim leaves.
-use Rattle.std.proofs.Common.{◌≡◌, ℕ, suc, ◌+◌, ◌-◌, ◌<◌, ◌≤◌, true, false, T, cond, ◌||◌, List, [], ◌∷◌, ◌++◌, length, take, set, Option, Some, None, IsSome, Result, Ok, Err, refl, sym, ap, subst, ◌∙◌, arith}
-use Rattle.std.specs.Prelude.{option_map, nat_le, is_some, if◌then◌else◌, IfSome, OnOk, swap_remove}
-use Rattle.std.specs.List.{AllByRecursion}
+use Rattle.versions.proofs.Words.{◌≡◌, ℕ, suc, ◌+◌, ◌-◌, ◌<◌, ◌≤◌, true, false, T, cond, ◌||◌, List, [], ◌∷◌, ◌++◌, length, take, set, Option, Some, None, IsSome, Result, Ok, Err, refl, sym, ap, subst, ◌∙◌, arith, option_map, nat_le, is_some, if◌then◌else◌, IfSome, OnOk, swap_remove, AllByRecursion, is_eq, is_lt, nat_cmp, ordering_reverse, slice_cmp, put, below_all, by_order, both_ways, Page, room_at, Bytes, KeyMap, KeyWrite, IsMap, key_cmp, is_same_key, value_at, after_writes, same_key, same_key_itself, same_key_comm, same_map, Stamped, ChainValue, Chains, ChainsValue, find_chain, seen, seen_in, version_at, value_of, visible, with_value, added, stamped, fresh_chain, IsReady, HasPlace, HasRoom, IsPrepared, reclaimed, IsReclaimedAt, base_chains, IsKept, IsRisingChain, IsRisingTo, IsRoomier, IsRoomierChain, kept_in, is_written_by, is_among, due_of, lists_a_reclaim, IsSameMeaning, IsReclaimed, IsTightChain, writes_of, IsPartReclaimed, IsSorted, IsBelowAll, turned, both, less, parts, common_steps, get_or_default, nat_tests, all-append, all-each}
 use Rattle.std.specs.declared.cmp.Ordering.TheVariants.{Less, Equal, Greater}
-use Rattle.std.specs.Ordering.{is_eq, is_lt, nat_cmp, ordering_reverse}
-use Rattle.std.specs.Cmp.Lexicographic.{slice_cmp}
-use Rattle.std.specs.FinMap.Entries.{put, below_all, by_order}
-use Rattle.std.proofs.lemmas.Bool.{both_ways}
 use Rattle.std.proofs.lemmas.Map.Lookups.{exact_bytes}
-use Rattle.sorted_pages.specs.Pages.{Page, room_at}
 use Rattle.sorted_pages.specs.Trims.{put_some, changed_at}
-use Rattle.model.specs.Map.{Bytes, KeyMap, KeyWrite, IsMap, key_cmp, is_same_key, value_at, after_writes}
-use Rattle.model.proofs.Lookups.{same_key, same_key_itself, same_key_comm, same_map}
-use Rattle.versions.specs.Chains.{Stamped, ChainValue, Chains, ChainsValue, find_chain, seen, seen_in, version_at, value_of, visible, with_value, added, stamped, fresh_chain, IsReady, HasPlace, HasRoom, IsPrepared, reclaimed, IsReclaimedAt, base_chains, IsKept, IsRisingChain, IsRisingTo, IsRoomier, IsRoomierChain}
-use Rattle.versions.specs.Meaning.{kept_in, is_written_by, is_among, due_of, lists_a_reclaim, IsSameMeaning, IsReclaimed, IsTightChain, writes_of}
-use Rattle.versions.specs.Listings.{IsPartReclaimed}
 use Rattle.versions.proofs.ChainLaws.{seen-added, rising-added, version_at-reclaimed, version_at-newest, tight-reclaimed, rising-seen_by, reclaimed_twice}
-use Rattle.model.proofs.Entries.{IsSorted, IsBelowAll, turned}
-use Rattle.model.proofs.InOrder.{both, less, parts}
-use Rattle.std.proofs.lemmas.Grind.{common_steps}
-use Rattle.std.proofs.lemmas.List.{get_or_default}
-use Rattle.std.proofs.lemmas.Bool.Decides.{nat_tests}
-use Rattle.model.proofs.Elements.{all-append, all-each}
 use Rattle.versions.proofs.Visibles.{IsMap-visible, value-visible, visible-put, visible-put_same, find_chain-put, sorted-put}
 
 -- ---- a fact of all chains

@@ -1,22 +1,7 @@
 -- Under which numbers the older versions are listed, from call to call.
-use Rattle.std.proofs.Common.{◌≡◌, ℕ, ◌-◌, ◌<◌, ◌≤◌, Bool, true, false, ◌&&◌, List, [], ◌∷◌, ◌++◌, Option, Some, None, refl, sym, ap, subst, ◌∙◌, arith, inl, inr, length}
-use Rattle.std.specs.Prelude.{option_map, nat_le, nat_lt, max, fold, ◌==◌, ◌⊎◌, IsTrue, if◌then◌else◌}
-use Rattle.std.specs.List.{AllByRecursion, list_all, list_any}
-use Rattle.std.proofs.lemmas.Bool.{and_parts, cases_lt, both_ways, or_cases}
-use Rattle.std.proofs.lemmas.Bool.Decides.{nat_tests}
-use Rattle.std.specs.Ordering.{nat_cmp}
-use Rattle.std.specs.Cmp.Lexicographic.{slice_cmp}
-use Rattle.std.specs.FinMap.Entries.{put}
-use Rattle.model.specs.Map.{Bytes}
-use Rattle.model.proofs.Lookups.{same_key}
-use Rattle.versions.specs.Chains.{Stamped, ChainValue, Chains, ChainsValue, added, find_chain, last_at, reclaimed, stamped, IsKept, IsReady, IsRisingChain, IsRisingTo, IsRoomier, IsRoomierChain}
-use Rattle.versions.specs.Groups.{GroupValue, Listed}
-use Rattle.versions.specs.Meaning.{is_among}
-use Rattle.versions.specs.Listings.{followed, has_version, is_seen_from, witness_for, witnesses, AreAmong, AreMixedSettled, AreNeeded, IsFollowed, IsNeededChain, IsPartReclaimed, IsSettled, IsTrulyMixed, IsUnmixed}
-use Rattle.versions.specs.Witnesses.{number_at, number_seen, AreUnderWitnesses, IsAddedTo, IsUnderChain, IsUnderWitness}
+use Rattle.versions.proofs.Words.{◌≡◌, ℕ, ◌-◌, ◌<◌, ◌≤◌, Bool, true, false, ◌&&◌, List, [], ◌∷◌, ◌++◌, Option, Some, None, refl, sym, ap, subst, ◌∙◌, arith, inl, inr, length, option_map, nat_le, nat_lt, max, fold, ◌==◌, ◌⊎◌, IsTrue, if◌then◌else◌, AllByRecursion, list_all, list_any, and_parts, cases_lt, both_ways, or_cases, nat_tests, nat_cmp, slice_cmp, put, Bytes, same_key, Stamped, ChainValue, Chains, ChainsValue, added, find_chain, last_at, reclaimed, stamped, IsKept, IsReady, IsRisingChain, IsRisingTo, IsRoomier, IsRoomierChain, GroupValue, Listed, is_among, followed, has_version, is_seen_from, witness_for, witnesses, AreAmong, AreMixedSettled, AreNeeded, IsFollowed, IsNeededChain, IsPartReclaimed, IsSettled, IsTrulyMixed, IsUnmixed, number_at, number_seen, AreUnderWitnesses, IsAddedTo, IsUnderChain, IsUnderWitness, all-append, all-each}
 use Rattle.versions.proofs.ChainLaws.{above_first, last_at-push, le_false, some_between, stays, version_at-reclaimed}
 use Rattle.versions.proofs.Stores.{RoomierFound, all-find, find-put_itself, find-roomier, number_added}
-use Rattle.model.proofs.Elements.{all-append, all-each}
 use Rattle.versions.proofs.Visibles.{find_chain-put}
 
 -- the group's versions are under its witness

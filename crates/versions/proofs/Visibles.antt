@@ -1,17 +1,6 @@
 -- What the numbers see when chains change.
-use Rattle.std.proofs.Common.{◌≡◌, ℕ, ◌<◌, ◌≤◌, min, Bool, true, false, T, cond, ◌&&◌, List, [], ◌∷◌, Option, Some, None, refl, ap, arith}
-use Rattle.std.specs.Prelude.{fold, is_none, is_some, nat_le, if◌then◌else◌}
-use Rattle.std.proofs.lemmas.Bool.{both_ways}
-use Rattle.std.proofs.lemmas.Bool.Decides.{nat_tests}
-use Rattle.std.specs.Ordering.{nat_cmp}
-use Rattle.std.specs.Cmp.Lexicographic.{slice_cmp, nat_list_cmp_total}
-use Rattle.std.specs.FinMap.Entries.{put, where_key, below_all, find-put, is_sorted-put}
-use Rattle.model.specs.Map.{Bytes, key_cmp, IsMap, is_same_key, value_at, after_write}
-use Rattle.model.proofs.Lookups.{same_key, same_map, value_after_write, IsMap-after_write}
+use Rattle.versions.proofs.Words.{◌≡◌, ℕ, ◌<◌, ◌≤◌, min, Bool, true, false, T, cond, ◌&&◌, List, [], ◌∷◌, Option, Some, None, refl, ap, arith, fold, is_none, is_some, nat_le, if◌then◌else◌, both_ways, nat_tests, nat_cmp, slice_cmp, nat_list_cmp_total, put, where_key, below_all, find-put, is_sorted-put, Bytes, key_cmp, IsMap, is_same_key, value_at, after_write, same_key, same_map, value_after_write, IsMap-after_write, Stamped, ChainValue, Chains, find_chain, first_shown, hides, last_at, least_value, seen, seen_in, u64_max, value_of, with_value, visible, IsSorted, IsBelowAll, both, find_none, parts}
 use Rattle.sorted_pages.specs.Blanks.{shown}
-use Rattle.versions.specs.Chains.{Stamped, ChainValue, Chains, find_chain, first_shown, hides, last_at, least_value, seen, seen_in, u64_max, value_of, with_value, visible}
-use Rattle.model.proofs.Entries.{IsSorted, IsBelowAll}
-use Rattle.model.proofs.InOrder.{both, find_none, parts}
 
 below_visible : (n : ℕ) (k : Bytes) (es : Chains) → IsBelowAll k es → T (below_all (slice_cmp nat_cmp) k (visible n es))
 below_visible n k [] h = tt

@@ -1,20 +1,7 @@
 -- The witnesses of groups: each is one of the numbers or 0, and no two are the same.
-use Rattle.std.proofs.Common.{◌≡◌, ℕ, zero, suc, ◌+◌, ◌^◌, ◌<◌, ◌≤◌, Bool, true, false, Some, None, List, [], ◌∷◌, ◌++◌, length, take, get_or, set, map, refl, sym, ap, subst, ◌∙◌, arith}
-use Rattle.std.specs.Prelude.{nat_lt, max, fold, ◌==◌, if◌then◌else◌}
-use Rattle.std.specs.List.{list_any, remove, sum_by, position}
-use Rattle.std.proofs.lemmas.Bool.{both_ways, or_left, or_right, eq-eqb}
-use Rattle.std.proofs.lemmas.Bool.Decides.{nat_tests}
-use Rattle.std.proofs.lemmas.Grind.{common_steps}
-use Rattle.std.proofs.lemmas.List.{get_or-map, get_or-take, get_or_default, length-map, length-take, take_more}
-use Rattle.std.proofs.lemmas.List.Folds.{list_any-append, list_any_none}
-use Rattle.std.proofs.lemmas.List.Sums.{fails_before_first}
-use Rattle.std.proofs.lemmas.List.Edits.{get_or-remove_below, length-remove}
+use Rattle.versions.proofs.Words.{◌≡◌, ℕ, zero, suc, ◌+◌, ◌^◌, ◌<◌, ◌≤◌, Bool, true, false, Some, None, List, [], ◌∷◌, ◌++◌, length, take, get_or, set, map, refl, sym, ap, subst, ◌∙◌, arith, nat_lt, max, fold, ◌==◌, if◌then◌else◌, list_any, remove, sum_by, position, both_ways, or_left, or_right, eq-eqb, nat_tests, common_steps, get_or-map, get_or-take, get_or_default, length-map, length-take, take_more, list_any-append, list_any_none, GroupValue, all-each, is_among, witness_for, witnesses, AreApart, AreAmong, CanJoin, lists_in}
+use Rattle.std.proofs.{lemmas.List.Sums.fails_before_first, lemmas.List.Edits.get_or-remove_below, lemmas.List.Edits.length-remove, lemmas.List.Recursion.is_sum_by}
 use Rattle.std.proofs.lemmas.List.Quantifiers.{position-Some}
-use Rattle.std.proofs.lemmas.List.Recursion.{is_sum_by}
-use Rattle.versions.specs.Groups.{GroupValue}
-use Rattle.model.proofs.Elements.{all-each}
-use Rattle.versions.specs.Meaning.{is_among}
-use Rattle.versions.specs.Listings.{witness_for, witnesses, AreApart, AreAmong, CanJoin, lists_in}
 
 -- ---- a witness is one of the numbers or 0
 

@@ -1,16 +1,12 @@
 -- A buffer with one more write.
 use Rattle.std.proofs.Common.{◌≡◌, ℕ, ◌+◌, ◌<◌, ◌≤◌, Bool, true, false, not, cond, ◌&&◌, List, [], ◌∷◌, length, get_or, set, Option, Some, Result, Err, refl, sym, ap, subst, ◌∙◌, arith}
 use Rattle.std.specs.Prelude.{nat_lt, is_some, IsTrue, ◌↔◌}
-use Rattle.std.specs.List.{AllByRecursion, insert}
+use Rattle.std.specs.{List.AllByRecursion, List.insert, Ordering.nat_cmp, Cmp.Lexicographic.slice_cmp, Cmp.Lexicographic.nat_list_cmp_total}
 use Rattle.std.specs.declared.cmp.Ordering.TheVariants.{Less, Equal, Greater}
-use Rattle.std.specs.Ordering.{nat_cmp}
-use Rattle.std.specs.Cmp.Lexicographic.{slice_cmp, nat_list_cmp_total}
 use Rattle.std.specs.FinMap.Entries.{put, by_order, is_sorted-put, length-put}
 use Rattle.std.proofs.lemmas.Bool.{both_ways, ltb-true}
-use Rattle.model.specs.Map.{Bytes, KeyWrite, key_cmp}
-use Rattle.model.specs.Entries.{IsAt, IsGap}
-use Rattle.write_buffer.specs.declared.faults.WritesFault.{WritesFault}
-use Rattle.write_buffer.specs.declared.faults.WritesFault.TheVariants.{FullWrites}
+use Rattle.model.specs.{Map.Bytes, Map.KeyWrite, Map.key_cmp, Entries.IsAt, Entries.IsGap}
+use Rattle.write_buffer.specs.{declared.faults.WritesFault.WritesFault, declared.faults.WritesFault.TheVariants.FullWrites}
 use Rattle.write_buffer.specs.Buffered.{AreEntries, IsWithinLimits, is_full_for, written}
 
 within-put : (k : Bytes) (v : Option Bytes) (ws : List KeyWrite) → IsWithinLimits (k, v) → AllByRecursion IsWithinLimits ws → AllByRecursion IsWithinLimits (put (slice_cmp nat_cmp) k v ws)

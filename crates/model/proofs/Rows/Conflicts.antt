@@ -1,8 +1,5 @@
 -- Worked runs: which commits are refused, and the serial order of those that are not; what a range marks.
-use Rattle.std.proofs.Common.{◌≡◌, List, [], ◌∷◌, None, refl, map, codes}
-use Rattle.model.specs.declared.refusals.Refusal.TheVariants.{Overwritten, PivotSelf, Pivot, NotOpen}
-use Rattle.model.specs.Operations.Response.{Done, Number, Value, Pairs, Refused}
-use Rattle.model.specs.{Machine.step, SerialOrder.place, SerialOrder.serial_order, SerialOrder.replay, Verdict.verdict}
+use Rattle.model.proofs.Words.{◌≡◌, List, [], ◌∷◌, None, refl, map, codes, Overwritten, PivotSelf, Pivot, NotOpen, Done, Number, Value, Pairs, Refused, step, place, serial_order, replay, verdict}
 use Rattle.model.proofs.Rows.Words.{begin, get, set, range, commit, value, pair, ◌⇒◌, Exchange, Plays, PlaysInOrder, history_after, range_from}
 
 first_committer_wins : Plays

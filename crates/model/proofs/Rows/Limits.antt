@@ -1,8 +1,5 @@
 -- Worked runs: limits, refusals outside a transaction, and a device that fails or is full.
-use Rattle.std.proofs.Common.{◌≡◌, ℕ, zero, suc, true, List, [], ◌∷◌, ◌++◌, None, refl, replicate}
-use Rattle.model.specs.declared.refusals.Refusal.TheVariants.{UnknownCommand, BadArguments, BadKey, BadLimit, AlreadyOpen, NotOpen, FullWrites, FullMarks, FullTransactions, FullLog, StoreFault, StoreStopped}
-use Rattle.model.specs.{Operations.Response, Machine.opened, Machine.step, Verdict.verdict, Operations.Operation.Get, Operations.Operation.Set, Operations.Operation.Commit}
-use Rattle.model.specs.Operations.Response.{Done, Pong, Number, Value, Pairs, Refused}
+use Rattle.model.proofs.Words.{◌≡◌, ℕ, zero, suc, true, List, [], ◌∷◌, ◌++◌, None, refl, replicate, UnknownCommand, BadArguments, BadKey, BadLimit, AlreadyOpen, NotOpen, FullWrites, FullMarks, FullTransactions, FullLog, StoreFault, StoreStopped, Response, opened, step, verdict, Get, Set, Commit, Done, Pong, Number, Value, Pairs, Refused}
 use Rattle.model.proofs.Rows.Words.{Request, begin, get, set, range, range_from, commit, abort, ping, faulty, value, pair, start, run, after, ◌⇒◌, Plays}
 
 -- ---- the most of each

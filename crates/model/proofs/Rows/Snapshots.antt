@@ -1,6 +1,5 @@
 -- Worked runs: what a transaction reads.
-use Rattle.std.proofs.Common.{[], ◌∷◌, None, refl}
-use Rattle.model.specs.{Operations.Response.Done, Operations.Response.Number, Operations.Response.Value, Operations.Response.Pairs, Machine.step, Verdict.verdict}
+use Rattle.model.proofs.Words.{[], ◌∷◌, None, refl, Done, Number, Value, Pairs, step, verdict}
 use Rattle.model.proofs.Rows.Words.{begin, get, set, del, range, range_from, commit, value, pair, ◌⇒◌, Plays}
 
 committed_write_is_seen : Plays

@@ -1,8 +1,7 @@
 use Rattle.std.proofs.Common.{◌≡◌, arith, ap, refl, subst, Ok, Err}
 use Rattle.std.proofs.lemmas.Result.{err_from_is_err_and}
 use Rattle.commit_log.specs.declared.faults.LogFault.TheVariants.{Full}
-use Rattle.commands.specs.LogCounts.{line_of}
-use Rattle.commands.specs.Compacting.Copies.{NotCopied, Copied}
+use Rattle.commands.specs.{LogCounts.line_of, Compacting.Copies.NotCopied, Compacting.Copies.Copied}
 use Rattle.commands.proofs.compacting.copy_device.Goals as goal
 
 pub returns-in_err-counts-clause-copies : goal.returns-in_err-counts-clause-copies

@@ -1,6 +1,4 @@
-use Rattle.std.proofs.Common.{◌+◌, arith}
-use Rattle.commit_log.specs.LogImage.{span}
-use Rattle.commit_log.specs.Copying.{write_sets_of}
+use Rattle.commit_log.proofs.Words.{◌+◌, arith, span, write_sets_of}
 use Rattle.commit_log.proofs.CopyProtocol.{not_begun, still_first, after_reads, no_log, nothing_yet, only_read, many_writes}
 use Rattle.commit_log.proofs.copying.copy_into.Goals as goal
 

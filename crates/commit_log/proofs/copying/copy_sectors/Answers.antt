@@ -1,8 +1,5 @@
-use Rattle.std.proofs.Common.{◌<◌, ◌+◌, ◌^◌, ◌∙◌, ℕ, Option, Some, None, length, arith, ap, sym, subst, min, length-drop}
+use Rattle.commit_log.proofs.Words.{◌<◌, ◌+◌, ◌^◌, ◌∙◌, ℕ, Option, Some, None, length, arith, ap, sym, subst, min, length-drop, KeyMap, IsInBounds, span, write_sets_of}
 use Rattle.std.specs.Prelude.{IfNone}
-use Rattle.model.specs.Map.{KeyMap, IsInBounds}
-use Rattle.commit_log.specs.LogImage.{span}
-use Rattle.commit_log.specs.Copying.{write_sets_of}
 use Rattle.commit_log.proofs.Putting.{bounds_drop, no_sets, length-write_sets, write_sets_give}
 use Rattle.commit_log.proofs.CopyProtocol.{next_set_of}
 use Rattle.commit_log.proofs.copying.copy_sectors.Goals as goal

@@ -1,5 +1,4 @@
-use Rattle.std.proofs.Common.{◌≡◌, ◌∙◌, List, ℕ, Some, slice_get, ap, sym}
-use Rattle.commit_log.specs.Copying.{zero_sector}
+use Rattle.commit_log.proofs.Words.{◌≡◌, ◌∙◌, List, ℕ, Some, slice_get, ap, sym, zero_sector}
 use Rattle.commit_log.proofs.copying.settle_zeros.Goals as goal
 
 pub returns-then-is_same-clause-zeros : goal.returns-then-is_same-clause-zeros

@@ -1,9 +1,6 @@
-use Rattle.std.proofs.Common.{◌∙◌, arith}
-use Rattle.commit_log.specs.Copying.{write_sets_of}
-use Rattle.commit_log.proofs.Putting.{write_sets_are_proper}
-use Rattle.commit_log.proofs.Calls.{leaves_no_more}
+use Rattle.commit_log.proofs.Words.{◌∙◌, arith, write_sets_of}
+use Rattle.commit_log.proofs.{Putting.write_sets_are_proper, Calls.leaves_no_more, copying.write_log.Given.Over}
 use Rattle.commit_log.proofs.CopyProtocol.{Ready, ready, being_headed, headed, Copying, records_written, stays, head_written, settled_reads}
-use Rattle.commit_log.proofs.copying.write_log.Given.{Over}
 use Rattle.commit_log.proofs.copying.write_log.Goals.{After-write_records, After-write}
 use Rattle.commit_log.proofs.copying.write_log.Goals as goal
 

@@ -1,6 +1,5 @@
-use Rattle.std.proofs.Common.{◌∙◌, ◌/◌, ◌+◌, length, inl, arith}
+use Rattle.commit_log.proofs.Words.{◌∙◌, ◌/◌, ◌+◌, length, inl, arith, open_gate}
 use Rattle.std.proofs.lemmas.Result.{on_ok_weaker}
-use Rattle.commit_log.specs.RecordFormat.{open_gate}
 use Rattle.commit_log.proofs.Records.{reads_record}
 use Rattle.commit_log.proofs.CopyProtocol.{nothing_yet, sectors_written, one_write, many_writes}
 use Rattle.commit_log.proofs.copying.write_open_record.Goals as goal

@@ -1,8 +1,4 @@
-use Rattle.std.proofs.Common.{◌≡◌, ◌+◌, ◌*◌, ◌∙◌, ℕ, length, take, drop, min, refl, sym, ap, subst, arith, length-drop}
-use Rattle.model.specs.Map.{KeyMap, IsInBounds}
-use Rattle.model.specs.Machine.{payload_size}
-use Rattle.commit_log.specs.RecordFormat.{closed_gate, body_sectors}
-use Rattle.commit_log.specs.Copying.{puts}
+use Rattle.commit_log.proofs.Words.{◌≡◌, ◌+◌, ◌*◌, ◌∙◌, ℕ, length, take, drop, min, refl, sym, ap, subst, arith, length-drop, KeyMap, IsInBounds, payload_size, closed_gate, body_sectors, puts}
 use Rattle.commit_log.proofs.Putting.{bounds_drop}
 use Rattle.commit_log.proofs.CopyProtocol.{next_set_of, none_copied, copied_more, in_range, next_gate_le, done_are_all, all_read, shut_read, record_within, last_gate}
 use Rattle.commit_log.proofs.copying.write_records.Goals as goal

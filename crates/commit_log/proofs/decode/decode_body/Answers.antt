@@ -1,10 +1,6 @@
-use Rattle.std.proofs.Common.{◌≡◌, ◌∙◌, ◌*◌, ◌++◌, ℕ, List, rules, ap, sym, length, arith, take-append-drop}
-use Rattle.sha2.specs.Sha256.{sha256}
-use Rattle.byteorder.specs.Endian.{big_bytes, big_number}
-use Rattle.byteorder.specs.Numbers.{big_number-reads_back}
-use Rattle.commit_log.specs.RecordFormat.{sectors_for, record_digest}
-use Rattle.commit_log.proofs.Parsing.{same_parts, not_zero, right_body}
-use Rattle.commit_log.proofs.decode.decode_body.Goals.{After-split_at-3}
+use Rattle.commit_log.proofs.Words.{◌≡◌, ◌∙◌, ◌*◌, ◌++◌, ℕ, List, rules, ap, sym, length, arith, sha256, big_bytes, big_number, big_number-reads_back, sectors_for, record_digest}
+use Rattle.std.proofs.Common.{take-append-drop}
+use Rattle.commit_log.proofs.{Parsing.same_parts, Parsing.not_zero, Parsing.right_body, decode.decode_body.Goals.After-split_at-3}
 use Rattle.commit_log.proofs.decode.decode_body.Goals as goal
 
 joined : (c : After-split_at-3) → c.args.body.now ≡ big_bytes 4 c.in-Some.len ++ (c.split_at.result.0.now ++ (c.split_at-2.result.0.now ++ (c.split_at-3.result.0.now ++ c.split_at-3.result.1.now)))

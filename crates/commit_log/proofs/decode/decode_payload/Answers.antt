@@ -1,9 +1,4 @@
-use Rattle.std.proofs.Common.{◌≡◌, ◌++◌, ◌∷◌, [], ◌-◌, List, get_or, subst, ap, sym, length, arith, length-append}
-use Rattle.std.specs.declared.cmp.Ordering.TheVariants.{Less}
-use Rattle.std.proofs.lemmas.List.Elements.{All-push}
-use Rattle.byteorder.specs.Endian.{big_bytes}
-use Rattle.model.specs.Map.{KeyWrite, key_cmp}
-use Rattle.commit_log.specs.RecordFormat.{IsWithinLimits, IsRising}
+use Rattle.commit_log.proofs.Words.{◌≡◌, ◌++◌, ◌∷◌, [], ◌-◌, List, get_or, subst, ap, sym, length, arith, length-append, Less, All-push, big_bytes, KeyWrite, key_cmp, IsWithinLimits, IsRising}
 use Rattle.commit_log.proofs.Parsing.{too_few, no_count, no_entry, not_rising, left_over, whole, read_more, empty_if, some_if}
 use Rattle.commit_log.proofs.decode.decode_payload.Goals as goal
 use Rattle.commit_log.proofs.decode.decode_payload.Goals.{then-count-lt1-via-then-count-lt1, then-count-lt1-via-else-count-lt1+then-count-gt64}

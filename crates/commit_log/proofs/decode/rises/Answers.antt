@@ -1,6 +1,4 @@
-use Rattle.std.proofs.Common.{◌∙◌, ◌-◌, List, ℕ, ap, sym, length, arith}
-use Rattle.std.proofs.lemmas.Option.{get_or_from_slice_get, slice_get_within}
-use Rattle.model.specs.Map.{KeyWrite, key_cmp}
+use Rattle.commit_log.proofs.Words.{◌∙◌, ◌-◌, List, ℕ, ap, sym, length, arith, get_or_from_slice_get, slice_get_within, KeyWrite, key_cmp}
 use Rattle.commit_log.proofs.Parsing.{less_if, less_unless, rising_push}
 use Rattle.commit_log.proofs.decode.rises.Goals as goal
 

@@ -1,11 +1,5 @@
-use Rattle.std.proofs.Common.{◌≡◌, ◌++◌, ◌∙◌, ◌+◌, List, ℕ, Option, IfSome, length, ap, sym, subst, arith, append_assoc, length-append}
+use Rattle.commit_log.proofs.Words.{◌≡◌, ◌++◌, ◌∙◌, ◌+◌, List, ℕ, Option, IfSome, length, ap, sym, subst, arith, append_assoc, length-append, flat_map, take_all, IsValue, KeyWrite, write_size, entry_bytes}
 use Rattle.std.specs.Prelude.{option_copied}
-use Rattle.std.specs.List.{flat_map}
-use Rattle.std.proofs.lemmas.List.{take_all}
-use Rattle.model.specs.Key.{IsValue}
-use Rattle.model.specs.Map.{KeyWrite}
-use Rattle.model.specs.Machine.{write_size}
-use Rattle.commit_log.specs.RecordFormat.{entry_bytes}
 use Rattle.commit_log.proofs.Encoding.{entries-more, entry_size, payload_size-more, payload_size_le}
 use Rattle.commit_log.proofs.encode.add_writes.Goals as goal
 

@@ -1,7 +1,4 @@
-use Rattle.std.proofs.Common.{◌++◌, ◌∙◌, List, ℕ, ap}
-use Rattle.std.specs.List.{flat_map}
-use Rattle.commit_log.specs.Encoding.{IsUnsealed}
-use Rattle.commit_log.specs.RecordFormat.{entry_bytes}
+use Rattle.commit_log.proofs.Words.{◌++◌, ◌∙◌, List, ℕ, ap, flat_map, IsUnsealed, entry_bytes}
 use Rattle.commit_log.proofs.encode.encode.Goals as goal
 
 pub returns : goal.returns

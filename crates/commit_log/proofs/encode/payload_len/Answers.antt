@@ -1,7 +1,4 @@
-use Rattle.std.proofs.Common.{List, ℕ, Option, IfSome, ap, sym, subst, ◌∙◌, arith}
-use Rattle.std.proofs.lemmas.List.{take_all}
-use Rattle.model.specs.Key.{IsValue}
-use Rattle.model.specs.Machine.{payload_size, write_size}
+use Rattle.commit_log.proofs.Words.{List, ℕ, Option, IfSome, ap, sym, subst, ◌∙◌, arith, take_all, IsValue, payload_size, write_size}
 use Rattle.commit_log.proofs.Encoding.{payload_size-more}
 use Rattle.commit_log.proofs.encode.payload_len.Goals as goal
 

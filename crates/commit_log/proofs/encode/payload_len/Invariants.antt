@@ -1,6 +1,4 @@
-use Rattle.std.proofs.Common.{◌≡◌, ◌+◌, ◌*◌, ◌≤◌, take}
-use Rattle.model.specs.Bounds.{value_max, entry_bound}
-use Rattle.model.specs.Machine.{payload_size}
+use Rattle.commit_log.proofs.Words.{◌≡◌, ◌+◌, ◌*◌, ◌≤◌, take, value_max, entry_bound, payload_size}
 use Rattle.commit_log.proofs.encode.payload_len.Given as goal
 
 abbrev pub invariant-loop-write : goal.invariant-loop-write

@@ -1,10 +1,6 @@
-use Rattle.std.proofs.Common.{◌≢◌, ◌∙◌, ap, arith, set}
-use Rattle.sector.specs.SectorModel.{IsSameElsewhere}
-use Rattle.commit_log.specs.RecordFormat.{is_open, closed_gate}
-use Rattle.commit_log.proofs.Calls.{leaves_no_more}
-use Rattle.commit_log.proofs.Records.{formatted, closed_gate_shut}
+use Rattle.commit_log.proofs.Words.{◌≢◌, ◌∙◌, ap, arith, set, IsSameElsewhere, is_open, closed_gate}
+use Rattle.commit_log.proofs.{Calls.leaves_no_more, Records.formatted, Records.closed_gate_shut, formatting.write_head.Given.Over}
 use Rattle.commit_log.proofs.Protocol.{Making, gate_written, gate_settled, head_written}
-use Rattle.commit_log.proofs.formatting.write_head.Given.{Over}
 use Rattle.commit_log.proofs.formatting.write_head.Goals.{After-write-2}
 use Rattle.commit_log.proofs.formatting.write_head.Goals as goal
 

@@ -1,10 +1,5 @@
-use Rattle.std.proofs.Common.{◌≡◌, ◌+◌, ◌∙◌, ◌++◌, ℕ, List, Some, length, take, ap, sym, arith, append_assoc, length-append}
-use Rattle.std.specs.List.{flat_map}
-use Rattle.model.specs.Map.{Bytes}
-use Rattle.commit_log.specs.RecordFormat.{entry_bytes}
-use Rattle.commit_log.specs.Copying.{puts}
-use Rattle.commit_log.proofs.Encoding.{entry_size}
-use Rattle.commit_log.proofs.Putting.{next_pair, not_none, size_le}
+use Rattle.commit_log.proofs.Words.{◌≡◌, ◌+◌, ◌∙◌, ◌++◌, ℕ, List, Some, length, take, ap, sym, arith, append_assoc, length-append, flat_map, Bytes, entry_bytes, puts}
+use Rattle.commit_log.proofs.{Encoding.entry_size, Putting.next_pair, Putting.not_none, Putting.size_le}
 use Rattle.commit_log.proofs.pairs.add_pairs.Goals as goal
 
 pub unreachable-requires : goal.unreachable-requires

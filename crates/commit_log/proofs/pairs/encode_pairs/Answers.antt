@@ -1,9 +1,4 @@
-use Rattle.std.proofs.Common.{◌++◌, ◌∙◌, ◌≡◌, List, ℕ, length, take, ap, arith}
-use Rattle.std.specs.List.{flat_map}
-use Rattle.std.proofs.lemmas.List.{length-take}
-use Rattle.commit_log.specs.Copying.{puts}
-use Rattle.commit_log.specs.Encoding.{IsUnsealed, begun}
-use Rattle.commit_log.specs.RecordFormat.{entry_bytes}
+use Rattle.commit_log.proofs.Words.{◌++◌, ◌∙◌, ◌≡◌, List, ℕ, length, take, ap, arith, flat_map, length-take, puts, IsUnsealed, begun, entry_bytes}
 use Rattle.commit_log.proofs.Putting.{length-puts}
 use Rattle.commit_log.proofs.pairs.encode_pairs.Goals as goal
 

@@ -1,8 +1,4 @@
-use Rattle.std.proofs.Common.{◌≡◌, ◌∷◌, ◌∙◌, List, ap, sym}
-use Rattle.std.proofs.lemmas.List.Elements.{All-rest}
-use Rattle.model.specs.Map.{KeyMap, KeyWrite, after_write, after_writes}
-use Rattle.commit_log.specs.RecordFormat.{IsWithinLimits}
-use Rattle.commit_log.specs.Format.{current}
+use Rattle.commit_log.proofs.Words.{◌≡◌, ◌∷◌, ◌∙◌, List, ap, sym, All-rest, KeyMap, KeyWrite, after_write, after_writes, IsWithinLimits, current}
 use Rattle.commit_log.proofs.read.apply.Goals as goal
 
 applied : (m after all : KeyMap) (writes rest : List KeyWrite) (w : KeyWrite) → writes ≡ w ∷ rest → after_writes m writes ≡ all → after ≡ after_write m w.0 w.1 → after_writes after rest ≡ all

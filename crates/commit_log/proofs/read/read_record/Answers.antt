@@ -1,7 +1,4 @@
-use Rattle.std.proofs.Common.{◌≡◌, ◌∙◌, ℕ, List, ap, sym, length, arith}
-use Rattle.byteorder.specs.Endian.{big_number}
-use Rattle.commit_log.specs.RecordFormat.{sectors_for, padded_body}
-use Rattle.commit_log.specs.Reading.{ReadsAs}
+use Rattle.commit_log.proofs.Words.{◌≡◌, ◌∙◌, ℕ, List, ap, sym, length, arith, big_number, sectors_for, padded_body, ReadsAs}
 use Rattle.commit_log.proofs.Parsing.{IsRead, first_read, all_read, too_short, no_room, is_record, no_record}
 use Rattle.commit_log.proofs.read.read_record.Given.{Over}
 use Rattle.commit_log.proofs.read.read_record.Goals as goal

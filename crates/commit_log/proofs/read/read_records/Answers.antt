@@ -1,7 +1,5 @@
-use Rattle.std.proofs.Common.{◌∙◌, refl, drop, arith}
+use Rattle.commit_log.proofs.Words.{◌∙◌, refl, drop, arith, of_none, ReadsAs}
 use Rattle.std.proofs.lemmas.Result.{err_from_is_err_and}
-use Rattle.sector.proofs.Crashes.{of_none}
-use Rattle.commit_log.specs.Reading.{ReadsAs}
 use Rattle.commit_log.proofs.Calls.{reads_joined}
 use Rattle.commit_log.proofs.Recovering.{read_fault, nothing_read, ended, damaged, more}
 use Rattle.commit_log.proofs.read.read_records.Goals as goal

@@ -1,5 +1,4 @@
-use Rattle.std.proofs.Common.{◌≡◌, ◌-◌, ◌<◌, ◌≤◌, ℕ, List, length}
-use Rattle.commit_log.specs.Reading.{ReadsAs, OnlyReads}
+use Rattle.commit_log.proofs.Words.{◌≡◌, ◌-◌, ◌<◌, ◌≤◌, ℕ, List, length, ReadsAs, OnlyReads}
 use Rattle.commit_log.proofs.Recovering.{HasRead}
 use Rattle.commit_log.proofs.read.read_records.Given as goal
 

@@ -1,11 +1,6 @@
-use Rattle.std.proofs.Common.{◌∙◌, ap, arith}
-use Rattle.commit_log.specs.LogState.{OnlyWrites}
-use Rattle.commit_log.specs.RecordFormat.{is_open}
-use Rattle.commit_log.proofs.Calls.{leaves_no_more}
-use Rattle.commit_log.proofs.Protocol.{after_open, acknowledged}
-use Rattle.commit_log.proofs.Records.{open_gate_open}
+use Rattle.commit_log.proofs.Words.{◌∙◌, ap, arith, OnlyWrites, is_open}
+use Rattle.commit_log.proofs.{Calls.leaves_no_more, Protocol.after_open, Protocol.acknowledged, Records.open_gate_open, record.open_staged.Given.Over}
 use Rattle.commit_log.proofs.CopyProtocol.{nothing_yet, one_write, no_write, settled_reads}
-use Rattle.commit_log.proofs.record.open_staged.Given.{Over}
 use Rattle.commit_log.proofs.record.open_staged.Goals.{After-write}
 use Rattle.commit_log.proofs.record.open_staged.Goals as goal
 

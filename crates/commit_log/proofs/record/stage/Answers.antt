@@ -1,11 +1,6 @@
-use Rattle.std.proofs.Common.{◌+◌, ◌/◌, ◌∙◌, ap, arith, length}
-use Rattle.commit_log.specs.RecordFormat.{is_open}
-use Rattle.commit_log.specs.LogState.{OnlyWrites}
-use Rattle.commit_log.proofs.Calls.{leaves_no_more}
-use Rattle.commit_log.proofs.Protocol.{after_body, after_gate, staged_by}
-use Rattle.commit_log.proofs.Records.{closed_gate_shut}
+use Rattle.commit_log.proofs.Words.{◌+◌, ◌/◌, ◌∙◌, ap, arith, length, is_open, OnlyWrites}
+use Rattle.commit_log.proofs.{Calls.leaves_no_more, Protocol.after_body, Protocol.after_gate, Protocol.staged_by, Records.closed_gate_shut, record.stage.Given.Over}
 use Rattle.commit_log.proofs.CopyProtocol.{nothing_yet, one_write, many_writes, no_write, settled_reads}
-use Rattle.commit_log.proofs.record.stage.Given.{Over}
 use Rattle.commit_log.proofs.record.stage.Goals.{After-write}
 use Rattle.commit_log.proofs.record.stage.Goals as goal
 

@@ -1,9 +1,5 @@
-use Rattle.std.proofs.Common.{◌+◌, ◌/◌, arith, length}
-use Rattle.sector.proofs.Crashes.{of_more}
-use Rattle.commit_log.specs.LogState.{OnlyWrites}
-use Rattle.commit_log.proofs.CopyProtocol.{nothing_yet, many_writes}
-use Rattle.commit_log.proofs.record.write_record.Given.{Over}
-use Rattle.commit_log.proofs.record.write_record.Goals.{After-stage}
+use Rattle.commit_log.proofs.Words.{◌+◌, ◌/◌, arith, length, of_more, OnlyWrites}
+use Rattle.commit_log.proofs.{CopyProtocol.nothing_yet, CopyProtocol.many_writes, record.write_record.Given.Over, record.write_record.Goals.After-stage}
 use Rattle.commit_log.proofs.record.write_record.Goals as goal
 
 pub returns-in_err-open_staged-clause-any_moment : goal.returns-in_err-open_staged-clause-any_moment

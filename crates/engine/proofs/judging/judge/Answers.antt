@@ -1,9 +1,5 @@
-use Rattle.std.proofs.Common.{◌≤◌, ◌-◌, ◌^◌, ap, sym, subst, ◌∙◌, arith}
-use Rattle.pivot_check.specs.Kept.{CommittedValue}
-use Rattle.commit_log.specs.LogState.{is_stopped}
-use Rattle.engine.specs.HistoryValue.{HistoryValue}
-use Rattle.engine.proofs.Calls.{running_if}
-use Rattle.engine.proofs.Committing.{stopped_refuses, numbers_refuse}
+use Rattle.engine.proofs.Words.{◌≤◌, ◌-◌, ◌^◌, ap, sym, subst, ◌∙◌, arith, CommittedValue, is_stopped, HistoryValue}
+use Rattle.engine.proofs.{Calls.running_if, Committing.stopped_refuses, Committing.numbers_refuse}
 use Rattle.engine.proofs.judging.judge.Goals as goal
 
 pub returns-then-is_stopped : goal.returns-then-is_stopped

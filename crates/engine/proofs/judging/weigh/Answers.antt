@@ -1,16 +1,6 @@
-use Rattle.std.proofs.Common.{◌≡◌, ◌≤◌, ◌<◌, ◌+◌, ℕ, Bool, true, false, List, [], length, ap, ◌∙◌, arith, inl, inr}
-use Rattle.std.specs.Prelude.{◌↔◌, ◌==◌, IsTrue}
-use Rattle.std.proofs.lemmas.Bool.{cases_lt, iff_false}
-use Rattle.std.proofs.lemmas.Bool.Decides.{nat_tests}
-use Rattle.std.proofs.lemmas.List.{nil_from_length}
-use Rattle.model.specs.declared.refusals.Refusal.TheVariants.{PivotSelf, Pivot}
-use Rattle.model.specs.Map.{KeyWrite}
-use Rattle.model.specs.Machine.{payload_size, body_sectors}
-use Rattle.sector.specs.declared.device.Sectors.{Ghosts}
-use Rattle.commit_log.specs.declared.log.Log.{Log}
+use Rattle.engine.proofs.Words.{◌≡◌, ◌≤◌, ◌<◌, ◌+◌, ℕ, Bool, true, false, List, [], length, ap, ◌∙◌, arith, inl, inr, ◌==◌, IsTrue, cases_lt, iff_false, nat_tests, nil_from_length, PivotSelf, Pivot, KeyWrite, payload_size, body_sectors, Ghosts, Log, sector_count, used_sectors, IsWritten, HasLogRoom}
+use Rattle.std.specs.Prelude.{◌↔◌}
 use Rattle.commit_log.specs.RecordFormat.{sectors_for}
-use Rattle.commit_log.specs.LogState.{sector_count, used_sectors}
-use Rattle.engine.specs.Changes.{IsWritten, HasLogRoom}
 use Rattle.engine.proofs.Committing.{conflict_refuses, overwritten_refuses, full_refuses, to_commit}
 use Rattle.engine.proofs.judging.weigh.Goals as goal
 

@@ -1,9 +1,5 @@
-use Rattle.std.proofs.lemmas.Grind.{common_steps}
-use Rattle.std.proofs.Common.{◌≡◌, ◌≤◌, ℕ, List, ◌++◌, ◌∷◌, [], Some, map, refl, arith}
-use Rattle.std.specs.Prelude.{min}
-use Rattle.std.proofs.lemmas.List.{length_push, map-append, take_more_set}
+use Rattle.engine.proofs.Words.{common_steps, ◌≡◌, ◌≤◌, ℕ, List, ◌++◌, ◌∷◌, [], Some, map, refl, arith, min, length_push, map-append, take_more_set, IsLeast}
 use Rattle.std.proofs.lemmas.List.Elements.{All-push, All-pop, All-weaker}
-use Rattle.engine.specs.Least.{IsLeast}
 use Rattle.engine.proofs.reclaiming.gather_begins.Goals as goal
 
 -- the least so far, and one more

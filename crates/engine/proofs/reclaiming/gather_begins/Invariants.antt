@@ -1,6 +1,4 @@
-use Rattle.std.proofs.Common.{◌≡◌, ◌≤◌, ◌++◌, map, take, length}
-use Rattle.std.specs.BTreeMap.{values}
-use Rattle.engine.specs.Least.{IsLeast}
+use Rattle.engine.proofs.Words.{◌≡◌, ◌≤◌, ◌++◌, map, take, length, values, IsLeast}
 use Rattle.engine.proofs.reclaiming.gather_begins.Given as goal
 
 -- the least so far, and the numbers so far, which are those of the transactions so far where these are few

@@ -1,10 +1,5 @@
-use Rattle.std.proofs.Common.{◌≡◌, ◌⊎◌, inl, inr, ℕ, List, [], ◌∷◌, ◌++◌, refl, ◌∙◌}
-use Rattle.model.specs.Map.{KeyMap, KeyWrite, after_writes}
-use Rattle.sector.specs.declared.device.Sectors.{Ghosts}
-use Rattle.commit_log.specs.declared.log.Log.{Log}
-use Rattle.commit_log.specs.LogState.{IsBeforeOrAfter}
+use Rattle.engine.proofs.Words.{◌≡◌, ◌⊎◌, inl, inr, ℕ, List, [], ◌∷◌, ◌++◌, refl, ◌∙◌, KeyMap, KeyWrite, after_writes, Ghosts, Log, IsBeforeOrAfter, HoldsMap, IsStored}
 use Rattle.commit_log.specs.Recovery.{map_after, map_after-push}
-use Rattle.engine.specs.Recovery.{HoldsMap, IsStored}
 use Rattle.engine.proofs.Committing.{weaker_crash}
 use Rattle.engine.proofs.records.carry_out.Goals as goal
 

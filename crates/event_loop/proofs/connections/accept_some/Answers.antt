@@ -1,5 +1,4 @@
-use Rattle.std.proofs.Common.{arith}
-use Rattle.event_loop.specs.Sockets.{IsNewSocket}
+use Rattle.event_loop.proofs.Words.{arith, IsNewSocket}
 use Rattle.event_loop.proofs.Tables.{admits_table, none_come, one_comes, taken_none, taken_one}
 use Rattle.event_loop.proofs.connections.accept_some.Goals as goal
 

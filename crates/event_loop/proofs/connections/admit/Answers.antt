@@ -1,10 +1,5 @@
-use Rattle.std.proofs.Common.{◌≡◌, true, false, inl, inr, refl, sym, ap, subst, arith, ◌∙◌}
-use Rattle.sessions.specs.declared.events.Outcome.TheVariants.{Done}
-use Rattle.sessions.specs.SessionStreams.{Joins}
-use Rattle.stream_driver.specs.declared.entries.EntryState.TheVariants.{Ready}
+use Rattle.event_loop.proofs.Words.{◌≡◌, true, false, inl, inr, refl, sym, ap, subst, arith, ◌∙◌, Done, Joins, Ready, IsNewSocket, Comes, slot_at}
 use Rattle.stream_driver.specs.Traffic.{one_more}
-use Rattle.event_loop.specs.Sockets.{IsNewSocket}
-use Rattle.event_loop.specs.Tables.{Comes, slot_at}
 use Rattle.event_loop.proofs.Tables.{away, away_tried, leads_one, more_none}
 use Rattle.event_loop.proofs.connections.admit.Goals as goal
 use Rattle.event_loop.proofs.connections.admit.Goals.{then-session-via-then-session, then-session-via-else-session+then-len-ge-SESSIONS_MAX}

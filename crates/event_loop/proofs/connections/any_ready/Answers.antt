@@ -1,6 +1,4 @@
-use Rattle.std.proofs.Common.{ap, arith, ◌∙◌}
-use Rattle.std.specs.List.{list_any}
-use Rattle.event_loop.specs.Tables.{is_ready}
+use Rattle.event_loop.proofs.Words.{ap, arith, ◌∙◌, list_any, is_ready}
 use Rattle.event_loop.proofs.connections.any_ready.Goals as goal
 
 pub loop-key-init : goal.loop-key-init

@@ -1,8 +1,5 @@
-use Rattle.std.proofs.Common.{◌≡◌, true, false, Some, refl, sym, ap, subst, set, ◌∙◌}
-use Rattle.std.proofs.lemmas.List.{get_or-set_other}
+use Rattle.event_loop.proofs.Words.{◌≡◌, true, false, Some, refl, sym, ap, subst, set, ◌∙◌, get_or-set_other, Leaves, lingers_in, some_same}
 use Rattle.event_loop.specs.declared.socket.Socket.{Socket}
-use Rattle.event_loop.specs.Lingerings.{Leaves, lingers_in}
-use Rattle.model.proofs.Lookups.{some_same}
 use Rattle.event_loop.proofs.Polled.{put_there, there, vacant}
 use Rattle.event_loop.proofs.connections.end_drive_at.Goals as goal
 

@@ -1,5 +1,5 @@
-use Rattle.std.proofs.Common.{arith}
-use Rattle.event_loop.specs.Leavings.EndEach.{NoneEnded, OneMore}
+use Rattle.event_loop.proofs.Words.{arith, NoneEnded}
+use Rattle.event_loop.specs.Leavings.EndEach.{OneMore}
 use Rattle.event_loop.proofs.Polled.{all_ended}
 use Rattle.event_loop.proofs.connections.end_drives.Goals as goal
 

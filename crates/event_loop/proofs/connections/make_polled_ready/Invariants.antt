@@ -1,5 +1,4 @@
-use Rattle.std.proofs.Common.{◌≡◌, ℕ, map}
-use Rattle.event_loop.specs.Tables.{after_poll, slot_at}
+use Rattle.event_loop.proofs.Words.{◌≡◌, ℕ, map, after_poll, slot_at}
 use Rattle.event_loop.proofs.connections.make_polled_ready.Given as goal
 
 abbrev pub invariant-loop-event : goal.invariant-loop-event

@@ -1,7 +1,5 @@
-use Rattle.std.proofs.Common.{[], ◌∙◌, arith, refl, rules, sym}
+use Rattle.event_loop.proofs.Words.{[], ◌∙◌, arith, refl, rules, sym, append-nil, departed_then, none_departed}
 use Rattle.std.proofs.lemmas.Grind.{common_steps}
-use Rattle.std.proofs.lemmas.List.{append-nil}
-use Rattle.stream_driver.proofs.Buffering.{departed_then, none_departed}
 use Rattle.event_loop.proofs.lingering.drop_input.Goals as goal
 
 pub loop-left-init : goal.loop-left-init

@@ -1,5 +1,4 @@
-use Rattle.std.proofs.Common.{length, ◌/◌, ◌∙◌}
-use Rattle.last_readers.specs.Merging.{later}
+use Rattle.last_readers.proofs.Words.{length, ◌/◌, ◌∙◌, later}
 use Rattle.last_readers.proofs.MarkSteps.{both_covered}
 use Rattle.last_readers.proofs.gathering.+steps_of.Goals as goal
 

@@ -1,6 +1,5 @@
-use Rattle.std.proofs.Common.{ap, sym, ◌∙◌}
+use Rattle.last_readers.proofs.Words.{ap, sym, ◌∙◌, number_at}
 use Rattle.std.proofs.lemmas.Result.{IfOk-weaker}
-use Rattle.last_readers.specs.Steps.{number_at}
 use Rattle.last_readers.proofs.MarkSteps.{two_steps, one_step, no_step}
 use Rattle.last_readers.proofs.gathering.span.Goals as goal
 

@@ -1,11 +1,7 @@
-use Rattle.std.proofs.Common.{ap, sym, cond, ◌∙◌}
+use Rattle.last_readers.proofs.Words.{ap, sym, cond, ◌∙◌, Option, option_map, number_at}
 use Rattle.std.proofs.lemmas.Result.{IfOk-weaker}
-use Rattle.std.specs.Prelude.{Option, option_map}
-use Rattle.model.specs.declared.keys.KeyRef.{KeyRef}
-use Rattle.model.specs.PrivateCopy.{covers}
-use Rattle.model.specs.PrivateCopy.Mark.{OfRange}
+use Rattle.model.specs.{declared.keys.KeyRef.KeyRef, PrivateCopy.covers, PrivateCopy.Mark.OfRange}
 use Rattle.marks.specs.Lent.{lent_mark}
-use Rattle.last_readers.specs.Steps.{number_at}
 use Rattle.last_readers.proofs.MarkSteps.{key_step, open_step}
 use Rattle.last_readers.proofs.gathering.steps_of_mark.Goals as goal
 

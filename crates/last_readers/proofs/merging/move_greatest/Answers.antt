@@ -1,8 +1,5 @@
-use Rattle.std.proofs.Common.{◌∙◌}
-use Rattle.last_readers.specs.Merging.{with_step, later}
-use Rattle.last_readers.proofs.Cuts.{cut_again}
-use Rattle.last_readers.proofs.StepLaws.{rises_left}
-use Rattle.last_readers.proofs.MergeLaws.{moved}
+use Rattle.last_readers.proofs.Words.{◌∙◌, with_step, later}
+use Rattle.last_readers.proofs.{Cuts.cut_again, StepLaws.rises_left, MergeLaws.moved}
 use Rattle.last_readers.proofs.merging.move_greatest.Goals as goal
 
 pub take_greatest-step-requires-clause-first : goal.take_greatest-step-requires-clause-first

@@ -1,5 +1,4 @@
-use Rattle.std.proofs.Common.{◌≡◌, ◌∙◌}
-use Rattle.last_readers.specs.Merging.{later}
+use Rattle.last_readers.proofs.Words.{◌≡◌, ◌∙◌, later}
 use Rattle.last_readers.proofs.MergeLaws.{joined_both}
 use Rattle.last_readers.proofs.merging.take_both.Goals as goal
 

@@ -1,6 +1,4 @@
-use Rattle.std.proofs.Common.{◌≡◌, ◌∙◌}
-use Rattle.last_readers.specs.Steps.{end_of}
-use Rattle.last_readers.specs.Merging.{later}
+use Rattle.last_readers.proofs.Words.{◌≡◌, ◌∙◌, end_of, later}
 use Rattle.last_readers.proofs.MergeLaws.{joined_one}
 use Rattle.last_readers.proofs.merging.take_one.Goals as goal
 

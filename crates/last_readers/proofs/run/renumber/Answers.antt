@@ -1,7 +1,5 @@
-use Rattle.std.proofs.Common.{ap, arith, ◌∙◌}
-use Rattle.std.proofs.Math.ListN.{set}
-use Rattle.std.proofs.lemmas.List.Edits.{map_over_more}
-use Rattle.last_readers.specs.Steps.{renumbered}
+use Rattle.last_readers.proofs.Words.{ap, arith, ◌∙◌, renumbered}
+use Rattle.std.proofs.{Math.ListN.set, lemmas.List.Edits.map_over_more}
 use Rattle.last_readers.proofs.run.renumber.Goals as goal
 
 pub loop-i-preserved : goal.loop-i-preserved

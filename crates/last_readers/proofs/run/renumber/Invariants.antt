@@ -1,5 +1,4 @@
-use Rattle.std.proofs.Common.{◌≡◌, ◌++◌, take, drop, map}
-use Rattle.last_readers.specs.Steps.{renumbered}
+use Rattle.last_readers.proofs.Words.{◌≡◌, ◌++◌, take, drop, map, renumbered}
 use Rattle.last_readers.proofs.run.renumber.Given as goal
 
 -- those up to the place have the number

@@ -1,5 +1,4 @@
-use Rattle.std.proofs.Common.{ap, ◌∙◌}
-use Rattle.last_readers.specs.Readers.{greatest_at}
+use Rattle.last_readers.proofs.Words.{ap, ◌∙◌, greatest_at}
 use Rattle.last_readers.specs.Inside.{runs_in}
 use Rattle.last_readers.proofs.RunLaws.{greatest_added}
 use Rattle.last_readers.proofs.runs.add_run.Goals as goal

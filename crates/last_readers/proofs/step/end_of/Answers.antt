@@ -1,5 +1,4 @@
-use Rattle.std.proofs.Common.{refl, ◌∙◌}
-use Rattle.std.specs.VecDeque.{deque_len}
+use Rattle.last_readers.proofs.Words.{refl, ◌∙◌, deque_len}
 use Rattle.last_readers.proofs.StepLaws.{end_is, back_is}
 use Rattle.last_readers.proofs.step.end_of.Goals as goal
 

@@ -1,7 +1,5 @@
-use Rattle.std.proofs.Common.{rules, of_calls, ◌∙◌, ◌+◌, ◌≡◌, ◌-◌, sym, arith, subst, ℕ}
-use Rattle.std.specs.Ordering.{is_le}
+use Rattle.last_readers.proofs.Words.{rules, of_calls, ◌∙◌, ◌+◌, ◌≡◌, ◌-◌, sym, arith, subst, ℕ, is_le, key_cmp}
 use Rattle.std.proofs.lemmas.Fn.{always_returns_same}
-use Rattle.model.specs.Map.{key_cmp}
 use Rattle.last_readers.proofs.StepLaws.{parted, found, found_none, IsEnd}
 use Rattle.last_readers.proofs.step.number_from.Goals as goal
 

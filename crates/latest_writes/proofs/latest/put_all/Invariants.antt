@@ -1,6 +1,5 @@
-use Rattle.std.proofs.Common.{◌≡◌, [], length}
+use Rattle.latest_writes.proofs.Words.{◌≡◌, [], length, after_writes}
 use Rattle.std.specs.Prelude.{reverse}
-use Rattle.model.specs.Map.{after_writes}
 use Rattle.latest_writes.proofs.latest.put_all.Given as goal
 
 -- what is left makes of the map so far what all make

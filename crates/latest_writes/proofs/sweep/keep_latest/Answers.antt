@@ -1,10 +1,6 @@
-use Rattle.std.proofs.Common.{arith}
-use Rattle.std.proofs.lemmas.Grind.{common_steps}
-use Rattle.std.proofs.Common.{◌∙◌, sym, ap, refl, subst, [], ◌∷◌, ◌++◌, List}
+use Rattle.latest_writes.proofs.Words.{arith, common_steps, ◌∙◌, sym, ap, refl, subst, [], ◌∷◌, ◌++◌, List, KeyWrite, HasOneOfEach}
 use Rattle.std.proofs.lemmas.List.{nil_from_length}
 use Rattle.latest_writes.proofs.Sweeping.{begun, left_out, kept_more, ended}
-use Rattle.model.specs.Map.{KeyWrite}
-use Rattle.latest_writes.specs.Held.{HasOneOfEach}
 use Rattle.latest_writes.proofs.Holding.{under, one_more, one_for_last}
 use Rattle.latest_writes.proofs.sweep.keep_latest.Goals as goal
 use Rattle.latest_writes.proofs.sweep.keep_latest.Goals.{then-not-is_superseded+in_ok-push, else-not-is_superseded}

@@ -1,6 +1,4 @@
-use Rattle.std.proofs.Common.{[], ◌∷◌, ◌++◌}
-use Rattle.model.specs.Map.{after_writes}
-use Rattle.latest_writes.specs.Held.{HasOneOfEach}
+use Rattle.latest_writes.proofs.Words.{[], ◌∷◌, ◌++◌, after_writes, HasOneOfEach}
 use Rattle.latest_writes.proofs.Sweeping.{IsSwept}
 use Rattle.latest_writes.proofs.sweep.keep_latest.Given as goal
 

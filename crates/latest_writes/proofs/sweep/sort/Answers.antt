@@ -1,5 +1,4 @@
-use Rattle.std.proofs.Common.{arith}
-use Rattle.std.proofs.lemmas.Grind.{common_steps}
+use Rattle.latest_writes.proofs.Words.{arith, common_steps}
 use Rattle.std.proofs.lemmas.List.Sorted.{answers_always}
 use Rattle.latest_writes.proofs.Stable.{stable, is_before_order}
 use Rattle.latest_writes.proofs.sweep.sort.Goals as goal

@@ -1,5 +1,4 @@
-use Rattle.std.proofs.Common.{◌≡◌, ◌-◌, ◌^◌, min, take}
-use Rattle.latest_writes.specs.Held.{weight_of}
+use Rattle.latest_writes.proofs.Words.{◌≡◌, ◌-◌, ◌^◌, min, take, weight_of}
 use Rattle.latest_writes.proofs.sweep.weight_of.Given as goal
 
 abbrev pub invariant-loop-entry : goal.invariant-loop-entry

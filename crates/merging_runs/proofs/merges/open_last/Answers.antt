@@ -1,6 +1,4 @@
-use Rattle.std.proofs.Common.{◌≡◌, ◌+◌, ◌-◌, sym, ◌∙◌, take, drop, map, arith}
-use Rattle.std.specs.Vec.{vec_len}
-use Rattle.merging_runs.specs.RunSizes.{has_alike}
+use Rattle.merging_runs.proofs.Words.{◌≡◌, ◌+◌, ◌-◌, sym, ◌∙◌, take, drop, map, arith, vec_len, has_alike}
 use Rattle.merging_runs.proofs.RunSteps.{none_alike, unlike_from}
 use Rattle.merging_runs.proofs.merges.open_last.Goals as goal
 

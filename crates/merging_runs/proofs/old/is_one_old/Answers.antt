@@ -1,5 +1,4 @@
-use Rattle.std.proofs.Common.{◌∙◌, ap, arith}
-use Rattle.std.specs.Prelude.{is_some}
+use Rattle.merging_runs.proofs.Words.{◌∙◌, ap, arith, is_some}
 use Rattle.merging_runs.specs.Value.{held_of}
 use Rattle.merging_runs.proofs.OldRuns.{is_one}
 use Rattle.merging_runs.proofs.old.is_one_old.Goals as goal

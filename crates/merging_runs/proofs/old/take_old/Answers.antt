@@ -1,9 +1,6 @@
-use Rattle.std.proofs.Common.{◌+◌, map, sym, ap, ◌∙◌}
-use Rattle.merging_runs.specs.Held.{size_upto}
-use Rattle.merging_runs.specs.RunSizes.{left_above}
+use Rattle.merging_runs.proofs.Words.{◌+◌, map, sym, ap, ◌∙◌, size_upto, left_above}
 use Rattle.merging_runs.specs.Value.{held_of}
-use Rattle.merging_runs.proofs.OldRuns.{old_at, part_of, none_old}
-use Rattle.merging_runs.proofs.RunSteps.{left_without, rest_agrees}
+use Rattle.merging_runs.proofs.{OldRuns.old_at, OldRuns.part_of, OldRuns.none_old, RunSteps.left_without, RunSteps.rest_agrees}
 use Rattle.merging_runs.proofs.old.take_old.Goals as goal
 
 pub returns-in-Some : goal.returns-in-Some

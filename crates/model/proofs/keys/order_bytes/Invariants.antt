@@ -1,5 +1,4 @@
-use Rattle.std.proofs.Common.{◌≡◌, length}
-use Rattle.model.specs.Map.{key_cmp}
+use Rattle.model.proofs.Words.{◌≡◌, length, key_cmp}
 use Rattle.model.proofs.KeyNumbers.{AreBytes}
 use Rattle.model.proofs.keys.order_bytes.Given as goal
 

@@ -1,6 +1,5 @@
-use Rattle.std.proofs.Common.{◌≡◌}
+use Rattle.pivot_check.proofs.Words.{◌≡◌, places_upto}
 use Rattle.arrayvec.specs.ArrayVec.{array_vec_len}
-use Rattle.pivot_check.specs.Places.{places_upto}
 use Rattle.pivot_check.proofs.by_start.places_of.Given as goal
 
 abbrev pub invariant-loop-place : goal.invariant-loop-place

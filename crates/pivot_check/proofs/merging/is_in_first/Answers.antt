@@ -1,7 +1,5 @@
-use Rattle.std.proofs.Common.{◌+◌, drop, arith}
-use Rattle.pivot_check.specs.Parts.{live}
-use Rattle.pivot_check.proofs.Walks.{le_from_not}
-use Rattle.pivot_check.proofs.Joined.{begins_below}
+use Rattle.pivot_check.proofs.Words.{◌+◌, drop, arith, live}
+use Rattle.pivot_check.proofs.{Walks.le_from_not, Joined.begins_below}
 use Rattle.pivot_check.proofs.merging.is_in_first.Goals as goal
 
 pub returns-clause-first : goal.returns-clause-first

@@ -1,7 +1,4 @@
-use Rattle.std.proofs.Common.{◌++◌, ap, ◌∙◌, arith}
-use Rattle.pivot_check.specs.Postings.{keys_rise}
-use Rattle.pivot_check.specs.Parts.{live}
-use Rattle.pivot_check.specs.Agreeing.{lesser_none, lesser_assoc, least-append}
+use Rattle.pivot_check.proofs.Words.{◌++◌, ap, ◌∙◌, arith, keys_rise, live, lesser_none, lesser_assoc, least-append}
 use Rattle.pivot_check.proofs.Joined.{moved_end, moved_other}
 use Rattle.pivot_check.proofs.merging.move_first.Goals as goal
 

@@ -1,5 +1,4 @@
-use Rattle.std.proofs.Common.{◌≡◌, take}
-use Rattle.pivot_check.specs.Kept.{keys_of}
+use Rattle.pivot_check.proofs.Words.{◌≡◌, take, keys_of}
 use Rattle.pivot_check.proofs.ready.copy_keys.Given as goal
 
 -- the keys so far are those of the first writes

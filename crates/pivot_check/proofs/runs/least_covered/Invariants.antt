@@ -1,7 +1,4 @@
-use Rattle.std.proofs.Common.{◌≡◌, drop}
-use Rattle.marks.specs.Marked.{marks_of}
-use Rattle.pivot_check.specs.Postings.{least, lesser, covered_of}
-use Rattle.pivot_check.specs.Inside.{postings_in}
+use Rattle.pivot_check.proofs.Words.{◌≡◌, drop, marks_of, least, lesser, covered_of, postings_in}
 use Rattle.pivot_check.proofs.runs.least_covered.Given as goal
 
 -- what was found and what is left of the runs decide

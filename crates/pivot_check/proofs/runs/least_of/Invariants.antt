@@ -1,7 +1,4 @@
-use Rattle.std.proofs.Common.{◌≡◌, drop}
-use Rattle.marks.specs.Lent.{lent_mark}
-use Rattle.pivot_check.specs.Postings.{least, lesser, asked_of}
-use Rattle.pivot_check.specs.Inside.{postings_in}
+use Rattle.pivot_check.proofs.Words.{◌≡◌, drop, lent_mark, least, lesser, asked_of, postings_in}
 use Rattle.pivot_check.proofs.runs.least_of.Given as goal
 
 -- what was found and what is left of the runs decide

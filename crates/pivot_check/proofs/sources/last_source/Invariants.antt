@@ -1,6 +1,4 @@
-use Rattle.std.proofs.Common.{◌≡◌, drop}
-use Rattle.last_readers.specs.Readers.{last_reader}
-use Rattle.pivot_check.specs.Kept.{greater, keys_of, last_source}
+use Rattle.pivot_check.proofs.Words.{◌≡◌, drop, last_reader, greater, keys_of, last_source}
 use Rattle.pivot_check.proofs.sources.last_source.Given as goal
 
 -- what was found and what is left of the writes decide

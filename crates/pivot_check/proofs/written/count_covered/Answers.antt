@@ -1,7 +1,4 @@
-use Rattle.std.proofs.Common.{rules, of_calls, sym, ap, ◌∙◌}
-use Rattle.std.proofs.lemmas.Fn.{always_returns_same}
-use Rattle.model.specs.PrivateCopy.{covers}
-use Rattle.marks.specs.Lent.{lent_mark}
+use Rattle.pivot_check.proofs.Words.{rules, of_calls, sym, ap, ◌∙◌, always_returns_same, covers, lent_mark}
 use Rattle.pivot_check.proofs.Walks.{first_uncovered, parted_covered, covered_first}
 use Rattle.pivot_check.proofs.written.count_covered.Goals as goal
 

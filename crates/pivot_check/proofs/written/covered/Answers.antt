@@ -1,13 +1,4 @@
-use Rattle.std.proofs.Common.{true, false, rules, of_calls, ◌≡◌, ◌-◌, ◌+◌, ℕ, List, ◌&&◌, ap, sym, subst, ◌∙◌, take, arith}
-use Rattle.std.specs.List.Sorted.{IsPartitionPoint}
-use Rattle.std.specs.Ordering.{is_lt}
-use Rattle.std.proofs.lemmas.Fn.{always_returns_same}
-use Rattle.model.specs.Map.{Bytes, key_cmp}
-use Rattle.model.specs.PrivateCopy.{covers}
-use Rattle.marks.specs.Lent.{lent_mark}
-use Rattle.marks.specs.Marked.{start_of}
-use Rattle.std.proofs.lemmas.List.{take_rest}
-use Rattle.pivot_check.specs.Postings.{Posting, keys_rise, are_from, least}
+use Rattle.pivot_check.proofs.Words.{true, false, rules, of_calls, ◌≡◌, ◌-◌, ◌+◌, ℕ, List, ◌&&◌, ap, sym, subst, ◌∙◌, take, arith, IsPartitionPoint, is_lt, always_returns_same, Bytes, key_cmp, covers, lent_mark, start_of, take_rest, Posting, keys_rise, are_from, least}
 use Rattle.pivot_check.proofs.Walks.{parted, rest_rises, rest_from, rest_decides}
 use Rattle.pivot_check.proofs.written.covered.Goals as goal
 

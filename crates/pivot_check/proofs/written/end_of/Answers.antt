@@ -1,8 +1,4 @@
-use Rattle.std.proofs.Common.{true, false, rules, of_calls, ◌≡◌, sym, subst}
-use Rattle.std.specs.List.Sorted.{IsPartitionPoint}
-use Rattle.std.specs.Ordering.{is_le}
-use Rattle.std.proofs.lemmas.Fn.{always_returns_same}
-use Rattle.model.specs.Map.{Bytes, key_cmp}
+use Rattle.pivot_check.proofs.Words.{true, false, rules, of_calls, ◌≡◌, sym, subst, IsPartitionPoint, is_le, always_returns_same, Bytes, key_cmp}
 use Rattle.pivot_check.proofs.Walks.{parted_through, inserted_rises}
 use Rattle.pivot_check.proofs.written.end_of.Goals as goal
 

@@ -1,5 +1,4 @@
-use Rattle.std.proofs.Common.{◌≡◌, drop}
-use Rattle.pivot_check.specs.Postings.{least, lesser, is_asked}
+use Rattle.pivot_check.proofs.Words.{◌≡◌, drop, least, lesser, is_asked}
 use Rattle.pivot_check.proofs.written.least_number.Given as goal
 
 -- what was found and what is left of the postings decide

@@ -1,6 +1,4 @@
-use Rattle.std.proofs.Common.{refl}
-use Rattle.model.specs.Grammar.{Spells, IsProperBeginning}
-use Rattle.resp.specs.Reading.{IsForeign}
+use Rattle.resp.proofs.Words.{refl, Spells, IsProperBeginning, IsForeign}
 use Rattle.resp.proofs.Exactly.{is_whole, only_whole, no_more, not_none, cut_no_whole, foreign_no_whole, foreign_no_more}
 use Rattle.resp.proofs.decoding.decode.Goals as goal
 

@@ -1,7 +1,4 @@
-use Rattle.std.proofs.Common.{◌≡◌, ◌++◌, ◌+◌, ℕ, List, Bool, false, [], length, take, get_or, arith, length-append, ap, sym, ◌∙◌, cond}
-use Rattle.std.specs.Prelude.{is_ok}
-use Rattle.std.specs.Borrow.{Bor}
-use Rattle.resp.specs.Writing.{joined}
+use Rattle.resp.proofs.Words.{◌≡◌, ◌++◌, ◌+◌, ℕ, List, Bool, false, [], length, take, get_or, arith, length-append, ap, sym, ◌∙◌, cond, is_ok, Bor, joined}
 use Rattle.resp.proofs.Appending.{joined_more, joined_front, not_ok, taken_back}
 use Rattle.resp.proofs.writing.append.Goals as goal
 

@@ -1,6 +1,4 @@
-use Rattle.std.proofs.Common.{◌++◌, arith, length-append}
-use Rattle.std.specs.Fmt.{decimal}
-use Rattle.std.proofs.lemmas.Fmt.{length-decimal-le}
+use Rattle.resp.proofs.Words.{◌++◌, arith, length-append, decimal, length-decimal-le}
 use Rattle.resp.proofs.writing.append_number.Goals as goal
 
 pub returns-clause-brief : goal.returns-clause-brief

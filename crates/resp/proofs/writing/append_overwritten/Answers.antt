@@ -1,7 +1,4 @@
-use Rattle.std.proofs.Common.{◌≡◌, ◌*◌, ◌∷◌, ◌++◌, ℕ, List, [], length, arith, refl, length-append}
-use Rattle.std.specs.Prelude.{codes}
-use Rattle.model.specs.Grammar.{crlf}
-use Rattle.model.specs.ReplyText.{hex_text}
+use Rattle.resp.proofs.Words.{◌≡◌, ◌*◌, ◌∷◌, ◌++◌, ℕ, List, [], length, arith, refl, length-append, codes, crlf, hex_text}
 use Rattle.resp.proofs.writing.append_overwritten.Goals as goal
 
 length-hex_text : (bytes : List ℕ) → length (hex_text bytes) ≡ 2 * length bytes

@@ -1,6 +1,5 @@
-use Rattle.std.proofs.Common.{◌≡◌, ◌∷◌, ◌/◌, ◌%◌, ℕ, List, [], ap, ◌∙◌, refl}
+use Rattle.resp.proofs.Words.{◌≡◌, ◌∷◌, ◌/◌, ◌%◌, ℕ, List, [], ap, ◌∙◌, refl, hex_text, hex_digit}
 use Rattle.std.proofs.lemmas.Result.{IfOk-at_ok}
-use Rattle.model.specs.ReplyText.{hex_text, hex_digit}
 use Rattle.hex.specs.Hex.{encode_lower, encode_with, lower_digits}
 use Rattle.resp.proofs.writing.write_hex.Goals as goal
 

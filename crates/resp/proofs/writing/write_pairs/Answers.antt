@@ -1,15 +1,7 @@
-use Rattle.std.proofs.Common.{◌≡◌, ◌++◌, ◌∷◌, ◌+◌, ◌*◌, ◌≤◌, ℕ, List, true, false, [], length, arith, vec_len, length-append, ap, sym, subst, ◌∙◌, refl}
-use Rattle.std.specs.Prelude.{is_ok, codes}
-use Rattle.std.specs.List.{flat_map}
-use Rattle.std.specs.Fmt.{decimal}
+use Rattle.resp.proofs.Words.{◌≡◌, ◌++◌, ◌∷◌, ◌+◌, ◌*◌, ◌≤◌, ℕ, List, true, false, [], length, arith, vec_len, length-append, ap, sym, subst, ◌∙◌, refl, is_ok, codes, flat_map, decimal, Bor, crlf, bulk, pair_text, reply_text}
 use Rattle.std.specs.Iterator.{AlwaysYields}
 use Rattle.std.proofs.iter.Next.{Yields-more}
-use Rattle.std.specs.Borrow.{Bor}
-use Rattle.model.specs.declared.keys.KeyRef.{KeyRef}
-use Rattle.model.specs.Grammar.{crlf, bulk}
-use Rattle.model.specs.KeyBytes.{pair_bytes}
-use Rattle.model.specs.Operations.Response.{Pairs}
-use Rattle.model.specs.ReplyText.{pair_text, reply_text}
+use Rattle.model.specs.{declared.keys.KeyRef.KeyRef, KeyBytes.pair_bytes, Operations.Response.Pairs}
 use Rattle.resp.proofs.Appending.{not_ok}
 use Rattle.resp.proofs.GivenPairs.{given_front, same_given, pairs_text, pairs_more, pairs_front}
 use Rattle.resp.proofs.writing.write_pairs.Goals as goal

@@ -1,5 +1,4 @@
-use Rattle.resp.proofs.Appending.{IsAdded}
-use Rattle.resp.proofs.GivenPairs.{pairs_text}
+use Rattle.resp.proofs.{Appending.IsAdded, GivenPairs.pairs_text}
 use Rattle.resp.proofs.writing.write_pairs.Given as goal
 
 abbrev pub invariant-loop-key : goal.invariant-loop-key

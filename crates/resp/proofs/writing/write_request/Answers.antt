@@ -1,8 +1,4 @@
-use Rattle.std.proofs.Common.{◌≡◌, ◌+◌, ℕ, List, true, false, [], length, take, get_or, arith, length-append, ap, sym, ◌∙◌, Result, Ok, Err}
-use Rattle.std.specs.Prelude.{is_ok, is_err, OnErr}
-use Rattle.std.specs.Borrow.{Bor}
-use Rattle.std.proofs.lemmas.List.{length-map}
-use Rattle.model.specs.Grammar.{bulk, array_of_bulks}
+use Rattle.resp.proofs.Words.{◌≡◌, ◌+◌, ℕ, List, true, false, [], length, take, get_or, arith, length-append, ap, sym, ◌∙◌, Result, Ok, Err, is_ok, is_err, OnErr, Bor, length-map, bulk, array_of_bulks}
 use Rattle.resp.proofs.Appending.{not_ok, taken_back}
 use Rattle.resp.proofs.GivenParts.{bytes_of, parts_text, parts_more, parts_all, parts_front}
 use Rattle.resp.proofs.writing.write_request.Goals as goal

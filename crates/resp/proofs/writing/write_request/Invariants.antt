@@ -1,6 +1,5 @@
 use Rattle.std.proofs.Common.{take, length}
-use Rattle.resp.proofs.Appending.{IsAdded}
-use Rattle.resp.proofs.GivenParts.{parts_text}
+use Rattle.resp.proofs.{Appending.IsAdded, GivenParts.parts_text}
 use Rattle.resp.proofs.writing.write_request.Given as goal
 
 abbrev pub invariant-loop-part : goal.invariant-loop-part

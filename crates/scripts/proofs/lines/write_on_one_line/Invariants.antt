@@ -1,5 +1,4 @@
-use Rattle.std.proofs.Common.{◌≡◌, ◌++◌, length}
-use Rattle.scripts.specs.Lines.{on_one_line}
+use Rattle.scripts.proofs.Words.{◌≡◌, ◌++◌, length, on_one_line}
 use Rattle.scripts.proofs.lines.write_on_one_line.Given as goal
 
 abbrev pub invariant-loop-rest : goal.invariant-loop-rest

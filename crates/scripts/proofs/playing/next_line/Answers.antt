@@ -1,9 +1,5 @@
-use Rattle.std.proofs.Common.{◌≡◌, ◌<◌, [], ◌∷◌, ◌++◌, length, Option, sym, ap, subst, ◌∙◌, arith}
-use Rattle.std.specs.Prelude.{IfSome}
-use Rattle.std.specs.List.{ends_with}
+use Rattle.scripts.proofs.Words.{◌≡◌, ◌<◌, [], ◌∷◌, ◌++◌, length, Option, sym, ap, subst, ◌∙◌, arith, IfSome, ends_with, take_through, Bytes}
 use Rattle.std.proofs.Math.Dec.{eqb}
-use Rattle.std.specs.Io.BufRead.{take_through}
-use Rattle.model.specs.Map.{Bytes}
 use Rattle.scripts.proofs.Reading.{unended_line}
 use Rattle.scripts.proofs.playing.next_line.Goals as goal
 

@@ -1,8 +1,5 @@
-use Rattle.std.proofs.Common.{◌≡◌, ap, subst, ◌∙◌, length, [], sym, replicate}
-use Rattle.std.proofs.lemmas.List.{length-map, length-replicate}
+use Rattle.scripts.proofs.Words.{◌≡◌, ap, subst, ◌∙◌, length, [], sym, replicate, length-map, length-replicate, hub_over, StandsFor}
 use Rattle.model.specs.Machine.{opened}
-use Rattle.sessions.specs.SessionStreams.{hub_over}
-use Rattle.sessions.specs.StandsFor.{StandsFor}
 use Rattle.scripts.proofs.playing.open.Goals as goal
 
 pub returns-clause-at : goal.returns-clause-at

@@ -1,6 +1,4 @@
-use Rattle.std.proofs.Common.{◌≡◌, Err, inl, sym, subst}
-use Rattle.scripts.specs.Lines.{lines_of}
-use Rattle.scripts.specs.Transcript.{opening, Plays, PlaysKnown}
+use Rattle.scripts.proofs.Words.{◌≡◌, Err, inl, sym, subst, lines_of, opening, Plays, PlaysKnown}
 use Rattle.scripts.proofs.Reading.{fresh_reader}
 use Rattle.scripts.proofs.Runs.{always, err_is, unbegun, unread}
 use Rattle.scripts.proofs.playing.play.Goals as goal

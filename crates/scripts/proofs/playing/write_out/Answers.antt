@@ -1,7 +1,4 @@
-use Rattle.std.proofs.Common.{ap, sym, subst, ◌∙◌}
-use Rattle.std.proofs.lemmas.List.{take_rest}
-use Rattle.std.specs.Borrow.{Bor}
-use Rattle.model.specs.Map.{Bytes}
+use Rattle.scripts.proofs.Words.{ap, sym, subst, ◌∙◌, take_rest, Bor, Bytes}
 use Rattle.scripts.proofs.Writing.{Written, written_none, written_more, written_kept}
 use Rattle.scripts.proofs.playing.write_out.Goals as goal
 use Rattle.scripts.proofs.playing.write_out.Goals.{in-Ok, in-Err+else-ne}

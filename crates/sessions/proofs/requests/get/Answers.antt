@@ -1,9 +1,5 @@
-use Rattle.std.proofs.Common.{refl, option_copied}
-use Rattle.model.specs.Bounds.{range_reply_max}
-use Rattle.model.specs.Operations.{Get, Value}
-use Rattle.model.specs.ReplyText.{reply_text}
-use Rattle.sessions.proofs.RequestSteps.{executes_read, executes_refused}
-use Rattle.sessions.proofs.ReplyLengths.{value_short, written_short}
+use Rattle.sessions.proofs.Words.{refl, option_copied, range_reply_max, Get, Value, reply_text}
+use Rattle.sessions.proofs.{RequestSteps.executes_read, RequestSteps.executes_refused, ReplyLengths.value_short, ReplyLengths.written_short}
 use Rattle.sessions.proofs.requests.get.Goals as goal
 
 pub returns-in-Ok-clause-step : goal.returns-in-Ok-clause-step

@@ -1,11 +1,7 @@
-use Rattle.std.proofs.Common.{refl, sym, arith}
+use Rattle.sessions.proofs.Words.{refl, sym, arith, range_reply_max, Range, Pairs, reply_text}
 use Rattle.model.specs.KeyBytes.{key_bytes, end_bytes}
-use Rattle.model.specs.Bounds.{range_reply_max}
-use Rattle.model.specs.Operations.{Range, Pairs}
-use Rattle.model.specs.ReplyText.{reply_text}
 use Rattle.snapshot.specs.RowPairs.{row_pairs}
-use Rattle.sessions.proofs.RequestSteps.{executes_read, executes_refused}
-use Rattle.sessions.proofs.ReplyLengths.{pairs_short, written_short}
+use Rattle.sessions.proofs.{RequestSteps.executes_read, RequestSteps.executes_refused, ReplyLengths.pairs_short, ReplyLengths.written_short}
 use Rattle.sessions.proofs.requests.range.Goals as goal
 
 pub write_pairs-requires : goal.write_pairs-requires

@@ -1,7 +1,4 @@
-use Rattle.std.proofs.Common.{arith}
-use Rattle.model.specs.Bounds.{range_reply_max}
-use Rattle.model.specs.Operations.{response_of}
-use Rattle.model.specs.ReplyText.{reply_text}
+use Rattle.sessions.proofs.Words.{arith, range_reply_max, response_of, reply_text}
 use Rattle.sessions.proofs.ReplyLengths.{written_short}
 use Rattle.sessions.proofs.requests.write_brief.Goals as goal
 

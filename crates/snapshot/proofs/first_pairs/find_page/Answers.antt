@@ -1,6 +1,4 @@
-use Rattle.std.proofs.Common.{◌∙◌, sym, arith}
-use Rattle.model.specs.KeyBytes.{pair_bytes}
-use Rattle.snapshot.specs.Ahead.{merged_pairs}
+use Rattle.snapshot.proofs.Words.{◌∙◌, sym, arith, pair_bytes, merged_pairs}
 use Rattle.snapshot.proofs.Pages.{one_more, one_more_in_bounds, short_page, taken_same}
 use Rattle.snapshot.proofs.first_pairs.find_page.Goals as goal
 

@@ -1,9 +1,4 @@
-use Rattle.std.proofs.Common.{sym, subst, T}
-use Rattle.std.specs.Ordering.{nat_cmp, is_lt}
-use Rattle.std.specs.Cmp.Lexicographic.{slice_cmp}
-use Rattle.std.specs.FinMap.Entries.{is_sorted}
-use Rattle.model.specs.Map.{key_cmp, KeyWrite}
-use Rattle.std.proofs.Common.{List}
+use Rattle.snapshot.proofs.Words.{sym, subst, T, nat_cmp, is_lt, slice_cmp, is_sorted, key_cmp, KeyWrite, List}
 use Rattle.snapshot.proofs.Pieces.{all-below, sorted-where}
 use Rattle.snapshot.proofs.spans.below.Goals as goal
 

@@ -1,6 +1,5 @@
-use Rattle.std.proofs.Common.{rules, Ok, Err}
+use Rattle.snapshot.proofs.Words.{rules, Ok, Err, key_cmp}
 use Rattle.std.proofs.lemmas.Fn.{always_returns_same}
-use Rattle.model.specs.Map.{key_cmp}
 use Rattle.model.proofs.Entries.{split_at}
 use Rattle.snapshot.proofs.spans.split_place.Goals as goal
 

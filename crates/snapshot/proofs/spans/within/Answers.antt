@@ -1,8 +1,4 @@
-use Rattle.std.proofs.Common.{List, ℕ, not, ap, ◌∙◌}
-use Rattle.std.specs.Ordering.{nat_cmp, is_lt}
-use Rattle.std.specs.Cmp.Lexicographic.{slice_cmp}
-use Rattle.std.specs.FinMap.Entries.{where_key}
-use Rattle.model.specs.Map.{key_cmp}
+use Rattle.snapshot.proofs.Words.{List, ℕ, not, ap, ◌∙◌, nat_cmp, is_lt, slice_cmp, where_key, key_cmp}
 use Rattle.snapshot.proofs.Pieces.{span, rest_all}
 use Rattle.snapshot.proofs.spans.within.Goals as goal
 

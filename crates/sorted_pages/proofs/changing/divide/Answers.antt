@@ -1,5 +1,4 @@
-use Rattle.std.proofs.Common.{◌+◌, arith}
-use Rattle.std.proofs.lemmas.Result.{on_ok_weaker}
+use Rattle.sorted_pages.proofs.Words.{◌+◌, arith, on_ok_weaker}
 use Rattle.sorted_pages.proofs.Placings.{tight-then}
 use Rattle.sorted_pages.proofs.changing.divide.Goals as goal
 

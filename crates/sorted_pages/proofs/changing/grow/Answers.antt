@@ -1,5 +1,4 @@
-use Rattle.std.proofs.Common.{◌+◌, arith, rules}
-use Rattle.std.proofs.lemmas.Result.{on_ok_weaker}
+use Rattle.sorted_pages.proofs.Words.{◌+◌, arith, rules, on_ok_weaker}
 use Rattle.sorted_pages.proofs.Placings.{count_grown, grown, room_grown, tight-set}
 use Rattle.sorted_pages.proofs.changing.grow.Goals as goal
 

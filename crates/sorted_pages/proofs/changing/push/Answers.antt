@@ -1,7 +1,4 @@
-use Rattle.std.proofs.Common.{◌≡◌, ◌+◌, ◌-◌, ◌<◌, ◌≤◌, length, sym, ap, ◌∙◌, arith}
-use Rattle.std.specs.Prelude.{is_ok}
-use Rattle.std.proofs.lemmas.List.{get_or_read}
-use Rattle.sorted_pages.specs.Pages.{Page}
+use Rattle.sorted_pages.proofs.Words.{◌≡◌, ◌+◌, ◌-◌, ◌<◌, ◌≤◌, length, sym, ap, ◌∙◌, arith, is_ok, get_or_read, Page}
 use Rattle.sorted_pages.proofs.Placings.{all_full, full-set, loose-set, pushed_last, tight-set}
 use Rattle.sorted_pages.proofs.changing.push.Goals as goal
 

@@ -1,6 +1,4 @@
-use Rattle.std.proofs.Common.{List, [], ◌∷◌, ◌++◌, ap, ◌∙◌, arith}
-use Rattle.model.specs.Map.{Bytes}
-use Rattle.sorted_pages.specs.Pages.{Page, entries}
+use Rattle.sorted_pages.proofs.Words.{List, [], ◌∷◌, ◌++◌, ap, ◌∙◌, arith, Bytes, Page, entries}
 use Rattle.sorted_pages.proofs.Placings.{full-push, loose-push, pushed_page, tight-push}
 use Rattle.sorted_pages.proofs.changing.push_page.Goals as goal
 

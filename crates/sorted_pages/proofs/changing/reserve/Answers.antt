@@ -1,7 +1,4 @@
-use Rattle.std.proofs.Common.{List, ap, ◌∙◌, arith}
-use Rattle.std.proofs.lemmas.Bool.{both_ways}
-use Rattle.std.proofs.lemmas.Result.{on_ok_weaker}
-use Rattle.sorted_pages.specs.Pages.{Page, count_at}
+use Rattle.sorted_pages.proofs.Words.{List, ap, ◌∙◌, arith, both_ways, on_ok_weaker, Page, count_at}
 use Rattle.sorted_pages.proofs.changing.reserve.Goals as goal
 
 -- a page that isn't split is not crowded

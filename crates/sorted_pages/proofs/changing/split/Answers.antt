@@ -1,7 +1,4 @@
-use Rattle.std.proofs.Common.{◌≡◌, ℕ, ◌<◌, ◌≤◌, ◌+◌, List, length, get_or, set, refl, ap, sym, subst, arith, rules}
-use Rattle.model.specs.Map.{Bytes}
-use Rattle.std.proofs.lemmas.List.{length-set}
-use Rattle.sorted_pages.specs.Pages.{Page, IsPlace, IsCrowded, IsRoomier, count_at, room_at}
+use Rattle.sorted_pages.proofs.Words.{◌≡◌, ℕ, ◌<◌, ◌≤◌, ◌+◌, List, length, get_or, set, refl, ap, sym, subst, arith, rules, Bytes, length-set, Page, IsPlace, IsCrowded, IsRoomier, count_at, room_at}
 use Rattle.sorted_pages.proofs.Placings.{count_of, grown, halved, halves, one_longer, place_within, room_of, split, tight-same, tight-set, tight-split, tight-then}
 use Rattle.sorted_pages.proofs.changing.split.Goals as goal
 

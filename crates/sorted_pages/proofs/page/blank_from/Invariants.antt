@@ -1,5 +1,4 @@
-use Rattle.std.proofs.Common.{length, ◌-◌}
-use Rattle.sorted_pages.specs.Blanks.{IsBlankTo}
+use Rattle.sorted_pages.proofs.Words.{length, ◌-◌, IsBlankTo}
 use Rattle.sorted_pages.proofs.page.blank_from.Given as goal
 
 abbrev pub invariant-loop-count : goal.invariant-loop-count

@@ -1,6 +1,5 @@
 use Rattle.std.proofs.Common.{◌≡◌}
-use Rattle.std.specs.Vec.{vec_capacity}
-use Rattle.std.specs.Vec.Iter.{into_iter_items}
+use Rattle.std.specs.{Vec.vec_capacity, Vec.Iter.into_iter_items}
 use Rattle.sorted_pages.proofs.Deals.{Dealt}
 use Rattle.sorted_pages.proofs.page.deal.Given as goal
 

@@ -1,6 +1,4 @@
-use Rattle.std.proofs.Common.{rules}
-use Rattle.std.proofs.lemmas.Fn.{always_returns_same}
-use Rattle.sorted_pages.specs.Pages.{starts_by}
+use Rattle.sorted_pages.proofs.Words.{rules, always_returns_same, starts_by}
 use Rattle.sorted_pages.proofs.Placings.{placed, parted}
 use Rattle.sorted_pages.proofs.placing.place.Goals as goal
 

@@ -1,11 +1,5 @@
-use Rattle.std.proofs.Common.{get_or, sym, ap, ◌∙◌}
-use Rattle.std.specs.FinMap.Entries.{find}
-use Rattle.std.specs.Prelude.{option_map}
-use Rattle.model.specs.Map.{key_cmp}
-use Rattle.sorted_pages.specs.Pages.{entries}
-use Rattle.sorted_pages.specs.Trims.{passes}
-use Rattle.sorted_pages.proofs.Placings.{page_sorted, find_at}
-use Rattle.sorted_pages.proofs.Values.{trimmed, find-changed}
+use Rattle.sorted_pages.proofs.Words.{get_or, sym, ap, ◌∙◌, find, option_map, key_cmp, entries, passes}
+use Rattle.sorted_pages.proofs.{Placings.page_sorted, Placings.find_at, Values.trimmed, Values.find-changed}
 use Rattle.sorted_pages.proofs.trimming.trim_at.Goals as goal
 
 pub trim_at-requires : goal.trim_at-requires

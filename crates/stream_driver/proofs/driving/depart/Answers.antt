@@ -1,5 +1,4 @@
-use Rattle.std.proofs.Common.{refl}
-use Rattle.sessions.specs.SessionStreams.{Leaves}
+use Rattle.stream_driver.proofs.Words.{refl, Leaves}
 use Rattle.stream_driver.proofs.States.{leads_event}
 use Rattle.stream_driver.proofs.driving.depart.Goals as goal
 

@@ -1,5 +1,4 @@
-use Rattle.stream_driver.specs.Sends.{LeadsTelling}
-use Rattle.stream_driver.specs.Calls.{DrivenOut}
+use Rattle.stream_driver.proofs.Words.{LeadsTelling, DrivenOut}
 use Rattle.stream_driver.proofs.driving.drive_over.Given as goal
 
 abbrev pub invariant-requests : goal.invariant-requests

@@ -1,9 +1,5 @@
-use Rattle.std.proofs.Common.{◌≡◌, ◌≤◌, length, arith, ap, take, [], sym, ◌∙◌}
-use Rattle.std.proofs.lemmas.Grind.{common_steps}
-use Rattle.std.proofs.lemmas.List.{append-nil}
-use Rattle.sessions.specs.StandsFor.{pending_of}
-use Rattle.stream_driver.proofs.OneCall.{read_moved, read_none, reads_within}
-use Rattle.stream_driver.proofs.Sends.{begins_nothing, tells_call}
+use Rattle.stream_driver.proofs.Words.{◌≡◌, ◌≤◌, length, arith, ap, take, [], sym, ◌∙◌, common_steps, append-nil, pending_of}
+use Rattle.stream_driver.proofs.{OneCall.read_moved, OneCall.read_none, OneCall.reads_within, Sends.begins_nothing, Sends.tells_call}
 use Rattle.stream_driver.proofs.driving.read_some.Goals as goal
 
 pub returns-in-Moved-clause-read : goal.returns-in-Moved-clause-read

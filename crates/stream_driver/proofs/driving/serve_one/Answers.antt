@@ -1,8 +1,6 @@
-use Rattle.std.proofs.Common.{arith, sym, ◌∙◌}
+use Rattle.stream_driver.proofs.Words.{arith, sym, ◌∙◌, pending_seen, room_seen, status_seen}
 use Rattle.std.proofs.Math.Bridge.{le_prop}
-use Rattle.sessions.proofs.EventSteps.{pending_seen, room_seen, status_seen}
-use Rattle.stream_driver.proofs.States.{leads_none, seen_after}
-use Rattle.stream_driver.proofs.Sends.{tells_step, tells_still, tells_two_at}
+use Rattle.stream_driver.proofs.{States.leads_none, States.seen_after, Sends.tells_step, Sends.tells_still, Sends.tells_two_at}
 use Rattle.stream_driver.proofs.Loops.{read_nothing, read_then, read_stopped, serve_starved, serve_open, serve_closed, waits}
 use Rattle.stream_driver.proofs.driving.serve_one.Goals as goal
 

@@ -1,5 +1,4 @@
-use Rattle.stream_driver.specs.Sends.{LeadsTelling}
-use Rattle.stream_driver.specs.Calls.{ReadSoFar}
+use Rattle.stream_driver.proofs.Words.{LeadsTelling, ReadSoFar}
 use Rattle.stream_driver.proofs.driving.serve_one.Given as goal
 
 abbrev pub invariant-loop-hub : goal.invariant-loop-hub

@@ -1,8 +1,5 @@
-use Rattle.std.proofs.Common.{◌≡◌, ◌∙◌, length, sym, ap, arith}
-use Rattle.std.proofs.lemmas.List.{nil_from_length}
-use Rattle.sessions.proofs.EventSteps.{pending_seen}
-use Rattle.stream_driver.proofs.States.{leads_none, present_in, present_after}
-use Rattle.stream_driver.proofs.Sends.{tells_map, tells_still, tells_two_at}
+use Rattle.stream_driver.proofs.Words.{◌≡◌, ◌∙◌, length, sym, ap, arith, nil_from_length, pending_seen}
+use Rattle.stream_driver.proofs.{States.leads_none, States.present_in, States.present_after, Sends.tells_map, Sends.tells_still, Sends.tells_two_at}
 use Rattle.stream_driver.proofs.Loops.{owed_now, written_none, written_then, written_stopped}
 use Rattle.stream_driver.proofs.driving.write_out.Goals as goal
 

@@ -1,5 +1,4 @@
-use Rattle.stream_driver.specs.Sends.{LeadsTelling}
-use Rattle.stream_driver.specs.Calls.{WrittenSoFar}
+use Rattle.stream_driver.proofs.Words.{LeadsTelling, WrittenSoFar}
 use Rattle.stream_driver.proofs.driving.write_out.Given as goal
 
 abbrev pub invariant-loop-owed : goal.invariant-loop-owed

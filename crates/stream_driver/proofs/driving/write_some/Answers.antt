@@ -1,8 +1,5 @@
-use Rattle.std.proofs.Common.{◌≤◌, length, ap, subst, ◌∙◌, take, ◌++◌}
-use Rattle.sessions.specs.StandsFor.{pending_of}
-use Rattle.stream_driver.specs.Traffic.{WritesWithin, bytes_written}
-use Rattle.stream_driver.proofs.OneCall.{wrote_moved, wrote_none}
-use Rattle.stream_driver.proofs.Sends.{begins_taken, tells_call}
+use Rattle.stream_driver.proofs.Words.{◌≤◌, length, ap, subst, ◌∙◌, take, ◌++◌, pending_of, WritesWithin, bytes_written}
+use Rattle.stream_driver.proofs.{OneCall.wrote_moved, OneCall.wrote_none, Sends.begins_taken, Sends.tells_call}
 use Rattle.stream_driver.proofs.driving.write_some.Goals as goal
 
 pub returns-in-Moved-clause-written : goal.returns-in-Moved-clause-written

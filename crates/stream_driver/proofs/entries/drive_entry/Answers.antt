@@ -1,7 +1,5 @@
-use Rattle.std.proofs.Common.{◌≡◌, sym, ap, ◌∙◌}
-use Rattle.stream_driver.specs.Entries.{state_after}
-use Rattle.stream_driver.proofs.Sends.{tells_map}
-use Rattle.stream_driver.proofs.Turns.{driven_once, left_alone}
+use Rattle.stream_driver.proofs.Words.{◌≡◌, sym, ap, ◌∙◌, state_after}
+use Rattle.stream_driver.proofs.{Sends.tells_map, Turns.driven_once, Turns.left_alone}
 use Rattle.stream_driver.proofs.entries.drive_entry.Goals as goal
 use Rattle.stream_driver.proofs.entries.drive_entry.Goals.{in-Waiting, in-Again, in-Gone}
 

@@ -1,5 +1,4 @@
-use Rattle.std.proofs.Common.{arith}
-use Rattle.std.proofs.lemmas.Grind.{common_steps}
+use Rattle.versions.proofs.Words.{arith, common_steps}
 use Rattle.versions.proofs.installing.add.Goals as goal
 
 pub returns-in-Some-clause-chains : goal.returns-in-Some-clause-chains

@@ -1,7 +1,5 @@
-use Rattle.std.proofs.Common.{◌-◌}
-use Rattle.std.specs.Vec.{vec_len, vec_capacity}
+use Rattle.versions.proofs.Words.{◌-◌, vec_len, vec_capacity, entries}
 use Rattle.std.specs.Vec.Iter.{into_iter_items}
-use Rattle.sorted_pages.specs.Pages.{entries}
 use Rattle.versions.proofs.Calls.{Installing}
 use Rattle.versions.proofs.installing.add_all.Given as goal
 

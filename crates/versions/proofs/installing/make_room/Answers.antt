@@ -1,6 +1,4 @@
-use Rattle.std.proofs.Common.{arith, sym}
-use Rattle.std.proofs.lemmas.Grind.{common_steps}
-use Rattle.sorted_pages.specs.Pages.{entries}
+use Rattle.versions.proofs.Words.{arith, sym, common_steps, entries}
 use Rattle.versions.proofs.Stores.{roomier-refl, roomier-put, find-put_itself, on_ok}
 use Rattle.versions.proofs.installing.make_room.Goals as goal
 

@@ -1,9 +1,5 @@
-use Rattle.std.proofs.Common.{◌-◌, sym, ap, subst, ◌∙◌, arith}
-use Rattle.sorted_pages.specs.Pages.{entries}
-use Rattle.versions.proofs.Stores.{swap_remove-default}
-use Rattle.versions.proofs.Groups.{dropping-seen, dropping-stays, dropping-leaves}
-use Rattle.versions.specs.Chains.{Chains}
-use Rattle.versions.proofs.Groups.{Dropping}
+use Rattle.versions.proofs.Words.{◌-◌, sym, ap, subst, ◌∙◌, arith, entries, Chains}
+use Rattle.versions.proofs.{Stores.swap_remove-default, Groups.dropping-seen, Groups.dropping-stays, Groups.dropping-leaves, Groups.Dropping}
 use Rattle.versions.proofs.reclaiming.drop_unseen.Goals.{else-not-is_seen_by-via-then-not-is_seen_by+else-not-reclaim_version, else-not-is_seen_by-via-else-not-is_seen_by}
 use Rattle.versions.proofs.reclaiming.drop_unseen.Goals as goal
 

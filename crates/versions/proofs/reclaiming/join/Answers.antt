@@ -1,9 +1,4 @@
-use Rattle.std.proofs.Common.{◌≡◌, ◌<◌, List, length, take, get_or, rules, sym, ap, subst, ◌∙◌, arith}
-use Rattle.std.specs.Prelude.{◌==◌}
-use Rattle.std.specs.List.{AllByRecursion, position}
-use Rattle.versions.specs.Groups.{GroupValue}
-use Rattle.versions.specs.Listings.{AreAmong, IsSettled, IsTrulyMixed, witnesses}
-use Rattle.versions.specs.Meaning.{is_among}
+use Rattle.versions.proofs.Words.{◌≡◌, ◌<◌, List, length, take, get_or, rules, sym, ap, subst, ◌∙◌, arith, ◌==◌, AllByRecursion, position, GroupValue, AreAmong, IsSettled, IsTrulyMixed, witnesses, is_among}
 use Rattle.versions.proofs.Groups.{all-joined, due-joined, join-found, under-joined}
 use Rattle.versions.proofs.UnderWitnesses.{IsUnder}
 use Rattle.versions.proofs.Witnesses.{found-before, join-fits, lists-joined, witnesses-set, take-remove, among-remove, none-before, take-get}

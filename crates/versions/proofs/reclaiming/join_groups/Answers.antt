@@ -1,11 +1,5 @@
-use Rattle.std.specs.List.{AllByRecursion}
-use Rattle.std.proofs.Common.{◌+◌, List, take, sym, ap, subst, refl, ◌∙◌, arith}
-use Rattle.versions.specs.Groups.{GroupValue}
-use Rattle.versions.specs.Witnesses.{AreUnderWitnesses}
-use Rattle.versions.specs.Listings.{AreAmong, AreApart, AreMixedSettled, IsSettled, IsTrulyMixed, lists_in, witnesses}
-use Rattle.model.proofs.Elements.{all-remove}
-use Rattle.versions.proofs.Groups.{due-empty, found-remove}
-use Rattle.versions.proofs.UnderWitnesses.{IsUnder}
+use Rattle.versions.proofs.Words.{AllByRecursion, ◌+◌, List, take, sym, ap, subst, refl, ◌∙◌, arith, GroupValue, AreUnderWitnesses, AreAmong, AreApart, AreMixedSettled, IsSettled, IsTrulyMixed, lists_in, witnesses, all-remove}
+use Rattle.versions.proofs.{Groups.due-empty, Groups.found-remove, UnderWitnesses.IsUnder}
 use Rattle.versions.proofs.Witnesses.{apart-next, among-remove, take-remove, lists-remove}
 use Rattle.versions.proofs.reclaiming.join_groups.Goals as goal
 

@@ -1,9 +1,4 @@
-use Rattle.std.specs.List.{AllByRecursion}
-use Rattle.std.proofs.Common.{◌≡◌, ◌≤◌, ℕ, Bool, List, ◌-◌, length, take}
-use Rattle.versions.specs.Chains.{Chains, ChainsValue}
-use Rattle.versions.specs.Witnesses.{AreUnderWitnesses}
-use Rattle.versions.specs.Listings.{AreAmong, AreApart, AreFound, AreMixedSettled, IsTrulyMixed, lists_in, witnesses}
-use Rattle.versions.specs.Meaning.{due_in}
+use Rattle.versions.proofs.Words.{AllByRecursion, ◌≡◌, ◌≤◌, ℕ, Bool, List, ◌-◌, length, take, Chains, ChainsValue, AreUnderWitnesses, AreAmong, AreApart, AreFound, AreMixedSettled, IsTrulyMixed, lists_in, witnesses, due_in}
 use Rattle.versions.proofs.reclaiming.join_groups.Given as goal
 
 -- no two of the groups before i have one witness

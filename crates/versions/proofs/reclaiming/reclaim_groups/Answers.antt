@@ -1,8 +1,4 @@
-use Rattle.std.proofs.Common.{◌≡◌, ◌-◌, ◌≤◌, ◌∷◌, sym, ap, ◌∙◌, subst, arith}
-use Rattle.sorted_pages.specs.Pages.{entries}
-use Rattle.versions.specs.Groups.{GroupValue}
-use Rattle.versions.specs.Listings.{AreKept, witness_for}
-use Rattle.versions.specs.Meaning.{due_for, is_among}
+use Rattle.versions.proofs.Words.{◌≡◌, ◌-◌, ◌≤◌, ◌∷◌, sym, ap, ◌∙◌, subst, arith, entries, GroupValue, AreKept, witness_for, due_for, is_among}
 use Rattle.versions.proofs.Groups.{StaysUnder, Settling, settling-none, settling-settled, settling-due, settling-ended, settling-held}
 use Rattle.versions.proofs.Witnesses.{witness-among}
 use Rattle.versions.proofs.reclaiming.reclaim_groups.Goals as goal

@@ -1,8 +1,4 @@
-use Rattle.std.proofs.Common.{ap, subst, ◌∙◌}
-use Rattle.model.specs.Map.{Bytes}
-use Rattle.sorted_pages.specs.Pages.{entries}
-use Rattle.versions.specs.Chains.{IsReclaimedAt}
-use Rattle.versions.specs.Groups.{Listed}
+use Rattle.versions.proofs.Words.{ap, subst, ◌∙◌, Bytes, entries, IsReclaimedAt, Listed}
 use Rattle.versions.proofs.Stores.{reclaimed-at}
 use Rattle.versions.proofs.reclaiming.reclaim_version.Goals as goal
 

@@ -1,16 +1,5 @@
-use Rattle.std.proofs.Common.{◌≡◌, List, ◌∷◌, ◌++◌, drop, take, length, rules, sym, ap, subst, ◌∙◌, arith}
-use Rattle.std.specs.List.{AllByRecursion}
-use Rattle.sorted_pages.specs.Pages.{entries}
-use Rattle.versions.specs.Groups.{GroupValue}
-use Rattle.std.specs.Prelude.{nat_lt}
-use Rattle.versions.specs.Meaning.{due_in}
-use Rattle.versions.specs.Witnesses.{AreUnderWitnesses}
-use Rattle.versions.specs.Listings.{AreAmong, AreMixedSettled, IsListed, IsTrulyMixed, witnesses}
-use Rattle.versions.proofs.Calls.{all_items}
-use Rattle.versions.proofs.Groups.{any-due}
-use Rattle.versions.proofs.Witnesses.{apart-few}
-use Rattle.std.proofs.lemmas.List.{length-map}
-use Rattle.versions.proofs.Listings.{groups-found}
+use Rattle.versions.proofs.Words.{◌≡◌, List, ◌∷◌, ◌++◌, drop, take, length, rules, sym, ap, subst, ◌∙◌, arith, AllByRecursion, entries, GroupValue, nat_lt, due_in, AreUnderWitnesses, AreAmong, AreMixedSettled, IsListed, IsTrulyMixed, witnesses, length-map}
+use Rattle.versions.proofs.{Calls.all_items, Groups.any-due, Witnesses.apart-few, Listings.groups-found}
 use Rattle.versions.proofs.reclaiming.reclaim_versions.Goals as goal
 
 pub returns : goal.returns

@@ -1,7 +1,4 @@
-use Rattle.std.proofs.Common.{sym, subst}
-use Rattle.std.specs.List.{AllByRecursion}
-use Rattle.versions.specs.Witnesses.{IsUnderWitness}
-use Rattle.versions.specs.Listings.{AreSeenFrom}
+use Rattle.versions.proofs.Words.{sym, subst, AllByRecursion, IsUnderWitness, AreSeenFrom}
 use Rattle.versions.proofs.Lists.{in-one, in-only}
 use Rattle.versions.proofs.reclaiming.settle_first.Goals as goal
 

@@ -1,9 +1,4 @@
-use Rattle.std.proofs.Common.{◌≡◌, ◌≤◌, ◌<◌, ◌+◌, ◌++◌, length, sym, ap, subst, ◌∙◌, arith}
-use Rattle.std.proofs.lemmas.List.{append-nil, length-append}
-use Rattle.std.specs.List.{AllByRecursion}
-use Rattle.sorted_pages.specs.Pages.{entries}
-use Rattle.versions.specs.Witnesses.{IsUnderWitness}
-use Rattle.versions.specs.Listings.{AreSeenFrom, versions_in}
+use Rattle.versions.proofs.Words.{◌≡◌, ◌≤◌, ◌<◌, ◌+◌, ◌++◌, length, sym, ap, subst, ◌∙◌, arith, append-nil, length-append, AllByRecursion, entries, IsUnderWitness, AreSeenFrom, versions_in}
 use Rattle.versions.proofs.Lists.{in-append, in-empty, in-none, in-some, one-less, settled-list}
 use Rattle.versions.proofs.reclaiming.settle_lists.Goals.{then-not-are_empty, else-not-are_empty}
 use Rattle.versions.proofs.reclaiming.settle_lists.Goals as goal

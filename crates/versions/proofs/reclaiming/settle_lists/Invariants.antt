@@ -1,6 +1,4 @@
-use Rattle.std.proofs.Common.{◌≡◌, ◌≤◌, ◌+◌, length}
-use Rattle.sorted_pages.specs.Pages.{entries}
-use Rattle.versions.specs.Listings.{AreFilled, versions_in}
+use Rattle.versions.proofs.Words.{◌≡◌, ◌≤◌, ◌+◌, length, entries, AreFilled, versions_in}
 use Rattle.versions.proofs.Lists.{Settled}
 use Rattle.versions.proofs.reclaiming.settle_lists.Given as goal
 

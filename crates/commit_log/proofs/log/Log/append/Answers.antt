@@ -1,6 +1,5 @@
 use Rattle.std.proofs.Common.{◌∙◌, refl, arith}
-use Rattle.commit_log.proofs.Encoding.{payload_size_is, body_sectors_is}
-use Rattle.commit_log.proofs.Protocol.{no_room_if}
+use Rattle.commit_log.proofs.{Encoding.payload_size_is, Encoding.body_sectors_is, Protocol.no_room_if}
 use Rattle.commit_log.proofs.log.Log.append.Goals as goal
 
 pub returns-then-not-room-clause-full : goal.returns-then-not-room-clause-full

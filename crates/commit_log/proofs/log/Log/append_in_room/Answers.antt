@@ -1,9 +1,5 @@
-use Rattle.std.proofs.Common.{◌≤◌, length, ap, refl, arith}
-use Rattle.model.specs.Bounds.{value_max, payload_bound}
-use Rattle.commit_log.specs.Format.{current}
-use Rattle.commit_log.specs.RecordFormat.{payload_bytes}
-use Rattle.commit_log.proofs.Encoding.{payload_size_is, length-payload_le}
-use Rattle.commit_log.proofs.Protocol.{next_record, stands_after}
+use Rattle.commit_log.proofs.Words.{◌≤◌, length, ap, refl, arith, value_max, payload_bound, current, payload_bytes}
+use Rattle.commit_log.proofs.{Encoding.payload_size_is, Encoding.length-payload_le, Protocol.next_record, Protocol.stands_after}
 use Rattle.commit_log.proofs.log.Log.append_in_room.Goals as goal
 
 pub encode-requires-clause-bound : goal.encode-requires-clause-bound

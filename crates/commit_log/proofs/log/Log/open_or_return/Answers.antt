@@ -1,6 +1,5 @@
-use Rattle.std.proofs.Common.{◌≡◌, refl}
+use Rattle.commit_log.proofs.Words.{◌≡◌, refl, current}
 use Rattle.commit_log.proofs.Recovering.{log_unique, log_not_damaged, log_is_log, log_not_old, settles_as, refused_log, refused_damaged, refused_no_log, refused_old, device_refused, device_refused_left}
-use Rattle.commit_log.specs.Format.{current}
 use Rattle.commit_log.proofs.Protocol.{log_opened}
 use Rattle.commit_log.proofs.log.Log.open_or_return.Goals as goal
 

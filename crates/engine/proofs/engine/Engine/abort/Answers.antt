@@ -1,6 +1,4 @@
-use Rattle.std.proofs.Common.{refl, sym, arith}
-use Rattle.model.specs.declared.refusals.Refusal.TheVariants.{NotOpen}
-use Rattle.model.specs.Operations.Operation.{Abort}
+use Rattle.engine.proofs.Words.{refl, sym, arith, NotOpen, Abort}
 use Rattle.engine.proofs.Calls.{abort_call, leave_call, refused_outside}
 use Rattle.engine.proofs.engine.Engine.abort.Goals as goal
 

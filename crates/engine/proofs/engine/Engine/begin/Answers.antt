@@ -1,10 +1,5 @@
-use Rattle.std.proofs.Common.{refl, sym, ◌∙◌, ap, arith, subst, [], ◌≡◌}
+use Rattle.engine.proofs.Words.{refl, sym, ◌∙◌, ap, arith, subst, [], ◌≡◌, HasMade, nat_cmp, insert_entry, CommittedValue, new_view}
 use Rattle.std.proofs.lemmas.Result.{err_from_is_err_and}
-use Rattle.snapshot.specs.Made.{HasMade}
-use Rattle.std.specs.Ordering.{nat_cmp}
-use Rattle.std.specs.BTreeMap.{insert_entry}
-use Rattle.pivot_check.specs.Kept.{CommittedValue}
-use Rattle.snapshot.specs.View.{new_view}
 use Rattle.engine.proofs.Calls.{begin_inside, begin_stopped, begin_full, begin_memory, begin_call, is_some_there, is_some_absent, running_if}
 use Rattle.engine.proofs.engine.Engine.begin.Goals as goal
 

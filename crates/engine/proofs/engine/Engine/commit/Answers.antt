@@ -1,8 +1,4 @@
-use Rattle.std.proofs.Common.{refl, sym, ap, ◌∙◌, Err}
-use Rattle.model.specs.declared.refusals.Refusal.TheVariants.{NotOpen}
-use Rattle.model.specs.Operations.Operation.{Commit}
-use Rattle.model.specs.Operations.Response.{Number}
-use Rattle.commit_log.specs.LogState.{device_of as log_device}
+use Rattle.engine.proofs.Words.{refl, sym, ap, ◌∙◌, Err, NotOpen, Commit, Number, device_of as log_device}
 use Rattle.engine.specs.Meaning.{device_of}
 use Rattle.engine.proofs.Calls.{refused_outside}
 use Rattle.engine.proofs.Committing.{ended_refused, ended_overwritten, ended_fault, joined, risen, not_risen, commit_memory, unwritten, crash_stored}

@@ -1,9 +1,4 @@
-use Rattle.std.proofs.Common.{refl, sym, ap, Some}
-use Rattle.std.specs.Prelude.{option_copied}
-use Rattle.model.specs.declared.refusals.Refusal.TheVariants.{NotOpen}
-use Rattle.model.specs.Operations.Operation.{Get}
-use Rattle.model.specs.Operations.Response.{Value}
-use Rattle.snapshot.specs.View.{View}
+use Rattle.engine.proofs.Words.{refl, sym, ap, Some, option_copied, NotOpen, Get, Value, View}
 use Rattle.engine.proofs.Calls.{own_call, refused_outside}
 use Rattle.engine.proofs.Requests.{read_answered, read_refused, begin-after_get, never_get, known_key, known_nowhere}
 use Rattle.engine.proofs.engine.Engine.get.Goals as goal

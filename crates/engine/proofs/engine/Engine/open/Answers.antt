@@ -1,19 +1,6 @@
-use Rattle.std.proofs.lemmas.Grind.{common_steps}
-use Rattle.std.proofs.Common.{◌≡◌, ◌+◌, ℕ, true, false, [], sym, ap, refl, ◌∙◌, length, arith}
-use Rattle.std.proofs.lemmas.Bool.{both_ways}
-use Rattle.std.proofs.lemmas.List.{nil_from_length}
+use Rattle.engine.proofs.Words.{common_steps, ◌≡◌, ◌+◌, ℕ, true, false, [], sym, ap, refl, ◌∙◌, length, arith, both_ways, nil_from_length, KeyMap, IsMap, opened, IsReached, IsEmpty, Ghosts, is_stopped, used_sectors, sector_count, HistoryStandsFor, Engine, StandsFor, IsStored}
 use Rattle.std.proofs.lemmas.Slice.Zip.{AllZip-long}
-use Rattle.model.specs.Map.{KeyMap, IsMap}
-use Rattle.model.specs.Machine.{opened, IsReached}
-use Rattle.pivot_check.specs.Kept.{IsEmpty}
-use Rattle.sector.specs.declared.device.Sectors.{Ghosts}
-use Rattle.commit_log.specs.LogState.{is_stopped, used_sectors, sector_count}
-use Rattle.commit_log.specs.LogImage.{span}
-use Rattle.commit_log.specs.Recovery.{map_after}
-use Rattle.engine.specs.HistoryValue.{HistoryStandsFor}
-use Rattle.engine.specs.declared.engine.Engine.{Engine}
-use Rattle.engine.specs.StandsFor.{StandsFor}
-use Rattle.engine.specs.Recovery.{IsStored}
+use Rattle.commit_log.specs.{LogImage.span, Recovery.map_after}
 use Rattle.engine.proofs.engine.Engine.open.Goals as goal
 
 reached_opened : (map : KeyMap) (used count : ℕ) → IsMap map → IsReached (opened map used count)

@@ -1,6 +1,4 @@
-use Rattle.std.proofs.Common.{refl}
-use Rattle.model.specs.Operations.Operation.{Ping, Faulty}
-use Rattle.model.specs.Operations.Response.{Pong, Refused}
+use Rattle.engine.proofs.Words.{refl, Ping, Faulty, Pong, Refused}
 use Rattle.engine.proofs.Calls.{passed, made_same}
 use Rattle.engine.proofs.engine.Engine.passes.Goals as goal
 

@@ -1,9 +1,5 @@
-use Rattle.std.proofs.Common.{refl, sym, ap, Some}
-use Rattle.model.specs.declared.refusals.Refusal.TheVariants.{NotOpen}
-use Rattle.model.specs.Operations.Response.{Pairs}
-use Rattle.snapshot.specs.View.{View}
+use Rattle.engine.proofs.Words.{refl, sym, ap, Some, NotOpen, Pairs, View, range_read}
 use Rattle.snapshot.specs.RowPairs.{row_pairs}
-use Rattle.snapshot.specs.Made.{range_read}
 use Rattle.engine.proofs.Calls.{own_call, refused_outside}
 use Rattle.engine.proofs.Requests.{read_answered, read_refused, begin-after_range, never_range, known_range, known_nowhere}
 use Rattle.engine.proofs.engine.Engine.range.Goals as goal

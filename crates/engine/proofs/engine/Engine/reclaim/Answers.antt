@@ -1,25 +1,6 @@
-use Rattle.std.proofs.lemmas.Grind.{common_steps}
-use Rattle.std.proofs.Common.{◌≡◌, ◌≤◌, ◌&&◌, ℕ, Bool, true, false, List, [], ◌∷◌, refl, ap, sym, subst, ◌∙◌, length, arith, rules, map}
-use Rattle.std.specs.Prelude.{max, ◌==◌}
+use Rattle.engine.proofs.Words.{common_steps, ◌≡◌, ◌≤◌, ◌&&◌, ℕ, Bool, true, false, List, [], ◌∷◌, refl, ap, sym, subst, ◌∙◌, length, arith, rules, map, max, ◌==◌, values, values_of, both_ways, or_left, or_right, and_from, eq-eqb, nat_tests, nil_from_length, KeyMap, Record, State, Running, is_among, IsReclaimed, View, CommittedValue, Facts, HasForgotten, Ghosts, HistoryValue, KeepsHeld, is_due, Engine, StandsFor, AreRunning, IsLeast, open_begins, HasForgottenOld}
 use Rattle.std.specs.List.{AllByRecursion}
-use Rattle.std.specs.BTreeMap.{values}
-use Rattle.std.specs.Map.{values_of}
-use Rattle.std.proofs.lemmas.Bool.{both_ways, or_left, or_right, and_from, eq-eqb}
-use Rattle.std.proofs.lemmas.Bool.Decides.{nat_tests}
-use Rattle.std.proofs.lemmas.List.{nil_from_length}
 use Rattle.std.proofs.lemmas.List.Elements.{All-from_recursion, recursion_from_All}
-use Rattle.model.specs.Map.{KeyMap}
-use Rattle.model.specs.History.{Record}
-use Rattle.model.specs.Machine.{State, Running}
-use Rattle.versions.specs.Meaning.{is_among, IsReclaimed}
-use Rattle.snapshot.specs.View.{View}
-use Rattle.pivot_check.specs.Kept.{CommittedValue, Facts, HasForgotten}
-use Rattle.sector.specs.declared.device.Sectors.{Ghosts}
-use Rattle.engine.specs.HistoryValue.{HistoryValue, KeepsHeld, is_due}
-use Rattle.engine.specs.declared.engine.Engine.{Engine}
-use Rattle.engine.specs.StandsFor.{StandsFor, AreRunning}
-use Rattle.engine.specs.Least.{IsLeast}
-use Rattle.engine.specs.Meaning.{open_begins, HasForgottenOld}
 use Rattle.engine.proofs.engine.Engine.reclaim.Goals as goal
 
 abbrev begins_of : List (ℕ × View) → List ℕ

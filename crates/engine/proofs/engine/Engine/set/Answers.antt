@@ -1,10 +1,5 @@
-use Rattle.std.proofs.Common.{refl, sym, ap, Some}
-use Rattle.snapshot.specs.View.{View}
-use Rattle.model.specs.declared.refusals.Refusal.TheVariants.{NotOpen}
-use Rattle.model.specs.Operations.Operation.{Set}
-use Rattle.model.specs.Operations.Response.{Done}
-use Rattle.engine.proofs.Calls.{own_call, refused_outside}
-use Rattle.engine.proofs.Requests.{write_refused}
+use Rattle.engine.proofs.Words.{refl, sym, ap, Some, View, NotOpen, Set, Done}
+use Rattle.engine.proofs.{Calls.own_call, Calls.refused_outside, Requests.write_refused}
 use Rattle.engine.proofs.engine.Engine.set.Goals as goal
 
 pub returns-in-Ok-clause-step : goal.returns-in-Ok-clause-step

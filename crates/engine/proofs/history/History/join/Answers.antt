@@ -1,14 +1,6 @@
-use Rattle.std.proofs.Common.{◌≡◌, ℕ, ◌+◌, Bool, true, List, [], ◌∷◌, ◌++◌, ap, sym, subst, ◌∙◌, length, arith}
-use Rattle.std.specs.Prelude.{◌==◌}
-use Rattle.std.proofs.lemmas.Bool.Decides.{nat_tests}
-use Rattle.std.proofs.lemmas.List.{nil_from_length}
-use Rattle.model.specs.Map.{KeyMap, KeyWrite}
-use Rattle.model.specs.History.{Record}
+use Rattle.engine.proofs.Words.{◌≡◌, ℕ, ◌+◌, Bool, true, List, [], ◌∷◌, ◌++◌, ap, sym, subst, ◌∙◌, length, arith, ◌==◌, nat_tests, nil_from_length, KeyMap, KeyWrite, Record, IsInReach, View, HistoryValue, Joins}
 use Rattle.versions.specs.StandsFor.{StandsFor as VersionsStandFor}
-use Rattle.pivot_check.specs.Kept.{IsInReach}
 use Rattle.pivot_check.specs.StandsFor.{StandsFor as CommittedStandsFor, IsRecordOf, IsClear}
-use Rattle.snapshot.specs.View.{View}
-use Rattle.engine.specs.HistoryValue.{HistoryValue, Joins}
 use Rattle.engine.proofs.history.History.join.Goals as goal
 
 next_joined : (old new : HistoryValue) (t : View) (ws : List KeyWrite) (n : ℕ) → n ≡ old.committed.facts.last + 1 → ws ≡ t.writes

@@ -1,5 +1,4 @@
-use Rattle.std.proofs.Common.{subst, sym}
-use Rattle.engine.specs.HistoryValue.{HistoryValue, HistoryStandsFor}
+use Rattle.engine.proofs.Words.{subst, sym, HistoryValue, HistoryStandsFor}
 use Rattle.engine.proofs.history.History.reclaim.Goals as goal
 
 pub returns-clause-stands : goal.returns-clause-stands

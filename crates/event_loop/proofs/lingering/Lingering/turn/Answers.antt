@@ -1,5 +1,4 @@
-use Rattle.std.proofs.Common.{◌≡◌, ◌||◌, ◌∙◌, rules, refl, sym, ap, subst}
-use Rattle.event_loop.specs.Lingerings.{AllTurned, lingers_in}
+use Rattle.event_loop.proofs.Words.{◌≡◌, ◌||◌, ◌∙◌, rules, refl, sym, ap, subst, AllTurned, lingers_in}
 use Rattle.event_loop.proofs.Turned.{all_turned, none_turned, one_turned}
 use Rattle.event_loop.proofs.lingering.Lingering.turn.Goals as goal
 use Rattle.event_loop.proofs.lingering.Lingering.turn.Goals.{then-is_told, else-is_told}

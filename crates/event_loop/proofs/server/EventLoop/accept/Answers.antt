@@ -1,5 +1,4 @@
-use Rattle.std.proofs.Common.{ap}
-use Rattle.event_loop.specs.Lingerings.{Lingerers}
+use Rattle.event_loop.proofs.Words.{ap, Lingerers}
 use Rattle.event_loop.proofs.Departing.{accepts_serve, closed_serves}
 use Rattle.event_loop.proofs.server.EventLoop.accept.Goals as goal
 

@@ -1,7 +1,4 @@
-use Rattle.std.proofs.Common.{◌∙◌, refl, sym, subst}
-use Rattle.mio.specs.Events.{items}
-use Rattle.event_loop.specs.Lingerings.{lingers_in}
-use Rattle.event_loop.specs.Turns.{Accepted}
+use Rattle.event_loop.proofs.Words.{◌∙◌, refl, sym, subst, items, lingers_in, Accepted}
 use Rattle.event_loop.proofs.OneTurn.{none_closed}
 use Rattle.event_loop.proofs.server.EventLoop.accept_told.Goals as goal
 

@@ -1,7 +1,5 @@
 use Rattle.std.proofs.Common.{rules}
-use Rattle.event_loop.proofs.Departing.{begins_serving}
-use Rattle.event_loop.proofs.Entries.{no_entry, nobody_entries}
-use Rattle.event_loop.proofs.Serving.{opened_nobody, opened_stands}
+use Rattle.event_loop.proofs.{Departing.begins_serving, Entries.no_entry, Entries.nobody_entries, Serving.opened_nobody, Serving.opened_stands}
 use Rattle.event_loop.proofs.server.EventLoop.bind.Goals as goal
 
 pub invariant_of-result : goal.invariant_of-result

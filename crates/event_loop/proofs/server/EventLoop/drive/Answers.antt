@@ -1,12 +1,7 @@
-use Rattle.std.proofs.Common.{ap, ◌∙◌}
-use Rattle.mio.specs.Events.{items}
-use Rattle.stream_driver.proofs.States.{leads_map, stands_after}
-use Rattle.event_loop.proofs.Departing.{drives_serve}
+use Rattle.event_loop.proofs.Words.{ap, ◌∙◌, items, leads_map, stands_after, after_poll, slot_at}
+use Rattle.event_loop.proofs.{Departing.drives_serve, Tables.below_after, TableBytes.drives_bytes}
 use Rattle.event_loop.specs.contracts.socket.SocketStream.TheImpl.{ghosts}
-use Rattle.event_loop.specs.Tables.{after_poll, slot_at}
-use Rattle.event_loop.proofs.Tables.{below_after}
 use Rattle.event_loop.proofs.Entries.{driven_entries, ended_entries, ended_remain, polled_entries, polled_remain, polled_sessions, remain_numbers, remain_sessions}
-use Rattle.event_loop.proofs.TableBytes.{drives_bytes}
 use Rattle.event_loop.proofs.server.EventLoop.drive.Goals as goal
 
 pub drive_ready-requires : goal.drive_ready-requires

@@ -1,10 +1,6 @@
 use denote.Struct.Props.{props}
-use Rattle.std.proofs.Common.{ap, subst, sym, ◌∙◌}
-use Rattle.sessions.proofs.EventSteps.{status_seen}
-use Rattle.stream_driver.proofs.States.{present_after, seen_after, stands_after}
-use Rattle.event_loop.proofs.Departing.{rest_serves}
-use Rattle.event_loop.proofs.WholeTurns.{leads_rest}
-use Rattle.event_loop.proofs.Words.{IsPresentIn, Point, status_at}
+use Rattle.event_loop.proofs.Words.{ap, subst, sym, ◌∙◌, status_seen, present_after, seen_after, stands_after, IsPresentIn, Point, status_at}
+use Rattle.event_loop.proofs.{Departing.rest_serves, WholeTurns.leads_rest}
 use Rattle.event_loop.proofs.server.EventLoop.give_back.Goals as goal
 
 pub invariant_of-self : goal.invariant_of-self

@@ -1,15 +1,8 @@
-use Rattle.std.proofs.Common.{◌≡◌, ◌∙◌, Err, refl, sym, ap}
+use Rattle.event_loop.proofs.Words.{◌≡◌, ◌∙◌, Err, refl, sym, ap, items, LINGERER, lingers_in, accepts_now, is_told_of}
 use Rattle.std.proofs.lemmas.Result.{err_from_is_err_and}
-use Rattle.mio.specs.Events.{items}
-use Rattle.event_loop.specs.declared.polling.Poller.{Poller}
-use Rattle.event_loop.specs.contracts.socket.SocketStream.TheImpl.{ghosts}
-use Rattle.event_loop.specs.declared.connections.TheConstants.{LINGERER}
-use Rattle.event_loop.specs.Lingerings.{lingers_in}
-use Rattle.event_loop.specs.Turns.{accepts_now, is_told_of}
-use Rattle.event_loop.specs.Waits.{nanos_of}
-use Rattle.event_loop.proofs.Departing.{is_served, turns_serve, keeps_what_leaves}
+use Rattle.event_loop.specs.{declared.polling.Poller.Poller, contracts.socket.SocketStream.TheImpl.ghosts, Waits.nanos_of}
+use Rattle.event_loop.proofs.{Departing.is_served, Departing.turns_serve, Departing.keeps_what_leaves, OneTurn.turned_by, OneTurn.wait_failed, OneTurn.wait_told}
 use Rattle.event_loop.proofs.WholeTurns.{accepts_keep, rest_keeps, rest_leads, then_accepts}
-use Rattle.event_loop.proofs.OneTurn.{turned_by, wait_failed, wait_told}
 use Rattle.event_loop.proofs.server.EventLoop.turn.Goals as goal
 
 pub invariant_of-self-4-clause-serving : goal.invariant_of-self-4-clause-serving

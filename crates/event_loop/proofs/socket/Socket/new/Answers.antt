@@ -1,6 +1,5 @@
-use Rattle.std.proofs.Common.{ap, [], map}
+use Rattle.event_loop.proofs.Words.{ap, [], map, departure_of}
 use Rattle.socket_calls.specs.OpenFacts.{latest}
-use Rattle.event_loop.specs.Sockets.{departure_of}
 use Rattle.event_loop.proofs.socket.Socket.new.Goals as goal
 
 pub returns : goal.returns

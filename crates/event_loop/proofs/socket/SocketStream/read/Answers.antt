@@ -1,5 +1,4 @@
-use Rattle.std.proofs.Common.{[], ap, refl}
-use Rattle.event_loop.specs.Sockets.{traffic_of}
+use Rattle.event_loop.proofs.Words.{[], ap, refl, traffic_of}
 use Rattle.event_loop.proofs.Socketing.{departed_read, given_read, taken_read}
 use Rattle.event_loop.proofs.socket.SocketStream.read.Goals as goal
 

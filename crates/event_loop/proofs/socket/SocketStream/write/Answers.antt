@@ -1,5 +1,4 @@
-use Rattle.std.proofs.Common.{[], ap, refl}
-use Rattle.event_loop.specs.Sockets.{traffic_of}
+use Rattle.event_loop.proofs.Words.{[], ap, refl, traffic_of}
 use Rattle.event_loop.proofs.Socketing.{departed_written, given_written, taken_written}
 use Rattle.event_loop.proofs.socket.SocketStream.write.Goals as goal
 

@@ -1,5 +1,4 @@
-use Rattle.std.proofs.Common.{◌≡◌, ap, ◌∙◌, ◌++◌, true, arith}
-use Rattle.last_readers.specs.Steps.{steps_rise, number_at}
+use Rattle.last_readers.proofs.Words.{◌≡◌, ap, ◌∙◌, ◌++◌, true, arith, steps_rise, number_at}
 use Rattle.last_readers.proofs.StepLaws.{renumbered_rises, renumbered_run, in_place_low}
 use Rattle.last_readers.proofs.run.ReadRun.numbered.Goals as goal
 

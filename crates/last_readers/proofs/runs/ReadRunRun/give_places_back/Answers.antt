@@ -1,6 +1,4 @@
-use Rattle.std.proofs.Common.{◌∷◌, [], arith, sym, ◌∙◌}
-use Rattle.std.proofs.lemmas.List.{nil_from_length}
-use Rattle.last_readers.specs.Readers.{cut, greatest_at}
+use Rattle.last_readers.proofs.Words.{◌∷◌, [], arith, sym, ◌∙◌, nil_from_length, cut, greatest_at}
 use Rattle.last_readers.proofs.runs.ReadRunRun.give_places_back.Goals as goal
 
 pub returns-clause-agree : goal.returns-clause-agree

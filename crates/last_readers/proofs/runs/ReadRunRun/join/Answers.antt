@@ -1,9 +1,5 @@
-use Rattle.std.proofs.Common.{length, ap, sym, ◌∙◌, arith}
-use Rattle.std.specs.VecDeque.{deque_len, deque_capacity}
-use Rattle.last_readers.specs.Readers.{cut}
-use Rattle.last_readers.specs.Steps.{steps_rise}
-use Rattle.last_readers.proofs.StepLaws.{rises_with, rises_right}
-use Rattle.last_readers.proofs.RunLaws.{joined_runs}
+use Rattle.last_readers.proofs.Words.{length, ap, sym, ◌∙◌, arith, deque_len, deque_capacity, cut, steps_rise}
+use Rattle.last_readers.proofs.{StepLaws.rises_with, StepLaws.rises_right, RunLaws.joined_runs}
 use Rattle.last_readers.proofs.runs.ReadRunRun.join.Goals as goal
 
 pub invariant_of-self : goal.invariant_of-self

@@ -1,5 +1,4 @@
-use Rattle.std.proofs.Common.{◌∙◌, ap}
-use Rattle.model.specs.Map.{KeyWrite, key_cmp}
+use Rattle.latest_writes.proofs.Words.{◌∙◌, ap, KeyWrite, key_cmp}
 use Rattle.latest_writes.proofs.Ordered.{by_first, by_next}
 use Rattle.latest_writes.proofs.entries.Entry.order.Goals as goal
 

@@ -1,8 +1,6 @@
-use Rattle.std.proofs.Common.{◌≡◌, ℕ, ◌+◌, ◌-◌, ◌^◌, min, subst, ap, ◌∙◌}
+use Rattle.latest_writes.proofs.Words.{◌≡◌, ℕ, ◌+◌, ◌-◌, ◌^◌, min, subst, ap, ◌∙◌, KeyMap}
 use Rattle.std.specs.Prelude.{IfOk}
-use Rattle.model.specs.Map.{KeyMap}
-use Rattle.latest_writes.proofs.Stable.{pushed}
-use Rattle.latest_writes.proofs.Holding.{held_more}
+use Rattle.latest_writes.proofs.{Stable.pushed, Holding.held_more}
 use Rattle.latest_writes.proofs.latest.LatestWrites.write.Goals as goal
 
 pub returns-then-weight-limit : goal.returns-then-weight-limit

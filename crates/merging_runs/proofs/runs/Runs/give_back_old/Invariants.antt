@@ -1,6 +1,4 @@
-use Rattle.std.proofs.Common.{◌≡◌, ◌≤◌, ◌<◌, ◌+◌}
-use Rattle.merging_runs.specs.Held.{due_upto}
-use Rattle.merging_runs.specs.RunSizes.{left_above}
+use Rattle.merging_runs.proofs.Words.{◌≡◌, ◌≤◌, ◌<◌, ◌+◌, due_upto, left_above}
 use Rattle.merging_runs.proofs.runs.Runs.give_back_old.Given as goal
 
 abbrev pub invariant-runs : goal.invariant-runs

@@ -1,6 +1,5 @@
-use Rattle.std.proofs.lemmas.{Grind.common_steps, Fn.always_returns_same}
-use Rattle.std.proofs.Common.{arith, rules}
-use Rattle.model.specs.Map.{key_cmp}
+use Rattle.model.proofs.Words.{common_steps, arith, rules, key_cmp}
+use Rattle.std.proofs.lemmas.Fn.{always_returns_same}
 use Rattle.model.proofs.Entries.{searched, gap_behind}
 use Rattle.model.proofs.maps.Map.search.Goals as goal
 

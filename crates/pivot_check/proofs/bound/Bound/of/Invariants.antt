@@ -1,5 +1,4 @@
-use Rattle.std.proofs.Common.{◌≡◌, true, take}
-use Rattle.pivot_check.specs.Bounds.{are_from_bound}
+use Rattle.pivot_check.proofs.Words.{◌≡◌, true, take, are_from_bound}
 use Rattle.pivot_check.proofs.bound.Bound.of.Given as goal
 
 abbrev pub invariant-loop-posting : goal.invariant-loop-posting

@@ -1,8 +1,4 @@
-use Rattle.std.proofs.Common.{◌≡◌, ℕ, List, drop, length, sym, ap, subst, ◌∙◌}
-use Rattle.std.specs.Prelude.{IsPermutation}
-use Rattle.std.proofs.lemmas.List.{take_at}
-use Rattle.marks.specs.Marked.{marks_of}
-use Rattle.pivot_check.specs.Places.{places_upto, AreAllPlaces}
+use Rattle.pivot_check.proofs.Words.{◌≡◌, ℕ, List, drop, length, sym, ap, subst, ◌∙◌, IsPermutation, take_at, marks_of, places_upto, AreAllPlaces}
 use Rattle.pivot_check.proofs.PlacedMarks.{in_any_order}
 use Rattle.pivot_check.proofs.by_start.ByStart.of.Goals as goal
 

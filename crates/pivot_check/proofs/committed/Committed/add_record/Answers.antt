@@ -1,10 +1,5 @@
-use Rattle.std.proofs.Common.{◌≡◌, ◌+◌, Bool, sym, ap, subst, arith}
-use Rattle.last_readers.specs.Readers.{last_reader, IsNoted, HasRoom as HasReadersRoom, ReadersRoom}
-use Rattle.pivot_check.specs.Kept.{CommittedValue, keys_of}
-use Rattle.pivot_check.specs.Postings.{Posting, postings_by, least, lesser}
-use Rattle.pivot_check.specs.Inside.{postings_in}
-use Rattle.pivot_check.proofs.Judging.{notes, nothing, upto_own}
-use Rattle.pivot_check.proofs.LastSources.{noted_upto, noted_above}
+use Rattle.pivot_check.proofs.Words.{◌≡◌, ◌+◌, Bool, sym, ap, subst, arith, last_reader, IsNoted, HasRoom as HasReadersRoom, ReadersRoom, CommittedValue, keys_of, Posting, postings_by, least, lesser, postings_in}
+use Rattle.pivot_check.proofs.{Judging.notes, Judging.nothing, Judging.upto_own, LastSources.noted_upto, LastSources.noted_above}
 use Rattle.pivot_check.proofs.committed.Committed.add_record.Goals as goal
 
 -- what was made ready has the keys of the transaction

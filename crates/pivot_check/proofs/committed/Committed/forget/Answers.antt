@@ -1,11 +1,5 @@
-use Rattle.std.proofs.Common.{sym, subst, arith}
-use Rattle.model.specs.Map.{Bytes}
-use Rattle.last_readers.specs.Readers.{last_reader}
-use Rattle.pivot_check.specs.Kept.{Facts, CommittedValue}
-use Rattle.pivot_check.specs.Inside.{postings_in}
-use Rattle.pivot_check.specs.StandsFor.{StandsFor}
-use Rattle.pivot_check.proofs.Judging.{forgotten}
-use Rattle.pivot_check.proofs.LastSources.{cut_later}
+use Rattle.pivot_check.proofs.Words.{sym, subst, arith, Bytes, last_reader, Facts, CommittedValue, postings_in, StandsFor}
+use Rattle.pivot_check.proofs.{Judging.forgotten, LastSources.cut_later}
 use Rattle.pivot_check.proofs.committed.Committed.forget.Goals as goal
 
 pub returns-clause-stands_for : goal.returns-clause-stands_for

@@ -1,7 +1,4 @@
-use Rattle.std.proofs.Common.{subst, sym}
-use Rattle.pivot_check.specs.Inside.{postings_in}
-use Rattle.pivot_check.specs.Kept.{CommittedValue, Facts}
-use Rattle.pivot_check.specs.StandsFor.{StandsFor}
+use Rattle.pivot_check.proofs.Words.{subst, sym, postings_in, CommittedValue, Facts, StandsFor}
 use Rattle.pivot_check.proofs.Judging.{shortened}
 use Rattle.pivot_check.proofs.committed.Committed.merge.Goals as goal
 

@@ -1,7 +1,4 @@
-use Rattle.std.proofs.Common.{ap, ◌∙◌}
-use Rattle.std.specs.List.{position}
-use Rattle.pivot_check.specs.Kept.{CommittedValue}
-use Rattle.pivot_check.specs.Inside.{postings_in}
+use Rattle.pivot_check.proofs.Words.{ap, ◌∙◌, position, CommittedValue, postings_in}
 use Rattle.pivot_check.specs.Index.{is_written_since}
 use Rattle.pivot_check.proofs.Judging.{says_overwritten, says_found}
 use Rattle.pivot_check.proofs.committed.Committed.verdict.Goals as goal

@@ -1,7 +1,5 @@
-use Rattle.std.proofs.Common.{◌≡◌, ◌+◌, sym, ◌∙◌, arith}
-use Rattle.std.specs.Prelude.{nat_lt, ◌&&◌}
-use Rattle.pivot_check.specs.Parts.{left}
-use Rattle.pivot_check.specs.Postings.{Posting}
+use Rattle.pivot_check.proofs.Words.{◌≡◌, ◌+◌, sym, ◌∙◌, arith, nat_lt, left, Posting}
+use Rattle.std.specs.Prelude.{◌&&◌}
 use Rattle.pivot_check.proofs.Joined.{at_rest, same_agrees}
 use Rattle.pivot_check.proofs.merges.WrittenRunRun.give_places_back.Goals as goal
 

@@ -1,9 +1,6 @@
-use Rattle.std.proofs.Common.{◌≡◌, ◌++◌, ℕ, true, length, subst, sym, ap, ◌∙◌, arith}
-use Rattle.std.specs.Prelude.{nat_lt, ◌&&◌}
+use Rattle.pivot_check.proofs.Words.{◌≡◌, ◌++◌, ℕ, true, length, subst, sym, ap, ◌∙◌, arith, nat_lt, Posting, keys_rise, are_upto, live, left, live_in, in_run}
+use Rattle.std.specs.Prelude.{◌&&◌}
 use Rattle.std.specs.Vec.{vec_capacity}
-use Rattle.pivot_check.specs.Postings.{Posting, keys_rise, are_upto}
-use Rattle.pivot_check.specs.Parts.{live, left, live_in}
-use Rattle.pivot_check.specs.Inside.{in_run}
 use Rattle.pivot_check.proofs.Joined.{both_agree, joined, both_upto, none_left}
 use Rattle.pivot_check.proofs.merges.WrittenRunRun.join.Goals as goal
 

@@ -1,6 +1,4 @@
-use Rattle.std.proofs.Common.{◌≤◌, ◌-◌, ◌*◌, length, take, drop, length-drop, ap, sym, ◌∙◌, arith}
-use Rattle.std.proofs.lemmas.List.{take_all, take_rest}
-use Rattle.pivot_check.specs.Bounds.{are_from_bound}
+use Rattle.pivot_check.proofs.Words.{◌≤◌, ◌-◌, ◌*◌, length, take, drop, length-drop, ap, sym, ◌∙◌, arith, take_all, take_rest, are_from_bound}
 use Rattle.pivot_check.proofs.Passing.{next_bound}
 use Rattle.pivot_check.proofs.part.Part.add_bound.Goals as goal
 

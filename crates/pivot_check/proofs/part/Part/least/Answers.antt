@@ -1,7 +1,4 @@
-use Rattle.std.proofs.Common.{drop}
-use Rattle.marks.specs.Lent.{lent_mark}
-use Rattle.std.proofs.lemmas.Bool.{and_parts}
-use Rattle.pivot_check.specs.Postings.{asked_of}
+use Rattle.pivot_check.proofs.Words.{drop, lent_mark, and_parts, asked_of}
 use Rattle.pivot_check.proofs.Passing.{passed_over, all_left}
 use Rattle.pivot_check.proofs.part.Part.least.Goals as goal
 

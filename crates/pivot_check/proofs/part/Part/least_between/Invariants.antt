@@ -1,6 +1,4 @@
-use Rattle.std.proofs.Common.{◌≡◌, ◌*◌}
-use Rattle.std.specs.Prelude.{max}
-use Rattle.pivot_check.specs.Postings.{least, lesser, is_asked, between}
+use Rattle.pivot_check.proofs.Words.{◌≡◌, ◌*◌, max, least, lesser, is_asked, between}
 use Rattle.pivot_check.proofs.part.Part.least_between.Given as goal
 
 -- what was found and what is left of the postings decide

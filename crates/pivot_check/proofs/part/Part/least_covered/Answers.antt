@@ -1,10 +1,5 @@
-use Rattle.std.proofs.Common.{drop, arith, ◌∙◌, ap}
-use Rattle.marks.specs.Marked.{marks_of}
-use Rattle.std.proofs.lemmas.Bool.{and_parts}
-use Rattle.pivot_check.specs.Postings.{least, lesser, covered_of}
-use Rattle.pivot_check.specs.Places.{covered_at}
-use Rattle.pivot_check.proofs.Passing.{passed_over, all_left}
-use Rattle.pivot_check.proofs.PlacedMarks.{next_place, no_place_left, all_places}
+use Rattle.pivot_check.proofs.Words.{drop, arith, ◌∙◌, ap, marks_of, and_parts, least, lesser, covered_of, covered_at}
+use Rattle.pivot_check.proofs.{Passing.passed_over, Passing.all_left, PlacedMarks.next_place, PlacedMarks.no_place_left, PlacedMarks.all_places}
 use Rattle.pivot_check.proofs.part.Part.least_covered.Goals as goal
 
 pub returns-then-not-may_lower : goal.returns-then-not-may_lower

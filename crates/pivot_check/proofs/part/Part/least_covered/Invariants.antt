@@ -1,8 +1,4 @@
-use Rattle.std.proofs.Common.{◌≡◌, drop}
-use Rattle.marks.specs.Marked.{marks_of}
-use Rattle.pivot_check.specs.Postings.{least, lesser}
-use Rattle.pivot_check.specs.Bounds.{IsLooked}
-use Rattle.pivot_check.specs.Places.{covered_at}
+use Rattle.pivot_check.proofs.Words.{◌≡◌, drop, marks_of, least, lesser, IsLooked, covered_at}
 use Rattle.pivot_check.proofs.part.Part.least_covered.Given as goal
 
 -- what was found and the marks at the places that are left decide

@@ -1,5 +1,4 @@
-use Rattle.std.proofs.Common.{◌*◌}
-use Rattle.pivot_check.specs.Postings.{is_asked, between}
+use Rattle.pivot_check.proofs.Words.{◌*◌, is_asked, between}
 use Rattle.pivot_check.proofs.Passing.{passed_over, kept_part}
 use Rattle.pivot_check.proofs.part.Part.least_in.Goals as goal
 

@@ -1,6 +1,4 @@
-use Rattle.std.proofs.Common.{drop, arith}
-use Rattle.std.proofs.lemmas.Bool.Decides.{nat_tests}
-use Rattle.pivot_check.specs.Agreeing.{lesser_none}
+use Rattle.pivot_check.proofs.Words.{drop, arith, nat_tests, lesser_none}
 use Rattle.pivot_check.proofs.PlacedMarks.{asked_at, asked_past}
 use Rattle.pivot_check.proofs.part.Part.look_at.Goals as goal
 

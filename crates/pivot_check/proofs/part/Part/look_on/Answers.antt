@@ -1,5 +1,4 @@
-use Rattle.std.proofs.Common.{arith}
-use Rattle.pivot_check.specs.Postings.{between}
+use Rattle.pivot_check.proofs.Words.{arith, between}
 use Rattle.pivot_check.proofs.Looking.{looked_before, looked_anew, looked_further, looked_joined}
 use Rattle.pivot_check.proofs.part.Part.look_on.Goals as goal
 

@@ -1,9 +1,5 @@
-use Rattle.std.proofs.Common.{◌<◌, ◌∙◌, ◌*◌, List, length, get_or, ap, sym, take, drop}
-use Rattle.std.specs.Prelude.{nat_lt}
-use Rattle.std.proofs.lemmas.Bool.{ltb-true}
-use Rattle.model.proofs.Elements.{all-take}
+use Rattle.pivot_check.proofs.Words.{◌<◌, ◌∙◌, ◌*◌, List, length, get_or, ap, sym, take, drop, nat_lt, ltb-true, all-take, are_from_bound}
 use Rattle.pivot_check.specs.declared.bound.Bound.{Bound}
-use Rattle.pivot_check.specs.Bounds.{are_from_bound}
 use Rattle.pivot_check.proofs.Passing.{kept, upto_last, all_left}
 use Rattle.pivot_check.proofs.part.Part.may_lower_in.Goals as goal
 

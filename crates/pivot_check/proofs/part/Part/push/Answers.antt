@@ -1,7 +1,4 @@
-use Rattle.std.proofs.Common.{[], ◌∷◌, drop, length, ap, sym, subst, ◌∙◌, arith}
-use Rattle.std.proofs.lemmas.List.{drop-append-le, length_push}
-use Rattle.pivot_check.specs.Postings.{keys_rise}
-use Rattle.pivot_check.specs.Bounds.{are_from_bound, AreBounds}
+use Rattle.pivot_check.proofs.Words.{[], ◌∷◌, drop, length, ap, sym, subst, ◌∙◌, arith, drop-append-le, length_push, keys_rise, are_from_bound, AreBounds}
 use Rattle.pivot_check.proofs.Passing.{bounds_stay, more_from, pushed_from}
 use Rattle.pivot_check.proofs.part.Part.push.Goals as goal
 

@@ -1,7 +1,4 @@
-use Rattle.std.proofs.Common.{◌<◌, [], ◌∙◌, ap, get_or, length, sym, subst, arith}
-use Rattle.std.proofs.lemmas.List.{get_or-map, length-map}
-use Rattle.std.proofs.lemmas.List.Elements.{All-get_or}
-use Rattle.model.specs.Grammar.{IsPart}
+use Rattle.resp.proofs.Words.{◌<◌, [], ◌∙◌, ap, get_or, length, sym, subst, arith, get_or-map, length-map, All-get_or, IsPart}
 use Rattle.resp.proofs.Lent.{lent}
 use Rattle.resp.proofs.parts.Request.part.Goals as goal
 

@@ -1,5 +1,4 @@
-use Rattle.std.proofs.Common.{◌∙◌, sym}
-use Rattle.std.proofs.lemmas.List.{take-map}
+use Rattle.resp.proofs.Words.{◌∙◌, sym, take-map}
 use Rattle.resp.proofs.Lent.{lent}
 use Rattle.resp.proofs.parts.Request.parts.Goals as goal
 

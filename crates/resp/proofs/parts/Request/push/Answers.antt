@@ -1,6 +1,4 @@
-use Rattle.std.proofs.Common.{◌<◌, ◌++◌, ◌∷◌, [], List, ℕ, length, take, map, ap, ◌∙◌, sym, subst, arith}
-use Rattle.std.proofs.lemmas.List.{length-take, length-map}
-use Rattle.model.specs.Grammar.{IsRequest}
+use Rattle.resp.proofs.Words.{◌<◌, ◌++◌, ◌∷◌, [], List, ℕ, length, take, map, ap, ◌∙◌, sym, subst, arith, length-take, length-map, IsRequest}
 use Rattle.resp.proofs.Lent.{lent, lent_more, request_more}
 use Rattle.resp.proofs.parts.Request.push.Goals as goal
 

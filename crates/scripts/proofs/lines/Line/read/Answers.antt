@@ -1,6 +1,5 @@
 use Rattle.std.proofs.Common.{[], ◌∷◌, length, take, drop, ◌-◌}
-use Rattle.std.proofs.lemmas.Bool.Decides.{Decides-eqb}
-use Rattle.std.proofs.lemmas.Slice.Eq.{starts_is, ends_is}
+use Rattle.std.proofs.{lemmas.Bool.Decides.Decides-eqb, lemmas.Slice.Eq.starts_is, lemmas.Slice.Eq.ends_is}
 use Rattle.scripts.proofs.lines.Line.read.Goals as goal
 use Rattle.scripts.proofs.lines.Line.read.Goals.{then-starts_with-via-then-starts_with, then-starts_with-via-else-starts_with+then-ends_with}
 

@@ -1,5 +1,4 @@
-use Rattle.std.proofs.Common.{◌<◌, ◌++◌, ◌∷◌, [], List, ℕ, length, ap, ◌∙◌, arith}
-use Rattle.resp.proofs.Lent.{lent_more}
+use Rattle.scripts.proofs.Words.{◌<◌, ◌++◌, ◌∷◌, [], List, ℕ, length, ap, ◌∙◌, arith, lent_more}
 use Rattle.scripts.proofs.lines.Words.add.Goals as goal
 
 pub returns-clause-added : goal.returns-clause-added

@@ -1,5 +1,4 @@
-use Rattle.std.proofs.Common.{length, ap, sym, ◌∙◌, rules}
-use Rattle.std.specs.Prelude.{not}
+use Rattle.scripts.proofs.Words.{length, ap, sym, ◌∙◌, rules, not}
 use Rattle.std.specs.Slice.Iter.{split_rest, split_done, split_callee}
 use Rattle.scripts.proofs.Pieces.{words_more, words_all}
 use Rattle.scripts.proofs.lines.Words.of.Goals as goal

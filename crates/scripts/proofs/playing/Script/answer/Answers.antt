@@ -1,19 +1,7 @@
-use Rattle.std.proofs.Common.{◌≡◌, ℕ, [], refl, sym, ap, subst, ◌∙◌, length, false, ◌++◌, rules}
-use Rattle.std.specs.Prelude.{IsErrAnd}
-use Rattle.std.specs.Io.KnownBytes.{Appends}
-use Rattle.model.specs.Map.{Bytes}
-use Rattle.sessions.specs.declared.events.Status.{Status}
-use Rattle.sessions.specs.declared.events.Status.TheVariants.{Open}
-use Rattle.sessions.specs.SessionStreams.{HubState, Serves, Sends, More, hub_step, stream_of}
-use Rattle.sessions.specs.StandsFor.{StandsFor, status_in}
+use Rattle.scripts.proofs.Words.{◌≡◌, ℕ, [], refl, sym, ap, subst, ◌∙◌, length, false, ◌++◌, rules, IsErrAnd, Appends, Bytes, HubState, Serves, Sends, More, hub_step, stream_of, StandsFor, status_in, reached, ScriptLine, frame_of, printed_line, Scene, granted, after, received, PrintsIn, Served, File, Memory}
+use Rattle.sessions.specs.{declared.events.Status.Status, declared.events.Status.TheVariants.Open}
 use Rattle.sessions.proofs.EventSteps.{pending_seen, status_seen}
-use Rattle.sessions.proofs.Reached.{reached}
-use Rattle.scripts.specs.Lines.{ScriptLine, frame_of, printed_line}
-use Rattle.scripts.specs.Transcript.{Scene, granted, after, received, PrintsIn}
-use Rattle.scripts.specs.Calls.{Served}
-use Rattle.scripts.specs.declared.faults.ScriptFault.TheVariants.{File, Memory}
-use Rattle.scripts.proofs.Runs.{err_is}
-use Rattle.scripts.proofs.Steps.{sends_alike}
+use Rattle.scripts.proofs.{Runs.err_is, Steps.sends_alike}
 use Rattle.scripts.proofs.playing.Script.answer.Goals as goal
 
 -- where the session is not open nothing is printed

@@ -1,10 +1,4 @@
-use Rattle.std.proofs.Common.{◌≡◌, ◌+◌, Option, Ok, Err, true, false, sym, subst}
-use Rattle.std.specs.Prelude.{IfSome}
-use Rattle.model.specs.Map.{Bytes}
-use Rattle.scripts.specs.Lines.{lines_of}
-use Rattle.scripts.specs.declared.faults.ScriptFault.TheVariants.{File}
-use Rattle.scripts.specs.Transcript.{Plays}
-use Rattle.scripts.specs.Calls.{ReadsLine, Runs, RunSoFar}
+use Rattle.scripts.proofs.Words.{◌≡◌, ◌+◌, Option, Ok, Err, true, false, sym, subst, IfSome, Bytes, lines_of, File, Plays, ReadsLine, Runs, RunSoFar}
 use Rattle.scripts.proofs.Runs.{lift, err_is, run_none, run_ends, run_more, run_stops, run_unread}
 use Rattle.scripts.proofs.playing.Script.play_lines.Goals as goal
 

@@ -1,7 +1,4 @@
-use Rattle.std.specs.Prelude.{IfSome}
-use Rattle.scripts.specs.Lines.{lines_of}
-use Rattle.scripts.specs.Transcript.{Scene}
-use Rattle.scripts.specs.Calls.{IsAt, RunSoFar}
+use Rattle.scripts.proofs.Words.{IfSome, lines_of, Scene, IsAt, RunSoFar}
 use Rattle.scripts.proofs.playing.Script.play_lines.Given as goal
 
 -- the lines so far were run

@@ -1,8 +1,4 @@
-use Rattle.std.proofs.Common.{◌≡◌, ◌≢◌, true, false, [], length, Some, Err, refl, sym, ap, subst, ◌∙◌}
-use Rattle.std.specs.Prelude.{◌==◌, IsErrAnd}
-use Rattle.scripts.specs.declared.faults.ScriptFault.TheVariants.{Memory}
-use Rattle.scripts.specs.Transcript.{Scene, with_label, IsCrowded}
-use Rattle.scripts.specs.Calls.{Finds, RunsLine}
+use Rattle.scripts.proofs.Words.{◌≡◌, ◌≢◌, true, false, [], length, Some, Err, refl, sym, ap, subst, ◌∙◌, ◌==◌, IsErrAnd, Memory, Scene, with_label, IsCrowded, Finds, RunsLine}
 use Rattle.scripts.proofs.Runs.{err_is, text_runs}
 use Rattle.scripts.proofs.playing.Script.play_text.Goals as goal
 

@@ -1,15 +1,8 @@
-use Rattle.std.proofs.Common.{◌≡◌, ◌≤◌, ◌∷◌, [], ◌++◌, length, false, Some, None, refl, sym, ap, subst, ◌∙◌, arith}
+use Rattle.scripts.proofs.Words.{◌≡◌, ◌≤◌, ◌∷◌, [], ◌++◌, length, false, Some, None, refl, sym, ap, subst, ◌∙◌, arith, Joins, hub_step, StandsFor, reached, place_of, after, IsAt, Memory}
 use Rattle.sessions.specs.Calls.{is_memory}
 use Rattle.scripts.specs.declared.playing.Script.{Script}
-use Rattle.sessions.specs.SessionStreams.{Joins, hub_step}
-use Rattle.sessions.specs.StandsFor.{StandsFor}
-use Rattle.sessions.proofs.Reached.{reached}
-use Rattle.scripts.specs.Transcript.{place_of, after}
-use Rattle.scripts.specs.Calls.{IsAt}
-use Rattle.scripts.proofs.Steps.{joins_alike}
+use Rattle.scripts.proofs.{Steps.joins_alike, Runs.err_is}
 use Rattle.scripts.proofs.Labels.{known_session, known_not_crowded, known_scene, fresh_session, fresh_scene}
-use Rattle.scripts.specs.declared.faults.ScriptFault.TheVariants.{Memory}
-use Rattle.scripts.proofs.Runs.{err_is}
 use Rattle.scripts.proofs.playing.Script.session.Goals as goal
 
 pub returns-in-Some : goal.returns-in-Some

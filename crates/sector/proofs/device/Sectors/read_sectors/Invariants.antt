@@ -1,6 +1,5 @@
-use Rattle.std.proofs.Common.{◌≡◌, ◌<◌, ◌+◌, ℕ, List}
+use Rattle.sector.proofs.Words.{◌≡◌, ◌<◌, ◌+◌, ℕ, List, Elapses, sector_in}
 use Rattle.sector.specs.Failures.{StayedOver}
-use Rattle.sector.specs.SectorModel.{Elapses, sector_in}
 use Rattle.sector.proofs.device.Sectors.read_sectors.Given as goal
 
 abbrev pub invariant-loop-k : goal.invariant-loop-k

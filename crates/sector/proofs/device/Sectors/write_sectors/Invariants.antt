@@ -1,6 +1,5 @@
-use Rattle.std.proofs.Common.{◌≡◌, ◌<◌, ◌+◌, ◌/◌, ℕ, List, length}
+use Rattle.sector.proofs.Words.{◌≡◌, ◌<◌, ◌+◌, ◌/◌, ℕ, List, length, Elapses, FollowsWrites, IsOutside, sector_in}
 use Rattle.sector.specs.Failures.{StayedOver}
-use Rattle.sector.specs.SectorModel.{Elapses, FollowsWrites, IsOutside, sector_in}
 use Rattle.sector.proofs.device.Sectors.write_sectors.Given as goal
 
 abbrev pub invariant-loop-k : goal.invariant-loop-k

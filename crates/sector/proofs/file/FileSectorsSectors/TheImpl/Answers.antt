@@ -1,9 +1,6 @@
-use Rattle.std.proofs.Common.{rules, arith, ℕ, List, ◌≡◌, true, length, Bool, add-zero, subst, sym, ◌∙◌}
-use Rattle.std.proofs.lemmas.Grind.{common_steps}
-use Rattle.file_calls.specs.OpenFacts.{may_read, may_leave, next}
-use Rattle.file_calls.specs.declared.counted.CountedFile.{CountedFile}
+use Rattle.sector.proofs.Words.{rules, arith, ℕ, List, ◌≡◌, true, length, Bool, add-zero, subst, sym, ◌∙◌, common_steps, FollowsWrite}
+use Rattle.file_calls.specs.{OpenFacts.may_read, OpenFacts.may_leave, OpenFacts.next, declared.counted.CountedFile.CountedFile}
 use Rattle.sector.specs.FileModel.{FileKeepsModel, ReadKeeps, WriteKeeps}
-use Rattle.sector.specs.SectorModel.{FollowsWrite}
 use Rattle.sector.proofs.OneSector.{sole_sector, one_write}
 use Rattle.sector.proofs.file.FileSectorsSectors.TheImpl.Goals as goal
 

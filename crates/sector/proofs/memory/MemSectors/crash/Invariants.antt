@@ -1,6 +1,5 @@
-use Rattle.std.proofs.Common.{◌≡◌, ◌<◌, ◌≤◌, ℕ, length, get_or, IfSome}
+use Rattle.sector.proofs.Words.{◌≡◌, ◌<◌, ◌≤◌, ℕ, length, get_or, IfSome, IsLeft}
 use Rattle.sector.specs.declared.memory.Slot.{Slot}
-use Rattle.sector.specs.Slots.{IsLeft}
 use Rattle.sector.proofs.memory.MemSectors.crash.Given as goal
 
 abbrev pub invariant-loop-i : goal.invariant-loop-i

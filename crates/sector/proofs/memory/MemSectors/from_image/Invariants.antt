@@ -1,6 +1,5 @@
-use Rattle.std.proofs.Common.{◌≡◌, ◌++◌, ◌%◌, length, All}
+use Rattle.sector.proofs.Words.{◌≡◌, ◌++◌, ◌%◌, length, All, written, IsSettledSlot}
 use Rattle.std.specs.List.{concat}
-use Rattle.sector.specs.Slots.{written, IsSettledSlot}
 use Rattle.sector.proofs.memory.MemSectors.from_image.Given as goal
 
 abbrev pub invariant-loop-rest : goal.invariant-loop-rest

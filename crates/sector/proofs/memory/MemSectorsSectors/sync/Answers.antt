@@ -1,5 +1,4 @@
-use Rattle.std.proofs.Common.{◌≡◌, ◌∙◌, All, ap, arith, map}
-use Rattle.sector.specs.Slots.{written, settled_slot, IsSettledSlot}
+use Rattle.sector.proofs.Words.{◌≡◌, ◌∙◌, All, ap, arith, map, written, settled_slot, IsSettledSlot}
 use Rattle.sector.proofs.Slots.{settles, fewer, written-settled, all_settled}
 use Rattle.sector.proofs.memory.MemSectorsSectors.sync.Goals as goal
 

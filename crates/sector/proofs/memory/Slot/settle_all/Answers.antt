@@ -1,6 +1,5 @@
-use Rattle.std.proofs.Common.{◌≡◌, ◌∙◌, sym, arith}
+use Rattle.sector.proofs.Words.{◌≡◌, ◌∙◌, sym, arith, settled_slot}
 use Rattle.std.proofs.lemmas.List.Edits.{map_over_more}
-use Rattle.sector.specs.Slots.{settled_slot}
 use Rattle.sector.proofs.Slots.{settled-front, settled-back}
 use Rattle.sector.proofs.memory.Slot.settle_all.Goals as goal
 

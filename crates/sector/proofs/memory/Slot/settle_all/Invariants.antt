@@ -1,5 +1,4 @@
-use Rattle.std.proofs.Common.{◌≡◌, ◌++◌, map, take, drop}
-use Rattle.sector.specs.Slots.{settled_slot}
+use Rattle.sector.proofs.Words.{◌≡◌, ◌++◌, map, take, drop, settled_slot}
 use Rattle.sector.proofs.memory.Slot.settle_all.Given as goal
 
 abbrev pub invariant-loop-i : goal.invariant-loop-i

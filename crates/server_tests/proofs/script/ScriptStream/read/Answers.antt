@@ -1,9 +1,8 @@
 use Rattle.std.proofs.Common.{◌≤◌, ◌+◌, ◌++◌, ◌∙◌, ap, take, drop, length, arith, [], refl, subst}
 use Rattle.std.proofs.lemmas.Grind.{common_steps}
 use Rattle.server_tests.proofs.Copies.{copied_more}
-use Rattle.stream_driver.specs.declared.answers.Call.TheVariants.{Read}
+use Rattle.stream_driver.specs.{declared.answers.Call.TheVariants.Read, Counts.Notes}
 use Rattle.stream_driver.specs.declared.answers.ReadAnswer.TheVariants.{Moved, Blocked, Failed, Ended}
-use Rattle.stream_driver.specs.Counts.{Notes}
 use Rattle.server_tests.proofs.script.ScriptStream.read.Goals as goal
 
 pub returns-clause-given : goal.returns-clause-given

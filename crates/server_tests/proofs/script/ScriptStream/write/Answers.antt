@@ -1,7 +1,6 @@
 use Rattle.std.proofs.Common.{ap, [], refl, subst}
-use Rattle.stream_driver.specs.declared.answers.Call.TheVariants.{Write}
+use Rattle.stream_driver.specs.{declared.answers.Call.TheVariants.Write, Counts.Notes}
 use Rattle.stream_driver.specs.declared.answers.WriteAnswer.TheVariants.{Moved, Blocked, Failed}
-use Rattle.stream_driver.specs.Counts.{Notes}
 use Rattle.server_tests.proofs.script.ScriptStream.write.Goals as goal
 
 pub returns-in-Some-Blocked-clause-answered : goal.returns-in-Some-Blocked-clause-answered

@@ -1,8 +1,4 @@
-use Rattle.std.proofs.Common.{◌≡◌, length, refl, ap, ◌∙◌, arith, nat_cmp, nat_le, true, false, le-leb}
-use Rattle.std.proofs.lemmas.Bool.{lt-leb}
-use Rattle.std.specs.BTreeMap.{insert_entry}
-use Rattle.sessions.specs.SessionStreams.{hub_step, More, new_stream}
-use Rattle.sessions.specs.StandsFor.{at_hand}
+use Rattle.sessions.proofs.Words.{◌≡◌, length, refl, ap, ◌∙◌, arith, nat_cmp, nat_le, true, false, le-leb, lt-leb, insert_entry, hub_step, More, new_stream, at_hand}
 use Rattle.sessions.proofs.EventSteps.{leads, how_many, insert-at_hand}
 use Rattle.sessions.proofs.hub.Hub.join.Goals as goal
 

@@ -1,6 +1,4 @@
-use Rattle.std.proofs.Common.{refl, ap, ◌∙◌}
-use Rattle.std.specs.Map.{remove_entry}
-use Rattle.sessions.specs.SessionStreams.{hub_step, More}
+use Rattle.sessions.proofs.Words.{refl, ap, ◌∙◌, remove_entry, hub_step, More}
 use Rattle.sessions.proofs.EventSteps.{leads, stream-some, stream-none, remove-at_hand}
 use Rattle.sessions.proofs.hub.Hub.left.Goals as goal
 

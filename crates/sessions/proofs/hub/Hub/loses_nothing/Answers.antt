@@ -1,5 +1,4 @@
-use Rattle.sessions.proofs.LivesLaws.{keeps_answered}
-use Rattle.sessions.proofs.Runs.{loses_nothing}
+use Rattle.sessions.proofs.{LivesLaws.keeps_answered, Runs.loses_nothing}
 use Rattle.sessions.proofs.hub.Hub.loses_nothing.Goals as goal
 
 pub returns-clause-crash : goal.returns-clause-crash

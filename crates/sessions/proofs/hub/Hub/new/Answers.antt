@@ -1,5 +1,4 @@
-use Rattle.std.proofs.Common.{refl}
-use Rattle.sessions.specs.SessionStreams.{Begun}
+use Rattle.sessions.proofs.Words.{refl, Begun}
 use Rattle.sessions.proofs.hub.Hub.new.Goals as goal
 
 pub returns-clause-stands : goal.returns-clause-stands

@@ -1,10 +1,5 @@
-use Rattle.std.proofs.Common.{◌+◌, sym, subst}
-use Rattle.sector.specs.SectorModel.{LeavesOnly}
-use Rattle.model.specs.Map.{KeyMap}
-use Rattle.model.specs.Machine.{opened}
+use Rattle.sessions.proofs.Words.{◌+◌, sym, subst, LeavesOnly, KeyMap, opened, hub_over, StandsFor}
 use Rattle.commit_log.specs.LogImage.{span}
-use Rattle.sessions.specs.SessionStreams.{hub_over}
-use Rattle.sessions.specs.StandsFor.{StandsFor}
 use Rattle.sessions.proofs.hub.Hub.open.Goals as goal
 
 pub returns-in-Ok-clause-begins : goal.returns-in-Ok-clause-begins

@@ -1,6 +1,5 @@
-use Rattle.std.proofs.Common.{◌≡◌, length, nat_lt, refl, sym, ◌∙◌, arith, true, false, lt-ltb, le-ltb}
+use Rattle.sessions.proofs.Words.{◌≡◌, length, nat_lt, refl, sym, ◌∙◌, arith, true, false, lt-ltb, le-ltb, hub_step, More, room}
 use Rattle.std.proofs.lemmas.Map.Steps.{set_value_same}
-use Rattle.sessions.specs.SessionStreams.{hub_step, More, room}
 use Rattle.sessions.proofs.EventSteps.{leads, stream-some, stream-none, set_is}
 use Rattle.sessions.proofs.hub.Hub.receive.Goals as goal
 

@@ -1,11 +1,6 @@
-use Rattle.std.proofs.Common.{map, List, [], ◌∷◌, ◌++◌, get_or, refl, sym, ap, subst, ◌∙◌, arith}
-use Rattle.std.proofs.lemmas.List.{map-append, take_more}
+use Rattle.sessions.proofs.Words.{map, List, [], ◌∷◌, ◌++◌, get_or, refl, sym, ap, subst, ◌∙◌, arith, map-append, take_more, Runs, Choice, HubEvent, event_of}
 use Rattle.sessions.specs.declared.events.Event.TheVariants.{Joined}
-use Rattle.sessions.specs.Laws.{Runs}
-use Rattle.sessions.specs.SessionStreams.{Choice, HubEvent}
-use Rattle.sessions.specs.StandsFor.{event_of}
-use Rattle.sessions.proofs.Reached.{reached}
-use Rattle.sessions.proofs.Runs.{no_event, ran_then, sound}
+use Rattle.sessions.proofs.{Reached.reached, Runs.no_event, Runs.ran_then, Runs.sound}
 use Rattle.sessions.proofs.hub.Hub.run.Goals as goal
 
 pub loop-event-init : goal.loop-event-init

@@ -1,6 +1,4 @@
-use Rattle.std.proofs.Common.{◌≤◌, map, take}
-use Rattle.sessions.specs.StandsFor.{event_of, failures}
-use Rattle.sessions.specs.Laws.{Runs}
+use Rattle.sessions.proofs.Words.{◌≤◌, map, take, event_of, failures, Runs}
 use Rattle.sessions.proofs.hub.Hub.run.Given as goal
 
 -- the events so far were a run

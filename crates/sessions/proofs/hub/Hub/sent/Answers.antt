@@ -1,7 +1,5 @@
-use Rattle.std.proofs.Common.{◌≡◌, length, nat_le, refl, sym, ap, ◌∙◌, arith, true, false, le-leb}
-use Rattle.std.proofs.lemmas.Bool.{lt-leb}
+use Rattle.sessions.proofs.Words.{◌≡◌, length, nat_le, refl, sym, ap, ◌∙◌, arith, true, false, le-leb, lt-leb, hub_step, More}
 use Rattle.std.proofs.lemmas.Map.Steps.{set_value_same}
-use Rattle.sessions.specs.SessionStreams.{hub_step, More}
 use Rattle.sessions.proofs.EventSteps.{leads, stream-some, stream-none, set_is}
 use Rattle.sessions.proofs.hub.Hub.sent.Goals as goal
 

@@ -1,5 +1,4 @@
-use Rattle.std.proofs.Common.{refl}
-use Rattle.sessions.specs.SessionStreams.{hub_step, More}
+use Rattle.sessions.proofs.Words.{refl, hub_step, More}
 use Rattle.sessions.proofs.EventSteps.{leads, serves, stream-none}
 use Rattle.sessions.proofs.hub.Hub.serve.Goals as goal
 

@@ -1,5 +1,4 @@
-use Rattle.std.proofs.Common.{ℕ, List, ap, set, subst, ◌∙◌}
-use Rattle.sessions.specs.SessionStreams.{SessionState}
+use Rattle.sessions.proofs.Words.{ℕ, List, ap, set, subst, ◌∙◌, SessionState}
 use Rattle.sessions.proofs.Places.{IsRising, put_rising, inserted_or_not}
 use Rattle.sessions.proofs.present.Present.insert.Goals as goal
 

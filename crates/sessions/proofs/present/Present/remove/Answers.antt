@@ -1,5 +1,4 @@
-use Rattle.std.proofs.Common.{ℕ, List, ap, remove, sym, subst, ◌∙◌}
-use Rattle.sessions.specs.SessionStreams.{SessionState}
+use Rattle.sessions.proofs.Words.{ℕ, List, ap, remove, sym, subst, ◌∙◌, SessionState}
 use Rattle.sessions.proofs.Places.{IsRising, removed_rising}
 use Rattle.sessions.proofs.present.Present.remove.Goals as goal
 

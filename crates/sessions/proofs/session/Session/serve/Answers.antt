@@ -1,5 +1,4 @@
-use Rattle.std.proofs.Common.{[], true, drop, refl, sym, ap, ◌∙◌}
-use Rattle.sessions.specs.SessionStreams.{may_serve}
+use Rattle.sessions.proofs.Words.{[], true, drop, refl, sym, ap, ◌∙◌, may_serve}
 use Rattle.sessions.proofs.RequestSteps.{whole, more, bad, refused_memory, nothing_pending, nothing_came}
 use Rattle.sessions.proofs.session.Session.serve.Goals as goal
 

@@ -1,5 +1,4 @@
-use Rattle.std.proofs.Common.{◌≡◌, length}
-use Rattle.snapshot.specs.Ahead.{merged_pairs}
+use Rattle.snapshot.proofs.Words.{◌≡◌, length, merged_pairs}
 use Rattle.snapshot.proofs.merge.MergedPairsIterator.next.Given as goal
 
 -- the writes left out so far are deletions

@@ -1,6 +1,5 @@
-use Rattle.std.proofs.Common.{refl}
+use Rattle.snapshot.proofs.Words.{refl, pair_bytes}
 use Rattle.std.proofs.lemmas.Iterator.Consumers.{YieldsList-from_first}
-use Rattle.model.specs.KeyBytes.{pair_bytes}
 use Rattle.snapshot.specs.RowPairs.{row_pairs}
 use Rattle.snapshot.proofs.rows.Rows.len.Goals as goal
 

@@ -1,5 +1,4 @@
-use Rattle.std.proofs.Common.{ap, ◌∙◌}
-use Rattle.snapshot.specs.View.{View}
+use Rattle.snapshot.proofs.Words.{ap, ◌∙◌, View}
 use Rattle.snapshot.proofs.Copies.{writes-made}
 use Rattle.snapshot.proofs.transaction.Transaction.entries.Goals as goal
 

@@ -1,6 +1,4 @@
-use Rattle.std.proofs.Common.{refl, ap, ◌∙◌}
-use Rattle.model.specs.Map.{KeyMap}
-use Rattle.snapshot.specs.View.{value_read}
+use Rattle.snapshot.proofs.Words.{refl, ap, ◌∙◌, KeyMap, value_read}
 use Rattle.snapshot.proofs.Copies.{get-value, get-leaves, get-fault, read-after_get, err_iff, fault_iff, ok_iff, room_of, never_of}
 use Rattle.snapshot.proofs.transaction.Transaction.get.Goals as goal
 

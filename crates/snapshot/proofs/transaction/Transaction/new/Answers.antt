@@ -1,6 +1,4 @@
-use Rattle.std.proofs.Common.{◌≡◌, [], sym, subst}
-use Rattle.snapshot.specs.View.{View, new_view}
-use Rattle.snapshot.specs.Made.{HasMade}
+use Rattle.snapshot.proofs.Words.{◌≡◌, [], sym, subst, View, new_view, HasMade}
 use Rattle.snapshot.proofs.Copies.{new-made}
 use Rattle.snapshot.proofs.transaction.Transaction.new.Goals as goal
 

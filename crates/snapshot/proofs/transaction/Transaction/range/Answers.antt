@@ -1,14 +1,4 @@
-use Rattle.std.proofs.Common.{ℕ, ◌≤◌, IsTrue, Err, refl, sym, ap, subst, ◌∙◌, length, take}
-use Rattle.std.specs.Ordering.{nat_cmp}
-use Rattle.std.specs.Cmp.Lexicographic.{slice_cmp}
-use Rattle.std.specs.FinMap.Entries.{where_key}
-use Rattle.model.specs.KeyBytes.{key_bytes, end_bytes}
-use Rattle.model.specs.Map.{is_in_range}
-use Rattle.versions.specs.Meaning.{map_seen}
-use Rattle.snapshot.specs.View.{View}
-use Rattle.snapshot.specs.Ahead.{merged_pairs}
-use Rattle.snapshot.specs.Merged.{is_full_for_page, has_page}
-use Rattle.snapshot.specs.Made.{IsFullWhen}
+use Rattle.snapshot.proofs.Words.{ℕ, ◌≤◌, IsTrue, Err, refl, sym, ap, subst, ◌∙◌, length, take, nat_cmp, slice_cmp, where_key, key_bytes, end_bytes, is_in_range, map_seen, View, merged_pairs, is_full_for_page, has_page, IsFullWhen}
 use Rattle.snapshot.proofs.Copies.{err_iff, fault_iff, ok_iff, room_of, never_of}
 use Rattle.snapshot.proofs.Pages.{taken_few, taken_length, taken_within}
 use Rattle.snapshot.proofs.Ranges.{range-reply, range-leaves, range-fault, range-known, looked-rows, rows_now, page_above, page_now, after_now, unmarked}

@@ -1,5 +1,4 @@
-use Rattle.std.proofs.Common.{drop, ap, sym, ◌∙◌}
-use Rattle.std.proofs.lemmas.List.{take_rest}
+use Rattle.sorted_pages.proofs.Words.{drop, ap, sym, ◌∙◌, take_rest}
 use Rattle.sorted_pages.proofs.Tails.{tail_of}
 use Rattle.sorted_pages.proofs.page.Page.entries_from.Goals as goal
 

@@ -1,8 +1,4 @@
-use Rattle.std.proofs.Common.{ap, ◌∙◌, rules}
-use Rattle.std.proofs.lemmas.Fn.{always_returns_same}
-use Rattle.model.specs.Map.{key_cmp}
-use Rattle.model.proofs.Entries.{searched}
-use Rattle.sorted_pages.specs.Pages.{Page}
+use Rattle.sorted_pages.proofs.Words.{ap, ◌∙◌, rules, always_returns_same, key_cmp, searched, Page}
 use Rattle.sorted_pages.proofs.page.Page.search.Goals as goal
 
 -- the closure compares an entry's key with the key

@@ -1,7 +1,4 @@
-use Rattle.std.proofs.Common.{drop, ap, sym, ◌∙◌}
-use Rattle.std.proofs.lemmas.List.{take_rest}
-use Rattle.sorted_pages.specs.Pages.{Page}
-use Rattle.sorted_pages.specs.Blanks.{shown}
+use Rattle.sorted_pages.proofs.Words.{drop, ap, sym, ◌∙◌, take_rest, Page, shown}
 use Rattle.sorted_pages.proofs.Seen.{shown-dropped, shown-hidden}
 use Rattle.sorted_pages.proofs.page.Page.seen_from.Goals as goal
 

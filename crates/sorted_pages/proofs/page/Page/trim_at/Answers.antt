@@ -1,8 +1,5 @@
-use Rattle.std.proofs.Common.{rules, ap, sym, ◌∙◌, arith}
-use Rattle.sorted_pages.specs.Pages.{Page}
-use Rattle.sorted_pages.specs.Trims.{changed_at, passes}
-use Rattle.sorted_pages.proofs.Seen.{blank-set, rest-set}
-use Rattle.sorted_pages.proofs.Values.{find-written, written_changed}
+use Rattle.sorted_pages.proofs.Words.{rules, ap, sym, ◌∙◌, arith, Page, changed_at, passes}
+use Rattle.sorted_pages.proofs.{Seen.blank-set, Seen.rest-set, Values.find-written, Values.written_changed}
 use Rattle.sorted_pages.proofs.page.Page.trim_at.Goals as goal
 
 pub blank_from-self-inside-requires : goal.blank_from-self-inside-requires

@@ -1,5 +1,4 @@
-use Rattle.std.proofs.Common.{arith}
-use Rattle.model.specs.Map.{Bytes}
+use Rattle.sorted_pages.proofs.Words.{arith, Bytes}
 use Rattle.sorted_pages.proofs.Seen.{blank-set, rest-set}
 use Rattle.sorted_pages.proofs.page.Page.value_at.Goals as goal
 

@@ -1,10 +1,5 @@
-use Rattle.std.proofs.Common.{Option, ap, sym, ◌∙◌}
-use Rattle.model.specs.Map.{Bytes}
-use Rattle.model.specs.KeyBytes.{end_bytes}
-use Rattle.sorted_pages.specs.Pages.{entries}
-use Rattle.sorted_pages.specs.Blanks.{shown}
-use Rattle.sorted_pages.proofs.Seen.{sorted-shown}
-use Rattle.sorted_pages.proofs.Tails.{In, same_range}
+use Rattle.sorted_pages.proofs.Words.{Option, ap, sym, ◌∙◌, Bytes, end_bytes, entries, shown}
+use Rattle.sorted_pages.proofs.{Seen.sorted-shown, Tails.In, Tails.same_range}
 use Rattle.sorted_pages.proofs.pages.SortedPages.range.Goals as goal
 
 pub returns-in-Some : goal.returns-in-Some

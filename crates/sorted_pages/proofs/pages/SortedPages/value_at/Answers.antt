@@ -1,9 +1,6 @@
-use Rattle.std.proofs.Common.{List, set, refl, ap, ◌∙◌, arith}
-use Rattle.std.specs.Prelude.{is_some}
-use Rattle.sorted_pages.specs.Pages.{Page}
+use Rattle.sorted_pages.proofs.Words.{List, set, refl, ap, ◌∙◌, arith, is_some, Page}
 use Rattle.sorted_pages.specs.Lent.{with_value_in}
-use Rattle.sorted_pages.proofs.Placings.{find_at, inserted}
-use Rattle.sorted_pages.proofs.Values.{value_at}
+use Rattle.sorted_pages.proofs.{Placings.find_at, Placings.inserted, Values.value_at}
 use Rattle.sorted_pages.proofs.pages.SortedPages.value_at.Goals as goal
 
 pub invariant_of-self-lent : goal.invariant_of-self-lent

@@ -1,10 +1,5 @@
-use Rattle.std.proofs.Common.{List, ◌+◌, ap, ◌∙◌}
-use Rattle.std.proofs.lemmas.List.{take_rest}
-use Rattle.model.specs.KeyBytes.{end_bytes}
-use Rattle.sorted_pages.specs.Pages.{Page, entries}
-use Rattle.sorted_pages.specs.Blanks.{shown}
-use Rattle.sorted_pages.proofs.Placings.{page_sorted}
-use Rattle.sorted_pages.proofs.Tails.{In, range_from, after_is}
+use Rattle.sorted_pages.proofs.Words.{List, ◌+◌, ap, ◌∙◌, take_rest, end_bytes, Page, entries, shown}
+use Rattle.sorted_pages.proofs.{Placings.page_sorted, Tails.In, Tails.range_from, Tails.after_is}
 use Rattle.sorted_pages.proofs.pages.SortedPages.within.Goals as goal
 
 pub entries_from-requires : goal.entries_from-requires

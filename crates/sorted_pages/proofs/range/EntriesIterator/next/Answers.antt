@@ -1,7 +1,4 @@
-use Rattle.std.proofs.Common.{sym, ◌∙◌}
-use Rattle.std.proofs.lemmas.Bool.{eqb-true}
-use Rattle.std.proofs.lemmas.List.{nil_from_length}
-use Rattle.model.specs.KeyBytes.{end_bytes}
+use Rattle.sorted_pages.proofs.Words.{sym, ◌∙◌, eqb-true, nil_from_length, end_bytes}
 use Rattle.sorted_pages.proofs.Tails.{next_page}
 use Rattle.sorted_pages.proofs.range.EntriesIterator.next.Goals as goal
 

@@ -1,5 +1,4 @@
-use Rattle.std.proofs.Common.{◌≡◌, length}
-use Rattle.sorted_pages.specs.Ranges.{IsFirstShown, entries_left}
+use Rattle.sorted_pages.proofs.Words.{◌≡◌, length, IsFirstShown, entries_left}
 use Rattle.sorted_pages.proofs.range.EntriesIterator.next.Given as goal
 
 -- pages are taken, and no entry that isn't hidden

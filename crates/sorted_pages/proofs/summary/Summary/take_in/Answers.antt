@@ -1,7 +1,6 @@
 use Rattle.std.proofs.Common.{◌≡◌, ◌+◌, cond, get_or, sym, ap, ◌∙◌, arith}
-use Rattle.sorted_pages.proofs.Seen.{is_rest, taken_in}
+use Rattle.sorted_pages.proofs.{Seen.is_rest, Seen.taken_in, summary.Summary.take_in.Goals.then-shows, summary.Summary.take_in.Goals.else-shows}
 use Rattle.sorted_pages.proofs.summary.Summary.take_in.Goals as goal
-use Rattle.sorted_pages.proofs.summary.Summary.take_in.Goals.{then-shows, else-shows}
 
 pub returns-after-shows-clause-summary : goal.returns-after-shows-clause-summary
 returns-after-shows-clause-summary g c =

@@ -1,5 +1,4 @@
-use Rattle.std.proofs.Common.{rules, ◌≢◌, []}
-use Rattle.stream_driver.specs.Buffers.{held_in}
+use Rattle.stream_driver.proofs.Words.{rules, ◌≢◌, [], held_in}
 use Rattle.stream_driver.proofs.Buffering.{flushed_blocked, flushed_failed, flushed_more, flushed_none}
 use Rattle.stream_driver.proofs.buffered.BufferedStream.flush.Goals as goal
 

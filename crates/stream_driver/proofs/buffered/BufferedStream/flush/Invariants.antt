@@ -1,5 +1,4 @@
-use Rattle.std.proofs.Common.{length}
-use Rattle.stream_driver.specs.Buffers.{held_in}
+use Rattle.stream_driver.proofs.Words.{length, held_in}
 use Rattle.stream_driver.proofs.Buffering.{FlushedSoFar}
 use Rattle.stream_driver.proofs.buffered.BufferedStream.flush.Given as goal
 

@@ -1,6 +1,5 @@
-use Rattle.std.proofs.Common.{rules, ◌≡◌, ◌<◌, [], length, arith}
-use Rattle.std.proofs.lemmas.Grind.{common_steps}
-use Rattle.stream_driver.specs.Buffers.{held_in, room_in}
+use Rattle.stream_driver.proofs.Words.{rules, ◌≡◌, ◌<◌, [], length, arith, common_steps, held_in}
+use Rattle.stream_driver.specs.Buffers.{room_in}
 use Rattle.stream_driver.proofs.Buffering.{some_length, takes_in, takes_on}
 use Rattle.stream_driver.proofs.buffered.BufferedStream.take_some.Goals as goal
 

@@ -1,6 +1,5 @@
 use Rattle.std.proofs.Common.{[], subst}
-use Rattle.stream_driver.specs.Counts.{Notes}
-use Rattle.stream_driver.specs.declared.answers.Call.TheVariants.{Read}
+use Rattle.stream_driver.specs.{Counts.Notes, declared.answers.Call.TheVariants.Read}
 use Rattle.stream_driver.proofs.Buffering.{gave_same}
 use Rattle.stream_driver.proofs.buffered.BufferedStreamStream.read.Goals as goal
 

@@ -1,6 +1,5 @@
 use Rattle.std.proofs.Common.{◌≡◌, [], ◌∙◌, ap, refl, subst}
-use Rattle.stream_driver.specs.Counts.{Notes}
-use Rattle.stream_driver.specs.declared.answers.Call.TheVariants.{Write}
+use Rattle.stream_driver.specs.{Counts.Notes, declared.answers.Call.TheVariants.Write}
 use Rattle.stream_driver.proofs.Buffering.{departed_still, took_same}
 use Rattle.stream_driver.proofs.buffered.BufferedStreamStream.write.Goals as goal
 use Rattle.stream_driver.proofs.buffered.BufferedStreamStream.write.Goals.{in-Moved, in_default}

@@ -1,5 +1,4 @@
-use Rattle.std.proofs.Common.{◌≡◌, ℕ, ◌<◌, rules, subst}
-use Rattle.versions.specs.Chains.{first_shown}
+use Rattle.versions.proofs.Words.{◌≡◌, ℕ, ◌<◌, rules, subst, first_shown}
 use Rattle.versions.proofs.Visibles.{first_hides}
 use Rattle.versions.proofs.chain.ChainAging.first.Goals as goal
 

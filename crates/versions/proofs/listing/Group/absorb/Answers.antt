@@ -1,10 +1,5 @@
-use Rattle.std.proofs.Common.{ap, sym, subst, ◌∙◌}
-use Rattle.std.specs.List.{AllByRecursion}
-use Rattle.versions.specs.Groups.{GroupValue}
-use Rattle.versions.specs.Witnesses.{IsUnderWitness}
-use Rattle.versions.specs.Listings.{versions_in}
-use Rattle.versions.proofs.Lists.{in-append}
-use Rattle.versions.proofs.Parts.{all-parts, all-put, all-three}
+use Rattle.versions.proofs.Words.{ap, sym, subst, ◌∙◌, AllByRecursion, GroupValue, IsUnderWitness, versions_in}
+use Rattle.versions.proofs.{Lists.in-append, Parts.all-parts, Parts.all-put, Parts.all-three}
 use Rattle.versions.proofs.listing.Group.absorb.Goals as goal
 
 pub returns-clause-each : goal.returns-clause-each

@@ -1,14 +1,5 @@
-use Rattle.std.proofs.Common.{◌≡◌, ◌&&◌, ◌++◌, true, false, inr, length, ap, sym, subst, ◌∙◌, arith}
-use Rattle.std.proofs.lemmas.List.{length-append}
-use Rattle.versions.specs.Groups.{GroupValue, Listed}
-use Rattle.std.specs.List.{AllByRecursion, list_all}
-use Rattle.versions.specs.Witnesses.{IsUnderWitness}
-use Rattle.versions.specs.Listings.{AreSeenFrom, IsSettled, is_seen_from, versions_in}
-use Rattle.versions.specs.Meaning.{is_among}
-use Rattle.model.proofs.Elements.{all-append}
-use Rattle.versions.proofs.Lists.{in-append, in-seen}
-use Rattle.versions.proofs.Groups.{unheld, unseen, unseen-put}
-use Rattle.versions.proofs.Parts.{all-seen_more}
+use Rattle.versions.proofs.Words.{◌≡◌, ◌&&◌, ◌++◌, true, false, inr, length, ap, sym, subst, ◌∙◌, arith, length-append, GroupValue, Listed, AllByRecursion, list_all, IsUnderWitness, AreSeenFrom, IsSettled, is_seen_from, versions_in, is_among, all-append}
+use Rattle.versions.proofs.{Lists.in-append, Lists.in-seen, Groups.unheld, Groups.unseen, Groups.unseen-put, Parts.all-seen_more}
 use Rattle.versions.proofs.listing.Group.keep.Goals.{else-is_among-via-then-is_among+else-are_seen_from, else-is_among-via-else-is_among}
 use Rattle.versions.proofs.listing.Group.keep.Goals as goal
 

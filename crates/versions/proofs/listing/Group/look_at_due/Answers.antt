@@ -1,12 +1,5 @@
-use Rattle.std.proofs.Common.{◌≡◌, ◌++◌, sym, subst, ◌∙◌}
-use Rattle.std.specs.List.{AllByRecursion}
-use Rattle.sorted_pages.specs.Pages.{entries}
-use Rattle.versions.specs.Witnesses.{IsUnderWitness}
-use Rattle.versions.specs.Groups.{GroupValue}
-use Rattle.versions.specs.Listings.{AreKept, versions_in}
-use Rattle.model.proofs.Elements.{all-back, all-front}
-use Rattle.versions.proofs.Parts.{all-parts, all-three, kept-due}
-use Rattle.versions.proofs.Lists.{in-split}
+use Rattle.versions.proofs.Words.{◌≡◌, ◌++◌, sym, subst, ◌∙◌, AllByRecursion, entries, IsUnderWitness, GroupValue, AreKept, versions_in, all-back, all-front}
+use Rattle.versions.proofs.{Parts.all-parts, Parts.all-three, Parts.kept-due, Lists.in-split}
 use Rattle.versions.proofs.listing.Group.look_at_due.Goals as goal
 
 pub returns-clause-left : goal.returns-clause-left

@@ -1,10 +1,4 @@
-use Rattle.std.proofs.Common.{◌≡◌, List, [], ap, sym, subst, ◌∙◌}
-use Rattle.std.specs.List.{AllByRecursion}
-use Rattle.sorted_pages.specs.Pages.{entries}
-use Rattle.versions.specs.Groups.{GroupValue, Listed}
-use Rattle.versions.specs.Witnesses.{IsUnderWitness}
-use Rattle.versions.specs.Listings.{IsSettled, IsTakenIn, versions_in}
-use Rattle.std.proofs.lemmas.Bool.{eqb-true}
+use Rattle.versions.proofs.Words.{◌≡◌, List, [], ap, sym, subst, ◌∙◌, AllByRecursion, entries, GroupValue, Listed, IsUnderWitness, IsSettled, IsTakenIn, versions_in, eqb-true}
 use Rattle.versions.proofs.Parts.{all-parts, all-three, due-taken, no-versions, parts-settled}
 use Rattle.versions.proofs.listing.Group.look_at_mixed.Goals as goal
 

@@ -1,6 +1,5 @@
 use Rattle.sorted_pages.specs.Pages.{entries}
-use Rattle.versions.proofs.Listings.{part-trans}
-use Rattle.versions.proofs.Parts.{kept-twice}
+use Rattle.versions.proofs.{Listings.part-trans, Parts.kept-twice}
 use Rattle.versions.proofs.listing.Group.reclaim.Goals as goal
 
 pub look_at_mixed-requires-clause-kept : goal.look_at_mixed-requires-clause-kept

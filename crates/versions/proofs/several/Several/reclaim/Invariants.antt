@@ -1,6 +1,4 @@
-use Rattle.std.proofs.Common.{◌≡◌, ◌≤◌, ◌++◌, length, take, drop}
-use Rattle.std.specs.Vec.{vec_capacity}
-use Rattle.versions.specs.Chains.{seen_by}
+use Rattle.versions.proofs.Words.{◌≡◌, ◌≤◌, ◌++◌, length, take, drop, vec_capacity, seen_by}
 use Rattle.versions.proofs.several.Several.reclaim.Given as goal
 
 -- those before `kept` are kept, and from i on it stands to be seen which

@@ -1,5 +1,4 @@
-use Rattle.std.proofs.Common.{ap, ◌∙◌}
-use Rattle.versions.specs.Chains.{Stamped}
+use Rattle.versions.proofs.Words.{ap, ◌∙◌, Stamped}
 use Rattle.versions.proofs.ChainLaws.{passed_by, met}
 use Rattle.versions.proofs.several.Several.seen.Goals as goal
 

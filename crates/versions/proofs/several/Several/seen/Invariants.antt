@@ -1,5 +1,4 @@
-use Rattle.std.proofs.Common.{◌≡◌, None}
-use Rattle.versions.specs.Chains.{last_at, version_at}
+use Rattle.versions.proofs.Words.{◌≡◌, None, last_at, version_at}
 use Rattle.versions.proofs.several.Several.seen.Given as goal
 
 -- the versions that were passed by are too new

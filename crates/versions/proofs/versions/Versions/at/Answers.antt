@@ -1,7 +1,4 @@
-use Rattle.std.proofs.Common.{Some, None, ap, ◌∙◌}
-use Rattle.model.specs.Map.{value_at}
-use Rattle.sorted_pages.specs.Pages.{entries}
-use Rattle.versions.specs.Chains.{ChainsValue, visible}
+use Rattle.versions.proofs.Words.{Some, None, ap, ◌∙◌, value_at, entries, ChainsValue, visible}
 use Rattle.versions.proofs.Calls.{seen_found}
 use Rattle.versions.proofs.versions.Versions.at.Goals as goal
 

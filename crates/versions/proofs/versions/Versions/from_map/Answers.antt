@@ -1,14 +1,5 @@
-use Rattle.std.proofs.Common.{◌≡◌, ◌≤◌, List, length, arith, [], ◌∷◌, ◌++◌, Some, sym, ap, subst, ◌∙◌, refl}
-use Rattle.std.proofs.lemmas.List.{append-nil, nil_from_length}
-use Rattle.model.specs.Map.{Bytes, KeyMap}
-use Rattle.sorted_pages.specs.Pages.{entries}
-use Rattle.versions.specs.Chains.{ChainValue, Chains, IsKept, base_chains, fresh_chain, stamped}
-use Rattle.model.proofs.Entries.{IsSorted}
-use Rattle.versions.specs.Groups.{GroupValue}
-use Rattle.versions.specs.Listings.{IsListed, lists_in, versions_in}
-use Rattle.versions.proofs.Stores.{kept-base}
-use Rattle.versions.proofs.Listings.{listed-base}
-use Rattle.versions.proofs.Calls.{base-next, stands-opened}
+use Rattle.versions.proofs.Words.{◌≡◌, ◌≤◌, List, length, arith, [], ◌∷◌, ◌++◌, Some, sym, ap, subst, ◌∙◌, refl, append-nil, nil_from_length, Bytes, KeyMap, entries, ChainValue, Chains, IsKept, base_chains, fresh_chain, stamped, IsSorted, GroupValue, IsListed, lists_in, versions_in}
+use Rattle.versions.proofs.{Stores.kept-base, Listings.listed-base, Calls.base-next, Calls.stands-opened}
 use Rattle.versions.proofs.versions.Versions.from_map.Goals as goal
 
 -- nothing is left

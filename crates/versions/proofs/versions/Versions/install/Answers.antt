@@ -1,18 +1,5 @@
-use Rattle.std.proofs.Common.{◌≡◌, ◌^◌, ◌<◌, ◌≤◌, ℕ, Bool, List, [], ◌∷◌, ◌++◌, ◌-◌, length, sym, subst, ap, ◌∙◌, refl, arith}
-use Rattle.std.specs.declared.vec.Vec.{Vec}
-use Rattle.std.specs.List.{AllByRecursion}
-use Rattle.model.specs.Map.{Bytes, KeyWrite}
-use Rattle.sorted_pages.specs.Pages.{entries}
-use Rattle.versions.specs.Chains.{ChainsValue, find_chain}
-use Rattle.versions.specs.Listings.{HasFewLists, IsFollowed, IsListed, lists_in, unwitnessed, versions_in}
-use Rattle.versions.specs.Groups.{GroupValue, Listed}
-use Rattle.versions.specs.Meaning.{AreInstalled, IsInstalled}
-use Rattle.versions.specs.Witnesses.{AreUnderWitnesses, IsAddedTo}
-use Rattle.versions.proofs.Lists.{in-first, in-filled}
-use Rattle.versions.proofs.Listings.{groups-found, found-last}
-use Rattle.std.proofs.lemmas.List.{length-set}
-use Rattle.versions.proofs.Witnesses.{lists-push}
-use Rattle.versions.proofs.Histories.{stands-installed}
+use Rattle.versions.proofs.Words.{◌≡◌, ◌^◌, ◌<◌, ◌≤◌, ℕ, Bool, List, [], ◌∷◌, ◌++◌, ◌-◌, length, sym, subst, ap, ◌∙◌, refl, arith, Vec, AllByRecursion, Bytes, KeyWrite, entries, ChainsValue, find_chain, HasFewLists, IsFollowed, IsListed, lists_in, unwitnessed, versions_in, GroupValue, Listed, AreInstalled, IsInstalled, AreUnderWitnesses, IsAddedTo, length-set}
+use Rattle.versions.proofs.{Lists.in-first, Lists.in-filled, Listings.groups-found, Listings.found-last, Witnesses.lists-push, Histories.stands-installed}
 use Rattle.versions.proofs.UnderWitnesses.{groups-installed}
 use Rattle.versions.proofs.versions.Versions.install.Goals as goal
 

@@ -1,6 +1,5 @@
 use Rattle.sorted_pages.specs.Pages.{entries}
-use Rattle.versions.proofs.Stores.{kept-roomier}
-use Rattle.versions.proofs.Listings.{listed-roomier}
+use Rattle.versions.proofs.{Stores.kept-roomier, Listings.listed-roomier}
 use Rattle.versions.proofs.versions.Versions.make_room.Goals as goal
 
 pub invariant_of-self : goal.invariant_of-self

@@ -1,5 +1,4 @@
-use Rattle.std.proofs.Common.{ap, ◌∙◌, length}
-use Rattle.versions.specs.Chains.{ChainsValue}
+use Rattle.versions.proofs.Words.{ap, ◌∙◌, length, ChainsValue}
 use Rattle.versions.proofs.versions.Versions.pages.Goals as goal
 
 pub returns : goal.returns

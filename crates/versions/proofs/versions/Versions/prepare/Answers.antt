@@ -1,15 +1,7 @@
-use Rattle.std.proofs.Common.{◌≡◌, ℕ, Bool, List, length, sym, ap, subst, ◌∙◌, refl, false, arith}
-use Rattle.std.specs.Prelude.{◌↔◌}
-use Rattle.std.proofs.lemmas.Bool.{both_ways}
-use Rattle.versions.specs.Chains.{ChainsValue, IsRoomier}
-use Rattle.versions.specs.Meaning.{IsSameMeaning}
-use Rattle.versions.specs.StandsFor.{StandsFor}
-use Rattle.model.specs.Map.{KeyMap}
+use Rattle.versions.proofs.Words.{◌≡◌, ℕ, Bool, List, length, sym, ap, subst, ◌∙◌, refl, false, arith, ◌↔◌, both_ways, ChainsValue, IsRoomier, IsSameMeaning, StandsFor, KeyMap, take_all}
 use Rattle.model.specs.History.{Record}
-use Rattle.versions.proofs.Stores.{roomier-refl, roomier-trans, same-roomier}
-use Rattle.std.proofs.lemmas.List.{take_all}
+use Rattle.versions.proofs.{Stores.roomier-refl, Stores.roomier-trans, Stores.same-roomier, Histories.stands-same}
 use Rattle.versions.proofs.Calls.{Preparing, preparing, has_chain_room, has_place}
-use Rattle.versions.proofs.Histories.{stands-same}
 use Rattle.versions.proofs.versions.Versions.prepare.Goals as goal
 
 -- room for the list and for the groups changes no chain

@@ -1,7 +1,4 @@
-use Rattle.std.proofs.Common.{◌≡◌, ◌≤◌, length, take}
-use Rattle.model.specs.Map.{Bytes}
-use Rattle.sorted_pages.specs.Pages.{room_at}
-use Rattle.versions.specs.Chains.{IsRoomier}
+use Rattle.versions.proofs.Words.{◌≡◌, ◌≤◌, length, take, Bytes, room_at, IsRoomier}
 use Rattle.versions.proofs.Calls.{Preparing}
 use Rattle.versions.proofs.versions.Versions.prepare.Given as goal
 

@@ -1,9 +1,6 @@
-use Rattle.std.proofs.Common.{ap, ◌∙◌}
-use Rattle.model.specs.Map.{is_in_range, pairs_in_range}
+use Rattle.versions.proofs.Words.{ap, ◌∙◌, is_in_range, pairs_in_range, entries, ChainsValue, hides, visible}
 use Rattle.model.specs.KeyBytes.{end_bytes}
-use Rattle.sorted_pages.specs.Pages.{entries}
 use Rattle.sorted_pages.specs.Blanks.{shown}
-use Rattle.versions.specs.Chains.{ChainsValue, hides, visible}
 use Rattle.versions.proofs.Visibles.{visible-where, visible-shown}
 use Rattle.versions.proofs.versions.Versions.range.Goals as goal
 

@@ -1,14 +1,5 @@
-use Rattle.std.proofs.Common.{ℕ, Bool, true, ◌&&◌, List, ◌≡◌, ◌-◌, subst, sym, ap, ◌∙◌, refl, arith}
-use Rattle.std.specs.Prelude.{option_map, IsTrue}
-use Rattle.model.specs.Map.{Bytes}
-use Rattle.versions.specs.Chains.{ChainsValue, IsKept, find_chain, reclaimed}
-use Rattle.versions.specs.Groups.{Listed}
-use Rattle.versions.specs.Listings.{IsPartReclaimed, witness_for}
-use Rattle.versions.specs.Meaning.{IsReclaimed, due_of, is_among, lists_a_reclaim}
-use Rattle.versions.specs.Witnesses.{AreUnderWitnesses, IsUnderWitness}
-use Rattle.versions.proofs.Stores.{reclaimed-whole}
-use Rattle.versions.proofs.Histories.{stands-reclaimed}
-use Rattle.versions.proofs.UnderWitnesses.{groups-unmixed, under-reclaimed}
+use Rattle.versions.proofs.Words.{ℕ, Bool, true, ◌&&◌, List, ◌≡◌, ◌-◌, subst, sym, ap, ◌∙◌, refl, arith, option_map, IsTrue, Bytes, ChainsValue, IsKept, find_chain, reclaimed, Listed, IsPartReclaimed, witness_for, IsReclaimed, due_of, is_among, lists_a_reclaim, AreUnderWitnesses, IsUnderWitness}
+use Rattle.versions.proofs.{Stores.reclaimed-whole, Histories.stands-reclaimed, UnderWitnesses.groups-unmixed, UnderWitnesses.under-reclaimed}
 use Rattle.versions.proofs.versions.Versions.reclaim.Goals as goal
 
 whole : (old inside new : ChainsValue) (bs : List ℕ) → inside ≡ old → IsKept inside.chains inside.last → IsKept new.chains new.last → new.last ≡ inside.last → due_of bs new ≡ due_of bs inside - lists_a_reclaim → IsPartReclaimed bs inside.chains new.chains
