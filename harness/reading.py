@@ -40,12 +40,13 @@ def words(text):
 # ---- Definitions
 
 def imports(text):
-    """The names that `use` lines bring in: each with its module and its name there."""
+    """The names that `use` lines bring in, some of a module below: each with its module and its name there."""
     found = {}
     for module, names in re.findall(r"^\s*(?:ghost )?use Rattle\.([\w.]+)\.\{([^}]*)\}", text, re.M):
         for name in names.split(","):
-            own, _, alias = name.strip().partition(" as ")
-            found[alias or own] = (module, own)
+            whole, _, alias = name.strip().partition(" as ")
+            below, _, own = whole.rpartition(".")
+            found[alias or own] = (f"{module}.{below}" if below else module, own)
     return found
 
 

@@ -3,20 +3,12 @@ use Rattle.std.specs.Prelude.{◌≡◌, ◌⊎◌, ℕ, List, length, Result, O
 use Rattle.std.specs.declared.io.Error.{Error}
 use Rattle.model.specs.Map.{KeyWrite}
 use Rattle.sector.specs.declared.device.Sectors.{Ghosts}
-use Rattle.commit_log.specs.Format.{current}
-use Rattle.commit_log.specs.LogFaults.{IsDeviceOrMemory, IsOpenFault}
+use Rattle.commit_log.specs.{Format.current, LogFaults.IsDeviceOrMemory, LogFaults.IsOpenFault, Reading.ReadsAs, declared.faults.LogFault.LogFault}
 use Rattle.commit_log.specs.LogImage.{IsLogImage, IsDamaged, HasHead, IsNoLog}
-use Rattle.commit_log.specs.Reading.{ReadsAs}
-use Rattle.commit_log.specs.declared.faults.LogFault.{LogFault}
 use Rattle.commit_log.specs.declared.faults.LogFault.TheVariants.{NotALog, Damaged, OldFormat}
-use Rattle.commit_log.specs.declared.formats.LogFormat.{LogFormat}
-use Rattle.commit_log.specs.declared.formats.LogFormat.TheVariants.{One}
-use Rattle.commands.specs.LogCounts.{counts_of, line_of, log_line}
-use Rattle.commands.specs.Faults.{of_log, IsFromDevice, IsFromOutside}
-use Rattle.commands.specs.Printing.{IsToldAs, EndsAs}
-use Rattle.commands.specs.declared.data.LogCounts.{LogCounts}
-use Rattle.commands.specs.declared.system.Lines.{Ghosts as Lines}
-use Rattle.commands.specs.declared.faults.Fault.{Fault}
+use Rattle.commit_log.specs.{declared.formats.LogFormat.LogFormat, declared.formats.LogFormat.TheVariants.One}
+use Rattle.commands.specs.{LogCounts.counts_of, LogCounts.line_of, LogCounts.log_line, Faults.of_log, Faults.IsFromDevice, Faults.IsFromOutside}
+use Rattle.commands.specs.{Printing.IsToldAs, Printing.EndsAs, declared.data.LogCounts.LogCounts, declared.system.Lines.Ghosts as Lines, declared.faults.Fault.Fault}
 use Rattle.commands.specs.declared.faults.Fault.TheVariants.{File}
 
 -- where the device keeps its model and holds an image of this kind, this is so

@@ -3,25 +3,13 @@
 use Rattle.std.specs.Prelude.{◌≡◌, ◌⊎◌, ◌≤◌, ◌<◌, ◌^◌, ℕ, List, max, Bool, true, false, Option, Some, None, Result, Ok, Err, MatchOption, MatchResult, OnOk, IfErr}
 use Rattle.std.specs.declared.io.Error.{Error}
 use Rattle.model.specs.Map.{KeyMap}
-use Rattle.sector.specs.declared.device.Sectors.{Ghosts}
-use Rattle.sector.specs.SectorModel.{LeavesOnly}
-use Rattle.commit_log.specs.Copying.{write_sets_of, copy_size, IsCopyFault}
-use Rattle.commit_log.specs.LogFaults.{IsDeviceOrMemory, IsReadMapFault}
-use Rattle.commit_log.specs.MapReading.{IsMapOf, IsMapRefusal}
-use Rattle.commit_log.specs.Opening.{MightHold}
-use Rattle.commit_log.specs.Reading.{FaultIs}
-use Rattle.commit_log.specs.declared.faults.LogFault.{LogFault}
+use Rattle.sector.specs.{declared.device.Sectors.Ghosts, SectorModel.LeavesOnly}
+use Rattle.commit_log.specs.{Copying.write_sets_of, Copying.copy_size, Copying.IsCopyFault, LogFaults.IsDeviceOrMemory, LogFaults.IsReadMapFault, Opening.MightHold}
+use Rattle.commit_log.specs.{MapReading.IsMapOf, MapReading.IsMapRefusal, Reading.FaultIs, declared.faults.LogFault.LogFault, LogState.HoldsLog}
 use Rattle.commit_log.specs.declared.faults.LogFault.TheVariants.{Full}
-use Rattle.commands.specs.LogCounts.{log_line}
-use Rattle.commands.specs.Faults.{of_log}
-use Rattle.commit_log.specs.LogState.{HoldsLog}
-use Rattle.commands.specs.Notices.{copying_line}
-use Rattle.commands.specs.Printing.{IsToldAs, EndsAs}
-use Rattle.commands.specs.declared.faults.Fault.{Fault}
-use Rattle.commands.specs.declared.faults.Fault.TheVariants.{File, LogFull}
-use Rattle.commands.specs.declared.system.Around.{Around}
-use Rattle.commands.specs.declared.system.DataFiles.{Ghosts as DataFiles}
-use Rattle.commands.specs.declared.system.Lines.{Ghosts as Lines}
+use Rattle.commands.specs.{LogCounts.log_line, Faults.of_log, Notices.copying_line, Printing.IsToldAs, Printing.EndsAs, declared.faults.Fault.Fault}
+use Rattle.commands.specs.{declared.faults.Fault.TheVariants.File, declared.faults.Fault.TheVariants.LogFull, declared.system.Around.Around}
+use Rattle.commands.specs.{declared.system.DataFiles.Ghosts as DataFiles, declared.system.Lines.Ghosts as Lines}
 
 -- how many sectors a copy is given, over an old device of so many, where so many were asked for and the map needs so many
 abbrev pub copy_count : ℕ → Option ℕ → Option ℕ → ℕ

@@ -3,12 +3,9 @@ use Rattle.std.specs.Prelude.{◌≡◌, ◌⊎◌, List, ℕ, Bool, true, Resul
 use Rattle.std.specs.declared.io.Error.{Error}
 use Rattle.command_line.specs.declared.refusals.Refusal.{Refusal}
 use Rattle.command_line.specs.declared.refusals.Refusal.TheVariants as refusals
-use Rattle.commands.specs.Faults.{line_of, status_of}
-use Rattle.commands.specs.declared.faults.Fault.{Fault}
+use Rattle.commands.specs.{Faults.line_of, Faults.status_of, declared.faults.Fault.Fault, declared.endings.Ending.Ending, declared.endings.Told.Told}
 use Rattle.commands.specs.declared.faults.Fault.TheVariants.{File, Memory}
-use Rattle.commands.specs.declared.endings.Ending.{Ending}
 use Rattle.commands.specs.declared.endings.Ending.TheVariants.{Done, Help, Refused, Failed}
-use Rattle.commands.specs.declared.endings.Told.{Told}
 
 -- how a command line ends that was refused
 abbrev pub of_refusal : Refusal → Ending

@@ -2,8 +2,7 @@
 use Rattle.std.specs.Prelude.{ℕ, ◌+◌, List, [], ◌∷◌, ◌++◌, length, codes}
 use Rattle.std.specs.Fmt.{decimal}
 use Rattle.model.specs.Map.{Bytes, KeyWrite}
-use Rattle.commit_log.specs.LogImage.{span}
-use Rattle.commit_log.specs.Recovery.{map_after}
+use Rattle.commit_log.specs.{LogImage.span, Recovery.map_after}
 use Rattle.commands.specs.declared.data.LogCounts.{LogCounts}
 
 -- the line of these counts

@@ -4,9 +4,7 @@ use Rattle.std.specs.Prelude.{◌≡◌, ℕ, List, [], Result, Ok, Err, OnOk, I
 use Rattle.std.specs.declared.io.Error.{Error}
 use Rattle.sector.specs.declared.device.Sectors.{Ghosts}
 use Rattle.commit_log.specs.LogState.{HoldsLog}
-use Rattle.commands.specs.Faults.{DeviceIs}
-use Rattle.commands.specs.Printing.{IsToldAs}
-use Rattle.commands.specs.declared.faults.Fault.{Fault}
+use Rattle.commands.specs.{Faults.DeviceIs, Printing.IsToldAs, declared.faults.Fault.Fault}
 use Rattle.commands.specs.declared.faults.Fault.TheVariants.{File, Device}
 
 -- what formatting a device of two sectors or more came to: it holds an empty log, or a call of it failed

@@ -1,11 +1,8 @@
 -- What is printed, call by call, over whatever takes lines. `writes` relates it before a line was taken, the line, how that came out, and it
 -- afterwards.
 use Rattle.std.specs.Prelude.{◌≡◌, ◌≢◌, ◌⊎◌, ℕ, List, Result, Ok, Err, IsErrAnd}
-use Rattle.std.specs.IoError.{error_kind}
-use Rattle.std.specs.declared.io.Error.{Error}
-use Rattle.std.specs.declared.io.ErrorKind.TheVariants.{OutOfMemory}
-use Rattle.commands.specs.declared.faults.Fault.{Fault}
-use Rattle.commands.specs.declared.faults.Fault.TheVariants.{File, Memory}
+use Rattle.std.specs.{IoError.error_kind, declared.io.Error.Error, declared.io.ErrorKind.TheVariants.OutOfMemory}
+use Rattle.commands.specs.{declared.faults.Fault.Fault, declared.faults.Fault.TheVariants.File, declared.faults.Fault.TheVariants.Memory}
 
 -- an error of the system is reported as this fault, or as out of memory where its kind says so
 abbrev pub IsToldAs : Error → Fault → Fault → Type 0

@@ -1,25 +1,14 @@
 -- What a command line does, call by call, over whatever tells what is asked, opens and makes files, listens, plays scripts and takes lines.
 use Rattle.std.specs.Prelude.{◌≡◌, ℕ, Result, Ok, Err, IsErrAnd}
 use Rattle.sector.specs.declared.device.Sectors.{Ghosts}
-use Rattle.command_line.specs.declared.asked.Asked.{Asked}
+use Rattle.command_line.specs.{declared.asked.Asked.Asked, declared.refusals.Refusal.Refusal}
 use Rattle.command_line.specs.declared.asked.Asked.TheVariants.{Create, Serve, Check, Compact, Play}
-use Rattle.command_line.specs.declared.refusals.Refusal.{Refusal}
 use Rattle.scripts.specs.declared.faults.ScriptFault.{ScriptFault}
 use Rattle.sessions.specs.declared.hub.Hub.{Hub}
-use Rattle.commands.specs.Checking.{Checking}
-use Rattle.commands.specs.Compacting.{Compacting}
-use Rattle.commands.specs.Endings.{Tells, of_outcome, of_refusal}
-use Rattle.commands.specs.Faults.{of_script}
-use Rattle.commands.specs.Making.{Creating}
-use Rattle.commands.specs.Serving.{EndsServing}
-use Rattle.commands.specs.declared.endings.Told.{Told}
-use Rattle.commands.specs.declared.faults.Fault.{Fault}
-use Rattle.commands.specs.declared.system.Around.{Around}
-use Rattle.commands.specs.declared.system.DataFiles.{Ghosts as DataFiles}
-use Rattle.commands.specs.declared.system.Lines.{Ghosts as Lines}
-use Rattle.commands.specs.declared.system.Ports.{Ghosts as Ports}
-use Rattle.commands.specs.declared.system.Scripts.{Ghosts as Scripts}
-use Rattle.commands.specs.declared.system.Turns.{Ghosts as Turns}
+use Rattle.commands.specs.{Checking.Checking, Compacting.Compacting, Endings.Tells, Endings.of_outcome, Endings.of_refusal, Faults.of_script, Making.Creating}
+use Rattle.commands.specs.{Serving.EndsServing, declared.endings.Told.Told, declared.faults.Fault.Fault, declared.system.Around.Around}
+use Rattle.commands.specs.{declared.system.DataFiles.Ghosts as DataFiles, declared.system.Lines.Ghosts as Lines, declared.system.Ports.Ghosts as Ports}
+use Rattle.commands.specs.{declared.system.Scripts.Ghosts as Scripts, declared.system.Turns.Ghosts as Turns}
 
 -- a script's outcome as a command's
 abbrev pub of_played : Result (Unit {0}) ScriptFault → Result (Unit {0}) Fault

@@ -1,24 +1,16 @@
 -- What serving does, call by call, over whatever opens files, listens, takes turns and takes lines. Each relation given is of one call:
 -- what was called before it, what it was given, how it came out, and what was called afterwards.
 use Rattle.std.specs.Prelude.{◌≡◌, ℕ, List, Bool, true, false, Result, Ok, Err, IfErr, MatchResult}
-use Rattle.std.specs.Net.Grammar.{IsSocketText}
-use Rattle.std.specs.declared.io.Error.{Error}
-use Rattle.std.specs.declared.net.socket_addr.SocketAddr.{SocketAddr}
+use Rattle.std.specs.{Net.Grammar.IsSocketText, declared.io.Error.Error, declared.net.socket_addr.SocketAddr.SocketAddr}
 use Rattle.model.specs.Map.{KeyMap}
 use Rattle.sector.specs.declared.device.Sectors.{Ghosts}
 use Rattle.commit_log.specs.declared.faults.Unopened.{Unopened}
 use Rattle.sessions.specs.Lives.{Begins, IsOpened, Opens, TellsWhy}
 use Rattle.sessions.specs.declared.hub.Hub.{Hub}
-use Rattle.commands.specs.Faults.{of_log}
-use Rattle.commands.specs.Notices.{listening_line, stopped_line}
-use Rattle.commands.specs.Printing.{IsToldAs, Prints}
-use Rattle.commands.specs.declared.faults.Fault.{Fault}
+use Rattle.commands.specs.{Faults.of_log, Notices.listening_line, Notices.stopped_line, Printing.IsToldAs, Printing.Prints, declared.faults.Fault.Fault}
 use Rattle.commands.specs.declared.faults.Fault.TheVariants.{File, Listen, Poll}
-use Rattle.commands.specs.declared.system.Around.{Around}
-use Rattle.commands.specs.declared.system.DataFiles.{Ghosts as DataFiles}
-use Rattle.commands.specs.declared.system.Lines.{Ghosts as Lines}
-use Rattle.commands.specs.declared.system.Ports.{Ghosts as Ports}
-use Rattle.commands.specs.declared.system.Turns.{Ghosts as Turns}
+use Rattle.commands.specs.{declared.system.Around.Around, declared.system.DataFiles.Ghosts as DataFiles, declared.system.Lines.Ghosts as Lines}
+use Rattle.commands.specs.{declared.system.Ports.Ghosts as Ports, declared.system.Turns.Ghosts as Turns}
 
 -- each hub that was opened is taken
 abbrev pub TakesOpened : {D : Type 0} {g : Ghosts D} → (Hub D g → Type 0) → Type 0

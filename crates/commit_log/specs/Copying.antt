@@ -1,13 +1,9 @@
 -- A copy of a map: the log whose records put the map's pairs, by rising key, 64 to a record.
 use Rattle.std.specs.Prelude.{◌≡◌, ◌⊎◌, ◌<◌, ℕ, zero, suc, ◌+◌, ◌/◌, List, [], ◌∷◌, ◌++◌, length, take, drop, replicate, slice_get, get_or, Some}
-use Rattle.sector.specs.declared.device.Sectors.{Ghosts}
-use Rattle.sector.specs.SectorModel.{IsSameElsewhere, LeavesNoMore, LeavesOnly}
+use Rattle.sector.specs.{declared.device.Sectors.Ghosts, SectorModel.IsSameElsewhere, SectorModel.LeavesNoMore, SectorModel.LeavesOnly}
 use Rattle.model.specs.Map.{KeyMap, KeyWrite}
-use Rattle.commit_log.specs.Format.{current, head_sector}
+use Rattle.commit_log.specs.{Format.current, Format.head_sector, LogImage.IsLogImage, LogImage.span, LogState.IsSameBefore, declared.faults.LogFault.LogFault}
 use Rattle.commit_log.specs.RecordFormat.{first_digest, open_gate, record_body, record_digest, sectors_in}
-use Rattle.commit_log.specs.LogImage.{IsLogImage, span}
-use Rattle.commit_log.specs.LogState.{IsSameBefore}
-use Rattle.commit_log.specs.declared.faults.LogFault.{LogFault}
 use Rattle.commit_log.specs.declared.faults.LogFault.TheVariants.{Full, Device, Memory, NotEmpty}
 
 -- a put of each pair

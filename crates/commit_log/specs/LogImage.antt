@@ -2,8 +2,7 @@
 -- relation is one for every format of the log.
 use Rattle.std.specs.Prelude.{◌≡◌, ◌⊎◌, ℕ, suc, ◌+◌, ◌<◌, ◌≤◌, true, false, List, [], ◌∷◌, length, take, drop, slice_get, Option, Some, MatchOption}
 use Rattle.model.specs.Map.{KeyWrite}
-use Rattle.commit_log.specs.Format.{head_sector}
-use Rattle.commit_log.specs.declared.formats.LogFormat.{LogFormat}
+use Rattle.commit_log.specs.{Format.head_sector, declared.formats.LogFormat.LogFormat}
 use Rattle.commit_log.specs.RecordFormat.{IsWriteSet, is_open, body_sectors, record_body, record_digest, first_digest}
 
 -- These sectors hold a record for each write set in turn, the first with this index and with this digest before it, and

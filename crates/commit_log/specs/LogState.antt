@@ -3,11 +3,9 @@ use Rattle.std.specs.Prelude.{◌≡◌, ◌⊎◌, ◌≤◌, ℕ, ◌+◌, ◌
 use Rattle.sector.specs.declared.device.Sectors.{Ghosts}
 use Rattle.sector.specs.SectorModel.{FollowsWrites, IsSettled, IsSameElsewhere, LeavesNoMore, LeavesOnly, ReadsNoMoreOutside}
 use Rattle.model.specs.Map.{KeyWrite}
-use Rattle.commit_log.specs.Format.{current}
+use Rattle.commit_log.specs.{Format.current, Staging.IsStaged, declared.log.Log.Log}
 use Rattle.commit_log.specs.RecordFormat.{IsWriteSet, body_sectors, padded_body, first_digest, closed_gate}
 use Rattle.commit_log.specs.LogImage.{IsLogImage, span, last_digest, next_index}
-use Rattle.commit_log.specs.Staging.{IsStaged}
-use Rattle.commit_log.specs.declared.log.Log.{Log}
 
 -- how many records a log has, and how many sectors it uses, up to and with its closed gate
 abbrev pub record_count : {D : Type 0} {g : Ghosts D} → Log D g → ℕ

@@ -1,21 +1,12 @@
 -- How opening a log ends, by what the device held.
 use Rattle.std.specs.Prelude.{◌≡◌, ◌⊎◌, ℕ, List, [], length, Result, MatchResult, IsErrAnd, IfErr}
-use Rattle.sector.specs.declared.device.Sectors.{Ghosts}
-use Rattle.sector.specs.SectorModel.{LeavesNoMore}
+use Rattle.sector.specs.{declared.device.Sectors.Ghosts, SectorModel.LeavesNoMore}
 use Rattle.model.specs.Map.{KeyMap, KeyWrite}
-use Rattle.commit_log.specs.Format.{current}
-use Rattle.commit_log.specs.LogFaults.{IsDeviceOrMemory}
+use Rattle.commit_log.specs.{Format.current, LogFaults.IsDeviceOrMemory, LogState.Holds, LogState.StandsFor, LogState.device_of, Opening.CanSettle, Recovery.map_after}
 use Rattle.commit_log.specs.LogImage.{IsLogImage, IsDamaged, HasHead, IsNoLog}
-use Rattle.commit_log.specs.LogState.{Holds, StandsFor, device_of}
-use Rattle.commit_log.specs.Opening.{CanSettle}
-use Rattle.commit_log.specs.Reading.{LeavesAsBefore, OfEachRead, ReadsAs}
-use Rattle.commit_log.specs.Recovery.{map_after}
-use Rattle.commit_log.specs.declared.faults.LogFault.{LogFault}
+use Rattle.commit_log.specs.{Reading.LeavesAsBefore, Reading.OfEachRead, Reading.ReadsAs, declared.faults.LogFault.LogFault, declared.faults.Unopened.Unopened}
 use Rattle.commit_log.specs.declared.faults.LogFault.TheVariants.{NotALog, Damaged, OldFormat}
-use Rattle.commit_log.specs.declared.faults.Unopened.{Unopened}
-use Rattle.commit_log.specs.declared.formats.LogFormat.{LogFormat}
-use Rattle.commit_log.specs.declared.formats.LogFormat.TheVariants.{One}
-use Rattle.commit_log.specs.declared.log.Log.{Log}
+use Rattle.commit_log.specs.{declared.formats.LogFormat.LogFormat, declared.formats.LogFormat.TheVariants.One, declared.log.Log.Log}
 
 -- the log and the map are those of an image that the device might hold before, and now holds
 abbrev pub OpensWhatWas : {D : Type 0} {g : Ghosts D} → D → Log D g → KeyMap → Type 0

@@ -2,16 +2,9 @@
 use Rattle.std.specs.Prelude.{◌≡◌, ◌+◌, ℕ, List, [], length, drop, slice_get, Option, Some, Result, MatchResult}
 use Rattle.sector.specs.declared.device.Sectors.{Ghosts}
 use Rattle.model.specs.Map.{KeyWrite}
-use Rattle.commit_log.specs.Format.{current}
-use Rattle.commit_log.specs.RecordFormat.{first_digest}
+use Rattle.commit_log.specs.{Format.current, RecordFormat.first_digest, LogState.Holds, Recovery.map_after, declared.formats.LogFormat.LogFormat}
 use Rattle.commit_log.specs.LogImage.{HoldsRecords, HoldsDamage, IsLogImage, IsDamaged, HasHead, HasNoRecord, BeginsWith, IsNoLog, IsRecordAt, span, last_digest}
-use Rattle.commit_log.specs.LogState.{Holds}
-use Rattle.commit_log.specs.Recovery.{map_after}
-use Rattle.commit_log.specs.declared.formats.LogFormat.{LogFormat}
-use Rattle.commit_log.specs.declared.formats.LogFormat.TheVariants.{One}
-use Rattle.commit_log.specs.declared.read.Found.{Found}
-use Rattle.commit_log.specs.declared.read.Record.{Record}
-use Rattle.commit_log.specs.declared.faults.LogFault.{LogFault}
+use Rattle.commit_log.specs.{declared.formats.LogFormat.TheVariants.One, declared.read.Found.Found, declared.read.Record.Record, declared.faults.LogFault.LogFault}
 use Rattle.commit_log.specs.declared.faults.LogFault.TheVariants.{NotALog, Damaged, Device, Memory, OldFormat}
 
 -- it tells of the records of these write sets

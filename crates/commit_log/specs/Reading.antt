@@ -1,10 +1,7 @@
 -- What calls that only read a device change.
 use Rattle.std.specs.Prelude.{◌≡◌, ◌+◌, ◌*◌, ◌<◌, ℕ, List, length, take, drop, Option, Result, MatchResult, IfOk, OnOk, IfSome, IfNone, slice_get, Some}
-use Rattle.sector.specs.declared.device.Sectors.{Ghosts}
-use Rattle.sector.specs.SectorModel.{LeavesNoMore, LeavesOnly, ReadsNoMore}
-use Rattle.sector.specs.Failures.{Rose}
-use Rattle.commit_log.specs.declared.faults.LogFault.{LogFault}
-use Rattle.commit_log.specs.declared.faults.LogFault.TheVariants.{Device}
+use Rattle.sector.specs.{declared.device.Sectors.Ghosts, SectorModel.LeavesNoMore, SectorModel.LeavesOnly, SectorModel.ReadsNoMore, Failures.Rose}
+use Rattle.commit_log.specs.{declared.faults.LogFault.LogFault, declared.faults.LogFault.TheVariants.Device}
 
 -- this fault is `Device` exactly where a call of the device failed
 abbrev pub TellsFailure : ℕ → ℕ → LogFault → Type 0

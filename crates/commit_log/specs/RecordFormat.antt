@@ -1,16 +1,10 @@
 -- The bytes of the log's sectors. All numbers are big-endian.
 use Rattle.std.specs.Prelude.{◌≡◌, ℕ, zero, suc, ◌+◌, ◌-◌, ◌*◌, ◌/◌, ◌≤◌, Bool, T, ◌==◌, List, [], ◌∷◌, ◌++◌, length, take, drop, replicate, All, IfSome, Option, Some, None, slice_index, slice_index_or}
-use Rattle.std.specs.List.{flat_map}
-use Rattle.std.specs.Cmp.Lexicographic.{slice_cmp}
-use Rattle.std.specs.Ordering.{nat_cmp}
-use Rattle.std.specs.declared.cmp.Ordering.TheVariants.{Less}
-use Rattle.std.specs.FinMap.Entries.{is_sorted}
+use Rattle.std.specs.{List.flat_map, Cmp.Lexicographic.slice_cmp, Ordering.nat_cmp, declared.cmp.Ordering.TheVariants.Less, FinMap.Entries.is_sorted}
 use Rattle.byteorder.specs.Endian.{big_bytes}
 use Rattle.sha2.specs.Sha256.{sha256}
-use Rattle.model.specs.Key.{IsKey}
-use Rattle.model.specs.Map.{KeyWrite, key_cmp}
-use Rattle.commit_log.specs.Format.{value_bound}
-use Rattle.commit_log.specs.declared.formats.LogFormat.{LogFormat}
+use Rattle.model.specs.{Key.IsKey, Map.KeyWrite, Map.key_cmp}
+use Rattle.commit_log.specs.{Format.value_bound, declared.formats.LogFormat.LogFormat}
 pub use Rattle.model.specs.Machine.{body_sectors}
 
 -- what stands behind an entry's key: a put with its value, or a deletion

@@ -1,10 +1,8 @@
 -- What an image holds while a record is appended.
 use Rattle.std.specs.Prelude.{◌≡◌, ℕ, ◌+◌, true, List, [], ◌∷◌, take, drop}
 use Rattle.model.specs.Map.{KeyWrite}
-use Rattle.commit_log.specs.Format.{head_sector}
-use Rattle.commit_log.specs.declared.formats.LogFormat.{LogFormat}
+use Rattle.commit_log.specs.{Format.head_sector, declared.formats.LogFormat.LogFormat, LogImage.HoldsRecords}
 use Rattle.commit_log.specs.RecordFormat.{IsWriteSet, is_open, body_sectors, record_body, record_digest, first_digest}
-use Rattle.commit_log.specs.LogImage.{HoldsRecords}
 
 -- records of these write sets, then a gate, the body of one more record, and a closed gate
 abbrev pub Staged : LogFormat → List (List KeyWrite) → List KeyWrite → ℕ → List ℕ → List (List ℕ) → Type 0

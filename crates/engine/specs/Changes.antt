@@ -1,12 +1,8 @@
 -- What the engine's private calls change.
 use Rattle.std.specs.Prelude.{◌≡◌, ℕ, ◌+◌, ◌<◌, ◌≤◌, true, false, List, [], ◌∷◌, length, Option}
-use Rattle.std.specs.Ordering.{nat_cmp}
-use Rattle.std.specs.Map.{lookup, remove_entry}
-use Rattle.std.specs.BTreeMap.{is_at}
-use Rattle.model.specs.Map.{KeyWrite}
-use Rattle.model.specs.Machine.{body_sectors}
-use Rattle.sector.specs.declared.device.Sectors.{Ghosts}
-use Rattle.sector.specs.Failures.{Rose, Stayed}
+use Rattle.std.specs.{Ordering.nat_cmp, Map.lookup, Map.remove_entry, BTreeMap.is_at}
+use Rattle.model.specs.{Map.KeyWrite, Machine.body_sectors}
+use Rattle.sector.specs.{declared.device.Sectors.Ghosts, Failures.Rose, Failures.Stayed}
 use Rattle.commit_log.specs.declared.log.Log.{Log}
 use Rattle.commit_log.specs.LogState.{is_stopped, used_sectors, sector_count, failure_count}
 use Rattle.snapshot.specs.View.{View}

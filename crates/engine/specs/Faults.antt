@@ -2,9 +2,8 @@
 use Rattle.snapshot.specs.declared.faults.SnapshotFault.{SnapshotFault}
 use Rattle.snapshot.specs.declared.faults.SnapshotFault.TheVariants.{FullWrites, FullMarks, Memory}
 use Rattle.model.specs.declared.refusals.Refusal.TheVariants as refusals
-use Rattle.engine.specs.declared.faults.EngineFault.{EngineFault}
+use Rattle.engine.specs.{declared.faults.EngineFault.EngineFault, declared.faults.ReadFault.ReadFault}
 use Rattle.engine.specs.declared.faults.EngineFault.TheVariants as faults
-use Rattle.engine.specs.declared.faults.ReadFault.{ReadFault}
 use Rattle.engine.specs.declared.faults.ReadFault.TheVariants as reads
 
 abbrev pub of_write : SnapshotFault → EngineFault

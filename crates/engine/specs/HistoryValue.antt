@@ -1,11 +1,8 @@
 -- What has committed, as contracts see it: the versions of its writes, and what is kept to check later commits.
 use Rattle.std.specs.Prelude.{◌≡◌, ◌↔◌, ℕ, ◌+◌, ◌&&◌, Bool, IsTrue, nat_lt, List, [], ◌∷◌, ◌++◌}
 use Rattle.std.specs.List.{AllByRecursion}
-use Rattle.model.specs.Map.{KeyMap}
-use Rattle.model.specs.History.{Record}
-use Rattle.versions.specs.Chains.{ChainsValue, IsPrepared}
-use Rattle.versions.specs.Listings.{IsUnmixed}
-use Rattle.versions.specs.Meaning.{IsSameMeaning, due_of, is_among}
+use Rattle.model.specs.{Map.KeyMap, History.Record}
+use Rattle.versions.specs.{Chains.ChainsValue, Chains.IsPrepared, Listings.IsUnmixed, Meaning.IsSameMeaning, Meaning.due_of, Meaning.is_among}
 use Rattle.versions.specs.StandsFor.{StandsFor as VersionsStandFor}
 use Rattle.pivot_check.specs.Kept.{CommittedValue, HasRoom, IsInReach, runs_due}
 use Rattle.pivot_check.specs.StandsFor.{StandsFor as CommittedStandsFor, IsRecordOf, IsClear}

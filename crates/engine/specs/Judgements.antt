@@ -1,25 +1,14 @@
 -- What a COMMIT was judged to be.
 use Rattle.std.specs.Prelude.{◌≡◌, ℕ, ◌<◌, ◌-◌, ◌^◌, Bool, false, List, [], Option, Some, None, is_some, length, slice_index_or}
-use Rattle.model.specs.declared.refusals.Refusal.{Refusal}
+use Rattle.model.specs.{declared.refusals.Refusal.Refusal, Map.KeyMap, Map.KeyWrite, Operations.Operation, Operations.Operation.Commit, PrivateCopy.writes}
 use Rattle.model.specs.declared.refusals.Refusal.TheVariants as refusals
-use Rattle.model.specs.Map.{KeyMap, KeyWrite}
-use Rattle.model.specs.Operations.{Operation}
-use Rattle.model.specs.Operations.Operation.{Commit}
-use Rattle.model.specs.PrivateCopy.{writes}
 use Rattle.model.specs.Machine.{State, refuse, step, payload_size}
-use Rattle.snapshot.specs.View.{View}
-use Rattle.snapshot.specs.Made.{HasMade}
-use Rattle.pivot_check.specs.Kept.{IsInReach}
-use Rattle.pivot_check.specs.Index.{target}
-use Rattle.pivot_check.specs.StandsFor.{IsClear}
+use Rattle.snapshot.specs.{View.View, Made.HasMade}
+use Rattle.pivot_check.specs.{Kept.IsInReach, Index.target, StandsFor.IsClear}
 use Rattle.sector.specs.declared.device.Sectors.{Ghosts}
-use Rattle.commit_log.specs.declared.log.Log.{Log}
-use Rattle.commit_log.specs.LogState.{is_stopped, used_sectors, sector_count}
-use Rattle.engine.specs.declared.engine.Engine.{Engine}
-use Rattle.engine.specs.declared.judging.Judgement.{Judgement}
+use Rattle.commit_log.specs.{declared.log.Log.Log, LogState.is_stopped, LogState.used_sectors, LogState.sector_count}
+use Rattle.engine.specs.{declared.engine.Engine.Engine, declared.judging.Judgement.Judgement, HistoryValue.HistoryValue, StandsFor.StandsFor}
 use Rattle.engine.specs.declared.judging.Judgement.TheVariants.{Refused, Overwritten, Clear}
-use Rattle.engine.specs.HistoryValue.{HistoryValue}
-use Rattle.engine.specs.StandsFor.{StandsFor}
 use Rattle.engine.specs.Changes.{entry_of, IsWritten, HasLogRoom}
 
 -- the machine ends the session's transaction by this refusal, whether or not the device fails

@@ -1,31 +1,18 @@
 -- What a call of the engine does to the states of the machine that it stands for.
 use Rattle.std.specs.Prelude.{◌≡◌, ◌↔◌, ◌⊎◌, ℕ, ◌-◌, ◌^◌, Bool, true, false, ◌||◌, nat_lt, ◌==◌, ◌≤◌, Option, Some, None, option_copied, Result, Ok, Err, IsTrue, IsFalse, List, [], map}
-use Rattle.std.specs.Borrow.{Bor}
-use Rattle.model.specs.declared.keys.KeyRef.{KeyRef}
-use Rattle.model.specs.declared.ranges.RangeRef.{RangeRef}
-use Rattle.model.specs.KeyBytes.{key_bytes}
-use Rattle.model.specs.Operations.{Operation, Response}
-use Rattle.model.specs.Operations.Operation.{Commit, Get}
-use Rattle.model.specs.Operations.Response.{Refused, Value, Pairs}
-use Rattle.model.specs.declared.refusals.Refusal.TheVariants.{NotOpen, FullMarks}
-use Rattle.model.specs.Map.{Bytes}
-use Rattle.model.specs.Leading.{LeadsBy}
+use Rattle.std.specs.{Borrow.Bor, List.AllByRecursion, List.list_any}
+use Rattle.model.specs.{declared.keys.KeyRef.KeyRef, declared.ranges.RangeRef.RangeRef, KeyBytes.key_bytes, Operations.Operation, Operations.Response, Map.Bytes}
+use Rattle.model.specs.{Operations.Operation.Commit, Operations.Operation.Get, Operations.Response.Refused, Operations.Response.Value, Operations.Response.Pairs}
+use Rattle.model.specs.{declared.refusals.Refusal.TheVariants.NotOpen, declared.refusals.Refusal.TheVariants.FullMarks, Leading.LeadsBy, PrivateCopy.Mark.OfKey}
 use Rattle.model.specs.PrivateCopy.{PrivateCopy, copy_of, copy_after, writes, is_written, is_same_mark}
-use Rattle.model.specs.PrivateCopy.Mark.{OfKey}
 use Rattle.model.specs.Machine.{State, Running, running_of, last, snapshot, step}
-use Rattle.std.specs.List.{AllByRecursion, list_any}
-use Rattle.sector.specs.declared.device.Sectors.{Ghosts}
-use Rattle.sector.specs.SectorModel.{LeavesOnly}
+use Rattle.sector.specs.{declared.device.Sectors.Ghosts, SectorModel.LeavesOnly}
 use Rattle.commit_log.specs.LogState.{failure_count, device_of as log_device, is_stopped as is_log_stopped}
-use Rattle.engine.specs.declared.engine.Engine.{Engine}
-use Rattle.engine.specs.declared.faults.EngineFault.{EngineFault}
+use Rattle.engine.specs.{declared.engine.Engine.Engine, declared.faults.EngineFault.EngineFault, declared.faults.ReadFault.ReadFault}
 use Rattle.engine.specs.declared.faults.EngineFault.TheVariants.{Refused as Refusing, Memory}
-use Rattle.engine.specs.declared.faults.ReadFault.{ReadFault}
 use Rattle.engine.specs.declared.faults.ReadFault.TheVariants as reads
 use Rattle.versions.specs.Chains.{ChainsValue}
-use Rattle.snapshot.specs.declared.rows.Rows.{Rows}
-use Rattle.snapshot.specs.RowPairs.{row_pairs}
-use Rattle.snapshot.specs.Made.{is_refused, range_read}
+use Rattle.snapshot.specs.{declared.rows.Rows.Rows, RowPairs.row_pairs, Made.is_refused, Made.range_read}
 use Rattle.engine.specs.Recovery.{HoldsMap, committed_map}
 use Rattle.pivot_check.specs.Kept.{Facts, CommittedValue, HasForgotten}
 pub use Rattle.engine.specs.StandsFor.{StandsFor}

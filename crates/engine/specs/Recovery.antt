@@ -1,15 +1,8 @@
 -- What a crash leaves of the store.
 use Rattle.std.specs.Prelude.{◌≡◌, ◌⊎◌, ℕ, true, false, List, [], length}
-use Rattle.model.specs.Map.{KeyMap, KeyWrite, after_writes}
-use Rattle.model.specs.History.{map_at}
-use Rattle.model.specs.Machine.{State}
-use Rattle.sector.specs.declared.device.Sectors.{Ghosts}
-use Rattle.sector.specs.SectorModel.{LeavesOnly}
-use Rattle.commit_log.specs.declared.log.Log.{Log}
-use Rattle.commit_log.specs.Format.{current}
-use Rattle.commit_log.specs.LogImage.{IsLogImage}
-use Rattle.commit_log.specs.LogState.{StandsFor as LogStandsFor, device_of}
-use Rattle.commit_log.specs.Recovery.{map_after}
+use Rattle.model.specs.{Map.KeyMap, Map.KeyWrite, Map.after_writes, History.map_at, Machine.State}
+use Rattle.sector.specs.{declared.device.Sectors.Ghosts, SectorModel.LeavesOnly}
+use Rattle.commit_log.specs.{declared.log.Log.Log, Format.current, LogImage.IsLogImage, LogState.StandsFor as LogStandsFor, LogState.device_of, Recovery.map_after}
 
 -- the image is that of a log whose write sets make this map
 abbrev pub HoldsMap : List (List ℕ) → KeyMap → Type 0

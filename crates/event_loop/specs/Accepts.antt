@@ -1,9 +1,8 @@
 -- What a listener has answered so far, and what a turn's accepts come to.
 use Rattle.std.specs.Prelude.{◌≡◌, ℕ, ◌+◌, ◌<◌, ◌-◌, ◌^◌, min, max}
 use Rattle.stream_driver.specs.Traffic.{one_more}
-use Rattle.event_loop.specs.declared.listener.AcceptAnswer.{AcceptAnswer}
+use Rattle.event_loop.specs.{declared.listener.AcceptAnswer.AcceptAnswer, declared.connections.Backlog.Backlog}
 use Rattle.event_loop.specs.declared.listener.AcceptAnswer.TheVariants.{Taken, Blocked, Failed}
-use Rattle.event_loop.specs.declared.connections.Backlog.{Backlog}
 use Rattle.event_loop.specs.declared.connections.Backlog.TheVariants.{Empty, More, Failed as BacklogFailed}
 
 -- how often each answer was given

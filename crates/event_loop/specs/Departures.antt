@@ -1,29 +1,15 @@
 -- What left over the connections was answered before, and no crash since loses it.
 use Rattle.std.specs.Prelude.{◌≡◌, ℕ, Bool, List, Option, Some, length, map}
 use Rattle.std.specs.List.{AllByRecursion, Contains}
-use Rattle.model.specs.History.{Record}
-use Rattle.model.specs.Machine.{opened}
-use Rattle.model.specs.Operations.{Response}
-use Rattle.model.specs.Operations.Response.{Number}
+use Rattle.model.specs.{History.Record, Machine.opened, Operations.Response, Operations.Response.Number}
 use Rattle.sector.specs.declared.device.Sectors.{Ghosts}
-use Rattle.sessions.specs.declared.hub.Hub.{Hub}
-use Rattle.sessions.specs.Life.{Holds, MayFind}
+use Rattle.sessions.specs.{declared.hub.Hub.Hub, Life.Holds, Life.MayFind, StandsFor.device}
 use Rattle.sessions.specs.Lives.{FollowOn, Life, LoseNothing, Served}
 use Rattle.sessions.specs.SessionStreams.{HubState, hub_over, replies_text, run}
-use Rattle.sessions.specs.StandsFor.{device}
-use Rattle.stream_driver.specs.declared.buffered.BufferedStream.{BufferedStream}
-use Rattle.stream_driver.specs.declared.entries.Entry.{Entry}
-use Rattle.stream_driver.specs.Buffers.{traffic_through}
-use Rattle.stream_driver.specs.Entries.{EndsDrive}
-use Rattle.stream_driver.specs.Sends.{IsAnswered, IsToldBefore}
-use Rattle.stream_driver.specs.Traffic.{Departure, IsBeginning, Traffic}
-use Rattle.event_loop.specs.declared.lingering.Dropped.{Dropped}
-use Rattle.event_loop.specs.declared.lingering.Lingerer.{Lingerer}
-use Rattle.event_loop.specs.declared.socket.Socket.{Socket}
-use Rattle.event_loop.specs.Lingerings.{DropsIf}
-use Rattle.event_loop.specs.Sockets.{SocketsTell, session_of, traffic_of}
-use Rattle.event_loop.specs.TableBytes.{HaveBytes}
-use Rattle.event_loop.specs.Tables.{slot_at}
+use Rattle.stream_driver.specs.{declared.buffered.BufferedStream.BufferedStream, declared.entries.Entry.Entry, Buffers.traffic_through, Entries.EndsDrive}
+use Rattle.stream_driver.specs.{Sends.IsAnswered, Sends.IsToldBefore, Traffic.Departure, Traffic.IsBeginning, Traffic.Traffic}
+use Rattle.event_loop.specs.{declared.lingering.Dropped.Dropped, declared.lingering.Lingerer.Lingerer, declared.socket.Socket.Socket, Lingerings.DropsIf}
+use Rattle.event_loop.specs.{Sockets.SocketsTell, Sockets.session_of, Sockets.traffic_of, TableBytes.HaveBytes, Tables.slot_at}
 
 -- a number, which is answered to a COMMIT alone, is that of a transaction of this history
 abbrev pub IsCommitted : List Record → Response → Type 0

@@ -1,12 +1,8 @@
 -- What a turn makes of the connections of those that left, and of those that linger.
 use Rattle.std.specs.Prelude.{◌≡◌, ◌≢◌, ℕ, ◌+◌, ◌≤◌, Bool, true, false, List, length, Option, Some, None}
 use Rattle.std.specs.declared.time.Instant.{Instant}
-use Rattle.stream_driver.specs.declared.buffered.BufferedStream.{BufferedStream}
-use Rattle.stream_driver.specs.declared.entries.Entry.{Entry}
-use Rattle.stream_driver.specs.Entries.{is_over}
-use Rattle.event_loop.specs.declared.socket.Socket.{Socket}
-use Rattle.event_loop.specs.Lingerings.{AreTurned, Leaves, Lingerers}
-use Rattle.event_loop.specs.Sockets.{SocketsTell, traffic_of}
+use Rattle.stream_driver.specs.{declared.buffered.BufferedStream.BufferedStream, declared.entries.Entry.Entry, Entries.is_over}
+use Rattle.event_loop.specs.{declared.socket.Socket.Socket, Lingerings.AreTurned, Lingerings.Leaves, Lingerings.Lingerers, Sockets.SocketsTell, Sockets.traffic_of}
 use Rattle.event_loop.specs.Tables.{EndsTurn, slot_at}
 
 module _ (now : Option Instant) (moment : ℕ) where

@@ -1,18 +1,13 @@
 -- The connections that linger.
 use Rattle.std.specs.Prelude.{◌≡◌, ◌⊎◌, ℕ, ◌+◌, ◌*◌, ◌<◌, ◌-◌, ◌||◌, min, length, List, [], ◌∷◌, ◌++◌, Bool, true, false, Option, Some, None}
-use Rattle.std.specs.Time.{FitsClock, instant_nanos}
-use Rattle.std.specs.declared.time.Instant.{Instant}
+use Rattle.std.specs.{Time.FitsClock, Time.instant_nanos, declared.time.Instant.Instant}
 use Rattle.stream_driver.specs.Traffic.{DepartAt, Traffic, one_more}
-use Rattle.event_loop.specs.declared.connections.Backlog.{Backlog}
+use Rattle.event_loop.specs.{declared.connections.Backlog.Backlog, declared.lingering.Dropped.Dropped, declared.lingering.Lingerer.Lingerer}
 use Rattle.event_loop.specs.declared.connections.Backlog.TheVariants.{Empty, More, Failed}
-use Rattle.event_loop.specs.declared.lingering.Dropped.{Dropped}
 use Rattle.event_loop.specs.declared.lingering.Dropped.TheVariants.{Blocked, All, Over}
-use Rattle.event_loop.specs.declared.lingering.Lingerer.{Lingerer}
-use Rattle.event_loop.specs.declared.lingering.Lingering.{Lingering}
+use Rattle.event_loop.specs.{declared.lingering.Lingering.Lingering, declared.socket.Socket.Socket, Sockets.SocketsTell, Sockets.traffic_of}
 use Rattle.event_loop.specs.declared.lingering.TheConstants.{LINGERING_MAX, LINGERING_BYTES, LINGERING_BYTES_A_TURN, LINGERING_SECONDS}
-use Rattle.event_loop.specs.declared.socket.Socket.{Socket}
 use Rattle.event_loop.specs.Drops.{GivesAtMost, WhyDropped, left_after, newest}
-use Rattle.event_loop.specs.Sockets.{SocketsTell, traffic_of}
 
 -- those that linger, oldest first; whether there may be input of which no poll will tell; and how often the system refused to let one linger
 pub record Lingerers : Type 0 where

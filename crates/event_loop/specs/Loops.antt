@@ -2,8 +2,7 @@
 use Rattle.sector.specs.declared.device.Sectors.{Ghosts}
 use Rattle.sessions.specs.declared.hub.Hub.{Hub}
 use Rattle.stream_driver.specs.Entries.{HaveSessions}
-use Rattle.event_loop.specs.declared.server.EventLoop.{EventLoop}
-use Rattle.event_loop.specs.Tables.{HaveEntries}
+use Rattle.event_loop.specs.{declared.server.EventLoop.EventLoop, Tables.HaveEntries}
 
 abbrev pub hub_of : {D : Type 0} {g : Ghosts D} → EventLoop D g → Hub D g
 hub_of events = events.hub

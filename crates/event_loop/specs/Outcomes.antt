@@ -1,13 +1,9 @@
 -- What the system's answers to calls that don't wait are told as.
 use Rattle.std.specs.Prelude.{◌≡◌, ◌≢◌, ◌⊎◌, ◌<◌, ℕ, Result, Ok, Err}
-use Rattle.std.specs.IoError.{error_kind}
-use Rattle.std.specs.declared.io.Error.{Error}
-use Rattle.std.specs.declared.io.ErrorKind.TheVariants.{WouldBlock}
-use Rattle.std.specs.declared.net.SocketAddr.{SocketAddr}
+use Rattle.std.specs.{IoError.error_kind, declared.io.Error.Error, declared.io.ErrorKind.TheVariants.WouldBlock, declared.net.SocketAddr.SocketAddr}
 use Rattle.mio.specs.declared.net.stream.TcpStream.{TcpStream}
-use Rattle.stream_driver.specs.declared.answers.ReadAnswer.{ReadAnswer}
+use Rattle.stream_driver.specs.{declared.answers.ReadAnswer.ReadAnswer, declared.answers.WriteAnswer.WriteAnswer}
 use Rattle.stream_driver.specs.declared.answers.ReadAnswer.TheVariants.{Moved, Blocked, Failed, Ended}
-use Rattle.stream_driver.specs.declared.answers.WriteAnswer.{WriteAnswer}
 use Rattle.stream_driver.specs.declared.answers.WriteAnswer.TheVariants.{Moved as Wrote, Blocked as WriteBlocked, Failed as WriteFailed}
 use Rattle.event_loop.specs.declared.listener.AcceptAnswer.{AcceptAnswer}
 use Rattle.event_loop.specs.declared.listener.AcceptAnswer.TheVariants.{Taken, Blocked as AcceptBlocked, Failed as AcceptFailed}

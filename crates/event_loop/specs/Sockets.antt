@@ -1,11 +1,8 @@
 -- The premise that sockets tell the bytes that they move, over the open facts of a connection and the calls that were really made of it.
 use Rattle.std.specs.Prelude.{◌≡◌, ℕ, List, [], ◌∷◌, ◌++◌, map}
 use Rattle.socket_calls.specs.OpenFacts.{departed, given, taken, next}
-use Rattle.socket_calls.specs.HappenedCalls.{SendsAtOnce, WasReceived, WasSent}
-use Rattle.socket_calls.specs.declared.counted.CountedSocket.{CountedSocket}
-use Rattle.stream_driver.specs.declared.buffered.BufferedStream.{BufferedStream}
-use Rattle.stream_driver.specs.Buffers.{IsNew}
-use Rattle.stream_driver.specs.Counts.{counted_with}
+use Rattle.socket_calls.specs.{HappenedCalls.SendsAtOnce, HappenedCalls.WasReceived, HappenedCalls.WasSent, declared.counted.CountedSocket.CountedSocket}
+use Rattle.stream_driver.specs.{declared.buffered.BufferedStream.BufferedStream, Buffers.IsNew, Counts.counted_with}
 use Rattle.stream_driver.specs.Traffic.{Departure, Traffic, IsUncalled}
 use Rattle.event_loop.specs.declared.socket.Socket.{Socket}
 

@@ -2,20 +2,11 @@
 use Rattle.std.specs.Prelude.{◌≡◌, ◌≢◌, ℕ, ◌++◌, List, Option, Some}
 use Rattle.model.specs.Map.{Bytes}
 use Rattle.sector.specs.declared.device.Sectors.{Ghosts}
-use Rattle.sessions.specs.declared.events.Status.TheVariants.{Open}
-use Rattle.sessions.specs.declared.hub.Hub.{Hub}
-use Rattle.sessions.specs.Laws.{IsLawful}
+use Rattle.sessions.specs.{declared.events.Status.TheVariants.Open, declared.hub.Hub.Hub, Laws.IsLawful, StandsFor.StandsFor}
 use Rattle.sessions.specs.SessionStreams.{HubState, SessionStream, replies_text, requests_text, stream_of}
-use Rattle.sessions.specs.StandsFor.{StandsFor}
-use Rattle.stream_driver.specs.declared.buffered.BufferedStream.{BufferedStream}
-use Rattle.stream_driver.specs.declared.entries.Entry.{Entry}
-use Rattle.stream_driver.specs.declared.entries.EntryState.TheVariants.{Gone}
-use Rattle.stream_driver.specs.Buffers.{traffic_through}
-use Rattle.stream_driver.specs.Sessions.{Leads}
-use Rattle.stream_driver.specs.Traffic.{Traffic}
-use Rattle.event_loop.specs.declared.socket.Socket.{Socket}
-use Rattle.event_loop.specs.Sockets.{SocketsTell, traffic_of}
-use Rattle.event_loop.specs.Tables.{slot_at}
+use Rattle.stream_driver.specs.{declared.buffered.BufferedStream.BufferedStream, declared.entries.Entry.Entry, declared.entries.EntryState.TheVariants.Gone}
+use Rattle.stream_driver.specs.{Buffers.traffic_through, Sessions.Leads, Traffic.Traffic}
+use Rattle.event_loop.specs.{declared.socket.Socket.Socket, Sockets.SocketsTell, Sockets.traffic_of, Tables.slot_at}
 
 module _ {T : Type 0} (tells : Type 0) (traffic : T → Traffic) where
   -- all that the stream gave was received, and all that was sent the stream took

@@ -3,25 +3,14 @@ use Rattle.std.specs.Prelude.{◌≡◌, ◌≢◌, ◌⊎◌, ℕ, ◌+◌, ◌
 use Rattle.std.proofs.Common.{inl, inr}
 use Rattle.std.specs.List.{list_any}
 use Rattle.slab.specs.Slab.{Slab, entries}
-use Rattle.mio.specs.declared.event.event.Event.{Event}
-use Rattle.mio.specs.Event.{event_token, is_priority, is_read_closed}
+use Rattle.mio.specs.{declared.event.event.Event.Event, Event.event_token, Event.is_priority, Event.is_read_closed}
 use Rattle.sector.specs.declared.device.Sectors.{Ghosts}
-use Rattle.sessions.specs.declared.events.Outcome.{Outcome}
-use Rattle.sessions.specs.declared.events.Outcome.TheVariants.{Done}
-use Rattle.sessions.specs.declared.events.Status.TheVariants.{Absent}
-use Rattle.sessions.specs.declared.hub.Hub.{Hub}
-use Rattle.sessions.specs.SessionStreams.{HubEvent, Joins, Choice}
-use Rattle.sessions.specs.StandsFor.{HubLeads, status_of}
-use Rattle.event_loop.specs.declared.connections.Backlog.{Backlog}
-use Rattle.event_loop.specs.Accepts.{Accepts, TurnAccepts}
-use Rattle.stream_driver.specs.declared.entries.EntryState.{EntryState}
+use Rattle.sessions.specs.{declared.events.Outcome.Outcome, declared.events.Outcome.TheVariants.Done, declared.events.Status.TheVariants.Absent, declared.hub.Hub.Hub}
+use Rattle.sessions.specs.{SessionStreams.HubEvent, SessionStreams.Joins, SessionStreams.Choice, StandsFor.HubLeads, StandsFor.status_of}
+use Rattle.event_loop.specs.{declared.connections.Backlog.Backlog, Accepts.Accepts, Accepts.TurnAccepts, Accepts.more}
+use Rattle.stream_driver.specs.{declared.entries.EntryState.EntryState, declared.entries.Entry.Entry, declared.buffered.BufferedStream.BufferedStream, Traffic.Traffic}
 use Rattle.stream_driver.specs.declared.entries.EntryState.TheVariants.{Idle, Ready, Gone}
-use Rattle.stream_driver.specs.declared.entries.Entry.{Entry}
-use Rattle.stream_driver.specs.declared.buffered.BufferedStream.{BufferedStream}
-use Rattle.stream_driver.specs.Entries.{EndsDrive, is_over}
-use Rattle.stream_driver.specs.Traffic.{Traffic}
-use Rattle.stream_driver.specs.Sessions.{Adds, Leads}
-use Rattle.event_loop.specs.Accepts.{more}
+use Rattle.stream_driver.specs.{Entries.EndsDrive, Entries.is_over, Sessions.Adds, Sessions.Leads}
 
 -- no session is present, and none has joined
 abbrev pub HasNobody : {D : Type 0} {g : Ghosts D} → Hub D g → Type 0

@@ -1,40 +1,17 @@
 -- What one turn of the loop does to its hub and its table.
 use Rattle.std.specs.Prelude.{◌≡◌, ◌==◌, ◌||◌, ℕ, ◌+◌, ◌≤◌, Bool, true, false, List, [], Option, Result}
-use Rattle.std.specs.declared.io.Error.{Error}
-use Rattle.std.specs.declared.time.Duration.{Duration}
-use Rattle.std.specs.declared.time.Instant.{Instant}
-use Rattle.std.specs.List.{list_any}
-use Rattle.mio.specs.declared.token.Token.{Token}
-use Rattle.mio.specs.Event.{event_token}
-use Rattle.mio.specs.declared.event.event.Event.{Event}
-use Rattle.mio.specs.Events.{items, capacity as events_capacity}
+use Rattle.std.specs.{declared.io.Error.Error, declared.time.Duration.Duration, declared.time.Instant.Instant, List.list_any}
+use Rattle.mio.specs.{declared.token.Token.Token, Event.event_token, declared.event.event.Event.Event, Events.items, Events.capacity as events_capacity}
 use Rattle.sector.specs.declared.device.Sectors.{Ghosts}
-use Rattle.sessions.specs.declared.hub.Hub.{Hub}
-use Rattle.sessions.specs.Laws.{GivesBack, HasRun}
-use Rattle.sessions.specs.Lives.{Served}
-use Rattle.sessions.specs.SessionStreams.{HubEvent, Choice}
-use Rattle.stream_driver.specs.declared.buffered.BufferedStream.{BufferedStream}
-use Rattle.stream_driver.specs.declared.entries.Entry.{Entry}
-use Rattle.stream_driver.specs.Buffers.{traffic_through}
-use Rattle.stream_driver.specs.Entries.{DrivenAll}
-use Rattle.stream_driver.specs.Sessions.{Adds, Leads, Point}
-use Rattle.stream_driver.specs.Traffic.{Traffic}
-use Rattle.event_loop.specs.declared.server.EventLoop.{EventLoop}
-use Rattle.event_loop.specs.declared.server.TheConstants.{LISTENER}
-use Rattle.event_loop.specs.declared.socket.Socket.{Socket}
-use Rattle.event_loop.specs.declared.listener.Port.{Port}
-use Rattle.event_loop.specs.declared.connections.Backlog.{Backlog}
-use Rattle.event_loop.specs.declared.connections.TheConstants.{LINGERER}
+use Rattle.sessions.specs.{declared.hub.Hub.Hub, Laws.GivesBack, Laws.HasRun, Lives.Served, SessionStreams.HubEvent, SessionStreams.Choice, StandsFor.device}
+use Rattle.stream_driver.specs.{declared.buffered.BufferedStream.BufferedStream, declared.entries.Entry.Entry, Buffers.traffic_through, Entries.DrivenAll}
+use Rattle.stream_driver.specs.{Sessions.Adds, Sessions.Leads, Sessions.Point, Traffic.Traffic, Sends.DrivesTelling}
+use Rattle.event_loop.specs.{declared.server.EventLoop.EventLoop, declared.server.TheConstants.LISTENER, declared.socket.Socket.Socket, declared.listener.Port.Port}
+use Rattle.event_loop.specs.{declared.connections.Backlog.Backlog, declared.connections.TheConstants.LINGERER, declared.polling.Poller.Poller, Accepts.Accepts}
 use Rattle.event_loop.specs.declared.connections.Backlog.TheVariants.{Empty, More, Failed}
-use Rattle.event_loop.specs.declared.polling.Poller.{Poller}
-use Rattle.event_loop.specs.Accepts.{Accepts}
-use Rattle.event_loop.specs.Leavings.{EndAll, LingerOn}
-use Rattle.sessions.specs.StandsFor.{device}
-use Rattle.stream_driver.specs.Sends.{DrivesTelling}
-use Rattle.event_loop.specs.Lingerings.{lingers_in, oldest_waits, unless_failed}
+use Rattle.event_loop.specs.{Leavings.EndAll, Leavings.LingerOn, Lingerings.lingers_in, Lingerings.oldest_waits, Lingerings.unless_failed}
 use Rattle.event_loop.specs.Polls.{Looked, NothingRead, ReadAgain, after_wait, polls_of}
-use Rattle.event_loop.specs.Waits.{nanos_of, own_limit, shorter}
-use Rattle.event_loop.specs.Departures.{AreKept, HoldsAtEnds}
+use Rattle.event_loop.specs.{Waits.nanos_of, Waits.own_limit, Waits.shorter, Departures.AreKept, Departures.HoldsAtEnds}
 use Rattle.event_loop.specs.Sockets.{IsNewSocket, SocketsTell, traffic_of}
 use Rattle.event_loop.specs.Tables.{AcceptsInto, EndsTurn, after_poll, is_any_ready, joins_of, slot_at}
 

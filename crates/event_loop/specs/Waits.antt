@@ -1,7 +1,6 @@
 -- How long a poll may wait.
 use Rattle.std.specs.Prelude.{ℕ, min, Option, Some, None, Bool, true, false}
-use Rattle.std.specs.Duration.{as_nanos}
-use Rattle.std.specs.declared.time.Duration.{Duration}
+use Rattle.std.specs.{Duration.as_nanos, declared.time.Duration.Duration}
 use Rattle.event_loop.specs.declared.connections.Backlog.{Backlog}
 use Rattle.event_loop.specs.declared.connections.Backlog.TheVariants.{Empty, More, Failed}
 

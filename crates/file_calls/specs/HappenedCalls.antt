@@ -2,8 +2,7 @@
 -- the facts of a file are. The lemmas are to be cited only of the call that a proof is about, by the answers in `proofs/` of this crate.
 use Rattle.std.specs.Prelude.{ℕ, Bool, List, Result, Ok, Err, IfErr}
 use Rattle.std.specs.declared.io.Error.{Error}
-use Rattle.file_calls.specs.declared.counted.CountedFile.{CountedFile}
-use Rattle.file_calls.specs.declared.opened.OpenedFile.{OpenedFile}
+use Rattle.file_calls.specs.{declared.counted.CountedFile.CountedFile, declared.opened.OpenedFile.OpenedFile}
 
 -- a call of the system answered this error
 pub WasAnswered : Error → Type 0

@@ -3,10 +3,7 @@ use Rattle.std.proofs.Common.{◌≡◌, ◌≤◌, ℕ, List, [], ◌∷◌, �
 use Rattle.std.specs.Prelude.{max}
 use Rattle.std.proofs.lemmas.Bool.Decides.{nat_tests}
 use Rattle.model.specs.Map.{Bytes}
-use Rattle.last_readers.specs.declared.run.ReadRun.{ReadRun}
-use Rattle.last_readers.specs.Steps.{number_in}
-use Rattle.last_readers.specs.Readers.{cut, greatest_at}
-use Rattle.last_readers.specs.Inside.{run_of, runs_in}
+use Rattle.last_readers.specs.{declared.run.ReadRun.ReadRun, Steps.number_in, Readers.cut, Readers.greatest_at, Inside.run_of, Inside.runs_in}
 
 -- at each key the numbers are the same, where those up to that one count as none
 abbrev pub Agree : ℕ → List ReadRun → List ReadRun → Type 0

@@ -1,7 +1,6 @@
 -- The last reader of each key, by commit number.
 use Rattle.std.specs.Prelude.{◌≡◌, ℕ, ◌<◌, ◌≤◌, max, nat_lt, List, [], ◌∷◌, length, Option, Some, None, IsSome, if◌then◌else◌}
-use Rattle.model.specs.Map.{Bytes}
-use Rattle.model.specs.PrivateCopy.{Mark, is_covered}
+use Rattle.model.specs.{Map.Bytes, PrivateCopy.Mark, PrivateCopy.is_covered}
 use Rattle.merging_runs.specs.Held.{Held, due_upto}
 use Rattle.merging_runs.specs.RunSizes.{RunSize, IsMergedFor, are_alike, moves_for, with_run}
 use Rattle.last_readers.specs.Steps.{StepValue, RunValue, number_at, number_in}

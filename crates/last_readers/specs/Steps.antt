@@ -1,8 +1,6 @@
 -- Numbers by key as a step function: its steps by strictly rising key.
 use Rattle.std.specs.Prelude.{◌≡◌, ℕ, max, Bool, true, ◌&&◌, ◌==◌, if◌then◌else◌, List, [], ◌∷◌}
-use Rattle.std.specs.List.{list_all}
-use Rattle.std.specs.Ordering.{is_lt, is_le}
-use Rattle.std.specs.declared.cmp.Ordering.{Ordering}
+use Rattle.std.specs.{List.list_all, Ordering.is_lt, Ordering.is_le, declared.cmp.Ordering.Ordering}
 use Rattle.std.specs.declared.cmp.Ordering.TheVariants.{Less, Equal, Greater}
 use Rattle.model.specs.Map.{Bytes, key_cmp}
 

@@ -3,10 +3,7 @@ use Rattle.std.specs.Prelude.{List, [], ◌∷◌, ◌++◌, Bool, length, nat_l
 use Rattle.std.specs.List.{list_any}
 use Rattle.marks.specs.declared.owned.OwnedMark.{OwnedMark}
 use Rattle.marks.specs.declared.owned.OwnedMark.TheVariants.{Key, Range, ClosedRange}
-use Rattle.model.specs.declared.keys.KeyRef.{KeyRef}
-use Rattle.model.specs.declared.ranges.RangeRef.{RangeRef}
-use Rattle.model.specs.Map.{Bytes}
-use Rattle.model.specs.PrivateCopy.{Mark, is_same_mark}
+use Rattle.model.specs.{declared.keys.KeyRef.KeyRef, declared.ranges.RangeRef.RangeRef, Map.Bytes, PrivateCopy.Mark, PrivateCopy.is_same_mark}
 use Rattle.model.specs.PrivateCopy.Mark.{OfKey, OfRange, OfClosedRange}
 
 abbrev pub mark_of : OwnedMark → Mark

@@ -1,7 +1,6 @@
 -- What `Runs` holds as contracts see it.
 use Rattle.std.specs.Prelude.{ℕ, ◌+◌, Bool, List, map, Option, Some, None}
-use Rattle.merging_runs.specs.Held.{Held, HeldRun, size_upto}
-use Rattle.merging_runs.specs.RunSizes.{RunSize, IsMergedFor, moves_for}
+use Rattle.merging_runs.specs.{Held.Held, Held.HeldRun, Held.size_upto, RunSizes.RunSize, RunSizes.IsMergedFor, RunSizes.moves_for}
 
 -- the runs, how many more fit without memory, how far each is merged, how much they hold, and how often memory for a merge was refused
 pub record RunsValue (R : Type 0) : Type 0 where

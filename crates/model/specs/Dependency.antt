@@ -4,9 +4,7 @@
 -- of Ports and Grittner (2012).
 use Rattle.std.specs.Prelude.{◌≢◌, Bool, ◌&&◌, ◌||◌, not, List, Contains, nat_lt, nat_le, ◌==◌, IsTrue}
 use Rattle.std.specs.List.{list_any}
-use Rattle.model.specs.Map.{Bytes, is_same_key}
-use Rattle.model.specs.PrivateCopy.{is_covered}
-use Rattle.model.specs.History.{Record}
+use Rattle.model.specs.{Map.Bytes, Map.is_same_key, PrivateCopy.is_covered, History.Record}
 
 -- each began before the other committed
 abbrev pub is_concurrent : Record → Record → Bool

@@ -1,15 +1,9 @@
 -- The laws of histories and of the machine's runs.
 use Rattle.std.specs.Prelude.{◌≡◌, ◌<◌, ◌≤◌, ℕ, Bool, List, ◌∷◌, ◌++◌, Some, None, IsTrue, IfErr, All, Contains}
-use Rattle.model.specs.declared.refusals.Refusal.{Refusal}
+use Rattle.model.specs.{declared.refusals.Refusal.Refusal, Map.Bytes, Map.KeyMap, CommandTable.command_in, Operations.Operation.Begin, Operations.Operation.Commit}
 use Rattle.model.specs.declared.refusals.Refusal.TheVariants.{UnknownCommand, BadArguments, BadKey, BadLimit}
-use Rattle.model.specs.Map.{Bytes, KeyMap}
-use Rattle.model.specs.CommandTable.{command_in}
-use Rattle.model.specs.Operations.Operation.{Begin, Commit}
-use Rattle.model.specs.Operations.Response.{Number, Refused}
-use Rattle.model.specs.PrivateCopy.{copy_of, responses}
-use Rattle.model.specs.History.{Record, IsFaithful}
-use Rattle.model.specs.Dependency.{dependency, NoConcurrentWriters}
-use Rattle.model.specs.Verdict.{verdict, is_conflict, HasNoDangerousPivot}
+use Rattle.model.specs.{Operations.Response.Number, Operations.Response.Refused, PrivateCopy.copy_of, PrivateCopy.responses, History.Record, History.IsFaithful}
+use Rattle.model.specs.{Dependency.dependency, Dependency.NoConcurrentWriters, Verdict.verdict, Verdict.is_conflict, Verdict.HasNoDangerousPivot}
 use Rattle.model.specs.Machine.{State, Running, Input, IsReached, last, snapshot, running_of, record_to_commit, step, state_after}
 use Rattle.model.specs.SerialOrder.{IsSerialOrder, place, is_before, serial_order}
 

@@ -1,16 +1,12 @@
 -- The store as a machine that takes one request of one session at a time. It is this project's own.
 use Rattle.std.specs.Prelude.{◌≡◌, ℕ, suc, ◌+◌, ◌-◌, ◌/◌, ◌^◌, Bool, true, false, List, [], ◌∷◌, ◌++◌, Option, Some, None, length, not, nat_lt, nat_le, ◌==◌, if◌then◌else◌}
-use Rattle.std.specs.Ordering.{nat_cmp}
-use Rattle.std.specs.FinMap.Entries.{find, put, where_key}
-use Rattle.model.specs.declared.refusals.Refusal.{Refusal}
+use Rattle.std.specs.{Ordering.nat_cmp, FinMap.Entries.find, FinMap.Entries.put, FinMap.Entries.where_key}
+use Rattle.model.specs.{declared.refusals.Refusal.Refusal, Operations.Operation, Operations.Response, PrivateCopy.answer, Verdict.verdict}
 use Rattle.model.specs.declared.refusals.Refusal.TheVariants.{NotOpen, FullTransactions, FullLog, StoreFault, StoreStopped, FullNumbers}
 use Rattle.model.specs.Map.{Bytes, KeyMap, KeyWrite, IsMap}
-use Rattle.model.specs.Operations.{Operation, Response}
 use Rattle.model.specs.Operations.Operation.{Begin, Get, Set, Del, Range, Commit, Abort, Ping, Faulty}
 use Rattle.model.specs.Operations.Response.{Done, Pong, Number, Refused}
-use Rattle.model.specs.PrivateCopy.{answer}
 use Rattle.model.specs.History.{Record, record_of, map_at}
-use Rattle.model.specs.Verdict.{verdict}
 
 -- an open transaction: its begin number, and its own requests with the replies to them
 pub record Running : Type 0 where

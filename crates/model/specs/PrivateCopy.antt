@@ -2,10 +2,7 @@
 -- the marks of what it has read. The marks are this project's profile: a range marks all its keys, present or not, up to the last key of a
 -- reply that reached its limit.
 use Rattle.std.specs.Prelude.{ℕ, ◌∷◌, [], ◌++◌, List, Bool, true, false, ◌&&◌, length, take, Option, Some, None, nat_lt, ◌==◌, if◌then◌else◌}
-use Rattle.std.specs.List.{list_any}
-use Rattle.std.specs.BTreeSet.{insert_key}
-use Rattle.std.specs.Ordering.{is_le, nat_cmp}
-use Rattle.std.specs.Cmp.Lexicographic.{slice_cmp}
+use Rattle.std.specs.{List.list_any, BTreeSet.insert_key, Ordering.is_le, Ordering.nat_cmp, Cmp.Lexicographic.slice_cmp}
 use Rattle.model.specs.declared.refusals.Refusal.TheVariants.{AlreadyOpen, NotOpen, FullWrites, FullMarks}
 use Rattle.model.specs.Map.{Bytes, key_cmp, is_same_key, KeyMap, KeyWrite, value_at, after_write, is_in_range, is_empty_range, pairs_in_range}
 use Rattle.model.specs.Operations.{Operation, Response}

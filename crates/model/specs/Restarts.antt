@@ -1,8 +1,6 @@
 -- The states that a store comes to in several lives, of which each begins with the map that the one before left.
 use Rattle.std.specs.Prelude.{◌≡◌, List, [], ◌∷◌, ◌++◌}
-use Rattle.model.specs.Map.{KeyMap}
-use Rattle.model.specs.History.{Record, map_at}
-use Rattle.model.specs.Machine.{State, IsReached, last}
+use Rattle.model.specs.{Map.KeyMap, History.Record, History.map_at, Machine.State, Machine.IsReached, Machine.last}
 use Rattle.model.specs.SerialOrder.{IsSerialOrder, replay, ReplaysReplies}
 
 -- replays one after another are one replay

@@ -1,9 +1,7 @@
 -- Serial orders of a history, and its replay. Behind them stands the order that this project gives of a history without dangerous
 -- pivots, in which each dependency rises.
 use Rattle.std.specs.Prelude.{◌≡◌, ◌<◌, ℕ, Bool, ◌&&◌, ◌||◌, List, [], ◌∷◌, Option, Some, None, find, length, nat_lt, ◌==◌, if◌then◌else◌, ⊤, AllPairs, IsPermutation}
-use Rattle.model.specs.Map.{KeyMap}
-use Rattle.model.specs.PrivateCopy.{copy_of, copy_after, responses}
-use Rattle.model.specs.History.{Record, map_at}
+use Rattle.model.specs.{Map.KeyMap, PrivateCopy.copy_of, PrivateCopy.copy_after, PrivateCopy.responses, History.Record, History.map_at}
 use Rattle.model.specs.Dependency.{concurrent_read_write}
 
 -- the map after the transactions have run alone, one after another, each on the copy that the one before left

@@ -2,11 +2,8 @@
 -- appear (Cahill, Röhm, Fekete 2008; Ports, Grittner 2012). Which conflict is named is this project's profile.
 use Rattle.std.specs.Prelude.{Bool, true, false, ◌&&◌, List, [], ◌∷◌, ◌++◌, Option, Some, None, find, nat_lt, if◌then◌else◌, Contains, IsFalse}
 use Rattle.std.specs.List.{list_any}
-use Rattle.model.specs.declared.refusals.Refusal.{Refusal}
+use Rattle.model.specs.{declared.refusals.Refusal.Refusal, Map.Bytes, Map.KeyWrite, History.Record, Dependency.writes_key, Dependency.is_dangerous_pivot}
 use Rattle.model.specs.declared.refusals.Refusal.TheVariants.{Overwritten, PivotSelf, Pivot}
-use Rattle.model.specs.Map.{Bytes, KeyWrite}
-use Rattle.model.specs.History.{Record}
-use Rattle.model.specs.Dependency.{writes_key, is_dangerous_pivot}
 
 -- whether the refusal names a conflict
 abbrev pub is_conflict : Refusal → Bool

@@ -2,9 +2,8 @@
 use Rattle.std.proofs.Common.{◌≡◌, ◌≤◌, ℕ, Bool, true, List, [], ◌∷◌, ◌++◌, Option, None, refl, sym, ap, ◌∙◌, arith}
 use Rattle.std.specs.Prelude.{nat_lt, ◌&&◌}
 use Rattle.std.proofs.lemmas.Bool.Decides.{nat_tests}
-use Rattle.pivot_check.specs.declared.run.WrittenRun.{WrittenRun}
+use Rattle.pivot_check.specs.{declared.run.WrittenRun.WrittenRun, Inside.in_run, Inside.postings_in}
 use Rattle.pivot_check.specs.Postings.{Posting, least, lesser, are_upto}
-use Rattle.pivot_check.specs.Inside.{in_run, postings_in}
 
 -- whatever is asked of postings with numbers above that one, the least number is the same
 abbrev pub Agree : ℕ → List WrittenRun → List WrittenRun → Type 0

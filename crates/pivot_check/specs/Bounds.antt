@@ -1,9 +1,7 @@
 -- Bounds of the numbers of postings, by which postings are passed over.
 use Rattle.std.specs.Prelude.{◌≡◌, ◌<◌, ◌≤◌, ℕ, ◌+◌, ◌-◌, ◌*◌, ◌==◌, Bool, true, not, ◌&&◌, ◌||◌, List, Option, Some, nat_lt, nat_le, length, take, drop, slice_index_or, if◌then◌else◌}
 use Rattle.std.specs.List.{list_all, AllByRecursion}
-use Rattle.pivot_check.specs.declared.bound.Bound.{Bound}
-use Rattle.pivot_check.specs.declared.looks.Looked.{Looked}
-use Rattle.pivot_check.specs.declared.written.Span.{Span}
+use Rattle.pivot_check.specs.{declared.bound.Bound.Bound, declared.looks.Looked.Looked, declared.written.Span.Span}
 use Rattle.pivot_check.specs.Postings.{Posting, lesser, is_asked, between}
 
 -- whether the posting's number isn't below the bound nor above its last, nor below that of flagged ones where it has the flag

@@ -2,11 +2,8 @@
 use Rattle.std.specs.Prelude.{ℕ, ◌+◌, List, [], ◌∷◌, ◌++◌, Option, option_map}
 use Rattle.std.specs.Vec.{vec_len}
 use Rattle.merging_runs.specs.RunSizes.{RunSize}
-use Rattle.pivot_check.specs.declared.ready.Ready.{Ready}
-use Rattle.pivot_check.specs.declared.run.WrittenRun.{WrittenRun}
+use Rattle.pivot_check.specs.{declared.ready.Ready.Ready, declared.run.WrittenRun.WrittenRun, Postings.Posting, Parts.left, Parts.live_in}
 use Rattle.model.specs.Map.{Bytes}
-use Rattle.pivot_check.specs.Postings.{Posting}
-use Rattle.pivot_check.specs.Parts.{left, live_in}
 
 -- the postings of a run
 abbrev pub in_run : WrittenRun → List Posting

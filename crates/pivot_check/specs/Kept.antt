@@ -1,12 +1,10 @@
 -- What is kept of committed transactions, so that a commit can be checked once older ones are forgotten.
 use Rattle.std.specs.Prelude.{◌≡◌, ℕ, ◌<◌, ◌≤◌, nat_le, Bool, false, ◌&&◌, List, [], ◌∷◌, Option, Some, None, find, option_map, map, max, ◌+◌, ◌-◌, if◌then◌else◌}
 use Rattle.std.specs.List.{list_any}
-use Rattle.model.specs.Map.{Bytes, KeyWrite, is_same_key}
-use Rattle.model.specs.PrivateCopy.{Mark, is_covered}
+use Rattle.model.specs.{Map.Bytes, Map.KeyWrite, Map.is_same_key, PrivateCopy.Mark, PrivateCopy.is_covered}
 use Rattle.snapshot.specs.View.{View}
 use Rattle.last_readers.specs.Readers.{Readers, ReadersRoom, last_reader, after, HasRoom as HasReadersRoom}
-use Rattle.merging_runs.specs.Held.{Held, due_upto, given_a_forget}
-use Rattle.merging_runs.specs.RunSizes.{RunSize}
+use Rattle.merging_runs.specs.{Held.Held, Held.due_upto, Held.given_a_forget, RunSizes.RunSize}
 use Rattle.pivot_check.specs.Postings.{Posting}
 
 -- what the check needs of a committed transaction: the marks of what it read, the keys that it wrote by rising key, and whether it has a

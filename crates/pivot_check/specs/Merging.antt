@@ -1,7 +1,6 @@
 -- Two lists of postings made into one, from their heads.
 use Rattle.std.specs.Prelude.{◌≡◌, Bool, true, List, ◌∷◌, ◌++◌, IsTrue}
-use Rattle.std.specs.List.{list_all}
-use Rattle.std.specs.Ordering.{is_le}
+use Rattle.std.specs.{List.list_all, Ordering.is_le}
 use Rattle.model.specs.Map.{Bytes, key_cmp}
 use Rattle.pivot_check.specs.Postings.{Posting, keys_rise}
 

@@ -1,19 +1,14 @@
 -- The histories for which what is kept stands, and what the check of a commit says about them.
 use Rattle.std.specs.Prelude.{◌≡◌, ℕ, ◌<◌, ◌+◌, Bool, true, false, ◌&&◌, List, [], ◌∷◌, ◌++◌, Option, Some, None, map, max, nat_lt, if◌then◌else◌, length, All, slice_get, ⊤}
 use Rattle.std.specs.List.{list_any, filter}
-use Rattle.model.specs.declared.refusals.Refusal.{Refusal}
+use Rattle.model.specs.{declared.refusals.Refusal.Refusal, Map.Bytes, Map.KeyWrite, PrivateCopy.is_covered, History.Record, History.IsNumberedFrom}
 use Rattle.model.specs.declared.refusals.Refusal.TheVariants as refusal
-use Rattle.pivot_check.specs.declared.verdict.Verdict.{Verdict}
+use Rattle.pivot_check.specs.{declared.verdict.Verdict.Verdict, Postings.Posting, Postings.postings_by, Postings.least}
 use Rattle.pivot_check.specs.declared.verdict.Verdict.TheVariants.{Clear, Overwritten, PivotSelf, Pivot}
-use Rattle.model.specs.Map.{Bytes, KeyWrite}
-use Rattle.model.specs.PrivateCopy.{is_covered}
-use Rattle.model.specs.History.{Record, IsNumberedFrom}
-use Rattle.model.specs.Dependency.{concurrent_read_write}
-use Rattle.model.specs.Verdict.{verdict, HasNoDangerousPivot}
+use Rattle.model.specs.{Dependency.concurrent_read_write, Verdict.verdict, Verdict.HasNoDangerousPivot}
 use Rattle.snapshot.specs.View.{View}
 use Rattle.last_readers.specs.Readers.{cut, last_reader}
 use Rattle.pivot_check.specs.Kept.{KeptRecord, Facts, IsInReach, keys_of}
-use Rattle.pivot_check.specs.Postings.{Posting, postings_by, least}
 
 -- what is kept of a record of the history, the whole of which decides its flag
 abbrev pub kept_of : List Record → Record → KeptRecord

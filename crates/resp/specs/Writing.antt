@@ -1,19 +1,10 @@
 -- What a writer of some text leaves.
 use Rattle.std.specs.Prelude.{◌≡◌, ℕ, ◌+◌, ◌≤◌, Option, List, [], ◌++◌, length, vec_len, vec_capacity, Result, OnOk, OnErr, IsOk}
-use Rattle.std.specs.Global.{Vec}
-use Rattle.std.specs.List.{flat_map}
-use Rattle.std.specs.Borrow.{Bor}
-use Rattle.std.specs.Fmt.{decimal}
-use Rattle.model.specs.declared.refusals.Memory.{Memory}
-use Rattle.model.specs.declared.refusals.Refusal.{Refusal}
-use Rattle.model.specs.declared.refusals.Refusal.TheVariants.{Overwritten, Pivot}
-use Rattle.model.specs.declared.keys.KeyRef.{KeyRef}
-use Rattle.model.specs.declared.commands.Reply.{Reply}
+use Rattle.std.specs.{Global.Vec, List.flat_map, Borrow.Bor, Fmt.decimal, Iterator.AlwaysYields}
+use Rattle.model.specs.{declared.refusals.Memory.Memory, declared.refusals.Refusal.Refusal, declared.keys.KeyRef.KeyRef, declared.commands.Reply.Reply}
+use Rattle.model.specs.{declared.refusals.Refusal.TheVariants.Overwritten, declared.refusals.Refusal.TheVariants.Pivot, KeyBytes.pair_bytes, Operations.Response.Pairs}
 use Rattle.model.specs.declared.commands.Reply.TheVariants as replies
-use Rattle.model.specs.KeyBytes.{pair_bytes}
-use Rattle.model.specs.Operations.Response.{Pairs}
 use Rattle.model.specs.ReplyText.{reply_text, hex_text}
-use Rattle.std.specs.Iterator.{AlwaysYields}
 
 -- the text stands at the end of new, or new has what old had; it is never refused where old has the room
 pub record Appends (old new : Vec ℕ) (text : List ℕ) (result : Result (Unit {0}) Memory) : Type 0 where

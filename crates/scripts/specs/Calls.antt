@@ -1,16 +1,12 @@
 -- What the calls of a script do.
 use Rattle.std.specs.Prelude.{◌≡◌, ◌≢◌, ℕ, ◌+◌, Bool, true, false, List, [], ◌++◌, length, Option, Some, None, IfSome, Result, Ok, Err, IfOk, MatchResult}
-use Rattle.std.specs.Io.BufRead.{first_piece, drop_through}
-use Rattle.std.specs.Io.KnownBytes.{Appends}
+use Rattle.std.specs.{Io.BufRead.first_piece, Io.BufRead.drop_through, Io.KnownBytes.Appends}
 use Rattle.sector.specs.declared.device.Sectors.{Ghosts}
 use Rattle.model.specs.Map.{Bytes}
-use Rattle.sessions.specs.declared.hub.Hub.{Hub}
+use Rattle.sessions.specs.{declared.hub.Hub.Hub, StandsFor.StandsFor, StandsFor.status_in}
 use Rattle.sessions.specs.SessionStreams.{HubState, Serves, Front, IsPossible, hub_step, stream_of}
-use Rattle.sessions.specs.StandsFor.{StandsFor, status_in}
-use Rattle.scripts.specs.declared.faults.ScriptFault.{ScriptFault}
+use Rattle.scripts.specs.{declared.faults.ScriptFault.ScriptFault, declared.playing.Script.Script, Lines.ScriptLine, Lines.IsLine, Lines.lines_of}
 use Rattle.scripts.specs.declared.faults.ScriptFault.TheVariants.{BadLine, Crowded, File, Log, Memory}
-use Rattle.scripts.specs.declared.playing.Script.{Script}
-use Rattle.scripts.specs.Lines.{ScriptLine, IsLine, lines_of}
 use Rattle.scripts.specs.Transcript.{Scene, granted, session_of, with_label, IsCrowded, AppendsPart, PrintsIn, TextPrints, Transcript, IsBad, NamesOneTooMany}
 
 -- the code's script is at this scene

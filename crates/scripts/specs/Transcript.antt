@@ -1,11 +1,8 @@
 -- What a script prints: a run of the sessions over a store of its own.
 use Rattle.std.specs.Prelude.{◌≡◌, ◌≢◌, ℕ, ◌+◌, ◌≤◌, ◌==◌, Bool, false, List, [], ◌∷◌, ◌++◌, length, take, position, Option, Some, None, IfSome, Result, Ok, Err, ◌⊎◌}
 use Rattle.std.specs.Io.KnownBytes.{Appends}
-use Rattle.model.specs.Machine.{opened}
-use Rattle.model.specs.Map.{Bytes}
-use Rattle.sessions.specs.declared.events.Status.{Status}
-use Rattle.sessions.specs.declared.events.Status.TheVariants.{Open}
-use Rattle.sessions.specs.Laws.{IsLawful}
+use Rattle.model.specs.{Machine.opened, Map.Bytes}
+use Rattle.sessions.specs.{declared.events.Status.Status, declared.events.Status.TheVariants.Open, Laws.IsLawful}
 use Rattle.sessions.specs.SessionStreams.{HubState, HubEvent, Joins, Receives, Serves, Sends, Front, More, Choice, IsPossible, hub_over, hub_step, stream_of}
 use Rattle.sessions.specs.StandsFor.{status_in, room_in, pending_in}
 use Rattle.scripts.specs.declared.faults.ScriptFault.{ScriptFault}

@@ -5,8 +5,7 @@
 -- Applications Recover from fsync Failures?, USENIX ATC 2020). So an opening asks the system to drop its copies after its first sync.
 use Rattle.std.specs.Prelude.{◌≡◌, ℕ, ◌*◌, ◌/◌, ◌≤◌, Bool, true, List, length, replicate}
 use Rattle.file_calls.specs.OpenFacts.{may_read, may_leave, moment, left_since, next}
-use Rattle.file_calls.specs.HappenedCalls.{WasRead, WasWritten, WasSynced}
-use Rattle.file_calls.specs.declared.counted.CountedFile.{CountedFile}
+use Rattle.file_calls.specs.{HappenedCalls.WasRead, HappenedCalls.WasWritten, HappenedCalls.WasSynced, declared.counted.CountedFile.CountedFile}
 use Rattle.sector.specs.SectorModel.{FollowsBytes, IsSettled, LeavesNoMore, MightRead, ReadsBytes, ReadsNoMore, ReadsNoMoreOutside, Settles, TimeGoesOn}
 
 -- time went on in a call, and a crash within it leaves what one after it may

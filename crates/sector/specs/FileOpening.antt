@@ -1,12 +1,8 @@
 -- What was called of a file before a device stands over it.
 use Rattle.std.specs.Prelude.{◌≡◌, ◌≢◌, ◌⊎◌, ℕ, ◌*◌, ◌%◌, true, List, replicate}
-use Rattle.std.specs.IoError.{error_kind}
-use Rattle.std.specs.declared.io.Error.{Error}
-use Rattle.std.specs.declared.io.ErrorKind.TheVariants.{InvalidData}
-use Rattle.file_calls.specs.OpenFacts.{next}
+use Rattle.std.specs.{IoError.error_kind, declared.io.Error.Error, declared.io.ErrorKind.TheVariants.InvalidData}
+use Rattle.file_calls.specs.{OpenFacts.next, declared.counted.CountedFile.CountedFile, declared.opened.OpenedFile.OpenedFile}
 use Rattle.file_calls.specs.HappenedCalls.{WasAnswered, WasMade, WasOpened, WasOpenedToRead, WasWritten, WasSynced, HadLength, HadNameSettled}
-use Rattle.file_calls.specs.declared.counted.CountedFile.{CountedFile}
-use Rattle.file_calls.specs.declared.opened.OpenedFile.{OpenedFile}
 
 -- A new file was made under this name, so many sectors of zeros were written to it, by one call, and synced by the next; its directory
 -- was synced, and nothing else was called of it.

@@ -1,11 +1,8 @@
 -- What a crash may leave of a device in memory.
 use Rattle.std.specs.Prelude.{◌≡◌, ◌⊎◌, ◌<◌, ◌-◌, ℕ, suc, Bool, List, [], ◌∷◌, length, map, slice_get, slice_index_or, All, Some, None, IfSome, unwrap_or, refl}
-use Rattle.std.specs.Borrow.{Bor}
-use Rattle.std.specs.Option.{is_none}
+use Rattle.std.specs.{Borrow.Bor, Option.is_none}
 use Rattle.std.proofs.Common.{ap}
-use Rattle.sector.specs.Failures.{greatest}
-use Rattle.sector.specs.declared.memory.Slot.{Slot}
-use Rattle.sector.specs.declared.memory.MemSectors.{MemSectors}
+use Rattle.sector.specs.{Failures.greatest, declared.memory.Slot.Slot, declared.memory.MemSectors.MemSectors}
 
 -- what was last written to each sector
 abbrev pub written : List Slot → List (List ℕ)

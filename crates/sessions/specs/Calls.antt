@@ -1,21 +1,12 @@
 -- What the parts of a Serve do to an engine and an output.
 use Rattle.std.specs.Prelude.{◌≡◌, ℕ, Bool, List, [], drop, Option, Some, None, Result, Ok, Err, true, false, IsTrue}
 use Rattle.sector.specs.declared.device.Sectors.{Ghosts}
-use Rattle.model.specs.declared.refusals.Memory.{Memory}
-use Rattle.model.specs.declared.ranges.RangeRef.{RangeRef}
-use Rattle.model.specs.KeyBytes.{key_bytes, end_bytes}
-use Rattle.model.specs.Leading.{LeadsBy}
-use Rattle.model.specs.Map.{Bytes}
-use Rattle.model.specs.Operations.{Operation, Response, Done}
-use Rattle.model.specs.Operations.Operation.{Range}
-use Rattle.model.specs.Machine.{State, step, leave}
+use Rattle.model.specs.{declared.refusals.Memory.Memory, declared.ranges.RangeRef.RangeRef, KeyBytes.key_bytes, KeyBytes.end_bytes, Leading.LeadsBy, Map.Bytes}
+use Rattle.model.specs.{Operations.Operation, Operations.Response, Operations.Done, Operations.Operation.Range, Machine.State, Machine.step, Machine.leave}
 use Rattle.model.specs.ReplyText.{reply_text}
-use Rattle.engine.specs.declared.engine.Engine.{Engine}
+use Rattle.engine.specs.{declared.engine.Engine.Engine, Meaning.StandsFor, Meaning.IsNotRefused, Meaning.response_to_read, declared.faults.ReadFault.ReadFault}
 pub use Rattle.engine.specs.Meaning.{has_failed}
-use Rattle.engine.specs.Meaning.{StandsFor, IsNotRefused, response_to_read}
-use Rattle.engine.specs.declared.faults.ReadFault.{ReadFault}
-use Rattle.sessions.specs.declared.buffer.Buffer.{Buffer}
-use Rattle.sessions.specs.declared.requests.Served.{Served}
+use Rattle.sessions.specs.{declared.buffer.Buffer.Buffer, declared.requests.Served.Served}
 use Rattle.sessions.specs.declared.requests.Served.TheVariants.{Answered, Incomplete, Broken, Refused}
 use Rattle.sessions.specs.SessionStreams.{Memory as OfMemory, Outcome, SessionState, Front, Whole, More, Bad, IsFront, Choice, IsServed, asks, takes_memory, bad_frame, serve, may_serve}
 

@@ -1,16 +1,10 @@
 -- What a crash at an event leaves on the device.
 use Rattle.std.specs.Prelude.{◌≡◌, ◌⊎◌, ℕ, false, true, List, Some}
-use Rattle.std.specs.Map.{lookup}
-use Rattle.std.specs.BTreeMap.{is_at}
-use Rattle.std.specs.Ordering.{nat_cmp}
+use Rattle.std.specs.{Map.lookup, BTreeMap.is_at, Ordering.nat_cmp}
 use Rattle.sector.specs.SectorModel.{LeavesOnly}
-use Rattle.model.specs.Map.{Bytes}
-use Rattle.model.specs.Operations.{Operation, Commit}
-use Rattle.model.specs.Machine.{step}
-use Rattle.engine.specs.declared.engine.Engine.{Engine}
+use Rattle.model.specs.{Map.Bytes, Operations.Operation, Operations.Commit, Machine.step}
+use Rattle.engine.specs.{declared.engine.Engine.Engine, Meaning.device_of, Recovery.HoldsMap, Recovery.LeavesCommitted, Recovery.committed_map}
 pub use Rattle.engine.specs.Meaning.{SurvivesCommit}
-use Rattle.engine.specs.Meaning.{device_of}
-use Rattle.engine.specs.Recovery.{HoldsMap, LeavesCommitted, committed_map}
 use Rattle.sessions.specs.SessionStreams.{HubState, HubEvent, Serves, SessionState, SessionStream, Whole, IsFront, asks, may_serve, stream_of}
 use Rattle.sessions.specs.StandsFor.{Ghosts, Hub, StandsFor, device}
 

@@ -2,17 +2,13 @@
 use Rattle.std.specs.Prelude.{◌≡◌, ◌≤◌, ◌+◌, if◌then◌else◌, ℕ, nat_lt, Bool, true, false, List, [], ◌∷◌, ◌++◌, map, take, Some}
 use Rattle.std.specs.List.{AllByRecursion, flat_map}
 use Rattle.sector.specs.SectorModel.{LeavesOnly}
-use Rattle.engine.specs.Meaning.{committed_of, facts_of, versions_of}
-use Rattle.engine.specs.Recovery.{HoldsMap, committed_map}
+use Rattle.engine.specs.{Meaning.committed_of, Meaning.facts_of, Meaning.versions_of, Recovery.HoldsMap, Recovery.committed_map}
 use Rattle.pivot_check.specs.Kept.{HasForgotten, IsGivenBack, runs_due}
 use Rattle.versions.specs.Meaning.{IsReclaimed, due_of}
-use Rattle.model.specs.Map.{Bytes}
-use Rattle.model.specs.Laws.{IsIsolated, IsSerializable}
+use Rattle.model.specs.{Map.Bytes, Laws.IsIsolated, Laws.IsSerializable, ReplyText.reply_text}
 use Rattle.model.specs.Operations.{Operation, Response, Begin, Done}
 use Rattle.model.specs.Machine.{IsReached, Running, last, running_of, snapshot}
-use Rattle.model.specs.ReplyText.{reply_text}
-use Rattle.sessions.specs.Calls.{has_failed}
-use Rattle.sessions.specs.Crashes.{HoldsBeforeOrAfter}
+use Rattle.sessions.specs.{Calls.has_failed, Crashes.HoldsBeforeOrAfter}
 use Rattle.sessions.specs.SessionStreams.{Open, HubState, SessionStream, HubEvent, Choice, IsPossible, ArePossible, run, replies_text, requests_text, asks, stream_of, hub_step}
 use Rattle.sessions.specs.StandsFor.{Ghosts, Hub, StandsFor, device, failures, is_stopped}
 

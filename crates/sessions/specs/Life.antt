@@ -1,11 +1,8 @@
 -- What may be found after a crash of a whole run of events.
 use Rattle.std.specs.Prelude.{◌≡◌, ◌⊎◌, ℕ, zero, suc, true, false, List, [], ◌∷◌, ◌++◌, length}
-use Rattle.model.specs.Map.{KeyMap}
-use Rattle.model.specs.Operations.{Commit}
-use Rattle.model.specs.Machine.{step}
+use Rattle.model.specs.{Map.KeyMap, Operations.Commit, Machine.step}
 use Rattle.engine.specs.Recovery.{HoldsMap, committed_map}
-use Rattle.sessions.specs.Crashes.{Commits}
-use Rattle.sessions.specs.Laws.{Ran}
+use Rattle.sessions.specs.{Crashes.Commits, Laws.Ran}
 use Rattle.sessions.specs.SessionStreams.{HubState, HubEvent, Choice, hub_step, run}
 use Rattle.sessions.specs.StandsFor.{Ghosts, Hub, StandsFor, device}
 

@@ -1,19 +1,12 @@
 -- The lives of a store, one after another: each is opened over what the end of the one before left.
 use Rattle.std.specs.Prelude.{◌≡◌, ◌⊎◌, ◌<◌, ℕ, List, [], ◌∷◌, ◌++◌, length, Result, Ok, MatchResult, IfErr, IsErrAnd, ⊤}
 use Rattle.sector.specs.SectorModel.{IsSettled, LeavesOnly}
-use Rattle.model.specs.Map.{KeyMap}
-use Rattle.model.specs.Machine.{opened}
-use Rattle.commit_log.specs.declared.faults.LogFault.TheVariants.{NotALog, Device}
-use Rattle.commit_log.specs.declared.faults.Unopened.{Unopened}
-use Rattle.commit_log.specs.Format.{current}
-use Rattle.commit_log.specs.LogFaults.{IsDeviceOrMemory, IsOpenFault}
-use Rattle.commit_log.specs.LogImage.{IsLogImage}
+use Rattle.model.specs.{Map.KeyMap, Machine.opened}
+use Rattle.commit_log.specs.{declared.faults.LogFault.TheVariants.NotALog, declared.faults.LogFault.TheVariants.Device, declared.faults.Unopened.Unopened}
+use Rattle.commit_log.specs.{Format.current, LogFaults.IsDeviceOrMemory, LogFaults.IsOpenFault, LogImage.IsLogImage, Reading.ReadsAs, Reading.TellsFailure}
 use Rattle.commit_log.specs.OpenedLog.{FindsDamage, FindsNoLog, FindsOldHead}
-use Rattle.commit_log.specs.Reading.{ReadsAs, TellsFailure}
 use Rattle.engine.specs.Recovery.{HoldsMap}
-use Rattle.sessions.specs.Laws.{Ran}
-use Rattle.sessions.specs.Life.{Holds, MayFind}
-use Rattle.sessions.specs.SessionStreams.{HubEvent, Choice, hub_over}
+use Rattle.sessions.specs.{Laws.Ran, Life.Holds, Life.MayFind, SessionStreams.HubEvent, SessionStreams.Choice, SessionStreams.hub_over}
 use Rattle.sessions.specs.StandsFor.{Ghosts, Hub, StandsFor, device, device_after}
 
 -- the hub begins with this map

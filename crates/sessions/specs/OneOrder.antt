@@ -1,13 +1,9 @@
 -- What was committed in all lives of a store has one order.
 use Rattle.std.specs.Prelude.{◌≡◌, ◌⊎◌, ℕ, zero, suc, true, false, List, [], ◌∷◌, ◌++◌, length, Result}
-use Rattle.model.specs.Map.{KeyMap}
-use Rattle.model.specs.Operations.{Commit}
-use Rattle.model.specs.Machine.{State, opened, step}
-use Rattle.model.specs.Restarts.{HaveOneOrder}
+use Rattle.model.specs.{Map.KeyMap, Operations.Commit, Machine.State, Machine.opened, Machine.step, Restarts.HaveOneOrder}
 use Rattle.commit_log.specs.declared.faults.Unopened.{Unopened}
 use Rattle.engine.specs.Recovery.{HoldsMap, committed_map}
-use Rattle.sessions.specs.StandsFor.{Ghosts, Hub}
-use Rattle.sessions.specs.Crashes.{Commits}
+use Rattle.sessions.specs.{StandsFor.Ghosts, StandsFor.Hub, Crashes.Commits}
 use Rattle.sessions.specs.Lives.{Begins, EndOfLife, FollowOn, IsLeftLast, Life, InOpening, InRun}
 use Rattle.sessions.specs.SessionStreams.{HubState, HubEvent, Choice, hub_over, hub_step}
 

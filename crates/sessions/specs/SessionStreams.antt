@@ -1,17 +1,10 @@
 -- The byte streams of sessions over the machine, and what each event does to them.
 use Rattle.std.specs.Prelude.{◌≡◌, ℕ, ◌-◌, ◌≤◌, Bool, true, false, not, nat_le, nat_lt, ◌==◌, if◌then◌else◌, List, [], ◌∷◌, ◌++◌, length, take, drop, Option, Some, None, Result, Ok, Err, IsTrue, IsFalse, ⊤, flat_map}
-use Rattle.std.specs.Ordering.{nat_cmp}
-use Rattle.std.specs.Map.{lookup, remove_entry, set_value}
-use Rattle.std.specs.BTreeMap.{insert_entry, is_at}
-use Rattle.model.specs.Bounds.{inbox_max}
-use Rattle.model.specs.declared.refusals.Refusal.{Refusal}
-use Rattle.model.specs.declared.refusals.Refusal.TheVariants.{BadFrame}
-use Rattle.model.specs.CommandTable.{command_in}
-use Rattle.model.specs.Grammar.{Spells, IsProperBeginning, array_of_bulks}
+use Rattle.std.specs.{Ordering.nat_cmp, Map.lookup, Map.remove_entry, Map.set_value, BTreeMap.insert_entry, BTreeMap.is_at}
+use Rattle.model.specs.{Bounds.inbox_max, declared.refusals.Refusal.Refusal, declared.refusals.Refusal.TheVariants.BadFrame, CommandTable.command_in, Map.Bytes}
+use Rattle.model.specs.{Grammar.Spells, Grammar.IsProperBeginning, Grammar.array_of_bulks, ReplyText.reply_text}
 use Rattle.model.specs.Machine.{State, step, leave, IsReached}
-use Rattle.model.specs.Map.{Bytes}
 use Rattle.model.specs.Operations.{Operation, Response, Abort, Ping, Faulty, Refused as RefusedFor}
-use Rattle.model.specs.ReplyText.{reply_text}
 use Rattle.snapshot.specs.Made.{is_refused}
 pub use Rattle.sessions.specs.declared.events.Status.{Status}
 pub use Rattle.sessions.specs.declared.events.Status.TheVariants.{Open, Ending, Refused}

@@ -1,17 +1,13 @@
 -- Which states a hub stands for, and what an event does to them.
 use Rattle.std.specs.Prelude.{◌≡◌, ℕ, Bool, List, [], map, Option, Some, None, option_map, Result, Ok, Err}
-use Rattle.std.specs.Ordering.{nat_cmp}
-use Rattle.std.specs.Map.{lookup}
-use Rattle.std.specs.BTreeMap.{is_at}
+use Rattle.std.specs.{Ordering.nat_cmp, Map.lookup, BTreeMap.is_at}
 pub use Rattle.sector.specs.declared.device.Sectors.{Ghosts}
 use Rattle.model.specs.Leading.{LeadsBy}
 use Rattle.engine.specs.Meaning.{StandsFor as EngineStandsFor, device_of, failures_of, is_stopped as has_engine_stopped}
 use Rattle.commit_log.specs.declared.faults.Unopened.{Unopened}
-use Rattle.sessions.specs.declared.events.Status.TheVariants.{Absent}
-use Rattle.sessions.specs.declared.events.Event.{Event}
+use Rattle.sessions.specs.{declared.events.Status.TheVariants.Absent, declared.events.Event.Event, Calls.is_memory, Calls.has_failed}
 use Rattle.sessions.specs.declared.events.Event.TheVariants.{Joined, Bytes, Serve, Sent, Left}
 pub use Rattle.sessions.specs.declared.hub.Hub.{Hub}
-use Rattle.sessions.specs.Calls.{is_memory, has_failed}
 use Rattle.sessions.specs.SessionStreams.{Status, Outcome, HubState, SessionState, SessionStream, HubEvent, Joins, Receives, Serves, Sends, Leaves, Choice, IsPossible, hub_step, room, IsReachedHub}
 
 abbrev pub event_of : Event → HubEvent

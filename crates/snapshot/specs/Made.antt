@@ -1,21 +1,15 @@
 -- The own requests that a transaction has made, and how a call answers one more.
 use Rattle.std.specs.Prelude.{◌≡◌, ◌↔◌, ◌||◌, ℕ, Bool, true, false, List, [], ◌∷◌, ◌++◌, Option, Result, Ok, Err, option_copied, IsFalse, IsTrue}
-use Rattle.std.specs.Borrow.{Bor}
-use Rattle.std.specs.List.{list_any}
-use Rattle.model.specs.declared.ranges.RangeRef.{RangeRef}
+use Rattle.std.specs.{Borrow.Bor, List.list_any}
+use Rattle.model.specs.{declared.ranges.RangeRef.RangeRef, KeyBytes.key_bytes, KeyBytes.end_bytes, Operations.Operation, Operations.Response}
 use Rattle.model.specs.declared.refusals.Refusal.TheVariants as refusal
-use Rattle.model.specs.KeyBytes.{key_bytes, end_bytes}
 use Rattle.model.specs.Map.{Bytes, KeyMap, IsMap, is_empty_range}
-use Rattle.model.specs.Operations.{Operation, Response}
-use Rattle.model.specs.Operations.Operation.{Get, Range}
-use Rattle.model.specs.Operations.Response.{Done, Value, Refused}
+use Rattle.model.specs.{Operations.Operation.Get, Operations.Operation.Range, Operations.Response.Done, Operations.Response.Value, Operations.Response.Refused}
 use Rattle.model.specs.PrivateCopy.{PrivateCopy, copy_of, copy_after, is_same_mark, mark_asked}
 use Rattle.write_buffer.specs.Buffered.{AreEntries}
-use Rattle.versions.specs.Chains.{ChainsValue}
-use Rattle.versions.specs.Meaning.{map_seen}
-use Rattle.snapshot.specs.declared.faults.SnapshotFault.{SnapshotFault}
+use Rattle.versions.specs.{Chains.ChainsValue, Meaning.map_seen}
+use Rattle.snapshot.specs.{declared.faults.SnapshotFault.SnapshotFault, View.View, View.copy_held, View.after_get}
 use Rattle.snapshot.specs.declared.faults.SnapshotFault.TheVariants.{FullWrites, FullMarks, Memory}
-use Rattle.snapshot.specs.View.{View, copy_held, after_get}
 
 -- the transaction stands where a private copy of m stands after the own requests qs
 pub record HasMade (t : View) (m : KeyMap) (qs : List Operation) : Type 0 where

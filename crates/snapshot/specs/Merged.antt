@@ -1,12 +1,8 @@
 -- The pairs that a range read answers: a map's pairs with the writes over them.
 use Rattle.std.specs.Prelude.{ℕ, List, [], ◌∷◌, Option, Some, None, take, Bool, not, ◌&&◌, ◌||◌, if◌then◌else◌}
 use Rattle.marks.specs.Marked.{has_mark, is_full_for, with_mark}
-use Rattle.std.specs.Ordering.{nat_cmp}
-use Rattle.std.specs.Cmp.Lexicographic.{slice_cmp}
-use Rattle.std.specs.FinMap.Entries.{by_order, where_key}
-use Rattle.model.specs.declared.keys.KeyRef.{KeyRef}
-use Rattle.model.specs.declared.ranges.RangeRef.{RangeRef}
-use Rattle.model.specs.KeyBytes.{key_bytes, end_bytes}
+use Rattle.std.specs.{Ordering.nat_cmp, Cmp.Lexicographic.slice_cmp, FinMap.Entries.by_order, FinMap.Entries.where_key}
+use Rattle.model.specs.{declared.keys.KeyRef.KeyRef, declared.ranges.RangeRef.RangeRef, KeyBytes.key_bytes, KeyBytes.end_bytes}
 use Rattle.model.specs.Map.{Bytes, KeyMap, KeyWrite, key_cmp, is_in_range, is_empty_range, pairs_in_range}
 use Rattle.model.specs.PrivateCopy.{Mark, mark_up_to, mark_of_reply}
 use Rattle.snapshot.specs.View.{View, marked}

@@ -1,16 +1,9 @@
 -- How a range read answers.
 use Rattle.std.specs.Prelude.{◌≡◌, ℕ, Result, Ok, Err}
-use Rattle.model.specs.declared.ranges.RangeRef.{RangeRef}
-use Rattle.model.specs.Operations.{Response}
-use Rattle.model.specs.Operations.Response.{Pairs}
-use Rattle.versions.specs.Chains.{ChainsValue}
-use Rattle.versions.specs.Meaning.{map_seen}
-use Rattle.snapshot.specs.declared.faults.SnapshotFault.{SnapshotFault}
-use Rattle.snapshot.specs.declared.rows.Rows.{Rows}
-use Rattle.snapshot.specs.RowPairs.{row_pairs}
+use Rattle.model.specs.{declared.ranges.RangeRef.RangeRef, Operations.Response, Operations.Response.Pairs}
+use Rattle.versions.specs.{Chains.ChainsValue, Meaning.map_seen}
+use Rattle.snapshot.specs.{declared.faults.SnapshotFault.SnapshotFault, declared.rows.Rows.Rows, RowPairs.row_pairs, View.View, Merged.after_range}
 use Rattle.snapshot.specs.Made.{IsFault, MakesOneMoreOver, range_read}
-use Rattle.snapshot.specs.View.{View}
-use Rattle.snapshot.specs.Merged.{after_range}
 
 abbrev pub IsPairsReply : Result Rows SnapshotFault → Response → Type 0
 IsPairsReply (Ok r) response = response ≡ Pairs (row_pairs r)

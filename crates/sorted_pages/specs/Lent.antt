@@ -1,13 +1,9 @@
 -- What pages end as, where a `&mut` to a value is returned.
 use Rattle.std.specs.Prelude.{◌≡◌, List, [], ◌∷◌, Option, is_some, if◌then◌else◌}
 use Rattle.std.specs.Borrow.{Lends, LendsIf, Fml, RattleType, MutBor}
-use Rattle.std.specs.Ordering.{nat_cmp}
-use Rattle.std.specs.Cmp.Lexicographic.{slice_cmp}
-use Rattle.std.specs.FinMap.Entries.{find, put}
+use Rattle.std.specs.{Ordering.nat_cmp, Cmp.Lexicographic.slice_cmp, FinMap.Entries.find, FinMap.Entries.put}
 use Rattle.model.specs.Map.{Bytes}
-use Rattle.sorted_pages.specs.Pages.{Page, entries}
-use Rattle.sorted_pages.specs.declared.aging.Aging.{Ghosts}
-use Rattle.sorted_pages.specs.contracts.page.Page.{the_row as page_row}
+use Rattle.sorted_pages.specs.{Pages.Page, Pages.entries, declared.aging.Aging.Ghosts, contracts.page.Page.the_row as page_row}
 use Rattle.sorted_pages.specs.contracts.pages.SortedPages.{the_row as pages_row}
 
 -- the page with this value at a key that it has

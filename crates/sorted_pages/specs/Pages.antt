@@ -1,9 +1,6 @@
 -- Pages of entries, all by rising key.
 use Rattle.std.specs.Prelude.{◌≡◌, ℕ, T, ◌+◌, ◌-◌, ◌*◌, ◌^◌, ◌<◌, ◌≤◌, min, fold, Bool, true, false, List, [], ◌∷◌, ◌++◌, length, slice_get, Option, Some, None, if◌then◌else◌, ⊤, ◌⊎◌}
-use Rattle.std.specs.List.{AllByRecursion}
-use Rattle.std.specs.Ordering.{nat_cmp, is_le, is_lt}
-use Rattle.std.specs.declared.cmp.Ordering.TheVariants.{Less}
-use Rattle.std.specs.Cmp.Lexicographic.{slice_cmp}
+use Rattle.std.specs.{List.AllByRecursion, Ordering.nat_cmp, Ordering.is_le, Ordering.is_lt, declared.cmp.Ordering.TheVariants.Less, Cmp.Lexicographic.slice_cmp}
 use Rattle.std.specs.FinMap.Entries.{below_all, is_sorted}
 use Rattle.model.specs.Map.{Bytes, key_cmp}
 

@@ -3,9 +3,8 @@ use Rattle.std.specs.Prelude.{◌≡◌, ◌≢◌, ℕ, ◌+◌, ◌<◌, ◌�
 use Rattle.sessions.specs.declared.events.Status.TheVariants.{Open, Ending, Refused}
 use Rattle.sessions.specs.SessionStreams.{HubState}
 use Rattle.stream_driver.specs.Types.{Read, Write, ReadAnswer, Moved, Blocked, Failed, Ended, WriteAnswer, Wrote, WriteBlocked, WriteFailed, OutputState, Empty, FlushBlocked, FlushFailed, Exchange, Served, Broke, Starved, ExchangeBlocked, ExchangeFailed, ExchangeEnded}
-use Rattle.stream_driver.specs.Traffic.{Traffic, AllMoved, EndsWith}
+use Rattle.stream_driver.specs.{Traffic.Traffic, Traffic.AllMoved, Traffic.EndsWith, Drives.Carried, Drives.ComeWithin}
 use Rattle.stream_driver.specs.Sessions.{Point, status_at, room_at, pending_at, AwaitsMore}
-use Rattle.stream_driver.specs.Drives.{Carried, ComeWithin}
 
 -- how many requests were served
 abbrev pub served_in : {s : ℕ} {tells : Type 0} {old : Point} {before : Traffic} {new : Point} {after : Traffic} → Carried s tells old before new after → ℕ

@@ -1,7 +1,6 @@
 -- The counts of a stream's answers as its traffic.
 use Rattle.std.specs.Prelude.{◌≡◌, ℕ, List, []}
-use Rattle.stream_driver.specs.Types.{Call, CallCounts}
-use Rattle.stream_driver.specs.Traffic.{Departure, EndsWith, Traffic}
+use Rattle.stream_driver.specs.{Types.Call, Types.CallCounts, Traffic.Departure, Traffic.EndsWith, Traffic.Traffic}
 
 -- counts and the last call, with the bytes that went each way, what has left, and the number of the connection
 abbrev pub counted_with : CallCounts → List ℕ → List ℕ → List Departure → ℕ → Traffic

@@ -1,7 +1,6 @@
 -- What a drive does to the hub and to the stream.
 use Rattle.std.specs.Prelude.{◌≡◌, ◌≢◌, ◌⊎◌, ℕ, ◌+◌, ◌<◌, ◌≤◌, List, [], ◌∷◌, ◌++◌, length}
-use Rattle.model.specs.Operations.{Response}
-use Rattle.model.specs.ReplyText.{reply_text}
+use Rattle.model.specs.{Operations.Response, ReplyText.reply_text}
 use Rattle.sessions.specs.declared.events.Status.TheVariants.{Open, Ending, Refused}
 use Rattle.engine.specs.Meaning.{has_risen}
 use Rattle.sessions.specs.SessionStreams.{HubState, Leaves, Choice}

@@ -1,11 +1,8 @@
 -- What a turn over the table of connections does.
 use Rattle.std.specs.Prelude.{◌≡◌, ◌≢◌, ℕ, ◌&&◌, Bool, true, false, List, [], ◌∷◌, Option, Some, None, slice_index_or, take, drop, length}
 use Rattle.stream_driver.specs.Types.{Progress, Waiting, Again, Gone, EntryState, Idle, Ready, EntryGone, Entry, BufferedStream}
-use Rattle.stream_driver.specs.Traffic.{Traffic}
-use Rattle.stream_driver.specs.Buffers.{Finishes, fresh, is_settled}
-use Rattle.stream_driver.specs.Sends.{DrivesTelling, LeadsTelling}
+use Rattle.stream_driver.specs.{Traffic.Traffic, Buffers.Finishes, Buffers.fresh, Buffers.is_settled, Sends.DrivesTelling, Sends.LeadsTelling, Drives.Drove}
 use Rattle.stream_driver.specs.Sessions.{Ghosts, Hub, IsPresent, Point}
-use Rattle.stream_driver.specs.Drives.{Drove}
 
 -- what an entry is after its drive
 abbrev pub state_after : Progress → EntryState

@@ -1,12 +1,10 @@
 -- What has left for a peer, and when its session had been answered that.
 use Rattle.std.specs.Prelude.{◌≡◌, ◌≢◌, ◌⊎◌, ℕ, List, ◌++◌, Option, Some, None, slice_index_or}
 use Rattle.std.specs.List.{AllByRecursion}
-use Rattle.sessions.specs.Laws.{Ran}
+use Rattle.sessions.specs.{Laws.Ran, StandsFor.StandsFor, StandsFor.device}
 use Rattle.sessions.specs.SessionStreams.{HubState, HubEvent, Choice, SessionStream, run, stream_of}
-use Rattle.sessions.specs.StandsFor.{StandsFor, device}
-use Rattle.stream_driver.specs.Types.{EntryGone as Gone, Entry}
+use Rattle.stream_driver.specs.{Types.EntryGone as Gone, Types.Entry, Traffic.Departure, Traffic.IsBeginning, Traffic.Traffic}
 use Rattle.stream_driver.specs.Sessions.{Ghosts, Hub, Leads, Point}
-use Rattle.stream_driver.specs.Traffic.{Departure, IsBeginning, Traffic}
 
 -- Some of these events, from this state on, led to one in which the session had been answered these bytes: they begin what it was told to
 -- be sent and what is pending for it.

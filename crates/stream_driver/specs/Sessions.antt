@@ -1,13 +1,8 @@
 -- One session of a hub, and what a run of its events adds to its history.
 use Rattle.std.specs.Prelude.{◌≡◌, ◌≢◌, ℕ, ◌≤◌, true, List, [], ◌∷◌, ◌++◌, map, Option, Some, None}
 use Rattle.std.specs.List.{flat_map, AllByRecursion}
-use Rattle.model.specs.Leading.{LeadsBy}
-use Rattle.model.specs.Map.{Bytes}
-use Rattle.model.specs.Operations.{Response}
-use Rattle.model.specs.Grammar.{IsProperBeginning}
-use Rattle.model.specs.ReplyText.{reply_text}
-use Rattle.sessions.specs.declared.events.Status.{Status}
-use Rattle.sessions.specs.declared.events.Status.TheVariants.{Absent, Open}
+use Rattle.model.specs.{Leading.LeadsBy, Map.Bytes, Operations.Response, Grammar.IsProperBeginning, ReplyText.reply_text}
+use Rattle.sessions.specs.{declared.events.Status.Status, declared.events.Status.TheVariants.Absent, declared.events.Status.TheVariants.Open}
 pub use Rattle.sector.specs.declared.device.Sectors.{Ghosts}
 use Rattle.engine.specs.Meaning.{has_risen}
 pub use Rattle.sessions.specs.declared.hub.Hub.{Hub}

@@ -1,8 +1,6 @@
 -- Chains of versions by key, as contracts see them.
 use Rattle.std.specs.Prelude.{◌≡◌, ℕ, T, ◌+◌, ◌-◌, ◌<◌, ◌≤◌, Bool, List, [], ◌∷◌, ◌++◌, length, Option, Some, None, option_map, nat_le, nat_lt, ◌&&◌, ◌==◌, ◌^◌, min, fold, is_none, is_some, if◌then◌else◌, ⊤}
-use Rattle.std.specs.List.{AllByRecursion, list_any}
-use Rattle.std.specs.Ordering.{nat_cmp}
-use Rattle.std.specs.Cmp.Lexicographic.{slice_cmp}
+use Rattle.std.specs.{List.AllByRecursion, List.list_any, Ordering.nat_cmp, Cmp.Lexicographic.slice_cmp}
 use Rattle.std.specs.FinMap.Entries.{find, is_sorted, put}
 use Rattle.model.specs.Map.{Bytes, KeyMap, KeyWrite, is_same_key}
 use Rattle.sorted_pages.specs.Pages.{Page, room_at}

@@ -1,9 +1,7 @@
 -- What versions stand for, where none of their calls is made.
 use Rattle.std.specs.Prelude.{◌≡◌, ℕ, Bool, ◌||◌, nat_le, IsTrue, List, [], ◌∷◌, ◌++◌}
-use Rattle.model.specs.Map.{KeyMap, IsMap}
-use Rattle.model.specs.History.{Record, map_at}
-use Rattle.versions.specs.Chains.{ChainsValue}
-use Rattle.versions.specs.StandsFor.{StandsFor}
+use Rattle.model.specs.{Map.KeyMap, Map.IsMap, History.Record, History.map_at}
+use Rattle.versions.specs.{Chains.ChainsValue, StandsFor.StandsFor}
 
 -- numbers may be held no more, and numbers from the greatest installed on may be held from now on
 abbrev pub HoldingLaw : Type 0

@@ -1,11 +1,9 @@
 -- Which older versions are listed, so that a reclaim finds those that no number sees any more.
 use Rattle.std.specs.Prelude.{◌≡◌, ℕ, ◌+◌, ◌-◌, ◌<◌, ◌≤◌, ◌^◌, length, Bool, false, not, ◌||◌, ◌&&◌, ◌==◌, ◌⊎◌, nat_le, nat_lt, max, List, [], ◌∷◌, map, fold, Option, Some, None, option_map, IsTrue, ⊤, if◌then◌else◌}
 use Rattle.std.specs.List.{AllByRecursion, list_all, list_any, flat_map}
-use Rattle.std.specs.Vec.{vec_len, vec_capacity}
-use Rattle.std.specs.declared.vec.Vec.{Vec}
+use Rattle.std.specs.{Vec.vec_len, Vec.vec_capacity, declared.vec.Vec.Vec}
 use Rattle.model.specs.Map.{Bytes, is_same_key}
-use Rattle.versions.specs.Groups.{GroupValue, Listed}
-use Rattle.versions.specs.Meaning.{is_among}
+use Rattle.versions.specs.{Groups.GroupValue, Groups.Listed, Meaning.is_among}
 use Rattle.versions.specs.Chains.{Stamped, ChainValue, Chains, find_chain, first_number, is_between, reclaimed}
 
 -- the versions of lists, one list after the other

@@ -2,12 +2,8 @@
 use Rattle.std.specs.Prelude.{◌≡◌, ◌↔◌, ℕ, ◌+◌, ◌≤◌, Bool, ◌||◌, ◌&&◌, nat_le, IsTrue, List, [], ◌∷◌, ◌++◌, length, Option, Some, option_map, if◌then◌else◌}
 use Rattle.std.specs.List.{AllByRecursion}
 use Rattle.model.specs.Map.{Bytes, KeyMap, KeyWrite, IsMap, value_at}
-use Rattle.model.specs.History.{Record, map_at}
-use Rattle.model.specs.Dependency.{writes_key}
-use Rattle.versions.specs.Chains.{ChainsValue}
-use Rattle.versions.specs.Meaning.{map_seen, newest_of, is_among}
-use Rattle.versions.specs.Listings.{IsUnmixed}
-use Rattle.versions.specs.Witnesses.{AreUnderWitnesses}
+use Rattle.model.specs.{History.Record, History.map_at, Dependency.writes_key}
+use Rattle.versions.specs.{Chains.ChainsValue, Meaning.map_seen, Meaning.newest_of, Meaning.is_among, Listings.IsUnmixed, Witnesses.AreUnderWitnesses}
 
 -- the commit number of the last record that writes the key, and d where none does
 abbrev pub last_writer_from : Option ℕ → List Record → Bytes → Option ℕ

@@ -2,8 +2,7 @@
 use Rattle.std.specs.Prelude.{◌≡◌, ℕ, ◌≤◌, ◌<◌, ◌⊎◌, Bool, IsTrue, List, Option, Some, None, option_map}
 use Rattle.std.specs.List.{AllByRecursion}
 use Rattle.versions.specs.Chains.{ChainValue, ChainsValue, find_chain, version_at}
-use Rattle.versions.specs.Groups.{GroupValue, Listed}
-use Rattle.versions.specs.Listings.{witness_for}
+use Rattle.versions.specs.{Groups.GroupValue, Groups.Listed, Listings.witness_for}
 
 -- the number of the version that n sees of a chain
 abbrev pub number_at : ℕ → ChainValue → Option ℕ
