@@ -142,7 +142,7 @@ class Refusals:
     def __init__(self, folder_name):
         self.name = os.path.join(folder_name, "refusals")
         self.held_at = Calls.SIZE * len(KINDS)
-        size = self.held_at + 8
+        size = self.held_at + 16
         with open(self.name, "wb") as file:
             file.write(bytes(size))
         with open(self.name, "r+b") as file:
@@ -155,6 +155,10 @@ class Refusals:
     def held(self):
         """How many bytes of memory the process holds."""
         return struct.unpack_from("=q", self.shared, self.held_at)[0]
+
+    def most(self):
+        """How many it held at most."""
+        return struct.unpack_from("=q", self.shared, self.held_at + 8)[0]
 
     def environment(self):
         return {**os.environ, "LD_PRELOAD": SHIM, "REFUSE_CONTROL": self.name}

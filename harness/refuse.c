@@ -3,8 +3,8 @@
  * Preloaded into a program. The file named by REFUSE_CONTROL is shared with whoever drives the test, who may read and write it at any
  * moment. It holds, for each kind of call, five numbers of 64 bits: how many calls were made, how many failed, the first and the last call
  * to fail, counted from 1, and the errno that they fail with, or 0 where they move one byte in place of all, 2^32 where they move none
- * and answer 0, or 2^33 where they move all, 1.2 seconds late. Behind these stands how many bytes of memory are held: what was taken less what was freed. Without that variable, and
- * before the program's own code runs, all calls are passed on and none is counted.
+ * and answer 0, or 2^33 where they move all, 1.2 seconds late. Behind these stands how many bytes of memory are held, which is what was taken less what
+ * was freed, and then how many were held at most. Without that variable, and before the program's own code runs, all calls are passed on and none is counted.
  */
 #define _GNU_SOURCE
 #include <errno.h>
@@ -30,7 +30,7 @@ struct calls {
 
 struct control {
     struct calls calls[KINDS];
-    int64_t held;
+    int64_t held, most;
 };
 
 static volatile struct control *control;
@@ -79,8 +79,11 @@ static ssize_t allowed(enum kind kind, size_t size) {
 
 /* The block, which is counted, if there is one. */
 static void *held(void *block) {
-    if (control && block)
+    if (control && block) {
         control->held += (int64_t)malloc_usable_size(block);
+        if (control->held > control->most)
+            control->most = control->held;
+    }
     return block;
 }
 
