@@ -1,0 +1,63 @@
+"""What making the map of a log holds at most, counted by a preloaded library over `check`, which does that and nothing else.
+
+The writes of a log are collected, and then put into the map by rising key. Each time no more than half of their room is used it is given back, so at most
+the room of all writes is held beside half of the map, or half of it beside the map. A reader that gave it back at the end would hold both whole. In these logs
+the keys rise, so sorting takes no memory, keys are short and values empty, so neither takes memory of its own, and the number of the writes is a power
+of two, so no room is spare. The judge is shown to fail by the figures of such a reader.
+"""
+import os
+import sys
+
+from client import HERE, Deviation, Refusals, Tally, expect, folder, need, run, run_harness
+
+sys.path.append(os.path.join(HERE, "..", "bench"))
+
+from logs import write_records      # noqa: E402
+
+COMMIT_WRITES = 64
+# A collected write takes so many bytes, and a pair of the map so many.
+ENTRY_BYTES, PAIR_BYTES = 80, 64
+# What the program takes besides, as for the record that it reads.
+REST = 65_536
+
+
+def most_held(place, writes):
+    """How many bytes `check` held at most over a log of so many writes."""
+    data, refusals = os.path.join(place, "data"), Refusals(place)
+    numbers = range(0, writes, COMMIT_WRITES)
+    write_records(data, ([(b"%016x" % number, b"") for number in range(start, start + COMMIT_WRITES)] for start in numbers))
+    status, out, err = run(["check", "--data", data], environment=refusals.environment())
+    expect(status == 0 and not err and b" keys %d " % writes in out, f"check answered {(status, out, err)}")
+    return refusals.most()
+
+
+def judge(most, writes):
+    """The bound is what all writes and half of the map take, or half of them and the map."""
+    bound = max(ENTRY_BYTES * writes + PAIR_BYTES * writes // 2, ENTRY_BYTES * writes // 2 + PAIR_BYTES * writes) + REST
+    expect(most <= bound, f"{most:,} bytes are held for {writes:,} writes, of {bound:,}")
+    return bound
+
+
+def is_refused(most, writes):
+    try:
+        judge(most, writes)
+    except Deviation:
+        return True
+    return False
+
+
+def main():
+    need()
+    tally = Tally("what making the map of a log holds")
+    with folder() as place:
+        for writes in (8_192, 65_536):
+            with tally.run(f"{writes:,} writes"):
+                most = most_held(place, writes)
+                print(f"  memory: {most:,} bytes are held at most while the map of {writes:,} writes is made, of {judge(most, writes):,}")
+                expect(is_refused((ENTRY_BYTES + PAIR_BYTES) * writes, writes), "room that is given back at the end is taken")
+                expect(most > ENTRY_BYTES * writes, "not even the writes are counted")
+    return 0 if tally.end() else 1
+
+
+if __name__ == "__main__":
+    run_harness(main)
