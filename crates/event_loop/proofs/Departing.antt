@@ -1,5 +1,6 @@
 -- What left over the connections stays told before as the loop goes on, and is kept, also where a turn takes a connection out or closes it.
-use Rattle.event_loop.proofs.Words.{◌≡◌, ◌≢◌, ◌⊎◌, inl, inr, ℕ, ◌+◌, ◌-◌, ◌||◌, Bool, true, false, List, [], ◌∷◌, ◌++◌, Option, Some, None, length, append_assoc, drop, refl, sym, ap, subst, ◌∙◌, arith, cases_eq, append-nil, All-drop, All-from_recursion, recursion_from_All, AllByRecursion, items, IsLawful, IsSessionStream, IsSound, NoneRuns, Ran, Ready, Gone, run_then, some_same, at_point, point_of, EndAll, EndEach, LeavesAs, LeavesIf, NoneEnded, AllTurned, AreTurned, DropsIf, Leaves, Lingerers, lingers_in, IsNewSocket, SocketsTell, session_of, traffic_of, ConnectionsSpeak, HaveBytes, Nobody, OneMore, LINGERER, EventLoop, Accepted, DrivesReady, IsTurn, KeepsWhatLeaves, accepts_now, is_told_of, Instant, Event, Ghosts, Hub, HubState, HubEvent, Choice, SessionStream, replies_text, run, stream_of, StandsFor, device, BufferedStream, Entry, held_in, traffic_through, DrivenAll, EndsDrive, HaveSessions, is_over, Adds, Point, StandsAt, Departure, DepartAt, IsBeginning, Traffic, Socket, AdmitsEach, ComeEach, EndsTurn, joins_of, slot_at}
+use Rattle.event_loop.proofs.Words.{◌≡◌, ◌≢◌, ◌⊎◌, inl, inr, ℕ, ◌+◌, ◌-◌, ◌||◌, Bool, true, false, List, [], ◌∷◌, ◌++◌, Option, Some, None, length, append_assoc, drop, refl, sym, ap, subst, ◌∙◌, arith, cases_eq, append-nil, All-drop, All-from_recursion, recursion_from_All, AllByRecursion, items, IsLawful, IsSessionStream, IsSound, NoneRuns, Ran, Ready, Gone, run_then, some_same, at_point, point_of, EndAll, EndEach, LeavesAs, LeavesIf, NoneEnded, AllTurned, AreTurned, DropsIf, Lingerers, lingers_in, IsNewSocket, SocketsTell, session_of, traffic_of, ConnectionsSpeak, HaveBytes, Nobody, OneMore, LINGERER, EventLoop, Accepted, DrivesReady, IsTurn, KeepsWhatLeaves, accepts_now, is_told_of, Instant, Event, Ghosts, Hub, HubState, HubEvent, Choice, SessionStream, replies_text, run, stream_of, StandsFor, device, BufferedStream, Entry, held_in, traffic_through, DrivenAll, EndsDrive, HaveSessions, is_over, Adds, Point, StandsAt, Departure, DepartAt, IsBeginning, Traffic, Socket, AdmitsEach, ComeEach, EndsTurn, joins_of, slot_at}
+use Rattle.event_loop.specs.Lingerings.{Leaves}
 use Rattle.std.proofs.Math.Logic.{∥∥₁_map}
 use Rattle.model.proofs.Elements.{all-append, all-each}
 use Rattle.sessions.specs.{Life.Holds, Life.LosesNothing, Life.MayFind, Lives.IsOpened, Lives.IsServed, Lives.Served}

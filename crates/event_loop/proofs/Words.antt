@@ -35,7 +35,7 @@ pub use Rattle.stream_driver.specs.declared.entries.EntryState.{EntryState}
 pub use Rattle.stream_driver.specs.declared.entries.EntryState.TheVariants.{Gone, Idle, Ready}
 pub use Rattle.event_loop.specs.Leavings.{EndAll, EndEach, EndsAt, LeavesAs, LeavesIf, LingerOn}
 pub use Rattle.event_loop.specs.Leavings.EndEach.{NoneEnded}
-pub use Rattle.event_loop.specs.Lingerings.{AllTurned, AreTurned, DropsIf, FirstTurned, is_all, Leaves, Lingerers, lingers_in, unless_failed}
+pub use Rattle.event_loop.specs.Lingerings.{AllTurned, AreTurned, DropsIf, FirstTurned, is_all, Lingerers, lingers_in, unless_failed}
 pub use Rattle.event_loop.specs.Numbers.{AreBelow}
 pub use Rattle.event_loop.specs.Sockets.{departure_of, IsNewSocket, session_of, SocketsTell, traffic_of}
 pub use Rattle.event_loop.specs.TableBytes.{ConnectionsSpeak, HasItsBytes, HaveBytes, KeepBytes, SpeaksFor}

@@ -1,5 +1,5 @@
-use Rattle.event_loop.proofs.Words.{◌≡◌, true, false, Some, refl, sym, ap, subst, set, ◌∙◌, get_or-set_other, Leaves, lingers_in, some_same}
-use Rattle.event_loop.specs.declared.socket.Socket.{Socket}
+use Rattle.event_loop.proofs.Words.{◌≡◌, true, false, Some, refl, sym, ap, subst, set, ◌∙◌, get_or-set_other, lingers_in, some_same}
+use Rattle.event_loop.specs.{declared.socket.Socket.Socket, Lingerings.Leaves}
 use Rattle.event_loop.proofs.Polled.{put_there, there, vacant}
 use Rattle.event_loop.proofs.connections.end_drive_at.Goals as goal
 
