@@ -1,5 +1,5 @@
 -- One chain: a version more, and what a reclaim leaves.
-use Rattle.versions.proofs.Words.{◌≡◌, ℕ, ◌<◌, ◌≤◌, Bool, true, false, ◌&&◌, List, [], ◌∷◌, ◌++◌, Option, Some, None, refl, sym, ap, ◌∙◌, arith, inl, inr, nat_le, nat_lt, if◌then◌else◌, ◌==◌, AllByRecursion, list_any, both_ways, or_cases, or_right, nat_tests, all-append, all-each, Stamped, ChainValue, last_at, version_at, value_of, seen, seen_in, added, first_number, is_between, seen_by, reclaimed, IsRisingTo, IsRisingChain, is_among, IsSeen, IsTightChain}
+use Rattle.versions.proofs.Words.{[], cond_both, IfSome, IsReady, ◌≡◌, ℕ, ◌<◌, ◌≤◌, Bool, true, false, ◌&&◌, List, ◌∷◌, ◌++◌, Option, Some, None, refl, sym, ap, ◌∙◌, arith, inl, inr, nat_le, nat_lt, if◌then◌else◌, ◌==◌, AllByRecursion, list_any, both_ways, or_cases, or_right, nat_tests, all-append, all-each, Stamped, ChainValue, last_at, version_at, value_of, seen, seen_in, added, first_number, is_between, seen_by, reclaimed, IsRisingTo, IsRisingChain, is_among, IsSeen, IsTightChain}
 
 pub last_at-push : (n : ℕ) (d : Option Stamped) (vs : List Stamped) (v : Stamped) → last_at n d (vs ++ v ∷ []) ≡ (if nat_le v.number n then Some v else last_at n d vs)
 last_at-push n d [] v = refl
@@ -29,14 +29,9 @@ rising-push [] v n h lt = (tt, lt, tt)
 rising-push (u ∷ vs) v n h lt =
     (all-append (λ w. u.number < w.number) vs (v ∷ []) h.0 (h.1, tt), omega (arith, h.1), rising-push vs v n h.2 lt)
 
--- the numbers of the chain, where there is one, rise and are below n
-abbrev pub IsBelow : Option ChainValue → ℕ → Type 0
-IsBelow None n = Unit {0}
-IsBelow (Some c) n = IsRisingTo c.older c.newest.number × (c.newest.number < n)
-
-pub rising-added : (o : Option ChainValue) (v : Stamped) (room last : ℕ) → IsBelow o v.number → v.number ≤ last → IsRisingChain last (added o v room)
-rising-added None v room last h le = (tt, le)
-rising-added (Some c) v room last h le = (rising-push c.older c.newest v.number h.0 h.1, le)
+pub rising-added : (o : Option ChainValue) (v : Stamped) (room last : ℕ) → IfSome o (λ c. IsRisingChain last c) → IsReady v.number o → v.number ≤ last → IsRisingChain last (added o v room)
+rising-added None v room last h r le = (tt, le)
+rising-added (Some c) v room last h r le = (rising-push c.older c.newest v.number h.0 r.0, le)
 
 -- ---- what a reclaim leaves
 
@@ -44,16 +39,9 @@ rising-added (Some c) v room last h le = (rising-push c.older c.newest v.number 
 abbrev pub pick : ℕ → Option Stamped → List Stamped → Stamped → Option Stamped
 pick b d vs w = if nat_le w.number b then Some w else last_at b d vs
 
-pub le_true : (a b : ℕ) → a ≤ b → nat_le a b ≡ true
-le_true a b h = grind (arith, nat_tests)
-
-pub le_false : (a b : ℕ) → b < a → nat_le a b ≡ false
-le_false a b h = grind (arith, nat_tests)
-
 -- once the first is at most b, what came before doesn't matter
 pick_past : (b : ℕ) (d e : Option Stamped) (vs : List Stamped) (w : Stamped) → first_number vs w.number ≤ b → pick b d vs w ≡ pick b e vs w
-pick_past b d e [] w h = grind (arith, nat_tests)
-pick_past b d e (v ∷ vs) w h = grind (arith, nat_tests)
+pick_past b d e vs w h = grind (arith, nat_tests)
 
 not_between : (bs : List ℕ) (low high b : ℕ) → is_between bs low high ≡ false → is_among bs b ≡ true → low ≤ b → high ≤ b
 not_between [] low high b f t le = absurd (both_ways _ refl t)
@@ -101,16 +89,12 @@ seen_kept bs w [] h = tt
 seen_kept bs w (v ∷ vs) h =
     let rest = all-each (IsKeptBy bs w vs) (IsKeptBy bs w (v ∷ vs)) (seen_by bs w.number vs)
     (λ u g. (g.0, g.1, λ d. g.2 (if nat_le v.number g.0 then Some v else d))) (seen_kept bs w vs h.2) in
-    elim (is_between bs v.number (first_number vs w.number)) as (λ c. is_between bs v.number (first_number vs w.number) ≡ c
-    → AllByRecursion (IsKeptBy bs w (v ∷ vs)) (if c then v ∷ seen_by bs w.number vs else seen_by bs w.number vs)) [
-      | true ↦ λ e.
-          let s = some_between bs v.number (first_number vs w.number) e in
-          let a = above_first s.0 w.number vs h.2 s.3 in
-          let low = s.2 in
-          let high = a.1 in
-          ((s.0, s.1, λ d. grind (arith, nat_tests, stays s.0 v vs a.0)), rest)
-      | false ↦ λ e. rest
-    ] refl
+    cond_both (is_between bs v.number (first_number vs w.number)) _ _ (AllByRecursion (IsKeptBy bs w (v ∷ vs))) (λ e.
+    let s = some_between bs v.number (first_number vs w.number) e in
+    let a = above_first s.0 w.number vs h.2 s.3 in
+    let low = s.2 in
+    let high = a.1 in
+    ((s.0, s.1, λ d. grind (arith, nat_tests, stays s.0 v vs a.0)), rest)) (λ f. rest)
 
 pub tight-reclaimed : (bs : List ℕ) (c : ChainValue) → IsRisingTo c.older c.newest.number → IsTightChain bs (reclaimed bs c)
 tight-reclaimed bs c h = all-each (IsKeptBy bs c.newest c.older) (IsSeen bs (reclaimed bs c)) (seen_by bs c.newest.number c.older)
@@ -118,14 +102,13 @@ tight-reclaimed bs c h = all-each (IsKeptBy bs c.newest c.older) (IsSeen bs (rec
 
 all-seen_by : (P : Stamped → Type 0) (bs : List ℕ) (n : ℕ) (vs : List Stamped) → AllByRecursion P vs → AllByRecursion P (seen_by bs n vs)
 all-seen_by P bs n [] h = tt
-all-seen_by P bs n (v ∷ vs) h = elim (is_between bs v.number (first_number vs n)) as (λ c. AllByRecursion P (if c then v ∷ seen_by bs n vs else seen_by bs n vs)) [ true ↦ (h.0, all-seen_by P bs n vs h.1) | false ↦ all-seen_by P bs n vs h.1 ]
+all-seen_by P bs n (v ∷ vs) h = cond_both (is_between bs v.number (first_number vs n)) _ _ (AllByRecursion P) (λ t. (h.0, all-seen_by P bs n vs h.1)) (λ f. all-seen_by P bs n vs h.1)
 
 pub rising-seen_by : (bs : List ℕ) (n : ℕ) (vs : List Stamped) → IsRisingTo vs n → IsRisingTo (seen_by bs n vs) n
 rising-seen_by bs n [] h = tt
-rising-seen_by bs n (v ∷ vs) h = elim (is_between bs v.number (first_number vs n)) as (λ c. IsRisingTo (if c then v ∷ seen_by bs n vs else seen_by bs n vs) n) [
-  | true ↦ (all-seen_by (λ u. v.number < u.number) bs n vs h.0, h.1, rising-seen_by bs n vs h.2)
-  | false ↦ rising-seen_by bs n vs h.2
-]
+rising-seen_by bs n (v ∷ vs) h =
+    let rest = rising-seen_by bs n vs h.2 in
+    cond_both (is_between bs v.number (first_number vs n)) _ _ (λ l. IsRisingTo l n) (λ t. (all-seen_by (λ u. v.number < u.number) bs n vs h.0, h.1, rest)) (λ f. rest)
 
 -- ---- the loop of a reclaim
 
@@ -142,11 +125,7 @@ between-wider bs low high low' high' l h = any-weaker (λ b. nat_le low b && nat
 -- what is left begins no lower
 pub first_rises : (bs : List ℕ) (n : ℕ) (vs : List Stamped) → IsRisingTo vs n → first_number vs n ≤ first_number (seen_by bs n vs) n
 first_rises bs n [] h = omega arith
-first_rises bs n (v ∷ vs) h = let above = next vs h in grind (arith, first_rises bs n vs h.2)
-  where
-    next : (us : List Stamped) → IsRisingTo (v ∷ us) n → v.number < first_number us n
-    next [] g = g.1
-    next (u ∷ us) g = g.0.0
+first_rises bs n (v ∷ vs) h = grind (arith, first_rises bs n vs h.2)
 
 seen_twice : (bs : List ℕ) (n : ℕ) (vs : List Stamped) → IsRisingTo vs n → seen_by bs n (seen_by bs n vs) ≡ seen_by bs n vs
 seen_twice bs n [] h = refl

@@ -1,20 +1,23 @@
 -- Each older version is listed: where chains are made, get more room, a version more, or are reclaimed.
-use Rattle.versions.proofs.Words.{◌≡◌, ℕ, ◌+◌, ◌-◌, ◌≤◌, Bool, true, false, cond, List, [], ◌∷◌, ◌++◌, length, Option, Some, None, refl, sym, ap, subst, ◌∙◌, arith, inl, inr, option_map, if◌then◌else◌, ◌==◌, IfSome, AllByRecursion, list_any, list_any-append, nat_cmp, slice_cmp, put, or_left, or_right, eq-eqb, cond_both, all-each, nat_tests, Bytes, KeyMap, is_same_key, same_key, same_key_itself, Stamped, ChainValue, Chains, find_chain, added, stamped, first_number, is_between, seen_by, reclaimed, room_left, base_chains, IsKept, IsRisingTo, IsRisingChain, IsReclaimedAt, IsRoomier, is_of, is_in, is_listed, AreListed, IsListedChain, IsListed, AreFound, unwitnessed, followed, has_version, AreNeeded, IsNeededChain, IsSettled, IsPartReclaimed, AreKept, GroupValue, Listed}
+use Rattle.versions.proofs.Words.{[], IsTrue, ◌≡◌, ℕ, ◌≤◌, Bool, true, false, List, ◌∷◌, ◌++◌, Option, Some, None, refl, sym, ap, subst, arith, inl, inr, option_map, ◌==◌, IfSome, AllByRecursion, list_any, list_any-append, nat_cmp, slice_cmp, put, or_left, or_right, eq-eqb, cond_both, all-each, nat_tests, Bytes, KeyMap, is_same_key, same_key, same_key_itself, Stamped, ChainValue, Chains, find_chain, added, stamped, first_number, is_between, seen_by, reclaimed, base_chains, IsKept, IsRisingTo, IsRisingChain, IsReclaimedAt, IsRoomier, is_of, is_in, is_listed, AreListed, IsListedChain, IsListed, AreFound, unwitnessed, followed, has_version, AreNeeded, IsNeededChain, IsSettled, IsPartReclaimed, AreKept, GroupValue, Listed}
 use Rattle.versions.proofs.{ChainLaws.any-weaker, ChainLaws.between-wider, ChainLaws.first_rises, Visibles.find_chain-put}
-use Rattle.versions.proofs.Stores.{RoomierFound, find-roomier, twice, rising_found, rising_older}
+use Rattle.versions.proofs.Stores.{RoomierFound, find-roomier, twice, rising_found}
 
 -- ---- more groups
 
-listed-found : (gs hs : List GroupValue) → AreFound gs hs → (k : Bytes) (next : ℕ) (vs : List Stamped) → AreListed gs k next vs → AreListed hs k next vs
-listed-found gs hs more k next [] h = tt
-listed-found gs hs more k next (v ∷ vs) h = (more k v.number (first_number vs next) h.0, listed-found gs hs more k next vs h.1)
+listed-left : (gs hs : List GroupValue) (k : Bytes) (next : ℕ) (us : List Stamped) → ((n high : ℕ) → list_any (λ v. v.number == n) us ≡ true → is_listed gs k n high ≡ true → is_listed hs k n high ≡ true) → AreListed gs k next us → AreListed hs k next us
+listed-left gs hs k next [] more h = tt
+listed-left gs hs k next (u ∷ us) more h = (
+  more u.number (first_number us next) (or_left (u.number == u.number) (list_any (λ v. v.number == u.number) us) (eq-eqb u.number u.number refl)) h.0,
+  listed-left gs hs k next us (λ n high t. more n high (or_right (u.number == n) (list_any (λ v. v.number == n) us) t)) h.1,
+)
 
-chain-found : (gs hs : List GroupValue) → AreFound gs hs → (k : Bytes) (o : Option ChainValue) → IsListedChain gs k o → IsListedChain hs k o
-chain-found gs hs more k None h = tt
-chain-found gs hs more k (Some c) h = listed-found gs hs more k c.newest.number c.older h
+chain-left : (gs hs : List GroupValue) (k : Bytes) (o : Option ChainValue) → ((n high : ℕ) → has_version n o ≡ true → is_listed gs k n high ≡ true → is_listed hs k n high ≡ true) → IsListedChain gs k o → IsListedChain hs k o
+chain-left gs hs k None more h = tt
+chain-left gs hs k (Some c) more h = listed-left gs hs k c.newest.number c.older more h
 
 pub groups-found : (es : Chains) (gs hs : List GroupValue) → AreFound gs hs → IsListed es gs → IsListed es hs
-groups-found es gs hs more h k = chain-found gs hs more k (find_chain k es) (h k)
+groups-found es gs hs more h k = chain-left gs hs k (find_chain k es) (λ n high t. more k n high) (h k)
 
 -- ---- chains that are made, and more room
 
@@ -47,22 +50,17 @@ listed-put : (k : Bytes) (v : Stamped) (room : ℕ) (es : Chains) (gs hs : List 
 listed-put k v room es gs hs more h l q =
     let c = added (find_chain k es) v room in
     subst (IsListedChain hs q) (sym (find_chain-put q k c es))
-    (elim (is_same_key q k) as (λ b. is_same_key q k ≡ b → IsListedChain hs q (cond b (Some c) (find_chain q es))) [
-      | true ↦ λ s. subst (λ (j : Bytes). IsListedChain hs j (Some c)) (sym (same_key q k s)) (listed-added gs hs more k (find_chain k es) v room (h k) l)
-      | false ↦ λ s. chain-found gs hs more q (find_chain q es) (h q)
-    ] refl)
+    (cond_both (is_same_key q k) _ _ (IsListedChain hs q)
+    (λ s. subst (λ (j : Bytes). IsListedChain hs j (Some c)) (sym (same_key q k s)) (listed-added gs hs more k (find_chain k es) v room (h k) l)) (λ f. groups-found es gs hs more h q))
 
 found-push : (ls us : List Listed) (gs : List GroupValue) → AreFound (unwitnessed ls ∷ gs) (unwitnessed (ls ++ us) ∷ gs)
 found-push ls us gs k n high t = grind (arith, list_any-append (is_of k n high) ls us)
-
-is_itself : (k : Bytes) (n high : ℕ) → is_of k n high (record { key = k; number = n; next = high }) ≡ true
-is_itself k n high = let same = same_key_itself k in grind (arith, nat_tests)
 
 listed-followed : (ls : List Listed) (gs : List GroupValue) (k : Bytes) (n : ℕ) (o : Option ChainValue) (c : ChainValue) → o ≡ Some c → is_listed (unwitnessed (ls ++ followed o k n) ∷ gs) k c.newest.number n ≡ true
 listed-followed ls gs k n None c e = cc
 listed-followed ls gs k n (Some d) c e =
     let same : d ≡ c = cc in
-    grind (arith, list_any-append (is_of k c.newest.number n) ls (followed (Some d) k n), is_itself k c.newest.number n)
+    grind (arith, nat_tests, list_any-append (is_of k c.newest.number n) ls (followed (Some d) k n), same_key_itself k)
 
 -- a write comes in
 pub listed-write : (k : Bytes) (n : ℕ) (value : Option Bytes) (room : ℕ) (es : Chains) (ls : List Listed) (gs : List GroupValue) → IsListed es (unwitnessed ls ∷ gs)
@@ -85,19 +83,17 @@ listed-later gs k n high high' le = any-weaker (λ (g : GroupValue). is_in g.ver
 listed-seen : (gs : List GroupValue) (k : Bytes) (bs : List ℕ) (n : ℕ) (vs : List Stamped) → IsRisingTo vs n → AreListed gs k n vs → AreListed gs k n (seen_by bs n vs)
 listed-seen gs k bs n [] r h = tt
 listed-seen gs k bs n (v ∷ vs) r h =
-    elim (is_between bs v.number (first_number vs n)) as (λ b. AreListed gs k n (if b then v ∷ seen_by bs n vs else seen_by bs n vs)) [
-      | true ↦ (listed-later gs k v.number (first_number vs n) (first_number (seen_by bs n vs) n) (first_rises bs n vs r.2) h.0, listed-seen gs k bs n vs r.2 h.1)
-      | false ↦ listed-seen gs k bs n vs r.2 h.1
-    ]
+    let rest = listed-seen gs k bs n vs r.2 h.1 in
+    cond_both (is_between bs v.number (first_number vs n)) _ _ (AreListed gs k n)
+    (λ t. (listed-later gs k v.number (first_number vs n) (first_number (seen_by bs n vs) n) (first_rises bs n vs r.2) h.0, rest)) (λ f. rest)
 
 -- the versions that are kept are needed
 needed-seen : (bs : List ℕ) (n : ℕ) (vs : List Stamped) → IsRisingTo vs n → AreNeeded bs n (seen_by bs n vs)
 needed-seen bs n [] r = tt
 needed-seen bs n (v ∷ vs) r =
-    elim (is_between bs v.number (first_number vs n)) as (λ b. is_between bs v.number (first_number vs n) ≡ b → AreNeeded bs n (if b then v ∷ seen_by bs n vs else seen_by bs n vs)) [
-      | true ↦ λ t. (between-wider bs v.number (first_number vs n) v.number (first_number (seen_by bs n vs) n) (omega arith) (first_rises bs n vs r.2) t, needed-seen bs n vs r.2)
-      | false ↦ λ t. needed-seen bs n vs r.2
-    ] refl
+    let rest = needed-seen bs n vs r.2 in
+    cond_both (is_between bs v.number (first_number vs n)) _ _ (AreNeeded bs n)
+    (λ t. (between-wider bs v.number (first_number vs n) v.number (first_number (seen_by bs n vs) n) (omega arith) (first_rises bs n vs r.2) t, rest)) (λ f. rest)
 
 pub needed-chain : (bs : List ℕ) (o : Option ChainValue) (last : ℕ) → IfSome o (λ c. IsRisingChain last c) → IsNeededChain bs (option_map (reclaimed bs) o)
 needed-chain bs None last h = tt
@@ -108,15 +104,9 @@ needed-same : (bs : List ℕ) (n : ℕ) (vs : List Stamped) → AreNeeded bs n v
 needed-same bs n [] h = refl
 needed-same bs n (v ∷ vs) h = let first = h.0 in grind (arith, needed-same bs n vs h.1)
 
-reclaimed-same : (bs : List ℕ) (c : ChainValue) (us : List Stamped) → us ≡ c.older → ◌≡◌ {A = ChainValue} (record { older = us; newest = c.newest; room = room_left c us }) c
-reclaimed-same bs c us e = ap (λ (l : List Stamped). record { older = l; newest = c.newest; room = room_left c l }) e
-    ∙ (let n = length c.older in
-    let same : room_left c c.older ≡ c.room = ap (λ b. if b then c.room else (if n == 0 then 0 else c.room + (n - n))) (eq-eqb n n refl) in
-    λ i. record { older = c.older; newest = c.newest; room = same i })
-
 pub reclaimed-needed : (bs : List ℕ) (o : Option ChainValue) → IsNeededChain bs o → option_map (reclaimed bs) o ≡ o
 reclaimed-needed bs None h = refl
-reclaimed-needed bs (Some c) h = ap Some (reclaimed-same bs c (seen_by bs c.newest.number c.older) (needed-same bs c.newest.number c.older h))
+reclaimed-needed bs (Some c) h = let same = needed-same bs c.newest.number c.older h in grind (arith, nat_tests)
 
 any-seen : (p : Stamped → Bool) (bs : List ℕ) (n : ℕ) (vs : List Stamped) → list_any p (seen_by bs n vs) ≡ true → list_any p vs ≡ true
 any-seen p bs n [] t = t
@@ -133,46 +123,24 @@ part-at bs k now new r q = grind (arith, r.found q, same_key q k)
 
 pub part-trans : (bs : List ℕ) (old now new : Chains) (last : ℕ) → IsKept old last → IsPartReclaimed bs old now → IsPartReclaimed bs now new → IsPartReclaimed bs old new
 part-trans bs old now new last kept a b k =
-    let same = twice bs (find_chain k old) (rising_older last (find_chain k old) (rising_found k old last kept)) in
+    let same = twice bs last (find_chain k old) (rising_found k old last kept) in
     grind (arith, a k, b k)
 
-needed-part : (bs : List ℕ) (k : Bytes) (now new : Chains) → IsPartReclaimed bs now new → IsNeededChain bs (find_chain k now) → IsNeededChain bs (find_chain k new)
-needed-part bs k now new p h = elim (p k) [
-  | inl x ↦ subst (IsNeededChain bs) (sym x) h
-  | inr x ↦ subst (IsNeededChain bs) (sym (x ∙ reclaimed-needed bs (find_chain k now) h)) h
-]
-
 -- what is needed goes no more
-has-part : (bs : List ℕ) (n : ℕ) (k : Bytes) (now new : Chains) → IsPartReclaimed bs now new → IsNeededChain bs (find_chain k now) → has_version n (find_chain k now) ≡ true → has_version n (find_chain k new) ≡ true
-has-part bs n k now new p h t = let same = reclaimed-needed bs (find_chain k now) h in grind (arith, p k)
+needed-part : (bs : List ℕ) (k : Bytes) (now new : Chains) → IsPartReclaimed bs now new → IsNeededChain bs (find_chain k now) → find_chain k now ≡ find_chain k new
+needed-part bs k now new p h = let same = reclaimed-needed bs (find_chain k now) h in grind (arith, p k)
 
 pub settled-part : (bs : List ℕ) (now new : Chains) → IsPartReclaimed bs now new → (v : Listed) → IsSettled bs now v → IsSettled bs new v
-settled-part bs now new p v h = elim h [
-  | inl t ↦ inl t
-  | inr n ↦ inr (has-part bs v.number v.key now new p n.1 n.0, needed-part bs v.key now new p n.1)
-]
+settled-part bs now new p v (inl t) = inl t
+settled-part bs now new p v (inr n) = inr (subst (λ o. IsTrue (has_version v.number o) × IsNeededChain bs o) (needed-part bs v.key now new p n.1) n)
 
 pub all-settled-part : (bs : List ℕ) (now new : Chains) → IsPartReclaimed bs now new → (vs : List Listed) → AllByRecursion (IsSettled bs now) vs → AllByRecursion (IsSettled bs new) vs
 all-settled-part bs now new p vs h = all-each (IsSettled bs now) (IsSettled bs new) vs (settled-part bs now new p) h
 
-gone-part : (bs : List ℕ) (k : Bytes) (n : ℕ) (now new : Chains) → IsPartReclaimed bs now new → has_version n (find_chain k now) ≡ false → has_version n (find_chain k new) ≡ false
-gone-part bs k n now new p f = grind (arith, p k, has_reclaimed bs n (find_chain k now))
-
 pub left-part : (bs : List ℕ) (now new : Chains) (os us : List Listed) → IsPartReclaimed bs now new → AreKept os us now → AreKept os us new
-left-part bs now new os us p h k n high t = grind (arith, h k n high t, gone-part bs k n now new p)
+left-part bs now new os us p h k n high t = grind (arith, h k n high t, p k, has_reclaimed bs n (find_chain k now))
 
 -- ---- the listing after a reclaim
-
-listed-left : (gs hs : List GroupValue) (k : Bytes) (next : ℕ) (us : List Stamped) → ((n high : ℕ) → list_any (λ v. v.number == n) us ≡ true → is_listed gs k n high ≡ true → is_listed hs k n high ≡ true) → AreListed gs k next us → AreListed hs k next us
-listed-left gs hs k next [] more h = tt
-listed-left gs hs k next (u ∷ us) more h = (
-  more u.number (first_number us next) (or_left (u.number == u.number) (list_any (λ v. v.number == u.number) us) (grind (arith, nat_tests))) h.0,
-  listed-left gs hs k next us (λ n high t. more n high (or_right (u.number == n) (list_any (λ v. v.number == n) us) t)) h.1,
-)
-
-chain-left : (gs hs : List GroupValue) (k : Bytes) (o : Option ChainValue) → ((n high : ℕ) → has_version n o ≡ true → is_listed gs k n high ≡ true → is_listed hs k n high ≡ true) → IsListedChain gs k o → IsListedChain hs k o
-chain-left gs hs k None more h = tt
-chain-left gs hs k (Some c) more h = listed-left gs hs k c.newest.number c.older more h
 
 chain-reclaimed : (gs : List GroupValue) (k : Bytes) (bs : List ℕ) (o : Option ChainValue) (last : ℕ) → IfSome o (λ c. IsRisingChain last c) → IsListedChain gs k o → IsListedChain gs k (option_map (reclaimed bs) o)
 chain-reclaimed gs k bs None last r h = tt

@@ -1,5 +1,5 @@
 -- All chains: what is made, what more room leaves, what an install adds and what a reclaim leaves.
-use Rattle.versions.proofs.Words.{◌≡◌, ℕ, suc, ◌+◌, ◌-◌, ◌<◌, ◌≤◌, true, false, T, cond, ◌||◌, List, [], ◌∷◌, ◌++◌, length, take, set, Option, Some, None, IsSome, Result, Ok, Err, refl, sym, ap, subst, ◌∙◌, arith, option_map, nat_le, is_some, if◌then◌else◌, IfSome, OnOk, swap_remove, AllByRecursion, is_eq, is_lt, nat_cmp, ordering_reverse, slice_cmp, put, below_all, by_order, both_ways, Page, room_at, Bytes, KeyMap, KeyWrite, IsMap, key_cmp, is_same_key, value_at, after_writes, same_key, same_key_itself, same_key_comm, same_map, Stamped, ChainValue, Chains, ChainsValue, find_chain, seen, seen_in, version_at, value_of, visible, with_value, added, stamped, fresh_chain, IsReady, HasPlace, HasRoom, IsPrepared, reclaimed, IsReclaimedAt, base_chains, IsKept, IsRisingChain, IsRisingTo, IsRoomier, IsRoomierChain, kept_in, is_written_by, is_among, due_of, lists_a_reclaim, IsSameMeaning, IsReclaimed, IsTightChain, writes_of, IsPartReclaimed, IsSorted, IsBelowAll, turned, both, less, parts, common_steps, get_or_default, nat_tests, all-append, all-each}
+use Rattle.versions.proofs.Words.{[], ◌≡◌, ℕ, suc, ◌+◌, ◌-◌, ◌<◌, ◌≤◌, true, false, T, cond, ◌||◌, List, ◌∷◌, ◌++◌, length, take, set, Option, Some, None, IsSome, Result, Ok, Err, refl, sym, ap, subst, ◌∙◌, arith, option_map, nat_le, is_some, if◌then◌else◌, IfSome, OnOk, swap_remove, AllByRecursion, is_eq, is_lt, nat_cmp, ordering_reverse, slice_cmp, put, below_all, by_order, both_ways, Page, room_at, Bytes, KeyMap, KeyWrite, IsMap, key_cmp, value_at, after_writes, same_key, same_key_itself, same_key_comm, same_map, Stamped, ChainValue, Chains, ChainsValue, find_chain, seen, seen_in, value_of, visible, with_value, added, stamped, IsReady, HasPlace, HasRoom, reclaimed, IsReclaimedAt, base_chains, IsKept, IsRisingChain, IsRisingTo, IsRoomier, IsRoomierChain, kept_in, is_written_by, is_among, due_of, lists_a_reclaim, IsSameMeaning, IsReclaimed, IsTightChain, writes_of, IsPartReclaimed, IsSorted, IsBelowAll, turned, both, less, parts, common_steps, get_or_default, nat_tests, all-append, all-each}
 use Rattle.std.specs.declared.cmp.Ordering.TheVariants.{Less, Equal, Greater}
 use Rattle.std.proofs.lemmas.Map.Lookups.{exact_bytes}
 use Rattle.sorted_pages.specs.Trims.{put_some, changed_at}
@@ -10,27 +10,17 @@ use Rattle.versions.proofs.Visibles.{IsMap-visible, value-visible, visible-put, 
 
 pub all-find : (P : ChainValue → Type 0) (k : Bytes) (c : ChainValue) (es : Chains) → AllByRecursion (λ e. P e.1) es → find_chain k es ≡ Some c → P c
 all-find P k c [] h e = cc
-all-find P k c (f ∷ es) h e = elim (is_same_key k f.0) as (λ b. cond b (Some f.1) (find_chain k es) ≡ Some c → P c) [
-  | true ↦ λ is. let same : f.1 ≡ c = cc in subst P same h.0
-  | false ↦ λ is. all-find P k c es h.1 is
-] e
+all-find P k c (f ∷ es) h e = grind (arith, all-find P k c es h.1)
 
 pub all-put : (P : ChainValue → Type 0) (k : Bytes) (c : ChainValue) (es : Chains) → P c → AllByRecursion (λ e. P e.1) es → AllByRecursion (λ e. P e.1) (put (slice_cmp nat_cmp) k c es)
 all-put P k c [] p h = (p, tt)
-all-put P k c (f ∷ es) p h = elim (key_cmp k f.0) as (λ o. AllByRecursion (λ e. P e.1) (by_order o ((k, c) ∷ f ∷ es) ((f.0, c) ∷ es) (f ∷ put (slice_cmp nat_cmp) k c es))) [
-  | Less ↦ (p, h)
-  | Equal ↦ (p, h.1)
-  | Greater ↦ (h.0, all-put P k c es p h.1)
-]
+all-put P k c (f ∷ es) p h = grind (arith, all-put P k c es p h.1)
 
 pub kept-put : (k : Bytes) (c : ChainValue) (es : Chains) (last : ℕ) → IsKept es last → IsRisingChain last c → IsKept (put (slice_cmp nat_cmp) k c es) last
 kept-put k c es last h p = record { sorted = sorted-put k c es h.sorted; rising = all-put (IsRisingChain last) k c es p h.rising }
 
 pub rising_found : (k : Bytes) (es : Chains) (last : ℕ) → IsKept es last → IfSome (find_chain k es) (λ c. IsRisingChain last c)
-rising_found k es last h = elim (find_chain k es) as (λ o. find_chain k es ≡ o → IfSome o (λ c. IsRisingChain last c)) [
-  | None ↦ λ e. tt
-  | Some c ↦ λ e. all-find (IsRisingChain last) k c es h.rising e
-] refl
+rising_found k es last h = let each = λ (c : ChainValue). all-find (IsRisingChain last) k c es h.rising in grind arith
 
 -- ---- the chains of a map
 
@@ -108,25 +98,17 @@ RoomierFound _ _ = ⊥
 
 pub find-roomier : (k : Bytes) (es fs : Chains) → IsRoomier es fs → RoomierFound (find_chain k es) (find_chain k fs)
 find-roomier k [] [] h = tt
-find-roomier k (e ∷ es) (f ∷ fs) h =
-    subst (λ (q : Bytes). RoomierFound (find_chain k (e ∷ es)) (cond (is_same_key k q) (Some f.1) (find_chain k fs))) (sym h.0)
-    (elim (is_same_key k e.0) as (λ b. RoomierFound (cond b (Some e.1) (find_chain k es)) (cond b (Some f.1) (find_chain k fs))) [ true ↦ h.1 | false ↦ find-roomier k es fs h.2 ])
+find-roomier k (e ∷ es) (f ∷ fs) h = let same = h.0 in let own = h.1 in grind (arith, find-roomier k es fs h.2)
 find-roomier k _ _ h = absurd h
 
 number_roomier : (o p : Option ChainValue) → RoomierFound o p → option_map (λ (c : ChainValue). c.newest.number) p ≡ option_map (λ (c : ChainValue). c.newest.number) o
-number_roomier None None h = refl
-number_roomier (Some c) (Some d) h = ap (λ (v : Stamped). Some v.number) h.newest
-number_roomier _ _ h = absurd h
+number_roomier o p h = grind arith
 
 kept_roomier : (o p : Option ChainValue) → RoomierFound o p → kept_in p ≡ kept_in o
-kept_roomier None None h = refl
-kept_roomier (Some c) (Some d) h = ap (λ l. length l + 1) h.older
-kept_roomier _ _ h = absurd h
+kept_roomier o p h = grind arith
 
 pub room_roomier : (o p : Option ChainValue) → RoomierFound o p → HasRoom o → HasRoom p
-room_roomier None None h r = tt
-room_roomier (Some c) (Some d) h r = omega (arith, h.room)
-room_roomier _ _ h r = absurd h
+room_roomier o p h r = grind arith
 
 pub same-roomier : (old new : ChainsValue) → IsRoomier old.chains new.chains → new.last ≡ old.last → IsSameMeaning old new
 same-roomier old new h e = record {
@@ -164,9 +146,7 @@ room-roomier ws es fs h g =
     all-each _ _ ws (λ w r. room_roomier (find_chain w.0 es) (find_chain w.0 fs) (find-roomier w.0 es fs h) r) g
 
 place_roomier : (n r s : ℕ) (o p : Option ChainValue) → RoomierFound o p → r ≤ s → HasPlace n r o → HasPlace n s p
-place_roomier n r s None None h le g = omega arith
-place_roomier n r s (Some c) (Some d) h le g = tt
-place_roomier n r s _ _ h le g = absurd h
+place_roomier n r s o p h le g = grind arith
 
 pub on_ok : {A E : Type 0} (r : Result A E) (P : Type 0) → P → OnOk r P
 on_ok (Ok x) P p = p
@@ -199,26 +179,18 @@ ready-prepared n last es ws h lt r =
     all-each _ _ ws (λ w q. ready_one n last (find_chain w.0 es) (λ c e. all-find (IsRisingChain last) w.0 c es h.rising e) lt q) r
 
 pub rising_one : (n last : ℕ) (es : Chains) (k : Bytes) (v : Option Bytes) (room : ℕ) → IsKept es last → IsReady n (find_chain k es) → n ≤ last → IsRisingChain last (added (find_chain k es) (stamped n v) room)
-rising_one n last es k v room h r le = below (find_chain k es) (rising_found k es last h) r
-  where
-    below : (o : Option ChainValue) → IfSome o (λ c. IsRisingChain last c) → IsReady n o → IsRisingChain last (added o (stamped n v) room)
-    below None g q = rising-added None (stamped n v) room last tt le
-    below (Some c) g q = rising-added (Some c) (stamped n v) room last (g.0, q.0) le
+rising_one n last es k v room h r le = rising-added (find_chain k es) (stamped n v) room last (rising_found k es last h) r le
 
 -- keys above k are not k
-apart : (k q : Bytes) → T (is_lt (key_cmp k q)) → is_same_key q k ≡ false
-apart k q h = same_key_comm q k ∙ ap is_eq (less _ h)
-
 find_apart : (k : Bytes) (c : ChainValue) (es : Chains) (q : Bytes) → T (is_lt (key_cmp k q)) → find_chain q (put (slice_cmp nat_cmp) k c es) ≡ find_chain q es
-find_apart k c es q h = find_chain-put q k c es ∙ ap (λ b. cond b (Some c) (find_chain q es)) (apart k q h)
+find_apart k c es q h = find_chain-put q k c es ∙ ap (λ b. cond b (Some c) (find_chain q es)) (same_key_comm q k ∙ ap is_eq (less _ h))
 
 pub ready-apart : (n : ℕ) (k : Bytes) (c : ChainValue) (es : Chains) (ws : List KeyWrite) → T (below_all (slice_cmp nat_cmp) k ws) → AllByRecursion (λ w. IsReady n (find_chain w.0 es)) ws → AllByRecursion (λ w. IsReady n (find_chain w.0 (put (slice_cmp nat_cmp) k c es))) ws
 ready-apart n k c es [] h r = tt
 ready-apart n k c es (w ∷ ws) h r = let p = parts _ _ h in (subst (IsReady n) (sym (find_apart k c es w.0 p.0)) r.0, ready-apart n k c es ws p.1 r.1)
 
 less_place : (n r s : ℕ) (o : Option ChainValue) → r ≤ s + 1 → HasPlace (suc n) r o → HasPlace n s o
-less_place n r s None le h = omega arith
-less_place n r s (Some c) le h = tt
+less_place n r s o le h = grind arith
 
 -- a new chain takes one place
 pub places-apart : (n : ℕ) (k : Bytes) (c : ChainValue) (es : Chains) (ps qs : List (Page ChainValue)) (ws : List KeyWrite) → T (below_all (slice_cmp nat_cmp) k ws) → ((q : Bytes) → room_at q ps ≤ room_at q qs + 1)
@@ -261,13 +233,9 @@ kept-step n k w ws room es =
 
 -- ---- a reclaim
 
-pub twice : (bs : List ℕ) (o : Option ChainValue) → IfSome o (λ c. IsRisingTo c.older c.newest.number) → option_map (reclaimed bs) (option_map (reclaimed bs) o) ≡ option_map (reclaimed bs) o
-twice bs None h = refl
-twice bs (Some c) h = ap Some (reclaimed_twice bs c h)
-
-pub rising_older : (last : ℕ) (o : Option ChainValue) → IfSome o (λ c. IsRisingChain last c) → IfSome o (λ c. IsRisingTo c.older c.newest.number)
-rising_older last None h = tt
-rising_older last (Some c) h = h.0
+pub twice : (bs : List ℕ) (last : ℕ) (o : Option ChainValue) → IfSome o (λ c. IsRisingChain last c) → option_map (reclaimed bs) (option_map (reclaimed bs) o) ≡ option_map (reclaimed bs) o
+twice bs last None h = refl
+twice bs last (Some c) h = ap Some (reclaimed_twice bs c h.0)
 
 -- which default is named makes no difference
 pub swap_remove-default : {X : Type 0} (xs : List X) (i : ℕ) (d e : X) → 0 < length xs → swap_remove xs i d ≡ swap_remove xs i e
@@ -290,9 +258,7 @@ reclaimed-whole old new bs h g e due part is = record {
   newest = λ k. grind (arith, part k);
   last = e;
   due = due;
-  needed = λ k. (
-      let rising = rising_older old.last (find_chain k old.chains) (rising_found k old.chains old.last h) in
-      grind (arith, part k, twice bs (find_chain k old.chains) rising));
+  needed = λ k. grind (arith, part k, twice bs old.last (find_chain k old.chains) (rising_found k old.chains old.last h));
   kept = λ k. grind (arith, part k);
   none_left = λ none k. ap kept_in (is none k);
   tight = λ none k c f. tight_found bs old.last (find_chain k old.chains) c (rising_found k old.chains old.last h) (sym (is none k) ∙ f);

@@ -1,6 +1,6 @@
 -- Under which numbers the older versions are listed, from call to call.
-use Rattle.versions.proofs.Words.{◌≡◌, ℕ, ◌-◌, ◌<◌, ◌≤◌, Bool, true, false, ◌&&◌, List, [], ◌∷◌, ◌++◌, Option, Some, None, refl, sym, ap, subst, ◌∙◌, arith, inl, inr, length, option_map, nat_le, nat_lt, max, fold, ◌==◌, ◌⊎◌, IsTrue, if◌then◌else◌, AllByRecursion, list_all, list_any, and_parts, cases_lt, both_ways, or_cases, nat_tests, nat_cmp, slice_cmp, put, Bytes, same_key, Stamped, ChainValue, Chains, ChainsValue, added, find_chain, last_at, reclaimed, stamped, IsKept, IsReady, IsRisingChain, IsRisingTo, IsRoomier, IsRoomierChain, GroupValue, Listed, is_among, followed, has_version, is_seen_from, witness_for, witnesses, AreAmong, AreMixedSettled, AreNeeded, IsFollowed, IsNeededChain, IsPartReclaimed, IsSettled, IsTrulyMixed, IsUnmixed, number_at, number_seen, AreUnderWitnesses, IsAddedTo, IsUnderChain, IsUnderWitness, all-append, all-each}
-use Rattle.versions.proofs.ChainLaws.{above_first, last_at-push, le_false, some_between, stays, version_at-reclaimed}
+use Rattle.versions.proofs.Words.{[], ◌≡◌, ℕ, ◌-◌, ◌<◌, ◌≤◌, Bool, true, false, ◌&&◌, List, ◌∷◌, ◌++◌, Option, Some, None, refl, sym, ap, subst, ◌∙◌, arith, inl, inr, length, option_map, nat_le, nat_lt, max, fold, ◌==◌, ◌⊎◌, IsTrue, if◌then◌else◌, AllByRecursion, list_all, list_any, and_parts, cases_lt, both_ways, or_cases, nat_tests, nat_cmp, slice_cmp, put, Bytes, same_key, Stamped, ChainValue, Chains, ChainsValue, added, find_chain, last_at, reclaimed, stamped, IsKept, IsReady, IsRisingChain, IsRisingTo, IsRoomier, IsRoomierChain, GroupValue, Listed, is_among, followed, has_version, is_seen_from, witness_for, witnesses, AreAmong, AreMixedSettled, AreNeeded, IsFollowed, IsNeededChain, IsPartReclaimed, IsSettled, IsTrulyMixed, IsUnmixed, number_at, number_seen, AreUnderWitnesses, IsAddedTo, IsUnderChain, IsUnderWitness, all-append, all-each}
+use Rattle.versions.proofs.ChainLaws.{above_first, last_at-push, some_between, stays, version_at-reclaimed}
 use Rattle.versions.proofs.Stores.{RoomierFound, all-find, find-put_itself, find-roomier, number_added}
 use Rattle.versions.proofs.Visibles.{find_chain-put}
 
@@ -135,7 +135,8 @@ settled_seen bs held u last w x all kept h (inr s) = by (find_chain x.key u.chai
     by None e has needed = absurd (both_ways _ refl has)
     by (Some c) e has needed =
         let r = needed_seen bs c.newest.number x.number c.older (all-find (IsRisingChain last) x.key c u.chains kept.rising e).0 needed has in
-        let sees : number_at r.0 c ≡ Some x.number = ap (λ q. option_map (λ (v : Stamped). v.number) (if q then Some c.newest else last_at r.0 None c.older)) (le_false c.newest.number r.0 r.3) ∙ r.4 None in
+        let high = r.3 in
+        let sees : number_at r.0 c ≡ Some x.number = grind (arith, nat_tests, r.4 None) in
         (r.0, r.1, r.2, (h.chain c e).sees r.0 (all r.0 r.1) r.3 sees)
 
 module _ (bs : List ℕ) (held : ℕ → Bool) (u : ChainsValue) (last : ℕ) (all : (n : ℕ) → is_among bs n ≡ true → IsTrue (held n)) (kept : IsKept u.chains last) where
