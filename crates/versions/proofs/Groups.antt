@@ -1,7 +1,7 @@
 -- The loops over what is listed.
-use Rattle.versions.proofs.Words.{◌≡◌, ℕ, zero, suc, ◌+◌, ◌-◌, ◌<◌, ◌≤◌, Bool, true, false, ◌&&◌, ◌||◌, List, [], ◌∷◌, ◌++◌, length, take, drop, get_or, set, Option, Some, None, refl, sym, ap, subst, ◌∙◌, arith, inl, inr, option_map, nat_lt, nat_le, ◌==◌, ◌⊎◌, if◌then◌else◌, swap_remove, IfSome, common_steps, Vec, AllByRecursion, list_any, list_all, remove, both_ways, and_left, and_right, nat_tests, Bytes, same_key, same_key_itself, Stamped, ChainValue, Chains, ChainsValue, find_chain, first_number, is_between, reclaimed, IsKept, IsReclaimedAt, is_seen_from, is_seen_by, AreSeenFrom, is_of, is_in, is_listed, AreListed, IsListedChain, IsListed, AreFound, has_version, AreNeeded, IsNeededChain, IsSettled, IsPartReclaimed, AreKept, AreAmong, AreMixedSettled, IsTrulyMixed, versions_in, witness_for, witnesses, lists_in, GroupValue, Listed, AreUnderWitnesses, IsUnderWitness, is_among, due_for, due_in, lists_a_reclaim, drop_all, take_all, length-set, list_all-append, sum_by, all-each, all-get, all-map, all-more, all-remove, all-set, all-take, any-remove, any-set}
+use Rattle.versions.proofs.Words.{add-one, GroupStaysUnder, GroupsJoinUnder, AreUnder, AreOfBoth, get_or-take, length-take, drop-set, take-set, take-take, ◌≡◌, ℕ, zero, suc, ◌+◌, ◌-◌, ◌<◌, ◌≤◌, Bool, true, false, ◌&&◌, List, [], ◌∷◌, ◌++◌, length, take, drop, get_or, set, Option, Some, None, refl, sym, ap, subst, ◌∙◌, arith, inl, inr, option_map, nat_lt, nat_le, ◌==◌, ◌⊎◌, if◌then◌else◌, swap_remove, IfSome, common_steps, Vec, AllByRecursion, list_any, list_all, remove, both_ways, and_right, nat_tests, Bytes, same_key, same_key_itself, Stamped, ChainValue, Chains, ChainsValue, find_chain, first_number, is_between, reclaimed, IsKept, IsReclaimedAt, is_seen_from, is_seen_by, AreSeenFrom, is_of, is_in, is_listed, AreListed, IsListedChain, IsListed, AreFound, has_version, AreNeeded, IsNeededChain, IsSettled, IsPartReclaimed, AreKept, AreAmong, AreMixedSettled, IsTrulyMixed, versions_in, witness_for, witnesses, lists_in, GroupValue, Listed, AreUnderWitnesses, IsUnderWitness, is_among, due_for, due_in, lists_a_reclaim, drop_all, take_all, length-set, list_all-append, sum_by, all-each, all-get, all-map, all-more, all-remove, all-set, all-take, any-remove, any-set}
 use Rattle.std.proofs.{lemmas.List.Sorted.list_any-IsPermutation, lemmas.List.Sorted.IsPermutation-swap_remove, lemmas.List.Recursion.is_sum_by}
-use Rattle.versions.proofs.{Stores.rising_found, Witnesses.lists-fewer, UnderWitnesses.IsUnder, ChainLaws.any-weaker, ChainLaws.between-wider}
+use Rattle.versions.proofs.{Stores.rising_found, Witnesses.lists-set, UnderWitnesses.IsUnder, ChainLaws.any-weaker, ChainLaws.between-wider}
 use Rattle.versions.proofs.Listings.{needed-chain, reclaimed-needed, part-at, part-trans, all-settled-part, left-part, listed-part}
 
 -- ---- a fact of each element
@@ -21,32 +21,21 @@ rest-filled P (x ∷ xs) (suc i) (suc n) d long lt h = rest-filled P xs i n d (o
 rest-swap_remove : {X : Type 0} (P : X → Type 0) (xs : List X) (i : ℕ) (d : X) → i < length xs → AllByRecursion P (drop (suc i) xs) → AllByRecursion P (drop i (swap_remove xs i d))
 rest-swap_remove P xs i d lt h = rest-filled P xs i (length xs - 1) d (omega arith) lt h
 
-length-swap_remove : {X : Type 0} (xs : List X) (i : ℕ) (d : X) → i < length xs → length (swap_remove xs i d) + 1 ≡ length xs
-length-swap_remove xs i d lt = grind (arith, common_steps)
-
 -- behind the last there is none
 all-none : {X : Type 0} (P : X → Type 0) (xs : List X) → AllByRecursion P (drop (length xs) xs)
-all-none P [] = tt
-all-none P (x ∷ xs) = all-none P xs
+all-none P xs = subst (AllByRecursion P) (sym (drop_all (length xs) xs (omega arith))) tt
 
 -- one is put before those that are such
 all-put : {X : Type 0} (P : X → Type 0) (xs : List X) (i : ℕ) (y : X) → i < length xs → P y → AllByRecursion P (drop (suc i) xs) → AllByRecursion P (drop i (set xs i y))
-all-put P [] i y lt p h = absurd (omega arith)
-all-put P (x ∷ xs) zero y lt p h = (p, h)
-all-put P (x ∷ xs) (suc i) y lt p h = all-put P xs i y (omega arith) p h
+all-put P xs i y lt p h = rw (drop-set, add-one) (p, h)
 
 -- those before it stay
 all-ahead : {X : Type 0} (P : X → Type 0) (xs : List X) (i : ℕ) (y : X) → AllByRecursion P (take (suc i) xs) → AllByRecursion P (take i (set xs i y))
-all-ahead P [] zero y h = tt
-all-ahead P [] (suc i) y h = tt
-all-ahead P (x ∷ xs) zero y h = tt
-all-ahead P (x ∷ xs) (suc i) y h = (h.0, all-ahead P xs i y h.1)
+all-ahead P xs i y h = rw (take-set, ← take-take i (suc i) xs (omega arith)) (all-take P (take (suc i) xs) i h)
 
 -- and it was one of them
 all-last : {X : Type 0} (P : X → Type 0) (xs : List X) (i : ℕ) (x : X) → i < length xs → x ≡ get_or xs i x → AllByRecursion P (take (suc i) xs) → P x
-all-last P [] i x lt at h = absurd (omega arith)
-all-last P (y ∷ xs) zero x lt at h = subst P (sym at) h.0
-all-last P (y ∷ xs) (suc i) x lt at h = all-last P xs i x (omega arith) at h.1
+all-last P xs i x lt at h = subst P (get_or-take (suc i) xs i x (omega arith) ∙ sym at) (all-get P (take (suc i) xs) i x (omega (arith, length-take (suc i) xs)) h)
 
 -- ---- one of the numbers sees the version
 
@@ -107,7 +96,7 @@ module _ (bs : List ℕ) (old now new : Chains) (os vs : List Listed) (m left la
   -- the version is gone
   pub dropping-leaves : (us : List Listed) → us ≡ swap_remove vs m v → has_version v.number (find_chain v.key new) ≡ false → Dropping bs old new os us m
   dropping-leaves us is gone = record {
-    in_range = let h = within in omega (arith, ap length is, length-swap_remove vs m v within);
+    in_range = let h = within in grind (arith, common_steps, ap length is);
     part = part-trans bs old now new last ordered d.part step;
     kept = λ n h. r.kept n (d.kept n h);
     settled = subst (λ l. AllByRecursion (IsSettled bs new) (drop m l)) (sym is) (rest-swap_remove (IsSettled bs new) vs m v within rest);
@@ -127,15 +116,11 @@ IsLookedAfter bs es g = due_for bs g ≡ 0 → AllByRecursion (IsSettled bs es) 
 
 -- ---- groups that were not looked at yet
 
--- what the group's versions were under, they are under when some of them are gone
-abbrev pub StaysUnder : GroupValue → GroupValue → Type 0
-StaysUnder g h = (held : ℕ → Bool) (v : ChainsValue) (w : ℕ) → AllByRecursion (IsUnderWitness held v w) g.versions → AllByRecursion (IsUnderWitness held v w) g.mixed → AllByRecursion (IsUnderWitness held v w) h.versions × AllByRecursion (IsUnderWitness held v w) h.mixed
-
 -- what is under a witness is under the one that stands for it
 abbrev pub StandsUnder : List ℕ → (ℕ → Bool) → ChainsValue → (ℕ → Bool) → ChainsValue → Type 0
 StandsUnder bs more v held u = (w : ℕ) (x : Listed) → IsUnderWitness more v w x → IsUnderWitness held u (witness_for bs w) x
 
-stays-under : (bs : List ℕ) (more held : ℕ → Bool) (v u : ChainsValue) (g h : GroupValue) → h.witness ≡ witness_for bs g.witness → StaysUnder g h → StandsUnder bs more v held u → IsUnder more v g → IsUnder held u h
+stays-under : (bs : List ℕ) (more held : ℕ → Bool) (v u : ChainsValue) (g h : GroupValue) → h.witness ≡ witness_for bs g.witness → GroupStaysUnder g h → StandsUnder bs more v held u → IsUnder more v g → IsUnder held u h
 stays-under bs more held v u g h is stays stands under =
     let w = witness_for bs g.witness in
     let left = stays more v g.witness under.0 under.1 in
@@ -158,9 +143,7 @@ due-set bs gs i g h lt at = grind (arith, common_steps, due-sum bs)
 
 -- what is due from there on
 due-put : (bs : List ℕ) (gs : List GroupValue) (i : ℕ) (h : GroupValue) → i < length gs → due_in bs (drop i (set gs i h)) ≡ due_for bs h + due_in bs (drop (suc i) gs)
-due-put bs [] i h lt = absurd (omega arith)
-due-put bs (g ∷ gs) zero h lt = refl
-due-put bs (g ∷ gs) (suc i) h lt = due-put bs gs i h (omega arith)
+due-put bs gs i h lt = rw (drop-set, add-one)
 
 -- the witness is one of the numbers or 0
 abbrev pub IsHeld : List ℕ → GroupValue → Type 0
@@ -206,17 +189,13 @@ settling-none bs es gs listed =
 
 -- the group before them was looked at
 pub settling-settled : (bs : List ℕ) (old now new : Chains) (olds gs : List GroupValue) (i left last most more : ℕ) (g h : GroupValue) → left ≡ i + 1 → g ≡ get_or gs i g → IsKept old last → IsPartReclaimed bs now new → ((last : ℕ) → IsKept now last → IsKept new last)
-    → more ≡ most - due_for bs g → due_for bs h ≡ due_for bs g - most → IsLookedAfter bs new h → AreKept g.versions h.versions new → IsHeld bs h → IsTrulyMixed bs h → h.lists ≤ g.lists → h.witness ≡ witness_for bs g.witness → StaysUnder g h → AllByRecursion (IsSettled bs new) h.mixed → Settling bs old now olds gs left most
+    → more ≡ most - due_for bs g → due_for bs h ≡ due_for bs g - most → IsLookedAfter bs new h → AreKept g.versions h.versions new → IsHeld bs h → IsTrulyMixed bs h → h.lists ≤ g.lists → h.witness ≡ witness_for bs g.witness → GroupStaysUnder g h → AllByRecursion (IsSettled bs new) h.mixed → Settling bs old now olds gs left most
     → Settling bs old new olds (set gs i h) i more
 settling-settled bs old now new olds gs i left last most more g h next at ordered p keeps spare due settled kept held truly counted is stays mixed t =
     let s = subst (λ n. Settling bs old now olds gs n most) {x = left} {y = suc i} (omega (arith, next)) t in
-    let lt : i < length gs = (let within = s.in_range in omega (arith, within)) in
+    let lt : i < length gs = omega arith in
     let sum = due-set bs gs i g h lt at in
-    let looked = s.looked_at in
-    let few = s.few in
-    let none = s.none_behind in
-    let lists = s.lists in
-    let fewer = lists-fewer gs i g h lt at counted in
+    let lists = lists-set gs i g h lt at in
     record {
       in_range = omega (arith, lt, length-set {A = GroupValue});
       part = part-trans bs old now new last ordered s.part p;
@@ -225,12 +204,12 @@ settling-settled bs old now new olds gs i left last most more g h next at ordere
           let stays = kept k n high in listed-set gs i g h k n high lt at (λ e. grind arith)) s.listed;
       settled = all-put (IsLookedAfter bs new) gs i h lt settled
           (all-each (IsLookedAfter bs now) _ (drop (suc i) gs) (λ x f e. all-settled-part bs now new p x.versions (f e)) s.settled);
-      looked_at = omega (arith, sum, looked, spare, due);
-      none_behind = λ some. (let here = due-put bs gs i h lt in omega (arith, here, spare, due, none, some));
-      few = omega (arith, few, spare);
+      looked_at = omega arith;
+      none_behind = λ some. omega (arith, due-put bs gs i h lt, s.none_behind);
+      few = omega arith;
       held = all-put (IsHeld bs) gs i h lt held s.held;
       truly = all-put (IsTrulyMixed bs) gs i h lt truly s.truly;
-      lists = omega (arith, lists, fewer);
+      lists = omega arith;
       each = λ more held v u stands under.
           let own = all-last (IsUnder more v) gs i g lt at (s.before more v under) in
           all-put (IsUnder held u) gs i h lt (stays-under bs more held v u g h is stays stands own) (s.each more held v u stands under);
@@ -254,14 +233,11 @@ group-needed bs es k n high (g ∷ gs) h t = grind (arith, listed-needed bs es k
 -- all versions of the chain are needed, or one of them tells so of the chain
 each-needed : (bs : List ℕ) (es : Chains) (k : Bytes) (next : ℕ) (gs : List GroupValue) (us : List Stamped) → AllByRecursion (λ g. AllByRecursion (IsSettled bs es) g.versions) gs → AreListed gs k next us → AreNeeded bs next us ⊎ IsNeededChain bs (find_chain k es)
 each-needed bs es k next gs [] h l = inl tt
-each-needed bs es k next gs (u ∷ us) h l = elim (group-needed bs es k u.number (first_number us next) gs h l.0) [
-  | inl b ↦ elim (each-needed bs es k next gs us h l.1) [ inl c ↦ inl (b, c) | inr c ↦ inr c ]
-  | inr c ↦ inr c
-]
+each-needed bs es k next gs (u ∷ us) h l = grind (arith, group-needed bs es k u.number (first_number us next) gs h l.0, each-needed bs es k next gs us h l.1)
 
 chain-needed : (bs : List ℕ) (es : Chains) (k : Bytes) (gs : List GroupValue) (o : Option ChainValue) → find_chain k es ≡ o → AllByRecursion (λ g. AllByRecursion (IsSettled bs es) g.versions) gs → IsListedChain gs k o → IsNeededChain bs o
 chain-needed bs es k gs None e h l = tt
-chain-needed bs es k gs (Some c) e h l = elim (each-needed bs es k c.newest.number gs c.older h l) [ inl x ↦ x | inr x ↦ subst (IsNeededChain bs) e x ]
+chain-needed bs es k gs (Some c) e h l = grind (arith, each-needed bs es k c.newest.number gs c.older h l)
 
 all-settled : (bs : List ℕ) (es : Chains) (gs : List GroupValue) → due_in bs gs ≡ 0 → AllByRecursion (IsLookedAfter bs es) gs → AllByRecursion (λ g. AllByRecursion (IsSettled bs es) g.versions) gs
 all-settled bs es [] none h = tt
@@ -270,10 +246,8 @@ all-settled bs es (g ∷ gs) none h = (h.0 (omega (arith, none)), all-settled bs
 -- so many lists are due no more
 pub settling-due : (bs : List ℕ) (old now : Chains) (olds gs : List GroupValue) (most : ℕ) → Settling bs old now olds gs 0 most → due_in bs gs ≡ due_in bs olds - lists_a_reclaim
 settling-due bs old now olds gs most s =
-    let looked = s.looked_at in
-    let few = s.few in
     let none : 0 < most → due_in bs gs ≡ 0 = s.none_behind in
-    grind arith
+    grind (arith, s.looked_at, s.few)
 
 -- each witness is one of the numbers or 0
 pub settling-held : (bs : List ℕ) (old now : Chains) (olds gs : List GroupValue) (most : ℕ) → Settling bs old now olds gs 0 most → AreAmong (0 ∷ bs) (witnesses gs)
@@ -299,12 +273,8 @@ found-remove gs hs i g lt at less none k n high t =
     let p = λ (y : GroupValue). is_in y.versions k n high in
     grind (arith, any-remove p gs i g lt at, ap (list_any p) less, ap (λ l. is_in l k n high) none)
 
--- the versions of one group are those of two
-abbrev pub Joins : GroupValue → GroupValue → GroupValue → Type 0
-Joins a g j = (k : Bytes) (n high : ℕ) → is_in j.versions k n high ≡ (is_in a.versions k n high || is_in g.versions k n high)
-
 -- a group's versions move to another
-pub join-found : (gs hs : List GroupValue) (i m : ℕ) (a g j : GroupValue) → i < length gs → g ≡ get_or gs i g → hs ≡ remove gs i → m < length hs → a ≡ get_or hs m a → Joins a g j → AreFound gs (set hs m j)
+pub join-found : (gs hs : List GroupValue) (i m : ℕ) (a g j : GroupValue) → i < length gs → g ≡ get_or gs i g → hs ≡ remove gs i → m < length hs → a ≡ get_or hs m a → AreOfBoth a.versions g.versions j.versions → AreFound gs (set hs m j)
 join-found gs hs i m a g j lt second less short first both k n high t =
     let p = λ (y : GroupValue). is_in y.versions k n high in
     let own = any-remove p gs i g lt second in
@@ -313,18 +283,13 @@ join-found gs hs i m a g j lt second less short first both k n high t =
 
 -- ---- what is due stays when groups are joined
 
-due-remove : (bs : List ℕ) (gs : List GroupValue) (i : ℕ) (g : GroupValue) → i < length gs → g ≡ get_or gs i g → due_in bs (remove gs i) + due_for bs g ≡ due_in bs gs
-due-remove bs gs i g lt at = grind (arith, common_steps, due-sum bs)
-
 pub due-empty : (bs : List ℕ) (gs hs : List GroupValue) (i : ℕ) (g : GroupValue) → i < length gs → g ≡ get_or gs i g → hs ≡ remove gs i → due_for bs g ≡ 0 → due_in bs hs ≡ due_in bs gs
-due-empty bs gs hs i g lt at is none = grind (arith, due-remove bs gs i g lt at, ap (due_in bs) is)
+due-empty bs gs hs i g lt at is none = grind (arith, common_steps, due-sum bs, ap (due_in bs) is)
 
 pub due-joined : (bs : List ℕ) (gs hs : List GroupValue) (i m : ℕ) (a g j : GroupValue) → i < length gs → g ≡ get_or gs i g → hs ≡ remove gs i → a ≡ get_or hs m a → m < length hs → due_for bs j ≡ due_for bs a + due_for bs g → due_in bs (set hs m j) ≡ due_in bs gs
 due-joined bs gs hs i m a g j lt second less first short both =
-    let one = due-set bs hs m a j short first in
-    let two = ap (due_in bs) less in
-    let three = due-remove bs gs i g lt second in
-    omega (arith, one, two, three, both)
+    let left = ap (due_in bs) less in
+    grind (arith, common_steps, due-set bs hs m a j short first, due-sum bs)
 
 -- ---- what is mixed
 
@@ -332,10 +297,7 @@ list_all-lists : {Z : Type 0} (p : Listed → Bool) (xs : List (Vec Listed Z)) �
 list_all-lists p [] = refl
 list_all-lists p (x ∷ xs) = list_all-append p x.items (versions_in xs) ∙ ap (λ b. list_all p x.items && b) (list_all-lists p xs)
 
--- the number isn't held, or doesn't see each version of the lists
-pub unheld : {Z : Type 0} (bs : List ℕ) (w : ℕ) (xs : List (Vec Listed Z)) → is_among bs w ≡ false → (is_among bs w && list_all (is_seen_from w) (versions_in xs)) ≡ false
-unheld bs w xs f = and_left _ _ f
-
+-- the number doesn't see each version of the lists
 pub unseen : {Z : Type 0} (bs : List ℕ) (w : ℕ) (xs : List (Vec Listed Z)) → list_all (λ x. list_all (is_seen_from w) x.items) xs ≡ false → (is_among bs w && list_all (is_seen_from w) (versions_in xs)) ≡ false
 unseen bs w xs f = and_right (is_among bs w) _ (list_all-lists (is_seen_from w) xs ∙ f)
 
@@ -351,9 +313,8 @@ all-joined P gs hs i m a g j lt at less within other joins h =
 
 -- two groups of one witness are joined, and what they list stays under it
 pub under-joined : (held : ℕ → Bool) (v : ChainsValue) (a g j : GroupValue) → a.witness ≡ g.witness → j.witness ≡ a.witness
-    → ((w : ℕ) → AllByRecursion (IsUnderWitness held v w) a.versions → AllByRecursion (IsUnderWitness held v w) a.mixed → AllByRecursion (IsUnderWitness held v w) g.versions → AllByRecursion (IsUnderWitness held v w) g.mixed → AllByRecursion (IsUnderWitness held v w) j.versions × AllByRecursion (IsUnderWitness held v w) j.mixed)
-    → IsUnder held v a → IsUnder held v g → IsUnder held v j
+    → GroupsJoinUnder a g j → IsUnder held v a → IsUnder held v g → IsUnder held v j
 under-joined held v a g j one own each ha hg =
-    let at = λ (n : ℕ) (x : GroupValue). AllByRecursion (IsUnderWitness held v n) x.versions × AllByRecursion (IsUnderWitness held v n) x.mixed in
-    let other = subst (λ n. at n g) (sym one) hg in
-    subst (λ n. at n j) (sym own) (each a.witness ha.0 ha.1 other.0 other.1)
+    let at = λ (x : GroupValue) (n : ℕ). AreUnder held v n x.versions × AreUnder held v n x.mixed in
+    let other = subst (at g) (sym one) hg in
+    subst (at j) (sym own) (each held v a.witness ha.0 ha.1 other.0 other.1)

@@ -1,6 +1,7 @@
 -- The witnesses of groups: each is one of the numbers or 0, and no two are the same.
-use Rattle.versions.proofs.Words.{◌≡◌, ℕ, zero, suc, ◌+◌, ◌^◌, ◌<◌, ◌≤◌, Bool, true, false, Some, None, List, [], ◌∷◌, ◌++◌, length, take, get_or, set, map, refl, sym, ap, subst, ◌∙◌, arith, nat_lt, max, fold, ◌==◌, if◌then◌else◌, list_any, remove, sum_by, position, both_ways, or_left, or_right, eq-eqb, nat_tests, common_steps, get_or-map, get_or-take, get_or_default, length-map, length-take, take_more, list_any-append, list_any_none, GroupValue, all-each, is_among, witness_for, witnesses, AreApart, AreAmong, CanJoin, lists_in}
-use Rattle.std.proofs.{lemmas.List.Sums.fails_before_first, lemmas.List.Edits.get_or-remove_below, lemmas.List.Edits.length-remove, lemmas.List.Recursion.is_sum_by}
+use Rattle.versions.proofs.Words.{◌||◌, list_any, ◌≡◌, ℕ, zero, suc, ◌+◌, ◌^◌, ◌<◌, ◌≤◌, true, false, Some, None, List, [], ◌∷◌, ◌++◌, length, take, get_or, set, map, refl, sym, ap, subst, ◌∙◌, arith, nat_lt, max, fold, ◌==◌, if◌then◌else◌, remove, sum_by, position, both_ways, or_left, or_right, eq-eqb, nat_tests, common_steps, get_or-map, get_or-take, get_or_default, length-map, length-take, take_more, list_any-append, list_any_none, GroupValue, all-each, is_among, witness_for, witnesses, AreApart, AreAmong, CanJoin, lists_in}
+use Rattle.std.proofs.lemmas.List.{take-map}
+use Rattle.std.proofs.{Math.Seq.map-set_same, lemmas.List.Sums.fails_before_first, lemmas.List.Edits.get_or-remove_below, lemmas.List.Edits.length-remove, lemmas.List.Recursion.is_sum_by}
 use Rattle.std.proofs.lemmas.List.Quantifiers.{position-Some}
 
 -- ---- a witness is one of the numbers or 0
@@ -80,69 +81,47 @@ among-remove ns (g ∷ gs) (suc i) h = (h.0, among-remove ns gs i h.1)
 
 -- a group with the same witness in a group's place
 pub witnesses-set : (gs : List GroupValue) (i : ℕ) (g h : GroupValue) → g ≡ get_or gs i g → h.witness ≡ g.witness → witnesses (set gs i h) ≡ witnesses gs
-witnesses-set [] i g h at e = refl
-witnesses-set (x ∷ gs) zero g h at e = ap (λ n. n ∷ witnesses gs) (e ∙ ap (λ (y : GroupValue). y.witness) at)
-witnesses-set (x ∷ gs) (suc i) g h at e = ap (λ l. x.witness ∷ l) (witnesses-set gs i g h at e)
+witnesses-set gs i g h at e = map-set_same (λ (y : GroupValue). y.witness) gs i h g (e ∙ ap (λ (y : GroupValue). y.witness) at)
+
+among-witnesses : (gs : List GroupValue) (w : ℕ) → is_among (witnesses gs) w ≡ list_any (λ g. g.witness == w) gs
+among-witnesses [] w = refl
+among-witnesses (g ∷ gs) w = ap (λ b. (g.witness == w) || b) (among-witnesses gs w)
 
 -- the witness is that of no group before
-not_at : (gs : List GroupValue) (i : ℕ) (w : ℕ) → list_any (λ g. g.witness == w) (take i gs) ≡ false → is_among (take i (witnesses gs)) w ≡ false
-not_at gs zero w h = refl
-not_at [] (suc i) w h = refl
-not_at (g ∷ gs) (suc i) w h = grind (arith, not_at gs i w)
-
-none-any : {X : Type 0} (p : X → Bool) (xs : List X) → position p xs ≡ None → list_any p xs ≡ false
-none-any p xs e = list_any_none p xs (λ k d lt. fails_before_first p xs k d (grind (arith, nat_tests)))
-
 pub none-before : (gs : List GroupValue) (i w : ℕ) → position (λ g. g.witness == w) (take i gs) ≡ None → is_among (take i (witnesses gs)) w ≡ false
-none-before gs i w e = not_at gs i w (none-any (λ g. g.witness == w) (take i gs) e)
+none-before gs i w e = ap (λ ns. is_among ns w) (take-map (λ (g : GroupValue). g.witness) i gs) ∙ among-witnesses (take i gs) w
+    ∙ list_any_none (λ (g : GroupValue). g.witness == w) (take i gs) (λ k d lt. fails_before_first (λ (g : GroupValue). g.witness == w) (take i gs) k d (grind (arith, nat_tests)))
 
 -- ---- how many lists
 
 lists-sum : (gs : List GroupValue) → lists_in gs ≡ sum_by (λ (g : GroupValue). g.lists) gs
 lists-sum = is_sum_by lists_in (λ (g : GroupValue). g.lists) refl (λ _ _. refl)
 
-lists-set : (gs : List GroupValue) (i : ℕ) (g h : GroupValue) → i < length gs → g ≡ get_or gs i g → lists_in (set gs i h) + g.lists ≡ lists_in gs + h.lists
+pub lists-set : (gs : List GroupValue) (i : ℕ) (g h : GroupValue) → i < length gs → g ≡ get_or gs i g → lists_in (set gs i h) + g.lists ≡ lists_in gs + h.lists
 lists-set gs i g h lt at = grind (arith, common_steps, lists-sum)
-
-pub lists-fewer : (gs : List GroupValue) (i : ℕ) (g h : GroupValue) → i < length gs → g ≡ get_or gs i g → h.lists ≤ g.lists → lists_in (set gs i h) ≤ lists_in gs
-lists-fewer gs i g h lt at le = let sum = lists-set gs i g h lt at in omega (arith, sum, le)
 
 pub lists-remove : (gs : List GroupValue) (i : ℕ) (g : GroupValue) → i < length gs → g ≡ get_or gs i g → lists_in (remove gs i) + g.lists ≡ lists_in gs
 lists-remove gs i g lt at = grind (arith, common_steps, lists-sum)
 
-lists-at : (gs : List GroupValue) (i : ℕ) (g : GroupValue) → i < length gs → g ≡ get_or gs i g → g.lists ≤ lists_in gs
-lists-at gs i g lt at = let all = lists-remove gs i g lt at in omega (arith, all)
-
 pub lists-joined : (gs hs : List GroupValue) (i m : ℕ) (a g j : GroupValue) → i < length gs → g ≡ get_or gs i g → hs ≡ remove gs i → m < length hs → a ≡ get_or hs m a → j.lists ≡ a.lists + g.lists → lists_in (set hs m j) ≡ lists_in gs
 lists-joined gs hs i m a g j lt second less short first both =
-    let one = lists-set hs m a j short first in
-    let two = ap lists_in less in
-    let three = lists-remove gs i g lt second in
-    omega (arith, one, two, three, both)
+    omega (arith, lists-set hs m a j short first, ap lists_in less, lists-remove gs i g lt second)
 
 -- two of the groups have no more lists than all
 pub two-fit : (gs hs : List GroupValue) (i m : ℕ) (a g : GroupValue) → i < length gs → g ≡ get_or gs i g → hs ≡ remove gs i → m < length hs → a ≡ get_or hs m a → a.lists + g.lists ≤ lists_in gs
 two-fit gs hs i m a g lt second less short first =
-    let one = lists-at hs m a short first in
-    let two = ap lists_in less in
-    let three = lists-remove gs i g lt second in
-    omega (arith, one, two, three)
+    omega (arith, lists-remove hs m a short first, ap lists_in less, lists-remove gs i g lt second)
 
 -- the group that was found stands before the other
 pub found-before : (gs hs : List GroupValue) (i m w : ℕ) (a : GroupValue) → i < length gs → hs ≡ remove gs i → position (λ g. g.witness == w) (take i gs) ≡ Some m → m < length hs
 found-before gs hs i m w a lt less at =
-    let found = position-Some (λ (g : GroupValue). g.witness == w) (take i gs) m a at in
-    let first = found.0 in
-    let short = length-take i gs in
-    let one = ap length less in
-    let two = length-remove gs i lt in
-    omega (arith, lt, first, short, one, two)
+    omega (arith, (position-Some (λ (g : GroupValue). g.witness == w) (take i gs) m a at).0, length-take i gs, ap length less, length-remove gs i lt)
 
 -- and can take in its lists
 pub join-fits : (gs hs : List GroupValue) (i m w : ℕ) (x a g : GroupValue) → i < length gs → x ≡ get_or gs i x → w ≡ x.witness → g ≡ get_or gs i g → hs ≡ remove gs i → a ≡ get_or hs m a → position (λ g. g.witness == w) (take i gs) ≡ Some m → lists_in gs < 2 ^ 63 → CanJoin a g
 join-fits gs hs i m w x a g lt own is second less first at few =
     let found = position-Some (λ (g : GroupValue). g.witness == w) (take i gs) m a at in
-    let before : m < i = (let inside = found.0 in let short = length-take i gs in omega (arith, inside, short)) in
+    let before : m < i = omega (arith, found.0, length-take i gs) in
     let same : get_or (take i gs) m a ≡ a = get_or-take i gs m a before ∙ sym (get_or-remove_below gs i a m before lt) ∙ sym (ap (λ l. get_or l m a) less) ∙ sym first in
     let held : (a.witness == w) ≡ true = sym (ap (λ (y : GroupValue). y.witness == w) same) ∙ found.1 in
     let equal : a.witness ≡ w = grind (arith, nat_tests, held) in

@@ -40,7 +40,7 @@ returns-in-Some c =
       lists = lists-joined gs hs i m a g j lt second less short first c.absorb.ensures.lists;
       truly = λ bs. all-joined (IsTrulyMixed bs) gs hs i m a g j lt second less short first (c.absorb.ensures.truly bs);
       each = λ held v. all-joined (IsUnder held v) gs hs i m a g j lt second less short first
-          (under-joined held v a g j joins.0 c.absorb.ensures.witness (c.absorb.ensures.each held v));
+          (under-joined held v a g j joins.0 c.absorb.ensures.witness c.absorb.ensures.each);
       mixed = λ bs es. (
           let P = λ (x : GroupValue). AllByRecursion (IsSettled bs es) x.mixed in
           all-joined P gs hs i m a g j lt second less short first (c.absorb.ensures.mixed bs es));

@@ -1,5 +1,5 @@
-use Rattle.versions.proofs.Words.{◌≡◌, ◌-◌, ◌≤◌, ◌∷◌, sym, ap, ◌∙◌, subst, arith, entries, GroupValue, AreKept, witness_for, due_for, is_among}
-use Rattle.versions.proofs.Groups.{StaysUnder, Settling, settling-none, settling-settled, settling-due, settling-ended, settling-held}
+use Rattle.versions.proofs.Words.{GroupStaysUnder, ◌≡◌, ◌-◌, ◌≤◌, ◌∷◌, sym, ap, ◌∙◌, subst, arith, entries, GroupValue, AreKept, witness_for, due_for, is_among}
+use Rattle.versions.proofs.Groups.{Settling, settling-none, settling-settled, settling-due, settling-ended, settling-held}
 use Rattle.versions.proofs.Witnesses.{witness-among}
 use Rattle.versions.proofs.reclaiming.reclaim_groups.Goals as goal
 
@@ -18,7 +18,7 @@ loop-left-preserved c =
     let counted = subst (λ (x : GroupValue). c.reclaim-most.new.self.lists ≤ x.lists) is c.reclaim-most.ensures.lists in
     let left = subst (λ (x : GroupValue). AreKept x.versions c.reclaim-most.new.self.versions (entries c.reclaim-most.new.chains)) is c.reclaim-most.ensures.left in
     let witness = subst (λ (x : GroupValue). c.reclaim-most.new.self.witness ≡ witness_for bs x.witness) is c.reclaim-most.ensures.witness in
-    let stays = subst (λ (x : GroupValue). StaysUnder x c.reclaim-most.new.self) is c.reclaim-most.ensures.each in
+    let stays = subst (λ (x : GroupValue). GroupStaysUnder x c.reclaim-most.new.self) is c.reclaim-most.ensures.each in
     settling-settled c.args.begins.now (entries c.args.chains.now) (entries c.loop-left.chains) (entries c.reclaim-most.new.chains) c.args.groups.now c.loop-left.groups (c.loop-left.left - 1) c.loop-left.left c.requires.kept.0 c.loop-left.most c.reclaim-most.result c.index-groups-left.result c.reclaim-most.new.self
     (omega arith) c.index-groups-left.is c.requires.kept.1 c.reclaim-most.ensures.part c.reclaim-most.ensures.kept spare due c.reclaim-most.ensures.settled left
     (ap (is_among (0 ∷ bs)) c.reclaim-most.ensures.witness ∙ witness-among bs _) c.reclaim-most.ensures.truly counted witness stays c.reclaim-most.ensures.mixed c.loop-left.invariant

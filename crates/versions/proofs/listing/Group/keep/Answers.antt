@@ -1,5 +1,5 @@
-use Rattle.versions.proofs.Words.{◌≡◌, ◌&&◌, ◌++◌, true, false, inr, length, ap, sym, subst, ◌∙◌, arith, length-append, GroupValue, Listed, AllByRecursion, list_all, IsUnderWitness, AreSeenFrom, IsSettled, is_seen_from, versions_in, is_among, all-append}
-use Rattle.versions.proofs.{Lists.in-append, Lists.in-seen, Groups.unheld, Groups.unseen, Groups.unseen-put, Parts.all-seen_more}
+use Rattle.versions.proofs.Words.{and_left, ◌≡◌, ◌&&◌, ◌++◌, true, false, inr, length, ap, sym, subst, ◌∙◌, arith, length-append, GroupValue, Listed, AllByRecursion, list_all, IsUnderWitness, AreSeenFrom, IsSettled, is_seen_from, versions_in, is_among, all-append}
+use Rattle.versions.proofs.{Lists.in-append, Lists.in-seen, Groups.unseen, Groups.unseen-put, Parts.all-seen_more}
 use Rattle.versions.proofs.listing.Group.keep.Goals.{else-is_among-via-then-is_among+else-are_seen_from, else-is_among-via-else-is_among}
 use Rattle.versions.proofs.listing.Group.keep.Goals as goal
 
@@ -30,7 +30,7 @@ returns-else-is_among-clause-truly c = λ none.
     let mixed = c.self.inside.mixed in
     let unfit : (is_among bs w && list_all (is_seen_from w) (versions_in c.args.lists)) ≡ false = elim c.else-is_among.branch [
       | else-is_among-via-then-is_among+else-are_seen_from b ↦ unseen bs w c.args.lists (sym b.are_seen_from.ensures ∙ b.if-are_seen_from.false)
-      | else-is_among-via-else-is_among b ↦ unheld bs w c.args.lists (sym c.is_among.ensures ∙ b.if-is_among.false)
+      | else-is_among-via-else-is_among b ↦ and_left _ _ (sym c.is_among.ensures ∙ b.if-is_among.false)
     ] in
     let put = c.append-else-is_among.ensures in
     let lists = ap length put ∙ length-append mixed c.args.lists in
