@@ -45,24 +45,22 @@ module _ (v : ChainsValue) (held : ℕ → Bool) (base : KeyMap) (history : List
     pub stands-installed : (n : ℕ) (ws : List KeyWrite) (r : Record) → IsInstalled v new n ws → (AreUnderWitnesses held v v.groups → AreUnderWitnesses held new new.groups) → v.last < n → length history + 1 ≡ n → r.commit ≡ n → r.writes ≡ ws → StandsFor v held base history → StandsFor new held base (history ++ r ∷ [])
     stands-installed n ws r h under lt long commit is s =
         let last = h.last in
-        let within = s.within in
         record {
           is_map = s.is_map;
           maps = λ m t. grind (arith, nat_tests, h.maps m, s.maps m, map_at-push base history r m, commit, is);
           newest = λ k. grind (arith, h.newest k, s.newest k, last_writer-push (option_map (λ _. 0) (value_at base k)) history r k);
-          within = omega (arith, last, long, length-append history (r ∷ []));
+          within = omega (arith, length-append history (r ∷ []));
           witnessed = under s.witnessed;
         }
 
     pub stands-reclaimed : (bs : List ℕ) → IsReclaimed v new bs → (AreUnderWitnesses held v v.groups → AreUnderWitnesses (λ n. held n && is_among bs n) new new.groups) → StandsFor v held base history → StandsFor new (λ n. held n && is_among bs n) base history
     stands-reclaimed bs h under s =
         let last = h.last in
-        let within = s.within in
         record {
           is_map = s.is_map;
           maps = λ n t. grind (arith, h.maps n, s.maps n);
           newest = λ k. h.newest k ∙ s.newest k;
-          within = omega (arith, last, within);
+          within = omega (arith, s.within);
           witnessed = under s.witnessed;
         }
 

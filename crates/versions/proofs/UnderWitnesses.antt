@@ -1,5 +1,5 @@
 -- Under which numbers the older versions are listed, from call to call.
-use Rattle.versions.proofs.Words.{[], ◌≡◌, ℕ, ◌-◌, ◌<◌, ◌≤◌, Bool, true, false, ◌&&◌, List, ◌∷◌, ◌++◌, Option, Some, None, refl, sym, ap, subst, ◌∙◌, arith, inl, inr, length, option_map, nat_le, nat_lt, max, fold, ◌==◌, ◌⊎◌, IsTrue, if◌then◌else◌, AllByRecursion, list_all, list_any, and_parts, cases_lt, both_ways, or_cases, nat_tests, nat_cmp, slice_cmp, put, Bytes, same_key, Stamped, ChainValue, Chains, ChainsValue, added, find_chain, last_at, reclaimed, stamped, IsKept, IsReady, IsRisingChain, IsRisingTo, IsRoomier, IsRoomierChain, GroupValue, Listed, is_among, followed, has_version, is_seen_from, witness_for, witnesses, AreAmong, AreMixedSettled, AreNeeded, IsFollowed, IsNeededChain, IsPartReclaimed, IsSettled, IsTrulyMixed, IsUnmixed, number_at, number_seen, AreUnderWitnesses, IsAddedTo, IsUnderChain, IsUnderWitness, all-append, all-each}
+use Rattle.versions.proofs.Words.{[], ◌≡◌, ℕ, ◌-◌, ◌<◌, ◌≤◌, Bool, true, false, ◌&&◌, List, ◌∷◌, ◌++◌, Option, Some, None, refl, sym, ap, subst, ◌∙◌, arith, inl, inr, length, option_map, nat_le, nat_lt, max, fold, ◌==◌, ◌⊎◌, IsTrue, if◌then◌else◌, AllByRecursion, list_all, list_any, and_parts, both_ways, or_cases, nat_tests, nat_cmp, slice_cmp, put, Bytes, same_key, Stamped, ChainValue, Chains, ChainsValue, added, find_chain, last_at, reclaimed, stamped, IsKept, IsReady, IsRisingChain, IsRisingTo, IsRoomier, IsRoomierChain, GroupValue, Listed, is_among, followed, has_version, is_seen_from, witness_for, witnesses, AreAmong, AreMixedSettled, AreNeeded, IsFollowed, IsNeededChain, IsPartReclaimed, IsSettled, IsTrulyMixed, IsUnmixed, number_at, number_seen, AreUnderWitnesses, IsAddedTo, IsUnderChain, IsUnderWitness, all-append, all-each}
 use Rattle.versions.proofs.ChainLaws.{above_first, last_at-push, some_between, stays, version_at-reclaimed}
 use Rattle.versions.proofs.Stores.{RoomierFound, all-find, find-put_itself, find-roomier, number_added}
 use Rattle.versions.proofs.Visibles.{find_chain-put}
@@ -22,33 +22,22 @@ groups-under more held v u gs f h =
 -- the held numbers see of the chain what they saw
 under-chain : (more held : ℕ → Bool) (last last' w w' n : ℕ) (c d : ChainValue) → d.newest ≡ c.newest → last ≤ last' → ((b : ℕ) → IsTrue (held b) → IsTrue (more b) × (number_at b d ≡ number_at b c) × (b ≤ w → b ≤ w'))
     → IsUnderChain more last w n c → IsUnderChain held last' w' n d
-under-chain more held last last' w w' n c d same le each u =
-    let behind = u.behind in
-    let most = u.installed in
-    let sees = u.sees in
-    record {
-      behind = grind arith;
-      installed = grind arith;
-      sees = λ b t high is. (let r = each b t in r.2 (u.sees b r.0 (grind arith) (sym r.1 ∙ is)));
-    }
+under-chain more held last last' w w' n c d same le each u = grind (arith, u.behind, u.installed, u.sees, each)
 
 number_roomier : (b : ℕ) (c d : ChainValue) → IsRoomierChain c d → number_at b d ≡ number_at b c
 number_roomier b c d r = λ i. option_map (λ (v : Stamped). v.number) (if nat_le (r.newest i).number b then Some (r.newest i) else last_at b None (r.older i))
 
 roomier_before : (o p : Option ChainValue) (d : ChainValue) → RoomierFound o p → p ≡ Some d → (c : ChainValue) × (o ≡ Some c) × IsRoomierChain c d
-roomier_before None None d r e = cc
 roomier_before (Some c) (Some f) d r e = let same : f ≡ d = cc in (c, refl, subst (IsRoomierChain c) same r)
-roomier_before _ _ d r e = absurd r
+roomier_before None _ d r e = grind arith
+roomier_before _ None d r e = cc
 
 pub under-roomier : (held : ℕ → Bool) (v u : ChainsValue) → IsRoomier v.chains u.chains → u.last ≡ v.last → (w : ℕ) (x : Listed) → IsUnderWitness held v w x → IsUnderWitness held u w x
-under-roomier held v u more last w x h = record {
-  before = h.before;
-  rises = h.rises;
-  installed = subst (λ n. x.next ≤ n) (sym last) h.installed;
-  between = h.between;
-  chain = λ d found. (let r = roomier_before (find_chain x.key v.chains) (find_chain x.key u.chains) d (find-roomier x.key v.chains u.chains more) found in
-      under-chain held held v.last u.last w w x.number r.0 d r.2.newest (omega (arith, last)) (λ b t. (t, number_roomier b r.0 d r.2, λ le. le)) (h.chain r.0 r.1));
-}
+under-roomier held v u more last w x h =
+    let installed = subst (λ n. x.next ≤ n) (sym last) h.installed in
+    assumption (installed, λ (d : ChainValue) (found : find_chain x.key u.chains ≡ Some d). (
+    let r = roomier_before (find_chain x.key v.chains) (find_chain x.key u.chains) d (find-roomier x.key v.chains u.chains more) found in
+    under-chain held held v.last u.last w w x.number r.0 d r.2.newest (omega (arith, last)) (λ b t. (t, number_roomier b r.0 d r.2, λ le. le)) (h.chain r.0 r.1)))
 
 roomier_behind : (o p : Option ChainValue) (c : ChainValue) → RoomierFound o p → o ≡ Some c → (d : ChainValue) × (p ≡ Some d) × IsRoomierChain c d
 roomier_behind None None c r e = cc
@@ -57,14 +46,11 @@ roomier_behind _ _ c r e = absurd r
 
 -- and so it was before there was more room
 pub under-roomy : (held : ℕ → Bool) (v u : ChainsValue) → IsRoomier v.chains u.chains → u.last ≡ v.last → (w : ℕ) (x : Listed) → IsUnderWitness held u w x → IsUnderWitness held v w x
-under-roomy held v u more last w x h = record {
-  before = h.before;
-  rises = h.rises;
-  installed = subst (λ n. x.next ≤ n) last h.installed;
-  between = h.between;
-  chain = λ c found. (let r = roomier_behind (find_chain x.key v.chains) (find_chain x.key u.chains) c (find-roomier x.key v.chains u.chains more) found in
-      under-chain held held u.last v.last w w x.number r.0 c (sym r.2.newest) (omega (arith, last)) (λ b t. (t, sym (number_roomier b c r.0 r.2), λ le. le)) (h.chain r.0 r.1));
-}
+under-roomy held v u more last w x h =
+    let installed = subst (λ n. x.next ≤ n) last h.installed in
+    assumption (installed, λ (c : ChainValue) (found : find_chain x.key v.chains ≡ Some c). (
+    let r = roomier_behind (find_chain x.key v.chains) (find_chain x.key u.chains) c (find-roomier x.key v.chains u.chains more) found in
+    under-chain held held u.last v.last w w x.number r.0 c (sym r.2.newest) (omega (arith, last)) (λ b t. (t, sym (number_roomier b c r.0 r.2), λ le. le)) (h.chain r.0 r.1)))
 
 -- ---- a reclaim
 
@@ -120,8 +106,7 @@ needed_seen bs next m (v ∷ vs) rising needed t = elim (or_cases (v.number == m
   | inl e ↦
       let s = some_between bs v.number _ needed.0 in
       let a = above_first s.0 next vs rising.2 s.3 in
-      let low = s.2 in
-      (s.0, s.1, grind (arith, nat_tests), a.1, λ d. grind (arith, nat_tests, stays s.0 v vs a.0))
+      (s.0, s.1, grind (arith, nat_tests, s.2), a.1, λ d. grind (arith, nat_tests, s.2, stays s.0 v vs a.0))
   | inr e ↦ let r = needed_seen bs next m vs rising.2 needed.1 e in (r.0, r.1, r.2, r.3, λ d. r.4 (if nat_le v.number r.0 then Some v else d))
 ]
 
@@ -135,8 +120,7 @@ settled_seen bs held u last w x all kept h (inr s) = by (find_chain x.key u.chai
     by None e has needed = absurd (both_ways _ refl has)
     by (Some c) e has needed =
         let r = needed_seen bs c.newest.number x.number c.older (all-find (IsRisingChain last) x.key c u.chains kept.rising e).0 needed has in
-        let high = r.3 in
-        let sees : number_at r.0 c ≡ Some x.number = grind (arith, nat_tests, r.4 None) in
+        let sees : number_at r.0 c ≡ Some x.number = grind (arith, nat_tests, r.3, r.4 None) in
         (r.0, r.1, r.2, (h.chain c e).sees r.0 (all r.0 r.1) r.3 sees)
 
 module _ (bs : List ℕ) (held : ℕ → Bool) (u : ChainsValue) (last : ℕ) (all : (n : ℕ) → is_among bs n ≡ true → IsTrue (held n)) (kept : IsKept u.chains last) where
@@ -144,18 +128,13 @@ module _ (bs : List ℕ) (held : ℕ → Bool) (u : ChainsValue) (last : ℕ) (a
   all_seen w [] h s = refl
   all_seen w (x ∷ xs) h s =
       let r = settled_seen bs held u last w x all kept h.0 s.0 in
-      let low = r.2 in
-      let high = r.3 in
-      let lt = h.0.before in
-      grind (arith, nat_tests, all_seen w xs h.1 s.1)
+      grind (arith, nat_tests, r.2, r.3, h.0.before, all_seen w xs h.1 s.1)
 
   -- a witness with a settled version under it is one of the numbers
   seen_among : (w : ℕ) (x : Listed) → is_among (0 ∷ bs) w ≡ true → IsUnderWitness held u w x → IsSettled bs u.chains x → is_among bs w ≡ true
   seen_among w x t h s =
       let r = settled_seen bs held u last w x all kept h s in
-      let among = r.1 in
-      let high = r.3 in
-      grind (arith, nat_tests)
+      grind (arith, nat_tests, r.1, r.3)
 
   unmixed_list : (w : ℕ) (xs : List Listed) → is_among (0 ∷ bs) w ≡ true → AllByRecursion (IsUnderWitness held u w) xs → AllByRecursion (IsSettled bs u.chains) xs → (is_among bs w && list_all (is_seen_from w) xs) ≡ false → xs ≡ []
   unmixed_list w [] t h s f = refl
@@ -165,9 +144,8 @@ module _ (bs : List ℕ) (held : ℕ → Bool) (u : ChainsValue) (last : ℕ) (a
   pub groups-unmixed : (gs : List GroupValue) → AreAmong (0 ∷ bs) (witnesses gs) → AreUnderWitnesses held u gs → AreMixedSettled bs u.chains gs → AllByRecursion (IsTrulyMixed bs) gs → AllByRecursion IsUnmixed gs
   groups-unmixed [] t h s m = tt
   groups-unmixed (g ∷ gs) t h s m =
-      let filled = m.0.0 in
       let none : g.mixed ≡ [] = elim m.0.1 [ inl none ↦ none | inr f ↦ unmixed_list g.witness g.mixed t.0 h.0.1 s.0 f ] in
-      ((none, omega (arith, filled, ap length none)), groups-unmixed gs t.1 h.1 s.1 m.1)
+      ((none, omega (arith, m.0.0, ap length none)), groups-unmixed gs t.1 h.1 s.1 m.1)
 
 -- ---- an install
 
@@ -185,23 +163,19 @@ seen_added n (Some c) value room b lt = grind (arith, nat_tests, last_at-push b 
 -- a write with number n
 pub added-put : (n : ℕ) (k q : Bytes) (value : Option Bytes) (room : ℕ) (es : Chains) → IsAddedTo n (find_chain q es) (find_chain q (put (slice_cmp nat_cmp) k (added (find_chain k es) (stamped n value) room) es))
 added-put n k q value room es =
-    let own = stamped n value in
-    let put = find_chain-put q k (added (find_chain k es) own room) es in
-    grind (arith, seen_added n (find_chain k es) value room, same_key q k, number_added (find_chain k es) own room)
+    let put = find_chain-put q k (added (find_chain k es) (stamped n value) room) es in
+    grind (arith, seen_added n (find_chain k es) value room, same_key q k, number_added (find_chain k es) (stamped n value) room)
 
 -- what was followed by number n still is
 followed_later : (n : ℕ) (k : Bytes) (value : Option Bytes) (room : ℕ) (es : Chains) (x : Listed) → IsFollowed n es x → IsFollowed n (put (slice_cmp nat_cmp) k (added (find_chain k es) (stamped n value) room) es) x
 followed_later n k value room es x h =
-    let c = added (find_chain k es) (stamped n value) room in
-    let number = number_added (find_chain k es) (stamped n value) room in
-    record { number = h.number; next = h.next; newest = λ d found. grind (arith, find_chain-put x.key k c es, h.newest d) }
+    grind (arith, number_added, h.number, h.next, h.newest, find_chain-put x.key k (added (find_chain k es) (stamped n value) room) es)
 
 followed_own : (n : ℕ) (k : Bytes) (value : Option Bytes) (room : ℕ) (es : Chains) (o : Option ChainValue) → IsReady n o → AllByRecursion (IsFollowed n (put (slice_cmp nat_cmp) k (added (find_chain k es) (stamped n value) room) es)) (followed o k n)
 followed_own n k value room es None ready = tt
 followed_own n k value room es (Some c) ready =
     let own = added (find_chain k es) (stamped n value) room in
-    let number = number_added (find_chain k es) (stamped n value) room in
-    (record { number = ready.0; next = refl; newest = λ d found. grind (arith, find-put_itself k own es) }, tt)
+    (record { number = ready.0; next = refl; newest = λ d found. grind (arith, number_added, find-put_itself k own es) }, tt)
 
 pub followed-write : (n : ℕ) (k : Bytes) (value : Option Bytes) (room : ℕ) (es : Chains) (ls : List Listed) → IsReady n (find_chain k es) → AllByRecursion (IsFollowed n es) ls
     → AllByRecursion (IsFollowed n (put (slice_cmp nat_cmp) k (added (find_chain k es) (stamped n value) room) es)) (ls ++ followed (find_chain k es) k n)
@@ -212,45 +186,27 @@ followed-write n k value room es ls ready h =
 -- a version under its chain is under the chain that is left by an install
 under_added : (held : ℕ → Bool) (last n w m : ℕ) (o : Option ChainValue) (d : ChainValue) → last < n → m < n → IsAddedTo n o (Some d) → ((c : ChainValue) → o ≡ Some c → IsUnderChain held last w m c) → IsUnderChain held n w m d
 under_added held last n w m o d lt low h u = elim h.newest [
-  | inl e ↦ (let r = u d (sym e) in record { behind = r.behind; installed = (let most = r.installed in omega (arith, most, lt)); sees = r.sees })
-  | inr e ↦ (let is : d.newest.number ≡ n = cc in record {
-    behind = omega (arith, is, low);
-    installed = omega (arith, is);
-    sees = λ b t high sees. old o u b t (sym (h.below b (omega (arith, is, high))) ∙ sees);
-  })
+  | inl e ↦ (let r = u d (sym e) in record { behind = r.behind; installed = omega (arith, r.installed); sees = r.sees })
+  | inr e ↦ (let is : d.newest.number ≡ n = cc in record { behind = omega arith; installed = omega arith; sees = λ b t high sees. old o u b t (sym (h.below b (omega (arith, is, high))) ∙ sees) })
 ]
   where
     old : (p : Option ChainValue) → ((c : ChainValue) → p ≡ Some c → IsUnderChain held last w m c) → (b : ℕ) → IsTrue (held b) → number_seen b p ≡ Some m → b ≤ w
     old None g b t e = cc
-    old (Some c) g b t e = (let r = g c refl in elim (cases_lt b c.newest.number) [
-      | inl below ↦ r.sees b t below e
-      | inr above ↦ (let behind = r.behind in grind (arith, nat_tests))
-    ])
+    old (Some c) g b t e = let r = g c refl in grind (arith, nat_tests, r.behind, r.sees b t)
 
 pub under-installed : (held : ℕ → Bool) (v u : ChainsValue) (n : ℕ) → v.last < n → u.last ≡ n → ((k : Bytes) → IsAddedTo n (find_chain k v.chains) (find_chain k u.chains)) → (w : ℕ) (x : Listed) → IsUnderWitness held v w x → IsUnderWitness held u w x
 under-installed held v u n lt last chains w x h =
-    let most = h.installed in record {
-      before = h.before;
-      rises = h.rises;
-      installed = omega (arith, most, lt, last);
-      between = h.between;
-      chain = λ d found. (let rises = h.rises in
-          subst (λ l. IsUnderChain held l w x.number d) (sym last)
-          (under_added held v.last n w x.number (find_chain x.key v.chains) d lt (omega (arith, rises, most, lt)) (subst (IsAddedTo n (find_chain x.key v.chains)) found (chains x.key)) h.chain));
-    }
+    let installed : x.next ≤ u.last = omega (arith, h.installed) in
+    assumption (installed, λ (d : ChainValue) (found : find_chain x.key u.chains ≡ Some d). subst (λ l. IsUnderChain held l w x.number d) (sym last)
+    (under_added held v.last n w x.number (find_chain x.key v.chains) d lt (omega (arith, h.rises, h.installed)) (subst (IsAddedTo n (find_chain x.key v.chains)) found (chains x.key)) h.chain))
 
 -- what a commit followed is listed under the number before it
 under-followed : (held : ℕ → Bool) (u : ChainsValue) (n : ℕ) → 0 < n → u.last ≡ n → (x : Listed) → IsFollowed n u.chains x → IsUnderWitness held u (n - 1) x
-under-followed held u n some last x h =
-    let next = h.next in
-    let number = h.number in
-    grind (arith, h.newest)
+under-followed held u n some last x h = grind (arith, h.next, h.number, h.newest)
 
 -- one group more
 groups-last : (held : ℕ → Bool) (u : ChainsValue) (gs : List GroupValue) (g : GroupValue) → AreUnderWitnesses held u gs → AllByRecursion (IsUnderWitness held u g.witness) g.versions → g.mixed ≡ [] → AreUnderWitnesses held u (gs ++ g ∷ [])
-groups-last held u gs g h own none =
-    let mixed = subst (AllByRecursion (IsUnderWitness held u g.witness)) (sym none) tt in
-    all-append (IsUnder held u) gs (g ∷ []) h ((own, mixed), tt)
+groups-last held u gs g h own none = all-append (IsUnder held u) gs (g ∷ []) h ((own, subst (AllByRecursion (IsUnderWitness held u g.witness)) (sym none) tt), tt)
 
 pub groups-installed : (held : ℕ → Bool) (v u : ChainsValue) (n : ℕ) (g : GroupValue) (ls : List Listed) → v.last < n → u.last ≡ n → ((k : Bytes) → IsAddedTo n (find_chain k v.chains) (find_chain k u.chains)) → u.groups ≡ v.groups ++ g ∷ []
     → g.witness ≡ n - 1 → g.mixed ≡ [] → g.versions ≡ ls → AllByRecursion (IsFollowed n u.chains) ls → AreUnderWitnesses held v v.groups → AreUnderWitnesses held u u.groups

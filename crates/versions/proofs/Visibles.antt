@@ -1,24 +1,18 @@
 -- What the numbers see when chains change.
-use Rattle.versions.proofs.Words.{◌≡◌, ℕ, ◌<◌, ◌≤◌, min, Bool, true, false, T, cond, ◌&&◌, List, [], ◌∷◌, Option, Some, None, refl, ap, arith, fold, is_none, is_some, nat_le, if◌then◌else◌, both_ways, nat_tests, nat_cmp, slice_cmp, nat_list_cmp_total, put, where_key, below_all, find-put, is_sorted-put, Bytes, key_cmp, IsMap, is_same_key, value_at, after_write, same_key, same_map, value_after_write, IsMap-after_write, Stamped, ChainValue, Chains, find_chain, first_shown, hides, last_at, least_value, seen, seen_in, u64_max, value_of, with_value, visible, IsSorted, IsBelowAll, both, find_none, parts}
+use Rattle.versions.proofs.Words.{◌≡◌, ℕ, ◌<◌, ◌≤◌, min, Bool, true, T, cond, ◌&&◌, List, [], ◌∷◌, Option, Some, None, refl, ap, arith, fold, is_none, nat_le, if◌then◌else◌, nat_tests, nat_cmp, slice_cmp, nat_list_cmp_total, put, where_key, below_all, find-put, is_sorted-put, Bytes, key_cmp, IsMap, is_same_key, value_at, after_write, same_key, same_map, value_after_write, IsMap-after_write, Stamped, ChainValue, Chains, find_chain, first_shown, hides, last_at, least_value, seen, seen_in, u64_max, value_of, with_value, visible, IsSorted, IsBelowAll, both, find_none, parts}
 use Rattle.sorted_pages.specs.Blanks.{shown}
 
 below_visible : (n : ℕ) (k : Bytes) (es : Chains) → IsBelowAll k es → T (below_all (slice_cmp nat_cmp) k (visible n es))
 below_visible n k [] h = tt
 below_visible n k (e ∷ es) h =
     let p = parts _ _ h in
-    elim (seen n e.1) as (λ o. T (below_all (slice_cmp nat_cmp) k (with_value e.0 o (visible n es)))) [
-      | None ↦ below_visible n k es p.1
-      | Some v ↦ both _ _ p.0 (below_visible n k es p.1)
-    ]
+    elim (seen n e.1) as (λ o. T (below_all (slice_cmp nat_cmp) k (with_value e.0 o (visible n es)))) [ None ↦ below_visible n k es p.1 | Some v ↦ both _ _ p.0 (below_visible n k es p.1) ]
 
 pub IsMap-visible : (n : ℕ) (es : Chains) → IsSorted es → IsMap (visible n es)
 IsMap-visible n [] h = tt
 IsMap-visible n (e ∷ es) h =
     let p = parts _ _ h in
-    elim (seen n e.1) as (λ o. IsMap (with_value e.0 o (visible n es))) [
-      | None ↦ IsMap-visible n es p.1
-      | Some v ↦ both _ _ (below_visible n e.0 es p.0) (IsMap-visible n es p.1)
-    ]
+    elim (seen n e.1) as (λ o. IsMap (with_value e.0 o (visible n es))) [ None ↦ IsMap-visible n es p.1 | Some v ↦ both _ _ (below_visible n e.0 es p.0) (IsMap-visible n es p.1) ]
 
 -- what the map that n sees has at a key
 pub value-visible : (n : ℕ) (q : Bytes) (es : Chains) → IsSorted es → value_at (visible n es) q ≡ seen_in n (find_chain q es)
@@ -58,41 +52,30 @@ pub visible-where : (n : ℕ) (p : Bytes → Bool) (es : Chains) → visible n (
 visible-where n p [] = refl
 visible-where n p (e ∷ es) = grind (arith, visible-where n p es)
 
-no_value : (o : Option Bytes) → is_none o ≡ true → o ≡ None
-no_value None s = refl
-no_value (Some v) s = absurd (both_ways false refl s)
-
-not_some : (o : Option Bytes) → is_some o ≡ false → o ≡ None
-not_some None f = refl
-not_some (Some v) f = absurd (both_ways true f refl)
-
 least_le : (m : ℕ) (vs : List Stamped) → fold least_value m vs ≤ m
 least_le m [] = omega arith
 least_le m (v ∷ vs) = grind (arith, least_le (min m v.number) vs, least_le m vs)
 
 -- a version that is a value is above a number below the least of these
 passed : (n m : ℕ) (d : Option Stamped) (v : Stamped) → value_of d ≡ None → n < least_value m v → value_of (if nat_le v.number n then Some v else d) ≡ None
-passed n m d v none lt = let deletion = not_some v.value in grind (arith, nat_tests)
+passed n m d v none lt = grind (arith, nat_tests)
 
 -- below the least number of a value, n sees a deletion of them or none of them
 older_hidden : (n m : ℕ) (d : Option Stamped) (vs : List Stamped) → value_of d ≡ None → n < fold least_value m vs → value_of (last_at n d vs) ≡ None
 older_hidden n m d [] none lt = none
 older_hidden n m d (v ∷ vs) none lt =
-    let least = least_le (least_value m v) vs in
-    let here = passed n m d v none (omega (arith, least, lt)) in
+    let here = passed n m d v none (omega (arith, least_le (least_value m v) vs)) in
     older_hidden n (least_value m v) (if nat_le v.number n then Some v else d) vs here lt
 
 -- below its first value, a chain is hidden
 pub first_hides : (n : ℕ) (c : ChainValue) → n < first_shown c → hides n c ≡ true
 first_hides n c lt =
     let m = least_value u64_max c.newest in
-    let least = least_le m c.older in
-    let none = older_hidden n m None c.older refl lt in
-    ap is_none (passed n u64_max (last_at n None c.older) c.newest none (omega (arith, least, lt)))
+    ap is_none (passed n u64_max (last_at n None c.older) c.newest (older_hidden n m None c.older refl lt) (omega (arith, least_le m c.older)))
 
 pub visible-shown : (n : ℕ) (es : Chains) → visible n (shown (hides n) es) ≡ visible n es
 visible-shown n [] = refl
-visible-shown n (e ∷ es) = grind (arith, visible-shown n es, no_value (seen n e.1))
+visible-shown n (e ∷ es) = grind (arith, visible-shown n es)
 
 -- first by one test and then by another
 pub where_twice : {X : Type 0} (p q r : Bytes → Bool) → ((k : Bytes) → r k ≡ (p k && q k)) → (es : List (Bytes × X)) → where_key (slice_cmp nat_cmp) p (where_key (slice_cmp nat_cmp) q es) ≡ where_key (slice_cmp nat_cmp) r es
