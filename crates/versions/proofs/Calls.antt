@@ -2,7 +2,7 @@
 use Rattle.versions.proofs.Words.{◌≡◌, ℕ, ◌+◌, ◌-◌, ◌<◌, ◌≤◌, true, T, List, [], ◌∷◌, ◌++◌, length, take, get_or, Option, Some, None, refl, sym, ap, subst, ◌∙◌, arith, option_map, AllByRecursion, append_assoc, take_more, nat_cmp, slice_cmp, put, is_sorted, Bytes, key_cmp, KeyMap, KeyWrite, IsMap, value_at, ChainValue, Chains, ChainsValue, find_chain, seen_in, visible, IsKept, IsRoomier, HasPlace, HasRoom, added, stamped, fresh_chain, IsReady, base_chains, StandsFor, AreUnderWitnesses, IsAddedTo, Page, room_at, is_seen_from, AreSeenFrom, IsFollowed, is_in, is_listed, IsListed, unwitnessed, followed, GroupValue, Listed, kept_in, writes_of, or_right, nat_tests, IsSorted, parts, sorted_left, all-append, all-each, all-get}
 use Rattle.std.proofs.Math.Seq.{take-append_seam}
 use Rattle.versions.proofs.{Visibles.value-visible, Listings.groups-found, Listings.listed-write}
-use Rattle.versions.proofs.Stores.{HavePlaces, sorted_base, find-roomier, room-more, room-roomier, room_roomier, places-more, place-roomier, places-roomier, places-apart, written_map, written_number, ready-apart, maps-step, newest-step, kept-step, ready-prepared, kept-put, rising_one, visible-base, newest-base}
+use Rattle.versions.proofs.Stores.{HavePlaces, IsPlaced, placed-roomier, sorted_base, places-apart, written_map, written_number, ready-apart, maps-step, newest-step, kept-step, ready-prepared, kept-put, rising_one, visible-base, newest-base}
 use Rattle.versions.proofs.UnderWitnesses.{added-put, added-refl, added-trans, followed-write}
 
 -- what was found is what number n sees
@@ -11,37 +11,24 @@ seen_found n k es o h found = ap (seen_in n) found ∙ sym (value-visible n k es
 
 -- ---- a loop's step
 
-take_next : {X : Type 0} (xs : List X) (i : ℕ) (x : X) → i < length xs → x ≡ get_or xs i x → take (i + 1) xs ≡ take i xs ++ x ∷ []
-take_next xs i x lt is = take_more xs i x lt ∙ ap (λ y. take i xs ++ y ∷ []) (sym is)
-
 -- room for one more of the writes, of n in all
-pub record Preparing (n : ℕ) (es : Chains) (ps : List (Page ChainValue)) (ws : List KeyWrite) : Type 0 where
-  pub rooms : AllByRecursion (λ w. HasRoom (find_chain w.0 es)) ws
-  pub places : HavePlaces n es ps ws
-
-pub preparing : (n : ℕ) (ws : List KeyWrite) (i : ℕ) (w : KeyWrite) (k : Bytes) (es fs : Chains) (ps qs : List (Page ChainValue)) → i < length ws → w ≡ get_or ws i w → k ≡ w.0 → IsRoomier es fs → ((q : Bytes) → room_at q ps ≤ room_at q qs) → Preparing n es ps (take i ws)
-    → HasRoom (find_chain k fs) → HasPlace n (room_at k qs) (find_chain k fs) → Preparing n fs qs (take (i + 1) ws)
+pub preparing : (n : ℕ) (ws : List KeyWrite) (i : ℕ) (w : KeyWrite) (k : Bytes) (es fs : Chains) (ps qs : List (Page ChainValue)) → i < length ws → w ≡ get_or ws i w → k ≡ w.0 → IsRoomier es fs → ((q : Bytes) → room_at q ps ≤ room_at q qs) → AllByRecursion (IsPlaced n es ps) (take i ws)
+    → HasRoom (find_chain k fs) → HasPlace n (room_at k qs) (find_chain k fs) → AllByRecursion (IsPlaced n fs qs) (take (i + 1) ws)
 preparing n ws i w k es fs ps qs lt is key more rooms p room place =
-    let r = subst (λ (q : Bytes). HasRoom (find_chain q fs)) key room in
-    let s = subst (λ (q : Bytes). HasPlace n (room_at q qs) (find_chain q fs)) key place in
-    subst (λ l. Preparing n fs qs l) (sym (take_next ws i w lt is)) (record {
-      rooms = room-more (take i ws) fs w (room-roomier (take i ws) es fs more p.rooms) r;
-      places = places-more n (take i ws) fs qs w (places-roomier n (take i ws) es fs ps qs more rooms p.places) s;
-    })
+    let own = subst (λ (q : Bytes). HasRoom (find_chain q fs) × HasPlace n (room_at q qs) (find_chain q fs)) key (room, place) in
+    let next = take_more ws i w lt ∙ ap (λ y. take i ws ++ y ∷ []) (sym is) in
+    subst (AllByRecursion (IsPlaced n fs qs)) (sym next)
+    (all-append (IsPlaced n fs qs) (take i ws) (w ∷ []) (all-each (IsPlaced n es ps) (IsPlaced n fs qs) (take i ws) (placed-roomier n es fs ps qs more rooms) p) (own, tt))
 
 all_at : {X : Type 0} (P : X → Type 0) (xs : List X) (i : ℕ) (x : X) → i < length xs → x ≡ get_or xs i x → AllByRecursion P xs → P x
 all_at P xs i x lt is h = subst P (sym is) (all-get P xs i x lt h)
 
--- where the writes were prepared before, there is room in each chain
-pub has_chain_room : (ws : List KeyWrite) (i : ℕ) (w : KeyWrite) (k : Bytes) (es fs : Chains) → i < length ws → w ≡ get_or ws i w → k ≡ w.0 → IsRoomier es fs → AllByRecursion (λ w. HasRoom (find_chain w.0 es)) ws → HasRoom (find_chain k fs)
-has_chain_room ws i w k es fs lt is key more h =
-    subst (λ (q : Bytes). HasRoom (find_chain q fs)) (sym key) (room_roomier (find_chain w.0 es) (find_chain w.0 fs) (find-roomier w.0 es fs more) (all_at (λ w. HasRoom (find_chain w.0 es)) ws i w lt is h))
-
--- and where its key would stand
-pub has_place : (n : ℕ) (ws : List KeyWrite) (i : ℕ) (w : KeyWrite) (k : Bytes) (es fs : Chains) (ps qs : List (Page ChainValue)) → i < length ws → w ≡ get_or ws i w → k ≡ w.0 → IsRoomier es fs → ((q : Bytes) → room_at q ps ≤ room_at q qs) → HavePlaces n es ps ws
-    → HasPlace n (room_at k qs) (find_chain k fs)
-has_place n ws i w k es fs ps qs lt is key more rooms h =
-    subst (λ (q : Bytes). HasPlace n (room_at q qs) (find_chain q fs)) (sym key) (place-roomier n w.0 es fs ps qs more rooms (all_at (λ w. HasPlace n (room_at w.0 ps) (find_chain w.0 es)) ws i w lt is h))
+-- where the writes were prepared before, there is room in each chain, and where its key would stand
+pub placed-at : (n : ℕ) (ws : List KeyWrite) (i : ℕ) (w : KeyWrite) (k : Bytes) (es fs : Chains) (ps qs : List (Page ChainValue)) → i < length ws → w ≡ get_or ws i w → k ≡ w.0 → IsRoomier es fs → ((q : Bytes) → room_at q ps ≤ room_at q qs)
+    → AllByRecursion (λ w. HasRoom (find_chain w.0 es)) ws → HavePlaces n es ps ws → HasRoom (find_chain k fs) × HasPlace n (room_at k qs) (find_chain k fs)
+placed-at n ws i w k es fs ps qs lt is key more rooms h g =
+    let before : IsPlaced n es ps w = (all_at (λ w. HasRoom (find_chain w.0 es)) ws i w lt is h, all_at (λ w. HasPlace n (room_at w.0 ps) (find_chain w.0 es)) ws i w lt is g) in
+    subst (λ (q : Bytes). HasRoom (find_chain q fs) × HasPlace n (room_at q qs) (find_chain q fs)) (sym key) (placed-roomier n es fs ps qs more rooms w before)
 
 -- the elements of a vector after a loop over them
 pub all_items : {X : Type 0} (n : ℕ) (xs ys : List X) → n ≡ length xs → take n (xs ++ ys) ≡ xs

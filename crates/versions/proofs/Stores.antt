@@ -1,5 +1,5 @@
 -- All chains: what is made, what more room leaves, what an install adds and what a reclaim leaves.
-use Rattle.versions.proofs.Words.{[], ◌≡◌, ℕ, suc, ◌+◌, ◌-◌, ◌<◌, ◌≤◌, true, false, T, cond, ◌||◌, List, ◌∷◌, ◌++◌, length, take, set, Option, Some, None, IsSome, Result, Ok, Err, refl, sym, ap, subst, ◌∙◌, arith, option_map, nat_le, is_some, if◌then◌else◌, IfSome, OnOk, swap_remove, AllByRecursion, is_eq, is_lt, nat_cmp, ordering_reverse, slice_cmp, put, below_all, by_order, both_ways, Page, room_at, Bytes, KeyMap, KeyWrite, IsMap, key_cmp, value_at, after_writes, same_key, same_key_itself, same_key_comm, same_map, Stamped, ChainValue, Chains, ChainsValue, find_chain, seen, seen_in, value_of, visible, with_value, added, stamped, IsReady, HasPlace, HasRoom, reclaimed, IsReclaimedAt, base_chains, IsKept, IsRisingChain, IsRisingTo, IsRoomier, IsRoomierChain, kept_in, is_written_by, is_among, due_of, lists_a_reclaim, IsSameMeaning, IsReclaimed, IsTightChain, writes_of, IsPartReclaimed, IsSorted, IsBelowAll, turned, both, less, parts, common_steps, get_or_default, nat_tests, all-append, all-each}
+use Rattle.versions.proofs.Words.{[], ◌≡◌, ℕ, suc, ◌+◌, ◌-◌, ◌<◌, ◌≤◌, true, false, T, cond, ◌||◌, List, ◌∷◌, length, take, set, Option, Some, None, IsSome, Result, Ok, Err, refl, sym, ap, subst, ◌∙◌, arith, option_map, nat_le, is_some, if◌then◌else◌, IfSome, OnOk, swap_remove, AllByRecursion, is_eq, is_lt, nat_cmp, ordering_reverse, slice_cmp, put, below_all, by_order, both_ways, Page, room_at, Bytes, KeyMap, KeyWrite, IsMap, key_cmp, value_at, after_writes, same_key, same_key_itself, same_key_comm, same_map, Stamped, ChainValue, Chains, ChainsValue, find_chain, seen, seen_in, value_of, visible, with_value, added, stamped, IsReady, HasPlace, HasRoom, reclaimed, IsReclaimedAt, base_chains, IsKept, IsRisingChain, IsRisingTo, IsRoomier, IsRoomierChain, kept_in, is_written_by, is_among, due_of, lists_a_reclaim, IsSameMeaning, IsReclaimed, IsTightChain, writes_of, IsPartReclaimed, IsSorted, IsBelowAll, turned, both, less, parts, common_steps, get_or_default, nat_tests, all-each}
 use Rattle.std.specs.declared.cmp.Ordering.TheVariants.{Less, Equal, Greater}
 use Rattle.std.proofs.lemmas.Map.Lookups.{exact_bytes}
 use Rattle.sorted_pages.specs.Trims.{put_some, changed_at}
@@ -101,20 +101,11 @@ find-roomier k [] [] h = tt
 find-roomier k (e ∷ es) (f ∷ fs) h = let same = h.0 in let own = h.1 in grind (arith, find-roomier k es fs h.2)
 find-roomier k _ _ h = absurd h
 
-number_roomier : (o p : Option ChainValue) → RoomierFound o p → option_map (λ (c : ChainValue). c.newest.number) p ≡ option_map (λ (c : ChainValue). c.newest.number) o
-number_roomier o p h = grind arith
-
-kept_roomier : (o p : Option ChainValue) → RoomierFound o p → kept_in p ≡ kept_in o
-kept_roomier o p h = grind arith
-
-pub room_roomier : (o p : Option ChainValue) → RoomierFound o p → HasRoom o → HasRoom p
-room_roomier o p h r = grind arith
-
 pub same-roomier : (old new : ChainsValue) → IsRoomier old.chains new.chains → new.last ≡ old.last → IsSameMeaning old new
 same-roomier old new h e = record {
   maps = λ n. visible-roomier n old.chains new.chains h;
-  newest = λ k. number_roomier (find_chain k old.chains) (find_chain k new.chains) (find-roomier k old.chains new.chains h);
-  kept = λ k. kept_roomier (find_chain k old.chains) (find_chain k new.chains) (find-roomier k old.chains new.chains h);
+  newest = λ k. grind (arith, find-roomier k old.chains new.chains h);
+  kept = λ k. grind (arith, find-roomier k old.chains new.chains h);
   last = e;
 }
 
@@ -140,13 +131,13 @@ rising_roomier last _ _ h g = absurd h
 pub kept-roomier : (es fs : Chains) (last : ℕ) → IsRoomier es fs → IsKept es last → IsKept fs last
 kept-roomier es fs last h g = record { sorted = sorted_roomier es fs h g.sorted; rising = rising_roomier last es fs h g.rising }
 
--- what was made for the writes is still there
-pub room-roomier : (ws : List KeyWrite) (es fs : Chains) → IsRoomier es fs → AllByRecursion (λ w. HasRoom (find_chain w.0 es)) ws → AllByRecursion (λ w. HasRoom (find_chain w.0 fs)) ws
-room-roomier ws es fs h g =
-    all-each _ _ ws (λ w r. room_roomier (find_chain w.0 es) (find_chain w.0 fs) (find-roomier w.0 es fs h) r) g
+-- the write's key has a chain with room, or a place for one
+abbrev pub IsPlaced : ℕ → Chains → List (Page ChainValue) → KeyWrite → Type 0
+IsPlaced n es ps w = HasRoom (find_chain w.0 es) × HasPlace n (room_at w.0 ps) (find_chain w.0 es)
 
-place_roomier : (n r s : ℕ) (o p : Option ChainValue) → RoomierFound o p → r ≤ s → HasPlace n r o → HasPlace n s p
-place_roomier n r s o p h le g = grind arith
+-- what was made for the write is still there
+pub placed-roomier : (n : ℕ) (es fs : Chains) (ps qs : List (Page ChainValue)) → IsRoomier es fs → ((q : Bytes) → room_at q ps ≤ room_at q qs) → (w : KeyWrite) → IsPlaced n es ps w → IsPlaced n fs qs w
+placed-roomier n es fs ps qs h more w p = grind (arith, more w.0, find-roomier w.0 es fs h)
 
 pub on_ok : {A E : Type 0} (r : Result A E) (P : Type 0) → P → OnOk r P
 on_ok (Ok x) P p = p
@@ -155,28 +146,11 @@ on_ok (Err e) P p = tt
 abbrev pub HavePlaces : ℕ → Chains → List (Page ChainValue) → List KeyWrite → Type 0
 HavePlaces n es ps ws = AllByRecursion (λ w. HasPlace n (room_at w.0 ps) (find_chain w.0 es)) ws
 
-pub place-roomier : (n : ℕ) (k : Bytes) (es fs : Chains) (ps qs : List (Page ChainValue)) → IsRoomier es fs → ((q : Bytes) → room_at q ps ≤ room_at q qs) → HasPlace n (room_at k ps) (find_chain k es) → HasPlace n (room_at k qs) (find_chain k fs)
-place-roomier n k es fs ps qs h more g = place_roomier n (room_at k ps) (room_at k qs) (find_chain k es) (find_chain k fs) (find-roomier k es fs h) (more k) g
-
-pub places-roomier : (n : ℕ) (ws : List KeyWrite) (es fs : Chains) (ps qs : List (Page ChainValue)) → IsRoomier es fs → ((q : Bytes) → room_at q ps ≤ room_at q qs) → HavePlaces n es ps ws → HavePlaces n fs qs ws
-places-roomier n ws es fs ps qs h more g = all-each _ _ ws (λ w r. place-roomier n w.0 es fs ps qs h more r) g
-
--- one more of the writes
-pub room-more : (ws : List KeyWrite) (es : Chains) (w : KeyWrite) → AllByRecursion (λ w. HasRoom (find_chain w.0 es)) ws → HasRoom (find_chain w.0 es) → AllByRecursion (λ w. HasRoom (find_chain w.0 es)) (ws ++ w ∷ [])
-room-more ws es w h r = all-append (λ w. HasRoom (find_chain w.0 es)) ws (w ∷ []) h (r, tt)
-
-pub places-more : (n : ℕ) (ws : List KeyWrite) (es : Chains) (ps : List (Page ChainValue)) (w : KeyWrite) → HavePlaces n es ps ws → HasPlace n (room_at w.0 ps) (find_chain w.0 es) → HavePlaces n es ps (ws ++ w ∷ [])
-places-more n ws es ps w h r = all-append (λ w. HasPlace n (room_at w.0 ps) (find_chain w.0 es)) ws (w ∷ []) h (r, tt)
-
 -- ---- an install
-
-ready_one : (n last : ℕ) (o : Option ChainValue) → ((c : ChainValue) → o ≡ Some c → IsRisingChain last c) → last < n → HasRoom o → IsReady n o
-ready_one n last None h lt r = tt
-ready_one n last (Some c) h lt r = (omega (arith, (h c refl).1), r)
 
 pub ready-prepared : (n last : ℕ) (es : Chains) (ws : List KeyWrite) → IsKept es last → last < n → AllByRecursion (λ w. HasRoom (find_chain w.0 es)) ws → AllByRecursion (λ w. IsReady n (find_chain w.0 es)) ws
 ready-prepared n last es ws h lt r =
-    all-each _ _ ws (λ w q. ready_one n last (find_chain w.0 es) (λ c e. all-find (IsRisingChain last) w.0 c es h.rising e) lt q) r
+    all-each _ (λ w. IsReady n (find_chain w.0 es)) ws (λ w q. grind (arith, rising_found w.0 es last h)) r
 
 pub rising_one : (n last : ℕ) (es : Chains) (k : Bytes) (v : Option Bytes) (room : ℕ) → IsKept es last → IsReady n (find_chain k es) → n ≤ last → IsRisingChain last (added (find_chain k es) (stamped n v) room)
 rising_one n last es k v room h r le = rising-added (find_chain k es) (stamped n v) room last (rising_found k es last h) r le
@@ -189,16 +163,13 @@ pub ready-apart : (n : ℕ) (k : Bytes) (c : ChainValue) (es : Chains) (ws : Lis
 ready-apart n k c es [] h r = tt
 ready-apart n k c es (w ∷ ws) h r = let p = parts _ _ h in (subst (IsReady n) (sym (find_apart k c es w.0 p.0)) r.0, ready-apart n k c es ws p.1 r.1)
 
-less_place : (n r s : ℕ) (o : Option ChainValue) → r ≤ s + 1 → HasPlace (suc n) r o → HasPlace n s o
-less_place n r s o le h = grind arith
-
 -- a new chain takes one place
 pub places-apart : (n : ℕ) (k : Bytes) (c : ChainValue) (es : Chains) (ps qs : List (Page ChainValue)) (ws : List KeyWrite) → T (below_all (slice_cmp nat_cmp) k ws) → ((q : Bytes) → room_at q ps ≤ room_at q qs + 1)
     → HavePlaces (suc n) es ps ws → HavePlaces n (put (slice_cmp nat_cmp) k c es) qs ws
 places-apart n k c es ps qs [] h rooms r = tt
 places-apart n k c es ps qs (w ∷ ws) h rooms r =
     let p = parts _ _ h in
-    (subst (HasPlace n (room_at w.0 qs)) (sym (find_apart k c es w.0 p.0)) (less_place n (room_at w.0 ps) (room_at w.0 qs) (find_chain w.0 es) (rooms w.0) r.0), places-apart n k c es ps qs ws p.1 rooms r.1)
+    (subst (HasPlace n (room_at w.0 qs)) (sym (find_apart k c es w.0 p.0)) (grind (arith, rooms w.0, r.0)), places-apart n k c es ps qs ws p.1 rooms r.1)
 
 -- what m sees once the writes are in
 abbrev pub written_map : ℕ → ℕ → List KeyWrite → KeyMap → KeyMap
@@ -265,18 +236,12 @@ reclaimed-whole old new bs h g e due part is = record {
 }
 
 -- one chain reclaimed in its place
-pub reclaimed-put : (bs : List ℕ) (k : Bytes) (c : ChainValue) (es fs : Chains) → find_chain k es ≡ Some c → fs ≡ put (slice_cmp nat_cmp) k (reclaimed bs c) es → IsReclaimedAt bs k es fs
-reclaimed-put bs k c es fs there whole = record {
-  found = λ q. grind (arith, ap (find_chain q) whole, find_chain-put q k (reclaimed bs c) es);
-  kept = λ last h. subst (λ (l : Chains). IsKept l last) (sym whole) (kept-put k (reclaimed bs c) es last h (let r = all-find (IsRisingChain last) k c es h.rising there in (rising-seen_by bs c.newest.number c.older r.0, r.1)));
-}
-
-pub reclaimed-none : (bs : List ℕ) (k : Bytes) (es : Chains) → find_chain k es ≡ None → IsReclaimedAt bs k es es
-reclaimed-none bs k es none = record { found = λ q. grind (arith, same_key q k); kept = λ last h. h }
+kept-some : (bs : List ℕ) (k : Bytes) (es : Chains) (last : ℕ) (o : Option ChainValue) → IfSome o (λ c. IsRisingChain last c) → IsKept es last → IsKept (put_some k (option_map (reclaimed bs) o) es) last
+kept-some bs k es last None r h = h
+kept-some bs k es last (Some c) r h = kept-put k (reclaimed bs c) es last h (rising-seen_by bs c.newest.number c.older r.0, r.1)
 
 pub reclaimed-at : (bs : List ℕ) (k : Bytes) (es fs : Chains) → fs ≡ changed_at (reclaimed bs) k es → IsReclaimedAt bs k es fs
-reclaimed-at bs k es fs whole = by (find_chain k es) refl
-  where
-    by : (o : Option ChainValue) → find_chain k es ≡ o → IsReclaimedAt bs k es fs
-    by None e = subst (IsReclaimedAt bs k es) (sym (whole ∙ ap (λ o. put_some k (option_map (reclaimed bs) o) es) e)) (reclaimed-none bs k es e)
-    by (Some c) e = reclaimed-put bs k c es fs e (whole ∙ ap (λ o. put_some k (option_map (reclaimed bs) o) es) e)
+reclaimed-at bs k es fs whole = record {
+  found = λ q. grind (arith, ap (find_chain q) whole, find_chain-put, same_key q k);
+  kept = λ last h. subst (λ (l : Chains). IsKept l last) (sym whole) (kept-some bs k es last (find_chain k es) (rising_found k es last h) h);
+}

@@ -1,18 +1,18 @@
 -- What the numbers see when chains change.
-use Rattle.versions.proofs.Words.{◌≡◌, ℕ, ◌<◌, ◌≤◌, min, Bool, true, T, cond, ◌&&◌, List, [], ◌∷◌, Option, Some, None, refl, ap, arith, fold, is_none, nat_le, if◌then◌else◌, nat_tests, nat_cmp, slice_cmp, nat_list_cmp_total, put, where_key, below_all, find-put, is_sorted-put, Bytes, key_cmp, IsMap, is_same_key, value_at, after_write, same_key, same_map, value_after_write, IsMap-after_write, Stamped, ChainValue, Chains, find_chain, first_shown, hides, last_at, least_value, seen, seen_in, u64_max, value_of, with_value, visible, IsSorted, IsBelowAll, both, find_none, parts}
+use Rattle.versions.proofs.Words.{is_lt, is_sorted, ◌≡◌, ℕ, ◌<◌, ◌≤◌, min, Bool, true, T, cond, ◌&&◌, List, [], ◌∷◌, Option, Some, None, refl, ap, arith, fold, is_none, nat_le, if◌then◌else◌, nat_tests, nat_cmp, slice_cmp, nat_list_cmp_total, put, where_key, below_all, find-put, is_sorted-put, Bytes, key_cmp, IsMap, is_same_key, value_at, after_write, same_key, same_map, value_after_write, IsMap-after_write, Stamped, ChainValue, Chains, find_chain, first_shown, hides, last_at, least_value, seen, seen_in, u64_max, value_of, visible, IsSorted, IsBelowAll, find_none, parts}
 use Rattle.sorted_pages.specs.Blanks.{shown}
 
 below_visible : (n : ℕ) (k : Bytes) (es : Chains) → IsBelowAll k es → T (below_all (slice_cmp nat_cmp) k (visible n es))
 below_visible n k [] h = tt
 below_visible n k (e ∷ es) h =
-    let p = parts _ _ h in
-    elim (seen n e.1) as (λ o. T (below_all (slice_cmp nat_cmp) k (with_value e.0 o (visible n es)))) [ None ↦ below_visible n k es p.1 | Some v ↦ both _ _ p.0 (below_visible n k es p.1) ]
+    let p = parts (is_lt (key_cmp k e.0)) (below_all (slice_cmp nat_cmp) k es) h in
+    grind (arith, p.0, below_visible n k es p.1)
 
 pub IsMap-visible : (n : ℕ) (es : Chains) → IsSorted es → IsMap (visible n es)
 IsMap-visible n [] h = tt
 IsMap-visible n (e ∷ es) h =
-    let p = parts _ _ h in
-    elim (seen n e.1) as (λ o. IsMap (with_value e.0 o (visible n es))) [ None ↦ IsMap-visible n es p.1 | Some v ↦ both _ _ (below_visible n e.0 es p.0) (IsMap-visible n es p.1) ]
+    let p = parts (below_all (slice_cmp nat_cmp) e.0 es) (is_sorted (slice_cmp nat_cmp) es) h in
+    grind (arith, below_visible n e.0 es p.0, IsMap-visible n es p.1)
 
 -- what the map that n sees has at a key
 pub value-visible : (n : ℕ) (q : Bytes) (es : Chains) → IsSorted es → value_at (visible n es) q ≡ seen_in n (find_chain q es)

@@ -18,9 +18,9 @@ pub use Rattle.model.proofs.InOrder.{both, find_none, less, parts, sorted_left}
 pub use Rattle.model.proofs.Lookups.{IsMap-after_write, IsMap-after_writes, same_key, same_key_comm, same_key_itself, same_map, value_after_write}
 pub use Rattle.model.specs.Map.{after_write, after_writes, Bytes, is_in_range, is_same_key, IsInBounds, IsMap, key_cmp, KeyMap, KeyWrite, pairs_in_range, value_at}
 pub use Rattle.sorted_pages.specs.Pages.{entries, Page, room_at}
-pub use Rattle.versions.specs.Chains.{added, base_chains, Chains, ChainsValue, ChainValue, find_chain, first_number, first_shown, fresh_chain, HasPlace, HasRoom, hides, is_between, IsKept, IsPrepared, IsReady, IsReclaimedAt, IsRisingChain, IsRisingTo, IsRoomier, IsRoomierChain, last_at, least_value, reclaimed, room_left, seen, seen_by, seen_in, Stamped, stamped, u64_max, value_of, version_at, visible, with_value}
+pub use Rattle.versions.specs.Chains.{added, base_chains, Chains, ChainsValue, ChainValue, find_chain, first_number, first_shown, fresh_chain, HasPlace, HasPlaceAt, HasRoom, hides, is_between, IsKept, IsPrepared, IsReady, IsReclaimedAt, IsRisingChain, IsRisingTo, IsRoomier, IsRoomierChain, last_at, least_value, reclaimed, room_left, seen, seen_by, seen_in, Stamped, stamped, u64_max, value_of, version_at, visible, with_value}
 pub use Rattle.versions.specs.Groups.{GroupValue, Listed}
 pub use Rattle.versions.specs.Listings.{AreAmong, AreApart, AreFilled, AreFound, AreIn, AreKept, AreListed, AreOfBoth, AreMixedSettled, AreNeeded, AreSeenFrom, CanJoin, followed, has_version, HasFewLists, is_in, is_listed, is_of, is_seen_by, is_seen_from, IsFollowed, IsListed, IsListedChain, IsNeededChain, IsPartReclaimed, IsSettled, IsTakenIn, IsTrulyMixed, IsUnmixed, lists_in, unwitnessed, versions_in, witness_for, witnesses}
 pub use Rattle.versions.specs.Meaning.{AreInstalled, due_for, due_in, due_of, is_among, is_written_by, IsInstalled, IsReclaimed, IsSameMeaning, IsSeen, IsTightChain, kept_in, lists_a_reclaim, writes_of}
-pub use Rattle.versions.specs.StandsFor.{last_writer_from, StandsFor}
+pub use Rattle.versions.specs.StandsFor.{last_writer_from, StandsFor, StandForSame}
 pub use Rattle.versions.specs.Witnesses.{AreUnderWitnesses, IsAddedTo, IsUnderChain, IsUnderWitness, number_at, number_seen, AreUnder, GroupStaysUnder, GroupsJoinUnder}

@@ -1,21 +1,17 @@
-use Rattle.versions.proofs.Words.{◌≡◌, ℕ, Bool, List, length, sym, ap, subst, ◌∙◌, refl, false, arith, ◌↔◌, both_ways, ChainsValue, IsRoomier, IsSameMeaning, StandsFor, KeyMap, take_all}
-use Rattle.model.specs.History.{Record}
-use Rattle.versions.proofs.{Stores.roomier-refl, Stores.roomier-trans, Stores.same-roomier, Histories.stands-same}
-use Rattle.versions.proofs.Calls.{Preparing, preparing, has_chain_room, has_place}
+use Rattle.versions.proofs.Words.{find_chain, HasRoom, HasPlaceAt, AllByRecursion, all-each, StandForSame, ◌≡◌, length, sym, ap, subst, ◌∙◌, refl, false, arith, both_ways, ChainsValue, IsRoomier, IsSameMeaning, take_all}
+use Rattle.versions.proofs.{Stores.roomier-refl, Stores.roomier-trans, Stores.same-roomier, Stores.IsPlaced, Histories.stands-same}
+use Rattle.versions.proofs.Calls.{preparing, placed-at}
 use Rattle.versions.proofs.versions.Versions.prepare.Goals as goal
 
--- room for the list and for the groups changes no chain
-reserved : (old now new : ChainsValue) → IsRoomier old.chains now.chains → now.last ≡ old.last → new.chains ≡ now.chains → new.last ≡ now.last → IsSameMeaning old new
-reserved old now new more last same last' = same-roomier old new (subst (IsRoomier old.chains) (sym same) more) (last' ∙ last)
-
--- the histories stay, where the chains have no less room and the groups are the same
-stands : (old now new : ChainsValue) → IsRoomier old.chains now.chains → now.last ≡ old.last → now.groups ≡ old.groups → new.chains ≡ now.chains → new.last ≡ now.last → new.groups ≡ now.groups
-    → (held : ℕ → Bool) (base : KeyMap) (history : List Record) → StandsFor old held base history ↔ StandsFor new held base history
-stands old now new more last groups same last' groups' held base history =
-    stands-same old held base history new (reserved old now new more last same last') (subst (IsRoomier old.chains) (sym same) more) (groups' ∙ groups)
+-- room for the list and for the groups changes no chain, and the histories stay
+reserved : (old now inside new : ChainsValue) → IsRoomier old.chains now.chains → now.last ≡ old.last → now.groups ≡ old.groups → inside ≡ now → new.chains ≡ inside.chains → new.last ≡ inside.last → new.groups ≡ inside.groups → IsSameMeaning old new × StandForSame old new
+reserved old now inside new more last groups view same last' groups' =
+    let roomier = subst (IsRoomier old.chains) (sym (same ∙ ap (λ (v : ChainsValue). v.chains) view)) more in
+    let meaning = same-roomier old new roomier (last' ∙ ap (λ (v : ChainsValue). v.last) view ∙ last) in
+    (meaning, λ held base history. stands-same old held base history new meaning roomier (groups' ∙ ap (λ (v : ChainsValue). v.groups) view ∙ groups))
 
 pub loop-write-init : goal.loop-write-init
-loop-write-init c = record { roomier = roomier-refl c.args.self.now.chains; pages = λ q. omega arith; last = refl; groups = refl; prepared = record { rooms = tt; places = tt }; listed_spare = refl; groups_spare = refl }
+loop-write-init c = record { roomier = roomier-refl c.args.self.now.chains; pages = λ q. omega arith; last = refl; groups = refl; prepared = tt; listed_spare = refl; groups_spare = refl }
 
 pub loop-write-preserved : goal.loop-write-preserved
 loop-write-preserved c = record {
@@ -48,37 +44,40 @@ returns-in_err-make_room-clause-known c = λ p.
     let es = c.args.self.now.chains in
     let fs = c.loop-write.self.chains in
     let more = c.loop-write.invariant.roomier in
-    absurd (both_ways false refl (c.in_err-make_room.ensures.known
-    (has_chain_room ws c.loop-write.write-index c.write-item.result k es fs (omega arith) c.write-item.is c.lend_key.ensures more p.chains)
-    (has_place (length ws) ws c.loop-write.write-index c.write-item.result k es fs c.args.self.now.pages c.loop-write.self.pages (omega arith) c.write-item.is c.lend_key.ensures more c.loop-write.invariant.pages p.places)))
+    let at = placed-at (length ws) ws c.loop-write.write-index c.write-item.result k es fs c.args.self.now.pages c.loop-write.self.pages (omega arith) c.write-item.is c.lend_key.ensures more c.loop-write.invariant.pages p.chains p.places in
+    absurd (both_ways false refl (c.in_err-make_room.ensures.known at.0 at.1))
 
 -- ---- the list, or the groups, were refused theirs
 
 pub returns-in_err-reserve_list-clause-same : goal.returns-in_err-reserve_list-clause-same
-returns-in_err-reserve_list-clause-same c = reserved c.args.self.now c.loop-write.self _ c.loop-write.invariant.roomier c.loop-write.invariant.last (ap (λ (v : ChainsValue). v.chains) c.self.view_is) (ap (λ (v : ChainsValue). v.last) c.self.view_is)
+returns-in_err-reserve_list-clause-same c = (reserved c.args.self.now c.loop-write.self _ _ c.loop-write.invariant.roomier c.loop-write.invariant.last c.loop-write.invariant.groups c.self.view_is refl refl refl).0
 
 pub returns-in_err-reserve_list-clause-stands : goal.returns-in_err-reserve_list-clause-stands
-returns-in_err-reserve_list-clause-stands c = stands c.args.self.now c.loop-write.self _ c.loop-write.invariant.roomier c.loop-write.invariant.last c.loop-write.invariant.groups (ap (λ (v : ChainsValue). v.chains) c.self.view_is) (ap (λ (v : ChainsValue). v.last) c.self.view_is) (ap (λ (v : ChainsValue). v.groups) c.self.view_is)
+returns-in_err-reserve_list-clause-stands c = (reserved c.args.self.now c.loop-write.self _ _ c.loop-write.invariant.roomier c.loop-write.invariant.last c.loop-write.invariant.groups c.self.view_is refl refl refl).1
 
 pub returns-in_err-reserve-clause-same : goal.returns-in_err-reserve-clause-same
-returns-in_err-reserve-clause-same c = reserved c.args.self.now c.loop-write.self _ c.loop-write.invariant.roomier c.loop-write.invariant.last (ap (λ (v : ChainsValue). v.chains) c.self.view_is) (ap (λ (v : ChainsValue). v.last) c.self.view_is)
+returns-in_err-reserve-clause-same c = (reserved c.args.self.now c.loop-write.self _ _ c.loop-write.invariant.roomier c.loop-write.invariant.last c.loop-write.invariant.groups c.self.view_is refl refl c.reserve.ensures.items).0
 
 pub returns-in_err-reserve-clause-stands : goal.returns-in_err-reserve-clause-stands
-returns-in_err-reserve-clause-stands c = stands c.args.self.now c.loop-write.self _ c.loop-write.invariant.roomier c.loop-write.invariant.last c.loop-write.invariant.groups (ap (λ (v : ChainsValue). v.chains) c.self.view_is) (ap (λ (v : ChainsValue). v.last) c.self.view_is) (c.reserve.ensures.items ∙ ap (λ (v : ChainsValue). v.groups) c.self.view_is)
+returns-in_err-reserve-clause-stands c = (reserved c.args.self.now c.loop-write.self _ _ c.loop-write.invariant.roomier c.loop-write.invariant.last c.loop-write.invariant.groups c.self.view_is refl refl c.reserve.ensures.items).1
 
 -- ---- all room is there
 
 pub returns-clause-same : goal.returns-clause-same
-returns-clause-same c = reserved c.args.self.now c.loop-write.self _ c.loop-write.invariant.roomier c.loop-write.invariant.last (ap (λ (v : ChainsValue). v.chains) c.self.view_is) (ap (λ (v : ChainsValue). v.last) c.self.view_is)
+returns-clause-same c = (reserved c.args.self.now c.loop-write.self _ _ c.loop-write.invariant.roomier c.loop-write.invariant.last c.loop-write.invariant.groups c.self.view_is refl refl c.reserve.ensures.items).0
 
 pub returns-clause-stands : goal.returns-clause-stands
-returns-clause-stands c = stands c.args.self.now c.loop-write.self _ c.loop-write.invariant.roomier c.loop-write.invariant.last c.loop-write.invariant.groups (ap (λ (v : ChainsValue). v.chains) c.self.view_is) (ap (λ (v : ChainsValue). v.last) c.self.view_is) (c.reserve.ensures.items ∙ ap (λ (v : ChainsValue). v.groups) c.self.view_is)
+returns-clause-stands c = (reserved c.args.self.now c.loop-write.self _ _ c.loop-write.invariant.roomier c.loop-write.invariant.last c.loop-write.invariant.groups c.self.view_is refl refl c.reserve.ensures.items).1
 
 pub returns-clause-prepared : goal.returns-clause-prepared
 returns-clause-prepared c =
     let n = length c.args.writes.now in
-    let p = subst (λ l. Preparing n c.loop-write.self.chains c.loop-write.self.pages l) (take_all c.loop-write.write-index c.args.writes.now c.loop-write-test.false) c.loop-write.invariant.prepared in
-    let q = subst (λ (v : ChainsValue). Preparing n v.chains v.pages c.args.writes.now) (sym c.self.view_is) p in
-    let listed = c.in_ok-reserve_list.ensures.made in
-    let groups = c.in_ok-reserve.ensures.ok in
-    record { chains = q.rooms; places = q.places; listed = omega arith; groups = omega arith }
+    let ws = c.args.writes.now in
+    let P = IsPlaced n c.loop-write.self.chains c.loop-write.self.pages in
+    let all = subst (AllByRecursion P) (take_all c.loop-write.write-index ws c.loop-write-test.false) c.loop-write.invariant.prepared in
+    record {
+      chains = all-each P _ ws (λ w p. subst (λ (v : ChainsValue). HasRoom (find_chain w.0 v.chains)) (sym c.self.view_is) p.0) all;
+      places = all-each P _ ws (λ w p. subst (λ (v : ChainsValue). HasPlaceAt n w.0 v.pages v.chains) (sym c.self.view_is) p.1) all;
+      listed = omega (arith, c.in_ok-reserve_list.ensures.made);
+      groups = omega (arith, c.in_ok-reserve.ensures.ok);
+    }

@@ -1,5 +1,5 @@
-use Rattle.versions.proofs.Words.{◌≡◌, ◌≤◌, length, take, Bytes, room_at, IsRoomier}
-use Rattle.versions.proofs.Calls.{Preparing}
+use Rattle.versions.proofs.Words.{AllByRecursion, ◌≡◌, ◌≤◌, length, take, Bytes, room_at, IsRoomier}
+use Rattle.versions.proofs.Stores.{IsPlaced}
 use Rattle.versions.proofs.versions.Versions.prepare.Given as goal
 
 -- the writes so far have room
@@ -9,7 +9,7 @@ invariant-loop-write l = record {
   pages : (q : Bytes) → room_at q l.initial.self.pages ≤ room_at q l.self.pages;
   last : l.self.last ≡ l.initial.self.last;
   groups : l.self.groups ≡ l.initial.self.groups;
-  prepared : Preparing (length l.writes) l.self.chains l.self.pages (take l.write-index l.writes);
+  prepared : AllByRecursion (IsPlaced (length l.writes) l.self.chains l.self.pages) (take l.write-index l.writes);
   listed_spare : l.self.listed_spare ≡ l.initial.self.listed_spare;
   groups_spare : l.self.groups_spare ≡ l.initial.self.groups_spare;
 }
