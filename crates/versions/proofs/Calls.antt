@@ -1,6 +1,5 @@
 -- What the calls answer, from where the search ended.
-use Rattle.versions.proofs.Words.{◌≡◌, ℕ, ◌+◌, ◌-◌, ◌<◌, ◌≤◌, true, T, List, [], ◌∷◌, ◌++◌, length, take, get_or, Option, Some, None, refl, sym, ap, subst, ◌∙◌, arith, option_map, AllByRecursion, append_assoc, take_more, nat_cmp, slice_cmp, put, is_sorted, Bytes, key_cmp, KeyMap, KeyWrite, IsMap, value_at, ChainValue, Chains, ChainsValue, find_chain, seen_in, visible, IsKept, IsRoomier, HasPlace, HasRoom, added, stamped, fresh_chain, IsReady, base_chains, StandsFor, AreUnderWitnesses, IsAddedTo, Page, room_at, is_seen_from, AreSeenFrom, IsFollowed, is_in, is_listed, IsListed, unwitnessed, followed, GroupValue, Listed, kept_in, writes_of, or_right, nat_tests, IsSorted, parts, sorted_left, all-append, all-each, all-get}
-use Rattle.std.proofs.Math.Seq.{take-append_seam}
+use Rattle.versions.proofs.Words.{IsRisingChain, ◌≡◌, ℕ, ◌+◌, ◌-◌, ◌<◌, ◌≤◌, true, T, List, [], ◌∷◌, ◌++◌, length, take, get_or, Option, Some, refl, sym, ap, subst, ◌∙◌, arith, option_map, AllByRecursion, append_assoc, take_more, nat_cmp, slice_cmp, put, is_sorted, Bytes, key_cmp, KeyMap, KeyWrite, IsMap, value_at, ChainValue, Chains, ChainsValue, find_chain, seen_in, visible, IsKept, IsRoomier, HasPlace, HasRoom, added, stamped, fresh_chain, IsReady, base_chains, StandsFor, AreUnderWitnesses, IsAddedTo, Page, room_at, is_seen_from, AreSeenFrom, IsFollowed, is_in, is_listed, IsListed, unwitnessed, followed, GroupValue, Listed, kept_in, writes_of, or_right, nat_tests, IsSorted, parts, sorted_left, all-append, all-each, all-get}
 use Rattle.versions.proofs.{Visibles.value-visible, Listings.groups-found, Listings.listed-write}
 use Rattle.versions.proofs.Stores.{HavePlaces, IsPlaced, placed-roomier, sorted_base, places-apart, written_map, written_number, ready-apart, maps-step, newest-step, kept-step, ready-prepared, kept-put, rising_one, visible-base, newest-base}
 use Rattle.versions.proofs.UnderWitnesses.{added-put, added-refl, added-trans, followed-write}
@@ -30,10 +29,6 @@ placed-at n ws i w k es fs ps qs lt is key more rooms h g =
     let before : IsPlaced n es ps w = (all_at (λ w. HasRoom (find_chain w.0 es)) ws i w lt is h, all_at (λ w. HasPlace n (room_at w.0 ps) (find_chain w.0 es)) ws i w lt is g) in
     subst (λ (q : Bytes). HasRoom (find_chain q fs) × HasPlace n (room_at q qs) (find_chain q fs)) (sym key) (placed-roomier n es fs ps qs more rooms w before)
 
--- the elements of a vector after a loop over them
-pub all_items : {X : Type 0} (n : ℕ) (xs ys : List X) → n ≡ length xs → take n (xs ++ ys) ≡ xs
-all_items n xs ys e = ap (λ k. take k (xs ++ ys)) e ∙ take-append_seam xs ys
-
 -- ---- an install
 
 abbrev number_in : Bytes → Chains → Option ℕ
@@ -54,10 +49,6 @@ pub record Installing (n : ℕ) (from es : Chains) (ps : List (Page ChainValue))
   pub added : (k : Bytes) → IsAddedTo n (find_chain k from) (find_chain k es)
   pub followed : AllByRecursion (IsFollowed n es) ls
 
-followed_seen : (n : ℕ) (k : Bytes) (o : Option ChainValue) → IsReady n o → AreSeenFrom (n - 1) (followed o k n)
-followed_seen n k None r = tt
-followed_seen n k (Some c) r = ((let below = r.0 in grind (arith, nat_tests)), tt)
-
 pub installing-step : (n : ℕ) (from es fs : Chains) (ps qs : List (Page ChainValue)) (ls us : List Listed) (room room' : ℕ) (all ws vs : List KeyWrite) (w : KeyWrite) (own : ℕ) → vs ≡ w ∷ ws → Installing n from es ps ls room all vs
     → fs ≡ put (slice_cmp nat_cmp) w.0 (added (find_chain w.0 es) (stamped n w.1) own) es → ((q : Bytes) → room_at q ps ≤ room_at q qs + 1) → us ≡ ls ++ followed (find_chain w.0 es) w.0 n → room ≤ room' + 1 → Installing n from fs qs us room' all ws
 installing-step n from es fs ps qs ls us room room' all ws vs w own next g is more list more' =
@@ -76,21 +67,14 @@ installing-step n from es fs ps qs ls us room room' all ws vs w own next g is mo
       listed = λ gs from_listed. subst (λ (l : List Listed). IsListed fs (unwitnessed l ∷ gs)) (sym list) (subst (λ (l : Chains). IsListed l (unwitnessed (ls ++ followed (find_chain w.0 es) w.0 n) ∷ gs)) (sym is) (listed-write w.0 n w.1 own es ls gs (h.listed gs from_listed)));
       added = λ k. added-trans n (find_chain k from) (find_chain k es) (find_chain k fs) (h.added k) (subst (λ (l : Chains). IsAddedTo n (find_chain k es) (find_chain k l)) (sym is) (added-put n w.0 k w.1 own es));
       followed = subst (AllByRecursion (IsFollowed n fs)) (sym list) (subst (λ (l : Chains). AllByRecursion (IsFollowed n l) (ls ++ followed (find_chain w.0 es) w.0 n)) (sym is) (followed-write n w.0 w.1 own es ls h.ready.0 h.followed));
-      seen = (let last = followed_seen n w.0 (find_chain w.0 es) h.ready.0 in
-          subst (AreSeenFrom (n - 1)) (sym list) (all-append (λ v. is_seen_from (n - 1) v ≡ true) ls _ h.seen last));
+      seen = subst (AreSeenFrom (n - 1)) (sym list) (all-append (λ v. is_seen_from (n - 1) v ≡ true) ls (followed (find_chain w.0 es) w.0 n) h.seen (grind (arith, nat_tests, h.ready.0)));
     }
-
-kept_later : (es : Chains) (last n : ℕ) → last ≤ n → IsKept es last → IsKept es n
-kept_later es last n le h = record {
-  sorted = h.sorted;
-  rising = all-each _ _ es (λ e g. (g.0, omega (arith, g.1, le))) h.rising;
-}
 
 -- before the first of the writes
 pub installing-begun : (n last : ℕ) (es : Chains) (ps : List (Page ChainValue)) (ls : List Listed) (room : ℕ) (ws us : List KeyWrite) → IsKept es last → last < n → T (is_sorted (slice_cmp nat_cmp) ws)
     → AllByRecursion (λ w. HasRoom (find_chain w.0 es)) ws → HavePlaces (length ws) es ps ws → length ws ≤ room → ls ≡ [] → us ≡ ws → Installing n es es ps ls room us us
 installing-begun n last es ps ls room ws us kept lt rising rooms fits list none is = subst (λ l. Installing n es es ps ls room l l) (sym is) (record {
-  in_order = kept_later es last n (omega arith) kept;
+  in_order = record { sorted = kept.sorted; rising = all-each (λ e. IsRisingChain last e.1) _ es (λ e g. (g.0, omega (arith, g.1))) kept.rising };
   rising = rising;
   ready = ready-prepared n last es ws kept lt rooms;
   free = fits;

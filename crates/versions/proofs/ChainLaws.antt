@@ -1,5 +1,5 @@
 -- One chain: a version more, and what a reclaim leaves.
-use Rattle.versions.proofs.Words.{[], cond_both, IfSome, IsReady, ◌≡◌, ℕ, ◌<◌, ◌≤◌, Bool, true, false, ◌&&◌, List, ◌∷◌, ◌++◌, Option, Some, None, refl, sym, ap, ◌∙◌, arith, inl, inr, nat_le, nat_lt, if◌then◌else◌, ◌==◌, AllByRecursion, list_any, both_ways, or_cases, or_right, nat_tests, all-append, all-each, Stamped, ChainValue, last_at, version_at, value_of, seen, seen_in, added, first_number, is_between, seen_by, reclaimed, IsRisingTo, IsRisingChain, is_among, IsSeen, IsTightChain}
+use Rattle.versions.proofs.Words.{[], cond_both, IfSome, IsReady, ◌≡◌, ℕ, ◌<◌, ◌≤◌, Bool, true, false, ◌&&◌, List, ◌∷◌, ◌++◌, Option, Some, None, refl, ap, ◌∙◌, arith, inl, inr, nat_le, nat_lt, if◌then◌else◌, ◌==◌, AllByRecursion, list_any, both_ways, or_cases, or_right, nat_tests, all-append, all-each, Stamped, ChainValue, last_at, version_at, value_of, seen, seen_in, added, first_number, is_between, seen_by, reclaimed, IsRisingTo, IsRisingChain, is_among, IsSeen, IsTightChain}
 
 pub last_at-push : (n : ℕ) (d : Option Stamped) (vs : List Stamped) (v : Stamped) → last_at n d (vs ++ v ∷ []) ≡ (if nat_le v.number n then Some v else last_at n d vs)
 last_at-push n d [] v = refl
@@ -14,15 +14,13 @@ passed_by n vs us v number o is same lt e = grind (arith, nat_tests, ap (last_at
 -- the last of the versions is seen
 pub met : (n : ℕ) (vs us : List Stamped) (v : Stamped) (number : ℕ) (o : Option Stamped) → vs ≡ us ++ v ∷ [] → number ≡ v.number → number ≤ n → last_at n None vs ≡ o → v.value ≡ value_of o
 met n vs us v number o is same le e =
-    let first = sym (ap (last_at n None) is ∙ last_at-push n None us v) ∙ e in
-    let own = ap value_of first in
-    grind (arith, nat_tests)
+    grind (arith, nat_tests, ap (last_at n None) is, last_at-push n None us v)
 
 -- ---- a version more
 
 pub seen-added : (m : ℕ) (o : Option ChainValue) (v : Stamped) (room : ℕ) → seen m (added o v room) ≡ (if nat_le v.number m then v.value else seen_in m o)
 seen-added m None v room = grind (arith, nat_tests)
-seen-added m (Some c) v room = let push = last_at-push m None c.older c.newest in grind (arith, nat_tests)
+seen-added m (Some c) v room = grind (arith, nat_tests, last_at-push m None c.older c.newest)
 
 rising-push : (vs : List Stamped) (v : Stamped) (n : ℕ) → IsRisingTo vs v.number → v.number < n → IsRisingTo (vs ++ v ∷ []) n
 rising-push [] v n h lt = (tt, lt, tt)

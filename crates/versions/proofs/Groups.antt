@@ -43,8 +43,7 @@ among-between : (bs : List ℕ) (n : ℕ) (v : Listed) → is_among bs n ≡ tru
 among-between bs n v t s = any-weaker (λ b. b == n) (λ b. nat_le v.number b && nat_lt b v.next) bs (λ b e. grind (arith, nat_tests, e, s)) t
 
 next-between : (bs : List ℕ) (o : Option ℕ) (v : Listed) → IfSome o (λ n. is_among bs n ≡ true) → is_seen_by o v ≡ true → is_between bs v.number v.next ≡ true
-next-between bs None v a s = absurd (both_ways _ refl s)
-next-between bs (Some n) v a s = among-between bs n v a s
+next-between bs o v a s = grind (arith, λ (n : ℕ). among-between bs n v)
 
 pub all-between : (bs : List ℕ) (es : Chains) (n : ℕ) (vs : List Listed) → is_among bs n ≡ true → AreSeenFrom n vs → AllByRecursion (IsSettled bs es) vs
 all-between bs es n vs t h = all-each (λ v. is_seen_from n v ≡ true) (IsSettled bs es) vs (λ v s. inl (among-between bs n v t s)) h

@@ -26,9 +26,7 @@ listed-base [] gs k = tt
 listed-base (p ∷ ps) gs k = cond_both (is_same_key k p.0) _ _ (IsListedChain gs k) (λ t. tt) (λ f. listed-base ps gs k)
 
 chain-roomier : (gs : List GroupValue) (k : Bytes) (o p : Option ChainValue) → RoomierFound o p → IsListedChain gs k o → IsListedChain gs k p
-chain-roomier gs k None None r h = tt
-chain-roomier gs k (Some c) (Some d) r h = subst (λ (p : List Stamped × Stamped). AreListed gs k p.1.number p.0) {x = (c.older, c.newest)} {y = (d.older, d.newest)} (λ i. (sym r.older i, sym r.newest i)) h
-chain-roomier gs k _ _ r h = absurd r
+chain-roomier gs k o p r h = grind arith
 
 pub listed-roomier : (es fs : Chains) (gs : List GroupValue) → IsRoomier es fs → IsListed es gs → IsListed fs gs
 listed-roomier es fs gs more h k = chain-roomier gs k (find_chain k es) (find_chain k fs) (find-roomier k es fs more) (h k)
@@ -37,8 +35,7 @@ listed-roomier es fs gs more h k = chain-roomier gs k (find_chain k es) (find_ch
 
 listed-push : (gs hs : List GroupValue) → AreFound gs hs → (k : Bytes) (vs : List Stamped) (v : Stamped) (n : ℕ) → AreListed gs k v.number vs → is_listed hs k v.number n ≡ true → AreListed hs k n (vs ++ v ∷ [])
 listed-push gs hs more k [] v n h l = (l, tt)
-listed-push gs hs more k (u ∷ []) v n h l = (more k u.number v.number h.0, (l, tt))
-listed-push gs hs more k (u ∷ w ∷ vs) v n h l = (more k u.number w.number h.0, listed-push gs hs more k (w ∷ vs) v n h.1 l)
+listed-push gs hs more k (u ∷ vs) v n h l = grind (arith, more k u.number, h.0, listed-push gs hs more k vs v n h.1 l)
 
 listed-added : (gs hs : List GroupValue) → AreFound gs hs → (k : Bytes) (o : Option ChainValue) (v : Stamped) (room : ℕ) → IsListedChain gs k o → ((c : ChainValue) → o ≡ Some c → is_listed hs k c.newest.number v.number ≡ true)
     → IsListedChain hs k (Some (added o v room))

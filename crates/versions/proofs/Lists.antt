@@ -1,12 +1,12 @@
 -- The loop over a group's lists.
-use Rattle.versions.proofs.Words.{◌≡◌, ℕ, Bool, true, false, List, [], ◌∷◌, ◌++◌, length, take, drop, get_or, set, ◌+◌, ◌<◌, refl, sym, ap, subst, ◌∙◌, arith, ◌==◌, vec_len, AllByRecursion, list_all, Vec, append-nil, append_assoc, length-append, nil_from_length, take-append-drop, common_steps, list_any-append, and_parts, both_ways, eqb-true, nat_tests, Chains, ChainsValue, IsKept, is_seen_from, AreSeenFrom, is_of, IsSettled, IsPartReclaimed, AreKept, versions_in, Listed, IsUnderWitness, all-append, all-back, all-front, all-pass}
+use Rattle.versions.proofs.Words.{◌≡◌, ℕ, Bool, true, false, List, [], ◌∷◌, ◌++◌, length, take, drop, get_or, set, ◌<◌, refl, sym, ap, subst, ◌∙◌, arith, ◌==◌, vec_len, AllByRecursion, list_all, Vec, append-nil, length-append, nil_from_length, take-append-drop, list_any-append, and_parts, both_ways, eqb-true, nat_tests, Chains, ChainsValue, IsKept, is_seen_from, AreSeenFrom, is_of, IsSettled, IsPartReclaimed, AreKept, versions_in, Listed, IsUnderWitness, all-append, all-back, all-front, all-pass}
+use Rattle.std.proofs.lemmas.Grind.{flat_map-append}
 use Rattle.versions.proofs.Listings.{part-trans, all-settled-part, left-part}
 
 -- ---- lists, one after the other
 
 pub in-append : {Z : Type 0} (xs ys : List (Vec Listed Z)) → versions_in (xs ++ ys) ≡ versions_in xs ++ versions_in ys
-in-append [] ys = refl
-in-append (x ∷ xs) ys = ap (λ l. x.items ++ l) (in-append xs ys) ∙ sym (append_assoc x.items (versions_in xs) (versions_in ys))
+in-append xs ys = flat_map-append (λ x. x.items) xs ys
 
 -- where each list is empty, there is no version
 pub in-empty : {Z : Type 0} (xs : List (Vec Listed Z)) → list_all (λ x. vec_len x == 0) xs ≡ true → versions_in xs ≡ []
@@ -45,24 +45,9 @@ all-replaced P done us vs rest f all =
     let behind = all-back P done (us ++ rest) all in
     all-append P (done ++ vs) rest (all-append P done vs (all-front P done (us ++ rest) all) (f (all-front P us rest behind))) (all-back P us rest behind)
 
--- the versions `us` were looked after, and `vs` are left of them
-pub settled-more : (bs : List ℕ) (old now new : Chains) (os done us vs rest : List Listed) (last : ℕ) → IsKept old last
-    → IsPartReclaimed bs now new → ((last : ℕ) → IsKept now last → IsKept new last) → AllByRecursion (IsSettled bs new) vs → AreKept us vs new → ((n : ℕ) → AreSeenFrom n us → AreSeenFrom n vs) → ((held : ℕ → Bool) (v : ChainsValue) (w : ℕ) → AllByRecursion (IsUnderWitness held v w) us → AllByRecursion (IsUnderWitness held v w) vs)
-    → Settled bs old now os done (us ++ rest) → Settled bs old new os (done ++ vs) rest
-settled-more bs old now new os done us vs rest last ordered p keeps settled left seen each s = record {
-  part = part-trans bs old now new last ordered s.part p;
-  kept = λ n h. keeps n (s.kept n h);
-  settled = all-append (IsSettled bs new) done vs (all-settled-part bs now new p done s.settled) settled;
-  left_out = λ k n high t. (
-      let still = left-part bs now new os (done ++ (us ++ rest)) p s.left_out k n high t in
-      grind (arith, left k n high, list_any-append (is_of k n high)));
-  seen = λ n h. all-replaced (λ v. is_seen_from n v ≡ true) done us vs rest (seen n) (s.seen n h);
-  each = λ held v w h. all-replaced (IsUnderWitness held v w) done us vs rest (each held v w) (s.each held v w h);
-}
-
 -- the versions of the first lists, and of the others
-pub in-split : {Z : Type 0} (n : ℕ) (xs : List (Vec Listed Z)) → versions_in xs ≡ versions_in (take n xs) ++ versions_in (drop n xs)
-in-split n xs = sym (ap versions_in (take-append-drop n xs)) ∙ in-append (take n xs) (drop n xs)
+pub in-parts : {Z : Type 0} (n : ℕ) (xs front rest : List (Vec Listed Z)) → front ≡ take n xs → rest ≡ drop n xs → versions_in xs ≡ versions_in front ++ versions_in rest
+in-parts n xs front rest first others = sym (ap versions_in (take-append-drop n xs)) ∙ in-append (take n xs) (drop n xs) ∙ λ i. versions_in (sym first i) ++ versions_in (sym others i)
 
 -- the first of the lists was looked after, and what is left of it was put behind the others
 pub settled-list : {Z : Type 0} (bs : List ℕ) (old now new : Chains) (os : List Listed) (ls hs lists first left rest : List (Vec Listed Z)) (last : ℕ) → IsKept old last → first ≡ take 1 lists → rest ≡ drop 1 lists
@@ -70,12 +55,19 @@ pub settled-list : {Z : Type 0} (bs : List ℕ) (old now new : Chains) (os : Lis
     → AreKept (versions_in first) (versions_in left) new → ((n : ℕ) → AreSeenFrom n (versions_in first) → AreSeenFrom n (versions_in left)) → ((held : ℕ → Bool) (v : ChainsValue) (w : ℕ) → AllByRecursion (IsUnderWitness held v w) (versions_in first) → AllByRecursion (IsUnderWitness held v w) (versions_in left))
     → Settled bs old now os (versions_in ls) (versions_in lists) → Settled bs old new os (versions_in hs) (versions_in rest)
 settled-list bs old now new os ls hs lists first left rest last ordered one others is p keeps settled kept seen each s =
-    let parts = in-split 1 lists ∙ λ i. versions_in (sym one i) ++ versions_in (sym others i) in
-    subst (λ l. Settled bs old new os l (versions_in rest)) (sym is)
-    (settled-more bs old now new os (versions_in ls) (versions_in first) (versions_in left) (versions_in rest) last ordered p keeps settled kept seen each (subst (λ l. Settled bs old now os (versions_in ls) l) parts s))
-
-pub one-less : {X : Type 0} (xs ys : List X) → ys ≡ drop 1 xs → 0 < length xs → length ys + 1 ≡ length xs
-one-less xs ys is some = grind (arith, common_steps, ap length is)
+    let done = versions_in ls in
+    let us = versions_in first in
+    let vs = versions_in left in
+    let more = versions_in rest in
+    let before = subst (Settled bs old now os done) (in-parts 1 lists first rest one others) s in
+    subst (λ l. Settled bs old new os l more) (sym is) (record {
+      part = part-trans bs old now new last ordered before.part p;
+      kept = λ n h. keeps n (before.kept n h);
+      settled = all-append (IsSettled bs new) done vs (all-settled-part bs now new p done before.settled) settled;
+      left_out = λ k n high t. grind (arith, left-part bs now new os (done ++ (us ++ more)) p before.left_out k n high t, kept k n high, list_any-append (is_of k n high));
+      seen = λ n h. all-replaced (λ v. is_seen_from n v ≡ true) done us vs more (seen n) (before.seen n h);
+      each = λ held v w h. all-replaced (IsUnderWitness held v w) done us vs more (each held v w) (before.each held v w h);
+    })
 
 pub in-none : {Z : Type 0} (done : List Listed) (xs : List (Vec Listed Z)) → length xs ≡ 0 → done ++ versions_in xs ≡ done
 in-none done xs none = ap (λ l. done ++ versions_in l) (nil_from_length xs none) ∙ append-nil done

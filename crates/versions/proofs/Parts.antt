@@ -36,8 +36,7 @@ kept-twice bs now new ls us vs ws found part one two k n high t =
 -- ---- what is due
 
 pub due-taken : (bs : List ℕ) (g : GroupValue) → IsTakenIn bs g → due_for bs g ≡ g.due
-due-taken bs g (inl t) = grind arith
-due-taken bs g (inr none) = grind arith
+due-taken bs g t = grind arith
 
 pub no-versions : {Z : Type 0} (P : Listed → Type 0) (xs : List (Vec Listed Z)) → length xs ≡ 0 → AllByRecursion P (versions_in xs)
 no-versions P xs none = subst (λ l. AllByRecursion P (versions_in l)) (sym (nil_from_length xs none)) tt

@@ -1,6 +1,6 @@
 -- All chains: what is made, what more room leaves, what an install adds and what a reclaim leaves.
-use Rattle.versions.proofs.Words.{[], ◌≡◌, ℕ, suc, ◌+◌, ◌-◌, ◌<◌, ◌≤◌, true, false, T, cond, ◌||◌, List, ◌∷◌, length, take, set, Option, Some, None, IsSome, Result, Ok, Err, refl, sym, ap, subst, ◌∙◌, arith, option_map, nat_le, is_some, if◌then◌else◌, IfSome, OnOk, swap_remove, AllByRecursion, is_eq, is_lt, nat_cmp, ordering_reverse, slice_cmp, put, below_all, by_order, both_ways, Page, room_at, Bytes, KeyMap, KeyWrite, IsMap, key_cmp, value_at, after_writes, same_key, same_key_itself, same_key_comm, same_map, Stamped, ChainValue, Chains, ChainsValue, find_chain, seen, seen_in, value_of, visible, with_value, added, stamped, IsReady, HasPlace, HasRoom, reclaimed, IsReclaimedAt, base_chains, IsKept, IsRisingChain, IsRisingTo, IsRoomier, IsRoomierChain, kept_in, is_written_by, is_among, due_of, lists_a_reclaim, IsSameMeaning, IsReclaimed, IsTightChain, writes_of, IsPartReclaimed, IsSorted, IsBelowAll, turned, both, less, parts, common_steps, get_or_default, nat_tests, all-each}
-use Rattle.std.specs.declared.cmp.Ordering.TheVariants.{Less, Equal, Greater}
+use Rattle.versions.proofs.Words.{is_sorted, [], ◌≡◌, ℕ, suc, ◌+◌, ◌-◌, ◌<◌, ◌≤◌, true, false, T, cond, ◌||◌, List, ◌∷◌, length, take, set, Option, Some, None, IsSome, Result, Ok, Err, refl, sym, ap, subst, ◌∙◌, arith, option_map, nat_le, if◌then◌else◌, IfSome, OnOk, swap_remove, AllByRecursion, is_eq, is_lt, nat_cmp, slice_cmp, put, below_all, both_ways, Page, room_at, Bytes, KeyMap, KeyWrite, IsMap, key_cmp, value_at, after_writes, same_key, same_key_itself, same_key_comm, same_map, Stamped, ChainValue, Chains, ChainsValue, find_chain, seen, seen_in, value_of, visible, with_value, added, stamped, IsReady, HasPlace, HasRoom, reclaimed, IsReclaimedAt, base_chains, IsKept, IsRisingChain, IsRoomier, IsRoomierChain, kept_in, is_written_by, is_among, due_of, lists_a_reclaim, IsSameMeaning, IsReclaimed, IsTightChain, writes_of, IsPartReclaimed, IsSorted, IsBelowAll, turned, both, less, parts, common_steps, get_or_default, nat_tests, all-each}
+use Rattle.std.specs.declared.cmp.Ordering.TheVariants.{Less}
 use Rattle.std.proofs.lemmas.Map.Lookups.{exact_bytes}
 use Rattle.sorted_pages.specs.Trims.{put_some, changed_at}
 use Rattle.versions.proofs.ChainLaws.{seen-added, rising-added, version_at-reclaimed, version_at-newest, tight-reclaimed, rising-seen_by, reclaimed_twice}
@@ -75,12 +75,8 @@ find-put_itself k c es = grind (arith, find_chain-put k k c es, same_key_itself 
 pub roomier-put : (k : Bytes) (c d : ChainValue) (es : Chains) → IsSorted es → find_chain k es ≡ Some c → IsRoomierChain c d → IsRoomier es (put (slice_cmp nat_cmp) k d es)
 roomier-put k c d [] h e r = cc
 roomier-put k c d (f ∷ es) h e r =
-    let p = parts _ _ h in
-    elim (key_cmp k f.0) as (λ o. key_cmp k f.0 ≡ o → cond (is_eq o) (Some f.1) (find_chain k es) ≡ Some c → IsRoomier (f ∷ es) (by_order o ((k, d) ∷ f ∷ es) ((f.0, d) ∷ es) (f ∷ put (slice_cmp nat_cmp) k d es))) [
-      | Less ↦ λ g t. absurd (both_ways true (ap is_lt (sym g ∙ turned f.0 k ∙ ap ordering_reverse (found_above f.0 k es p.0 (ap is_some t)))) refl)
-      | Equal ↦ λ g t. (let same : f.1 ≡ c = cc in (refl, subst (λ (q : ChainValue). IsRoomierChain q d) (sym same) r, roomier-refl es))
-      | Greater ↦ λ g t. (refl, record { older = refl; newest = refl; room = omega arith }, roomier-put k c d es p.1 t r)
-    ] refl e
+    let p = parts (below_all (slice_cmp nat_cmp) f.0 es) (is_sorted (slice_cmp nat_cmp) es) h in
+    grind (arith, turned f.0 k, found_above f.0 k es p.0, roomier-refl es, r.older, r.newest, r.room, λ (t : find_chain k es ≡ Some c). roomier-put k c d es p.1 t r)
 
 same_version : (n : ℕ) (c d : ChainValue) → IsRoomierChain c d → seen n d ≡ seen n c
 same_version n c d r = λ i. value_of (if nat_le (r.newest i).number n then Some (r.newest i) else Rattle.versions.specs.Chains.last_at n None (r.older i))
@@ -124,8 +120,7 @@ sorted_roomier _ _ h g = absurd h
 rising_roomier : (last : ℕ) (es fs : Chains) → IsRoomier es fs → AllByRecursion (λ e. IsRisingChain last e.1) es → AllByRecursion (λ e. IsRisingChain last e.1) fs
 rising_roomier last [] [] h g = tt
 rising_roomier last (e ∷ es) (f ∷ fs) h g =
-    let r = h.1 in
-    (subst (λ (p : List Stamped × Stamped). IsRisingTo p.0 p.1.number × (p.1.number ≤ last)) {x = (e.1.older, e.1.newest)} {y = (f.1.older, f.1.newest)} (λ i. (sym r.older i, sym r.newest i)) g.0, rising_roomier last es fs h.2 g.1)
+    (grind (arith, h.1.older, h.1.newest, g.0), rising_roomier last es fs h.2 g.1)
 rising_roomier last _ _ h g = absurd h
 
 pub kept-roomier : (es fs : Chains) (last : ℕ) → IsRoomier es fs → IsKept es last → IsKept fs last
@@ -217,8 +212,7 @@ sees_found bs last n None h t = refl
 sees_found bs last n (Some c) h t = let low = h.1 in grind (arith, nat_tests, version_at-reclaimed bs c n, version_at-newest bs c n)
 
 tight_found : (bs : List ℕ) (last : ℕ) (o : Option ChainValue) (c : ChainValue) → IfSome o (λ c. IsRisingChain last c) → option_map (reclaimed bs) o ≡ Some c → IsTightChain bs c
-tight_found bs last None c h e = cc
-tight_found bs last (Some d) c h e = let same : reclaimed bs d ≡ c = cc in subst (IsTightChain bs) same (tight-reclaimed bs d h.0)
+tight_found bs last o c h e = grind (arith, tight-reclaimed bs)
 
 pub reclaimed-whole : (old new : ChainsValue) (bs : List ℕ) → IsKept old.chains old.last → IsKept new.chains new.last → new.last ≡ old.last → due_of bs new ≡ due_of bs old - lists_a_reclaim → IsPartReclaimed bs old.chains new.chains
     → (due_of bs new ≡ 0 → (k : Bytes) → find_chain k new.chains ≡ option_map (reclaimed bs) (find_chain k old.chains)) → IsReclaimed old new bs

@@ -28,9 +28,7 @@ number_roomier : (b : ℕ) (c d : ChainValue) → IsRoomierChain c d → number_
 number_roomier b c d r = λ i. option_map (λ (v : Stamped). v.number) (if nat_le (r.newest i).number b then Some (r.newest i) else last_at b None (r.older i))
 
 roomier_before : (o p : Option ChainValue) (d : ChainValue) → RoomierFound o p → p ≡ Some d → (c : ChainValue) × (o ≡ Some c) × IsRoomierChain c d
-roomier_before (Some c) (Some f) d r e = let same : f ≡ d = cc in (c, refl, subst (IsRoomierChain c) same r)
-roomier_before None _ d r e = grind arith
-roomier_before _ None d r e = cc
+roomier_before o p d r e = grind arith
 
 pub under-roomier : (held : ℕ → Bool) (v u : ChainsValue) → IsRoomier v.chains u.chains → u.last ≡ v.last → (w : ℕ) (x : Listed) → IsUnderWitness held v w x → IsUnderWitness held u w x
 under-roomier held v u more last w x h =
@@ -40,9 +38,7 @@ under-roomier held v u more last w x h =
     under-chain held held v.last u.last w w x.number r.0 d r.2.newest (omega (arith, last)) (λ b t. (t, number_roomier b r.0 d r.2, λ le. le)) (h.chain r.0 r.1)))
 
 roomier_behind : (o p : Option ChainValue) (c : ChainValue) → RoomierFound o p → o ≡ Some c → (d : ChainValue) × (p ≡ Some d) × IsRoomierChain c d
-roomier_behind None None c r e = cc
-roomier_behind (Some f) (Some d) c r e = let same : f ≡ c = cc in (d, refl, subst (λ (g : ChainValue). IsRoomierChain g d) same r)
-roomier_behind _ _ c r e = absurd r
+roomier_behind o p c r e = grind arith
 
 -- and so it was before there was more room
 pub under-roomy : (held : ℕ → Bool) (v u : ChainsValue) → IsRoomier v.chains u.chains → u.last ≡ v.last → (w : ℕ) (x : Listed) → IsUnderWitness held u w x → IsUnderWitness held v w x

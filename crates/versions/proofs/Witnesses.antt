@@ -13,24 +13,18 @@ among-itself : (bs : List ℕ) → AreAmong bs bs
 among-itself [] = tt
 among-itself (b ∷ bs) = (or_left (b == b) (is_among bs b) (eq-eqb b b refl), among-more b bs bs (among-itself bs))
 
-greater : (high : ℕ) (all : List ℕ) (m b : ℕ) → is_among all m ≡ true → is_among all b ≡ true → is_among all (if nat_lt b high then max m b else m) ≡ true
-greater high all m b h g = grind (arith, nat_tests)
-
 greatest-among : (high : ℕ) (all bs : List ℕ) (m : ℕ) → is_among all m ≡ true → AreAmong all bs → is_among all (fold (λ greatest b. if nat_lt b high then max greatest b else greatest) m bs) ≡ true
 greatest-among high all [] m h each = h
-greatest-among high all (b ∷ bs) m h each = greatest-among high all bs (if nat_lt b high then max m b else m) (greater high all m b h each.0) each.1
+greatest-among high all (b ∷ bs) m h each = greatest-among high all bs (if nat_lt b high then max m b else m) (grind (arith, nat_tests, each.0)) each.1
 
 pub witness-among : (bs : List ℕ) (w : ℕ) → is_among (0 ∷ bs) (witness_for bs w) ≡ true
 witness-among bs w = let below = greatest-among w (0 ∷ bs) bs 0 refl (among-more 0 bs bs (among-itself bs)) in grind (arith, nat_tests)
 
 -- ---- numbers of which no two are the same
 
-other-push : (ns : List ℕ) (n m : ℕ) → is_among ns m ≡ false → (n == m) ≡ false → is_among (ns ++ n ∷ []) m ≡ false
-other-push ns n m h e = grind (arith, list_any-append (λ b. b == m) ns (n ∷ []))
-
 apart-push : (ns : List ℕ) (n : ℕ) → AreApart ns → is_among ns n ≡ false → AreApart (ns ++ n ∷ [])
 apart-push [] n h other = (refl, tt)
-apart-push (x ∷ ns) n h other = (other-push ns n x h.0 (grind (arith, nat_tests)), apart-push ns n h.1 (grind arith))
+apart-push (x ∷ ns) n h other = (grind (arith, nat_tests, list_any-append (λ b. b == x) ns (n ∷ [])), apart-push ns n h.1 (grind arith))
 
 -- the numbers without the first that is n
 abbrev without : ℕ → List ℕ → List ℕ

@@ -3,7 +3,7 @@ pub use Rattle.std.proofs.Common.{[], add-one, ap, arith, Bool, cond, drop, Err,
 pub use Rattle.std.proofs.lemmas.Bool.{and_left, and_parts, and_right, both_ways, cases_lt, cond_both, eq-eqb, eqb-true, or_cases, or_left, or_right}
 pub use Rattle.std.proofs.lemmas.Bool.Decides.{nat_tests}
 pub use Rattle.std.proofs.lemmas.Grind.{common_steps}
-pub use Rattle.std.proofs.lemmas.List.{append-nil, append_assoc, drop-set, drop_all, get_or-map, get_or-take, get_or_default, length-append, length-map, length-set, length-take, nil_from_length, take-append-drop, take-set, take-take, take_all, take_more}
+pub use Rattle.std.proofs.lemmas.List.{append-nil, append_assoc, drop-set, drop_all, get_or-map, get_or-take, get_or_default, length-append, length-drop, length-map, length-set, length-take, nil_from_length, take-append-drop, take-set, take-take, take_all, take_more}
 pub use Rattle.std.proofs.lemmas.List.Folds.{list_all-append, list_any-append, list_any_none}
 pub use Rattle.std.specs.Cmp.Lexicographic.{nat_list_cmp_total, slice_cmp}
 pub use Rattle.std.specs.FinMap.Entries.{below_all, by_order, find-put, is_sorted, is_sorted-put, put, where_key}

@@ -1,4 +1,4 @@
-use Rattle.versions.proofs.Words.{AllByRecursion, ◌+◌, List, take, sym, ap, subst, refl, ◌∙◌, arith, GroupValue, AreUnderWitnesses, AreAmong, AreApart, AreMixedSettled, IsSettled, IsTrulyMixed, lists_in, witnesses, all-remove}
+use Rattle.versions.proofs.Words.{rules, AllByRecursion, ◌+◌, List, take, sym, ap, subst, refl, ◌∙◌, arith, GroupValue, AreUnderWitnesses, AreAmong, AreApart, AreMixedSettled, IsSettled, IsTrulyMixed, lists_in, witnesses, all-remove}
 use Rattle.versions.proofs.{Groups.due-empty, Groups.found-remove, UnderWitnesses.IsUnder}
 use Rattle.versions.proofs.Witnesses.{apart-next, among-remove, take-remove, lists-remove}
 use Rattle.versions.proofs.reclaiming.join_groups.Goals as goal
@@ -21,28 +21,15 @@ loop-i-preserved-then-is_empty c =
     }
 
 pub loop-i-preserved : goal.loop-i-preserved
-loop-i-preserved c = record {
-  found = λ k n high t. c.join.ensures.found k n high (c.loop-i.invariant.found k n high t);
-  due = λ bs. c.join.ensures.due bs ∙ c.loop-i.invariant.due bs;
-  apart = subst AreApart (sym c.join.ensures.first) c.loop-i.invariant.apart;
-  held = λ bs h. c.join.ensures.held bs (c.loop-i.invariant.held bs h);
-  truly = λ bs h. c.join.ensures.truly bs (c.loop-i.invariant.truly bs h);
-  lists = omega (arith, c.join.ensures.lists, c.loop-i.invariant.lists);
-  each = λ held v h. c.join.ensures.each held v (c.loop-i.invariant.each held v h);
-  mixed = λ bs es h. c.join.ensures.mixed bs es (c.loop-i.invariant.mixed bs es h);
-}
+loop-i-preserved c =
+    let e = c.join.ensures in
+    let inv = c.loop-i.invariant in
+    let apart = subst AreApart (sym e.first) inv.apart in
+    search (rules, apart, ◌∙◌, e.found, e.due, e.held, e.truly, e.lists, e.each, e.mixed, inv.found, inv.due, inv.held, inv.truly, inv.lists, inv.each, inv.mixed)
 
 pub loop-i-preserved-then-not-join : goal.loop-i-preserved-then-not-join
 loop-i-preserved-then-not-join c =
-    let same = c.if-not-join.ensures.same refl in
+    let e = c.join.ensures in
     let inv = c.loop-i.invariant in
-    record {
-      found = λ k n high t. c.join.ensures.found k n high (inv.found k n high t);
-      due = λ bs. c.join.ensures.due bs ∙ inv.due bs;
-      apart = subst (λ (l : List GroupValue). AreApart (take (c.loop-i.i + 1) (witnesses l))) (sym same) (apart-next c.loop-i.groups.items c.loop-i.i (omega arith) inv.apart (c.if-not-join.ensures.other refl));
-      held = λ bs h. c.join.ensures.held bs (inv.held bs h);
-      truly = λ bs h. c.join.ensures.truly bs (inv.truly bs h);
-      lists = omega (arith, c.join.ensures.lists, inv.lists);
-      each = λ held v h. c.join.ensures.each held v (inv.each held v h);
-      mixed = λ bs es h. c.join.ensures.mixed bs es (inv.mixed bs es h);
-    }
+    let apart = subst (λ (l : List GroupValue). AreApart (take (c.loop-i.i + 1) (witnesses l))) (sym (c.if-not-join.ensures.same refl)) (apart-next c.loop-i.groups.items c.loop-i.i (omega arith) inv.apart (c.if-not-join.ensures.other refl)) in
+    search (rules, apart, ◌∙◌, e.found, e.due, e.held, e.truly, e.lists, e.each, e.mixed, inv.found, inv.due, inv.held, inv.truly, inv.lists, inv.each, inv.mixed)

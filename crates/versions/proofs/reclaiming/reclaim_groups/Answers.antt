@@ -31,15 +31,7 @@ returns c =
     let gs = c.loop-left.groups in
     let most = c.loop-left.most in
     let all = subst (λ n. Settling bs old now c.args.groups.now gs n most) {x = c.loop-left.left} {y = 0} (omega arith) c.loop-left.invariant in
-    record {
-      due = settling-due bs old now c.args.groups.now gs most all;
-      part = all.part;
-      all = settling-ended bs old now c.args.groups.now gs most all;
-      kept = all.kept;
-      listed = all.listed;
-      held = settling-held bs old now c.args.groups.now gs most all;
-      lists = all.lists;
-      truly = all.truly;
-      each = all.each;
-      mixed = all.mixed;
-    }
+    let due = settling-due bs old now c.args.groups.now gs most all in
+    let ended = settling-ended bs old now c.args.groups.now gs most all in
+    let held = settling-held bs old now c.args.groups.now gs most all in
+    assumption (due, ended, held)

@@ -1,5 +1,6 @@
 use Rattle.versions.proofs.Words.{◌≡◌, List, ◌∷◌, ◌++◌, drop, take, length, rules, sym, ap, subst, ◌∙◌, arith, AllByRecursion, entries, GroupValue, nat_lt, due_in, AreUnderWitnesses, AreAmong, AreMixedSettled, IsListed, IsTrulyMixed, witnesses, length-map}
-use Rattle.versions.proofs.{Calls.all_items, Groups.any-due, Witnesses.apart-few, Listings.groups-found}
+use Rattle.std.proofs.Math.Seq.{take-append_seam}
+use Rattle.versions.proofs.{Groups.any-due, Witnesses.apart-few, Listings.groups-found}
 use Rattle.versions.proofs.reclaiming.reclaim_versions.Goals as goal
 
 pub returns : goal.returns
@@ -10,7 +11,7 @@ returns c =
     let joined = c.join_groups.ensures in
     let all = take c.args.groups.now.len (groups ++ drop (length groups) c.args.groups.now.items) in
     let long : c.args.groups.now.len ≡ length groups = omega (arith, c.deref_mut.ensures.len, c.reclaim_groups.auto.groups) in
-    let are = sym (all_items c.args.groups.now.len groups (drop (length groups) c.args.groups.now.items) long) in
+    let are = sym (ap (λ n. take n (groups ++ drop (length groups) c.args.groups.now.items)) long ∙ take-append_seam groups (drop (length groups) c.args.groups.now.items)) in
     let held = joined.held (0 ∷ bs) (subst (λ (l : List GroupValue). AreAmong (0 ∷ bs) (witnesses l)) are c.reclaim_groups.ensures.held) in
     let few = apart-few (witnesses c.join_groups.new.groups.items) (0 ∷ bs) joined.apart held in
     record {

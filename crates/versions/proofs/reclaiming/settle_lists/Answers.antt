@@ -1,5 +1,5 @@
-use Rattle.versions.proofs.Words.{◌≡◌, ◌≤◌, ◌<◌, ◌+◌, ◌++◌, length, sym, ap, subst, ◌∙◌, arith, append-nil, length-append, AllByRecursion, entries, IsUnderWitness, AreSeenFrom, versions_in}
-use Rattle.versions.proofs.Lists.{in-append, in-empty, in-none, in-some, one-less, settled-list}
+use Rattle.versions.proofs.Words.{length-drop, ◌≡◌, ◌≤◌, ◌+◌, ◌++◌, length, sym, ap, subst, ◌∙◌, arith, append-nil, length-append, AllByRecursion, entries, IsUnderWitness, AreSeenFrom, versions_in}
+use Rattle.versions.proofs.Lists.{in-append, in-empty, in-none, in-some, settled-list}
 use Rattle.versions.proofs.reclaiming.settle_lists.Goals.{then-not-are_empty, else-not-are_empty}
 use Rattle.versions.proofs.reclaiming.settle_lists.Goals as goal
 
@@ -9,8 +9,7 @@ settle_first-requires-clause-kept c = (c.requires.kept.0, c.loop.invariant.settl
 pub loop-preserved : goal.loop-preserved
 loop-preserved c =
     let left = c.settle_first.new.lists in
-    let some : 0 < length c.loop.rest = omega arith in
-    let shorter = one-less c.loop.rest c.take_front-first.new.lists c.take_front-first.ensures.rest some in
+    let shorter : length c.take_front-first.new.lists + 1 ≡ length c.loop.rest = omega (arith, ap length c.take_front-first.ensures.rest, length-drop 1 c.loop.rest) in
     let is : versions_in c.if-not-are_empty.lists ≡ versions_in c.loop.lists ++ versions_in left = elim c.if-not-are_empty.branch [
       | then-not-are_empty w ↦ ap versions_in (w.lists-is ∙ w.append.ensures) ∙ in-append c.loop.lists left
       | else-not-are_empty w ↦ ap versions_in w.lists-is ∙ sym (append-nil (versions_in c.loop.lists)) ∙ ap (λ l. versions_in c.loop.lists ++ l) (sym (in-empty left (sym w.if-not-are_empty.ensures)))

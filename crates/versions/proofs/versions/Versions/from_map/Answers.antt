@@ -1,4 +1,4 @@
-use Rattle.versions.proofs.Words.{◌≡◌, ◌≤◌, List, length, arith, [], ◌∷◌, ◌++◌, Some, sym, ap, subst, ◌∙◌, refl, append-nil, nil_from_length, Bytes, KeyMap, entries, ChainValue, Chains, IsKept, base_chains, fresh_chain, stamped, IsSorted, GroupValue, IsListed, lists_in, versions_in}
+use Rattle.versions.proofs.Words.{◌≡◌, length, arith, [], ◌∷◌, ◌++◌, Some, sym, ap, subst, ◌∙◌, refl, append-nil, nil_from_length, Bytes, KeyMap, entries, ChainValue, Chains, IsKept, base_chains, fresh_chain, stamped, IsSorted, IsListed, lists_in, versions_in}
 use Rattle.versions.proofs.{Stores.kept-base, Listings.listed-base, Calls.base-next, Calls.stands-opened}
 use Rattle.versions.proofs.versions.Versions.from_map.Goals as goal
 
@@ -6,14 +6,11 @@ use Rattle.versions.proofs.versions.Versions.from_map.Goals as goal
 all_made : (es : Chains) (m rest : KeyMap) → rest ≡ [] → es ++ base_chains rest ≡ base_chains m → es ≡ base_chains m
 all_made es m rest none is = sym (ap (λ l. es ++ base_chains l) none ∙ append-nil es) ∙ is
 
-no_lists : (gs : List GroupValue) → gs ≡ [] → lists_in gs ≤ 0
-no_lists gs e = let now = ap lists_in e in omega (arith, now)
-
 pub invariant_of-result : goal.invariant_of-result
 invariant_of-result c =
     let none : c.loop-pair.pair-iterator.rest.items ≡ [] = nil_from_length _ (sym c.loop-pair.pair-iterator.rest.ok.0 ∙ c.in-None.ensures.steps.0) in
     let is = sym (all_made (entries c.loop-pair.chains) c.args.map _ none c.loop-pair.invariant.made) in
-    (subst (λ (es : Chains). IsKept es 0) is (kept-base c.args.map c.into_pairs-pair-items.ensures.is_map), subst (λ (es : Chains). IsListed es c.new-2.result.items) is (listed-base c.args.map c.new-2.result.items), ap versions_in c.new-3.ensures, record { lists = no_lists c.new-2.result.items c.new-2.ensures.items; ready = omega (arith, ap length c.new-3.ensures); fits = omega arith })
+    (subst (λ (es : Chains). IsKept es 0) is (kept-base c.args.map c.into_pairs-pair-items.ensures.is_map), subst (λ (es : Chains). IsListed es c.new-2.result.items) is (listed-base c.args.map c.new-2.result.items), ap versions_in c.new-3.ensures, record { lists = omega (arith, ap lists_in c.new-2.ensures.items); ready = omega (arith, ap length c.new-3.ensures); fits = omega arith })
 
 pub returns : goal.returns
 returns c =

@@ -1,4 +1,4 @@
-use Rattle.versions.proofs.Words.{find_chain, HasRoom, HasPlaceAt, AllByRecursion, all-each, StandForSame, ◌≡◌, length, sym, ap, subst, ◌∙◌, refl, false, arith, both_ways, ChainsValue, IsRoomier, IsSameMeaning, take_all}
+use Rattle.versions.proofs.Words.{rules, find_chain, HasRoom, HasPlaceAt, AllByRecursion, all-each, StandForSame, ◌≡◌, length, sym, ap, subst, ◌∙◌, refl, false, arith, both_ways, ChainsValue, IsRoomier, IsSameMeaning, take_all}
 use Rattle.versions.proofs.{Stores.roomier-refl, Stores.roomier-trans, Stores.same-roomier, Stores.IsPlaced, Histories.stands-same}
 use Rattle.versions.proofs.Calls.{preparing, placed-at}
 use Rattle.versions.proofs.versions.Versions.prepare.Goals as goal
@@ -11,19 +11,16 @@ reserved old now inside new more last groups view same last' groups' =
     (meaning, λ held base history. stands-same old held base history new meaning roomier (groups' ∙ ap (λ (v : ChainsValue). v.groups) view ∙ groups))
 
 pub loop-write-init : goal.loop-write-init
-loop-write-init c = record { roomier = roomier-refl c.args.self.now.chains; pages = λ q. omega arith; last = refl; groups = refl; prepared = tt; listed_spare = refl; groups_spare = refl }
+loop-write-init c = search (rules, roomier-refl)
 
 pub loop-write-preserved : goal.loop-write-preserved
-loop-write-preserved c = record {
-  roomier = roomier-trans c.args.self.now.chains c.loop-write.self.chains c.make_room.new.self.chains c.loop-write.invariant.roomier c.make_room.ensures.chains;
-  pages = λ q. omega (arith, c.loop-write.invariant.pages q, c.make_room.ensures.rooms q);
-  last = c.make_room.ensures.last ∙ c.loop-write.invariant.last;
-  groups = c.make_room.ensures.groups ∙ c.loop-write.invariant.groups;
-  prepared = preparing (length c.args.writes.now) c.args.writes.now c.loop-write.write-index c.write-item.result c.lend_key.result.bytes.now c.loop-write.self.chains c.make_room.new.self.chains c.loop-write.self.pages c.make_room.new.self.pages
-      (omega arith) c.write-item.is c.lend_key.ensures c.make_room.ensures.chains c.make_room.ensures.rooms c.loop-write.invariant.prepared c.in_ok-make_room.ensures.room c.in_ok-make_room.ensures.place;
-  listed_spare = c.make_room.ensures.listed_spare ∙ c.loop-write.invariant.listed_spare;
-  groups_spare = c.make_room.ensures.groups_spare ∙ c.loop-write.invariant.groups_spare;
-}
+loop-write-preserved c =
+    let e = c.make_room.ensures in
+    let inv = c.loop-write.invariant in
+    let roomier = roomier-trans c.args.self.now.chains c.loop-write.self.chains c.make_room.new.self.chains inv.roomier e.chains in
+    let prepared = preparing (length c.args.writes.now) c.args.writes.now c.loop-write.write-index c.write-item.result c.lend_key.result.bytes.now c.loop-write.self.chains c.make_room.new.self.chains c.loop-write.self.pages c.make_room.new.self.pages
+        (omega arith) c.write-item.is c.lend_key.ensures c.make_room.ensures.chains c.make_room.ensures.rooms c.loop-write.invariant.prepared c.in_ok-make_room.ensures.room c.in_ok-make_room.ensures.place in
+    search (rules, roomier, prepared, ◌∙◌, e.rooms, e.last, e.groups, e.listed_spare, e.groups_spare, inv.pages, inv.last, inv.groups, inv.listed_spare, inv.groups_spare)
 
 -- ---- a chain was refused its room
 
