@@ -1,5 +1,5 @@
 -- What is kept decides the verdict over the whole history, and stays what is kept of it.
-use Rattle.pivot_check.proofs.Words.{◌≡◌, ℕ, ◌+◌, ◌<◌, ◌≤◌, Bool, true, cond, ◌&&◌, List, [], ◌∷◌, ◌++◌, Option, Some, None, refl, sym, ap, ◌∙◌, length, map, arith, nat_lt, find, All, list_any, filter, AllByRecursion, option_map, or_left, lt-ltb, ltb-true, false_from_ne_true, nat_tests, common_steps, All-append, All-contains, All-filter, All-from_recursion, filter-append, recursion_from_All, map-append, Bytes, is_same_key, is_covered, Record, IsNumberedFrom, In, at_in, each_in, Contains-from_in, in_from_Contains, IsRising, rising_from_numbered, any_filter, any_same, find_alike, find_same, read_write_kept, has_earlier_target, stands_between, earlier_target-push, own_earlier_target, verdict_by_kept, View, KeptRecord, Facts, key_of, keys_of, is_written, leads_to, follows, becomes_pivot, first_number, last_that, last_number, are_in_order, is_own_pivot, own_record, IsInReach, StandsFor, IsRecordOf, kept_of, kept_above}
+use Rattle.pivot_check.proofs.Words.{all-filter, ◌≡◌, ℕ, ◌+◌, ◌<◌, ◌≤◌, Bool, true, cond, ◌&&◌, List, [], ◌∷◌, ◌++◌, Option, Some, None, refl, sym, ap, ◌∙◌, length, map, arith, nat_lt, find, All, list_any, filter, AllByRecursion, option_map, or_left, lt-ltb, ltb-true, false_from_ne_true, nat_tests, common_steps, All-append, All-contains, All-from_recursion, filter-append, map-append, Bytes, is_same_key, is_covered, Record, IsNumberedFrom, In, at_in, each_in, Contains-from_in, in_from_Contains, IsRising, rising_from_numbered, any_filter, any_same, find_alike, find_same, read_write_kept, has_earlier_target, stands_between, earlier_target-push, own_earlier_target, verdict_by_kept, View, KeptRecord, Facts, key_of, keys_of, is_written, leads_to, follows, becomes_pivot, first_number, last_that, last_number, are_in_order, is_own_pivot, own_record, IsInReach, StandsFor, IsRecordOf, kept_of, kept_above}
 use Rattle.model.specs.declared.refusals.Refusal.TheVariants as refusal
 use Rattle.model.specs.Dependency.{writes_key, concurrent_read_write}
 use Rattle.model.specs.Verdict.{verdict, conflict_of, pivot_refusal, is_overwritten, HasNoDangerousPivot}
@@ -14,8 +14,7 @@ in_filter p (y ∷ ys) x h = grind (arith, common_steps, in_filter p ys x)
 rising_filter : (p : Record → Bool) (rs : List Record) → IsRising rs → IsRising (filter p rs)
 rising_filter p [] rise = tt
 rising_filter p (r ∷ rs) rise =
-    let above = recursion_from_All (λ s. r.commit < s.commit) (filter p rs) (All-filter p (λ s. r.commit < s.commit) rs (All-from_recursion (λ s. r.commit < s.commit) rs rise.0)) in
-    grind (arith, rising_filter p rs rise.1)
+    grind (arith, rising_filter p rs rise.1, all-filter (λ s. r.commit < s.commit) p rs rise.0)
 
 pub history_rises : (b n : ℕ) (rs : List Record) → IsNumberedFrom n rs → IsRising (filter (λ p. nat_lt b p.commit) rs)
 history_rises b n rs numbered = rising_filter (λ p. nat_lt b p.commit) rs (rising_from_numbered n rs numbered)

@@ -1,5 +1,5 @@
 -- Two lists of postings made into one, from their heads, and what runs answer.
-use Rattle.pivot_check.proofs.Words.{◌≡◌, ◌≤◌, ◌+◌, ℕ, Bool, true, List, [], ◌∷◌, ◌++◌, None, refl, sym, ap, ◌∙◌, arith, max, nat_lt, is_some, not, list_all, AllByRecursion, is_le, and_parts, and_from, nat_tests, append_assoc, drop_all, list_all-append, Bytes, key_cmp, Posting, least, lesser, keys_rise, are_upto, live, left, live_in, in_run, postings_in, lesser_none, least-append, least-runs}
+use Rattle.pivot_check.proofs.Words.{◌≡◌, ◌≤◌, ◌+◌, ℕ, Bool, true, List, [], ◌∷◌, ◌++◌, None, refl, sym, ap, ◌∙◌, arith, max, nat_lt, is_some, not, AllByRecursion, is_le, nat_tests, append_assoc, drop_all, list_all-append, Bytes, key_cmp, Posting, least, lesser, keys_rise, are_upto, live, left, live_in, in_run, postings_in, lesser_none, least-append, least-runs}
 use Rattle.pivot_check.specs.{declared.run.WrittenRun.WrittenRun, declared.part.Part.Part, Merging.are_keys_from, Merging.BeginsBelow}
 use Rattle.pivot_check.proofs.Walks.{le_trans, rise_between}
 
@@ -13,9 +13,7 @@ rises_left (x ∷ xs) ys h = grind (arith, list_all-append (λ q. is_le (key_cmp
 up_to : (ms xs : List Posting) (w : Posting) → keys_rise (ms ++ w ∷ xs) ≡ true → AllByRecursion (λ m. is_le (key_cmp m.key w.key) ≡ true) ms
 up_to [] xs w h = tt
 up_to (m ∷ ms) xs w h =
-    let parts = and_parts (list_all (λ q. is_le (key_cmp m.key q.key)) (ms ++ w ∷ xs)) (keys_rise (ms ++ w ∷ xs)) h in
-    let whole = list_all-append (λ q. is_le (key_cmp m.key q.key)) ms (w ∷ xs) in
-    (grind arith, up_to ms xs w parts.1)
+    grind (arith, list_all-append (λ q. is_le (key_cmp m.key q.key)) ms (w ∷ xs), up_to ms xs w)
 
 pub moved_before : (ms xs xs' : List Posting) (w : Posting) → xs ≡ w ∷ xs' → keys_rise (ms ++ xs) ≡ true → keys_rise ((ms ++ w ∷ []) ++ xs') ≡ true
 moved_before ms xs xs' w is h = ap keys_rise (append_assoc ms (w ∷ []) xs') ∙ ap (λ l. keys_rise (ms ++ l)) (sym is) ∙ h
@@ -36,7 +34,7 @@ three c ms xs ys = least-append c ms (xs ++ ys) ∙ ap (lesser (least c ms)) (le
 
 from_head : (k : Bytes) (y : Posting) (ys : List Posting) → is_le (key_cmp k y.key) ≡ true → are_keys_from y.key ys ≡ true → are_keys_from k ys ≡ true
 from_head k y [] le h = refl
-from_head k y (z ∷ ys) le h = let parts = and_parts _ _ h in and_from _ _ (le_trans k y.key z.key le parts.0) (from_head k y ys le parts.1)
+from_head k y (z ∷ ys) le h = grind (arith, le_trans k y.key z.key le, from_head k y ys le)
 
 pub begins_below : (xs xs' ys ys' : List Posting) (x y : Posting) → xs ≡ x ∷ xs' → ys ≡ y ∷ ys' → keys_rise ys ≡ true → is_le (key_cmp x.key y.key) ≡ true → BeginsBelow xs ys
 begins_below xs xs' ys ys' x y xs_is ys_is h le w rest is = grind (arith, from_head w.key y ys')
@@ -47,9 +45,7 @@ pub none_left : (p : Part) → left p ≡ 0 → live p ≡ []
 none_left p none = drop_all p.start p.written.items (omega arith)
 
 pub at_rest : (c : Posting → Bool) (made first second : Part) → left first + left second ≡ 0 → least c (live_in made first second) ≡ least c (live made)
-at_rest c made first second none =
-    let empty = none_left first (omega arith) in
-    grind (arith, lesser_none, three c (live made) (live first) (live second), none_left second (omega arith))
+at_rest c made first second none = grind (arith, lesser_none, three c (live made) (live first) (live second), none_left first (omega arith), none_left second (omega arith))
 
 -- two runs at rest, of which nothing was made yet
 pub joined : (c : Posting → Bool) (was more : WrittenRun) (made first : Part) → left was.first + left was.second ≡ 0 → left more.first + left more.second ≡ 0 → left made ≡ 0 → first ≡ was.made

@@ -117,9 +117,6 @@ notes f history s t reach n next r own clear flag flag_is keys keys_is readers r
     (noted f history s t reach r own' (clear history s r own') readers (subst (λ m. IsNoted t.marks m f.readers readers) next read)
     postings (λ c. has c ∙ (λ i. lesser (least c f.postings) (least c (postings_by (next i) (flag_is i) (keys_is i))))))
 
-pub nothing : {X : Type 0} (xs : List X) → length xs ≡ 0 → xs ≡ []
-nothing xs e = nil_from_length xs e
-
 -- the keys of one transaction alone
 pub upto_own : (n : ℕ) (flag : Bool) (ks : List Bytes) (ps qs : List Posting) → length ps ≡ 0 → ((c : Posting → Bool) → least c qs ≡ lesser (least c ps) (least c (postings_by n flag ks))) → are_upto n qs ≡ true
-upto_own n flag ks ps qs none added = ap (λ o. not (is_some o)) (added (λ p. nat_lt n p.number) ∙ (λ i. lesser (least (λ p. nat_lt n p.number) (nothing ps none i)) (by_upto n flag ks i)))
+upto_own n flag ks ps qs none added = ap (λ o. not (is_some o)) (added (λ p. nat_lt n p.number) ∙ (λ i. lesser (least (λ p. nat_lt n p.number) (nil_from_length ps none i)) (by_upto n flag ks i)))

@@ -1,5 +1,5 @@
 -- The last of the concurrent records that has read a key of the transaction's own, found by looking up the last reader of each key.
-use Rattle.pivot_check.proofs.Words.{◌≡◌, ◌≤◌, ◌<◌, ◌+◌, ℕ, suc, Bool, false, cond, ◌||◌, List, [], ◌∷◌, ◌++◌, Some, None, length, map, refl, sym, ap, ◌∙◌, arith, nat_lt, max, list_any, filter, AllByRecursion, le-ltb, nat_tests, Bytes, Mark, is_covered, Record, IsNumberedFrom, IsRising, View, cut, after, KeptRecord, keys_of, leads_to, AreAbove, last_that, last_number, greater, last_source, kept_of, greatest, last_reader_in, AreReaders}
+use Rattle.pivot_check.proofs.Words.{◌≡◌, ◌≤◌, ◌<◌, ◌+◌, ℕ, suc, Bool, false, cond, ◌||◌, List, [], ◌∷◌, ◌++◌, length, map, refl, sym, ap, ◌∙◌, arith, nat_lt, max, list_any, filter, AllByRecursion, nat_tests, Bytes, Mark, is_covered, Record, IsNumberedFrom, IsRising, View, cut, after, keys_of, leads_to, AreAbove, last_that, last_number, greater, last_source, kept_of, greatest, last_reader_in, AreReaders}
 use Rattle.last_readers.proofs.Cuts.{cut_twice}
 use Rattle.pivot_check.proofs.{Lists.last_that-map, Ends.number_of}
 
@@ -7,9 +7,6 @@ use Rattle.pivot_check.proofs.{Lists.last_that-map, Ends.number_of}
 
 pub after_cut : (o b n : ℕ) → o ≤ b → after b (cut o n) ≡ after b n
 after_cut o b n le = grind (arith, nat_tests)
-
-after_max : (b n m : ℕ) → after b (max n m) ≡ greater (after b n) (after b m)
-after_max b n m = grind (arith, nat_tests)
 
 -- ---- the greatest number of records
 
@@ -42,24 +39,19 @@ last_is_greatest p b (r ∷ rs) rise = grind (arith, nat_tests, greatest_above p
 -- ---- the last readers of the keys
 
 by_keys : (b : ℕ) (h : List Record) (ks : List Bytes) → after b (greatest (λ r. list_any (is_covered r.reads) ks) h) ≡ last_source (last_reader_in h) b ks
-by_keys b h [] = ap (after b) (greatest_none h) ∙ ap (λ x. cond x (Some 0) None) (le-ltb b 0 (omega arith))
+by_keys b h [] = grind (arith, nat_tests, greatest_none h)
 by_keys b h (k ∷ ks) =
-    ap (after b) (greatest_or (λ r. is_covered r.reads k) (λ r. list_any (is_covered r.reads) ks) h)
-    ∙ after_max b (last_reader_in h k) (greatest (λ r. list_any (is_covered r.reads) ks) h)
-    ∙ ap (greater (after b (last_reader_in h k))) (by_keys b h ks)
+    grind (arith, nat_tests, by_keys b h ks, greatest_or (λ r. is_covered r.reads k) (λ r. list_any (is_covered r.reads) ks) h)
 
 looked_up : (o b : ℕ) (readers : Bytes → ℕ) (h : List Record) → o ≤ b → AreReaders o readers h → (ks : List Bytes) → last_source readers b ks ≡ last_source (last_reader_in h) b ks
 looked_up o b readers h le are [] = refl
 looked_up o b readers h le are (k ∷ ks) = λ i. greater ((ap (after b) (are k) ∙ after_cut o b (last_reader_in h k) le) i) (looked_up o b readers h le are ks i)
 
-last_kept : (p : KeptRecord → Bool) (h rs : List Record) → last_number p (map (kept_of h) rs) ≡ number_of (last_that (λ r. p (kept_of h r)) rs)
-last_kept p h rs = grind (arith, last_that-map p (kept_of h) rs)
-
 -- the last concurrent record that leads to the transaction
 pub source_found : (o : ℕ) (readers : Bytes → ℕ) (h : List Record) (t : View) → o ≤ t.begin → AreReaders o readers h → IsRising h →
     last_number (λ k. leads_to k t) (map (kept_of h) (filter (λ r. nat_lt t.begin r.commit) h)) ≡ last_source readers t.begin (keys_of t.writes)
 source_found o readers h t le are rise =
-    last_kept (λ k. leads_to k t) h (filter (λ r. nat_lt t.begin r.commit) h)
+    grind (arith, last_that-map (λ k. leads_to k t) (kept_of h) (filter (λ r. nat_lt t.begin r.commit) h))
     ∙ last_is_greatest (λ r. list_any (is_covered r.reads) (keys_of t.writes)) t.begin h rise
     ∙ by_keys t.begin h (keys_of t.writes)
     ∙ sym (looked_up o t.begin readers h le are (keys_of t.writes))
@@ -69,9 +61,7 @@ source_found o readers h t le are rise =
 pub noted_readers : (o : ℕ) (readers next : Bytes → ℕ) (h : List Record) (r : Record) (marks : List Mark) (n : ℕ) → AreReaders o readers h → IsNumberedFrom 0 h → o < n → n ≡ length h + 1 → r.commit ≡ n → r.reads ≡ marks
     → ((k : Bytes) → next k ≡ cond (is_covered marks k) n (readers k)) → AreReaders o next (h ++ r ∷ [])
 noted_readers o readers next h r marks n are numbered above is number reads noted k =
-    let low = greatest_low (λ s. is_covered s.reads k) 0 h numbered in
-    let own : is_covered r.reads k ≡ is_covered marks k = ap (λ ms. is_covered ms k) reads in
-    grind (arith, nat_tests, greatest_push (λ s. is_covered s.reads k) h r, noted k, are k)
+    grind (arith, nat_tests, greatest_push (λ s. is_covered s.reads k) h r, noted k, are k, greatest_low (λ s. is_covered s.reads k) 0 h numbered, ap (λ ms. is_covered ms k) reads)
 
 pub forgotten_readers : (o newer : ℕ) (readers next : Bytes → ℕ) (h : List Record) → AreReaders o readers h → o ≤ newer → ((k : Bytes) → next k ≡ cut newer (readers k)) → AreReaders newer next h
 forgotten_readers o newer readers next h are le cut_to k = cut_to k ∙ ap (cut newer) (are k) ∙ cut_twice o newer (last_reader_in h k) le

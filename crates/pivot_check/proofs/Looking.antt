@@ -1,33 +1,21 @@
 -- Postings that were looked at, and those behind them.
-use Rattle.pivot_check.proofs.Words.{◌≡◌, ◌≤◌, ◌-◌, ℕ, Bool, cond, List, [], ◌∷◌, ◌++◌, Option, Some, None, sym, ap, subst, ◌∙◌, arith, min, all-each, all-append, Posting, least, lesser, is_asked, between, KeepsFound, lesser_assoc, least-append}
-use Rattle.pivot_check.proofs.{Writers.lesser_comm, Passing.passed_over, Passing.kept_part, Passing.split_at}
+use Rattle.pivot_check.proofs.Words.{true, ◌≡◌, ◌≤◌, ◌-◌, ℕ, Bool, List, [], ◌∷◌, ◌++◌, Option, Some, sym, ap, subst, ◌∙◌, arith, min, all-each, all-append, Posting, least, lesser, is_asked, between, KeepsFound, lesser_assoc, least-append}
+use Rattle.pivot_check.proofs.{Passing.passed_over, Passing.kept_part, Passing.split_at}
 
 -- ---- what was found
-
--- a number with which it stays is one that it is below
-first_kept : (f o r : Option ℕ) → lesser f (lesser o r) ≡ f → lesser f o ≡ f
-first_kept f o r h = grind arith
 
 kept_if : (found : Option ℕ) (b : ℕ) (flagged : Bool) (ps : List Posting) → lesser found (least (is_asked b flagged) ps) ≡ found → KeepsFound found b flagged ps
 kept_if found b flagged [] h = tt
 kept_if found b flagged (p ∷ ps) h =
-    let o = cond (is_asked b flagged p) (Some p.number) None in
-    let r = least (is_asked b flagged) ps in
-    ((λ e. ap (λ x. lesser found (cond x (Some p.number) None)) (sym e) ∙ first_kept found o r h), kept_if found b flagged ps (first_kept found r o (ap (lesser found) (lesser_comm r o) ∙ h)))
+    grind (arith, kept_if found b flagged ps)
 
 -- none of them is below what was found with them
 pub looked_anew : (found next : Option ℕ) (b : ℕ) (flagged : Bool) (ps : List Posting) → next ≡ lesser found (least (is_asked b flagged) ps) → KeepsFound next b flagged ps
-looked_anew found next b flagged ps is = kept_if next b flagged ps (again (least (is_asked b flagged) ps) is)
-  where
-    again : (o : Option ℕ) → next ≡ lesser found o → lesser next o ≡ next
-    again o is = grind arith
+looked_anew found next b flagged ps is = kept_if next b flagged ps (grind arith)
 
 -- a lesser number stays, too
 kept_more : (found x : Option ℕ) (b : ℕ) (flagged : Bool) (ps : List Posting) → KeepsFound found b flagged ps → KeepsFound (lesser found x) b flagged ps
-kept_more found x b flagged ps h = all-each _ _ ps (λ p stays e. lower (Some p.number) (stays e)) h
-  where
-    lower : (o : Option ℕ) → lesser found o ≡ found → lesser (lesser found x) o ≡ lesser found x
-    lower o stays = grind arith
+kept_more found x b flagged ps h = all-each _ (λ p. is_asked b flagged p ≡ true → lesser (lesser found x) (Some p.number) ≡ lesser found x) ps (λ p stays e. grind (arith, stays e)) h
 
 -- ---- one more look
 

@@ -9,7 +9,7 @@ use Rattle.pivot_check.specs.declared.bound.Bound.{Bound}
 -- a bound of one posting more
 pub more_from : (b next : Bound) (ps : List Posting) → ((p : Posting) → is_from_bound b p ≡ true → is_from_bound next p ≡ true) → are_from_bound b ps ≡ true → are_from_bound next ps ≡ true
 more_from b next [] keeps h = refl
-more_from b next (p ∷ ps) keeps h = let parts = and_parts _ _ h in and_from _ _ (keeps p parts.0) (more_from b next ps keeps parts.1)
+more_from b next (p ∷ ps) keeps h = grind (arith, keeps p, more_from b next ps keeps)
 
 pub pushed_from : (b : Bound) (ps : List Posting) (p : Posting) → are_from_bound b ps ≡ true → is_from_bound b p ≡ true → are_from_bound b (ps ++ p ∷ []) ≡ true
 pushed_from b ps p h e = list_all-append (is_from_bound b) ps (p ∷ []) ∙ and_from _ _ h (and_from _ _ e refl)
@@ -26,15 +26,13 @@ pub kept : (found : Option ℕ) (last most b : ℕ) (flagged : Bool) (bound : Bo
     → (ps : List Posting) → AllByRecursion (λ p. p.number ≤ last) ps → are_from_bound bound ps ≡ true → KeepsFound found b flagged ps
 kept found last most b flagged bound above asked [] upto from = tt
 kept found last most b flagged bound above asked (p ∷ ps) upto from =
-    let parts = and_parts _ _ from in
-    ((λ e. above p.number upto.0 (asked p parts.0 e)), kept found last most b flagged bound above asked ps upto.1 parts.1)
+    grind (arith, above p.number upto.0, asked p, kept found last most b flagged bound above asked ps upto.1)
 
 pub passed_over : (found : Option ℕ) (b : ℕ) (flagged : Bool) (c : Posting → Bool) → ((p : Posting) → c p ≡ true → is_asked b flagged p ≡ true)
     → (ps : List Posting) → KeepsFound found b flagged ps → found ≡ lesser found (least c ps)
 passed_over found b flagged c asks [] h = sym (lesser_none found)
 passed_over found b flagged c asks (p ∷ ps) h =
-    let first = λ (e : c p ≡ true). h.0 (asks p e) in
-    grind (arith, lesser_assoc found (Some p.number) (least c ps), passed_over found b flagged c asks ps h.1)
+    grind (arith, asks p, h.0, lesser_assoc found (Some p.number) (least c ps), passed_over found b flagged c asks ps h.1)
 
 -- ---- parts of a list
 
@@ -55,15 +53,13 @@ kept_part found b flagged a n x y ps low order high h =
     ∙ ap (take (y - x)) (drop-drop m a ps ∙ ap (λ k. drop k ps) (sym there)) in
     subst (KeepsFound found b flagged) part (all-take _ (drop m (take n (drop a ps))) (y - x) (all_left _ m (take n (drop a ps)) h))
 
-none_between : (a e : ℕ) (ps : List Posting) → e ≤ a → between a e ps ≡ []
-none_between a e ps le = let none : e - a ≡ 0 = omega arith in ap (λ k. take k (drop a ps)) none
-
 -- the postings up to the next place, and those behind it
 pub split_at : (a n e : ℕ) (ps : List Posting) → a ≤ e → a ≤ n → between a (min e n) ps ++ between n e ps ≡ between a e ps
 split_at a n e ps order le = elim (cases_lt e n) [
   | inl past ↦
       let low : min e n ≡ e = omega arith in
-      (λ i. between a (low i) ps ++ none_between n e ps (omega arith) i) ∙ append-nil (between a e ps)
+      let none : e - n ≡ 0 = omega arith in
+      (λ i. between a (low i) ps ++ take (none i) (drop n ps)) ∙ append-nil (between a e ps)
   | inr within ↦
       let low : min e n ≡ n = omega arith in
       let sum : e - a ≡ (n - a) + (e - n) = omega arith in
@@ -92,8 +88,8 @@ pub set_from : (b : Bound) (ps : List Posting) (i : ℕ) (q d : Posting) (m n : 
     → are_from_bound b (take n (drop m ps)) ≡ true → are_from_bound b (take n (drop m (set ps i q))) ≡ true
 set_from b [] i q d m n number flag h = h
 set_from b (p ∷ ps) i q d zero zero number flag h = refl
-set_from b (p ∷ ps) zero q d zero (suc n) number flag h = let parts = and_parts _ _ h in and_from _ _ (same_from b p q number flag parts.0) parts.1
-set_from b (p ∷ ps) (suc i) q d zero (suc n) number flag h = let parts = and_parts _ _ h in and_from _ _ parts.0 (set_from b ps i q d zero n number flag parts.1)
+set_from b (p ∷ ps) zero q d zero (suc n) number flag h = grind (arith, same_from b p q number flag)
+set_from b (p ∷ ps) (suc i) q d zero (suc n) number flag h = grind (arith, set_from b ps i q d zero n number flag)
 set_from b (p ∷ ps) zero q d (suc m) n number flag h = h
 set_from b (p ∷ ps) (suc i) q d (suc m) n number flag h = set_from b ps i q d m n number flag h
 

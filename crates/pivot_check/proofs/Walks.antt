@@ -19,11 +19,10 @@ from_le a b low le lt = grind (arith, common_steps, less_trans a b low, same_key
 
 -- of two postings the later has no lower key
 rise_at : (ps : List Posting) → keys_rise ps ≡ true → (i j : ℕ) (d : Posting) → i ≤ j → j < length ps → is_le (key_cmp (get_or ps i d).key (get_or ps j d).key) ≡ true
-rise_at [] h i j d le lt = absurd (omega arith)
 rise_at (p ∷ ps) h zero zero d le lt = ap is_le (itself p.key)
 rise_at (p ∷ ps) h zero (suc j) d le lt = all-get (λ q. is_le (key_cmp p.key q.key) ≡ true) ps j d (omega arith) (all-pass (λ q. is_le (key_cmp p.key q.key)) ps (and_parts _ _ h).0)
-rise_at (p ∷ ps) h (suc i) zero d le lt = absurd (omega arith)
 rise_at (p ∷ ps) h (suc i) (suc j) d le lt = rise_at ps (and_parts _ _ h).1 i j d (omega arith) (omega arith)
+rise_at _ h i j d le lt = absurd (omega arith)
 
 pub rest_rises : (ps : List Posting) (i : ℕ) → keys_rise ps ≡ true → keys_rise (drop i ps) ≡ true
 rest_rises ps zero h = h
@@ -69,8 +68,7 @@ later_uncovered m p q le from e = grind (arith, common_steps, covers_above m p.k
 pub first_uncovered : (m : Mark) (c : Posting → Bool) (ps : List Posting) (p : Posting) → Some p ≡ slice_get ps 0 → keys_rise ps ≡ true → are_from (start_of m) ps ≡ true → covers m p.key ≡ false → least (λ p. covers m p.key && c p) ps ≡ None
 first_uncovered m c [] p is rising from e = refl
 first_uncovered m c (q ∷ ps) p is rising from e =
-    let same : p ≡ q = cc in
-    let first : covers m q.key ≡ false = ap (λ (x : Posting). covers m x.key) (sym same) ∙ e in
+    let first : covers m q.key ≡ false = cc in
     let begins = not-true _ (and_parts _ _ from).0 in
     let later = all-pass (λ x. is_le (key_cmp q.key x.key)) ps (and_parts _ _ rising).0 in
     least_none (λ x. covers m x.key) c (q ∷ ps) (first, all-each _ _ ps (λ x le. later_uncovered m q x le begins first) later)
@@ -84,10 +82,8 @@ parted_covered m ps h from i j d le lt e = true_from_ne_false _ (λ f.
 pub covered_first : (m : Mark) (c : Posting → Bool) (ps : List Posting) (i : ℕ) → IsPartitionPoint (λ p. covers m p.key ≡ true) (λ p. covers m p.key ≡ false) ps i
     → least (λ p. covers m p.key && c p) ps ≡ least c (take i ps)
 covered_first m c ps i h =
-    let split = least_split (λ p. covers m p.key && c p) i ps in
-    let none = least_none (λ p. covers m p.key) c (drop i ps) (behind (λ p. covers m p.key) ps i h) in
-    let all = least_all (λ p. covers m p.key) c (take i ps) (before (λ p. covers m p.key) ps i h) in
-    grind (arith, lesser_none)
+    let t = λ (p : Posting). covers m p.key in
+    grind (arith, lesser_none, least_split (λ p. covers m p.key && c p) i ps, least_none t c (drop i ps) (behind t ps i h), least_all t c (take i ps) (before t ps i h))
 
 -- ---- where the walk begins
 
@@ -114,9 +110,7 @@ pub rise_between : (w : Posting) (ms ys : List Posting) → AllByRecursion (λ m
     → keys_rise (ms ++ ys) ≡ true → keys_rise (ms ++ w ∷ ys) ≡ true
 rise_between w [] ys below from h = and_from _ _ from h
 rise_between w (m ∷ ms) ys below from h =
-    let low = below.0 in
-    let whole = list_all-append (λ q. is_le (key_cmp m.key q.key)) ms (w ∷ ys) in
-    grind (arith, list_all-append (λ q. is_le (key_cmp m.key q.key)) ms ys, rise_between w ms ys below.1 from)
+    grind (arith, below.0, list_all-append (λ q. is_le (key_cmp m.key q.key)) ms, rise_between w ms ys below.1 from)
 
 pub inserted_rises : (p : Posting) (ps : List Posting) (i : ℕ) → i ≤ length ps → keys_rise ps ≡ true →
     IsPartitionPoint (λ q. is_le (key_cmp q.key p.key) ≡ true) (λ q. is_le (key_cmp q.key p.key) ≡ false) ps i → keys_rise (insert ps i p) ≡ true
@@ -127,8 +121,7 @@ inserted_rises p ps i le rising h =
 
 pub inserted_least : (c : Posting → Bool) (ps : List Posting) (i : ℕ) (p : Posting) → least c (insert ps i p) ≡ lesser (least c ps) (least c (p ∷ []))
 inserted_least c ps i p =
-    let whole = least-append c (take i ps) (p ∷ drop i ps) in
-    grind (arith, lesser_none, lesser_comm, lesser_assoc, least_split c i ps)
+    grind (arith, lesser_none, lesser_comm, lesser_assoc, least_split c i ps, least-append c (take i ps) (p ∷ drop i ps))
 
 -- ---- several marks
 

@@ -15,7 +15,7 @@ pub use Rattle.std.specs.Prelude.{All, find, is_some, IsPermutation, max, min, n
 pub use Rattle.last_readers.specs.Readers.{after, cut, HasRoom, IsForgotten, IsNoted, last_reader, Readers, ReadersRoom}
 pub use Rattle.marks.specs.Lent.{lent_mark}
 pub use Rattle.marks.specs.Marked.{mark_of, marks_of, start_of}
-pub use Rattle.model.proofs.Elements.{all-append, all-each, all-get, all-map, all-pass, all-take}
+pub use Rattle.model.proofs.Elements.{all-append, all-each, all-filter, all-get, all-map, all-pass, all-take}
 pub use Rattle.model.proofs.Members.{at_in, Contains-from_in, each_in, In, in_from_Contains, IsRising, rising_from_numbered}
 pub use Rattle.model.proofs.Pivots.{any_alike, any_filter, any_same, earlier_target-push, find_alike, find_same, has_earlier_target, or_false, own_earlier_target, read_write_kept, stands_between, verdict_by_kept}
 pub use Rattle.model.specs.History.{IsNumberedFrom, Record}

@@ -21,8 +21,7 @@ least_alike c d same (p ∷ ps) = λ i. lesser (cond (same p i) (Some p.number) 
 all_postings-push : (c : Posting → Bool) (rs : List KeptRecord) (r : KeptRecord) → least c (all_postings (rs ++ r ∷ [])) ≡ lesser (least c (all_postings rs)) (least c (postings_of r))
 all_postings-push c [] r = least-append c (postings_of r) [] ∙ lesser_none (least c (postings_of r))
 all_postings-push c (s ∷ rs) r =
-    let whole = least-append c (postings_of s) (all_postings (rs ++ r ∷ [])) in
-    grind (arith, lesser_assoc, least-append c (postings_of s) (all_postings rs), all_postings-push c rs r)
+    grind (arith, lesser_assoc, least-append c (postings_of s), all_postings-push c rs r)
 
 -- ---- forgetting
 
@@ -37,8 +36,7 @@ postings_pass o n flag (k ∷ ks) = grind (arith, postings_pass o n flag ks)
 all_pass : (o : ℕ) (rs : List KeptRecord) → filter (λ p. nat_lt o p.number) (all_postings rs) ≡ all_postings (filter (λ r. nat_lt o r.commit) rs)
 all_pass o [] = refl
 all_pass o (r ∷ rs) =
-    let parts = filter-append (λ p. nat_lt o p.number) (postings_of r) (all_postings rs) in
-    grind (arith, postings_pass o r.commit r.has_earlier_target r.keys, all_pass o rs)
+    grind (arith, postings_pass o r.commit r.has_earlier_target r.keys, all_pass o rs, filter-append (λ p. nat_lt o p.number) (postings_of r))
 
 -- a test that passes numbers above b alone needs no other that they are above o
 above_both : (o b n : ℕ) → o ≤ b → (x y : Bool) → (nat_lt o n && (x && (nat_lt b n && y))) ≡ (x && (nat_lt b n && y))
@@ -56,10 +54,7 @@ forgotten o newer ps qs rs are le same c =
 pub noted : (o : ℕ) (ps qs : List Posting) (rs : List KeptRecord) (r : KeptRecord) → AreWriters o ps rs → o < r.commit
     → ((c : Posting → Bool) → least c qs ≡ lesser (least c ps) (least c (postings_of r))) → AreWriters o qs (rs ++ r ∷ [])
 noted o ps qs rs r are lt added c =
-    let own = least-filter c (λ p. nat_lt o p.number) (postings_of r) in
-    let pass = postings_pass o r.commit r.has_earlier_target r.keys in
-    let more = added (λ p. nat_lt o p.number && c p) in
-    grind (arith, nat_tests, are c, all_postings-push c rs r)
+    grind (arith, nat_tests, are c, all_postings-push c rs r, added (λ p. nat_lt o p.number && c p), least-filter c (λ p. nat_lt o p.number) (postings_of r), postings_pass o r.commit r.has_earlier_target r.keys)
 
 -- no number of them is above their own
 pub by_upto : (n : ℕ) (flag : Bool) (ks : List Bytes) → least (λ p. nat_lt n p.number) (postings_by n flag ks) ≡ None
@@ -91,9 +86,7 @@ module _ (d : Bytes → Bool) (e : Bool → Bool) (b : ℕ) where
   of_all : (rs : List KeptRecord) → IsRising rs → least asks (all_postings rs) ≡ first_number passes (after_b rs)
   of_all [] rise = refl
   of_all (r ∷ rs) rise =
-      let own = of_record r.commit r.has_earlier_target r.keys in
-      let split = least-append asks (postings_of r) (all_postings rs) in
-      grind (arith, found_above r.commit rs rise.0, of_all rs rise.1)
+      grind (arith, found_above r.commit rs rise.0, of_all rs rise.1, of_record r.commit r.has_earlier_target r.keys, least-append asks (postings_of r) (all_postings rs))
 
   asked : (o : ℕ) (ps : List Posting) (rs : List KeptRecord) → AreWriters o ps rs → o ≤ b → IsRising rs → least asks ps ≡ first_number passes (after_b rs)
   asked o ps rs are le rise =

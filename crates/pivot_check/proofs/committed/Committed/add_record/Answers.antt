@@ -1,5 +1,5 @@
-use Rattle.pivot_check.proofs.Words.{◌≡◌, ◌+◌, Bool, sym, ap, subst, arith, last_reader, IsNoted, HasRoom as HasReadersRoom, ReadersRoom, CommittedValue, keys_of, Posting, postings_by, least, lesser, postings_in}
-use Rattle.pivot_check.proofs.{Judging.notes, Judging.nothing, Judging.upto_own, LastSources.noted_upto, LastSources.noted_above}
+use Rattle.pivot_check.proofs.Words.{nil_from_length, ◌≡◌, ◌+◌, Bool, sym, ap, subst, arith, last_reader, IsNoted, HasRoom as HasReadersRoom, ReadersRoom, CommittedValue, keys_of, Posting, postings_by, least, lesser, postings_in}
+use Rattle.pivot_check.proofs.{Judging.notes, Judging.upto_own, LastSources.noted_upto, LastSources.noted_above}
 use Rattle.pivot_check.proofs.committed.Committed.add_record.Goals as goal
 
 -- what was made ready has the keys of the transaction
@@ -13,7 +13,7 @@ read : (c : goal.After-self-1) → IsNoted c.args.tx.now.marks c.args.n c.args.s
 read c = λ k. grind (arith, noted c k)
 
 added : (c : goal.After-self-1) (t : Posting → Bool) → least t (postings_in c.add_run.new.runs.runs) ≡ lesser (least t c.args.self.now.facts.postings) (least t (postings_by c.args.n c.args.has_earlier_target c.in-Some.ready.keys.items))
-added c t = grind (arith, c.add_run.ensures.same t, c.add_all.ensures.added t, nothing c.in-Some.ready.places.items c.in-Some.ready.none)
+added c t = grind (arith, c.add_run.ensures.same t, c.add_all.ensures.added t, nil_from_length c.in-Some.ready.places.items c.in-Some.ready.none)
 
 pub add_run-requires-clause-upto : goal.add_run-requires-clause-upto
 add_run-requires-clause-upto c = upto_own c.args.n c.args.has_earlier_target c.in-Some.ready.keys.items c.in-Some.ready.places.items c.add_all.new.postings.items c.in-Some.ready.none c.add_all.ensures.added
