@@ -1,5 +1,5 @@
 -- Of two tests of records the ends decide: the first record that passes the one, and the last that passes the other.
-use Rattle.pivot_check.proofs.Words.{◌≡◌, ◌<◌, ℕ, Bool, true, ◌&&◌, List, [], ◌∷◌, Option, Some, None, refl, ap, ◌∙◌, arith, nat_le, find, list_any, AllByRecursion, option_map, nat_tests, Record, IsRising, any_alike, last_that, are_in_order}
+use Rattle.pivot_check.proofs.Words.{◌≡◌, ◌<◌, ℕ, Bool, true, ◌&&◌, List, [], ◌∷◌, Option, Some, refl, ap, ◌∙◌, arith, nat_le, find, list_any, AllByRecursion, option_map, nat_tests, Record, IsRising, any_alike, last_that, are_in_order}
 
 abbrev pub number_of : Option Record → Option ℕ
 number_of o = option_map (λ (r : Record). r.commit) o
@@ -20,8 +20,7 @@ last_above n p (r ∷ rs) above m is = let low = above.0 in grind (arith, last_a
 
 -- some that passes has a number from that one on: the last has
 by_last : (o : Option ℕ) (p : Record → Bool) (rs : List Record) → IsRising rs → list_any (λ x. p x && are_in_order o (Some x.commit)) rs ≡ are_in_order o (number_of (last_that p rs))
-by_last None p [] rise = refl
-by_last (Some m) p [] rise = refl
+by_last o p [] rise = grind arith
 by_last o p (r ∷ rs) rise = grind (arith, nat_tests, last_above r.commit p rs rise.0, by_last o p rs rise.1)
 
 -- some x passes p, and some y that passes q committed no later

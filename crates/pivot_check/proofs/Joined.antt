@@ -51,9 +51,7 @@ at_rest c made first second none = grind (arith, lesser_none, three c (live made
 pub joined : (c : Posting → Bool) (was more : WrittenRun) (made first : Part) → left was.first + left was.second ≡ 0 → left more.first + left more.second ≡ 0 → left made ≡ 0 → first ≡ was.made
     → least c (live_in made first more.made) ≡ lesser (least c (in_run was)) (least c (in_run more))
 joined c was more made first rest rests none is =
-    three c (live made) (live first) (live more.made)
-    ∙ (λ i. lesser (least c (none_left made none i)) (lesser (least c (live (is i))) (least c (live more.made))))
-    ∙ (λ i. lesser (sym (at_rest c was.made was.first was.second rest) i) (sym (at_rest c more.made more.first more.second rests) i))
+    grind (arith, three c (live made) (live first) (live more.made), none_left made none, at_rest c was.made was.first was.second rest, at_rest c more.made more.first more.second rests)
 
 -- ---- numbers
 

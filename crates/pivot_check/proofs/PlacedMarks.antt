@@ -1,5 +1,5 @@
 -- Marks by their places, in whatever order.
-use Rattle.pivot_check.proofs.Words.{◌≡◌, ◌≤◌, ◌<◌, ◌+◌, ℕ, zero, suc, Bool, false, ◌&&◌, ◌||◌, List, [], ◌∷◌, Option, None, length, get_or, take, drop, refl, sym, ap, ◌∙◌, add-one, arith, IsPermutation, list_any, take_all, drop_all, at_drop_all, at_drop_more, list_any-append, Bytes, Mark, covers, is_covered, or_false, mark_of, marks_of, Posting, least, lesser, is_asked, asked_of, covered_of, places_upto, is_covered_at, covered_at, AreAllPlaces, lesser_none, lesser_assoc}
+use Rattle.pivot_check.proofs.Words.{◌≡◌, ◌≤◌, ◌<◌, ◌+◌, ℕ, zero, suc, Bool, ◌&&◌, List, [], ◌∷◌, Option, None, length, get_or, take, drop, refl, sym, ap, ◌∙◌, arith, IsPermutation, list_any, take_all, drop_all, at_drop_all, at_drop_more, list_any-append, Bytes, Mark, covers, is_covered, or_false, mark_of, marks_of, Posting, least, lesser, is_asked, asked_of, covered_of, places_upto, is_covered_at, covered_at, AreAllPlaces, lesser_none, lesser_assoc}
 use Rattle.std.proofs.{Math.Seq.take-add, lemmas.List.Sorted.list_any-IsPermutation}
 use Rattle.marks.specs.declared.owned.OwnedMark.{OwnedMark}
 use Rattle.marks.proofs.MarkLaws.{length-marks_of}
@@ -10,10 +10,7 @@ use Rattle.pivot_check.proofs.{Walks.least-or, Walks.none_asked, Writers.least_a
 upto_covered : (ms : List Mark) (k : Bytes) (n : ℕ) → list_any (λ i. is_covered (take 1 (drop i ms)) k) (places_upto n) ≡ is_covered (take n ms) k
 upto_covered ms k zero = refl
 upto_covered ms k (suc n) =
-    list_any-append (λ i. is_covered (take 1 (drop i ms)) k) (places_upto n) (n ∷ [])
-    ∙ (λ i. upto_covered ms k n i || or_false (is_covered (take 1 (drop n ms)) k) i)
-    ∙ sym (list_any-append (λ m. covers m k) (take n ms) (take 1 (drop n ms)))
-    ∙ ap (λ l. is_covered l k) (sym (take-add n 1 ms) ∙ ap (λ j. take j ms) (add-one n))
+    grind (arith, upto_covered ms k n, list_any-append (λ i. is_covered (take 1 (drop i ms)) k) (places_upto n) (n ∷ []), list_any-append (λ m. covers m k) (take n ms) (take 1 (drop n ms)), take-add n 1 ms)
 
 -- in whatever order the places of all marks stand, these cover the same
 pub in_any_order : (hs : List OwnedMark) (places : List ℕ) → IsPermutation (places_upto (length hs)) places → AreAllPlaces (marks_of hs) places
@@ -38,27 +35,22 @@ pub asked_at : (hs : List OwnedMark) (i : ℕ) (h : OwnedMark) (b : ℕ) (flagge
     → least (covered_at (marks_of hs) (i ∷ []) b flagged) ps ≡ least (asked_of (mark_of h) b flagged) ps
 asked_at hs i h b flagged ps lt is = least_alike _ _ (λ p. ap (λ x. x && is_asked b flagged p) (or_false _ ∙ covers_at hs i h p.key lt is)) ps
 
-none_at : (hs : List OwnedMark) (i : ℕ) (k : Bytes) → length hs ≤ i → is_covered (take 1 (drop i (marks_of hs))) k ≡ false
-none_at hs i k le = ap (λ ms. is_covered (take 1 ms) k) (drop_all i (marks_of hs) (omega (arith, length-marks_of hs)))
-
 -- nothing is asked where no mark stands
 pub asked_past : (hs : List OwnedMark) (i : ℕ) (b : ℕ) (flagged : Bool) (ps : List Posting) → length hs ≤ i → least (covered_at (marks_of hs) (i ∷ []) b flagged) ps ≡ None
-asked_past hs i b flagged ps le = least_alike _ _ (λ p. ap (λ x. x && is_asked b flagged p) (or_false _ ∙ none_at hs i p.key le)) ps ∙ none_asked (is_asked b flagged) ps
+asked_past hs i b flagged ps le = least_alike _ _ (λ p. ap (λ x. x && is_asked b flagged p) (or_false _ ∙ ap (λ ms. is_covered (take 1 ms) p.key) (drop_all i (marks_of hs) (omega (arith, length-marks_of hs))))) ps ∙ none_asked (is_asked b flagged) ps
 
 -- ---- a walk over places
 
 pub no_place_left : (ms : List Mark) (places : List ℕ) (i : ℕ) (b : ℕ) (flagged : Bool) (ps : List Posting) (found whole : Option ℕ) → length places ≤ i
     → lesser found (least (covered_at ms (drop i places) b flagged) ps) ≡ whole → found ≡ whole
 no_place_left ms places i b flagged ps found whole le known =
-    sym (lesser_none found) ∙ ap (lesser found) (sym (at_drop_all (λ l. least (covered_at ms l b flagged) ps) places i le ∙ none_asked (is_asked b flagged) ps)) ∙ known
+    grind (arith, lesser_none, at_drop_all (λ l. least (covered_at ms l b flagged) ps) places i le, none_asked (is_asked b flagged) ps)
 
 pub next_place : (ms : List Mark) (places : List ℕ) (i : ℕ) (b : ℕ) (flagged : Bool) (ps : List Posting) (found next whole : Option ℕ) → i < length places
     → next ≡ lesser found (least (covered_at ms (get_or places i 0 ∷ []) b flagged) ps) → lesser found (least (covered_at ms (drop i places) b flagged) ps) ≡ whole
     → lesser next (least (covered_at ms (drop (i + 1) places) b flagged) ps) ≡ whole
 next_place ms places i b flagged ps found next whole lt more known =
     let x = get_or places i 0 in
-    let left = least (covered_at ms (drop (i + 1) places) b flagged) ps in
     let here = least-or (λ p. is_covered (take 1 (drop x ms)) p.key) (λ p. is_covered_at ms (drop (i + 1) places) p.key) (is_asked b flagged) ps in
     let alone = least_alike _ _ (λ p. ap (λ y. y && is_asked b flagged p) (or_false (is_covered (take 1 (drop x ms)) p.key))) ps in
-    ap (λ o. lesser o left) (more ∙ ap (lesser found) alone) ∙ lesser_assoc found _ left
-    ∙ ap (lesser found) (sym (at_drop_more (λ l. least (covered_at ms l b flagged) ps) places i 0 lt ∙ here)) ∙ known
+    grind (arith, lesser_assoc, at_drop_more (λ l. least (covered_at ms l b flagged) ps) places i 0 lt)

@@ -2,6 +2,7 @@ use Rattle.pivot_check.proofs.Words.{◌≡◌, ◌++◌, ℕ, true, length, sub
 use Rattle.std.specs.Prelude.{◌&&◌}
 use Rattle.std.specs.Vec.{vec_capacity}
 use Rattle.pivot_check.proofs.Joined.{both_agree, joined, both_upto, none_left}
+use Rattle.pivot_check.specs.declared.part.Part.{Part}
 use Rattle.pivot_check.proofs.merges.WrittenRunRun.join.Goals as goal
 
 pub invariant_of-self : goal.invariant_of-self
@@ -15,13 +16,10 @@ invariant_of-self c =
     let empty = (λ i. length (after i).written.items) ∙ c.requires.room.0 in
     let none : left made ≡ 0 = omega (arith, empty) in
     let nothing = none_left made none in
-    let first_left : left first ≡ left was.made = ap left value in
-    let capacity : vec_capacity made.written ≡ vec_capacity c.args.places.written = (λ i. vec_capacity (after i).written) in
-    let room = c.requires.room.1 in
     record {
       first_rises = (λ i. keys_rise (nothing i ++ live (value i))) ∙ was.made.rising;
       second_rises = (λ i. keys_rise (nothing i ++ live more.made)) ∙ more.made.rising;
-      room = omega (arith, empty, first_left, capacity, room);
+      room = omega (arith, empty, ap left value, ap (λ (p : Part). vec_capacity p.written) after, c.requires.room.1);
       upto = subst (λ (n : ℕ). are_upto n (live_in made first more.made) ≡ true) (sym c.max-self.ensures)
           (both_upto was.last more.last (in_run was) (in_run more) (live_in made first more.made) was.upto more.upto (λ t. joined t was more made first c.requires.first c.requires.second none value));
     }

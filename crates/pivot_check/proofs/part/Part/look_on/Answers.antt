@@ -3,11 +3,8 @@ use Rattle.pivot_check.proofs.Looking.{looked_before, looked_anew, looked_furthe
 use Rattle.pivot_check.proofs.part.Part.look_on.Goals as goal
 
 pub returns-then-span-seen-clause-looked : goal.returns-then-span-seen-clause-looked
-returns-then-span-seen-clause-looked c = record {
-  order = c.requires.order;
-  within = c.requires.within;
-  kept = looked_anew c.args.looked.found c.least_between-found.result c.args.begin c.args.flagged (between c.args.span.first c.args.span.end c.args.self.now.written.items) c.least_between-found.ensures;
-}
+returns-then-span-seen-clause-looked c =
+    assumption (looked_anew c.args.looked.found c.least_between-found.result c.args.begin c.args.flagged (between c.args.span.first c.args.span.end c.args.self.now.written.items) c.least_between-found.ensures)
 
 pub returns-then-span-seen-2-clause-found : goal.returns-then-span-seen-2-clause-found
 returns-then-span-seen-2-clause-found c = looked_before c.args.looked.found c.args.begin c.args.flagged c.args.looked.seen.first c.args.looked.seen.end c.args.span.first c.args.span.end c.args.self.now.written.items

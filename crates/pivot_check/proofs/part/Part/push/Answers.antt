@@ -8,13 +8,11 @@ invariant_of-self c =
     let ps = part.written.items in
     let w = c.args.written in
     let is = c.push_reserved.ensures.items in
-    let within = part.within in
-    let whole = part.whole in
     let longer = ap length is ∙ length_push ps w in
     record {
-      within = omega (arith, within, longer);
-      rising = ap (λ l. keys_rise (drop part.start l)) is ∙ ap keys_rise (drop-append-le part.start ps (w ∷ []) within) ∙ c.requires.rising;
+      within = omega (arith, part.within, longer);
+      rising = ap (λ l. keys_rise (drop part.start l)) is ∙ ap keys_rise (drop-append-le part.start ps (w ∷ []) part.within) ∙ c.requires.rising;
       bounded = ap (are_from_bound c.with-self.result) is ∙ pushed_from c.with-self.result ps w (more_from part.bound c.with-self.result ps c.with-self.ensures.others part.bounded) c.with-self.ensures.posting;
-      blocks = subst (AreBounds part.bounds.items) (sym is) (bounds_stay part.bounds.items ps w whole part.blocks);
-      whole = omega (arith, whole, longer);
+      blocks = subst (AreBounds part.bounds.items) (sym is) (bounds_stay part.bounds.items ps w part.whole part.blocks);
+      whole = omega (arith, part.whole, longer);
     }

@@ -1,4 +1,4 @@
-use Rattle.pivot_check.proofs.Words.{◌<◌, ◌+◌, ◌*◌, length, drop, ap, sym, ◌∙◌, arith, drop-drop, drop-set-lt, length-set, Posting, keys_rise}
+use Rattle.pivot_check.proofs.Words.{◌+◌, ◌*◌, drop, ap, sym, ◌∙◌, arith, drop-drop, drop-set-lt, length-set, Posting, keys_rise}
 use Rattle.pivot_check.proofs.{Walks.rest_rises, Passing.set_from, Passing.set_all}
 use Rattle.pivot_check.proofs.part.Part.take_first.Goals as goal
 
@@ -9,15 +9,12 @@ invariant_of-self c =
     let i = part.start in
     let was = c.index_mut.result.now in
     let is = c.take-written.new.self in
-    let some : i < length ps = c.requires in
     let number = c.take-written.ensures.number ∙ ap (λ (p : Posting). p.number) c.index_mut.ensures.value in
     let flag = c.take-written.ensures.flag ∙ ap (λ (p : Posting). p.has_earlier_target) c.index_mut.ensures.value in
-    let long = length-set ps i is in
-    let whole = part.whole in
     record {
-      within = omega (arith, some, long);
+      within = omega (arith, c.requires, length-set ps i is);
       rising = ap keys_rise (drop-set-lt (i + 1) ps i is (omega arith) ∙ sym (drop-drop 1 i ps)) ∙ rest_rises (drop i ps) 1 part.rising;
       bounded = set_all part.bound ps i is was number flag part.bounded;
       blocks = λ j b lt. set_from _ ps i is was (64 * j) 64 number flag (part.blocks j b lt);
-      whole = omega (arith, whole, long);
+      whole = omega (arith, part.whole, length-set ps i is);
     }
