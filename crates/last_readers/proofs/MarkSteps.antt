@@ -1,5 +1,5 @@
 -- The steps of marks.
-use Rattle.last_readers.proofs.Words.{◌≡◌, ◌-◌, ℕ, zero, suc, Bool, cond, ◌||◌, List, [], ◌∷◌, None, length, take, drop, refl, ap, ◌∙◌, arith, Less, Equal, Greater, nat_tests, take_rest, Bytes, key_cmp, by_order, span_at, later, turned, same_keys, less_trans}
+use Rattle.last_readers.proofs.Words.{◌≡◌, ◌-◌, ℕ, zero, suc, cond, ◌||◌, List, [], ◌∷◌, None, length, take, drop, refl, arith, Less, Equal, Greater, nat_tests, take_rest, Bytes, key_cmp, by_order, span_at, later, turned, same_keys, less_trans}
 use Rattle.std.specs.Cmp.Lexicographic.{nat_list_cmp_total}
 use Rattle.model.specs.{PrivateCopy.covers, PrivateCopy.is_covered, PrivateCopy.Mark.OfKey, PrivateCopy.Mark.OfRange}
 use Rattle.marks.specs.{declared.owned.OwnedMark.OwnedMark, Marked.marks_of}
@@ -25,9 +25,6 @@ no_step lo end at k e = grind (arith, turned lo end, turned end k, less_trans en
 
 -- ---- several marks
 
-both_halves : (a b : Bool) → later 0 (cond a 1 0) (cond b 1 0) ≡ cond (a || b) 1 0
-both_halves a b = grind (arith, nat_tests)
-
 covered_by_halves : (hs : List OwnedMark) (i : ℕ) (k : Bytes) → (is_covered (marks_of (take i hs)) k || is_covered (marks_of (drop i hs)) k) ≡ is_covered (marks_of hs) k
 covered_by_halves hs zero k = refl
 covered_by_halves [] (suc i) k = refl
@@ -36,6 +33,4 @@ covered_by_halves (h ∷ hs) (suc i) k = grind (arith, covered_by_halves hs i k)
 -- the two halves of the marks as one
 pub both_covered : (hs : List OwnedMark) (i : ℕ) (k : Bytes) → later 0 (cond (is_covered (marks_of (take i hs)) k) 1 0) (cond (is_covered (marks_of (take (length hs - i) (drop i hs))) k) 1 0) ≡ cond (is_covered (marks_of hs) k) 1 0
 both_covered hs i k =
-    ap (λ (l : List OwnedMark). later 0 (cond (is_covered (marks_of (take i hs)) k) 1 0) (cond (is_covered (marks_of l) k) 1 0)) (take_rest hs i)
-    ∙ both_halves (is_covered (marks_of (take i hs)) k) (is_covered (marks_of (drop i hs)) k)
-    ∙ ap (λ b. cond b 1 0) (covered_by_halves hs i k)
+    grind (arith, nat_tests, take_rest hs i, covered_by_halves hs i k)

@@ -82,9 +82,7 @@ module _ (o : ℕ) (xs xs' ys ys' ts : List StepValue) (m : StepValue) (j : IsJo
   -- what is left of both, and the step, have the number of both
   together : (k : Bytes) → cut o (by_order (key_cmp k m.key) (max (number_at xs' k) (number_at ys' k)) m.at m.above) ≡ cut o (max (number_at xs k) (number_at ys k))
   together k =
-      let up = turned k m.key in
-      let same = same_keys k m.key in
-      grind (arith, nat_tests, j.at, j.above, j.first.below k, j.second.below k, j.first.above k, j.second.above k)
+      grind (arith, nat_tests, turned k m.key, same_keys k m.key, j.at, j.above, j.first.below k, j.second.below k, j.first.above k, j.second.above k)
 
   -- it stands in front of the others
   in_front : are_over m.key ts ≡ true → (b : ℕ) (k : Bytes) → number_from b (m ∷ ts) k ≡ number_from (by_order (key_cmp k m.key) b m.at m.above) ts k
@@ -94,11 +92,7 @@ module _ (o : ℕ) (xs xs' ys ys' ts : List StepValue) (m : StepValue) (j : IsJo
   nothing_new : is_level (later o (end_of xs') (end_of ys')) m ≡ true → (k : Bytes) →
       cut o (max (number_at xs' k) (number_at ys' k)) ≡ cut o (by_order (key_cmp k m.key) (max (number_at xs' k) (number_at ys' k)) m.at m.above)
   nothing_new level k =
-      let up = turned k m.key in
-      let same = same_keys k m.key in
-      let first = under_more m.key k xs' in
-      let second = under_more m.key k ys' in
-      grind (arith, nat_tests, itself m.key, j.first.under, j.second.under, first, second, high 0 xs' k, high 0 ys' k)
+      grind (arith, nat_tests, turned k m.key, same_keys k m.key, itself m.key, j.first.under, j.second.under, under_more m.key k xs', under_more m.key k ys', high 0 xs' k, high 0 ys' k)
 
   moved_if : (b : Bool) → is_level (later o (end_of xs') (end_of ys')) m ≡ b → steps_rise (xs ++ ts) ≡ true → steps_rise (ys ++ ts) ≡ true → IsMoved o xs xs' ys ys' ts (if b then ts else m ∷ ts)
   moved_if true level first second = record {
@@ -121,14 +115,14 @@ module _ (o : ℕ) (xs xs' ys ys' ts : List StepValue) (m : StepValue) (j : IsJo
 
 pub ends_over : (xs ys init rest : List StepValue) (x y : StepValue) → steps_rise ys ≡ true → xs ≡ init ++ x ∷ [] → ys ≡ rest ++ y ∷ [] → key_cmp y.key x.key ≡ Less → EndsOver xs ys
 ends_over xs ys init rest x y h x_is y_is less = record {
-  some = (let len = ap length x_is in omega (arith, len, length_push init x));
+  some = omega (arith, ap length x_is, length_push init x);
   over = λ before w is. ap (λ (s : StepValue). are_under s.key ys) (sym (same_from_push init before x w (sym x_is ∙ is)).1) ∙ under_last ys rest y x.key y_is h less;
 }
 
 pub ends_equal : (xs ys init rest : List StepValue) (x y : StepValue) → xs ≡ init ++ x ∷ [] → ys ≡ rest ++ y ∷ [] → key_cmp x.key y.key ≡ Equal → EndsEqual xs ys
 ends_equal xs ys init rest x y x_is y_is e = record {
-  first = (let len = ap length x_is in omega (arith, len, length_push init x));
-  second = (let len = ap length y_is in omega (arith, len, length_push rest y));
+  first = omega (arith, ap length x_is, length_push init x);
+  second = omega (arith, ap length y_is, length_push rest y);
   same = λ before behind w v is was.
       ap (λ (s : StepValue). s.key) (sym (same_from_push init before x w (sym x_is ∙ is)).1) ∙ same_keys x.key y.key e
       ∙ ap (λ (s : StepValue). s.key) (same_from_push rest behind y v (sym y_is ∙ was)).1;

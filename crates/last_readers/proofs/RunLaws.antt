@@ -1,24 +1,20 @@
 -- The greatest numbers of several runs.
-use Rattle.last_readers.proofs.Words.{◌≡◌, ◌+◌, ℕ, List, [], ◌∷◌, ◌++◌, length, drop, sym, ap, ◌∙◌, arith, max, deque_len, nil_from_length, Bytes, StepValue, number_at, number_in, merged_at, cut, greatest_at}
+use Rattle.last_readers.proofs.Words.{◌≡◌, ◌+◌, ℕ, List, [], ◌∷◌, ◌++◌, length, drop, arith, max, deque_len, nil_from_length, Bytes, StepValue, number_at, number_in, merged_at, cut, greatest_at}
 use Rattle.last_readers.specs.{declared.run.ReadRun.ReadRun, Inside.run_of, Inside.runs_in, Agreeing.greatest-append}
 use Rattle.last_readers.proofs.StepLaws.{at_rest}
 
 pub greatest_added : (rs : List ReadRun) (r : ReadRun) (k : Bytes) → greatest_at (runs_in (rs ++ r ∷ [])) k ≡ max (greatest_at (runs_in rs) k) (number_in (run_of r) k)
-greatest_added rs r k = let all = greatest-append rs (r ∷ []) k in omega (arith, all)
+greatest_added rs r k = omega (arith, greatest-append rs (r ∷ []) k)
 
 -- a run at rest
 resting : (r : ReadRun) (k : Bytes) → deque_len r.first + deque_len r.second ≡ 0 → number_in (run_of r) k ≡ number_at r.made.items k
-resting r k none =
-    let first = r.first.ok.0 in
-    let second = r.second.ok.0 in
-    at_rest r.first.items r.second.items r.made.items k (omega (arith, first, none)) (omega (arith, second, none))
+resting r k none = at_rest r.first.items r.second.items r.made.items k (omega (arith, r.first.ok.0)) (omega (arith, r.second.ok.0))
 
 -- two runs at rest, of which nothing was made yet
 pub joined_runs : (first second : ReadRun) (xs made : List StepValue) (k : Bytes) → deque_len first.first + deque_len first.second ≡ 0 → deque_len second.first + deque_len second.second ≡ 0 → xs ≡ first.made.items → length made ≡ 0
     → merged_at xs second.made.items made k ≡ max (number_in (run_of first) k) (number_in (run_of second) k)
 joined_runs first second xs made k rest rests is none =
-    ap (λ (l : List StepValue). merged_at xs second.made.items l k) (nil_from_length made none) ∙ (λ i. max (number_at (is i) k) (number_at second.made.items k))
-    ∙ sym (λ i. max (resting first k rest i) (resting second k rests i))
+    grind (arith, nil_from_length made none, resting first k rest, resting second k rests)
 
 -- ---- a look-up in one run after another
 

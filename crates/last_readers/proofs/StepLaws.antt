@@ -1,7 +1,8 @@
 -- Steps by rising key, and the numbers at keys below, between and above them.
 use Rattle.last_readers.proofs.Words.{◌≡◌, ◌≤◌, ◌<◌, ◌-◌, ℕ, zero, suc, true, false, cond, ◌&&◌, List, [], ◌∷◌, ◌++◌, length, get_or, take, drop, map, ◌+◌, refl, sym, ap, ◌∙◌, arith, Less, is_eq, is_le, is_lt, nat_tests, take-append-drop, take_all, take_more, append-nil, nil_from_length, Bytes, key_cmp, StepValue, by_order, number_from, number_at, merged_at, end_from, end_of, are_over, steps_rise, are_under, in_place_of, renumbered, turned, less, turned_less, less_trans, lt_trans, lt_le_trans, le_of_lt, lt_of_not_le}
 use Rattle.std.specs.{List.Sorted.IsPartitionedBy, List.Sorted.IsPartitionPoint, Cmp.Lexicographic.nat_list_cmp_total}
-use Rattle.std.proofs.{lemmas.Bool.and_parts, lemmas.Bool.and_from, lemmas.List.Folds.list_all-append, lemmas.List.Folds.list_all-map}
+use Rattle.std.proofs.lemmas.{List.get_or-drop, List.length-drop, List.Sums.list_all-from_AllPass, List.Sums.AllPass-from_list_all}
+use Rattle.std.proofs.{lemmas.Bool.and_parts, lemmas.List.Folds.list_all-append, lemmas.List.Folds.list_all-map}
 
 -- ---- lists that rise
 
@@ -24,10 +25,7 @@ pub record Around (xs : List StepValue) (w : StepValue) (ts : List StepValue) : 
 
 pub around : (xs : List StepValue) (w : StepValue) (ts : List StepValue) → steps_rise (xs ++ w ∷ ts) ≡ true → Around xs w ts
 around [] w ts h = record { under = refl; over = h; without = (and_parts _ _ h).1 }
-around (x ∷ xs) w ts h =
-    let rest = around xs w ts (and_parts _ _ h).1 in
-    let all = over_both x xs (w ∷ ts) in
-    record { under = grind (arith, all, rest.under); over = rest.over; without = grind (arith, all, over_both x xs ts, rest.without) }
+around (x ∷ xs) w ts h = grind (arith, around xs w ts, over_both x xs)
 
 -- one more step between those below it and those above it
 pub put_between : (xs ts : List StepValue) (m : StepValue) → are_under m.key xs ≡ true → steps_rise (m ∷ ts) ≡ true → steps_rise (xs ++ ts) ≡ true → steps_rise (xs ++ m ∷ ts) ≡ true
@@ -37,12 +35,12 @@ put_between (x ∷ xs) ts m under over h = grind (arith, over_both x xs ts, over
 -- below a lower key
 pub over_less : (j k : Bytes) (ss : List StepValue) → key_cmp j k ≡ Less → are_over k ss ≡ true → are_over j ss ≡ true
 over_less j k [] h g = refl
-over_less j k (s ∷ ss) h g = and_from _ _ (lt_trans j k s.key (ap is_lt h) (and_parts _ _ g).0) (over_less j k ss h (and_parts _ _ g).1)
+over_less j k (s ∷ ss) h g = grind (arith, lt_trans j k s.key (ap is_lt h), over_less j k ss h)
 
 -- below a key that isn't lower
 pub under_more : (j k : Bytes) (ss : List StepValue) → is_le (key_cmp j k) ≡ true → are_under j ss ≡ true → are_under k ss ≡ true
 under_more j k [] h g = refl
-under_more j k (s ∷ ss) h g = and_from _ _ (lt_le_trans s.key j k (and_parts _ _ g).0 h) (under_more j k ss h (and_parts _ _ g).1)
+under_more j k (s ∷ ss) h g = grind (arith, lt_le_trans s.key j k, under_more j k ss h)
 
 -- ---- numbers
 
@@ -76,8 +74,8 @@ number_push b (x ∷ xs) w k h =
 -- the last of a queue of n steps, behind the others
 pub back_is : (xs : List StepValue) (n : ℕ) (w : StepValue) → n ≡ length xs → 0 < n → w ≡ get_or xs (n - 1) w → xs ≡ take (n - 1) xs ++ w ∷ []
 back_is xs n w len some is =
-    let all : n - 1 + 1 ≡ n = omega arith in
-    sym (take_all n xs (omega arith)) ∙ ap (λ m. take m xs) (sym all) ∙ take_more xs (n - 1) w (omega arith) ∙ ap (λ v. take (n - 1) xs ++ v ∷ []) (sym is)
+    let all : n ≡ n - 1 + 1 = omega arith in
+    sym (take_all n xs (omega arith)) ∙ ap (λ m. take m xs) all ∙ take_more xs (n - 1) w (omega arith) ∙ ap (λ v. take (n - 1) xs ++ v ∷ []) (sym is)
 
 pub end_is : (xs init : List StepValue) (w : StepValue) → xs ≡ init ++ w ∷ [] → w.above ≡ end_of xs
 end_is xs init w is = sym (ap end_of is ∙ end_push 0 init w)
@@ -85,38 +83,25 @@ end_is xs init w is = sym (ap end_of is ∙ end_push 0 init w)
 -- of steps that rise the last has the greatest key
 pub under_last : (xs init : List StepValue) (w : StepValue) (k : Bytes) → xs ≡ init ++ w ∷ [] → steps_rise xs ≡ true → key_cmp w.key k ≡ Less → are_under k xs ≡ true
 under_last xs init w k is rise lt =
-    let sides = around init w [] (ap steps_rise (sym is) ∙ rise) in
-    let below = under_more w.key k init (ap is_le lt) sides.under in
-    ap (are_under k) is ∙ list_all-append (λ s. is_lt (key_cmp s.key k)) init (w ∷ []) ∙ and_from _ _ below (and_from _ _ (ap is_lt lt) refl)
+    let below = under_more w.key k init (ap is_le lt) (around init w [] (ap steps_rise (sym is) ∙ rise)).under in
+    grind (arith, ap (are_under k) is, list_all-append (λ s. is_lt (key_cmp s.key k)) init (w ∷ []))
 
 -- ---- the binary search
 
 all_at : (x : StepValue) (ss : List StepValue) (i : ℕ) (d : StepValue) → are_over x.key ss ≡ true → i < length ss → is_lt (key_cmp x.key (get_or ss i d).key) ≡ true
-all_at x [] i d h lt = absurd (omega arith)
-all_at x (s ∷ ss) zero d h lt = (and_parts _ _ h).0
-all_at x (s ∷ ss) (suc i) d h lt = all_at x ss i d (and_parts _ _ h).1 (omega arith)
+all_at x ss i d h lt = AllPass-from_list_all (λ s. is_lt (key_cmp x.key s.key)) ss h i d lt
 
 pub parted : (k : Bytes) (ss : List StepValue) → steps_rise ss ≡ true → IsPartitionedBy (λ s. is_le (key_cmp s.key k)) ss
-parted k [] h i j d le lt e = absurd (omega arith)
 parted k (s ∷ ss) h zero zero d le lt e = e
 parted k (s ∷ ss) h zero (suc j) d le lt e = le_of_lt s.key k (lt_le_trans s.key (get_or ss j d).key k (all_at s ss j d (and_parts _ _ h).0 (omega arith)) e)
-parted k (s ∷ ss) h (suc i) zero d le lt e = absurd (omega arith)
 parted k (s ∷ ss) h (suc i) (suc j) d le lt e = parted k ss (and_parts _ _ h).1 i j d (omega arith) (omega arith) e
+parted k _ h i j d le lt e = absurd (omega arith)
 
 abbrev pub IsEnd : Bytes → List StepValue → ℕ → Type 0
 IsEnd k ss i = IsPartitionPoint (λ s. is_le (key_cmp s.key k) ≡ true) (λ s. is_le (key_cmp s.key k) ≡ false) ss i
 
-later_end : (k : Bytes) (s : StepValue) (ss : List StepValue) (i : ℕ) → IsEnd k (s ∷ ss) (suc i) → IsEnd k ss i
-later_end k s ss i h = ((λ j d at_least lt. h.0 (suc j) d (omega arith) (omega arith)), (λ j d at_least lt. h.1 (suc j) d (omega arith) (omega arith)))
-
 rest_over : (k : Bytes) (ss : List StepValue) (i : ℕ) → i ≤ length ss → IsEnd k ss i → are_over k (drop i ss) ≡ true
-rest_over k [] zero le h = refl
-rest_over k [] (suc i) le h = refl
-rest_over k (s ∷ ss) zero le h = and_from _ _ (lt_of_not_le s.key k (h.1 0 s (omega arith) (omega arith))) (rest_over k ss zero (omega arith) ((λ j d at_least lt. absurd (omega arith)), (λ j d at_least lt. h.1 (suc j) d (omega arith) (omega arith))))
-rest_over k (s ∷ ss) (suc i) le h = rest_over k ss i (omega arith) (later_end k s ss i h)
-
-front_rises : (ss : List StepValue) (i : ℕ) → steps_rise ss ≡ true → steps_rise (take i ss) ≡ true
-front_rises ss i h = rises_left (take i ss) (drop i ss) (ap steps_rise (take-append-drop i ss) ∙ h)
+rest_over k ss i le h = list_all-from_AllPass (λ s. is_lt (key_cmp k s.key)) (drop i ss) (λ j d lt. rw get_or-drop (lt_of_not_le (get_or ss (i + j) d).key k (h.1 (i + j) d (omega arith) (omega (arith, length-drop i ss)))))
 
 -- no step is at the key or below it
 pub found_none : (b : ℕ) (k : Bytes) (ss : List StepValue) → IsEnd k ss 0 → number_from b ss k ≡ b
@@ -126,9 +111,10 @@ found_none b k ss h = low b ss k (rest_over k ss 0 (omega arith) h)
 pub found : (b : ℕ) (k : Bytes) (ss : List StepValue) (i : ℕ) (w : StepValue) → i < length ss → w ≡ get_or ss i w → steps_rise ss ≡ true → IsEnd k ss (i + 1) → cond (is_eq (key_cmp w.key k)) w.at w.above ≡ number_from b ss k
 found b k ss i w lt is rise h =
     let front = take_more ss i w lt ∙ ap (λ (s : StepValue). take i ss ++ s ∷ []) (sym is) in
-    let sides = around (take i ss) w [] (ap steps_rise (sym front) ∙ front_rises ss (i + 1) rise) in
+    let whole = take-append-drop (i + 1) ss in
+    let sides = around (take i ss) w [] (ap steps_rise (sym front) ∙ rises_left (take (i + 1) ss) (drop (i + 1) ss) (ap steps_rise whole ∙ rise)) in
     let at = ap (λ l. number_from b l k) front ∙ number_push b (take i ss) w k sides.under in
-    let all = ap (λ l. number_from b l k) (take-append-drop (i + 1) ss) in
+    let all = ap (λ l. number_from b l k) whole in
     let part = front_decides b (take (i + 1) ss) (drop (i + 1) ss) k (rest_over k ss (i + 1) (omega arith) h) in
     let le = ap (λ (s : StepValue). is_le (key_cmp s.key k)) is ∙ h.0 i w (omega arith) (omega arith) in
     grind (arith, turned w.key k)
@@ -141,7 +127,7 @@ renumbered_rises n (s ∷ ss) = λ i. list_all-map (λ t. is_lt (key_cmp s.key t
 
 renumbered_from : (n b : ℕ) (ss : List StepValue) (k : Bytes) → number_from (in_place_of n b) (map (renumbered n) ss) k ≡ in_place_of n (number_from b ss k)
 renumbered_from n b [] k = refl
-renumbered_from n b (s ∷ ss) k = let rest = renumbered_from n s.above ss k in grind arith
+renumbered_from n b (s ∷ ss) k = grind (arith, renumbered_from n s.above ss k)
 
 pub in_place_low : (n was : ℕ) → in_place_of n was ≤ n
 in_place_low n was = grind (arith, nat_tests)

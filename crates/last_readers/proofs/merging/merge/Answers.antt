@@ -3,13 +3,10 @@ use Rattle.last_readers.proofs.merging.merge.Goals as goal
 
 pub steps-preserved : goal.steps-preserved
 steps-preserved c =
-    let room = c.steps.invariant.room in
-    let less = c.move_greatest.ensures.fewer in
-    let more = c.move_greatest.ensures.to_len in
-    let same = c.move_greatest.ensures.capacity in
+    let e = c.move_greatest.ensures in
     record {
-      same = λ k. c.move_greatest.ensures.same k ∙ c.steps.invariant.same k;
-      first = c.move_greatest.ensures.first;
-      second = c.move_greatest.ensures.second;
-      room = omega (arith, room, less, more, same);
+      same = λ k. e.same k ∙ c.steps.invariant.same k;
+      first = e.first;
+      second = e.second;
+      room = omega (arith, c.steps.invariant.room, e.fewer, e.to_len, e.capacity);
     }

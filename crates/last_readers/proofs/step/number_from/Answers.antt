@@ -15,8 +15,6 @@ returns c =
     let ss = c.args.steps.now in
     let i = c.partition_point-end.result - 1 in
     let more : c.partition_point-end.result ≡ i + 1 = omega (arith, c.if-end-eq0.false) in
-    let bound = c.partition_point-end.ensures.bound in
-    let len = ss.ok.0 in
     c.number.ensures
-    ∙ found c.args.below k ss.items i c.index.result.now (omega (arith, bound, more, len)) c.index.ensures c.requires
+    ∙ found c.args.below k ss.items i c.index.result.now (omega (arith, c.partition_point-end.ensures.bound, more, ss.ok.0)) c.index.ensures c.requires
     (subst (λ (n : ℕ). IsEnd k ss.items n) more (c.partition_point-end.ensures.partitioned (λ s. is_le (key_cmp s.key k)) (always_returns_same _ _ _ (λ a r f g. search (rules, of_calls))) (parted k ss.items c.requires)))

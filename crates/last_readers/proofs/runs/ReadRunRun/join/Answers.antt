@@ -9,19 +9,14 @@ invariant_of-self c =
     let made = c.replace.new.dest.items in
     let value = c.replace.ensures.value in
     let after = c.replace.ensures.after in
-    let no_places = c.requires.room.0 in
-    let none = (λ i. length (after i).items) ∙ sym c.args.places.ok.0 ∙ no_places in
-    let room = c.requires.room.1 in
-    let last = c.max-self.ensures in
+    let none = (λ i. length (after i).items) ∙ sym c.args.places.ok.0 ∙ c.requires.room.0 in
     record {
       first_rises = rises_with c.replace.result.items made none ((λ i. steps_rise (value i).items) ∙ rises_right was.first.items was.made.items was.first_rises);
       second_rises = rises_with more.made.items made none (rises_right more.first.items more.made.items more.first_rises);
-      room = omega (arith, ap deque_len value, ap deque_len after, ap deque_capacity after, no_places, room);
+      room = omega (arith, ap deque_len value, ap deque_len after, ap deque_capacity after, c.requires.room.0, c.requires.room.1);
       upto = λ k.
-          let upto = was.upto k in
-          let upto_more = more.upto k in
           let both = joined_runs was more c.replace.result.items made k c.requires.first c.requires.second (λ i. (value i).items) none in
-          omega (arith, both, upto, upto_more, last);
+          omega (arith, both, was.upto k, more.upto k, c.max-self.ensures);
     }
 
 pub returns-clause-agree : goal.returns-clause-agree
