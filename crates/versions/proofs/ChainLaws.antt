@@ -49,9 +49,7 @@ not_between (x ∷ bs) low high b f t le = grind (arith, nat_tests, not_between 
 pub pick-seen_by : (bs : List ℕ) (w : Stamped) (b : ℕ) → is_among bs b ≡ true → (d : Option Stamped) (vs : List Stamped) → pick b d (seen_by bs w.number vs) w ≡ pick b d vs w
 pick-seen_by bs w b t d [] = refl
 pick-seen_by bs w b t d (v ∷ vs) =
-    let kept = pick-seen_by bs w b t (if nat_le v.number b then Some v else d) vs in
-    let left = pick-seen_by bs w b t d vs in
-    grind (arith, nat_tests, pick_past b d (Some v) vs w, not_between bs v.number (first_number vs w.number) b)
+    grind (arith, nat_tests, pick-seen_by bs w b t (if nat_le v.number b then Some v else d) vs, pick-seen_by bs w b t d vs, pick_past b d (Some v) vs w, not_between bs v.number (first_number vs w.number) b)
 
 pub version_at-reclaimed : (bs : List ℕ) (c : ChainValue) (b : ℕ) → is_among bs b ≡ true → version_at b (reclaimed bs c) ≡ version_at b c
 version_at-reclaimed bs c b t = pick-seen_by bs c.newest b t None c.older

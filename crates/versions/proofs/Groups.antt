@@ -64,7 +64,6 @@ pub record Dropping (bs : List ℕ) (old now : Chains) (os vs : List Listed) (le
 pub dropping-seen : (bs : List ℕ) (old now : Chains) (os vs : List Listed) (m left : ℕ) (v : Listed) (o : Option ℕ) → left ≡ m + 1 → v ≡ get_or vs m v → IfSome o (λ n. is_among bs n ≡ true) → is_seen_by o v ≡ true
     → Dropping bs old now os vs left → Dropping bs old now os vs m
 dropping-seen bs old now os vs m left v o next at a s d =
-    let h = d.in_range in
     let in_range : m ≤ length vs = omega arith in
     let rest = subst (λ n. AllByRecursion (IsSettled bs now) (drop n vs)) {x = left} {y = suc m} (omega arith) d.settled in
     let settled = all-more (IsSettled bs now) vs m v (omega arith) at (inl (next-between bs o v a s)) rest in
@@ -75,7 +74,7 @@ module _ (bs : List ℕ) (old now new : Chains) (os vs : List Listed) (m left la
   step = part-at bs v.key now new r
 
   within : m < length vs
-  within = let h = d.in_range in omega arith
+  within = omega arith
 
   rest : AllByRecursion (IsSettled bs new) (drop (suc m) vs)
   rest = all-settled-part bs now new step (drop (suc m) vs) (subst (λ n. AllByRecursion (IsSettled bs now) (drop n vs)) {x = left} {y = suc m} (omega arith) d.settled)
@@ -95,7 +94,7 @@ module _ (bs : List ℕ) (old now new : Chains) (os vs : List Listed) (m left la
   -- the version is gone
   pub dropping-leaves : (us : List Listed) → us ≡ swap_remove vs m v → has_version v.number (find_chain v.key new) ≡ false → Dropping bs old new os us m
   dropping-leaves us is gone = record {
-    in_range = let h = within in grind (arith, common_steps, ap length is);
+    in_range = grind (arith, common_steps, within, ap length is);
     part = part-trans bs old now new last ordered d.part step;
     kept = λ n h. r.kept n (d.kept n h);
     settled = subst (λ l. AllByRecursion (IsSettled bs new) (drop m l)) (sym is) (rest-swap_remove (IsSettled bs new) vs m v within rest);

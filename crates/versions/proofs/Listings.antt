@@ -1,5 +1,5 @@
 -- Each older version is listed: where chains are made, get more room, a version more, or are reclaimed.
-use Rattle.versions.proofs.Words.{[], IsTrue, ◌≡◌, ℕ, ◌≤◌, Bool, true, false, List, ◌∷◌, ◌++◌, Option, Some, None, refl, sym, ap, subst, arith, inl, inr, option_map, ◌==◌, IfSome, AllByRecursion, list_any, list_any-append, nat_cmp, slice_cmp, put, or_left, or_right, eq-eqb, cond_both, all-each, nat_tests, Bytes, KeyMap, is_same_key, same_key, same_key_itself, Stamped, ChainValue, Chains, find_chain, added, stamped, first_number, is_between, seen_by, reclaimed, base_chains, IsKept, IsRisingTo, IsRisingChain, IsReclaimedAt, IsRoomier, is_of, is_in, is_listed, AreListed, IsListedChain, IsListed, AreFound, unwitnessed, followed, has_version, AreNeeded, IsNeededChain, IsSettled, IsPartReclaimed, AreKept, GroupValue, Listed}
+use Rattle.versions.proofs.Words.{[], IsTrue, ◌≡◌, ℕ, ◌≤◌, Bool, true, false, List, ◌∷◌, ◌++◌, Option, Some, None, refl, sym, ap, subst, arith, inl, inr, option_map, ◌==◌, IfSome, AllByRecursion, list_any, list_any-append, nat_cmp, slice_cmp, put, or_right, cond_both, all-each, nat_tests, Bytes, KeyMap, is_same_key, same_key, same_key_itself, Stamped, ChainValue, Chains, find_chain, added, stamped, first_number, is_between, seen_by, reclaimed, base_chains, IsKept, IsRisingTo, IsRisingChain, IsReclaimedAt, IsRoomier, is_of, is_in, is_listed, AreListed, IsListedChain, IsListed, AreFound, unwitnessed, followed, has_version, AreNeeded, IsNeededChain, IsSettled, IsPartReclaimed, AreKept, GroupValue, Listed}
 use Rattle.versions.proofs.{ChainLaws.any-weaker, ChainLaws.between-wider, ChainLaws.first_rises, Visibles.find_chain-put}
 use Rattle.versions.proofs.Stores.{RoomierFound, find-roomier, twice, rising_found}
 
@@ -7,10 +7,7 @@ use Rattle.versions.proofs.Stores.{RoomierFound, find-roomier, twice, rising_fou
 
 listed-left : (gs hs : List GroupValue) (k : Bytes) (next : ℕ) (us : List Stamped) → ((n high : ℕ) → list_any (λ v. v.number == n) us ≡ true → is_listed gs k n high ≡ true → is_listed hs k n high ≡ true) → AreListed gs k next us → AreListed hs k next us
 listed-left gs hs k next [] more h = tt
-listed-left gs hs k next (u ∷ us) more h = (
-  more u.number (first_number us next) (or_left (u.number == u.number) (list_any (λ v. v.number == u.number) us) (eq-eqb u.number u.number refl)) h.0,
-  listed-left gs hs k next us (λ n high t. more n high (or_right (u.number == n) (list_any (λ v. v.number == n) us) t)) h.1,
-)
+listed-left gs hs k next (u ∷ us) more h = (grind (arith, nat_tests, more u.number, h.0), listed-left gs hs k next us (λ n high t. more n high (or_right (u.number == n) (list_any (λ v. v.number == n) us) t)) h.1)
 
 chain-left : (gs hs : List GroupValue) (k : Bytes) (o : Option ChainValue) → ((n high : ℕ) → has_version n o ≡ true → is_listed gs k n high ≡ true → is_listed hs k n high ≡ true) → IsListedChain gs k o → IsListedChain hs k o
 chain-left gs hs k None more h = tt
@@ -146,7 +143,5 @@ chain-reclaimed gs k bs (Some c) last r h = listed-seen gs k bs c.newest.number 
 -- the groups may change where the versions that they list no more are gone
 pub listed-part : (bs : List ℕ) (now new : Chains) (gs hs : List GroupValue) (last : ℕ) → IsKept now last → IsPartReclaimed bs now new
     → ((k : Bytes) (n high : ℕ) → has_version n (find_chain k new) ≡ true → is_listed gs k n high ≡ true → is_listed hs k n high ≡ true) → IsListed now gs → IsListed new hs
-listed-part bs now new gs hs last kept p more h k = chain-left gs hs k (find_chain k new) (more k) (elim (p k) [
-  | inl x ↦ subst (IsListedChain gs k) (sym x) (h k)
-  | inr x ↦ subst (IsListedChain gs k) (sym x) (chain-reclaimed gs k bs (find_chain k now) last (rising_found k now last kept) (h k))
-])
+listed-part bs now new gs hs last kept p more h k = chain-left gs hs k (find_chain k new) (more k)
+    (grind (arith, p k, h k, chain-reclaimed gs k bs (find_chain k now) last (rising_found k now last kept) (h k)))

@@ -1,5 +1,5 @@
 -- The lists of one group: those that are seen, those that are due, and the mixed.
-use Rattle.versions.proofs.Words.{◌≡◌, ℕ, true, List, ◌++◌, length, sym, ap, subst, arith, inl, inr, ◌⊎◌, AllByRecursion, Vec, list_any, nil_from_length, list_any-append, Listed, GroupValue, Chains, is_among, due_for, AreIn, AreKept, AreSeenFrom, IsSettled, IsTakenIn, IsPartReclaimed, is_of, versions_in, all-append, all-back, all-front}
+use Rattle.versions.proofs.Words.{◌≡◌, ℕ, true, List, ◌++◌, length, sym, ap, subst, arith, ◌⊎◌, AllByRecursion, Vec, list_any, nil_from_length, list_any-append, Listed, GroupValue, Chains, is_among, due_for, AreIn, AreKept, AreSeenFrom, IsSettled, IsTakenIn, IsPartReclaimed, is_of, versions_in, all-append, all-back, all-front}
 use Rattle.versions.proofs.{Listings.left-part, Groups.all-between}
 
 -- ---- versions that are among others
@@ -45,8 +45,4 @@ no-versions P xs none = subst (λ l. AllByRecursion P (versions_in l)) (sym (nil
 pub parts-settled : {Z : Type 0} (bs : List ℕ) (es : Chains) (n : ℕ) (ls ds ms : List (Vec Listed Z)) → (is_among bs n ≡ true) ⊎ (length ls ≡ 0) → AreSeenFrom n (versions_in ls) → length ds ≡ 0 → AllByRecursion (IsSettled bs es) (versions_in ms)
     → AllByRecursion (IsSettled bs es) (versions_in ls ++ (versions_in ds ++ versions_in ms))
 parts-settled bs es n ls ds ms held seen none mixed =
-    all-append (IsSettled bs es) (versions_in ls) (versions_in ds ++ versions_in ms) (first held) (all-append (IsSettled bs es) (versions_in ds) (versions_in ms) (no-versions (IsSettled bs es) ds none) mixed)
-  where
-    first : (is_among bs n ≡ true) ⊎ (length ls ≡ 0) → AllByRecursion (IsSettled bs es) (versions_in ls)
-    first (inl t) = all-between bs es n (versions_in ls) t seen
-    first (inr empty) = no-versions (IsSettled bs es) ls empty
+    all-append (IsSettled bs es) (versions_in ls) (versions_in ds ++ versions_in ms) (grind (arith, λ (t : is_among bs n ≡ true). all-between bs es n (versions_in ls) t seen, no-versions (IsSettled bs es) ls)) (all-append (IsSettled bs es) (versions_in ds) (versions_in ms) (no-versions (IsSettled bs es) ds none) mixed)

@@ -64,9 +64,7 @@ roomier-trans _ _ _ h g = absurd h
 found_above : (x k : Bytes) (es : Chains) → IsBelowAll x es → IsSome (find_chain k es) → key_cmp x k ≡ Less
 found_above x k [] h s = absurd (both_ways false refl s)
 found_above x k (e ∷ es) h s =
-    let p = parts (is_lt (key_cmp x e.0)) (below_all (slice_cmp nat_cmp) x es) h in
-    let first = less (key_cmp x e.0) p.0 in
-    grind (arith, found_above x k es p.1, exact_bytes k e.0)
+    grind (arith, less (key_cmp x e.0), found_above x k es, exact_bytes k e.0)
 
 pub find-put_itself : (k : Bytes) (c : ChainValue) (es : Chains) → find_chain k (put (slice_cmp nat_cmp) k c es) ≡ Some c
 find-put_itself k c es = grind (arith, find_chain-put k k c es, same_key_itself k)
@@ -113,8 +111,7 @@ below_roomier k _ _ h g = absurd h
 sorted_roomier : (es fs : Chains) → IsRoomier es fs → IsSorted es → IsSorted fs
 sorted_roomier [] [] h g = tt
 sorted_roomier (e ∷ es) (f ∷ fs) h g =
-    let p = parts _ _ g in
-    both _ _ (subst (λ (q : Bytes). IsBelowAll q fs) (sym h.0) (below_roomier e.0 es fs h.2 p.0)) (sorted_roomier es fs h.2 p.1)
+    grind (arith, h.0, below_roomier e.0 es fs h.2, sorted_roomier es fs h.2)
 sorted_roomier _ _ h g = absurd h
 
 rising_roomier : (last : ℕ) (es fs : Chains) → IsRoomier es fs → AllByRecursion (λ e. IsRisingChain last e.1) es → AllByRecursion (λ e. IsRisingChain last e.1) fs

@@ -73,12 +73,7 @@ witness_most bs w b t le = let most = greatest_most w b bs 0 t in grind (arith, 
 
 reclaimed_before : (bs : List ℕ) (o p : Option ChainValue) (d : ChainValue) → (p ≡ o) ⊎ (p ≡ option_map (reclaimed bs) o) → p ≡ Some d
     → (c : ChainValue) × (o ≡ Some c) × (d.newest ≡ c.newest) × ((b : ℕ) → is_among bs b ≡ true → number_at b d ≡ number_at b c)
-reclaimed_before bs o p d (inl e) is = (d, sym e ∙ is, refl, λ b t. refl)
-reclaimed_before bs None p d (inr e) is = cc
-reclaimed_before bs (Some c) p d (inr e) is =
-    let there : ◌≡◌ {A = Option ChainValue} (Some (reclaimed bs c)) (Some d) = sym e ∙ is in
-    let same : reclaimed bs c ≡ d = cc in
-    (c, refl, sym (ap (λ (y : ChainValue). y.newest) same), λ b t. ap (number_at b) (sym same) ∙ ap (option_map (λ (v : Stamped). v.number)) (version_at-reclaimed bs c b t))
+reclaimed_before bs o p d part is = grind (arith, version_at-reclaimed bs)
 
 pub under-reclaimed : (held : ℕ → Bool) (bs : List ℕ) (v u : ChainsValue) → IsPartReclaimed bs v.chains u.chains → u.last ≡ v.last
     → (w : ℕ) (x : Listed) → IsUnderWitness held v w x → IsUnderWitness (λ n. held n && is_among bs n) u (witness_for bs w) x

@@ -1,27 +1,23 @@
 -- What the numbers see when chains change.
-use Rattle.versions.proofs.Words.{is_lt, is_sorted, ◌≡◌, ℕ, ◌<◌, ◌≤◌, min, Bool, true, T, cond, ◌&&◌, List, [], ◌∷◌, Option, Some, None, refl, ap, arith, fold, is_none, nat_le, if◌then◌else◌, nat_tests, nat_cmp, slice_cmp, nat_list_cmp_total, put, where_key, below_all, find-put, is_sorted-put, Bytes, key_cmp, IsMap, is_same_key, value_at, after_write, same_key, same_map, value_after_write, IsMap-after_write, Stamped, ChainValue, Chains, find_chain, first_shown, hides, last_at, least_value, seen, seen_in, u64_max, value_of, visible, IsSorted, IsBelowAll, find_none, parts}
+use Rattle.versions.proofs.Words.{◌≡◌, ℕ, ◌<◌, ◌≤◌, min, Bool, true, T, cond, ◌&&◌, List, [], ◌∷◌, Option, Some, None, refl, ap, arith, fold, is_none, nat_le, if◌then◌else◌, nat_tests, nat_cmp, slice_cmp, nat_list_cmp_total, put, where_key, below_all, find-put, is_sorted-put, Bytes, key_cmp, IsMap, is_same_key, value_at, after_write, same_key, same_map, value_after_write, IsMap-after_write, Stamped, ChainValue, Chains, find_chain, first_shown, hides, last_at, least_value, seen, seen_in, u64_max, value_of, visible, IsSorted, IsBelowAll, find_none, parts}
 use Rattle.sorted_pages.specs.Blanks.{shown}
 
 below_visible : (n : ℕ) (k : Bytes) (es : Chains) → IsBelowAll k es → T (below_all (slice_cmp nat_cmp) k (visible n es))
 below_visible n k [] h = tt
 below_visible n k (e ∷ es) h =
-    let p = parts (is_lt (key_cmp k e.0)) (below_all (slice_cmp nat_cmp) k es) h in
-    grind (arith, p.0, below_visible n k es p.1)
+    grind (arith, below_visible n k es)
 
 pub IsMap-visible : (n : ℕ) (es : Chains) → IsSorted es → IsMap (visible n es)
 IsMap-visible n [] h = tt
 IsMap-visible n (e ∷ es) h =
-    let p = parts (below_all (slice_cmp nat_cmp) e.0 es) (is_sorted (slice_cmp nat_cmp) es) h in
-    grind (arith, below_visible n e.0 es p.0, IsMap-visible n es p.1)
+    grind (arith, below_visible n e.0 es, IsMap-visible n es)
 
 -- what the map that n sees has at a key
 pub value-visible : (n : ℕ) (q : Bytes) (es : Chains) → IsSorted es → value_at (visible n es) q ≡ seen_in n (find_chain q es)
 value-visible n q [] h = refl
 value-visible n q (e ∷ es) h =
     let p = parts _ _ h in
-    let none = find_none key_cmp e.0 (visible n es) (below_visible n e.0 es p.0) in
-    let same = same_key q e.0 in
-    grind (arith, value-visible n q es p.1)
+    grind (arith, value-visible n q es p.1, same_key q e.0, find_none key_cmp e.0 (visible n es) (below_visible n e.0 es p.0))
 
 pub find_chain-put : (q k : Bytes) (c : ChainValue) (es : Chains) → find_chain q (put (slice_cmp nat_cmp) k c es) ≡ cond (is_same_key q k) (Some c) (find_chain q es)
 find_chain-put q k c es = find-put (slice_cmp nat_cmp) nat_list_cmp_total q k c es
@@ -35,16 +31,14 @@ visible-put n k c es h =
     let new = put (slice_cmp nat_cmp) k c es in
     let written = IsMap-after_write (visible n es) k (seen n c) (IsMap-visible n es h) in
     same_map (visible n new) (after_write (visible n es) k (seen n c)) (IsMap-visible n new (sorted-put k c es h)) written (λ q.
-    let found = find_chain-put q k c es in
-    grind (arith, value-visible n q new (sorted-put k c es h), value-visible n q es h, value_after_write (visible n es) k (seen n c) q))
+    grind (arith, find_chain-put q k c es, value-visible n q new (sorted-put k c es h), value-visible n q es h, value_after_write (visible n es) k (seen n c) q))
 
 -- a chain of which n sees what it saw changes nothing for n
 pub visible-put_same : (n : ℕ) (k : Bytes) (c : ChainValue) (es : Chains) → IsSorted es → seen n c ≡ seen_in n (find_chain k es) → visible n (put (slice_cmp nat_cmp) k c es) ≡ visible n es
 visible-put_same n k c es h same =
     let new = put (slice_cmp nat_cmp) k c es in
     same_map (visible n new) (visible n es) (IsMap-visible n new (sorted-put k c es h)) (IsMap-visible n es h) (λ q.
-    let found = find_chain-put q k c es in
-    grind (arith, value-visible n q new (sorted-put k c es h), value-visible n q es h, same_key q k))
+    grind (arith, find_chain-put q k c es, value-visible n q new (sorted-put k c es h), value-visible n q es h, same_key q k))
 
 -- ---- parts by a key
 
