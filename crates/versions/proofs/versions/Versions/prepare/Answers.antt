@@ -20,7 +20,7 @@ loop-write-preserved c =
     let roomier = roomier-trans c.args.self.now.chains c.loop-write.self.chains c.make_room.new.self.chains inv.roomier e.chains in
     let prepared = preparing (length c.args.writes.now) c.args.writes.now c.loop-write.write-index c.write-item.result c.lend_key.result.bytes.now c.loop-write.self.chains c.make_room.new.self.chains c.loop-write.self.pages c.make_room.new.self.pages
         (omega arith) c.write-item.is c.lend_key.ensures c.make_room.ensures.chains c.make_room.ensures.rooms c.loop-write.invariant.prepared c.in_ok-make_room.ensures.room c.in_ok-make_room.ensures.place in
-    search (rules, roomier, prepared, ◌∙◌, e.rooms, e.last, e.groups, e.listed_spare, e.groups_spare, inv.pages, inv.last, inv.groups, inv.listed_spare, inv.groups_spare)
+    search (arith, roomier, prepared, ◌∙◌, e.rooms, e.last, e.groups, e.listed_spare, e.groups_spare, inv.pages, inv.last, inv.groups, inv.listed_spare, inv.groups_spare)
 
 -- ---- a chain was refused its room
 
