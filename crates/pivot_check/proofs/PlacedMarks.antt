@@ -37,7 +37,8 @@ asked_at hs i h b flagged ps lt is = least_alike _ _ (λ p. ap (λ x. x && is_as
 
 -- nothing is asked where no mark stands
 pub asked_past : (hs : List OwnedMark) (i : ℕ) (b : ℕ) (flagged : Bool) (ps : List Posting) → length hs ≤ i → least (covered_at (marks_of hs) (i ∷ []) b flagged) ps ≡ None
-asked_past hs i b flagged ps le = least_alike _ _ (λ p. ap (λ x. x && is_asked b flagged p) (or_false _ ∙ ap (λ ms. is_covered (take 1 ms) p.key) (drop_all i (marks_of hs) (omega (arith, length-marks_of hs))))) ps ∙ none_asked (is_asked b flagged) ps
+asked_past hs i b flagged ps le =
+    least_alike _ _ (λ p. ap (λ x. x && is_asked b flagged p) (or_false _ ∙ ap (λ ms. is_covered (take 1 ms) p.key) (drop_all i (marks_of hs) (omega (arith, length-marks_of hs))))) ps ∙ none_asked (is_asked b flagged) ps
 
 -- ---- a walk over places
 

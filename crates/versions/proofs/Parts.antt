@@ -45,4 +45,6 @@ no-versions P xs none = subst (λ l. AllByRecursion P (versions_in l)) (sym (nil
 pub parts-settled : {Z : Type 0} (bs : List ℕ) (es : Chains) (n : ℕ) (ls ds ms : List (Vec Listed Z)) → (is_among bs n ≡ true) ⊎ (length ls ≡ 0) → AreSeenFrom n (versions_in ls) → length ds ≡ 0 → AllByRecursion (IsSettled bs es) (versions_in ms)
     → AllByRecursion (IsSettled bs es) (versions_in ls ++ (versions_in ds ++ versions_in ms))
 parts-settled bs es n ls ds ms held seen none mixed =
-    all-append (IsSettled bs es) (versions_in ls) (versions_in ds ++ versions_in ms) (grind (arith, λ (t : is_among bs n ≡ true). all-between bs es n (versions_in ls) t seen, no-versions (IsSettled bs es) ls)) (all-append (IsSettled bs es) (versions_in ds) (versions_in ms) (no-versions (IsSettled bs es) ds none) mixed)
+    all-append (IsSettled bs es) (versions_in ls) (versions_in ds ++ versions_in ms)
+    (grind (arith, λ (t : is_among bs n ≡ true). all-between bs es n (versions_in ls) t seen, no-versions (IsSettled bs es) ls))
+    (all-append (IsSettled bs es) (versions_in ds) (versions_in ms) (no-versions (IsSettled bs es) ds none) mixed)

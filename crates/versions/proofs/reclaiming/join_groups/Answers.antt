@@ -31,5 +31,6 @@ pub loop-i-preserved-then-not-join : goal.loop-i-preserved-then-not-join
 loop-i-preserved-then-not-join c =
     let e = c.join.ensures in
     let inv = c.loop-i.invariant in
-    let apart = subst (λ (l : List GroupValue). AreApart (take (c.loop-i.i + 1) (witnesses l))) (sym (c.if-not-join.ensures.same refl)) (apart-next c.loop-i.groups.items c.loop-i.i (omega arith) inv.apart (c.if-not-join.ensures.other refl)) in
+    let apart = subst (λ (l : List GroupValue). AreApart (take (c.loop-i.i + 1) (witnesses l))) (sym (c.if-not-join.ensures.same refl))
+        (apart-next c.loop-i.groups.items c.loop-i.i (omega arith) inv.apart (c.if-not-join.ensures.other refl)) in
     search (arith, apart, ◌∙◌, e.found, e.due, e.held, e.truly, e.each, e.mixed, inv.found, inv.due, inv.held, inv.truly, inv.each, inv.mixed)

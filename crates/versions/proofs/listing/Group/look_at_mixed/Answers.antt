@@ -9,7 +9,8 @@ returns-clause-settled c = λ none.
     let held = subst (IsTakenIn bs) (sym c.self.view_is) c.requires.taken_in in
     let no_due = sym c.keep.ensures.due ∙ sym (due-taken bs c.keep.new.self c.keep.ensures.taken_in) ∙ none in
     c.keep.ensures.settled es
-    (parts-settled bs es c.self.inside.witness c.self.inside.lists c.self.inside.due c.replace-mixed.new.dest held c.self.invariant.0 no_due (no-versions (IsSettled bs es) c.replace-mixed.new.dest (ap length (c.replace-mixed.ensures.after ∙ c.new.ensures))))
+    (parts-settled bs es c.self.inside.witness c.self.inside.lists c.self.inside.due c.replace-mixed.new.dest held c.self.invariant.0 no_due
+    (no-versions (IsSettled bs es) c.replace-mixed.new.dest (ap length (c.replace-mixed.ensures.after ∙ c.new.ensures))))
     c.settle_lists.ensures.settled
 
 pub returns-then-is_empty-clause-settled : goal.returns-then-is_empty-clause-settled

@@ -4,7 +4,8 @@ use Rattle.versions.proofs.Calls.{preparing, placed-at}
 use Rattle.versions.proofs.versions.Versions.prepare.Goals as goal
 
 -- room for the list and for the groups changes no chain, and the histories stay
-reserved : (old now inside new : ChainsValue) → IsRoomier old.chains now.chains → now.last ≡ old.last → now.groups ≡ old.groups → inside ≡ now → new.chains ≡ inside.chains → new.last ≡ inside.last → new.groups ≡ inside.groups → IsSameMeaning old new × StandForSame old new
+reserved : (old now inside new : ChainsValue) → IsRoomier old.chains now.chains → now.last ≡ old.last → now.groups ≡ old.groups → inside ≡ now
+    → new.chains ≡ inside.chains → new.last ≡ inside.last → new.groups ≡ inside.groups → IsSameMeaning old new × StandForSame old new
 reserved old now inside new more last groups view same last' groups' =
     let roomier = subst (IsRoomier old.chains) (sym (same ∙ ap (λ (v : ChainsValue). v.chains) view)) more in
     let meaning = same-roomier old new roomier (last' ∙ ap (λ (v : ChainsValue). v.last) view ∙ last) in
@@ -18,7 +19,8 @@ loop-write-preserved c =
     let e = c.make_room.ensures in
     let inv = c.loop-write.invariant in
     let roomier = roomier-trans c.args.self.now.chains c.loop-write.self.chains c.make_room.new.self.chains inv.roomier e.chains in
-    let prepared = preparing (length c.args.writes.now) c.args.writes.now c.loop-write.write-index c.write-item.result c.lend_key.result.bytes.now c.loop-write.self.chains c.make_room.new.self.chains c.loop-write.self.pages c.make_room.new.self.pages
+    let prepared = preparing (length c.args.writes.now) c.args.writes.now c.loop-write.write-index c.write-item.result c.lend_key.result.bytes.now
+        c.loop-write.self.chains c.make_room.new.self.chains c.loop-write.self.pages c.make_room.new.self.pages
         (omega arith) c.write-item.is c.lend_key.ensures c.make_room.ensures.chains c.make_room.ensures.rooms c.loop-write.invariant.prepared c.in_ok-make_room.ensures.room c.in_ok-make_room.ensures.place in
     search (arith, roomier, prepared, ◌∙◌, e.rooms, e.last, e.groups, e.listed_spare, e.groups_spare, inv.pages, inv.last, inv.groups, inv.listed_spare, inv.groups_spare)
 
@@ -41,7 +43,8 @@ returns-in_err-make_room-clause-known c = λ p.
     let es = c.args.self.now.chains in
     let fs = c.loop-write.self.chains in
     let more = c.loop-write.invariant.roomier in
-    let at = placed-at (length ws) ws c.loop-write.write-index c.write-item.result k es fs c.args.self.now.pages c.loop-write.self.pages (omega arith) c.write-item.is c.lend_key.ensures more c.loop-write.invariant.pages p.chains p.places in
+    let at = placed-at (length ws) ws c.loop-write.write-index c.write-item.result k es fs c.args.self.now.pages c.loop-write.self.pages
+        (omega arith) c.write-item.is c.lend_key.ensures more c.loop-write.invariant.pages p.chains p.places in
     absurd (both_ways false refl (c.in_err-make_room.ensures.known at.0 at.1))
 
 -- ---- the list, or the groups, were refused theirs
@@ -53,10 +56,12 @@ pub returns-in_err-reserve_list-clause-stands : goal.returns-in_err-reserve_list
 returns-in_err-reserve_list-clause-stands c = (reserved c.args.self.now c.loop-write.self _ _ c.loop-write.invariant.roomier c.loop-write.invariant.last c.loop-write.invariant.groups c.self.view_is refl refl refl).1
 
 pub returns-in_err-reserve-clause-same : goal.returns-in_err-reserve-clause-same
-returns-in_err-reserve-clause-same c = (reserved c.args.self.now c.loop-write.self _ _ c.loop-write.invariant.roomier c.loop-write.invariant.last c.loop-write.invariant.groups c.self.view_is refl refl c.reserve.ensures.items).0
+returns-in_err-reserve-clause-same c =
+    (reserved c.args.self.now c.loop-write.self _ _ c.loop-write.invariant.roomier c.loop-write.invariant.last c.loop-write.invariant.groups c.self.view_is refl refl c.reserve.ensures.items).0
 
 pub returns-in_err-reserve-clause-stands : goal.returns-in_err-reserve-clause-stands
-returns-in_err-reserve-clause-stands c = (reserved c.args.self.now c.loop-write.self _ _ c.loop-write.invariant.roomier c.loop-write.invariant.last c.loop-write.invariant.groups c.self.view_is refl refl c.reserve.ensures.items).1
+returns-in_err-reserve-clause-stands c =
+    (reserved c.args.self.now c.loop-write.self _ _ c.loop-write.invariant.roomier c.loop-write.invariant.last c.loop-write.invariant.groups c.self.view_is refl refl c.reserve.ensures.items).1
 
 -- ---- all room is there
 

@@ -14,10 +14,12 @@ returns-clause-reclaimed c = whole c.args.self.now _ _ c.args.begins.now c.self.
 
 pub returns-clause-stands : goal.returns-clause-stands
 returns-clause-stands c = λ held base history s. stands-reclaimed c.args.self.now held base history _ c.args.begins.now (returns-clause-reclaimed c)
-    (λ h. c.reclaim_versions.ensures.each held (λ n. held n && is_among c.args.begins.now n) _ _ (under-reclaimed held c.args.begins.now _ _ c.reclaim_versions.ensures.part refl) (subst (λ (v : ChainsValue). AreUnderWitnesses held v v.groups) (sym c.self.view_is) h)) s
+    (λ h. c.reclaim_versions.ensures.each held (λ n. held n && is_among c.args.begins.now n) _ _ (under-reclaimed held c.args.begins.now _ _ c.reclaim_versions.ensures.part refl)
+    (subst (λ (v : ChainsValue). AreUnderWitnesses held v v.groups) (sym c.self.view_is) h)) s
 
 pub returns-clause-unmixed : goal.returns-clause-unmixed
 returns-clause-unmixed c = λ held base history s all.
     let bs = c.args.begins.now in
-    groups-unmixed bs (λ n. held n && is_among bs n) _ c.self.inside.last (λ n t. ap (λ b. b && is_among bs n) (all n t) ∙ t) (c.reclaim_versions.ensures.kept c.self.inside.last c.self.invariant.0) c.reclaim_versions.new.groups.items
+    groups-unmixed bs (λ n. held n && is_among bs n) _ c.self.inside.last
+    (λ n t. ap (λ b. b && is_among bs n) (all n t) ∙ t) (c.reclaim_versions.ensures.kept c.self.inside.last c.self.invariant.0) c.reclaim_versions.new.groups.items
     c.reclaim_versions.ensures.held (returns-clause-stands c held base history s).witnessed c.reclaim_versions.ensures.mixed c.reclaim_versions.ensures.truly
