@@ -1,5 +1,5 @@
 -- Every state that a hub stands for is lawful.
-use Rattle.sessions.proofs.Words.{common_steps, arith, ◌≡◌, ℕ, Bool, true, false, not, length, List, [], ◌∷◌, ◌++◌, take, drop, Option, Some, None, IsTrue, refl, sym, ap, subst, ◌∙◌, nat_cmp, nat_le, nat_lt, if◌then◌else◌, map, inl, inr, append_assoc, lookup, remove_entry, set_value, insert_entry, is_at, append-nil, take-append-drop, map-append, Bytes, Operation, Response, Begin, Commit, Abort, Done, State, Asks, IsReached, step, leave, Running, step_of, running_of, snapshot, reply_text, Outcome, bad_frame, is_above, HubState, SessionState, SessionStream, HubEvent, Joins, Receives, Serves, Sends, Leaves, Front, Whole, More, Bad, Choice, Effect, IsFront, IsServed, IsPossible, IsServePossible, hub_step, stream_of, new_stream, is_open, may_serve, serve, serve_front, out_of_memory, broken_frame, served_with, no_effect, asks, replies_text, receive, serve_session, send, depart, IsReachedHub, Begun, Continued, with_stream, IsSessionStream, EndsStream, EndsItsStream, IsLawful, SameBytes, EndsOutput, own_bytes, cases_eq, cond_both, not-false, find, put}
+use Rattle.sessions.proofs.Words.{common_steps, arith, ◌≡◌, ℕ, Bool, true, false, not, length, List, [], ◌∷◌, ◌++◌, take, drop, Option, Some, None, IsTrue, refl, sym, ap, subst, ◌∙◌, nat_cmp, nat_le, nat_lt, if◌then◌else◌, map, inl, inr, append_assoc, lookup, remove_entry, set_value, insert_entry, is_at, append-nil, take-append-drop, map-append, Bytes, Operation, Response, Begin, Commit, Abort, Done, State, Asks, IsReached, step, leave, Running, step_of, running_of, snapshot, reply_text, Outcome, bad_frame, is_above, HubState, SessionState, SessionStream, HubEvent, Joins, Receives, Serves, Sends, Leaves, Front, Whole, More, Bad, Choice, Effect, IsFront, IsServed, IsPossible, hub_step, stream_of, new_stream, is_open, may_serve, serve, serve_front, out_of_memory, broken_frame, served_with, no_effect, asks, replies_text, receive, serve_session, send, depart, IsReachedHub, Begun, Continued, with_stream, IsSessionStream, EndsStream, EndsItsStream, IsLawful, SameBytes, EndsOutput, own_bytes, cases_eq, cond_both, not-false, find, put}
 use Rattle.std.specs.List.{AllByRecursion, flat_map}
 use Rattle.std.proofs.{lemmas.List.Concat.flat_map-append, lemmas.List.Elements.recursion_from_All}
 use Rattle.model.specs.{Machine.Leaves as LeavesIt, Laws.IsIsolated, PrivateCopy.copy_of, PrivateCopy.responses}
@@ -21,31 +21,11 @@ by_if P true x y p q = p
 by_if P false x y p q = q
 
 served_moves : (c : Choice) (m : State) (s : ℕ) (n : SessionState) → Moved c m (serve c m s n).machine
-served_moves c m s n = let P : Effect → Type 0 = λ e. Moved c m e.machine in by_if P (may_serve n) _ _ (found c.front) Rests
-  where
-    found : (f : Front) → Moved c m (serve_front f c m s n).machine
-    found (Whole parts used) = let P : Effect → Type 0 = λ e. Moved c m e.machine in by_if P c.refused _ _ (Lets s) (Steps s (asks parts))
-    found More = Rests
-    found Bad = Lets s
-
-stays : (c : Choice) (m after : State) → after ≡ m → Moved c m after
-stays c m after same = subst (Moved c m) (sym same) Rests
+served_moves c m s n = grind (arith, common_steps, Rests, Lets, Steps)
 
 pub moved : (h : HubState) (e : HubEvent) (c : Choice) → Moved c h.machine (hub_step h e c).0.machine
 unfolding hub_step
-moved h (Joins s) c = stays c h.machine _ (grind (arith, common_steps))
-moved h (Receives s piece) c = stays c h.machine _ (grind (arith, common_steps))
-moved h (Serves s) c = answered (stream_of h s)
-  where
-    answered : (o : Option SessionStream) → Moved c h.machine (serve_session o h s c).0.machine
-    answered None = Rests
-    answered (Some st) = served_moves c h.machine s st.now
-moved h (Sends s n) c = stays c h.machine _ (grind (arith, common_steps))
-moved h (Leaves s) c = parted (stream_of h s)
-  where
-    parted : (o : Option SessionStream) → Moved c h.machine (depart o h s).0.machine
-    parted None = Rests
-    parted (Some st) = Lets s
+moved h e c = grind (arith, common_steps, Rests, Lets, Steps, served_moves)
 
 pub reached_moved : (c : Choice) (m after : State) → IsReached m → Moved c m after → IsReached after
 reached_moved c m after r Rests = r
@@ -133,29 +113,7 @@ module _ (st : SessionStream) (h : IsSessionStream st) (c : Choice) (m : State) 
 
 pub streams_step : (h : HubState) (e : HubEvent) (c : Choice) → IsPossible h e c → AreStreams h → AreStreams (hub_step h e c).0
 unfolding hub_step
-streams_step h (Joins s) c possible a =
-    let P : HubState × Outcome → Type 0 = λ r. AreStreams r.0 in
-    let fresh : IsSessionStream new_stream = record { rest = []; input = refl; inbox = λ _. refl; output = refl } in
-    by_if P (not (is_above s h.latest)) _ _ a (by_if P (nat_le 128 (length h.present)) _ _ a (by_if P c.refused _ _ a (record { present = all-insert s new_stream h.present a.present fresh; gone = a.gone })))
-streams_step h (Receives s piece) c possible a = brought (stream_of h s) refl
-  where
-    brought : (o : Option SessionStream) → stream_of h s ≡ o → AreStreams (receive o h s piece).0
-    brought o is = grind (arith, common_steps, all-lookup, by_if, nat_lt, all-set, brought_more)
-streams_step h (Serves s) c possible a = answered (stream_of h s) refl possible
-  where
-    answered : (o : Option SessionStream) → stream_of h s ≡ o → IsServePossible h.machine s o c → AreStreams (serve_session o h s c).0
-    answered o is possible = grind (arith, common_steps, all-lookup, all-set, serving)
-streams_step h (Sends s n) c possible a = sent (stream_of h s) refl
-  where
-    sent : (o : Option SessionStream) → stream_of h s ≡ o → AreStreams (send o h s n).0
-    sent o is = grind (arith, common_steps, all-lookup, by_if, nat_le, all-set, sent_some)
-streams_step h (Leaves s) c possible a = parted (stream_of h s) refl
-  where
-    parted : (o : Option SessionStream) → stream_of h s ≡ o → AreStreams (depart o h s).0
-    parted None e = a
-    parted (Some st) e =
-        let its = all-lookup (is_at (nat_cmp s)) h.present st a.present e in
-        record { present = all-remove (is_at (nat_cmp s)) h.present a.present; gone = all-append (λ e. IsSessionStream e.1) h.gone ((s, st) ∷ []) a.gone (its, tt) }
+streams_step h e c possible a = grind (arith, common_steps, all-lookup, all-insert, all-set, all-remove, all-append (λ (x : ℕ × SessionStream). IsSessionStream x.1), brought_more, sent_some, serving)
 
 pub are_streams : (h : HubState) → IsReachedHub h → AreStreams h
 are_streams h (Begun m r none) = record { present = tt; gone = tt }
@@ -284,20 +242,14 @@ invariant_step h (Receives s piece) c invariant = brought (stream_of h s) refl
   where
     brought : (o : Option SessionStream) → stream_of h s ≡ o → Invariant (receive o h s piece).0
     brought o is = grind (arith, common_steps, by_if, nat_lt, same_session)
-invariant_step h (Serves s) c invariant = answered (stream_of h s) refl
-  where
-    answered : (o : Option SessionStream) → stream_of h s ≡ o → Invariant (serve_session o h s c).0
-    answered None e = invariant
-    answered (Some st) e = served h invariant s st e c
+invariant_step h (Serves s) c invariant =
+    elim (stream_of h s) as (λ o. stream_of h s ≡ o → Invariant (serve_session o h s c).0) [ None ↦ λ e. invariant | Some st ↦ λ e. served h invariant s st e c ] refl
 invariant_step h (Sends s n) c invariant = sent (stream_of h s) refl
   where
     sent : (o : Option SessionStream) → stream_of h s ≡ o → Invariant (send o h s n).0
     sent o is = grind (arith, common_steps, by_if, nat_le, same_session)
-invariant_step h (Leaves s) c invariant = gone (stream_of h s) refl
-  where
-    gone : (o : Option SessionStream) → stream_of h s ≡ o → Invariant (depart o h s).0
-    gone None e = invariant
-    gone (Some st) e = parted h invariant s st e
+invariant_step h (Leaves s) c invariant =
+    elim (stream_of h s) as (λ o. stream_of h s ≡ o → Invariant (depart o h s).0) [ None ↦ λ e. invariant | Some st ↦ λ e. parted h invariant s st e ] refl
 
 pub always : (h : HubState) → IsReachedHub h → Invariant h
 always h (Begun m r none) = grind (arith, common_steps)

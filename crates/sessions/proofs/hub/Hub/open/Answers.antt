@@ -17,21 +17,7 @@ returns-in-Ok-clause-opens g c keeps = record {
 }
 
 pub returns-in-Ok-clause-tells : goal.returns-in-Ok-clause-tells
-returns-in-Ok-clause-tells g c = record {
-  faults = tt;
-  cause = tt;
-  short = c.in-Ok.ensures.short;
-  damaged = c.in-Ok.ensures.damaged;
-  no_log = c.in-Ok.ensures.no_log;
-  older = c.in-Ok.ensures.older;
-}
+returns-in-Ok-clause-tells g c = assumption (c.in-Ok.ensures)
 
 pub returns-in-Err-clause-tells : goal.returns-in-Err-clause-tells
-returns-in-Err-clause-tells g c = record {
-  faults = c.in-Err.ensures.faults;
-  cause = c.in-Err.ensures.cause;
-  short = c.in-Err.ensures.short;
-  damaged = c.in-Err.ensures.damaged;
-  no_log = c.in-Err.ensures.no_log;
-  older = c.in-Err.ensures.older;
-}
+returns-in-Err-clause-tells g c = assumption (c.in-Err.ensures)

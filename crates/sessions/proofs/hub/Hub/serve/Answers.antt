@@ -1,4 +1,4 @@
-use Rattle.sessions.proofs.Words.{refl, hub_step, More}
+use Rattle.sessions.proofs.Words.{common_steps, arith, refl, hub_step, More}
 use Rattle.sessions.proofs.EventSteps.{leads, serves, stream-none}
 use Rattle.sessions.proofs.hub.Hub.serve.Goals as goal
 
@@ -8,6 +8,5 @@ returns-in-Some-clause-step g c =
 
 pub returns-in-None-clause-step : goal.returns-in-None-clause-step
 unfolding hub_step
-returns-in-None-clause-step g c = leads c.args.self.now _ _ _ More (λ h stands. (
-    let none = stream-none c.args.self.now h stands c.args.s c.in-None.ensures.value in
-    (rw none tt, rw none (record { engine = stands.engine; sessions = stands.sessions; latest = stands.latest; outcome_is = refl }))))
+returns-in-None-clause-step g c =
+    leads c.args.self.now _ _ _ More (λ h stands. grind (arith, common_steps, stream-none c.args.self.now h stands c.args.s c.in-None.ensures.value))
