@@ -1,9 +1,9 @@
 -- A buffer that holds nothing has room.
-use Rattle.stream_driver.proofs.Words.{◌≡◌, ◌≢◌, inl, inr, ℕ, ◌-◌, ◌<◌, ◌≤◌, ◌⊎◌, ◌↔◌, not, nat_lt, true, false, List, [], ◌∷◌, ◌++◌, append_assoc, Bool, length, take, drop, vec_len, refl, sym, ap, subst, ◌∙◌, arith, AllByRecursion, nat_tests, common_steps, append-nil, take-append-drop, all-each, ReadAnswer, Moved, Blocked as ReadBlocked, Failed as ReadFailed, WriteAnswer, Wrote, WriteBlocked, WriteFailed, Call, Read, Write, HeldBytes, Flushed, All, FlushedBlocked as Blocked, FlushedFailed as Failed, BufferedStream, held_in, BehindEnds, BehindMoved, FlushFails, GivesSome, KeepsBytes, ShortAfter, TakesSome, WasRead, WhyGave, WhyTook, traffic_through, ReadFails, RoomFails, StaysFailed, WhyRoom, WriteFails, WritesHeld, AllMoved, Departure, DepartAt, EndsWith, IsBeginning, ReadsWithin, Traffic, WritesWithin, bytes_read, bytes_written}
+use Rattle.stream_driver.proofs.Words.{◌≡◌, ◌≢◌, inl, inr, ℕ, ◌-◌, ◌<◌, ◌≤◌, ◌⊎◌, ◌↔◌, not, true, false, List, [], ◌++◌, append_assoc, Bool, length, take, drop, vec_len, refl, sym, ap, subst, ◌∙◌, arith, AllByRecursion, common_steps, append-nil, take-append-drop, all-each, ReadAnswer, Moved, WriteAnswer, Wrote, WriteBlocked, WriteFailed, Read, Write, HeldBytes, Flushed, All, FlushedBlocked as Blocked, FlushedFailed as Failed, BufferedStream, held_in, BehindEnds, BehindMoved, FlushFails, GivesSome, KeepsBytes, ShortAfter, TakesSome, WasRead, WhyGave, WhyTook, traffic_through, ReadFails, RoomFails, StaysFailed, WhyRoom, WriteFails, WritesHeld, AllMoved, Departure, DepartAt, EndsWith, IsBeginning, ReadsWithin, Traffic, WritesWithin, bytes_read, bytes_written, all-append}
 use Rattle.std.proofs.Common.{length-drop}
 use Rattle.stream_driver.specs.Buffers.{room_in, Flushes, WhyFlushed}
-use Rattle.stream_driver.proofs.Answered.{ends_same, ends_then, moved_then, none_called}
-use Rattle.stream_driver.proofs.Carry.{all_then, grown}
+use Rattle.stream_driver.proofs.Answered.{ends_then, moved_then, none_called}
+use Rattle.stream_driver.proofs.Carry.{grown}
 
 empty_room : (h : HeldBytes) → held_in h ≡ [] → 0 < room_in h
 empty_room h e =
@@ -14,19 +14,11 @@ empty_room h e =
     omega arith
 
 pub room_after : {T : Type 0} (traffic : T → Traffic) (answer : Flushed) (a b : BufferedStream T) → WhyFlushed traffic a answer b → WhyRoom traffic a answer b
-room_after traffic All a b e = (empty_room b.held e.0, e.1)
-room_after traffic _ a b e = e
-
-pub not_less : (n len : ℕ) (b : Bool) → len ≤ n → b ≡ nat_lt n len → b ≡ false
-not_less n len b le is = grind (arith, nat_tests)
+room_after traffic answer a b e = grind (arith, empty_room)
 
 -- a read that moved bytes is short where they are fewer than it asked for, unless such a read means nothing
 pub short_moved : (n len : ℕ) (was now short : Bool) → now ≡ was → ((n < len) × (short ≡ not now)) ⊎ ((len ≤ n) × (short ≡ false)) → (short ≡ true) ↔ ((n < len) × (was ≡ false))
 short_moved n len was now short same how = (λ on. (grind (arith, common_steps), grind (arith, common_steps)), λ p. grind (arith, common_steps))
-
-pub some_length : (l : List ℕ) → l ≢ [] → 0 < length l
-some_length [] some = absurd (some refl)
-some_length (x ∷ xs) some = omega arith
 
 -- ---- what left
 
@@ -43,22 +35,12 @@ module _ {moment : ℕ} {a b : Traffic} where
   module _ {c : Traffic} where
     -- more was taken since
     pub departed_and_taken : (more : List ℕ) → c.departed ≡ b.departed → c.taken ≡ b.taken ++ more → DepartAt moment a b → DepartAt moment a c
-    departed_and_taken more e taken p = record {
-      departures = p.departures;
-      departed_are = e ∙ p.departed_are;
-      each = beginnings_then moment b.taken more c.taken taken p.departures p.each;
-    }
-
-    -- the same was taken, and nothing more left
-    pub departed_still : c.departed ≡ b.departed → c.taken ≡ b.taken → DepartAt moment a b → DepartAt moment a c
-    departed_still e taken p = departed_and_taken [] e (taken ∙ sym (append-nil b.taken)) p
+    departed_and_taken more e taken p = search (e ∙ p.departed_are, beginnings_then moment b.taken more c.taken taken p.departures p.each)
 
     pub departed_then : (more : List ℕ) → c.taken ≡ b.taken ++ more → DepartAt moment a b → DepartAt moment b c → DepartAt moment a c
-    departed_then more taken p q = record {
-      departures = p.departures ++ q.departures;
-      departed_are = grown a.departed b.departed b.departed c.departed p.departures q.departures p.departed_are refl q.departed_are;
-      each = all_then (λ d. (d.moment ≡ moment) × IsBeginning d.bytes c.taken) p.departures q.departures (beginnings_then moment b.taken more c.taken taken p.departures p.each) q.each;
-    }
+    departed_then more taken p q =
+        let each = all-append (λ d. (d.moment ≡ moment) × IsBeginning d.bytes c.taken) p.departures q.departures (beginnings_then moment b.taken more c.taken taken p.departures p.each) q.each in
+        search (grown a.departed b.departed b.departed c.departed p.departures q.departures p.departed_are refl q.departed_are, each)
 
 -- between two writes of what is held
 abbrev pub FlushedSoFar : {T : Type 0} (tells : Type 0) (traffic : T → Traffic) (moment : ℕ) → BufferedStream T → BufferedStream T → Type 0
@@ -75,71 +57,44 @@ module _ {T : Type 0} where
 
   -- where there was no room, what is held was written
   pub room_flushed : (a : BufferedStream T) (answer : Flushed) (b : BufferedStream T) → room_in a.held ≡ 0 → FlushFails a answer b → RoomFails a answer b
-  room_flushed a Failed b none s = s
-  room_flushed a Blocked b none s = s
-  room_flushed a All b none s = (elim s [ inl x ↦ inl x.1 | inr y ↦ inr (none, y.1) ], s)
+  room_flushed a answer b none s = grind arith
 
   write_fails : (old new : BufferedStream T) (answer : WriteAnswer) → held_in new.held ≡ [] → RoomFails old All new → WriteFails old answer new
-  write_fails old new (Wrote n) none stays = stays.0
-  write_fails old new WriteBlocked none stays = stays.1
-  write_fails old new WriteFailed none stays = inr (none, stays.1)
+  write_fails old new answer none stays = grind arith
 
   read_fails : (old new : BufferedStream T) (answer : ReadAnswer) → held_in new.held ≡ [] → StaysFailed old new → ReadFails old answer new
-  read_fails old new ReadFailed none stays = inr (none, stays)
-  read_fails old new _ none stays = stays
+  read_fails old new answer none stays = grind arith
 
   -- a read that moved nothing
   pub short_still : (old new : BufferedStream T) (len : ℕ) (answer : ReadAnswer) → ((n : ℕ) → answer ≢ Moved n) → new.is_short ≡ old.is_short → ShortAfter old len answer new
-  short_still old new len (Moved n) differs same = absurd (differs n refl)
-  short_still old new len _ differs same = same
+  short_still old new len answer differs same = grind arith
 
   -- a call of a buffered stream is of the connection of the stream behind
   module _ (traffic : T → Traffic) (old new : BufferedStream T) where
-    ends_behind : (call : Call) → BehindEnds traffic call old new → (traffic new.inner).connection ≡ (traffic old.inner).connection
-    ends_behind call ends = ends_same call (traffic old.inner) (traffic new.inner) ends
-
     pub gave_same : (answer : ReadAnswer) → WhyGave traffic old answer new → (traffic new.inner).connection ≡ (traffic old.inner).connection
-    gave_same ReadFailed why = elim why [ inl read ↦ ends_behind (Read ReadFailed) read.2 | inr ends ↦ ends_behind (Write WriteFailed) ends ]
-    gave_same ReadBlocked why = elim why [ inl read ↦ ends_behind (Read ReadBlocked) read.2 | inr other ↦ elim other [ inl ends ↦ ends_behind (Write WriteBlocked) ends | inr none ↦ none.2.5 ] ]
-    gave_same answer why = ends_behind (Read answer) why.2
+    gave_same answer why = grind arith
 
     pub took_same : (answer : WriteAnswer) → WhyTook traffic old answer new → (traffic new.inner).connection ≡ (traffic old.inner).connection
-    took_same (Wrote n) why = why.5
-    took_same answer why = ends_behind (Write answer) why
+    took_same answer why = grind arith
 
     pub flushed_same : (answer : Flushed) → WhyFlushed traffic old answer new → (traffic new.inner).connection ≡ (traffic old.inner).connection
-    flushed_same All why = why.1.5
-    flushed_same Blocked why = ends_behind (Write WriteBlocked) why
-    flushed_same Failed why = ends_behind (Write WriteFailed) why
+    flushed_same answer why = grind arith
 
     why_gave : (answer : ReadAnswer) → WasRead traffic old answer new → WhyGave traffic old answer new
-    why_gave ReadBlocked read = inl read
-    why_gave ReadFailed read = inl read
-    why_gave _ read = read
+    why_gave answer read = grind arith
 
     why_took : (answer : WriteAnswer) → BehindEnds traffic (Write answer) old new → WhyTook traffic old answer new
-    why_took (Wrote n) ends = ends.0
-    why_took _ ends = ends
+    why_took answer ends = grind arith
 
     -- what left in a call of the stream behind
     left_behind : {moment : ℕ} → DepartAt moment (traffic old.inner) (traffic new.inner) → DepartAt moment (traffic_through traffic old) (traffic_through traffic new)
-    left_behind {moment} p = record {
-      departures = p.departures;
-      departed_are = p.departed_are;
-      each = beginnings_then moment (traffic new.inner).taken (held_in new.held) (traffic_through traffic new).taken refl p.departures p.each;
-    }
+    left_behind {moment} p = search (p.departed_are, beginnings_then moment (traffic new.inner).taken (held_in new.held) (traffic_through traffic new).taken refl p.departures p.each)
 
   module _ {tells : Type 0} {traffic : T → Traffic} {moment : ℕ} where
     kept_then : {a b c : BufferedStream T} → KeepsBytes tells traffic moment a b → KeepsBytes tells traffic moment b c → KeepsBytes tells traffic moment a c
-    kept_then {a} {b} p q = record {
-      given = λ t. q.given t ∙ p.given t;
-      taken = λ t. q.taken t ∙ p.taken t;
-      departed = λ t. departed_then [] (q.taken t ∙ sym (append-nil ((traffic b.inner).taken ++ held_in b.held))) (p.departed t) (q.departed t);
-      counts = q.counts ∙ p.counts;
-      short = q.short ∙ p.short;
-      drained = q.drained ∙ p.drained;
-      reads_on = q.reads_on ∙ p.reads_on;
-    }
+    kept_then {a} {b} p q =
+        let departed = λ (t : tells). departed_then [] (q.taken t ∙ sym (append-nil ((traffic b.inner).taken ++ held_in b.held))) (p.departed t) (q.departed t) in
+        assumption (λ (t : tells). q.given t ∙ p.given t, λ (t : tells). q.taken t ∙ p.taken t, departed, q.counts ∙ p.counts, q.short ∙ p.short, q.drained ∙ p.drained, q.reads_on ∙ p.reads_on)
 
     pub flushed_none : (b : BufferedStream T) → FlushedSoFar tells traffic moment b b
     flushed_none b = (record { given = λ t. refl; taken = λ t. refl; departed = λ t. none_departed refl; counts = refl; short = refl; drained = refl; reads_on = refl }, inl (refl, refl), none_called (traffic b.inner))
@@ -157,25 +112,14 @@ module _ {T : Type 0} where
     module _ {old : BufferedStream T} {inner : T} (given : tells → (traffic inner).given ≡ (traffic old.inner).given) (departed : tells → DepartAt moment (traffic old.inner) (traffic inner)) where
       keeps : (held : HeldBytes) (failed : Bool) → (tells → (traffic inner).taken ++ held_in held ≡ (traffic old.inner).taken ++ held_in old.held)
           → KeepsBytes tells traffic moment old (record old { inner = inner; held = held; has_failed = failed })
-      keeps held failed taken = record {
-        given = given;
-        taken = taken;
-        departed = λ t. left_behind traffic old (record old { inner = inner; held = held; has_failed = failed }) (departed t);
-        counts = refl;
-        short = refl;
-        drained = refl;
-        reads_on = refl;
-      }
+      keeps held failed taken = assumption (λ (t : tells). left_behind traffic old (record old { inner = inner; held = held; has_failed = failed }) (departed t))
 
       -- some of what is held left
       pub wrote_held : {n : ℕ} (held : HeldBytes) {from : List ℕ} → AllMoved (traffic old.inner) (traffic inner) → from ≡ held_in old.held → (0 < n) × (n ≤ length from) → held_in held ≡ drop n (held_in old.held) → (tells → (traffic inner).taken ≡ (traffic old.inner).taken ++ take n from)
           → WritesHeld tells traffic moment old (Wrote n) (record old { inner = inner; held = held; has_failed = false })
-      wrote_held {n} held {from} moved is fits rest taken = record {
-        kept = keeps held false (λ t.
-            ap (λ l. l ++ held_in held) (taken t) ∙ append_assoc (traffic old.inner).taken (take n from) (held_in held)
-            ∙ ap (λ l. (traffic old.inner).taken ++ l) (ap (λ l. take n l ++ held_in held) is ∙ ap (λ l. take n (held_in old.held) ++ l) rest ∙ take-append-drop n (held_in old.held)));
-        why = (fits.0, subst (λ l. n ≤ length l) is fits.1, rest, refl, moved);
-      }
+      wrote_held {n} held moved is fits rest taken =
+          let kept = keeps held false (λ t. rw (taken t, rest, is, append_assoc, take-append-drop)) in
+          record { kept = kept; why = (fits.0, subst (λ l. n ≤ length l) is fits.1, rest, refl, moved) }
 
       -- none of it left
       pub kept_held : (failed : Bool) → (tells → (traffic inner).taken ≡ (traffic old.inner).taken ++ []) → KeepsBytes tells traffic moment old (record old { inner = inner; has_failed = failed })
@@ -193,16 +137,10 @@ module _ {T : Type 0} where
         → GivesSome tells traffic moment old before answer (record mid { inner = inner; is_short = short }) after
     gives_some {old} {mid} {inner} short {before} {after} answer flushed within given taken departed answered more shorter =
         let new : BufferedStream T = record mid { inner = inner; is_short = short } in
-        record {
-          within = within;
-          given = λ t. given t ∙ ap (λ l. l ++ take (bytes_read answer) after) (flushed.kept.given t);
-          taken = λ t. ap (λ l. l ++ held_in mid.held) (taken t) ∙ flushed.kept.taken t;
-          departed = λ t. left_then old mid new [] flushed.kept t (ap (λ l. l ++ held_in mid.held) (taken t) ∙ sym (append-nil ((traffic mid.inner).taken ++ held_in mid.held))) (departed t);
-          counts = flushed.kept.counts;
-          why = why_gave traffic old new answer (sym flushed.kept.drained ∙ more, flushed.why.0, ends_then (Read answer) (traffic old.inner) (traffic mid.inner) (traffic inner) flushed.why.1 answered);
-          failed = read_fails old new answer flushed.why.0 flushed.failed;
-          short = record { short = shorter; drained = flushed.kept.drained; reads_on = flushed.kept.reads_on };
-        }
+        let all = λ (t : tells). ap (λ l. l ++ held_in mid.held) (taken t) in
+        let left = λ (t : tells). left_then old mid new [] flushed.kept t (all t ∙ sym (append-nil ((traffic mid.inner).taken ++ held_in mid.held))) (departed t) in
+        let why = why_gave traffic old new answer (sym flushed.kept.drained ∙ more, flushed.why.0, ends_then (Read answer) (traffic old.inner) (traffic mid.inner) (traffic inner) flushed.why.1 answered) in
+        assumption (λ (t : tells). given t ∙ ap (λ l. l ++ take (bytes_read answer) after) (flushed.kept.given t), λ (t : tells). all t ∙ flushed.kept.taken t, left, why, read_fails old new answer flushed.why.0 flushed.failed)
 
     module _ {old mid : BufferedStream T} (kept : KeepsBytes tells traffic moment old mid) (stays : RoomFails old All mid) (moved : BehindMoved traffic old mid) {from : List ℕ} where
       -- the stream behind took them
@@ -213,33 +151,13 @@ module _ {T : Type 0} where
           let new : BufferedStream T = record mid { inner = inner } in
           let all : tells → (traffic inner).taken ++ held_in mid.held ≡ ((traffic mid.inner).taken ++ held_in mid.held) ++ take (bytes_written answer) from =
           λ t. rw none (append-nil (traffic inner).taken ∙ taken t ∙ ap (λ l. l ++ take (bytes_written answer) from) (sym (append-nil (traffic mid.inner).taken))) in
-          record {
-            within = within;
-            given = λ t. given t ∙ kept.given t;
-            taken = λ t. all t ∙ ap (λ l. l ++ take (bytes_written answer) from) (kept.taken t);
-            departed = λ t. left_then old mid new (take (bytes_written answer) from) kept t (all t) (departed t);
-            counts = kept.counts;
-            why = why_took traffic old new answer (ends_then (Write answer) (traffic old.inner) (traffic mid.inner) (traffic inner) moved answered);
-            failed = write_fails old new answer none stays;
-            short = kept.short;
-            drained = kept.drained;
-            reads_on = kept.reads_on;
-          }
+          let left = λ (t : tells). left_then old mid new (take (bytes_written answer) from) kept t (all t) (departed t) in
+          let why = why_took traffic old new answer (ends_then (Write answer) (traffic old.inner) (traffic mid.inner) (traffic inner) moved answered) in
+          assumption (λ (t : tells). given t ∙ kept.given t, λ (t : tells). all t ∙ ap (λ l. l ++ take (bytes_written answer) from) (kept.taken t), left, why, write_fails old new answer none stays)
 
       -- they are held
       pub takes_in : (held : HeldBytes) {n : ℕ} → (0 < n) × (n ≤ length from) → held_in held ≡ held_in mid.held ++ take n from → TakesSome tells traffic moment old from (Wrote n) (record mid { held = held })
       takes_in held {n} fits is =
           let all : (traffic mid.inner).taken ++ held_in held ≡ ((traffic mid.inner).taken ++ held_in mid.held) ++ take n from =
           ap (λ l. (traffic mid.inner).taken ++ l) is ∙ sym (append_assoc (traffic mid.inner).taken (held_in mid.held) (take n from)) in
-          record {
-            within = fits;
-            given = kept.given;
-            taken = λ t. all ∙ ap (λ l. l ++ take n from) (kept.taken t);
-            departed = λ t. departed_and_taken (take n from) refl all (kept.departed t);
-            counts = kept.counts;
-            why = moved;
-            failed = stays.0;
-            short = kept.short;
-            drained = kept.drained;
-            reads_on = kept.reads_on;
-          }
+          assumption (λ (t : tells). all ∙ ap (λ l. l ++ take n from) (kept.taken t), λ (t : tells). departed_and_taken {c = traffic_through traffic (record mid { held = held })} (take n from) refl all (kept.departed t))

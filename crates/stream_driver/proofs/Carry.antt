@@ -1,5 +1,5 @@
 -- Parts of a run follow one another.
-use Rattle.stream_driver.proofs.Words.{◌≡◌, ◌⊎◌, inr, ℕ, ◌≤◌, true, List, [], ◌∷◌, ◌++◌, length, map, Some, refl, sym, ap, subst, ◌∙◌, arith, append_assoc, flat_map, AllByRecursion, nat_tests, append-nil, map-append, reply_text, all-append, HubState, SessionStream, HubEvent, Choice, ArePossible, run, hub_step, Traffic, failures_in, has_risen, Adds, ComeInTurn, GoesOn, Point, Runs, session_of, status_at, IsPresentIn, Moves, Carried}
+use Rattle.stream_driver.proofs.Words.{◌≡◌, ◌≢◌, ◌⊎◌, inr, ℕ, ◌≤◌, true, List, [], ◌∷◌, ◌++◌, length, Some, refl, sym, ap, subst, ◌∙◌, arith, append_assoc, flat_map, nat_tests, append-nil, map-append, reply_text, all-append, HubState, SessionStream, HubEvent, Choice, ArePossible, run, hub_step, Traffic, failures_in, has_risen, Adds, ComeInTurn, GoesOn, Point, Runs, session_of, status_at, IsPresentIn, Moves, Carried, common_steps}
 use Rattle.std.proofs.lemmas.List.Concat.{flat_map-append}
 use Rattle.stream_driver.proofs.Events.{no_events}
 
@@ -10,37 +10,23 @@ grown a b b' c x y e same f = f ∙ ap (λ l. l ++ y) (same ∙ e) ∙ append_as
 pub texts_then : (gone1 pend1 pend1' pend0 made1 gone2 pend2 made2 : List ℕ) → gone1 ++ pend1 ≡ pend0 ++ made1 → pend1' ≡ pend1 → gone2 ++ pend2 ≡ pend1' ++ made2
     → (gone1 ++ gone2) ++ pend2 ≡ pend0 ++ (made1 ++ made2)
 texts_then gone1 pend1 pend1' pend0 made1 gone2 pend2 made2 e same f =
-    append_assoc gone1 gone2 pend2 ∙ ap (λ l. gone1 ++ l) (f ∙ ap (λ l. l ++ made2) same) ∙ sym (append_assoc gone1 pend1 made2) ∙ ap (λ l. l ++ made2) e ∙ append_assoc pend0 made1 made2
+    grind (arith, common_steps)
 
 abbrev pub history_then : (a b b' c : SessionStream) → b' ≡ b → GoesOn a b → GoesOn b' c → GoesOn a c
-history_then a b b' c same p q = record {
-  received = p.received ++ q.received;
-  received_is = grown a.received b.received b'.received c.received p.received q.received p.received_is (ap (λ x. x.received) same) q.received_is;
-  served = p.served ++ q.served;
-  served_is = grown a.served b.served b'.served c.served p.served q.served p.served_is (ap (λ x. x.served) same) q.served_is;
-  replies = p.replies ++ q.replies;
-  replies_is = grown a.replies b.replies b'.replies c.replies p.replies q.replies p.replies_is (ap (λ x. x.replies) same) q.replies_is;
-  sent = p.sent ++ q.sent;
-  sent_is = grown a.sent b.sent b'.sent c.sent p.sent q.sent p.sent_is (ap (λ x. x.sent) same) q.sent_is;
-  texts =
-      texts_then p.sent b.now.pending b'.now.pending a.now.pending (flat_map reply_text p.replies) q.sent c.now.pending (flat_map reply_text q.replies) p.texts (ap (λ x. x.now.pending) same) q.texts
-      ∙ ap (λ l. a.now.pending ++ l) (sym (flat_map-append reply_text p.replies q.replies));
-}
-
-pub all_then : {A : Type 0} (P : A → Type 0) (xs ys : List A) → AllByRecursion P xs → AllByRecursion P ys → AllByRecursion P (xs ++ ys)
-all_then P = all-append P
+history_then a b b' c same p q =
+    let received = grown a.received b.received b'.received c.received p.received q.received p.received_is (ap (λ x. x.received) same) q.received_is in
+    let served = grown a.served b.served b'.served c.served p.served q.served p.served_is (ap (λ x. x.served) same) q.served_is in
+    let replies = grown a.replies b.replies b'.replies c.replies p.replies q.replies p.replies_is (ap (λ x. x.replies) same) q.replies_is in
+    let sent = grown a.sent b.sent b'.sent c.sent p.sent q.sent p.sent_is (ap (λ x. x.sent) same) q.sent_is in
+    let texts = texts_then p.sent b.now.pending b'.now.pending a.now.pending (flat_map reply_text p.replies) q.sent c.now.pending (flat_map reply_text q.replies) p.texts (ap (λ x. x.now.pending) same) q.texts in
+    search (received, served, replies, sent, texts ∙ ap (λ l. a.now.pending ++ l) (sym (flat_map-append reply_text p.replies q.replies)))
 
 pub run_then : (h : HubState) (xs ys : List (HubEvent × Choice)) → run h (xs ++ ys) ≡ run (run h xs) ys
 run_then h [] ys = refl
 run_then h (x ∷ xs) ys = run_then (hub_step h x.0 x.1).0 xs ys
 
 pub adds_then : (a b c : Point) (es fs : List (HubEvent × Choice)) → Adds a es b → Adds b fs c → Adds a (es ++ fs) c
-adds_then a b c es fs p q = record {
-  run_is = q.run_is ∙ ap (λ v. run v fs) p.run_is ∙ sym (run_then a.hub es fs);
-  events_are =
-      grown a.events b.events b.events c.events (map (λ (e : HubEvent × Choice). e.0) es) (map (λ (e : HubEvent × Choice). e.0) fs) p.events_are refl q.events_are
-      ∙ ap (λ l. a.events ++ l) (sym (map-append (λ (e : HubEvent × Choice). e.0) es fs));
-}
+adds_then a b c es fs p q = grind (arith, common_steps, run_then, map-append)
 
 pub possible_then : (h : HubState) (xs ys : List (HubEvent × Choice)) → ArePossible h xs → ArePossible (run h xs) ys → ArePossible h (xs ++ ys)
 possible_then h [] ys a b = b
@@ -59,21 +45,13 @@ pub one_history : (x y : SessionStream) → Some x ≡ Some y → x ≡ y
 one_history x y e = cc
 
 abbrev pub runs_then : (s : ℕ) (a b c : Point) → Runs s a b → Runs s b c → Runs s a c
-runs_then s a b c p q = record {
-  events = p.events ++ q.events;
-  own = all_then (λ e. session_of e.0 ≡ s) p.events q.events p.own q.own;
-  possible = possible_then a.hub p.events q.events p.possible (subst (λ v. ArePossible v q.events) p.adds.run_is q.possible);
-  adds = adds_then a b c p.events q.events p.adds q.adds;
-  counted = (let first = p.counted in let second = q.counted in omega arith);
-  risen_then = λ some. risen_either p.events q.events a.failures b.failures c.failures p.counted q.counted p.risen_then q.risen_then some;
-  first = p.first;
-  last = q.last;
-  first_is = p.first_is;
-  last_is = q.last_is;
-  history = history_then p.first p.last q.first q.last (one_history q.first p.last (sym q.first_is ∙ p.last_is)) p.history q.history;
-  present = q.present;
-  others = λ t apart. q.others t apart ∙ p.others t apart;
-}
+runs_then s a b c p q =
+    let own = all-append (λ e. session_of e.0 ≡ s) p.events q.events p.own q.own in
+    let possible = possible_then a.hub p.events q.events p.possible (subst (λ v. ArePossible v q.events) p.adds.run_is q.possible) in
+    let counted : a.failures ≤ c.failures = omega (arith, p.counted, q.counted) in
+    let risen = risen_either p.events q.events a.failures b.failures c.failures p.counted q.counted p.risen_then q.risen_then in
+    let history = history_then p.first p.last q.first q.last (one_history q.first p.last (sym q.first_is ∙ p.last_is)) p.history q.history in
+    search (own, possible, adds_then a b c p.events q.events p.adds q.adds, risen, history, p.first_is, q.last_is, λ (t : ℕ) (apart : t ≢ s). q.others t apart ∙ p.others t apart)
 
 pub in_turn_then : (h : HubState) (xs ys : List (HubEvent × Choice)) → ComeInTurn h xs → ComeInTurn (run h xs) ys → ComeInTurn h (xs ++ ys)
 in_turn_then h [] ys a b = b
@@ -83,12 +61,7 @@ module _ {s : ℕ} {tells : Type 0} where
   -- a run in which nothing was served or replied, over what the stream moved
   abbrev pub moved_by : {h k : Point} {before after : Traffic} (r : Runs s h k) → ComeInTurn h.hub r.events → (tells → after.given ≡ before.given ++ r.history.received) → (tells → after.taken ≡ before.taken ++ r.history.sent)
       → length r.history.served ≡ 0 → r.history.replies ≡ [] → status_at k.hub s ≡ status_at h.hub s → Moves s tells h before k after
-  moved_by r turn given taken served replied status = record {
-    carried = record { runs = r; in_turn = turn; given = given; taken = taken };
-    none_served = served;
-    none_replied = replied;
-    status = status;
-  }
+  moved_by r turn given taken served replied status = record { carried = record { runs = r; in_turn = turn; given = given; taken = taken }; none_served = served; none_replied = replied; status = status }
 
   -- the stream answered, and the hub stayed
   abbrev pub answered : {h : Point} {before after : Traffic} → IsPresentIn h.hub s → (tells → after.given ≡ before.given ++ []) → (tells → after.taken ≡ before.taken ++ []) → Moves s tells h before h after
@@ -100,12 +73,7 @@ module _ {s : ℕ} {tells : Type 0} where
 
   -- the stream stayed, and the hub ran
   abbrev pub alone : {h k : Point} {t : Traffic} (r : Runs s h k) → ComeInTurn h.hub r.events → [] ≡ r.history.received → [] ≡ r.history.sent → Carried s tells h t k t
-  alone {h} {k} {t} r in_turn received sent = record {
-    runs = r;
-    in_turn = in_turn;
-    given = λ _. sym (append-nil t.given) ∙ ap (λ l. t.given ++ l) received;
-    taken = λ _. sym (append-nil t.taken) ∙ ap (λ l. t.taken ++ l) sent;
-  }
+  alone r in_turn received sent = record { runs = r; in_turn = in_turn; given = λ _. rw (← received, append-nil); taken = λ _. rw (← sent, append-nil) }
 
   -- one part after another
   abbrev pub and_then : {old : Point} {before : Traffic} {mid : Point} {between : Traffic} {new : Point} {after : Traffic} → Carried s tells old before mid between → Carried s tells mid between new after

@@ -1,7 +1,7 @@
 -- What one event does to the history of its session.
-use Rattle.stream_driver.proofs.Words.{◌≡◌, ◌≢◌, ◌⊎◌, inl, inr, ℕ, ◌≤◌, Bool, nat_le, nat_lt, true, false, if◌then◌else◌, List, [], ◌∷◌, ◌++◌, length, take, drop, Option, Some, None, refl, sym, ap, subst, ◌∙◌, arith, nat_cmp, flat_map, nat_tests, append-nil, take-append-drop, IsProperBeginning, reply_text, Absent, Open, Ending, Refused, Outcome, Done, Memory, HubState, SessionState, SessionStream, HubEvent, Receives, Serves, Sends, Leaves, Front, Whole, More, Bad, IsFront, Choice, Effect, IsPossible, IsServePossible, hub_step, stream_of, with_stream, with_effect, depart, may_serve, serve_front, out_of_memory, served_with, no_effect, asks, room, status_in, failures_in, has_risen, Adds, GoesOn, Point, Runs, session_of, status_at, IsPresentIn, common_steps}
+use Rattle.stream_driver.proofs.Words.{◌≡◌, ◌≢◌, ◌⊎◌, ℕ, ◌≤◌, Bool, nat_le, nat_lt, true, false, List, [], ◌∷◌, ◌++◌, length, take, drop, Option, Some, None, refl, sym, ap, subst, ◌∙◌, arith, nat_cmp, flat_map, nat_tests, append-nil, take-append-drop, IsProperBeginning, reply_text, Absent, Open, Ending, Refused, Outcome, Done, Memory, HubState, SessionState, SessionStream, HubEvent, Receives, Serves, Sends, Leaves, Front, IsFront, Choice, Effect, IsPossible, IsServePossible, hub_step, stream_of, with_stream, with_effect, depart, may_serve, serve_front, room, status_in, failures_in, has_risen, Adds, GoesOn, Point, Runs, session_of, status_at, IsPresentIn, common_steps}
 use Rattle.std.specs.{Map.lookup, Map.set_value, Map.remove_entry, BTreeMap.is_at}
-use Rattle.model.specs.{Map.Bytes, Machine.State, Machine.step, Operations.Response}
+use Rattle.model.specs.{Map.Bytes, Machine.State, Operations.Response}
 use Rattle.sessions.specs.declared.events.Outcome.TheVariants.{Idle}
 
 -- ---- sessions in the list of those that are present, after one of them has changed or gone
@@ -38,17 +38,7 @@ open_present h s is = λ gone. (let bad : Open ≡ Absent = sym is ∙ gone in c
 abbrev pub grows_by : (first last : SessionStream) (received : Bytes) (served : List (List Bytes)) (replies : List Response) (sent : Bytes)
     → last.received ≡ first.received ++ received → last.served ≡ first.served ++ served → last.replies ≡ first.replies ++ replies
     → last.sent ≡ first.sent ++ sent → sent ++ last.now.pending ≡ first.now.pending ++ flat_map reply_text replies → GoesOn first last
-grows_by first last received served replies sent received_is served_is replies_is sent_is texts = record {
-  received = received;
-  received_is = received_is;
-  served = served;
-  served_is = served_is;
-  replies = replies;
-  replies_is = replies_is;
-  sent = sent;
-  sent_is = sent_is;
-  texts = texts;
-}
+grows_by first last received served replies sent received_is served_is replies_is sent_is texts = search (received_is, served_is, replies_is, sent_is, texts)
 
 abbrev pub still : {A : Type 0} (xs : List A) → xs ≡ xs ++ []
 still xs = sym (append-nil xs)
@@ -61,21 +51,12 @@ abbrev pub adds_none : (p : Point) → Adds p [] p
 adds_none p = record { run_is = refl; events_are = sym (append-nil p.events) }
 
 abbrev pub no_events : (s : ℕ) (p : Point) → IsPresentIn p.hub s → Runs s p p
-no_events s p present = record {
-  events = [];
-  own = tt;
-  possible = tt;
-  adds = adds_none p;
-  counted = omega arith;
-  risen_then = λ some. absurd (omega (arith, some));
-  first = (found (stream_of p.hub s) present).0;
-  last = (found (stream_of p.hub s) present).0;
-  first_is = (found (stream_of p.hub s) present).1;
-  last_is = (found (stream_of p.hub s) present).1;
-  history = same_history (found (stream_of p.hub s) present).0;
-  present = present;
-  others = λ t apart. refl;
-}
+no_events s p present =
+    let here = found (stream_of p.hub s) present in
+    let counted : p.failures ≤ p.failures = omega arith in
+    let risen : 1 ≤ failures_in [] → has_risen p.failures p.failures ≡ true = λ some. absurd (omega (arith, some)) in
+    let others : (t : ℕ) → t ≢ s → stream_of p.hub t ≡ stream_of p.hub t = λ t apart. refl in
+    search (adds_none p, counted, risen, here.1, same_history here.0, others)
 
 -- an event that may happen so, after which so many calls of the device have failed
 pub record Happens (p : Point) (e : HubEvent) (c : Choice) (count : ℕ) : Type 0 where
@@ -92,21 +73,12 @@ fails_then e c risen same some = grind arith
 -- one event that changes its session's history alone
 abbrev pub one_event : (s : ℕ) (p : Point) (e : HubEvent) (c : Choice) (count : ℕ) (first last : SessionStream) → session_of e ≡ s → Happens p e c count → stream_of p.hub s ≡ Some first
     → (hub_step p.hub e c).0.present ≡ set_value (test s) p.hub.present last → GoesOn first last → last.now.status ≢ Absent → Runs s p (point_after p e c count)
-one_event s p e c count first last own happens is changes history present = record {
-  events = (e, c) ∷ [];
-  own = (own, tt);
-  possible = (happens.possible, tt);
-  adds = record { run_is = refl; events_are = refl };
-  counted = happens.counted;
-  risen_then = λ some. fails_then e c (has_risen p.failures count) happens.failed some;
-  first = first;
-  last = last;
-  first_is = is;
-  last_is = ap (lookup (test s)) changes ∙ set-same s last p.hub.present first is;
-  history = history;
-  present = λ gone. present (sym (ap status_in (ap (lookup (test s)) changes ∙ set-same s last p.hub.present first is)) ∙ gone);
-  others = λ t apart. ap (lookup (test t)) changes ∙ set-other s last p.hub.present t apart;
-}
+one_event s p e c count first last own happens is changes history present =
+    let adds : Adds p ((e, c) ∷ []) (point_after p e c count) = record { run_is = refl; events_are = refl } in
+    let last_is = ap (lookup (test s)) changes ∙ set-same s last p.hub.present first is in
+    let there = λ (gone : status_at (point_after p e c count).hub s ≡ Absent). present (sym (ap status_in last_is) ∙ gone) in
+    let others = λ (t : ℕ) (apart : t ≢ s). ap (lookup (test t)) changes ∙ set-other s last p.hub.present t apart in
+    search (adds, own, happens.possible, happens.counted, fails_then e c (has_risen p.failures count) happens.failed, is, last_is, history, there, others)
 
 -- ---- bytes come in
 
@@ -144,15 +116,11 @@ after_effect st e = record st { now = e.now; served = st.served ++ e.served; rep
 pub serves : (h : HubState) (s : ℕ) (c : Choice) (st : SessionStream) → stream_of h s ≡ Some st → st.now.status ≡ Open → st.now.pending ≡ []
     → hub_step h (Serves s) c ≡ with_effect h s st (serve_front c.front c h.machine s st.now)
 unfolding hub_step
-serves h s c st is opened nothing =
-    let may : may_serve st.now ≡ true = rw (opened, nothing) refl in
-    rw is (ap (λ b. with_effect h s st (if b then serve_front c.front c h.machine s st.now else no_effect h.machine st.now)) may)
+serves h s c st is opened nothing = rw (is, opened, nothing) refl
 
 -- the texts of the replies are pending
 pub effect_texts : (front : Front) (c : Choice) (m : State) (s : ℕ) (n : SessionState) → n.pending ≡ [] → (serve_front front c m s n).now.pending ≡ flat_map reply_text (serve_front front c m s n).replies
-effect_texts (Whole parts used) c m s n nothing = grind (arith, append-nil (reply_text (step m s (asks parts) c.failed).1))
-effect_texts More c m s n nothing = nothing
-effect_texts Bad c m s n nothing = sym (append-nil _)
+effect_texts front c m s n nothing = grind (arith, common_steps)
 
 abbrev pub was_served : (st : SessionStream) (e : Effect) → st.now.pending ≡ [] → e.now.pending ≡ flat_map reply_text e.replies → GoesOn st (after_effect st e)
 was_served st e nothing texts =
@@ -166,27 +134,16 @@ Comes Memory n e = (e.now.status ≡ Refused) × (e.served ≡ [])
 Comes _ n e = (e.now ≡ n) × (e.served ≡ []) × (e.replies ≡ []) × IsProperBeginning n.inbox
 
 comes : (front : Front) (c : Choice) (m : State) (s : ℕ) (n : SessionState) → IsFront n.inbox front → Comes (serve_front front c m s n).outcome n (serve_front front c m s n)
-comes (Whole parts used) c m s n is =
-    elim c.refused as (λ b. let e : Effect = if b then out_of_memory m s else served_with (step m s (asks parts) c.failed) n parts used in Comes e.outcome n e) [
-      | true ↦ (refl, refl)
-      | false ↦ inl (refl, refl)
-    ]
-comes More c m s n is = (refl, refl, refl, is)
-comes Bad c m s n is = inr (refl, refl)
+comes front c m s n is = grind (arith, common_steps)
 
 pub comes_idle : (o : Outcome) (n : SessionState) (e : Effect) → o ≢ Done → o ≢ Memory → Comes o n e → Comes Idle n e
-comes_idle Done n e a b w = absurd (a refl)
-comes_idle Memory n e a b w = absurd (b refl)
-comes_idle _ n e a b w = w
+comes_idle o n e a b w = grind arith
 
 pub one_each : (front : Front) (c : Choice) (m : State) (s : ℕ) (n : SessionState) → (length (serve_front front c m s n).served ≤ 1) × (length (serve_front front c m s n).replies ≤ 1)
-one_each (Whole parts used) c m s n = (grind arith, grind arith)
-one_each _ c m s n = (omega arith, omega arith)
+one_each front c m s n = grind arith
 
 kept : (front : Front) (c : Choice) (m : State) (s : ℕ) (n : SessionState) → n.status ≢ Absent → (serve_front front c m s n).now.status ≢ Absent
-kept (Whole parts used) c m s n here gone = grind arith
-kept More c m s n here gone = here gone
-kept Bad c m s n here gone = cc
+kept front c m s n here = grind arith
 
 -- the event of a Serve
 module _ {s : ℕ} {p : Point} {c : Choice} {count : ℕ} {st : SessionStream} (is : stream_of p.hub s ≡ Some st) (opened : st.now.status ≡ Open) (nothing : st.now.pending ≡ []) (happens : Happens p (Serves s) c count) where

@@ -1,5 +1,5 @@
 -- The turns of the loops.
-use Rattle.stream_driver.proofs.Words.{◌≡◌, ◌≢◌, ◌⊎◌, inl, inr, ℕ, ◌+◌, ◌-◌, ◌<◌, ◌≤◌, List, [], ◌++◌, length, Some, refl, sym, ap, subst, ◌∙◌, arith, length-append, ◌∷◌, append-nil, inbox_max, flat_map, reply_text, IsProperBeginning, Absent, Open, Ending, Refused, Outcome, Done, Memory, SessionStream, Serves, Choice, hub_step, stream_of, RunsAlone, StandsFor, HubLeads, pending_of, status_in, pending_in, room_in, failures, pending_seen, Read, Write, ReadAnswer, WriteAnswer, Moved, Blocked, Failed, Ended, Wrote, WriteBlocked, WriteFailed, Progress, Waiting, Again, Gone, OutputState, Empty, FlushBlocked, FlushFailed, Exchange, Served, Broke as ExchangeBroke, Starved as ExchangeStarved, ExchangeBlocked, ExchangeFailed, ExchangeEnded, Traffic, AllMoved, EndsWith, Ghosts, Hub, Leads, Stands, Point, Runs, AwaitsMore, status_at, pending_at, room_at, inbox_at, inbox_in, IsPresentIn, Carried, ComeWithin, Departs, Drove, EndsAs, Why, Moves, WritesSome, ReadsSome, Flushes, Exchanges, WhyExchanged, WhyFlushed, WrittenSoFar, ReadSoFar, DrivenSoFar, DrivenOut, served_in, LeadsTelling}
+use Rattle.stream_driver.proofs.Words.{◌≡◌, ◌≢◌, ◌⊎◌, inl, inr, ℕ, ◌+◌, ◌-◌, ◌<◌, ◌≤◌, List, [], ◌++◌, length, Some, refl, sym, ap, subst, ◌∙◌, arith, length-append, ◌∷◌, append-nil, inbox_max, flat_map, reply_text, IsProperBeginning, Absent, Open, Ending, Refused, Outcome, Done, Memory, SessionStream, Serves, Choice, hub_step, stream_of, RunsAlone, StandsFor, HubLeads, pending_of, status_in, pending_in, room_in, failures, pending_seen, Read, Write, ReadAnswer, WriteAnswer, Moved, Blocked, Failed, Ended, Wrote, WriteBlocked, WriteFailed, Progress, Waiting, Again, Gone, OutputState, Empty, FlushBlocked, FlushFailed, Exchange, Served, Broke as ExchangeBroke, Starved as ExchangeStarved, ExchangeBlocked, Traffic, AllMoved, EndsWith, Ghosts, Hub, Leads, Stands, Point, Runs, AwaitsMore, status_at, pending_at, room_at, inbox_at, inbox_in, IsPresentIn, Carried, ComeWithin, Departs, Drove, EndsAs, Why, Moves, WritesSome, ReadsSome, Flushes, Exchanges, WhyExchanged, WhyFlushed, WrittenSoFar, ReadSoFar, DrivenSoFar, DrivenOut, served_in, LeadsTelling}
 use Rattle.std.proofs.Math.Nat.{ℕ_set}
 use Rattle.sessions.specs.declared.events.Status.{Status}
 use Rattle.stream_driver.proofs.{States.Follow, States.seen_after, Inboxes.beginning_short, Answered.none_called, Answered.moved_then, Answered.ends_then}
@@ -13,60 +13,37 @@ pub within_then : (sent : ℕ) (xs ys : List Response) → ComeWithin sent xs �
 within_then sent [] [] within few below = tt
 within_then sent [] (y ∷ []) within few below = (omega arith, tt)
 within_then sent [] (y ∷ z ∷ zs) within few below = absurd (omega arith)
-within_then sent (x ∷ xs) ys within few below =
-    let both = length-append (reply_text x) (flat_map reply_text xs) in
-    (within.0, within_then (sent + length (reply_text x)) xs ys within.1 few (omega arith))
-
--- no more replies
-pub within_still : (sent : ℕ) (xs ys : List Response) → ComeWithin sent xs → ys ≡ [] → ComeWithin sent (xs ++ ys)
-within_still sent xs ys within none = subst (ComeWithin sent) (sym (ap (λ l. xs ++ l) none ∙ append-nil xs)) within
+within_then sent (x ∷ xs) ys within few below = (within.0, within_then (sent + length (reply_text x)) xs ys within.1 few (omega (arith, length-append (reply_text x) (flat_map reply_text xs))))
 
 pub none_in_both : {A : Type 0} {xs ys : List A} → xs ≡ [] → ys ≡ [] → xs ++ ys ≡ []
-none_in_both {A} {xs} {ys} a b = ap (λ l. l ++ ys) a ∙ b
-
-pub none_is_few : {A : Type 0} (xs : List A) → xs ≡ [] → length xs ≤ 1
-none_is_few xs none = let zero : length xs ≡ 0 = ap length none in omega arith
+none_in_both a b = rw (a, b)
 
 -- a status that is neither absent nor open
 closed_kinds : (status : Status) → status ≢ Absent → status ≢ Open → {none : List ℕ} → none ≡ [] → (status ≡ Refused) ⊎ ((status ≡ Ending) × (none ≡ []))
-closed_kinds Absent a b e = absurd (a refl)
-closed_kinds Open a b e = absurd (b refl)
-closed_kinds Ending a b e = inr (refl, e)
-closed_kinds Refused a b e = inl refl
+closed_kinds status a b e = grind arith
 
 module _ {s : ℕ} {tells : Type 0} where
   pub written_none : {h : Point} {t : Traffic} {owed : ℕ} → IsPresentIn h.hub s → owed ≡ length (pending_at h.hub s) → WrittenSoFar s tells h t h t owed
   written_none {h} {t} present is = record { moves = nothing present; moved = none_called t; owed_is = is }
 
   pub read_nothing : {h : Point} {t : Traffic} {room : ℕ} → status_at h.hub s ≡ Open → pending_at h.hub s ≡ [] → room ≡ room_at h.hub s → ReadSoFar s tells h t h t room
-  read_nothing {h} {t} is_open none is = record {
-    moves = nothing (open_present h.hub s is_open);
-    moved = none_called t;
-    none_sent = refl;
-    is_open = is_open;
-    nothing = none;
-    room_is = is;
-  }
+  read_nothing {h} {t} is_open none is =
+      record { moves = nothing (open_present h.hub s is_open); moved = none_called t; none_sent = refl; is_open = is_open; nothing = none; room_is = is }
 
   pub driven_none : {h : Point} {t : Traffic} → IsPresentIn h.hub s → DrivenOut s tells h t h t 0 0
   driven_none {h} {t} present = record { driven = record { carried = (nothing present).carried; few = omega arith; bounded = tt }; moved = none_called t; served_is = λ _. refl; out = refl }
 
   module _ {old : Point} {before : Traffic} {mid : Point} {between : Traffic} {new : Point} {after : Traffic} where
     abbrev pub moves_then : Moves s tells old before mid between → Moves s tells mid between new after → Moves s tells old before new after
-    moves_then p q = record {
-      carried = and_then p.carried q.carried;
-      none_served = length-append p.carried.runs.history.served q.carried.runs.history.served ∙ (let a = p.none_served in let b = q.none_served in omega arith);
-      none_replied = none_in_both p.none_replied q.none_replied;
-      status = q.status ∙ p.status;
-    }
+    moves_then p q =
+        let both = length-append p.carried.runs.history.served q.carried.runs.history.served in
+        record { carried = and_then p.carried q.carried; none_served = omega (arith, p.none_served, q.none_served); none_replied = none_in_both p.none_replied q.none_replied; status = q.status ∙ p.status }
 
     module _ {owed : ℕ} (p : WrittenSoFar s tells old before mid between owed) where
       pub written_then : (n : ℕ) → WritesSome s tells mid between (Wrote n) new after → WrittenSoFar s tells old before new after (owed - n)
-      written_then n q = record {
-        moves = moves_then p.moves q.moves;
-        moved = moved_then before between after p.moved q.answered.0;
-        owed_is = let was = p.owed_is in let left = q.why.1 in omega arith;
-      }
+      written_then n q =
+          let owed_is : owed - n ≡ length (pending_at new.hub s) = omega (arith, p.owed_is, q.why.1) in
+          assumption (moves_then p.moves q.moves, moved_then before between after p.moved q.answered.0)
 
       -- the stream stopped
       pub written_stopped : (answer : WriteAnswer) (flush : OutputState) → 0 < owed → (q : WritesSome s tells mid between answer new after)
@@ -74,22 +51,15 @@ module _ {s : ℕ} {tells : Type 0} where
           → (EndsWith (Write answer) before after × (pending_at new.hub s ≢ []) → WhyFlushed s new.hub before after flush)
           → Flushes s tells old before flush new after
       written_stopped answer flush some q same why =
-          let was = p.owed_is in
-          record {
-            moves = moves_then p.moves q.moves;
-            why = why (ends_then (Write answer) before between after p.moved q.answered, λ none. (let long : length (pending_at mid.hub s) ≡ 0 = ap length (sym same ∙ none) in omega arith));
-          }
+          let left : pending_at new.hub s ≢ [] = λ none. absurd (omega (arith, p.owed_is, ap length (sym same ∙ none))) in
+          assumption (moves_then p.moves q.moves, why (ends_then (Write answer) before between after p.moved q.answered, left))
 
     module _ {room : ℕ} (p : ReadSoFar s tells old before mid between room) where
       pub read_then : (n : ℕ) → ReadsSome s tells mid between (Moved n) new after → ReadSoFar s tells old before new after (room - n)
-      read_then n q = record {
-        moves = moves_then p.moves q.moves;
-        moved = moved_then before between after p.moved q.answered.0;
-        none_sent = none_in_both p.none_sent q.none_sent;
-        is_open = q.moves.status ∙ p.is_open;
-        nothing = q.pending ∙ p.nothing;
-        room_is = let was = p.room_is in let left = q.why.1 in omega arith;
-      }
+      read_then n q =
+          let room_is : room - n ≡ room_at new.hub s = omega (arith, p.room_is, q.why.1) in
+          let moved = moved_then before between after p.moved q.answered.0 in
+          record { moves = moves_then p.moves q.moves; moved = moved; none_sent = none_in_both p.none_sent q.none_sent; is_open = q.moves.status ∙ p.is_open; nothing = q.pending ∙ p.nothing; room_is = room_is }
 
       -- the stream stopped
       pub read_stopped : (answer : ReadAnswer) (exchange : Exchange) → AwaitsMore mid.hub s
@@ -99,14 +69,10 @@ module _ {s : ℕ} {tells : Type 0} where
           → Exchanges s tells old before exchange new after
       read_stopped answer exchange more q same why =
           let all : Moves s tells old before new after = moves_then p.moves q.moves in
-          let ends = ends_then (Read answer) before between after p.moved q.answered in
-          record {
-            carried = all.carried;
-            few = let none = all.none_served in omega arith;
-            one_reply = none_is_few all.carried.runs.history.replies all.none_replied;
-            none_sent = none_in_both p.none_sent q.none_sent;
-            why = why (served_in all.carried) (ends, subst (λ v. AwaitsMore v s) (sym same) more);
-          }
+          let few : served_in all.carried ≤ 1 = omega (arith, all.none_served) in
+          let one_reply : length all.carried.runs.history.replies ≤ 1 = rw all.none_replied (omega arith) in
+          let why_so = why (served_in all.carried) (ends_then (Read answer) before between after p.moved q.answered, rw same more) in
+          record { carried = all.carried; few = few; one_reply = one_reply; none_sent = none_in_both p.none_sent q.none_sent; why = why_so }
 
   -- ---- a request is looked for
 
@@ -148,13 +114,9 @@ module _ {s : ℕ} {tells : Type 0} where
     exchanged : (exchange : Exchange) → WhyExchanged s new.hub before between (served_in done) exchange → Exchanges s tells old before exchange new between
     exchanged exchange why =
         let one = one_each c.front c mid.hub.machine s st.now in
-        record {
-          carried = done;
-          few = let all = how_many in omega (arith, one.0);
-          one_reply = subst (λ l. length (l ++ served.history.replies) ≤ 1) (sym p.moves.none_replied) one.1;
-          none_sent = none_in_both p.none_sent refl;
-          why = why;
-        }
+        let few : served_in done ≤ 1 = omega (arith, how_many, one.0) in
+        let one_reply = subst (λ l. length (l ++ served.history.replies) ≤ 1) (sym p.moves.none_replied) one.1 in
+        record { carried = done; few = few; one_reply = one_reply; none_sent = none_in_both p.none_sent refl; why = why }
 
     pub serve_starved : outcome ≡ Memory → Exchanges s tells old before ExchangeStarved new between
     serve_starved e = exchanged ExchangeStarved (p.moved, status_is ∙ (what Memory e).0)
@@ -177,15 +139,10 @@ module _ {s : ℕ} {tells : Type 0} where
         let status_now : status_at new.hub s ≡ Open = status_is ∙ ap (λ n. n.status) w.0 ∙ opened in
         let room_now : room_at new.hub s ≡ room_at mid.hub s = ap room_in served.last_is ∙ ap (λ n. inbox_max - length n.inbox) w.0 ∙ sym (ap room_in is) in
         let short : length st.now.inbox < inbox_max = beginning_short st.now.inbox w.3 in
-        let room_was : room ≡ inbox_max - length st.now.inbox = p.room_is ∙ ap room_in is in (
-          record {
-            moves = record { carried = done; none_served = how_many ∙ ap length w.1; none_replied = none_in_both p.moves.none_replied w.2; status = status_now ∙ sym p.is_open ∙ p.moves.status };
-            moved = p.moved;
-            none_sent = none_in_both p.none_sent refl;
-            is_open = status_now;
-            nothing = pending_now;
-            room_is = p.room_is ∙ sym room_now;
-          },
+        let room_was : room ≡ inbox_max - length st.now.inbox = p.room_is ∙ ap room_in is in
+        let moves : Moves s tells old before new between =
+        record { carried = done; none_served = how_many ∙ ap length w.1; none_replied = none_in_both p.moves.none_replied w.2; status = status_now ∙ sym p.is_open ∙ p.moves.status } in (
+          record { moves = moves; moved = p.moved; none_sent = rw p.none_sent; is_open = status_now; nothing = pending_now; room_is = p.room_is ∙ sym room_now },
           (status_now, pending_now, subst IsProperBeginning (sym inbox_now) w.3),
           omega arith,
         )
@@ -199,11 +156,9 @@ module _ {s : ℕ} {tells : Type 0} where
   module _ {old : Point} {before : Traffic} {mid : Point} {between : Traffic} {new : Point} {after : Traffic} {count : ℕ} (p : DrivenSoFar s tells old before mid between count) where
     -- the output was written, as far as it goes
     abbrev pub driven_flushed : Moves s tells mid between new after → DrivenSoFar s tells old before new after count
-    driven_flushed q = record {
-      carried = and_then p.carried q.carried;
-      few = let all = length-append p.carried.runs.history.served q.carried.runs.history.served in let none = q.none_served in omega (arith, p.few);
-      bounded = within_still _ p.carried.runs.history.replies q.carried.runs.history.replies p.bounded q.none_replied;
-    }
+    driven_flushed q =
+        let both = length-append p.carried.runs.history.served q.carried.runs.history.served in
+        record { carried = and_then p.carried q.carried; few = omega (arith, p.few, q.none_served); bounded = rw (q.none_replied, append-nil) p.bounded }
 
     -- a request was looked for
     abbrev pub driven_served : IsBelow p → {exchange : Exchange} → Exchanges s tells mid between exchange new after → DrivenSoFar s tells old before new after (count + 1)
@@ -221,24 +176,16 @@ module _ {s : ℕ} {tells : Type 0} where
   -- what was pending and all that was made has left
   all_sent : {old : Point} {before : Traffic} {new : Point} {after : Traffic} (q : Carried s tells old before new after) → pending_at new.hub s ≡ []
       → length (pending_at old.hub s) + length (flat_map reply_text q.runs.history.replies) ≡ length q.runs.history.sent
-  all_sent {old} q nothing =
-      let runs = q.runs in
-      let whole : length (runs.history.sent ++ runs.last.now.pending) ≡ length (runs.first.now.pending ++ flat_map reply_text runs.history.replies) = ap length runs.history.texts in
-      let left = length-append runs.history.sent runs.last.now.pending in
-      let right = length-append runs.first.now.pending (flat_map reply_text runs.history.replies) in
-      let none : length runs.last.now.pending ≡ 0 = ap length (sym (ap pending_in runs.last_is) ∙ nothing) in
-      let was : length (pending_at old.hub s) ≡ length runs.first.now.pending = ap (λ o. length (pending_in o)) runs.first_is in
-      omega arith
+  all_sent q nothing =
+      let none : length q.runs.last.now.pending ≡ 0 = ap length (sym (ap pending_in q.runs.last_is) ∙ nothing) in
+      omega (arith, length-append {A = ℕ}, ap length q.runs.history.texts, ap (λ o. length (pending_in o)) q.runs.first_is)
 
   -- ---- the output is written
 
   module _ {old : Point} {before : Traffic} {mid : Point} {between : Traffic} {new : Point} {after : Traffic} {count sent : ℕ} (p : DrivenOut s tells old before mid between count sent) where
     served_still : (q : Moves s tells mid between new after) → status_at new.hub s ≡ Open → served_in (driven_flushed p.driven q).carried ≡ count
     served_still q is_open =
-        let all = length-append p.driven.carried.runs.history.served q.carried.runs.history.served in
-        let was = p.served_is (sym q.status ∙ is_open) in
-        let none = q.none_served in
-        omega arith
+        omega (arith, length-append p.driven.carried.runs.history.served q.carried.runs.history.served, p.served_is (sym q.status ∙ is_open), q.none_served)
 
     pub out_flushed : {owed total : ℕ} → owed ≡ length (pending_at mid.hub s) → total ≡ sent + owed → Flushes s tells mid between Empty new after
         → DrivenOut s tells old before new after count total × (pending_at new.hub s ≡ [])
@@ -247,12 +194,7 @@ module _ {s : ℕ} {tells : Type 0} where
         driven = driven_flushed p.driven q.moves;
         moved = moved_then before between after p.moved q.why.0;
         served_is = served_still q.moves;
-        out =
-            let was = p.out in
-            let both = length-append p.driven.carried.runs.history.sent q.moves.carried.runs.history.sent in
-            let left = all_sent q.moves.carried q.why.1 in
-            let none : length (flat_map reply_text q.moves.carried.runs.history.replies) ≡ 0 = ap (λ rs. length (flat_map reply_text rs)) q.moves.none_replied in
-            omega arith;
+        out = omega (arith, p.out, length-append {A = ℕ}, all_sent q.moves.carried q.why.1, ap (λ rs. length (flat_map reply_text rs)) q.moves.none_replied);
       },
       q.why.1,
     )
@@ -291,12 +233,8 @@ module _ {s : ℕ} {tells : Type 0} where
       out_on moved one = record {
         driven = on;
         moved = moved_then before between after p.0.moved moved;
-        served_is = λ is_open.
-            let all = length-append p.0.driven.carried.runs.history.served q.carried.runs.history.served in
-            let was = p.0.served_is (one is_open).0 in
-            let now = (one is_open).1 in
-            omega arith;
-        out = (let both = length-append p.0.driven.carried.runs.history.sent q.carried.runs.history.sent in let none : length q.carried.runs.history.sent ≡ 0 = ap length q.none_sent in let out = p.0.out in omega arith);
+        served_is = λ is_open. omega (arith, length-append p.0.driven.carried.runs.history.served q.carried.runs.history.served, p.0.served_is (one is_open).0, (one is_open).1);
+        out = omega (arith, length-append p.0.driven.carried.runs.history.sent q.carried.runs.history.sent, ap length q.none_sent, p.0.out);
       }
 
     module _ (room : total < 262144) {new : Point} {after : Traffic} where
@@ -311,16 +249,9 @@ module _ {s : ℕ} {tells : Type 0} where
 
       pub gone_serving : count < 64 → (answer : Exchange) → answer ≢ Served → answer ≢ ExchangeBroke → answer ≢ ExchangeBlocked
           → Exchanges s tells mid between answer new after → {gone : Point} → Departs s new gone → Drove s tells old before Gone gone after
-      gone_serving lt answer a b c q departs = drove (on room q) (omega arith) Gone departs (by answer a b c q.why)
-        where
-          by : (answer : Exchange) → answer ≢ Served → answer ≢ ExchangeBroke → answer ≢ ExchangeBlocked
-              → WhyExchanged s new.hub between after (served_in q.carried) answer → Why s new.hub before after 0 0 Gone
-          by Served a b c why = absurd (a refl)
-          by ExchangeBroke a b c why = absurd (b refl)
-          by ExchangeBlocked a b c why = absurd (c refl)
-          by ExchangeStarved a b c why = inr (inr (inr (moved_then before between after p.0.moved why.0, inl why.1)))
-          by ExchangeFailed a b c why = inl (ends_then (Read Failed) before between after p.0.moved why.0, why.1)
-          by ExchangeEnded a b c why = inr (inr (inl (ends_then (Read Ended) before between after p.0.moved why.0, why.1)))
+      gone_serving lt answer a b c q departs =
+          let why : Why s new.hub before after 0 0 Gone = grind (arith, q.why, moved_then before between after p.0.moved, ends_then (Read Failed) before between after p.0.moved, ends_then (Read Ended) before between after p.0.moved) in
+          drove (on room q) (omega arith) Gone departs why
 
 -- from hub to hub
 

@@ -1,5 +1,5 @@
 -- One read and one write.
-use Rattle.stream_driver.proofs.Words.{◌≡◌, ◌≢◌, ℕ, ◌+◌, ◌-◌, ◌<◌, ◌≤◌, List, ◌++◌, length, take, drop, Some, refl, sym, ap, subst, ◌∙◌, arith, length-append, append-nil, length-drop, inbox_max, Absent, Open, Outcome, Done, NoneRuns, RunsAlone, Receives, Sends, hub_step, with_stream, stream_of, HubLeads, status_of, pending_of, status_in, pending_in, room_in, failures, pending_seen, Read, Write, ReadAnswer, Moved, WriteAnswer, Wrote, Traffic, EndsWith, ReadsWithin, bytes_read, bytes_written, Ghosts, Hub, AwaitsMore, Leads, Runs, pending_at, room_at, WritesSome, ReadsSome}
+use Rattle.stream_driver.proofs.Words.{◌≡◌, ◌≢◌, ℕ, ◌-◌, ◌<◌, ◌≤◌, List, ◌++◌, length, take, Some, refl, sym, ap, subst, ◌∙◌, arith, length-append, append-nil, length-drop, inbox_max, Absent, Open, Outcome, Done, NoneRuns, RunsAlone, Receives, Sends, hub_step, with_stream, stream_of, HubLeads, status_of, pending_of, status_in, pending_in, room_in, failures, pending_seen, Read, Write, ReadAnswer, Moved, WriteAnswer, Wrote, Traffic, EndsWith, ReadsWithin, bytes_read, bytes_written, Ghosts, Hub, AwaitsMore, Leads, Runs, room_at, WritesSome, ReadsSome}
 use Rattle.model.specs.Map.{Bytes}
 use Rattle.stream_driver.proofs.Events.{found, point_after, one_event, received_by, receives, bytes_came, sent_from, sends, bytes_went, open_present}
 use Rattle.stream_driver.proofs.{Carry.answered, Carry.moved_by, States.leads_event, States.leads_none, States.present_in}
@@ -24,11 +24,7 @@ module _ {D : Type 0} {g : Ghosts D} {hub new : Hub D g} {s : ℕ} {tells : Type
             moved_by runs (tt, tt) (λ t. given t ∙ sym (append-nil b.given)) (λ t. taken t ∙ ap (λ l. b.taken ++ take n l) pending)
             refl refl (ap status_in runs.last_is ∙ sym (ap status_in is));
         answered = calls;
-        why =
-            let left : length (pending_at (hub_step h.hub (Sends s n) c).0 s) ≡ length (drop n st.0.now.pending) = ap (λ o. length (pending_in o)) runs.last_is in
-            let rest : length (drop n st.0.now.pending) ≡ length st.0.now.pending - n = length-drop n st.0.now.pending in
-            let all : length (pending_at h.hub s) ≡ length st.0.now.pending = ap (λ o. length (pending_in o)) is in
-            (some, omega arith);
+        why = (some, omega (arith, ap (λ o. length (pending_in o)) runs.last_is, length-drop n st.0.now.pending, ap (λ o. length (pending_in o)) is));
       })
 
   pub read_moved : (n : ℕ) → 0 < n → (piece : Bytes) → {outcome : Outcome} → HubLeads hub new (Receives s piece) outcome → RunsAlone hub new (Receives s piece) → failures hub ≤ failures new
@@ -50,17 +46,12 @@ module _ {D : Type 0} {g : Ghosts D} {hub new : Hub D g} {s : ℕ} {tells : Type
         none_sent = refl;
         pending = ap pending_in runs.last_is ∙ sym (ap pending_in is);
         answered = calls;
-        why =
-            let after : room_at (hub_step h.hub (Receives s piece) c).0 s ≡ inbox_max - length (st.0.now.inbox ++ piece) = ap room_in runs.last_is in
-            let before : room_at h.hub s ≡ inbox_max - length st.0.now.inbox = ap room_in is in
-            let joined : length (st.0.now.inbox ++ piece) ≡ length st.0.now.inbox + length piece = length-append st.0.now.inbox piece in
-            (some, omega arith);
+        why = (some, omega (arith, ap room_in runs.last_is, ap room_in is, length-append st.0.now.inbox piece));
       })
 
 -- a read of no more than there is room for
 pub reads_within : (answer : ReadAnswer) (len room : ℕ) → ReadsWithin answer len → len ≤ room → ReadsWithin answer room
-reads_within (Moved n) len room within le = (within.0, omega (arith, within.1))
-reads_within _ len room within le = tt
+reads_within answer len room within le = grind arith
 
 -- the stream didn't move
 module _ {D : Type 0} {g : Ghosts D} {hub : Hub D g} (none : NoneRuns hub) {s : ℕ} {tells : Type 0} {b a : Traffic} where
@@ -68,19 +59,12 @@ module _ {D : Type 0} {g : Ghosts D} {hub : Hub D g} (none : NoneRuns hub) {s : 
       → (from : List ℕ) → (tells → a.given ≡ b.given) → (tells → a.taken ≡ b.taken ++ take (bytes_written answer) from) → EndsWith (Write answer) b a
       → Leads hub hub (λ h k. WritesSome s tells h b answer k a)
   wrote_none (Wrote n) differs present from given taken calls = absurd (differs n refl)
-  wrote_none answer differs present from given taken calls = leads_none hub none _ (λ h stands. record {
-    moves = answered (present_in s stands.state present) (λ t. given t ∙ sym (append-nil b.given)) taken;
-    answered = calls;
-    why = refl;
-  })
+  wrote_none answer differs present from given taken calls = 
+      leads_none hub none _ (λ h stands. record { moves = answered (present_in s stands.state present) (λ t. rw append-nil (given t)) taken; answered = calls; why = refl })
 
   pub read_none : (room : ℕ) (into : List ℕ) → (tells → a.taken ≡ b.taken) → (answer : ReadAnswer) → ((n : ℕ) → answer ≢ Moved n) → (tells → a.given ≡ b.given ++ take (bytes_read answer) into) → EndsWith (Read answer) b a
       → Leads hub hub (λ h k. AwaitsMore h.hub s → room ≡ room_at h.hub s → ReadsSome s tells h b answer k a)
   read_none room into taken (Moved n) differs given calls = absurd (differs n refl)
-  read_none room into taken answer differs given calls = leads_none hub none _ (λ h stands. λ awaits room_is. record {
-    moves = answered (open_present h.hub s awaits.0) given (λ t. taken t ∙ sym (append-nil b.taken));
-    none_sent = refl;
-    pending = refl;
-    answered = calls;
-    why = refl;
-  })
+  read_none room into taken answer differs given calls = leads_none hub none _ (λ h stands awaits room_is.
+      let moves = answered (open_present h.hub s awaits.0) given (λ t. rw append-nil (taken t)) in
+      record { moves = moves; none_sent = refl; pending = refl; answered = calls; why = refl })

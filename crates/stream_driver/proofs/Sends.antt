@@ -1,31 +1,17 @@
 -- What left over a stream is told before, from run to run.
-use Rattle.stream_driver.proofs.Words.{◌≡◌, ◌≤◌, ◌⊎◌, inl, inr, ℕ, List, [], ◌++◌, Some, take, drop, refl, sym, ap, subst, ◌∙◌, append_assoc, AllByRecursion, append-nil, take-append-drop, Outcome, NoneRuns, Ran, RunsAlone, HubState, HubEvent, Choice, SessionStream, hub_step, run, stream_of, StandsFor, HubLeads, device, failures, pending_in, pending_of, pending_seen, all-each, Carried, IsAnswered, IsToldBefore, AreToldBefore, HasSent, LeadsTelling, Ghosts, Hub, Leads, Point, Departure, DepartAt, IsBeginning, Traffic}
-use Rattle.stream_driver.proofs.Carry.{all_then, and_then, grown, one_history, run_then}
+use Rattle.stream_driver.proofs.Words.{◌≡◌, ◌≤◌, ◌⊎◌, inl, inr, ℕ, List, [], ◌++◌, Some, take, drop, refl, sym, ap, subst, ◌∙◌, append_assoc, AllByRecursion, append-nil, take-append-drop, Outcome, NoneRuns, Ran, RunsAlone, HubState, HubEvent, Choice, SessionStream, hub_step, run, stream_of, StandsFor, HubLeads, device, failures, pending_in, pending_of, pending_seen, all-each, Carried, IsAnswered, IsToldBefore, AreToldBefore, HasSent, LeadsTelling, Ghosts, Hub, Leads, Point, Departure, DepartAt, IsBeginning, Traffic, all-append}
+use Rattle.stream_driver.proofs.Carry.{and_then, grown, one_history, run_then}
 use Rattle.stream_driver.proofs.Events.{Happens, point_after}
 use Rattle.stream_driver.proofs.States.{Follow, at_point, leads_event, leads_map, leads_two_at, point_of}
 
 module _ (s : ℕ) (h : HubState) (es fs : List (HubEvent × Choice)) (bytes : List ℕ) where
   -- what was answered stays so
   pub answered_since : IsAnswered s h es bytes → IsAnswered s h (es ++ fs) bytes
-  answered_since a = record {
-    by = a.by;
-    since = a.since ++ fs;
-    events_are = ap (λ l. l ++ fs) a.events_are ∙ append_assoc a.by a.since fs;
-    stream = a.stream;
-    stream_is = a.stream_is;
-    answered = a.answered;
-  }
+  answered_since a = search (ap (λ l. l ++ fs) a.events_are ∙ append_assoc a.by a.since fs)
 
   -- others had come before
   pub answered_then : IsAnswered s (run h es) fs bytes → IsAnswered s h (es ++ fs) bytes
-  answered_then a = record {
-    by = es ++ a.by;
-    since = a.since;
-    events_are = ap (λ l. es ++ l) a.events_are ∙ sym (append_assoc es a.by a.since);
-    stream = a.stream;
-    stream_is = ap (λ v. stream_of v s) (run_then h es a.by) ∙ a.stream_is;
-    answered = a.answered;
-  }
+  answered_then a = search (ap (λ l. es ++ l) a.events_are ∙ sym (append_assoc es a.by a.since), ap (λ v. stream_of v s) (run_then h es a.by) ∙ a.stream_is)
 
 -- first some events, then others, in each of which nothing was taken or all that was taken was answered
 pub answered_on : {s : ℕ} {h : HubState} {es fs : List (HubEvent × Choice)} {before between after : List ℕ} → (between ≡ before) ⊎ IsAnswered s h es between → (after ≡ between) ⊎ IsAnswered s (run h es) fs after
@@ -37,30 +23,14 @@ answered_on {s} {h} {es} {fs} {before} {between} {after} (inr some) (inl same) =
 module _ {D : Type 0} {g : Ghosts D} (s : ℕ) (h : HubState) where
   -- more events came since
   pub all_since : Follow D g → (a b c : Hub D g) (es fs : List (HubEvent × Choice)) → Ran b c fs → (ds : List Departure) → AllByRecursion (IsToldBefore s h a b es) ds → AllByRecursion (IsToldBefore s h a c (es ++ fs)) ds
-  all_since follow a b c es fs ran ds = all-each (IsToldBefore s h a b es) (IsToldBefore s h a c (es ++ fs)) ds (λ d t. record {
-    before = t.before;
-    since = t.since ++ fs;
-    events_are = ap (λ l. l ++ fs) t.events_are ∙ append_assoc t.before t.since fs;
-    hub = t.hub;
-    came = t.came;
-    goes_on = follow t.hub b c t.since fs t.goes_on ran;
-    moment_is = t.moment_is;
-    told = t.told;
-  })
+  all_since follow a b c es fs ran ds = all-each (IsToldBefore s h a b es) (IsToldBefore s h a c (es ++ fs)) ds 
+      (λ d t. search (ap (λ l. l ++ fs) t.events_are ∙ append_assoc t.before t.since fs, follow t.hub b c t.since fs t.goes_on ran))
 
   -- others had come before
   pub all_before : Follow D g → (a b c : Hub D g) (es fs : List (HubEvent × Choice)) → Ran a b es → (ds : List Departure) → AllByRecursion (IsToldBefore s (run h es) b c fs) ds
       → AllByRecursion (IsToldBefore s h a c (es ++ fs)) ds
-  all_before follow a b c es fs ran ds = all-each (IsToldBefore s (run h es) b c fs) (IsToldBefore s h a c (es ++ fs)) ds (λ d t. record {
-    before = es ++ t.before;
-    since = t.since;
-    events_are = ap (λ l. es ++ l) t.events_are ∙ sym (append_assoc es t.before t.since);
-    hub = t.hub;
-    came = follow a b t.hub es t.before ran t.came;
-    goes_on = t.goes_on;
-    moment_is = t.moment_is;
-    told = answered_then s h es t.before d.bytes t.told;
-  })
+  all_before follow a b c es fs ran ds = all-each (IsToldBefore s (run h es) b c fs) (IsToldBefore s h a c (es ++ fs)) ds 
+      (λ d t. search (ap (λ l. es ++ l) t.events_are ∙ sym (append_assoc es t.before t.since), follow a b t.hub es t.before ran t.came, answered_then s h es t.before d.bytes t.told))
 
   -- nothing left
   pub none_left : (a b : Hub D g) (es : List (HubEvent × Choice)) (before after : Traffic) → after.departed ≡ before.departed → AreToldBefore s h a b es before after
@@ -72,21 +42,15 @@ module _ {D : Type 0} {g : Ghosts D} (s : ℕ) (h : HubState) where
   -- one part of the run after the other
   pub all_told_then : Follow D g → (a b c : Hub D g) (es fs : List (HubEvent × Choice)) → Ran a b es → Ran b c fs → (t u v : Traffic)
       → AreToldBefore s h a b es t u → AreToldBefore s (run h es) b c fs u v → AreToldBefore s h a c (es ++ fs) t v
-  all_told_then follow a b c es fs first second t u v p q = record {
-    departures = p.departures ++ q.departures;
-    departed_are = grown t.departed u.departed u.departed v.departed p.departures q.departures p.departed_are refl q.departed_are;
-    each = all_then (IsToldBefore s h a c (es ++ fs)) p.departures q.departures (all_since follow a b c es fs second p.departures p.each) (all_before follow a b c es fs first q.departures q.each);
-  }
+  all_told_then follow a b c es fs first second t u v p q =
+      let each = all-append (IsToldBefore s h a c (es ++ fs)) p.departures q.departures (all_since follow a b c es fs second p.departures p.each) (all_before follow a b c es fs first q.departures q.each) in
+      search (grown t.departed u.departed u.departed v.departed p.departures q.departures p.departed_are refl q.departed_are, each)
 
 -- the stream has taken what was told to be sent after a run over it too
 pub sent_after : (s : ℕ) (tells : Type 0) (h : Point) (t : Traffic) (k : Point) (u : Traffic) → Carried s tells h t k u → tells → HasSent s h.hub t → HasSent s k.hub u
 sent_after s tells h t k u c is has =
     let same : has.stream ≡ c.runs.first = one_history has.stream c.runs.first (sym has.stream_is ∙ c.runs.first_is) in
-    record {
-      stream = c.runs.last;
-      stream_is = c.runs.last_is;
-      taken = c.taken is ∙ ap (λ l. l ++ c.runs.history.sent) (has.taken ∙ ap (λ (x : SessionStream). x.sent) same) ∙ sym c.runs.history.sent_is;
-    }
+    search (c.runs.last_is, c.taken is ∙ ap (λ l. l ++ c.runs.history.sent) (has.taken ∙ ap (λ (x : SessionStream). x.sent) same) ∙ sym c.runs.history.sent_is)
 
 pub begins_taken : (n : ℕ) (all : List ℕ) → IsBeginning (take n all) all
 begins_taken n all = record { rest = drop n all; all_is = sym (take-append-drop n all) }
@@ -95,10 +59,7 @@ pub begins_nothing : (all : List ℕ) → IsBeginning [] all
 begins_nothing all = record { rest = all; all_is = refl }
 
 pub begins_all : (bytes pending sent taken took : List ℕ) → IsBeginning bytes pending → taken ≡ sent → took ≡ taken ++ bytes → IsBeginning took (sent ++ pending)
-begins_all bytes pending sent taken took b is e = record {
-  rest = b.rest;
-  all_is = ap (λ l. sent ++ l) b.all_is ∙ sym (append_assoc sent bytes b.rest) ∙ ap (λ l. l ++ b.rest) (ap (λ l. l ++ bytes) (sym is) ∙ sym e);
-}
+begins_all bytes pending sent taken took b is e = record { rest = b.rest; all_is = rw (b.all_is, e, is, append_assoc) }
 
 pub begins_through : (bytes mid all : List ℕ) → IsBeginning bytes mid → IsBeginning mid all → IsBeginning bytes all
 begins_through bytes mid all a b = record { rest = a.rest ++ b.rest; all_is = b.all_is ∙ ap (λ l. l ++ b.rest) a.all_is ∙ append_assoc bytes a.rest b.rest }
@@ -113,9 +74,7 @@ module _ {D : Type 0} {g : Ghosts D} {s : ℕ} {tells : Type 0} where
   tells_still {a} {b} {t} p = record {
     leads = p;
     telling = λ _ h stands has. none_left s h a b p.choices t t refl;
-    answered = λ _ h stands has.
-        let begins : IsBeginning t.taken (has.stream.sent ++ has.stream.now.pending) = record { rest = has.stream.now.pending; all_is = ap (λ l. l ++ has.stream.now.pending) (sym has.taken) } in
-        answered_now s h p.choices t.taken has.stream has.stream_is begins;
+    answered = λ _ h stands has. answered_now s h p.choices t.taken has.stream has.stream_is (record { rest = has.stream.now.pending; all_is = rw has.taken });
   }
 
   pub tells_map : {a b : Hub D g} {t u : Traffic} {P Q : Point → Point → Type 0} → LeadsTelling s tells a t b u P → ((h k : Point) → StandsFor b k.hub → P h k → Q h k) → LeadsTelling s tells a t b u Q
@@ -128,20 +87,10 @@ module _ {D : Type 0} {g : Ghosts D} {s : ℕ} {tells : Type 0} where
     leads = p;
     telling = λ is h stands has.
         let d = departs is in
-        record {
-          departures = d.departures;
-          departed_are = d.departed_are;
-          each = all-each (λ d. (d.moment ≡ moment) × IsBeginning d.bytes u.taken) (IsToldBefore s h a b p.choices) d.departures (λ d left. record {
-            before = [];
-            since = p.choices;
-            events_are = refl;
-            hub = a;
-            came = none;
-            goes_on = p.ran;
-            moment_is = left.0 ∙ now;
-            told = answered_now s h [] d.bytes has.stream has.stream_is (begins_through d.bytes u.taken _ left.1 (begins is h stands has));
-          }) d.each;
-        };
+        let told = λ (d : Departure) (left : (d.moment ≡ moment) × IsBeginning d.bytes u.taken). answered_now s h [] d.bytes has.stream has.stream_is (begins_through d.bytes u.taken _ left.1 (begins is h stands has)) in
+        let each = all-each _ (IsToldBefore s h a b p.choices) d.departures (λ d left.
+        record { before = []; since = p.choices; events_are = refl; hub = a; came = none; goes_on = p.ran; moment_is = left.0 ∙ now; told = told d left }) d.each in
+        search (d.departed_are, each);
     answered = λ is h stands has. answered_now s h p.choices u.taken has.stream has.stream_is (begins is h stands has);
   }
     where

@@ -1,5 +1,5 @@
 -- The turns of a walk over the table, and what left over its streams, told entry by entry.
-use Rattle.stream_driver.proofs.Words.{◌≡◌, ◌≢◌, inl, inr, ℕ, ◌+◌, ◌<◌, ◌≤◌, List, [], ◌∷◌, ◌++◌, length, set, take, drop, get_or, refl, sym, ap, subst, ◌∙◌, arith, Option, Some, None, add-zero, ◌⊎◌, take_all, take_more, take_more_set, get_or-drop, drop-drop, drop-set-lt, length-set, NoneRuns, status_in, StandsFor, Progress, Gone, EntryState, Ready, EntryGone, Idle, Entry, Traffic, Ghosts, Hub, Point, Leads, IsPresent, StandsAt, Drove, HaveSessions, DrivenEntry, DrivenIn, DrivenSlot, DrivenAll, EntriesSoFar, state_after, KeepSessions, DrivesTelling, LeadsTelling, AreToldBefore, IsAnswered, HasSent, HaveSent, Choice, HubEvent, HubState, run}
+use Rattle.stream_driver.proofs.Words.{◌≡◌, ◌≢◌, inl, inr, ℕ, ◌+◌, ◌<◌, ◌≤◌, List, [], ◌∷◌, ◌++◌, length, set, take, drop, get_or, refl, sym, ap, subst, ◌∙◌, arith, Option, Some, None, ◌⊎◌, take_all, take_more, take_more_set, get_or-drop, drop-drop, drop-set-lt, length-set, NoneRuns, status_in, StandsFor, Progress, Gone, EntryState, Ready, EntryGone, Idle, Entry, Traffic, Ghosts, Hub, Point, Leads, IsPresent, StandsAt, Drove, HaveSessions, DrivenEntry, DrivenIn, DrivenSlot, DrivenAll, EntriesSoFar, state_after, KeepSessions, DrivesTelling, LeadsTelling, AreToldBefore, IsAnswered, HasSent, HaveSent, Choice, HubEvent, HubState, run}
 use Rattle.std.proofs.lemmas.Bool.{cases_lt}
 use Rattle.model.proofs.Lookups.{some_same}
 use Rattle.stream_driver.proofs.OneEntry.{below, entry_other, entry_present, get_set, ends_last}
@@ -136,8 +136,7 @@ module _ {T : Type 0} (tells : Type 0) (traffic : T → Traffic) where
   left_alone hub old none differs = tells_still (leads_none hub none _ (λ h at. by old.state differs h))
     where
       by : (state : EntryState) → state ≢ Ready → (h : Point) → DrivenIn tells traffic state h old h old
-      by Ready d h = absurd (d refl)
-      by _ d h = (refl, refl)
+      by state d h = grind arith
 
   driven_more : (earlier : Point) (xs : List (Option (Entry T))) (mid : Point) (ys : List (Option (Entry T))) (x : Option (Entry T)) (later : Point) (y : Option (Entry T))
       → DrivenAll tells traffic earlier xs mid ys → DrivenSlot tells traffic mid x later y → DrivenAll tells traffic earlier (xs ++ x ∷ []) later (ys ++ y ∷ [])
@@ -172,9 +171,7 @@ module _ {T : Type 0} (tells : Type 0) (traffic : T → Traffic) where
         }
 
   same_slot : (key : ℕ) (slots new : List (Option (Entry T))) → drop key new ≡ drop key slots → get_or slots key None ≡ get_or new key None
-  same_slot key slots new e =
-      let at : (l : List (Option (Entry T))) → get_or (drop key l) 0 None ≡ get_or l key None = λ l. get_or-drop key l 0 None ∙ ap (λ (k : ℕ). get_or l k None) (add-zero key) in
-      sym (at slots) ∙ ap (λ (l : List (Option (Entry T))). get_or l 0 None) (sym e) ∙ at new
+  same_slot key slots new e = grind (arith, get_or-drop key slots 0 None, get_or-drop key new 0 None)
 
   drop_next : (key : ℕ) (slots new : List (Option (Entry T))) → drop key new ≡ drop key slots → drop (key + 1) new ≡ drop (key + 1) slots
   drop_next key slots new e = sym (drop-drop 1 key new) ∙ ap (λ (l : List (Option (Entry T))). drop 1 l) e ∙ drop-drop 1 key slots
@@ -201,13 +198,9 @@ module _ {T : Type 0} (tells : Type 0) (traffic : T → Traffic) where
 
   module _ {D : Type 0} {g : Ghosts D} {key : ℕ} {hub : Hub D g} {slots : List (Option (Entry T))} {mid : Hub D g} {new : List (Option (Entry T))} (p : EntriesSoFar tells traffic key hub slots mid new) where
     pub entries_vacant : get_or new key None ≡ None → EntriesSoFar tells traffic (key + 1) hub slots mid new
-    entries_vacant none = record {
-      driven = drives_map tells traffic p.driven (λ h k stands now. one_vacant key slots new p.len p.rest none h k now);
-      rest = drop_next key slots new p.rest;
-      len = p.len;
-      sessions = p.sessions;
-      numbers = p.numbers;
-    }
+    entries_vacant none =
+        let driven = drives_map tells traffic p.driven (λ (h k : Point) (stands : StandsFor mid k.hub). one_vacant key slots new p.len p.rest none h k) in
+        assumption (driven, drop_next key slots new p.rest)
 
     pub entries_driven : Follow D g → (old : Entry T) {later : Hub D g} {entry : Entry T} → get_or new key None ≡ Some old → entry.session ≡ old.session → (old.state ≡ EntryGone → entry.state ≡ EntryGone)
         → LeadsTelling old.session tells mid (traffic old.stream) later (traffic entry.stream) (λ h k. DrivenEntry tells traffic h old k entry) → EntriesSoFar tells traffic (key + 1) hub slots later (set new key (Some entry))

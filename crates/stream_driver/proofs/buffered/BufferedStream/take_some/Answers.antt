@@ -1,6 +1,6 @@
 use Rattle.stream_driver.proofs.Words.{rules, ◌≡◌, ◌<◌, [], length, arith, common_steps, held_in}
 use Rattle.stream_driver.specs.Buffers.{room_in}
-use Rattle.stream_driver.proofs.Buffering.{some_length, takes_in, takes_on}
+use Rattle.stream_driver.proofs.Buffering.{takes_in, takes_on}
 use Rattle.stream_driver.proofs.buffered.BufferedStream.take_some.Goals as goal
 
 pub returns-then-is_empty : goal.returns-then-is_empty
@@ -11,7 +11,7 @@ returns-then-is_empty g c =
 
 pub returns : goal.returns
 returns g c =
-    let some : 0 < length c.args.from.now = some_length c.args.from.now c.requires in
+    let some : 0 < length c.args.from.now = grind (arith, common_steps) in
     let room : 0 < room_in c.make_room.new.self.held = c.in-All.ensures.why.0 in
     let count = c.put.ensures.count in
     takes_in c.in-All.ensures.kept c.in-All.ensures.failed c.in-All.ensures.why.1 c.put.new.self (grind (arith, common_steps), grind (arith, common_steps)) c.put.ensures.bytes

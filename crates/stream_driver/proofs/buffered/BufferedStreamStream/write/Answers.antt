@@ -1,6 +1,6 @@
-use Rattle.std.proofs.Common.{◌≡◌, [], ◌∙◌, ap, refl, subst}
+use Rattle.stream_driver.proofs.Words.{◌≡◌, [], ◌∙◌, ap, refl, subst, sym, append-nil}
 use Rattle.stream_driver.specs.{Counts.Notes, declared.answers.Call.TheVariants.Write}
-use Rattle.stream_driver.proofs.Buffering.{departed_still, took_same}
+use Rattle.stream_driver.proofs.Buffering.{departed_and_taken, took_same}
 use Rattle.stream_driver.proofs.buffered.BufferedStreamStream.write.Goals as goal
 use Rattle.stream_driver.proofs.buffered.BufferedStreamStream.write.Goals.{in-Moved, in_default}
 
@@ -8,7 +8,7 @@ pub returns-clause-departed : goal.returns-clause-departed
 returns-clause-departed g c = λ t.
     let inner : c.match-answer.self.inner ≡ c.take_some-answer.new.self.inner = elim c.match-answer.branch [ in-Moved w ↦ ap (λ b. b.inner) w.self-is | in_default w ↦ ap (λ b. b.inner) w.self-is ] in
     let held : c.match-answer.self.held ≡ c.take_some-answer.new.self.held = elim c.match-answer.branch [ in-Moved w ↦ ap (λ b. b.held) w.self-is | in_default w ↦ ap (λ b. b.held) w.self-is ] in
-    rw (inner, held) (departed_still refl refl (c.take_some-answer.ensures.departed t))
+    rw (inner, held) (departed_and_taken [] refl (sym (append-nil _)) (c.take_some-answer.ensures.departed t))
 
 pub returns-clause-answered : goal.returns-clause-answered
 returns-clause-answered g c =
