@@ -1,13 +1,14 @@
 -- Each number that a session was answered is that of a transaction in the machine's history.
-use Rattle.event_loop.proofs.Words.{◌≡◌, ◌+◌, ℕ, Bool, List, [], ◌∷◌, ◌++◌, map, Option, Some, None, refl, sym, ap, subst, ◌∙◌, append_assoc, All, AllByRecursion, Contains, list_any, values_of, append-nil, map-append, All-nil, All-weaker, Contains-append_left, Contains-push, HubState, HubEvent, Choice, Effect, Front, SessionState, SessionStream, Joins, Receives, Serves, Sends, Whole, More, Bad, asks, depart, hub_step, is_open, may_serve, new_stream, receive, room, run, send, serve, serve_front, serve_session, stream_of, run_then}
-use Rattle.std.specs.Prelude.{◌==◌, ◌^◌, ◌-◌, IfSome, nat_le, nat_lt, length, take, not}
+use Rattle.event_loop.proofs.Words.{◌≡◌, ◌+◌, ℕ, Bool, List, [], ◌∷◌, ◌++◌, map, Option, Some, None, refl, sym, ap, subst, ◌∙◌, append_assoc, All, AllByRecursion, Contains, values_of, append-nil, map-append, All-nil, All-weaker, Contains-append_left, Contains-push, HubState, HubEvent, Choice, Effect, Front, SessionState, SessionStream, Joins, Receives, Serves, Sends, Whole, More, Bad, asks, depart, hub_step, is_open, may_serve, new_stream, receive, room, run, send, serve, serve_front, serve_session, stream_of, run_then, arith}
+use Rattle.std.specs.Prelude.{◌==◌, ◌^◌, ◌-◌, IfSome, nat_le, nat_lt, length, not}
 use Rattle.std.specs.{Ordering.nat_cmp, BTreeMap.is_at}
+use Rattle.std.proofs.lemmas.Grind.{common_steps}
 use Rattle.std.proofs.lemmas.Map.Views.{All-map-remove_entry, All-values-insert_entry, All-values-set_value, IfSome-lookup_from_All}
-use Rattle.model.specs.{declared.refusals.Refusal.Refusal, History.Record, Operations.Operation, Operations.Response, PrivateCopy.Mark.OfKey, Verdict.verdict}
-use Rattle.model.specs.Map.{Bytes, KeyWrite, is_empty_range, pairs_in_range, value_at}
-use Rattle.model.specs.Operations.Operation.{Begin, Get, Set, Del, Range, Commit, Abort}
-use Rattle.model.specs.Operations.Response.{Number, Value, Pairs}
-use Rattle.model.specs.PrivateCopy.{Mark, PrivateCopy, after_put, after_read, copy_after, copy_of, is_same_mark, is_written, mark_asked, respond}
+use Rattle.model.specs.{declared.refusals.Refusal.Refusal, History.Record, Operations.Operation, Operations.Response, Verdict.verdict}
+use Rattle.model.specs.Map.{KeyWrite}
+use Rattle.model.specs.Operations.Operation.{Begin, Commit, Abort}
+use Rattle.model.specs.Operations.Response.{Number}
+use Rattle.model.specs.PrivateCopy.{PrivateCopy, copy_after, copy_of, respond}
 use Rattle.model.specs.Machine.{State, Running, body_sectors, commit, join_history, last, record_to_commit, running_of, snapshot, step, step_of, store, store_unless}
 use Rattle.model.proofs.Elements.{all-append, all-each}
 use Rattle.sessions.specs.{declared.events.Outcome.Outcome, SessionStreams.Leaves}
@@ -37,24 +38,8 @@ abbrev Answers : State → State × Response → Type 0
 Answers m a = Goes m a.0 (a.1 ∷ [])
 
 -- no number
-abbrev IsOther : Response → Type 0
-IsOther q = (history : List Record) → IsCommitted history q
-
-abbrev Other : Response × PrivateCopy → Type 0
-Other x = IsOther x.0
-
-read_other : (c : PrivateCopy) (mark : Mark) (q : Response) → IsOther q → IsOther (after_read c mark q).0
-read_other c mark q other = by_if Other (list_any (is_same_mark mark) c.marks) _ _ other (by_if Other (nat_lt (length c.marks) 256) _ _ other (λ history. tt))
-
-put_other : (c : PrivateCopy) (k : Bytes) (v : Option Bytes) → IsOther (after_put c k v).0
-put_other c k v = by_if Other (is_written c k) _ _ (λ history. tt) (by_if Other (nat_lt (length c.written) 64) _ _ (λ history. tt) (λ history. tt))
-
-respond_other : (c : PrivateCopy) (q : Operation) → IsOther (respond c q).0
-respond_other c (Get k) = by_if Other (is_written c k) _ _ (λ history. tt) (read_other c (OfKey k) (Value (value_at c.contents k)) (λ history. tt))
-respond_other c (Range lo hi limit) = by_if Other (is_empty_range lo hi) _ _ (λ history. tt) (read_other c (mark_asked c lo hi limit) (Pairs (take limit (pairs_in_range c.contents lo hi))) (λ history. tt))
-respond_other c (Set k v) = put_other c k (Some v)
-respond_other c (Del k) = put_other c k None
-respond_other c _ = λ history. tt
+respond_other : (c : PrivateCopy) (q : Operation) (history : List Record) → IsCommitted history (respond c q).0
+respond_other c q history = grind (arith, common_steps)
 
 module _ (m : State) (s : ℕ) (f : Bool) where
   module _ (t : Running) where

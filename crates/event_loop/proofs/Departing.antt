@@ -39,14 +39,9 @@ last_sound old new (e ∷ es) r = last_sound r.1 new es r.3
 
 -- what was told to be sent was answered
 sent_answered : (s : ℕ) (h : HubState) (es : List (HubEvent × Choice)) (t : Traffic) → HasSent s h t → IsAnswered s h es t.taken
-sent_answered s h es t has = record {
-  by = [];
-  since = es;
-  events_are = refl;
-  stream = has.stream;
-  stream_is = has.stream_is;
-  answered = record { rest = has.stream.now.pending; all_is = ap (λ l. l ++ has.stream.now.pending) (sym has.taken) };
-}
+sent_answered s h es t has =
+    let begins : IsBeginning t.taken (has.stream.sent ++ has.stream.now.pending) = record { rest = has.stream.now.pending; all_is = rw has.taken } in
+    record { by = []; since = es; events_are = refl; stream = has.stream; stream_is = has.stream_is; answered = begins }
 
 module _ {D : Type 0} {g : Ghosts D} {hub : Hub D g} (served : Served hub) where
   pub stands_now : StandsFor hub (present_state served)
@@ -61,11 +56,7 @@ module _ {D : Type 0} {g : Ghosts D} {hub : Hub D g} (served : Served hub) where
 
     -- what was told is told still
     pub tells_on : (s : ℕ) (t : Traffic) → Tells served s t → Tells served_on s t
-    tells_on s t e = record {
-      number = e.number;
-      told = all_since s (first_state served) ran_then served.first hub later served.choices fs ran t.departed e.told;
-      answered = answered_since s (first_state served) served.choices fs t.taken e.answered;
-    }
+    tells_on s t e = assumption (all_since s (first_state served) ran_then served.first hub later served.choices fs ran t.departed e.told, answered_since s (first_state served) served.choices fs t.taken e.answered)
 
     lingerers_on : (all : List Lingerer) → LingerersTell served all → LingerersTell served_on all
     lingerers_on all tells = all-each _ _ all (λ l. tells_on (session_of l.socket) (traffic_of l.socket)) tells
@@ -76,27 +67,20 @@ module _ {D : Type 0} {g : Ghosts D} {hub : Hub D g} (served : Served hub) where
         let on = tells_on s t e in
         let told : AllByRecursion (IsTold served_on s) (t.departed ++ left.departures) =
         all-append (IsTold served_on s) t.departed left.departures on.told (all_before s (first_state served) ran_then served.first hub later served.choices fs served.ran left.departures left.each) in
-        record {
-          number = same_number ∙ e.number;
-          told = subst (λ (ds : List Departure). AllByRecursion (IsTold served_on s) ds) (sym left.departed_are) told;
-          answered = elim took [ inl same ↦ rw same on.answered | inr since ↦ answered_then s (first_state served) served.choices fs u.taken since ];
-        }
+        let answered : IsAnswered s (first_state served) (served.choices ++ fs) u.taken = elim took [ inl same ↦ rw same on.answered | inr since ↦ answered_then s (first_state served) served.choices fs u.taken since ] in
+        record { number = same_number ∙ e.number; told = rw left.departed_are told; answered = answered }
 
 -- ---- what a stream holds leaves
 
 -- what begins an answer was answered too
 answered_part : (s : ℕ) (h : HubState) (es : List (HubEvent × Choice)) (less bytes : List ℕ) → IsBeginning less bytes → IsAnswered s h es bytes → IsAnswered s h es less
-answered_part s h es less bytes begins a =
-    record { by = a.by; since = a.since; events_are = a.events_are; stream = a.stream; stream_is = a.stream_is; answered = begins_through less bytes (a.stream.sent ++ a.stream.now.pending) begins a.answered }
+answered_part s h es less bytes begins a = search (a.events_are, a.stream_is, begins_through less bytes (a.stream.sent ++ a.stream.now.pending) begins a.answered)
 
 module _ {D : Type 0} {g : Ghosts D} {hub : Hub D g} (served : Served hub) where
   -- no more has left than the connection took
   inner_tells : (s : ℕ) (b : BufferedStream Socket) → Tells served s (through b) → Tells served s (traffic_of b.inner)
-  inner_tells s b e = record {
-    number = e.number;
-    told = e.told;
-    answered = answered_part s (first_state served) served.choices (traffic_of b.inner).taken (through b).taken (record { rest = held_in b.held; all_is = refl }) e.answered;
-  }
+  inner_tells s b e =
+      assumption (answered_part s (first_state served) served.choices (traffic_of b.inner).taken (through b).taken (record { rest = held_in b.held; all_is = refl }) e.answered)
 
   -- the session is that of the number
   own_tells : (s : ℕ) (socket : Socket) → Tells served s (traffic_of socket) → Tells served (session_of socket) (traffic_of socket)
@@ -138,14 +122,14 @@ module _ {D : Type 0} {g : Ghosts D} {hub : Hub D g} (served : Served hub) where
       | inr x ↦ elim x.1 [
         | inl refused ↦ rw refused tells
         | inr begun ↦
-            subst (λ (l : Lingerers). LingerersTell served l.all) (sym begun.2)
+            rw begun.2
             (all_drop (λ (l : Lingerer). Tells served (session_of l.socket) (traffic_of l.socket)) (length old.all + 1 - LINGERING_MAX) (old.all ++ begun.0 ∷ [])
             (all-append (λ (l : Lingerer). Tells served (session_of l.socket) (traffic_of l.socket)) old.all (begun.0 ∷ []) tells (subst (λ (x : Socket). Tells served (session_of x) (traffic_of x)) (sym begun.1.socket_is) (own_tells s socket e), tt)))
       ]
     ]
 
     leaves_if : (time : Option Instant) (b : Bool) (socket : Socket) (old new : Lingerers) → LeavesIf time moment b socket old new → (s : ℕ) → Tells served s (traffic_of socket) → LingerersTell served old.all → LingerersTell served new.all
-    leaves_if time false socket old new same s e tells = subst (λ (l : Lingerers). LingerersTell served l.all) (sym same) tells
+    leaves_if time false socket old new same s e tells = rw same tells
     leaves_if time true socket old new leaves s e tells = one_lingers time socket old new leaves s e tells
 
     leaves_as : SocketsTell → (time : Option Instant) (slot after : Option Connection) (ended : EndsTurn SocketsTell traffic_of moment slot after) (old new : Lingerers) → LeavesAs time moment slot after ended old new

@@ -1,13 +1,12 @@
 -- The parts of a turn make it, and those of its wait.
-use Rattle.event_loop.proofs.Words.{◌≡◌, Bool, true, false, List, Option, Result, Ok, Err, refl, sym, subst, items, LINGERER, EventLoop, LingerOn, Lingerers, lingers_in, unless_failed, Accepted, DrivesReady, IsGivenBack, IsTurn, Waits, accepted_joins, accepts_now, is_told_of, turn_waits, Instant, Event, Ghosts, device, traffic_through, DrivenAll, Adds, Leads, Point, Traffic, Socket}
+use Rattle.event_loop.proofs.Words.{◌≡◌, Bool, false, List, Option, Result, Ok, Err, sym, subst, items, LINGERER, EventLoop, LingerOn, Lingerers, lingers_in, unless_failed, Accepted, DrivesReady, IsGivenBack, IsTurn, Waits, accepted_joins, accepts_now, is_told_of, turn_waits, Instant, Event, Ghosts, device, traffic_through, DrivenAll, Adds, Leads, Point, Traffic, Socket, arith}
 use Rattle.std.specs.{declared.io.Error.Error, declared.time.Duration.Duration}
-use Rattle.event_loop.specs.{declared.connections.Backlog.Backlog, declared.connections.Backlog.TheVariants.Empty, declared.polling.Poller.Poller, Waits.nanos_of}
+use Rattle.event_loop.specs.{declared.connections.Backlog.Backlog, declared.polling.Poller.Poller, Waits.nanos_of}
 use Rattle.event_loop.specs.Polls.{Looked, NothingRead, after_wait, polls_of}
 
 -- where a turn doesn't accept, none of those that linger is closed
 pub none_closed : (backlog : Backlog) (events : List Event) (all : Lingerers) → accepts_now backlog events ≡ false → all ≡ unless_failed backlog all
-none_closed Empty events all e = refl
-none_closed _ events all e = absurd (let bad : true ≡ false = e in cc)
+none_closed backlog events all e = grind arith
 
 module _ {D : Type 0} {g : Ghosts D} (tells : Type 0) (traffic : Socket → Traffic) (old driven accepted new : EventLoop D g) (next_is : driven.next ≡ old.next) (port_is : driven.port ≡ old.port) (backlog_is : driven.backlog ≡ old.backlog)
     (refused_is : driven.refused ≡ old.refused) (lingerers_are : lingers_in accepted.lingering ≡ unless_failed accepted.backlog (lingers_in driven.lingering)) (given : IsGivenBack accepted new) where

@@ -1,6 +1,7 @@
 -- What a poll and the end of a turn make of a slot, and what becomes of its connection.
-use Rattle.event_loop.proofs.Words.{◌≡◌, ◌≢◌, inl, inr, ℕ, ◌<◌, ◌≤◌, ◌==◌, ◌||◌, Bool, true, false, cond, List, [], ◌∷◌, ◌++◌, map, set, Option, Some, None, option_map, refl, sym, ap, subst, ◌∙◌, arith, and_parts, cases_eq, cases_lt, eqb-false, eqb-true, get_or-set_same, get_or-set_other, Idle, Ready, Gone, some_same, below, EndAll, EndEach, EndsAt, LeavesAs, LeavesIf, NoneEnded, Lingerers, SocketsTell, traffic_of, Instant, Event, BufferedStream, Entry, EntryState, is_settled, traffic_through, EndsDrive, is_gone, is_over, Traffic, Socket, EndsTurn, after_event, after_poll, readied, slot_at, told, told_slot, Slots}
+use Rattle.event_loop.proofs.Words.{◌≡◌, ◌≢◌, inl, inr, ℕ, ◌<◌, ◌≤◌, ◌==◌, ◌||◌, Bool, true, false, cond, List, [], ◌∷◌, ◌++◌, map, set, Option, Some, None, option_map, refl, sym, ap, subst, ◌∙◌, arith, and_parts, cases_eq, cases_lt, get_or-set_same, get_or-set_other, Gone, some_same, below, EndAll, EndEach, EndsAt, LeavesAs, LeavesIf, NoneEnded, Lingerers, SocketsTell, traffic_of, Instant, Event, BufferedStream, Entry, EntryState, is_settled, traffic_through, EndsDrive, is_gone, is_over, Traffic, Socket, EndsTurn, after_event, after_poll, slot_at, told, told_slot, Slots}
 use Rattle.std.proofs.Math.ListN.{get_or-eq_default}
+use Rattle.std.proofs.lemmas.Grind.{common_steps}
 use Rattle.mio.specs.Event.{event_token, is_priority, is_read_closed}
 use Rattle.event_loop.specs.Leavings.EndEach.{OneMore}
 
@@ -9,8 +10,7 @@ mapped_some f None p y same is = absurd (cc (ap (option_map f) is))
 mapped_some f (Some x) p y same is = (x, refl, cc (ap (option_map f) is))
 
 gone_at : (state : EntryState) → is_gone state ≡ true → state ≡ Gone
-gone_at Gone is = refl
-gone_at _ is = absurd (cc)
+gone_at state is = grind arith
 
 pub gone_as : (a b : EntryState) → is_gone a ≡ is_gone b → a ≡ Gone → b ≡ Gone
 gone_as a b same gone = gone_at b (sym same ∙ ap is_gone gone)
@@ -27,18 +27,14 @@ module _ {T : Type 0} where
   -- a slot was told of, and the others are as they were
   poll_step : (slots new : Slots (BufferedStream T)) (t : ℕ) (on : Bool) → slot_at new t ≡ told_slot true on (slot_at slots t) → ((other : ℕ) → other ≢ t → slot_at new other ≡ slot_at slots other)
       → (key : ℕ) → slot_at new key ≡ told_slot (t == key) on (slot_at slots key)
-  poll_step slots new t on here others key = elim (t == key) as (λ b. (t == key) ≡ b → slot_at new key ≡ told_slot b on (slot_at slots key)) [
-    | true ↦ λ at. subst (λ (k : ℕ). slot_at new k ≡ told_slot true on (slot_at slots k)) (eqb-true t key at) here
-    | false ↦ λ differs. others key (λ at. eqb-false t key differs (sym at))
-  ] refl
+  poll_step slots new t on here others key = grind (arith, common_steps, others key)
 
   module _ {R : Type 0} (now : R → Event) (yielded : List R) (event : R) (initial slots : Slots (BufferedStream T)) (t : ℕ) (names : t ≡ (event_token (now event)).0)
       (before : (key : ℕ) → slot_at slots key ≡ after_poll (map now yielded) key (slot_at initial key)) where
     more : (on : Bool) → on ≡ (is_priority (now event) || is_read_closed (now event)) → (key : ℕ) (new : Slots (BufferedStream T))
         → slot_at new key ≡ told_slot (t == key) on (slot_at slots key) → slot_at new key ≡ after_poll (map now (yielded ++ event ∷ [])) key (slot_at initial key)
     more on on_is key new step =
-        step ∙ ap (λ s. told_slot (t == key) on s) (before key) ∙ ap (λ (n : ℕ). told_slot (n == key) on (after_poll (map now yielded) key (slot_at initial key))) names
-        ∙ ap (λ b. told_slot ((event_token (now event)).0 == key) b (after_poll (map now yielded) key (slot_at initial key))) on_is ∙ sym (poll_more now yielded event key (slot_at initial key))
+        rw (step, before key, names, on_is, poll_more)
 
     pub polled_more_some : (on : Bool) → on ≡ (is_priority (now event) || is_read_closed (now event)) → (entry marked : Entry (BufferedStream T)) → slot_at slots t ≡ Some entry → marked ≡ told on entry
         → (key : ℕ) → slot_at (set slots t (Some marked)) key ≡ after_poll (map now (yielded ++ event ∷ [])) key (slot_at initial key)
@@ -57,10 +53,7 @@ module _ {T : Type 0} where
     left entry = (entry.session, is_gone entry.state, traffic_through traffic entry.stream)
 
     told_left : (b on : Bool) (slot : Option (Entry (BufferedStream T))) → option_map left (told_slot b on slot) ≡ option_map left slot
-    told_left true on None = refl
-    told_left true on (Some entry) =
-        ap (λ gone. Some (entry.session, gone, traffic_through traffic entry.stream)) (elim entry.state as (λ state. is_gone (readied state) ≡ is_gone state) [ Idle ↦ refl | Ready ↦ refl | Gone ↦ refl ])
-    told_left false on slot = refl
+    told_left b on slot = grind arith
 
     poll_left : (events : List Event) (key : ℕ) (slot : Option (Entry (BufferedStream T))) → option_map left (after_poll events key slot) ≡ option_map left slot
     poll_left [] key slot = refl

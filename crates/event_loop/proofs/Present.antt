@@ -1,5 +1,5 @@
 -- The sessions that are present: what a join does to them, and that they stand by rising number, so one that has left is absent.
-use Rattle.event_loop.proofs.Words.{◌≡◌, ℕ, ◌+◌, ◌<◌, ◌≤◌, true, not, nat_le, nat_lt, List, [], ◌∷◌, length, Some, None, refl, ap, nat_cmp, arith, ◌≢◌, Bool, false, cond, if◌then◌else◌, sym, lookup, set_value, remove_entry, Absent, HubState, SessionStream, HubEvent, Joins, Receives, Serves, Sends, Choice, ArePossible, IsReachedHub, Begun, Continued, hub_step, run, stream_of, new_stream, receive, serve_session, send, depart, is_open, room, is_above, Done, Unknown, Crowded, Memory, test, Outcome, status_in}
+use Rattle.event_loop.proofs.Words.{◌≡◌, ℕ, ◌+◌, ◌<◌, ◌≤◌, true, not, nat_le, List, [], ◌∷◌, length, Some, None, refl, ap, nat_cmp, arith, ◌≢◌, Bool, false, cond, if◌then◌else◌, sym, lookup, set_value, remove_entry, Absent, HubState, SessionStream, HubEvent, Joins, Choice, ArePossible, IsReachedHub, Begun, Continued, hub_step, run, stream_of, new_stream, is_above, Done, Unknown, Crowded, Memory, test, Outcome, status_in}
 use Rattle.std.specs.{BTreeMap.insert_entry, declared.cmp.Ordering.TheVariants.Equal}
 use Rattle.std.proofs.{lemmas.Bool.Decides.nat_tests, lemmas.Grind.common_steps}
 use Rattle.sessions.specs.SessionStreams.{Leaves}
@@ -83,17 +83,7 @@ Risen r = Rise 0 r.0.present
 
 step-rise : (h : HubState) (e : HubEvent) (c : Choice) → Rise 0 h.present → Risen (hub_step h e c)
 unfolding hub_step
-step-rise h (Joins s) c rise = join_step h s c Risen (λ outcome differs. rise) (insert-rise 0 s h.present new_stream (omega arith) rise)
-step-rise h (Receives s piece) c rise = elim (stream_of h s) as (λ o. Risen (receive o h s piece)) [
-  | None ↦ rise
-  | Some st ↦ by_if Risen (not (is_open st.now.status)) _ _ rise (by_if Risen (nat_lt (room st.now) (length piece)) _ _ rise (set-rise 0 s h.present _ rise))
-]
-step-rise h (Serves s) c rise = elim (stream_of h s) as (λ o. Risen (serve_session o h s c)) [ None ↦ rise | Some st ↦ set-rise 0 s h.present _ rise ]
-step-rise h (Sends s n) c rise = elim (stream_of h s) as (λ o. Risen (send o h s n)) [
-  | None ↦ rise
-  | Some st ↦ by_if Risen (nat_le n (length st.now.pending)) _ _ (set-rise 0 s h.present _ rise) rise
-]
-step-rise h (Leaves s) c rise = elim (stream_of h s) as (λ o. Risen (depart o h s)) [ None ↦ rise | Some st ↦ remove-rise 0 s h.present rise ]
+step-rise h e c rise = grind (arith, common_steps, insert-rise, set-rise, remove-rise)
 
 reached-rise : (h : HubState) → IsReachedHub h → Rise 0 h.present
 reached-rise _ (Begun m reached none) = tt
@@ -106,7 +96,4 @@ reached-run h (e ∷ es) (first, rest) reached = reached-run (hub_step h e.0 e.1
 -- a session that leaves is absent
 pub absent_then : (h : HubState) (s : ℕ) (c : Choice) → IsReachedHub h → status_in (stream_of (hub_step h (Leaves s) c).0 s) ≡ Absent
 unfolding hub_step
-absent_then h s c reached = elim (stream_of h s) as (λ o. stream_of h s ≡ o → status_in (stream_of (depart o h s).0 s) ≡ Absent) [
-  | None ↦ λ none. ap status_in none
-  | Some st ↦ λ there. ap status_in (removed 0 s h.present (reached-rise h reached))
-] refl
+absent_then h s c reached = grind (arith, common_steps, removed 0 s h.present (reached-rise h reached))

@@ -1,5 +1,5 @@
 -- One call of a socket, under the premise that sockets tell the bytes that they move.
-use Rattle.event_loop.proofs.Words.{◌≡◌, ◌≢◌, inl, inr, ℕ, ◌-◌, ◌^◌, List, [], ◌∷◌, ◌++◌, map, take, refl, Option, Some, None, Result, Ok, Err, IfOk, IfSome, IsErr, OnOk, sym, ap, subst, ◌∙◌, cases_eq, append-nil, map-append, none_departed, IsNewSocket, SocketsTell, departure_of, traffic_of, BufferedStream, IsNew, DepartAt, IsUncalled, Traffic, bytes_read, bytes_written, Socket}
+use Rattle.event_loop.proofs.Words.{◌≡◌, ◌≢◌, inl, inr, ℕ, ◌-◌, ◌^◌, List, [], ◌∷◌, ◌++◌, map, take, refl, Option, Some, None, Result, Ok, Err, IfOk, IfSome, IsErr, OnOk, sym, ap, subst, ◌∙◌, cases_eq, append-nil, map-append, none_departed, IsNewSocket, SocketsTell, departure_of, traffic_of, BufferedStream, IsNew, DepartAt, IsUncalled, Traffic, bytes_read, bytes_written, Socket, arith}
 use Rattle.std.specs.Result.{result_ok}
 use Rattle.socket_calls.specs.OpenFacts.{departed, given, latest, moved, next, taken}
 use Rattle.socket_calls.specs.{HappenedCalls.SendsAtOnce, HappenedCalls.WasReceived, HappenedCalls.WasSent, declared.counted.CountedSocket.CountedSocket}
@@ -10,8 +10,7 @@ latest-append none [] d = refl
 latest-append none (x ∷ xs) d = latest-append x.0 xs d
 
 none_moved : {E : Type 0} (outcome : Result ℕ E) → IsErr outcome → moved outcome ≡ 0
-none_moved (Ok n) failed = absurd (cc)
-none_moved (Err e) failed = refl
+none_moved outcome failed = grind arith
 
 module _ {E : Type 0} (old mid new : CountedSocket) (bytes : List ℕ) (outcome : Result ℕ E) (called : mid ≡ next old) (kept : new ≡ mid) (over : old.calls ≡ 2 ^ 64 - 1 → IsErr outcome) where
   abbrev went : List ℕ

@@ -1,23 +1,11 @@
 -- What the drives of a turn leave of each entry: its session, the number of its connection, and the bytes of its session.
 use Rattle.event_loop.proofs.Words.{◌≡◌, ◌≢◌, inl, inr, ℕ, zero, suc, List, [], ◌∷◌, ◌++◌, Option, Some, None, refl, sym, ap, subst, ◌∙◌, arith, Idle, Ready, Gone as EntryGone, flushed_same, none_departed, one_history, some_same, ends_last, entry_other, HasItsBytes, HaveBytes, Event, HubState, SessionStream, stream_of, BufferedStream, Entry, EntryState, fresh, traffic_through, DrivenAll, DrivenEntry, DrivenIn, DrivenSlot, EndsIn, state_after, Point, DepartAt, Traffic, EndsTurn, after_poll, slot_at, Slots}
-use Rattle.stream_driver.specs.{declared.answers.Call.TheVariants.Read, declared.answers.Call.TheVariants.Write, declared.answers.Progress.Progress, Drives.Why}
-use Rattle.stream_driver.specs.declared.answers.Progress.TheVariants.{Waiting, Again, Gone}
-use Rattle.stream_driver.specs.declared.answers.ReadAnswer.TheVariants.{Blocked as ReadBlocked, Failed as ReadFailed, Ended as ReadEnded}
-use Rattle.stream_driver.specs.declared.answers.WriteAnswer.TheVariants.{Blocked as WriteBlocked, Failed as WriteFailed}
-use Rattle.stream_driver.proofs.Answered.{ends_same}
+use Rattle.stream_driver.specs.{declared.answers.Progress.Progress, declared.answers.Progress.TheVariants.Gone, Drives.Why}
 use Rattle.event_loop.proofs.{Entries.no_entry, Polled.gone_as, Polled.was_driven, Polled.was_polled}
 
 -- a drive keeps the number of a stream's connection
 why_same : (s : ℕ) (last : HubState) (before after : Traffic) (served sent : ℕ) (answer : Progress) → Why s last before after served sent answer → after.connection ≡ before.connection
-why_same s last before after served sent Waiting why = elim why [ inl x ↦ ends_same (Write WriteBlocked) before after x.0 | inr y ↦ ends_same (Read ReadBlocked) before after y.0 ]
-why_same s last before after served sent Again why = why.0.5
-why_same s last before after served sent Gone why = elim why [
-  | inl x ↦ ends_same (Read ReadFailed) before after x.0
-  | inr more ↦ elim more [
-    | inl y ↦ ends_same (Write WriteFailed) before after y.0
-    | inr others ↦ elim others [ inl z ↦ ends_same (Read ReadEnded) before after z.0 | inr w ↦ w.0.5 ]
-  ]
-]
+why_same s last before after served sent answer why = grind arith
 
 -- each entry that isn't gone has its own session
 abbrev AreOwn : {T : Type 0} → Slots T → Type 0
@@ -33,8 +21,7 @@ module _ {T : Type 0} (tells : Type 0) (traffic : T → Traffic) where
 
   -- it was not gone before
   was_alive : (state : EntryState) (earlier : Point) (old : Entry T) (later : Point) (new : Entry T) → old.state ≡ state → DrivenIn tells traffic state earlier old later new → new.state ≢ EntryGone → old.state ≢ EntryGone
-  was_alive EntryGone earlier old later new is d alive = absurd (alive (ap (λ (x : Entry T). x.state) d.0 ∙ is))
-  was_alive _ earlier old later new is d alive = λ gone. cc
+  was_alive state earlier old later new is d alive = grind arith
 
   entry_bytes : (state : EntryState) (earlier : Point) (old : Entry T) (later : Point) (new : Entry T) → DrivenIn tells traffic state earlier old later new → new.state ≢ EntryGone
       → HasItsBytes tells traffic earlier.hub old → HasItsBytes tells traffic later.hub new
