@@ -1,5 +1,5 @@
 -- The parts that a request lends.
-use Rattle.resp.proofs.Words.{common_steps, ◌≡◌, ◌<◌, [], ◌∷◌, List, ℕ, length, take, map, arith, ◌+◌, ◌++◌, set, ap, ◌∙◌, length-append, map-set, take_more_set, length-map, IsPart, IsRequest, Bor}
+use Rattle.resp.proofs.Words.{common_steps, ◌≡◌, ◌<◌, [], ◌∷◌, List, ℕ, length, take, map, arith, ◌+◌, ◌++◌, set, length-append, map-set, take_more_set, length-map, IsPart, IsRequest, Bor}
 
 -- the bytes that are lent
 abbrev pub lent : Bor (List ℕ) → List ℕ
@@ -7,9 +7,7 @@ lent part = part.now
 
 -- one more part behind the first ones
 pub lent_more : (parts : List (Bor (List ℕ))) (len : ℕ) (part : Bor (List ℕ)) → len < length parts → take (len + 1) (map lent (set parts len part)) ≡ take len (map lent parts) ++ lent part ∷ []
-lent_more parts len part room =
-    let within : len < length (map lent parts) = omega (arith, length-map parts lent) in
-    ap (take (len + 1)) (map-set lent parts len part) ∙ take_more_set (map lent parts) len (lent part) within
+lent_more parts len part room = grind (arith, common_steps, length-map, map-set, take_more_set)
 
 -- and the parts are a request again
 pub request_more : (parts : List (List ℕ)) (part : List ℕ) → IsRequest parts → length parts < 4 → IsPart part → IsRequest (parts ++ part ∷ [])

@@ -40,8 +40,7 @@ count_behind bytes rest d e is low high stopped =
     stopped
 
 pub count_text : (bytes rest : List ℕ) (d : ℕ) → bytes ≡ d ∷ (crlf ++ rest) → 49 ≤ d → d ≤ 52 → (text : List ℕ) × CountLine text (d - 48) × (bytes ≡ text ++ rest)
-count_text bytes rest d is low high =
-    (decimal (d - 48) ++ crlf, (omega arith, omega arith, refl), is ∙ ap (λ (xs : List ℕ). (xs ++ crlf) ++ rest) (sym (digit_text d (omega arith) (omega arith))))
+count_text bytes rest d is low high = grind (arith, common_steps, digit_text)
 
 -- ---- the length of a part
 
@@ -60,9 +59,7 @@ no_length bytes digits [] is run last some none = λ text more others n h e.
     let len : 1 ≤ length digits = subst (λ (xs : List ℕ). 1 ≤ length xs) (is ∙ append-nil digits) some in
     let found = front_of_decimal n (omega (arith, h.0)) digits front.0 len front.1 in
     none found.0 (omega (arith, found.1, h.0)) found.2
-no_length bytes digits (c ∷ rest) is run last some none = λ text more others n h e.
-    let same : digits ++ c ∷ (rest ++ more) ≡ decimal n ++ 13 ∷ (10 ∷ others) = sym (append_assoc digits (c ∷ rest) more) ∙ ap (λ (xs : List ℕ). xs ++ more) (sym is) ∙ e ∙ ap (λ (xs : List ℕ). xs ++ others) h.1 ∙ line_text n others in
-    none n h.0 (same_digits digits (decimal n) c 13 (rest ++ more) (10 ∷ others) run (decimal_digits n (omega (arith, h.0))) (last (omega arith)) not_return same).0
+no_length bytes digits (c ∷ rest) is run last some none = grind (arith, common_steps, append_assoc, line_text, same_digits, decimal_digits, not_return)
 
 pub length_behind : (bytes digits rest : List ℕ) (len : ℕ) (e : Stop) → bytes ≡ digits ++ rest → digits ≡ decimal len → len ≤ value_max → NoDigitFirst rest → Stops (Only crlf) rest e → Stops LengthLine bytes e
 length_behind bytes digits rest len e is number fits last stopped =
@@ -75,5 +72,4 @@ length_behind bytes digits rest len e is number fits last stopped =
     must a0 a1 a2 a3 a4 a5 a6 a7 a8 = grind (arith, common_steps, same_digits, decimal_digits, not_return, line_text)
 
 pub length_text : (bytes digits rest after : List ℕ) (len : ℕ) → bytes ≡ digits ++ rest → digits ≡ decimal len → len ≤ value_max → rest ≡ crlf ++ after → (text : List ℕ) × LengthLine text len × (bytes ≡ text ++ after)
-length_text bytes digits rest after len is number fits ended =
-    (decimal len ++ crlf, (fits, refl), is ∙ ap (λ (xs : List ℕ). digits ++ xs) ended ∙ sym (append_assoc digits crlf after) ∙ ap (λ (xs : List ℕ). (xs ++ crlf) ++ after) number)
+length_text bytes digits rest after len is number fits ended = grind (arith, common_steps, append_assoc)

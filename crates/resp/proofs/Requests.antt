@@ -155,5 +155,4 @@ read_stops bytes count i parts rest e so_far less stopped =
     made t p same = rw (same, len p, flat_map-append bulk parts (p ∷ replicate (count - i - 1) [])) (ap (λ (xs : List ℕ). 42 ∷ xs) (append_assoc (decimal count ++ crlf) (flat_map bulk parts) (bulk p ++ flat_map bulk (replicate (count - i - 1) []))))
 
 pub read_all : (bytes : List ℕ) (count i : ℕ) (parts : List (List ℕ)) (rest : List ℕ) → IsReadTo bytes count i parts rest → i ≡ count → (text : List ℕ) × Spells text parts × (bytes ≡ text ++ rest)
-read_all bytes count i parts rest so_far done =
-    (array_of_bulks parts, (record { some = omega (arith, so_far.some, so_far.len); few = omega (arith, so_far.few, so_far.len); each = so_far.each }, refl), so_far.text ∙ ap (λ (n : ℕ). (42 ∷ ((decimal n ++ crlf) ++ flat_map bulk parts)) ++ rest) (sym done ∙ sym so_far.len))
+read_all bytes count i parts rest so_far done = grind (arith, common_steps)

@@ -1,4 +1,4 @@
-use Rattle.resp.proofs.Words.{◌≡◌, ◌++◌, ◌∷◌, ◌+◌, ◌*◌, ◌≤◌, ℕ, List, true, false, [], length, arith, vec_len, length-append, ap, sym, subst, ◌∙◌, refl, is_ok, codes, flat_map, decimal, Bor, crlf, bulk, pair_text, reply_text}
+use Rattle.resp.proofs.Words.{common_steps, ◌≡◌, ◌++◌, ◌∷◌, ◌+◌, ◌≤◌, ℕ, List, true, false, [], length, arith, vec_len, length-append, ap, sym, subst, ◌∙◌, is_ok, Bor, bulk, pair_text, reply_text}
 use Rattle.std.specs.Iterator.{AlwaysYields}
 use Rattle.std.proofs.iter.Next.{Yields-more}
 use Rattle.model.specs.{declared.keys.KeyRef.KeyRef, KeyBytes.pair_bytes, Operations.Response.Pairs}
@@ -25,15 +25,7 @@ returns-then-is_err-clause-room g c all given fits =
     absurd cc
 
 pub returns-clause-ok : goal.returns-clause-ok
-returns-clause-ok g c all given =
-    let it = c.into_iter-key-iterator.result in
-    let gives : AlwaysYields g.I.Iterator.next_gives pair_bytes it all = subst (λ s. AlwaysYields g.I.Iterator.next_gives pair_bytes s all) (sym c.into_iter-key-iterator.ensures.into_iter_gives) given.1 in
-    let e = same_given g.I.Iterator.next_gives pair_bytes it all c.loop-key.yielded c.loop-key.key-iterator c.next.new.self gives c.loop-key.yielded_by c.in-None.ensures.steps in
-    c.loop-key.invariant.items ∙ ap (λ (xs : List ℕ). c.args.out.now.items ++ xs) (ap (λ (ps : List (List ℕ × List ℕ)). (codes "*" ++ decimal (2 * c.args.n) ++ crlf) ++ flat_map pair_text ps) e ∙ ap (λ (k : ℕ). (codes "*" ++ decimal (2 * k) ++ crlf) ++ flat_map pair_text all) (sym given.0))
+returns-clause-ok g c all given = grind (arith, common_steps, same_given)
 
 pub returns-in_err-append_array_line-clause-room : goal.returns-in_err-append_array_line-clause-room
-returns-in_err-append_array_line-clause-room g c all given fits =
-    let line = codes "*" ++ decimal (2 * c.args.n) ++ crlf in
-    let short : length (line ++ []) ≤ length (reply_text (Pairs all)) = pairs_front c.args.n [] all all refl given.0 in
-    let room = c.in_err-append_array_line.ensures.room (omega (arith, short, length-append line [], fits)) in
-    absurd cc
+returns-in_err-append_array_line-clause-room g c all given fits = grind (arith, common_steps, pairs_front, length-append)
