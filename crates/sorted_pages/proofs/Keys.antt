@@ -25,9 +25,7 @@ module _ {X : Type 0} where
   -- those from a page on that doesn't start by k are above k
   pub above_of : (k : Bytes) (es rest : List (Bytes × X)) → IsSorted (es ++ rest) → 0 < length es → starts_by k es ≡ false → IsBelowAll k (es ++ rest)
   above_of k [] rest h f n = absurd (omega arith)
-  above_of k (e ∷ es) rest h f n =
-      let up = above_it e.0 k n in
-      both _ _ (is_less _ up) (below_later nat_list_cmp_total k e.0 (es ++ rest) up (parts _ _ h).0)
+  above_of k (e ∷ es) rest h f n = grind (arith, common_steps, above_it, both, is_less, below_later, nat_list_cmp_total, parts)
 
   -- what is below all of a page that starts by k is below k
   pub first_of : (x k : Bytes) (es : List (Bytes × X)) → IsBelowAll x es → 0 < length es → starts_by k es ≡ true → key_cmp x k ≡ Less
@@ -71,9 +69,7 @@ module _ {X : Type 0} where
 
   pub put_behind : (k : Bytes) (v : X) (a m : List (Bytes × X)) → AreBelow k a → put key_cmp k v (a ++ m) ≡ a ++ put key_cmp k v m
   put_behind k v [] m below = refl
-  put_behind k v (e ∷ a) m below =
-      let l = a ++ m in
-      ap (λ o. by_order o ((k, v) ∷ e ∷ l) ((e.0, v) ∷ l) (e ∷ put key_cmp k v l)) (turned_less e.0 k below.0) ∙ ap (λ l. e ∷ l) (put_behind k v a m below.1)
+  put_behind k v (e ∷ a) m below = grind (arith, common_steps, turned_less, put_behind k v a m below.1)
 
   pub put_middle : (k : Bytes) (v : X) (a m b : List (Bytes × X)) → AreBelow k a → IsBelowAll k b → put key_cmp k v (a ++ (m ++ b)) ≡ a ++ (put key_cmp k v m ++ b)
   put_middle k v a m b below above = put_behind k v a (m ++ b) below ∙ ap (λ l. a ++ l) (put_left k v m b above)

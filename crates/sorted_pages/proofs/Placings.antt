@@ -1,5 +1,5 @@
 -- Pages: where a key stands among them, and what a changed page does to all entries and to the rooms.
-use Rattle.sorted_pages.proofs.Words.{common_steps, ◌≡◌, ℕ, zero, suc, max, ◌+◌, ◌-◌, ◌*◌, ◌<◌, ◌≤◌, Bool, true, false, List, [], ◌∷◌, ◌++◌, length, get_or, set, take, drop, min, refl, sym, ap, subst, ◌∙◌, arith, inl, inr, if◌then◌else◌, ◌⊎◌, AllByRecursion, insert, is_le, nat_list_cmp_total, find, put, is_sorted-put, both_ways, cases_Bool, append_assoc, append-nil, length-append, length-set, set_at, get_or_at, get_or-drop, length-take, length-take-le, length-drop, take-append-drop, Bytes, key_cmp, all-append, all-front, all-back, IsSorted, IsBelowAll, below_left, below_right, sorted_left, sorted_right, parts, AreAllFull, AreFull, AreTight, Page, entries, starts_by, last_room, room_at, last_page, count_at, page_entries, stands_behind, IsHalved, AreLoose, IsFilled, AreRestFilled, IsInOrder, AreBelow, IsPlace, IsRoomier, StaysTight}
+use Rattle.sorted_pages.proofs.Words.{common_steps, ◌≡◌, ℕ, zero, suc, max, ◌+◌, ◌-◌, ◌*◌, ◌<◌, ◌≤◌, Bool, true, false, List, [], ◌∷◌, ◌++◌, length, get_or, set, take, drop, min, refl, sym, ap, subst, ◌∙◌, arith, inl, inr, if◌then◌else◌, ◌⊎◌, AllByRecursion, insert, is_le, nat_list_cmp_total, find, put, is_sorted-put, both_ways, cases_Bool, append_assoc, append-nil, length-append, length-set, set_at, get_or_at, get_or-drop, length-take, length-drop, take-append-drop, Bytes, key_cmp, all-append, all-front, all-back, IsSorted, IsBelowAll, below_left, below_right, sorted_left, sorted_right, parts, AreAllFull, AreFull, AreTight, Page, entries, starts_by, last_room, room_at, last_page, count_at, page_entries, stands_behind, IsHalved, AreLoose, IsFilled, AreRestFilled, IsInOrder, AreBelow, IsPlace, IsRoomier, StaysTight}
 use Rattle.std.specs.List.Sorted.{IsPartitionedBy, IsPartitionPoint}
 use Rattle.std.proofs.{lemmas.List.Edits.length-insert, lemmas.List.Elements.All-from_get_or, lemmas.List.Elements.recursion_from_All, Math.Seq.drop-cons}
 use Rattle.sorted_pages.proofs.Keys.{below_of, above_of, first_of, starts_lower, starts-append, starts-put, filled-put, find_middle, put_middle}
@@ -15,9 +15,7 @@ halves es lo up half l u within some = grind (arith, common_steps, min, length-t
 
 -- the lists are longer by the page that comes in
 pub one_longer : {E : Type 0} (old ps new : List E) (i n : ℕ) (lo up : E) → old ≡ ps → n ≡ i + 1 → i < length ps → new ≡ insert (set ps i lo) n up → length new ≡ length old + 1
-one_longer old ps new i n lo up same next lt is =
-    let longer = length-insert (set ps i lo) n up (omega (arith, length-set ps i lo)) in
-    omega (arith, ap length same, ap length is, longer, length-set ps i lo)
+one_longer old ps new i n lo up same next lt is = grind (arith, common_steps, length-insert, length-set)
 
 module _ {X : Type 0} where
   -- ---- all entries
@@ -84,22 +82,10 @@ module _ {X : Type 0} where
       let page = get_or ps i p in
       let is : ps ≡ take i ps ++ page ∷ drop (suc i) ps = sym (take-append-drop i ps) ∙ ap (λ l. take i ps ++ l) (drop-cons ps i p lt) in
       let g : IsInOrder (take i ps ++ page ∷ drop (suc i) ps) = subst (λ (l : List (Page X)). IsInOrder l) is h in
-      let index : length (take i ps) ≡ i = length-take-le i ps (omega arith) in
-      let starts : 0 < i → f page ≡ true = λ up. point.0 i p (omega arith) (omega arith) in
       let fails = λ (q : Page X). f q ≡ false in
       let behind = All-from_get_or fails (drop (suc i) ps) p (λ j l. ap f (get_or-drop (suc i) ps j p) ∙ point.1 (suc i + j) p (omega arith) (omega (arith, length-drop (suc i) ps))) in
       let later = recursion_from_All fails (drop (suc i) ps) behind in
-      record {
-        before = take i ps;
-        page = page;
-        after = drop (suc i) ps;
-        is = is;
-        index = index;
-        below = all_below k (take i ps) page (drop (suc i) ps) g (λ up. starts (omega arith));
-        starts = starts;
-        later = later;
-        above = later_above k (take i ps) page (drop (suc i) ps) g later;
-      }
+      grind (arith, common_steps, all_below, later_above)
 
   -- ---- at a place
 
@@ -151,8 +137,7 @@ module _ {X : Type 0} where
     asked_here (b ∷ before) page after s n = asks b (before ++ page ∷ after) ∙ ap F (page_here b k before page after (s (omega arith)) n)
 
     asked_at : (ps : List (Page X)) (i : ℕ) (p : Page X) → IsPlace ps k i → p ≡ get_or ps i p → at ps ≡ F p
-    asked_at ps i p w is =
-        ap at w.is ∙ asked_here w.before w.page w.after (λ lt. w.starts (let e = w.index in omega arith)) w.later ∙ sym (ap F (page_is ps k i p w is))
+    asked_at ps i p w is = grind (arith, common_steps, asked_here, page_is)
 
     -- with another page in its place that has the same entries
     asked_changed : (ps : List (Page X)) (i : ℕ) (p r : Page X) → IsPlace ps k i → p ≡ get_or ps i p → r.0 ≡ p.0 → at (set ps i r) ≡ F r
@@ -280,14 +265,7 @@ module _ {X : Type 0} where
   -- the key stands in one part or the other
   pub split_count : (ps : List (Page X)) (k : Bytes) (i n : ℕ) (p lo up : Page X) → IsPlace ps k i → p ≡ get_or ps i p → n ≡ i + 1 → p.0 ≡ lo.0 ++ up.0 → IsFilled lo
       → (count_at k (insert (set ps i lo) n up) ≡ length lo.0) ⊎ (count_at k (insert (set ps i lo) n up) ≡ length up.0)
-  split_count ps k i n p lo up w is at same f =
-      let is_split = split_is ps k i n lo up w at in
-      let starts_lo : 0 < length w.before → starts_by k lo.0 ≡ true = λ lt. sym (starts-append k lo.0 up.0 f) ∙ ap (starts_by k) (sym same)
-      ∙ ap (λ (q : Page X). starts_by k q.0) (page_is ps k i p w is) ∙ w.starts (let e = w.index in omega arith) in
-      elim (cases_Bool (starts_by k up.0)) [
-        | inl t ↦ inr (ap (count_at k) (is_split ∙ sym (append_assoc w.before (lo ∷ []) (up ∷ w.after))) ∙ count_here k (w.before ++ lo ∷ []) up w.after (λ lt. t) w.later)
-        | inr t ↦ inl (ap (count_at k) is_split ∙ count_here k w.before lo (up ∷ w.after) starts_lo (t, w.later))
-      ]
+  split_count ps k i n p lo up w is at same f = grind (arith, common_steps, split_is, starts-append, page_is, cases_Bool, append_assoc, count_here)
 
   -- a page that is cut in the middle
   pub halved : (ps old new : List (Page X)) (k : Bytes) (i n cut : ℕ) (p lo up : Page X) → old ≡ ps → new ≡ insert (set ps i lo) n up → IsPlace ps k i → p ≡ get_or ps i p → n ≡ i + 1 → p.0 ≡ lo.0 ++ up.0 → IsFilled lo
@@ -312,9 +290,7 @@ module _ {X : Type 0} where
   -- ---- how much room there is at most
 
   all_insert : (P : Page X → Type 0) (qs : List (Page X)) (j : ℕ) (p : Page X) → P p → AllByRecursion P qs → AllByRecursion P (insert qs j p)
-  all_insert P qs j p h a =
-      let both = subst (AllByRecursion P) (sym (take-append-drop j qs)) a in
-      all-append P (take j qs) (p ∷ drop j qs) (all-front P (take j qs) (drop j qs) both) (h, all-back P (take j qs) (drop j qs) both)
+  all_insert P qs j p h a = grind (arith, common_steps, take-append-drop, all-append, all-front, all-back)
 
   pub tight-same : (n : ℕ) (ps new : List (Page X)) → new ≡ ps → StaysTight n ps new
   tight-same n ps new e = record { tight = λ r le h. subst (λ (l : List (Page X)). AreTight r l) (sym e) h }
@@ -327,10 +303,7 @@ module _ {X : Type 0} where
   tight-set n ps i p q is few = record { tight = λ r le h. all_set (λ (s : Page X). s.1 ≤ r) ps i p q is (λ b. omega arith) h }
 
   pub tight-split : (n : ℕ) (old ps new : List (Page X)) (i j : ℕ) (p lo up : Page X) → old ≡ ps → new ≡ insert (set ps i lo) j up → p ≡ get_or ps i p → lo.1 ≤ n → up.1 ≤ n → StaysTight n old new
-  tight-split n old ps new i j p lo up was now is low high = record {
-    tight = λ r le h. subst (λ (l : List (Page X)). AreTight r l) (sym now)
-        (all_insert (λ (s : Page X). s.1 ≤ r) (set ps i lo) j up (omega arith) (all_set (λ (s : Page X). s.1 ≤ r) ps i p lo is (λ b. omega arith) (subst (λ (l : List (Page X)). AreTight r l) was h)));
-  }
+  tight-split n old ps new i j p lo up was now is low high = grind (arith, common_steps, all_insert, all_set)
 
   pub tight-push : (n : ℕ) (ps new : List (Page X)) (p : Page X) → new ≡ ps ++ p ∷ [] → p.1 ≤ n → StaysTight n ps new
   tight-push n ps new p now few = record { tight = λ r le h. subst (λ (l : List (Page X)). AreTight r l) (sym now) (all-append (λ (s : Page X). s.1 ≤ r) ps (p ∷ []) h (omega arith, tt)) }

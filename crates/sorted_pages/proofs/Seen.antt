@@ -156,20 +156,11 @@ module _ {X : Type 0} (hides : ℕ → X → Bool) (shows : X → Bool) where
 
   pub left_out : (es : List (Bytes × X)) (s t : Summary) (i : ℕ) (e : Bytes × X) → i < length es → e ≡ get_or es i e → IsSummary hides shows es s
       → t.first ≡ s.first → t.last ≡ s.last → t.live ≡ s.live - one e.1 → IsSummary hides shows (remove es i) t
-  left_out es s t i e lt is h first last live =
-      let whole = ap (λ (d : Bytes × X). count_by (λ (d : Bytes × X). shows d.1) (remove es i) + one d.1) is ∙ sum_by-remove (λ (d : Bytes × X). one d.1) es i e lt ∙ h.live in
-      record {
-        before = λ n b. all-remove (λ (d : Bytes × X). hides n d.1 ≡ true) es i (h.before n (omega arith));
-        after = λ n a. all-remove (λ (d : Bytes × X). (shows d.1 || hides n d.1) ≡ true) es i (h.after n (omega arith));
-        live = omega (arith, whole, live);
-      }
+  left_out es s t i e lt is h first last live = grind (arith, sum_by-remove, all-remove)
 
   -- another value in the place of the one that is left out
   pub rest-set : (es : List (Bytes × X)) (s : Summary) (i : ℕ) (e : Bytes × X) → s.left_out ≡ Some i → IsSummaryBut hides shows es s → IsSummaryBut hides shows (set es i e) s
-  rest-set es s i e o h =
-      let within : i < length es = rw o at h.within in
-      let rest : remove (set es i e) i ≡ remove es i = grind (arith, common_steps) in
-      but_some (set es i e) s i o (omega (arith, length-set es i e)) (rw rest (is_rest es s i o h))
+  rest-set es s i e o h = grind (arith, common_steps, but_some, length-set, is_rest)
 
   -- ---- what is hidden
 

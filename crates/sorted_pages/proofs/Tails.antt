@@ -1,5 +1,5 @@
 -- The entries of a range: the tail of all entries from its lower bound on, up to its upper bound.
-use Rattle.sorted_pages.proofs.Words.{common_steps, ◌≡◌, ℕ, Bool, true, false, T, not, cond, ◌&&◌, List, [], ◌∷◌, ◌++◌, length, take, drop, get_or, ◌+◌, Option, Some, None, refl, sym, ap, subst, ◌∙◌, arith, AllByRecursion, Less, is_lt, is_le, nat_list_cmp_total, where_key, and_parts, and_right, not-true, take-append-drop, append_assoc, Bytes, key_cmp, is_below, is_in_range, all-append, all-each, IsSorted, IsBelowAll, less, sorted_right, parts, Page, entries, IsPlace, IsInOrder, AreBelow, up_to, AreFrom, IsTail, first_key, shown}
+use Rattle.sorted_pages.proofs.Words.{common_steps, ◌≡◌, ℕ, Bool, true, false, T, not, cond, List, [], ◌∷◌, ◌++◌, take, drop, get_or, ◌+◌, Option, Some, None, refl, sym, ap, subst, ◌∙◌, arith, AllByRecursion, Less, is_lt, is_le, nat_list_cmp_total, where_key, and_parts, and_right, not-true, take-append-drop, append_assoc, Bytes, key_cmp, is_below, is_in_range, all-append, all-each, IsSorted, IsBelowAll, less, sorted_right, parts, Page, entries, IsPlace, IsInOrder, AreBelow, up_to, AreFrom, IsTail, first_key, shown}
 use Rattle.std.proofs.{lemmas.Cmp.tied_itself, Math.Seq.drop-append-add}
 use Rattle.model.specs.Entries.{IsSplit}
 use Rattle.model.proofs.KeyOrder.{from_lo, turned_less}
@@ -31,8 +31,7 @@ module _ {X : Type 0} where
 
   none_below : (lo : Bytes) (hi : Option Bytes) (es rest : List (Bytes × X)) → AreBelow lo es → In lo hi (es ++ rest) ≡ In lo hi rest
   none_below lo hi [] rest h = refl
-  none_below lo hi (e ∷ es) rest h =
-      ap (λ b. cond (b && is_below e.0 hi) (e ∷ In lo hi (es ++ rest)) (In lo hi (es ++ rest))) (ap is_le (turned_less e.0 lo h.0)) ∙ none_below lo hi es rest h.1
+  none_below lo hi (e ∷ es) rest h = grind (arith, common_steps, turned_less, none_below lo hi es rest h.1)
 
   none_above : (lo q : Bytes) (hi : Option Bytes) (es : List (Bytes × X)) → IsBelowAll q es → is_below q hi ≡ false → In lo hi es ≡ []
   none_above lo q hi [] h e = refl
@@ -61,16 +60,11 @@ module _ {X : Type 0} where
       entries_at ps lo i w ∙ ap (λ (l : List (Bytes × X)). entries w.before ++ (l ++ entries w.after)) (ap (λ (q : Page X). q.0) (sym (page_is ps lo i p w is)) ∙ t.is)
       ∙ ap (λ (l : List (Bytes × X)). entries w.before ++ l) (append_assoc t.before front (entries w.after)) ∙ sym (append_assoc (entries w.before) t.before rest) in
       let sorted : IsSorted rest = sorted_right key_cmp pre rest (subst (λ (l : List (Bytes × X)). IsSorted l) e h.sorted) in
-      ap (λ (l : List (Page X)). up_to hi (shown hides (front ++ entries l))) same
-      ∙ in_tail lo hi (shown hides rest) (sorted-shown hides rest sorted) (all-shown hides (λ (d : Bytes × X). is_le (key_cmp lo d.0) ≡ true) rest (all-append _ front (entries w.after) t.from (from_above lo (entries w.after) w.above)))
-      ∙ sym (ap (In lo hi) (ap (shown hides) e ∙ shown-append hides pre rest)
-      ∙ none_below lo hi (shown hides pre) (shown hides rest) (all-shown hides (λ (d : Bytes × X). key_cmp d.0 lo ≡ Less) pre (all-append _ (entries w.before) t.before w.below t.below)))
+      grind (arith, common_steps, in_tail, sorted-shown, all-shown, all-append, from_above, shown-append, none_below)
 
   -- the pages after a place
   pub after_is : (ps : List (Page X)) (k : Bytes) (i : ℕ) (w : IsPlace ps k i) → drop (i + 1) ps ≡ w.after
-  after_is ps k i w =
-      let at : i + 1 ≡ length w.before + 1 = (let s = w.index in omega arith) in
-      ap (drop (i + 1)) w.is ∙ ap (λ n. drop n (w.before ++ w.page ∷ w.after)) at ∙ drop-append-add w.before (w.page ∷ w.after) 1
+  after_is ps k i w = grind (arith, common_steps, drop-append-add)
 
   -- ---- an upper bound that is a key of the map
 
@@ -85,7 +79,6 @@ module _ {X : Type 0} where
   same_range lo hi [] h = refl
   same_range lo hi (e ∷ es) h =
       let p = parts _ _ h in
-      let end = first_key (In hi None es) in
       let lower = λ (lt : key_cmp e.0 hi ≡ Less). below_first e.0 hi (In hi None es) (passing (is_in_range hi None) es) lt in
       let none = not_in lo (Some e.0) e es p.0 (ap is_lt (tied_itself nat_list_cmp_total e.0)) in
       let no_more = λ (t : is_le (key_cmp hi e.0) ≡ true). not_in lo (Some hi) e es p.0 (not-true _ (sym (from_lo hi e.0) ∙ t)) in

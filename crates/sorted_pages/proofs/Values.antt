@@ -1,5 +1,5 @@
 -- Another value at a key that the pages have: the entries are those with that value put in, and no room changes.
-use Rattle.sorted_pages.proofs.Words.{common_steps, arith, ◌≡◌, ℕ, true, false, cond, List, [], ◌∷◌, ◌++◌, get_or, set, None, IsSome, refl, sym, ap, ◌∙◌, Option, Some, is_some, if◌then◌else◌, option_map, Less, is_lt, is_eq, nat_list_cmp_total, find, put, find-put, both_ways, append-nil, Bytes, key_cmp, all-front, all-back, IsSorted, IsBelowAll, turned, less, below_right, sorted_left, sorted_right, parts, Page, entries, starts_by, last_room, room_at, AreBelow, IsPlace, IsInOrder, put_some, changed_at}
+use Rattle.sorted_pages.proofs.Words.{common_steps, arith, ◌≡◌, ℕ, true, false, cond, List, [], ◌∷◌, ◌++◌, get_or, set, None, IsSome, refl, sym, ap, ◌∙◌, Option, Some, is_some, if◌then◌else◌, option_map, Less, is_lt, is_eq, nat_list_cmp_total, find, put, find-put, both_ways, append-nil, Bytes, key_cmp, all-front, all-back, IsSorted, IsBelowAll, turned, below_right, sorted_left, sorted_right, parts, Page, entries, starts_by, last_room, room_at, AreBelow, IsPlace, IsInOrder, put_some, changed_at}
 use Rattle.std.proofs.{lemmas.Map.Lookups.exact_bytes, lemmas.Cmp.tied_itself}
 use Rattle.model.specs.Entries.{IsAt}
 use Rattle.sorted_pages.specs.Lent.{with_value, with_value_in}
@@ -31,7 +31,6 @@ module _ {X : Type 0} where
   found_above x k [] h s = absurd (both_ways false refl s)
   found_above x k (e ∷ es) h s =
       let p = parts (is_lt (key_cmp x e.0)) _ h in
-      let lt : key_cmp x e.0 ≡ Less = less _ p.0 in
       grind (arith, exact_bytes k e.0, found_above x k es p.1)
 
   below_found : (k : Bytes) (xs ys : List (Bytes × X)) → IsSorted (xs ++ ys) → IsSome (find key_cmp k ys) → AreBelow k xs
@@ -49,11 +48,7 @@ module _ {X : Type 0} where
   -- the entries are those with the value put in
   pub entries-with_value : (ps : List (Page X)) (k : Bytes) (v : X) → IsSorted (entries ps) → IsSome (find key_cmp k (entries ps)) → entries (with_value ps k v) ≡ put key_cmp k v (entries ps)
   entries-with_value [] k v h s = absurd (both_ways false refl s)
-  entries-with_value (p ∷ ps) k v h s =
-      let rest = entries-with_value ps k v (sorted_right key_cmp p.0 (entries ps) h) in
-      let later = find_right k p.0 (entries ps) in
-      let behind = below_found k p.0 (entries ps) h in
-      grind (arith, rest, later, behind, put_left k v p.0 (entries ps), put_behind k v p.0 (entries ps))
+  entries-with_value (p ∷ ps) k v h s = grind (arith, common_steps, sorted_right, find_right, below_found, put_left, put_behind, entries-with_value ps k v (sorted_right key_cmp p.0 (entries ps) h))
 
   starts_found : (q k : Bytes) (v : X) (es : List (Bytes × X)) → IsSorted es → IsSome (find key_cmp k es) → starts_by q (put key_cmp k v es) ≡ starts_by q es
   starts_found q k v es h s = grind (arith, common_steps, both_ways, turned, found_above, parts)

@@ -22,6 +22,5 @@ returns g c =
     let i = c.place-i.result in
     let at = rw (c.bytes.ensures.bytes ∙ c.lend.ensures) at c.place-i.ensures in
     let here = ap (λ d. get_or ps i d) c.index-pages-i.is in
-    let less = c.insert.ensures.room in
     let all = inserted ps c.args.key c.args.value i (get_or ps i c.index-pages-i.result) c.insert.new.self at here c.requires.order c.insert.ensures.entries (omega arith) in
     record { order = all.order; entries = all.entries; rooms = all.rooms; tight = tight-set 0 ps i (get_or ps i c.index-pages-i.result) c.insert.new.self here (omega arith) }

@@ -1,27 +1,9 @@
-use Rattle.sorted_pages.proofs.Words.{◌≡◌, ℕ, ◌<◌, ◌≤◌, ◌+◌, List, length, get_or, set, refl, ap, sym, subst, arith, rules, Bytes, length-set, Page, IsPlace, IsCrowded, IsRoomier, count_at, room_at}
+use Rattle.sorted_pages.proofs.Words.{common_steps, ◌≡◌, ℕ, ◌<◌, ◌≤◌, ◌+◌, List, length, get_or, refl, ap, sym, arith, rules, Bytes, length-set, Page, IsPlace, IsCrowded, count_at, room_at}
 use Rattle.sorted_pages.proofs.Placings.{count_of, grown, halved, halves, one_longer, place_within, room_of, split, tight-same, tight-set, tight-split, tight-then}
 use Rattle.sorted_pages.proofs.changing.split.Goals as goal
 
 pub returns-in_err-upper : goal.returns-in_err-upper
-returns-in_err-upper g c =
-    let ps = c.reserve.new.self.items in
-    let i = c.place-i.result in
-    let at = rw c.deref.ensures.value at c.place-i.ensures in
-    let order = rw (← c.reserve.ensures.items) at c.requires.order in
-    let was = c.index_mut-page.ensures.value in
-    let same = ap (λ (p : Page g.row.V.Denot). p.0) c.in_err-upper.ensures.failed in
-    let room = ap (λ (p : Page g.row.V.Denot). p.1) c.in_err-upper.ensures.failed in
-    let all = grown ps c.args.key.now i c.index_mut-page.result.now c.split_off.new.self at was order same (omega arith) in
-    record {
-      order = all.order;
-      roomier = subst (λ (l : List (Page g.row.V.Denot)). IsRoomier l (set ps i c.split_off.new.self)) c.reserve.ensures.items all.roomier;
-      tight = tight-then (c.args.n + 191) c.args.pages.now.items ps (set ps i c.split_off.new.self) (tight-same (c.args.n + 191) c.args.pages.now.items ps c.reserve.ensures.items)
-          (tight-set (c.args.n + 191) ps i c.index_mut-page.result.now c.split_off.new.self was (omega arith));
-      some = search rules;
-      one = (let a = ap length c.reserve.ensures.items in let b = length-set ps i c.split_off.new.self in omega arith);
-      more = search rules;
-      halved = search rules;
-    }
+returns-in_err-upper g c = grind (arith, common_steps, grown, tight-then, tight-same, tight-set, length-set)
 
 pub returns : goal.returns
 returns g c =
