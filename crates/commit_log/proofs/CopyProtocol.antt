@@ -89,10 +89,7 @@ module _ {D : Type 0} (S : Ghosts D) (lists : List (List KeyWrite)) where
 
   -- the head is being written
   pub being_headed : (now next : D) → Ready now → FollowsWrite 0 (S.may_leave now) (S.may_leave next) → (c : List (List ℕ)) → S.may_leave next c → IsAllButFirst c
-  being_headed now next is follows c left =
-      let from = follows c left in
-      let image : c ≡ set is.image 0 from.2.0 = from.2.1 ∙ ap (λ (l : List (List ℕ)). set l 0 from.2.0) (is.left from.0 from.1) in
-      (set is.image 0 (head_sector current), is.log, (from.2.0, image ∙ sym (set_first is.image (head_sector current) from.2.0)))
+  being_headed now next is follows c left = grind (arith, common_steps, set_first)
 
   -- the sync that settles the head
   pub headed : (now next : D) (size : ℕ) → 1 ≤ size → ((c : List (List ℕ)) → S.may_leave now c → IsAllButFirst c) → ((s : List ℕ) → S.may_read now 0 s → s ≡ head_sector current)
@@ -114,17 +111,11 @@ module _ {D : Type 0} (S : Ghosts D) (lists : List (List KeyWrite)) where
     same_before c from = (from.0, from.1, from.2.before)
 
     pub records_written : (now : D) → ((d : D) (c : List (List ℕ)) → S.left_since d (S.moment d) c → S.may_leave d c) → OnlyWrites S 1 (1 + span lists) start now → Copying now
-    records_written now only_now alone = record {
-      alone = many_writes S 0 (2 + span lists) start start now (nothing_yet S only_now 0 (2 + span lists) start) 1 (1 + span lists) (omega arith) (omega arith) alone;
-      steps = record { left = λ c left. inl (same_before c (alone.left c left)); is = λ c h. h; time = grind (arith, common_steps, same_before, ⊎_elim) };
-    }
+    records_written now only_now alone = grind (arith, common_steps, many_writes, nothing_yet, same_before)
 
     -- a sync
     pub stays : (now next : D) → Copying now → ReadsNoMore (S.may_read now) (S.may_read next) → LeavesNoMore (S.may_leave now) (S.may_leave next) → Passes S now next → Copying next
-    stays now next so_far reads fewer time = record {
-      alone = no_write S 0 (2 + span lists) start now next so_far.alone reads fewer time;
-      steps = leaves_no_more S next so_far.steps fewer time;
-    }
+    stays now next so_far reads fewer time = grind (arith, common_steps, no_write, leaves_no_more)
 
     pub head_written : (now next : D) → Ready now → Copying now → ((j : ℕ) (s : List ℕ) → j ≢ 0 → S.may_read next j s → S.may_read now j s)
         → FollowsWrite 0 (S.may_leave now) (S.may_leave next) → Passes S now next → Copying next
@@ -240,11 +231,7 @@ module _ {D : Type 0} (S : Ghosts D) (start : D) (m : KeyMap) (now : D) (pairs :
     done_are_all = cc (append-nil copied.done, no_sets pairs none, copied.joined)
 
     pub all_read : (next : D) → S.keeps_model → ((i : ℕ) (s : List ℕ) → i ≢ gate → S.may_read next i s → S.may_read now i s) → ReadsFrom (S.may_read next) 1 (log_sectors (write_sets_of m) 0 first_digest)
-    all_read next keeps others =
-        subst (λ (l : List (List KeyWrite)). ReadsFrom (S.may_read next) 1 (log_sectors l 0 first_digest)) done_are_all
-        (λ k s lt read.
-        let other : 1 + k ≢ gate = omega (arith, length-log_sectors copied.done 0 first_digest, copied.gate_is) in
-        copied.reads keeps k s lt (others (1 + k) s other read))
+    all_read next keeps others = grind (arith, done_are_all, length-log_sectors)
 
     pub shut_read : (next : D) (shut : List ℕ) → ((s : List ℕ) → S.may_read next gate s → s ≡ shut) → ReadsFrom (S.may_read next) (1 + span (write_sets_of m)) (shut ∷ [])
     shut_read next shut written k s lt read = grind (arith, common_steps, done_are_all)

@@ -200,10 +200,7 @@ module _ (f : LogFormat) (image : List (List ℕ)) (at count n : ℕ) (first : L
 
   -- the length leads past a record's limit or past the image
   pub no_room : (n ≤ body_bound (value_bound f) → count ≤ at + n) → (writes : List KeyWrite) → IsRecordAt f index before (drop at image) writes → ⊥
-  no_room long writes right =
-      let sectors = sectors_right writes right in
-      let bounds = body_sectors_bounds f writes right.proper in
-      omega (arith, sectors, bounds.1, long (omega (arith, sectors, bounds.1)), right.room, length-drop at image)
+  no_room long writes right = grind (arith, common_steps, sectors_right, body_sectors_bounds, length-drop)
 
 module _ (f : LogFormat) (image : List (List ℕ)) (at count n : ℕ) (first bytes : List ℕ) (index : ℕ) (before : List ℕ) (size : length image ≡ count) (read : IsRead image at n first bytes) where
   pub is_record : (writes : List KeyWrite) → at + n < count → IsWriteSet f writes → 1 ≤ n → padded_body before index writes ≡ bytes → IsRecordAt f index before (drop at image) writes × (n ≡ body_sectors writes)
@@ -224,8 +221,7 @@ module _ (f : LogFormat) (image : List (List ℕ)) (at count n : ℕ) (first byt
       none writes right.proper (same_bytes n padded bytes (omega (arith, length-padded_body before index writes, sectors)) read.long same)
 
 pub too_short : (f : LogFormat) (image : List (List ℕ)) (at count index : ℕ) (before : List ℕ) → length image ≡ count → count ≤ at + 1 → (writes : List KeyWrite) → IsRecordAt f index before (drop at image) writes → ⊥
-too_short f image at count index before size short writes right =
-    omega (arith, (body_sectors_bounds f writes right.proper).0, right.room, length-drop at image, size)
+too_short f image at count index before size short writes right = grind (arith, common_steps, body_sectors_bounds, length-drop)
 
 -- the first sector that was read, as all bytes so far
 pub first_read : (image : List (List ℕ)) (at : ℕ) (empty first : List ℕ) → empty ≡ [] → length first ≡ length empty + 512 * 1 → slice_get image (at + 0) ≡ Some (take 512 (drop (length empty + 512 * 0) first)) → slice_get image at ≡ Some first

@@ -57,9 +57,7 @@ module _ {D : Type 0} (S : Ghosts D) (lists : List (List KeyWrite)) (writes : Li
 
   pub after_open : (next : D) (gate : ℕ) → gate ≡ 1 + span lists → IsWriteSet current writes → LeavesStaged S start lists writes
       → ((c : List (List ℕ)) → S.left_since start (S.moment start) c → S.may_leave start c) → FollowsWrite gate (S.may_leave start) (S.may_leave next) → Passes S start next → Opening next
-  after_open next gate at proper here only_now follows time =
-      let begun : Opening start = grind (arith, common_steps, of_none, image_staged_gate) in
-      grind (arith, common_steps, staged-set, of_one_more, image_staged_gate)
+  after_open next gate at proper here only_now follows time = grind (arith, common_steps, of_none, image_staged_gate, staged-set, of_one_more)
 
 module _ {D : Type 0} (S : Ghosts D) (lists : List (List KeyWrite)) (writes : List KeyWrite) (now next : D) (gate size : ℕ) (settles : Settles size (S.may_read now) (S.may_read next) (S.may_leave now) (S.may_leave next)) where
   there : (i : ℕ) → i < size → (s : List ℕ) × (slice_get settles.image i ≡ Some s) × S.may_read now i s

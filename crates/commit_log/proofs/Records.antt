@@ -30,9 +30,7 @@ last_digest-push (x ∷ lists) writes index before = last_digest-push lists writ
 
 -- the sectors up to the closed gate decide
 pub same_records : (f : LogFormat) (lists : List (List KeyWrite)) (index : ℕ) (before : List ℕ) (c d : List (List ℕ)) → take (suc (span lists)) c ≡ take (suc (span lists)) d → HoldsRecords f lists index before d → HoldsRecords f lists index before c
-same_records f [] index before (x ∷ c) (gate ∷ d) same holds =
-    let is : x ≡ gate = cc same in
-    rw is holds
+same_records f [] index before (x ∷ c) (gate ∷ d) same holds = grind (arith, common_steps)
 same_records f (writes ∷ lists) index before (x ∷ c) (gate ∷ d) same holds =
     let b = body_sectors writes in
     let n : suc (b + span lists) ≡ b + suc (span lists) = omega arith in
@@ -67,10 +65,7 @@ drop_here image i s there = drop_more image i s (slice_get_within image i s ther
 staged_from : (f : LogFormat) (lists : List (List KeyWrite)) (writes : List KeyWrite) (index : ℕ) (before : List ℕ) (rest : List (List ℕ)) (shut : List ℕ) (behind : List (List ℕ)) → length (record_body (last_digest lists index before) (next_index lists index) writes) ≡ body_sectors writes
     → drop (suc (span lists)) rest ≡ record_body (last_digest lists index before) (next_index lists index) writes ++ shut ∷ behind → is_open shut ≡ false → HoldsRecords f lists index before rest → Staged f lists writes index before rest
 staged_from f lists writes index before [] shut behind size is closed holds = absurd holds
-staged_from f [] writes index before (gate ∷ rest) shut behind size is closed holds =
-    let body = record_body before index writes in
-    let back = ap (drop (body_sectors writes)) is ∙ drop_at body (shut ∷ behind) (body_sectors writes) size in
-    (ap (take (body_sectors writes)) is ∙ take_at body (shut ∷ behind) (body_sectors writes) size, subst (HoldsRecords f [] (index + 1) (record_digest before index writes)) (sym back) closed)
+staged_from f [] writes index before (gate ∷ rest) shut behind size is closed holds = grind (arith, common_steps, drop_at, take_at)
 staged_from f (x ∷ lists) writes index before (gate ∷ rest) shut behind size is closed holds =
     let n : body_sectors x + suc (span lists) ≡ suc (body_sectors x + span lists) = omega arith in
     let place = drop-drop (suc (span lists)) (body_sectors x) rest ∙ ap (λ (k : ℕ). drop k rest) n ∙ is in
@@ -153,8 +148,7 @@ holds_records (w ∷ lists) index before shut behind proper closed =
     let size = length-record_body before index w in
     let others : HoldsRecords current lists (index + 1) (record_digest before index w) (more ++ shut ∷ behind) = holds_records lists (index + 1) (record_digest before index w) shut behind proper.1 closed in
     let here = take_at body (more ++ shut ∷ behind) (body_sectors w) size in
-    subst (λ (l : List (List ℕ)). HoldsRecords current (w ∷ lists) index before (open_gate ∷ l)) (sym (append_assoc body more (shut ∷ behind)))
-    (open_gate_open, proper.0, here, subst (HoldsRecords current lists (index + 1) (record_digest before index w)) (sym (drop_at body (more ++ shut ∷ behind) (body_sectors w) size)) others)
+    grind (arith, common_steps, append_assoc, open_gate_open, drop_at)
 
 -- With a head in front of them, these records and a closed gate are a log.
 pub log_made : (lists : List (List KeyWrite)) (image : List (List ℕ)) (shut : List ℕ) → AreWriteSets lists → 1 ≤ length image

@@ -1,4 +1,4 @@
-use Rattle.commit_log.proofs.Words.{◌+◌, arith, span, write_sets_of}
+use Rattle.commit_log.proofs.Words.{common_steps, arith, write_sets_of}
 use Rattle.commit_log.proofs.CopyProtocol.{not_begun, still_first, after_reads, no_log, nothing_yet, only_read, many_writes}
 use Rattle.commit_log.proofs.copying.copy_into.Goals as goal
 
@@ -33,25 +33,16 @@ pub returns-clause-any_moment : goal.returns-clause-any_moment
 returns-clause-any_moment g c keeps zeros = no_log g.D.Sectors (write_sets_of c.args.map.now) c.args.device.now c.write_log.new.device zeros (returns-clause-steps g c keeps)
 
 pub returns-then-not-fits-clause-alone : goal.returns-then-not-fits-clause-alone
-returns-then-not-fits-clause-alone g c keeps =
-    nothing_yet g.D.Sectors (g.met.D.Sectors.only_now keeps) 0 (2 + span (write_sets_of c.args.map.now)) c.args.device.now
+returns-then-not-fits-clause-alone g c keeps = grind (arith, common_steps, nothing_yet)
 
 pub returns-in_err-body-clause-alone : goal.returns-in_err-body-clause-alone
-returns-in_err-body-clause-alone g c keeps =
-    nothing_yet g.D.Sectors (g.met.D.Sectors.only_now keeps) 0 (2 + span (write_sets_of c.args.map.now)) c.args.device.now
+returns-in_err-body-clause-alone g c keeps = grind (arith, common_steps, nothing_yet)
 
 pub returns-in_err-settle_zeros-clause-alone : goal.returns-in_err-settle_zeros-clause-alone
-returns-in_err-settle_zeros-clause-alone g c keeps =
-    only_read g.D.Sectors 0 (2 + span (write_sets_of c.args.map.now)) c.args.device.now c.settle_zeros.new.device (c.settle_zeros.ensures.only_reads keeps)
+returns-in_err-settle_zeros-clause-alone g c keeps = grind (arith, common_steps, only_read)
 
 pub returns-in-Ok-clause-alone : goal.returns-in-Ok-clause-alone
-returns-in-Ok-clause-alone g c keeps =
-    let size = 2 + span (write_sets_of c.args.map.now) in
-    let settled = only_read g.D.Sectors 0 size c.args.device.now c.settle_zeros.new.device (c.settle_zeros.ensures.only_reads keeps) in
-    many_writes g.D.Sectors 0 size c.args.device.now c.settle_zeros.new.device c.write_log.new.device settled 0 size (omega arith) (omega arith) (c.write_log.ensures.alone keeps)
+returns-in-Ok-clause-alone g c keeps = grind (arith, only_read, many_writes)
 
 pub returns-clause-alone : goal.returns-clause-alone
-returns-clause-alone g c keeps =
-    let size = 2 + span (write_sets_of c.args.map.now) in
-    let settled = only_read g.D.Sectors 0 size c.args.device.now c.settle_zeros.new.device (c.settle_zeros.ensures.only_reads keeps) in
-    many_writes g.D.Sectors 0 size c.args.device.now c.settle_zeros.new.device c.write_log.new.device settled 0 size (omega arith) (omega arith) (c.write_log.ensures.alone keeps)
+returns-clause-alone g c keeps = grind (arith, common_steps, only_read, many_writes)

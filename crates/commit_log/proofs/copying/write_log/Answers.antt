@@ -24,14 +24,10 @@ pub returns-in_err-records-clause-alone : goal.returns-in_err-records-clause-alo
 returns-in_err-records-clause-alone g c keeps = (records g (goal.at.returns-in_err-records-clause-alone g c).After-write_records keeps).alone
 
 pub returns-in_err-sync-clause-steps : goal.returns-in_err-sync-clause-steps
-returns-in_err-sync-clause-steps g c keeps =
-    let so_far = records g (goal.at.returns-in_err-sync-clause-steps g c).After-write_records keeps in
-    (stays g.D.Sectors (write_sets_of c.args.map.now) c.args.device.now c.write_records.new.device c.sync.new.self so_far (c.in_err-sync.ensures.reads keeps) (c.sync.ensures.crash keeps) (c.sync.ensures.time keeps)).steps.time
+returns-in_err-sync-clause-steps g c keeps = grind (arith, stays)
 
 pub returns-in_err-sync-clause-alone : goal.returns-in_err-sync-clause-alone
-returns-in_err-sync-clause-alone g c keeps =
-    let so_far = records g (goal.at.returns-in_err-sync-clause-alone g c).After-write_records keeps in
-    (stays g.D.Sectors (write_sets_of c.args.map.now) c.args.device.now c.write_records.new.device c.sync.new.self so_far (c.in_err-sync.ensures.reads keeps) (c.sync.ensures.crash keeps) (c.sync.ensures.time keeps)).alone
+returns-in_err-sync-clause-alone g c keeps = grind (arith, stays)
 
 pub returns-in_err-write-clause-steps : goal.returns-in_err-write-clause-steps
 returns-in_err-write-clause-steps g c keeps = (head g (goal.at.returns-in_err-write-clause-steps g c).After-write keeps).steps.time

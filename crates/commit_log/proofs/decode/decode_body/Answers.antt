@@ -1,12 +1,10 @@
-use Rattle.commit_log.proofs.Words.{◌≡◌, ◌∙◌, ◌*◌, ◌++◌, ℕ, List, rules, ap, sym, length, arith, sha256, big_bytes, big_number, big_number-reads_back, sectors_for, record_digest}
+use Rattle.commit_log.proofs.Words.{common_steps, ◌≡◌, ◌∙◌, ◌*◌, ◌++◌, ℕ, List, rules, ap, sym, length, arith, sha256, big_bytes, big_number, big_number-reads_back, sectors_for, record_digest}
 use Rattle.std.proofs.Common.{take-append-drop}
 use Rattle.commit_log.proofs.{Parsing.same_parts, Parsing.not_zero, Parsing.right_body, decode.decode_body.Goals.After-split_at-3}
 use Rattle.commit_log.proofs.decode.decode_body.Goals as goal
 
 joined : (c : After-split_at-3) → c.args.body.now ≡ big_bytes 4 c.in-Some.len ++ (c.split_at.result.0.now ++ (c.split_at-2.result.0.now ++ (c.split_at-3.result.0.now ++ c.split_at-3.result.1.now)))
-joined c =
-    let first = c.in-Some.ensures.some in
-    cc (first, take-append-drop 8 c.in-Some.rest.now, take-append-drop 32 c.split_at.result.1.now, take-append-drop c.in-Some.len c.split_at-2.result.1.now)
+joined c = grind (arith, common_steps, take-append-drop)
 
 pub returns-then-not-is_same-clause-none : goal.returns-then-not-is_same-clause-none
 returns-then-not-is_same-clause-none c writes proper same =
@@ -32,8 +30,7 @@ returns-in-None-clause-none c writes proper same =
 
 pub returns-in-Some-2-clause-digest : goal.returns-in-Some-2-clause-digest
 unfolding record_digest
-returns-in-Some-2-clause-digest c =
-    c.digest_of-right_digest.ensures ∙ ap (λ (l : List ℕ). sha256 ((c.args.before.now ++ big_bytes 8 c.args.index) ++ l)) (sym (rw c.in-Some-2.is at c.in_ok-writes.ensures.some))
+returns-in-Some-2-clause-digest c = grind (arith, common_steps)
 
 pub returns-in-Some-2-clause-some : goal.returns-in-Some-2-clause-some
 returns-in-Some-2-clause-some c =

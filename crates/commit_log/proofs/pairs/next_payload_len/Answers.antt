@@ -1,4 +1,4 @@
-use Rattle.std.proofs.Common.{arith}
+use Rattle.commit_log.proofs.Words.{common_steps, arith}
 use Rattle.commit_log.proofs.Putting.{next_pair, not_none}
 use Rattle.commit_log.proofs.pairs.next_payload_len.Goals as goal
 
@@ -13,8 +13,4 @@ entry_len-len-requires c =
 pub loop-i-preserved : goal.loop-i-preserved
 loop-i-preserved c =
     let p = next_pair c.args.pairs.now c.loop-i.i c.loop-i.pairs c.next.new.self (c.in-Some.key.bytes.now, c.in-Some.value.now) c.loop-i.invariant.rest c.in-Some.ensures.steps c.requires.in_bounds in
-    record {
-      len = omega (arith, c.loop-i.invariant.len, p.size, c.entry_len-len.ensures.len);
-      rest = p.behind;
-      bound = omega (arith, c.loop-i.invariant.bound, c.entry_len-len.ensures.bound);
-    }
+    grind (arith, common_steps)

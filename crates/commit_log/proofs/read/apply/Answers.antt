@@ -1,9 +1,8 @@
-use Rattle.commit_log.proofs.Words.{◌≡◌, ◌∷◌, ◌∙◌, List, ap, sym, All-rest, KeyMap, KeyWrite, after_write, after_writes, IsWithinLimits, current}
+use Rattle.commit_log.proofs.Words.{arith, common_steps, ◌≡◌, ◌∷◌, List, All-rest, KeyMap, KeyWrite, after_write, after_writes, IsWithinLimits, current}
 use Rattle.commit_log.proofs.read.apply.Goals as goal
 
 applied : (m after all : KeyMap) (writes rest : List KeyWrite) (w : KeyWrite) → writes ≡ w ∷ rest → after_writes m writes ≡ all → after ≡ after_write m w.0 w.1 → after_writes after rest ≡ all
-applied m after all writes rest w is so_far next =
-    ap (λ (n : KeyMap). after_writes n rest) next ∙ ap (λ (l : List KeyWrite). after_writes m l) (sym is) ∙ so_far
+applied m after all writes rest w is so_far next = grind (arith, common_steps)
 
 pub loop-write-preserved : goal.loop-write-preserved
 loop-write-preserved c = record {

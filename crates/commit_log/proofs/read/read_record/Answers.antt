@@ -1,12 +1,11 @@
-use Rattle.commit_log.proofs.Words.{◌≡◌, ◌∙◌, ℕ, List, ap, sym, length, arith, big_number, sectors_for, padded_body, ReadsAs}
+use Rattle.commit_log.proofs.Words.{common_steps, ◌≡◌, ◌∙◌, ℕ, List, ap, sym, length, arith, big_number, sectors_for, padded_body, ReadsAs}
 use Rattle.commit_log.proofs.Parsing.{IsRead, first_read, all_read, too_short, no_room, is_record, no_record}
 use Rattle.commit_log.proofs.read.read_record.Given.{Over}
 use Rattle.commit_log.proofs.read.read_record.Goals as goal
 use Rattle.commit_log.proofs.read.read_record.Goals.{After-deref-2, then-sectors-body_max-via-then-sectors-body_max, then-sectors-body_max-via-else-sectors-body_max+then-sectors-count}
 
 pub returns-then-count-at-lt2-clause-none : goal.returns-then-count-at-lt2-clause-none
-returns-then-count-at-lt2-clause-none g c keeps image size reads =
-    too_short c.args.format image c.args.at c.args.count c.args.index c.args.before.now size (omega arith)
+returns-then-count-at-lt2-clause-none g c keeps image size reads = grind (arith, common_steps, too_short)
 
 pub returns-then-sectors-body_max-clause-none : goal.returns-then-sectors-body_max-clause-none
 returns-then-sectors-body_max-clause-none g c keeps image size reads =

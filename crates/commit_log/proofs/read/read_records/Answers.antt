@@ -1,4 +1,4 @@
-use Rattle.commit_log.proofs.Words.{◌∙◌, refl, drop, arith, of_none, ReadsAs}
+use Rattle.commit_log.proofs.Words.{common_steps, ◌∙◌, refl, arith, of_none, ReadsAs}
 use Rattle.std.proofs.lemmas.Result.{err_from_is_err_and}
 use Rattle.commit_log.proofs.Calls.{reads_joined}
 use Rattle.commit_log.proofs.Recovering.{read_fault, nothing_read, ended, damaged, more}
@@ -25,9 +25,7 @@ returns-then-sector-ne1-clause-found g c keeps image size reads =
     }
 
 pub returns-in_err-record-clause-found : goal.returns-in_err-record-clause-found
-returns-in_err-record-clause-found g c keeps image size reads =
-    let p = err_from_is_err_and c.from_residual-in_err-record.result c.from_residual-in_err-record.ensures.1 in
-    rw (p.1, p.2) (read_fault c.args.format (drop 1 image) _ c.in_err-record.ensures.errors)
+returns-in_err-record-clause-found g c keeps image size reads = grind (arith, common_steps, err_from_is_err_and, read_fault)
 
 pub records-preserved : goal.records-preserved
 records-preserved g c = record {
@@ -45,8 +43,4 @@ records-preserved g c = record {
 }
 
 pub returns-in-None-clause-found : goal.returns-in-None-clause-found
-returns-in-None-clause-found g c keeps image size reads =
-    let there = reads _ _ ((c.records.invariant.only_reads keeps).reads _ _ (c.in-Ok.ensures.gives keeps)) in
-    let mid : ReadsAs (g.D.Sectors.may_read c.read.new.self) image = λ i s read. reads i s ((c.records.invariant.only_reads keeps).reads i s (c.read.ensures.reads keeps i s read)) in
-    let read = c.records.invariant.found keeps image size reads in
-    damaged c.args.format image _ _ _ _ _ read there c.if-sector-ne1.false (rw c.in-None.is at (c.in_ok-record.ensures.none keeps image size mid))
+returns-in-None-clause-found g c keeps image size reads = grind (arith, common_steps, damaged)

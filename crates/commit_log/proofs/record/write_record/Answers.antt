@@ -1,18 +1,15 @@
-use Rattle.commit_log.proofs.Words.{◌+◌, ◌/◌, arith, length, of_more, OnlyWrites}
+use Rattle.commit_log.proofs.Words.{common_steps, ◌+◌, ◌/◌, arith, length, of_more, OnlyWrites}
 use Rattle.commit_log.proofs.{CopyProtocol.nothing_yet, CopyProtocol.many_writes, record.write_record.Given.Over, record.write_record.Goals.After-stage}
 use Rattle.commit_log.proofs.record.write_record.Goals as goal
 
 pub returns-in_err-open_staged-clause-any_moment : goal.returns-in_err-open_staged-clause-any_moment
-returns-in_err-open_staged-clause-any_moment g c keeps lists writes is here =
-    of_more (c.stage.ensures.any_moment keeps lists writes is here) (c.open_staged.ensures.any_moment keeps lists writes is.gate_is is.proper (c.in_ok-stage.ensures.staged keeps lists writes is here)) (λ i p. p) (λ i p. p)
+returns-in_err-open_staged-clause-any_moment g c keeps lists writes is here = grind (arith, common_steps, of_more)
 
 pub returns-clause-any_moment : goal.returns-clause-any_moment
-returns-clause-any_moment g c keeps lists writes is here =
-    of_more (c.stage.ensures.any_moment keeps lists writes is here) (c.open_staged.ensures.any_moment keeps lists writes is.gate_is is.proper (c.in_ok-stage.ensures.staged keeps lists writes is here)) (λ i p. p) (λ i p. p)
+returns-clause-any_moment g c keeps lists writes is here = grind (arith, common_steps, of_more)
 
 pub returns-clause-acknowledged : goal.returns-clause-acknowledged
-returns-clause-acknowledged g c keeps lists writes is here =
-    c.in_ok-open_staged.ensures.acknowledged keeps lists writes is.gate_is is.proper (c.in_ok-stage.ensures.staged keeps lists writes is here)
+returns-clause-acknowledged g c keeps lists writes is here = grind (arith, common_steps)
 
 staged : (g : Over) (c : After-stage g) → g.D.Sectors.keeps_model → OnlyWrites g.D.Sectors c.args.gate (length c.args.body.now / 512 + 2) c.args.device.now c.stage.new.device
 staged g c keeps =

@@ -1,4 +1,4 @@
-use Rattle.commit_log.proofs.Words.{◌≤◌, length, ap, refl, arith, value_max, payload_bound, current, payload_bytes}
+use Rattle.commit_log.proofs.Words.{common_steps, ◌≤◌, length, refl, arith, value_max, payload_bound, current, payload_bytes}
 use Rattle.commit_log.proofs.{Encoding.payload_size_is, Encoding.length-payload_le, Protocol.next_record, Protocol.stands_after}
 use Rattle.commit_log.proofs.log.Log.append_in_room.Goals as goal
 
@@ -8,12 +8,10 @@ encode-requires-clause-bound g c =
     omega (arith, c.requires.len, payload_size_is c.args.writes.now, most)
 
 pub write_record-requires-clause-room : goal.write_record-requires-clause-room
-write_record-requires-clause-room g c =
-    omega (arith, c.requires.room, ap length c.deref.ensures.value, c.in_ok-body.ensures.sectors)
+write_record-requires-clause-room g c = grind (arith, common_steps)
 
 pub write_record-requires-clause-fits : goal.write_record-requires-clause-fits
-write_record-requires-clause-fits g c =
-    omega (arith, c.requires.room, ap length c.deref.ensures.value, c.in_ok-body.ensures.sectors, c.args.self.now.fits)
+write_record-requires-clause-fits g c = grind (arith, common_steps)
 
 pub returns-in-Err-clause-any_moment : goal.returns-in-Err-clause-any_moment
 returns-in-Err-clause-any_moment g c keeps lists stands =
@@ -21,15 +19,10 @@ returns-in-Err-clause-any_moment g c keeps lists stands =
     (next_record _ lists c.args.writes.now _ _ stands c.requires.proper c.in_ok-body.ensures.body c.in_ok-body.ensures.sectors c.deref.ensures.value) stands.left
 
 pub overflow_add-self-in-Ok : goal.overflow_add-self-in-Ok
-overflow_add-self-in-Ok g c =
-    omega (arith, c.requires.room, c.len.ensures, c.in_ok-body.body.ok.0, c.in_ok-body.ensures.sectors, c.args.self.now.fits)
+overflow_add-self-in-Ok g c = grind (arith, common_steps)
 
 pub invariant_of-self-in-Ok : goal.invariant_of-self-in-Ok
-invariant_of-self-in-Ok g c = record {
-  in_range = omega (arith, c.requires.room, c.len.ensures, c.in_ok-body.body.ok.0, c.in_ok-body.ensures.sectors, c.write_record.ensures.size);
-  fits = omega (arith, c.args.self.now.fits, c.write_record.ensures.size);
-  counted = omega (arith, c.args.self.now.counted);
-}
+invariant_of-self-in-Ok g c = grind (arith, common_steps)
 
 pub returns-clause-appended : goal.returns-clause-appended
 returns-clause-appended g c keeps lists stands =
@@ -53,5 +46,4 @@ returns-clause-left g c keeps lists stands =
     λ crash left. run.each crash (g.met.D.Sectors.counts_now keeps c.write_record.new.device (g.D.Sectors.moment c.args.self.now.device) crash run.later left)
 
 pub returns-clause-used : goal.returns-clause-used
-returns-clause-used g c =
-    omega (arith, c.len.ensures, c.in_ok-body.body.ok.0, c.in_ok-body.ensures.sectors)
+returns-clause-used g c = grind (arith, common_steps)

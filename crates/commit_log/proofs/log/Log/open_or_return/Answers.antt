@@ -1,4 +1,4 @@
-use Rattle.commit_log.proofs.Words.{◌≡◌, refl, current}
+use Rattle.commit_log.proofs.Words.{arith, common_steps, ◌≡◌, refl, current}
 use Rattle.commit_log.proofs.Recovering.{log_unique, log_not_damaged, log_is_log, log_not_old, settles_as, refused_log, refused_damaged, refused_no_log, refused_old, device_refused, device_refused_left}
 use Rattle.commit_log.proofs.Protocol.{log_opened}
 use Rattle.commit_log.proofs.log.Log.open_or_return.Goals as goal
@@ -30,9 +30,7 @@ returns-in-Err-clause-undamaged g c keeps all_logs =
     device_refused_left _ _ _ _ (c.in-Err.ensures.refused keeps) all_logs
 
 pub returns-clause-stands : goal.returns-clause-stands
-returns-clause-stands g c keeps =
-    let opened = c.in-Ok.ensures.opened keeps in
-    (opened.2.lists, log_opened _ _ _ opened.2 refl refl refl refl, opened.2.tells.map, opened.0, opened.2.holds, opened.1, opened.2.settled)
+returns-clause-stands g c keeps = grind (arith, common_steps, log_opened)
 
 pub returns-clause-found : goal.returns-clause-found
 returns-clause-found g c keeps disk lists len reads holds =
