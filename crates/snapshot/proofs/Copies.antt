@@ -1,5 +1,5 @@
 -- A transaction's writes and marks against its private copy.
-use Rattle.snapshot.proofs.Words.{common_steps, ◌≡◌, ◌≢◌, ℕ, suc, Bool, true, false, T, cond, List, [], ◌∷◌, ◌++◌, length, Option, Some, None, Result, Ok, Err, refl, sym, ap, subst, ◌∙◌, arith, inl, inr, is_some, ◌↔◌, option_copied, if◌then◌else◌, is_eq, nat_cmp, slice_cmp, nat_list_cmp_total, put, is_sorted, below_all, find-put, is_sorted-put, both_ways, cases_Bool, not-true, not-false, Bytes, KeyMap, KeyWrite, IsMap, key_cmp, is_same_key, value_at, after_write, after_writes, PrivateCopy, Mark, copy_of, respond, answer, after_read, writes, values_at, after_put as copy_put, AreEntries, written, with_write, FullWrites, FullMarks, Memory, View, new_view, or_else, value_read, after_get, keys_of, copy_held, is_full_get, marked, HasMade, MakesOneMore, IsFullWhen, IsDoneReply, IsFault, is_refused, OnErr, map_seen}
+use Rattle.snapshot.proofs.Words.{common_steps, ◌≡◌, ◌≢◌, ℕ, suc, Bool, true, false, T, cond, List, [], ◌∷◌, ◌++◌, length, Option, Some, None, Result, Ok, Err, refl, sym, ap, subst, ◌∙◌, arith, inl, inr, is_some, ◌↔◌, option_copied, is_eq, nat_cmp, slice_cmp, nat_list_cmp_total, put, is_sorted, below_all, find-put, is_sorted-put, both_ways, cases_Bool, not-true, not-false, Bytes, KeyMap, KeyWrite, IsMap, key_cmp, is_same_key, value_at, after_write, after_writes, PrivateCopy, Mark, respond, answer, after_read, writes, values_at, after_put as copy_put, AreEntries, written, with_write, FullWrites, FullMarks, Memory, View, new_view, or_else, value_read, after_get, keys_of, copy_held, is_full_get, marked, HasMade, MakesOneMore, IsFullWhen, IsDoneReply, IsFault, is_refused, OnErr, map_seen}
 use Rattle.std.specs.Prelude.{IsTrue}
 use Rattle.std.specs.{Borrow.Bor, List.AllByRecursion, List.list_any, BTreeSet.insert_key, declared.cmp.Ordering.TheVariants.Less}
 use Rattle.model.specs.declared.refusals.Refusal.TheVariants as refusal
@@ -96,11 +96,7 @@ pub read_fault : (e : SnapshotFault) (full : Bool) (response : Response) → e �
 read_fault a0 a1 a2 a3 a4 a5 a6 = grind (arith, common_steps, cases_Bool)
 
 pub get-made : (t : View) (m : KeyMap) (qs : List Operation) (k : Bytes) → is_full_get t k ≡ false → HasMade t m qs → HasMade (after_get t k) m (qs ++ Get k ∷ [])
-get-made t m qs k e h = record {
-  is_map = h.is_map;
-  entries = elim (is_some (written t.writes k)) as (λ b. AreEntries (if b then t else marked t (OfKey k)).writes) [ true ↦ h.entries | false ↦ h.entries ];
-  copy = sym (ap (λ (r : Response × PrivateCopy). r.1) (respond-get t m k h.entries e)) ∙ ap (λ c. (respond c (Get k)).1) h.copy ∙ sym (copy_after-push (copy_of m) qs (Get k));
-}
+get-made t m qs k e h = grind (arith, common_steps, respond-get, copy_after-push)
 
 pub get-leaves : (t u : View) (k : Bytes) → is_full_get t k ≡ false → u ≡ after_get t k → MakesOneMore t u (Get k)
 get-leaves t u k room after = λ m qs h. subst (λ (w : View). HasMade w m (qs ++ Get k ∷ [])) (sym after) (get-made t m qs k room h)
@@ -109,9 +105,7 @@ pub get-value : (t : View) (m : KeyMap) (qs : List Operation) (k : Bytes) (v : O
 get-value t m qs k v e is h = answer_held t m qs (Get k) h ∙ ap (λ (r : Response × PrivateCopy). r.0) (respond-get t m k h.entries e) ∙ ap Value (sym is)
 
 pub get-fault : (t : View) (m : KeyMap) (qs : List Operation) (k : Bytes) (e : SnapshotFault) → e ≢ FullWrites → (◌≡◌ {A = SnapshotFault} e FullMarks ↔ IsTrue (is_full_get t k)) → HasMade t m qs → IsFault e (answer m qs (Get k))
-get-fault t m qs k e never iff h = read_fault e (is_full_get t k) (answer m qs (Get k)) never iff
-    (λ f. answer_held t m qs (Get k) h ∙ respond-get_full t m k h.entries f)
-    (λ f. ap is_refused (answer_held t m qs (Get k) h ∙ ap (λ (r : Response × PrivateCopy). r.0) (respond-get t m k h.entries f)))
+get-fault t m qs k e never iff h = grind (arith, common_steps, read_fault, answer_held, respond-get_full, respond-get)
 
 -- the request that writes the value, or deletes
 abbrev pub write_of : Bytes → Option Bytes → Operation
@@ -123,11 +117,7 @@ respond_write c k None = refl
 respond_write c k (Some v) = refl
 
 pub put-made : (t : View) (m : KeyMap) (qs : List Operation) (k : Bytes) (v : Option Bytes) → AreEntries (with_write t.writes k v) → buffer.is_full_for t.writes k ≡ false → HasMade t m qs → HasMade (after_put t k v) m (qs ++ write_of k v ∷ [])
-put-made t m qs k v entries e h = record {
-  is_map = h.is_map;
-  entries = entries;
-  copy = sym (ap (λ (r : Response × PrivateCopy). r.1) (respond_write (copy_held t m) k v ∙ respond-put t m k v h.entries h.is_map e)) ∙ ap (λ c. (respond c (write_of k v)).1) h.copy ∙ sym (copy_after-push (copy_of m) qs (write_of k v));
-}
+put-made t m qs k v entries e h = grind (arith, common_steps, respond_write, respond-put, copy_after-push)
 
 pub put-done : (t : View) (m : KeyMap) (qs : List Operation) (k : Bytes) (v : Option Bytes) → buffer.is_full_for t.writes k ≡ false → HasMade t m qs → answer m qs (write_of k v) ≡ Done
 put-done t m qs k v e h = answer_held t m qs (write_of k v) h ∙ ap (λ (r : Response × PrivateCopy). r.0) (respond_write (copy_held t m) k v ∙ respond-put t m k v h.entries h.is_map e)

@@ -17,9 +17,7 @@ one_suc [] zero e rest h = let no : ◌≡◌ {A = KeyMap} [] (e ∷ rest) = h i
 one_suc [] (suc n) e rest h = let no : ◌≡◌ {A = KeyMap} [] (e ∷ rest) = h in cc
 one_suc (x ∷ xs) zero e rest h = record { left = cc; within = omega arith; last = cc }
 one_suc (x ∷ []) (suc n) e rest h = let inner = one_suc [] n e rest h in absurd (omega (arith, inner.within))
-one_suc (x ∷ y ∷ ys) (suc n) e rest h =
-    let inner = one_suc (y ∷ ys) n e rest h in
-    record { left = inner.left; within = omega (arith, inner.within); last = inner.last }
+one_suc (x ∷ y ∷ ys) (suc n) e rest h = grind (arith, common_steps, one_suc (y ∷ ys) n e rest h)
 
 pub one_more : (all : KeyMap) (n : ℕ) (e : Bytes × Bytes) (rest : KeyMap) → drop n all ≡ e ∷ rest → OneMore all (n + 1) e rest
 one_more all n e rest h = rw add-one (one_suc all n e rest h)

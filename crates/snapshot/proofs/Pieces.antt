@@ -1,5 +1,5 @@
 -- Entries of a range, and pairs with writes over them.
-use Rattle.snapshot.proofs.Words.{common_steps, arith, ◌≡◌, ℕ, Bool, true, false, T, not, cond, ◌&&◌, List, [], ◌∷◌, ◌-◌, length, take, drop, Option, Some, None, refl, sym, ap, subst, ◌∙◌, is_lt, is_le, nat_cmp, ordering_reverse, slice_cmp, nat_list_cmp_total, where_key, is_sorted, below_all, by_order, is_sorted-where_key, find-where_key, Bytes, KeyMap, KeyWrite, IsMap, key_cmp, is_same_key, value_at, after_writes, is_below, is_in_range, pairs_in_range, written, or_else, with_value, merged, merged_one}
+use Rattle.snapshot.proofs.Words.{common_steps, arith, ◌≡◌, ℕ, Bool, true, false, T, not, cond, List, [], ◌∷◌, ◌-◌, length, take, drop, Option, Some, None, refl, sym, ap, subst, ◌∙◌, is_lt, is_le, nat_cmp, ordering_reverse, slice_cmp, nat_list_cmp_total, where_key, is_sorted, below_all, by_order, is_sorted-where_key, find-where_key, Bytes, KeyMap, KeyWrite, IsMap, key_cmp, is_same_key, value_at, after_writes, is_below, is_in_range, pairs_in_range, written, or_else, with_value, merged, merged_one}
 use Rattle.std.specs.declared.cmp.Ordering.{Ordering}
 use Rattle.std.specs.declared.cmp.Ordering.TheVariants.{Less, Equal, Greater}
 use Rattle.std.proofs.{Math.Seq.take-length, lemmas.List.length-drop, lemmas.Map.Lookups.exact_bytes}
@@ -23,9 +23,7 @@ pub sorted-where : {X : Type 0} (p : Bytes → Bool) (es : List (Bytes × X)) �
 sorted-where p es h = is_sorted-where_key (slice_cmp nat_cmp) p es h
 
 pub span : {X : Type 0} (lo : Bytes) (hi : Option Bytes) (es fs gs : List (Bytes × X)) → fs ≡ where_key (slice_cmp nat_cmp) (λ q. is_below q hi) es → gs ≡ where_key (slice_cmp nat_cmp) (λ q. not (is_lt (key_cmp q lo))) fs → gs ≡ where_key (slice_cmp nat_cmp) (is_in_range lo hi) es
-span lo hi es fs gs below from =
-    from ∙ ap (where_key (slice_cmp nat_cmp) (λ q. not (is_lt (key_cmp q lo)))) below
-    ∙ where_twice (λ q. not (is_lt (key_cmp q lo))) (λ q. is_below q hi) (is_in_range lo hi) (λ q. ap (λ b. b && is_below q hi) (turned_le (key_cmp lo q) ∙ ap (λ o. not (is_lt o)) (sym (turned lo q)))) es
+span lo hi es fs gs below from = grind (arith, common_steps, where_key, slice_cmp, where_twice, turned_le, turned)
 
 -- ---- merged pairs
 

@@ -54,8 +54,7 @@ module _ (t : View) (m : KeyMap) (r : RangeRef) (limit : ℕ) where
 -- of the map that the begin number sees, and one that is equal to it
 module _ (t : View) (v : ChainsValue) (m : KeyMap) (qs : List Operation) (r : RangeRef) (limit : ℕ) (seen : map_seen v t.begin ≡ m) (h : HasMade t m qs) where
   pub range-reply : (ps : KeyMap) → is_full_range t (map_seen v t.begin) r limit ≡ false → ps ≡ rows_of t (map_seen v t.begin) r limit → answer m qs (range_read r limit) ≡ Pairs ps
-  range-reply ps room rows =
-      range-pairs t m r limit qs (subst (λ (n : KeyMap). is_full_range t n r limit ≡ false) seen room) h ∙ ap Pairs (sym (rows ∙ ap (λ (n : KeyMap). rows_of t n r limit) seen))
+  range-reply ps room rows = grind (arith, common_steps, range-pairs)
 
   pub range-fault : (e : SnapshotFault) → e ≢ FullWrites → (◌≡◌ {A = SnapshotFault} e FullMarks ↔ IsTrue (is_full_range t (map_seen v t.begin) r limit)) → IsFault e (answer m qs (range_read r limit))
   range-fault e never iff = read_fault e (is_full_range t m r limit) (answer m qs (range_read r limit)) never

@@ -1,4 +1,4 @@
-use Rattle.snapshot.proofs.Words.{refl, ap, ◌∙◌, KeyMap, value_read}
+use Rattle.snapshot.proofs.Words.{arith, common_steps, refl, ap, ◌∙◌, KeyMap, value_read}
 use Rattle.snapshot.proofs.Copies.{get-value, get-leaves, get-fault, read-after_get, err_iff, fault_iff, ok_iff, room_of, never_of}
 use Rattle.snapshot.proofs.transaction.Transaction.get.Goals as goal
 
@@ -18,15 +18,4 @@ returns-in-Ok c =
     )
 
 pub returns-in-Err : goal.returns-in-Err
-returns-in-Err c =
-    let t = c.args.self.now in
-    let k = c.args.key.bytes.now in (
-      (refl, λ _. tt, c.in-Err.ensures.err),
-      record {
-        known = λ t. c.in-Err.ensures.known t;
-        full = err_iff c.in-Err.ensures.full;
-        short = tt;
-        reply = λ m qs is h. get-fault t m qs k c.in-Err.fault (never_of c.in-Err.ensures.never) (fault_iff c.in-Err.ensures.full) h;
-        after = tt;
-      },
-    )
+returns-in-Err c = grind (arith, common_steps, err_iff, get-fault, never_of, fault_iff)
