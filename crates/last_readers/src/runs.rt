@@ -1,5 +1,5 @@
 //! Runs of numbers by key, merged in steps.
-ghost use Rattle.std.specs.Prelude.{◌≡◌, ◌≤◌, ◌<◌, ◌++◌, [], ◌∷◌, max};
+ghost use Rattle.std.specs.Prelude.{◌≡◌, ◌≤◌, ◌<◌, ◌+◌, ◌++◌, [], ◌∷◌, max};
 ghost use Rattle.std.specs.VecDeque.{deque_len, deque_capacity};
 ghost use Rattle.last_readers.specs.Readers.{IsWithRun, cut, greatest_at};
 ghost use Rattle.last_readers.specs.Inside.{run_of, runs_in, held_of, sizes_of};
@@ -48,6 +48,8 @@ impl Run for ReadRun {
     ghost sizes = { sizes_of };
 
     ghost held = { held_of };
+
+    ghost room = { λ r. deque_capacity r.first + deque_capacity r.second };
 
     ghost fit = { λ n places. (deque_len places ≡ 0) × (n ≤ deque_capacity places) };
 
@@ -102,12 +104,8 @@ impl Run for ReadRun {
     }
 
     fn give_places_back(&mut self) {
-        if self.first.capacity() == 0 && self.second.capacity() == 0 {
-            return;
-        }
-        let alloc = *self.made.allocator();
-        self.first = VecDeque::new(alloc);
-        self.second = VecDeque::new(alloc);
+        self.first.shrink_to_fit();
+        self.second.shrink_to_fit();
     }
 
     fn into_stale(self) -> (VecDeque<Step>, VecDeque<Step>, VecDeque<Step>) {

@@ -19,6 +19,9 @@ pub trait Run: Drop {
     /// How many elements it holds.
     ghost held: { Self → ℕ };
 
+    /// For how many elements the two that it is made of have room.
+    ghost room: { Self → ℕ };
+
     /// There are places for so many elements.
     ghost fit: { ℕ → Self.Places → Type 0 };
 
@@ -79,6 +82,7 @@ pub trait Run: Drop {
     /// Gives back the places of the two runs, once nothing is left of them. Takes no memory.
     fn give_places_back(&mut self)
         requires { (sizes self.old).left ≡ 0 }
+        ensures room { room self.new ≡ 0 }
         ensures sizes { sizes self.new ≡ sizes self.old }
         ensures agree { (oldest : ℕ) → agree oldest (self.new ∷ []) (self.old ∷ []) };
 

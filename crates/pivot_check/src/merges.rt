@@ -1,5 +1,5 @@
 //! Runs of written keys, merged in steps.
-ghost use Rattle.std.specs.Prelude.{◌≡◌, ◌≤◌, length};
+ghost use Rattle.std.specs.Prelude.{◌≡◌, ◌≤◌, ◌+◌, length};
 ghost use Rattle.std.specs.Vec.{vec_capacity};
 ghost use Rattle.std.proofs.Common.{refl, ◌∙◌};
 ghost use Rattle.pivot_check.specs.Inside.{held_of, sizes_of};
@@ -36,6 +36,8 @@ impl Run for WrittenRun {
     ghost sizes = { sizes_of };
 
     ghost held = { held_of };
+
+    ghost room = { λ r. vec_capacity r.first.written + vec_capacity r.second.written };
 
     ghost fit = { λ n places. (length places.written.items ≡ 0) × (n ≤ vec_capacity places.written) };
 
@@ -93,7 +95,7 @@ impl Run for WrittenRun {
     }
 
     fn give_places_back(&mut self) {
-        if self.first.written.is_empty() && self.second.written.is_empty() {
+        if self.first.written.capacity() == 0 && self.second.written.capacity() == 0 {
             return;
         }
         let alloc = *self.made.written.allocator();

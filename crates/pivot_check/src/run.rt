@@ -28,6 +28,7 @@ pub(crate) struct WrittenRun {
 // No postings.
 pub(crate) fn nothing(alloc: Global) -> Part
     ensures none { length result.written.items ≡ 0 }
+    ensures places { vec_capacity result.written ≡ 0 }
 {
     Part::of(Vec::new(alloc), Vec::new(alloc))
 }
