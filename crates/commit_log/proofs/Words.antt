@@ -18,7 +18,7 @@ pub use Rattle.sector.specs.declared.device.Sectors.{Ghosts}
 pub use Rattle.sha2.specs.Sha256.{sha256}
 pub use Rattle.commit_log.specs.Copying.{first_sets, IsCopyOrNoLog, IsCopyStep, LeavesSteps, LeavesZeros, log_sectors, open_record, puts, ReadsFrom, set_count}
 unfoldable pub use Rattle.commit_log.specs.Copying.{write_sets_of, zero_sector}
-pub use Rattle.commit_log.specs.Encoding.{begun, IsUnsealed}
+pub use Rattle.commit_log.specs.Encoding.{IsUnsealed}
 pub use Rattle.commit_log.specs.Format.{current, value_bound}
 unfoldable pub use Rattle.commit_log.specs.Format.{head_sector}
 pub use Rattle.commit_log.specs.LogImage.{HasHead, HoldsDamage, HoldsRecords, IsDamaged, IsLogImage, IsNoLog, IsRecordAt, last_digest, next_index, span}

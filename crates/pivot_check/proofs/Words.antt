@@ -1,11 +1,11 @@
 -- The words of these proofs, each from where it is defined.
-pub use Rattle.std.proofs.Common.{[], add-one, ap, arith, Bool, cond, drop, false, get_or, inl, inr, length, length-drop, List, map, None, of_calls, Option, refl, rules, Some, subst, suc, sym, take, true, zero, ℕ, ◌&&◌, ◌*◌, ◌++◌, ◌+◌, ◌-◌, ◌<◌, ◌||◌, ◌∙◌, ◌∷◌, ◌≡◌, ◌≤◌}
-pub use Rattle.std.proofs.lemmas.Bool.{and_from, and_parts, both_ways, cases_lt, false_from_ne_true, le-ltb, leb-true, lt-ltb, ltb-true, not-true, or_left, true_from_ne_false}
+pub use Rattle.std.proofs.Common.{[], ap, arith, Bool, cond, drop, false, get_or, inl, inr, length, length-drop, List, map, None, of_calls, Option, refl, rules, Some, subst, suc, sym, take, true, zero, ℕ, ◌&&◌, ◌*◌, ◌++◌, ◌+◌, ◌-◌, ◌<◌, ◌||◌, ◌∙◌, ◌∷◌, ◌≡◌, ◌≤◌}
+pub use Rattle.std.proofs.lemmas.Bool.{and_from, and_parts, both_ways, cases_lt, false_from_ne_true, leb-true, lt-ltb, ltb-true, not-true, or_left, true_from_ne_false}
 pub use Rattle.std.proofs.lemmas.Bool.Decides.{nat_tests}
 pub use Rattle.std.proofs.lemmas.Fn.{always_returns_same}
 pub use Rattle.std.proofs.lemmas.Grind.{common_steps}
 pub use Rattle.std.proofs.lemmas.List.{append-nil, append_assoc, at_drop_all, at_drop_more, drop-append-le, drop-drop, drop-set-lt, drop-take, drop_all, get_or-drop, get_or-take, get_or_append_left, get_or_push, length-set, length-take, length_push, map-append, nil_from_length, take-append-drop, take-append-le, take-take, take_all, take_at, take_rest}
-pub use Rattle.std.proofs.lemmas.List.Elements.{All-append, All-contains, All-drop, All-filter, All-from_recursion, filter-append, recursion_from_All}
+pub use Rattle.std.proofs.lemmas.List.Elements.{All-append, All-contains, All-drop, All-from_recursion, filter-append, recursion_from_All}
 pub use Rattle.std.proofs.lemmas.List.Folds.{find_at, list_all-append, list_all_more, list_any-append}
 pub use Rattle.std.specs.List.{AllByRecursion, filter, insert, list_all, list_any, position, position_or_len}
 pub use Rattle.std.specs.List.Sorted.{IsPartitionedBy, IsPartitionPoint}
@@ -19,7 +19,7 @@ pub use Rattle.model.proofs.Elements.{all-append, all-each, all-filter, all-get,
 pub use Rattle.model.proofs.Members.{at_in, Contains-from_in, each_in, In, in_from_Contains, IsRising, rising_from_numbered}
 pub use Rattle.model.proofs.Pivots.{any_alike, any_filter, any_same, earlier_target-push, find_alike, find_same, has_earlier_target, or_false, own_earlier_target, read_write_kept, stands_between, verdict_by_kept}
 pub use Rattle.model.specs.History.{IsNumberedFrom, Record}
-pub use Rattle.model.specs.Map.{Bytes, is_below, is_same_key, key_cmp, KeyWrite}
+pub use Rattle.model.specs.Map.{Bytes, is_same_key, key_cmp, KeyWrite}
 pub use Rattle.model.specs.PrivateCopy.{covers, is_covered, Mark}
 pub use Rattle.snapshot.specs.View.{View}
 pub use Rattle.pivot_check.specs.Agreeing.{least-append, least-runs, lesser_assoc, lesser_none}

@@ -1,6 +1,6 @@
 -- The words of these proofs, each from where it is defined.
-pub use Rattle.std.proofs.Common.{[], add-zero, All, ap, append_assoc, arith, Bool, cond, drop, Err, false, get_or, inl, inr, length, length-append, List, map, None, Ok, Option, refl, replicate, Result, set, Some, subst, suc, sym, take, true, vec_capacity, vec_len, zero, ℕ, ◌%◌, ◌*◌, ◌++◌, ◌+◌, ◌-◌, ◌/◌, ◌<◌, ◌^◌, ◌∙◌, ◌∷◌, ◌≡◌, ◌≤◌, ◌⊎◌}
-pub use Rattle.std.proofs.lemmas.Bool.{cases_Bool, eqb-false, eqb-true}
+pub use Rattle.std.proofs.Common.{[], All, ap, append_assoc, arith, drop, Err, false, get_or, inl, inr, length, length-append, List, map, None, Ok, Option, refl, replicate, Result, set, Some, subst, suc, sym, take, true, vec_capacity, vec_len, zero, ℕ, ◌%◌, ◌*◌, ◌++◌, ◌+◌, ◌-◌, ◌/◌, ◌<◌, ◌^◌, ◌∙◌, ◌∷◌, ◌≡◌, ◌≤◌, ◌⊎◌}
+pub use Rattle.std.proofs.lemmas.Bool.{cases_Bool, eqb-true}
 pub use Rattle.std.proofs.lemmas.Fmt.{decimal_by_steps, decimal_digit, decimal_injective, decimal_nonempty, decimal_step, first_decimal, length-decimal-le}
 pub use Rattle.std.proofs.lemmas.Grind.{common_steps}
 pub use Rattle.std.proofs.lemmas.List.{append-nil, append_cancel_left, get_or-append-add, get_or-drop, get_or-map, get_or-take, get_or_append_left, length-drop, length-map, length-replicate, length-take, length-take-le, map-append, map-set, take-append-drop, take-map, take_at, take_more, take_more_set, take_rest}

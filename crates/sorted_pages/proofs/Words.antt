@@ -1,9 +1,9 @@
 -- The words of these proofs, each from where it is defined.
-pub use Rattle.std.proofs.Common.{[], ap, arith, Bool, cond, drop, Err, false, get_or, inl, inr, IsSome, length, List, max, min, None, not, Ok, Option, refl, rules, set, Some, subst, suc, sym, T, take, true, zero, ℕ, ◌&&◌, ◌*◌, ◌++◌, ◌+◌, ◌-◌, ◌<◌, ◌||◌, ◌∙◌, ◌∷◌, ◌≡◌, ◌≤◌}
+pub use Rattle.std.proofs.Common.{[], ap, arith, Bool, cond, drop, Err, false, get_or, inl, inr, IsSome, length, List, max, min, None, not, Ok, Option, refl, rules, set, Some, subst, suc, sym, T, take, true, zero, ℕ, ◌*◌, ◌++◌, ◌+◌, ◌-◌, ◌<◌, ◌||◌, ◌∙◌, ◌∷◌, ◌≡◌, ◌≤◌}
 pub use Rattle.std.proofs.lemmas.Bool.{and_parts, and_right, both_ways, cases_Bool, eqb-true, not-true}
 pub use Rattle.std.proofs.lemmas.Fn.{always_returns_same}
 pub use Rattle.std.proofs.lemmas.Grind.{common_steps}
-pub use Rattle.std.proofs.lemmas.List.{append-nil, append_assoc, get_or-drop, get_or_at, get_or_read, length-append, length-drop, length-set, length-take, length-take-le, nil_from_length, set_at, take-append-drop, take-append-le, take-set-le, take-take, take_more, take_rest}
+pub use Rattle.std.proofs.lemmas.List.{append-nil, append_assoc, get_or-drop, get_or_at, length-append, length-drop, length-set, length-take, nil_from_length, set_at, take-append-drop, take-append-le, take-set-le, take-take, take_more, take_rest}
 pub use Rattle.std.proofs.lemmas.Result.{on_ok_weaker}
 pub use Rattle.std.specs.Cmp.Lexicographic.{nat_list_cmp_total}
 pub use Rattle.std.specs.FinMap.Entries.{by_order, find, find-put, is_sorted-put, put, where_key}
