@@ -33,9 +33,12 @@ roomier_before o p d r e = grind arith
 pub under-roomier : (held : ℕ → Bool) (v u : ChainsValue) → IsRoomier v.chains u.chains → u.last ≡ v.last → (w : ℕ) (x : Listed) → IsUnderWitness held v w x → IsUnderWitness held u w x
 under-roomier held v u more last w x h =
     let installed = subst (λ n. x.next ≤ n) (sym last) h.installed in
-    assumption (installed, λ (d : ChainValue) (found : find_chain x.key u.chains ≡ Some d). (
-    let r = roomier_before (find_chain x.key v.chains) (find_chain x.key u.chains) d (find-roomier x.key v.chains u.chains more) found in
-    under-chain held held v.last u.last w w x.number r.0 d r.2.newest (omega (arith, last)) (λ b t. (t, number_roomier b r.0 d r.2, λ le. le)) (h.chain r.0 r.1)))
+    assumption (
+      installed,
+      λ (d : ChainValue) (found : find_chain x.key u.chains ≡ Some d). (
+          let r = roomier_before (find_chain x.key v.chains) (find_chain x.key u.chains) d (find-roomier x.key v.chains u.chains more) found in
+          under-chain held held v.last u.last w w x.number r.0 d r.2.newest (omega (arith, last)) (λ b t. (t, number_roomier b r.0 d r.2, λ le. le)) (h.chain r.0 r.1)),
+    )
 
 roomier_behind : (o p : Option ChainValue) (c : ChainValue) → RoomierFound o p → o ≡ Some c → (d : ChainValue) × (p ≡ Some d) × IsRoomierChain c d
 roomier_behind o p c r e = grind arith
@@ -44,9 +47,12 @@ roomier_behind o p c r e = grind arith
 pub under-roomy : (held : ℕ → Bool) (v u : ChainsValue) → IsRoomier v.chains u.chains → u.last ≡ v.last → (w : ℕ) (x : Listed) → IsUnderWitness held u w x → IsUnderWitness held v w x
 under-roomy held v u more last w x h =
     let installed = subst (λ n. x.next ≤ n) last h.installed in
-    assumption (installed, λ (c : ChainValue) (found : find_chain x.key v.chains ≡ Some c). (
-    let r = roomier_behind (find_chain x.key v.chains) (find_chain x.key u.chains) c (find-roomier x.key v.chains u.chains more) found in
-    under-chain held held u.last v.last w w x.number r.0 c (sym r.2.newest) (omega (arith, last)) (λ b t. (t, sym (number_roomier b c r.0 r.2), λ le. le)) (h.chain r.0 r.1)))
+    assumption (
+      installed,
+      λ (c : ChainValue) (found : find_chain x.key v.chains ≡ Some c). (
+          let r = roomier_behind (find_chain x.key v.chains) (find_chain x.key u.chains) c (find-roomier x.key v.chains u.chains more) found in
+          under-chain held held u.last v.last w w x.number r.0 c (sym r.2.newest) (omega (arith, last)) (λ b t. (t, sym (number_roomier b c r.0 r.2), λ le. le)) (h.chain r.0 r.1)),
+    )
 
 -- ---- a reclaim
 
@@ -188,8 +194,11 @@ under_added held last n w m o d lt low h u = elim h.newest [
 pub under-installed : (held : ℕ → Bool) (v u : ChainsValue) (n : ℕ) → v.last < n → u.last ≡ n → ((k : Bytes) → IsAddedTo n (find_chain k v.chains) (find_chain k u.chains)) → (w : ℕ) (x : Listed) → IsUnderWitness held v w x → IsUnderWitness held u w x
 under-installed held v u n lt last chains w x h =
     let installed : x.next ≤ u.last = omega (arith, h.installed) in
-    assumption (installed, λ (d : ChainValue) (found : find_chain x.key u.chains ≡ Some d). subst (λ l. IsUnderChain held l w x.number d) (sym last)
-    (under_added held v.last n w x.number (find_chain x.key v.chains) d lt (omega (arith, h.rises, h.installed)) (subst (IsAddedTo n (find_chain x.key v.chains)) found (chains x.key)) h.chain))
+    assumption (
+      installed,
+      λ (d : ChainValue) (found : find_chain x.key u.chains ≡ Some d). subst (λ l. IsUnderChain held l w x.number d) (sym last)
+          (under_added held v.last n w x.number (find_chain x.key v.chains) d lt (omega (arith, h.rises, h.installed)) (subst (IsAddedTo n (find_chain x.key v.chains)) found (chains x.key)) h.chain),
+    )
 
 -- what a commit followed is listed under the number before it
 under-followed : (held : ℕ → Bool) (u : ChainsValue) (n : ℕ) → 0 < n → u.last ≡ n → (x : Listed) → IsFollowed n u.chains x → IsUnderWitness held u (n - 1) x

@@ -1,4 +1,4 @@
-use Rattle.versions.proofs.Words.{rules, AllByRecursion, ◌+◌, List, take, sym, ap, subst, refl, ◌∙◌, arith, GroupValue, AreUnderWitnesses, AreAmong, AreApart, AreMixedSettled, IsSettled, IsTrulyMixed, lists_in, witnesses, all-remove}
+use Rattle.versions.proofs.Words.{AllByRecursion, ◌+◌, List, take, sym, ap, subst, refl, ◌∙◌, arith, GroupValue, AreUnderWitnesses, AreAmong, AreApart, AreMixedSettled, IsSettled, IsTrulyMixed, lists_in, witnesses, all-remove}
 use Rattle.versions.proofs.{Groups.due-empty, Groups.found-remove, UnderWitnesses.IsUnder}
 use Rattle.versions.proofs.Witnesses.{apart-next, among-remove, take-remove, lists-remove}
 use Rattle.versions.proofs.reclaiming.join_groups.Goals as goal
@@ -32,5 +32,5 @@ loop-i-preserved-then-not-join c =
     let e = c.join.ensures in
     let inv = c.loop-i.invariant in
     let apart = subst (λ (l : List GroupValue). AreApart (take (c.loop-i.i + 1) (witnesses l))) (sym (c.if-not-join.ensures.same refl))
-        (apart-next c.loop-i.groups.items c.loop-i.i (omega arith) inv.apart (c.if-not-join.ensures.other refl)) in
+    (apart-next c.loop-i.groups.items c.loop-i.i (omega arith) inv.apart (c.if-not-join.ensures.other refl)) in
     search (arith, apart, ◌∙◌, e.found, e.due, e.held, e.truly, e.each, e.mixed, inv.found, inv.due, inv.held, inv.truly, inv.each, inv.mixed)

@@ -1,4 +1,4 @@
-use Rattle.versions.proofs.Words.{length, [], ap, sym, subst, ◌∙◌, AllByRecursion, entries, GroupValue, IsUnderWitness, IsSettled, IsTakenIn, versions_in, eqb-true}
+use Rattle.versions.proofs.Words.{length, ap, sym, subst, ◌∙◌, AllByRecursion, entries, GroupValue, IsUnderWitness, IsSettled, IsTakenIn, versions_in, eqb-true}
 use Rattle.versions.proofs.Parts.{all-parts, all-three, due-taken, no-versions, parts-settled}
 use Rattle.versions.proofs.listing.Group.look_at_mixed.Goals as goal
 

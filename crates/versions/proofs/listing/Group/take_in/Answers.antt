@@ -1,4 +1,4 @@
-use Rattle.versions.proofs.Words.{length, ◌≡◌, [], ◌++◌, ap, sym, subst, ◌∙◌, AllByRecursion, GroupValue, IsUnderWitness, versions_in}
+use Rattle.versions.proofs.Words.{length, ◌≡◌, ◌++◌, ap, sym, subst, ◌∙◌, AllByRecursion, GroupValue, IsUnderWitness, versions_in}
 use Rattle.versions.proofs.{Lists.in-append, Parts.all-parts, Parts.all-put, Parts.all-three, Parts.no-versions}
 use Rattle.versions.proofs.listing.Group.take_in.Goals as goal
 
@@ -8,6 +8,8 @@ returns-clause-each c = λ held v w h hm.
     let g = c.self.inside in
     let own = all-parts P (versions_in g.lists) (versions_in g.due) (versions_in g.mixed) (subst (λ (x : GroupValue). AllByRecursion P x.versions) (sym c.self.view_is) h) in
     let moved : versions_in c.append.new.lists ≡ versions_in g.lists ++ versions_in g.due = ap versions_in c.append.ensures ∙ in-append c.replace-lists.result c.replace.result ∙ ap (λ l. versions_in l ++ versions_in c.replace.result) c.replace-lists.ensures.value ∙ ap (λ l. versions_in g.lists ++ versions_in l) c.replace.ensures.value in
-    let due = all-put P (versions_in g.lists) (versions_in g.due) (versions_in c.append.new.lists) moved own.0 own.1 in
-    (all-three P (versions_in c.replace-lists.new.dest) (versions_in c.append.new.lists) (versions_in g.mixed)
-    (no-versions P c.replace-lists.new.dest (ap length (c.replace-lists.ensures.after ∙ c.new.ensures))) due own.2, own.2)
+    let due = all-put P (versions_in g.lists) (versions_in g.due) (versions_in c.append.new.lists) moved own.0 own.1 in (
+      all-three P (versions_in c.replace-lists.new.dest) (versions_in c.append.new.lists) (versions_in g.mixed)
+          (no-versions P c.replace-lists.new.dest (ap length (c.replace-lists.ensures.after ∙ c.new.ensures))) due own.2,
+      own.2,
+    )

@@ -19,8 +19,18 @@ invariant_of-self c =
           (groups-found (entries c.add_all.new.chains) (unwitnessed ls ∷ gs) (gs ++ c.new-2.result ∷ []) (found-last gs ls c.new-2.result (c.new-2.ensures.versions ∙ filled)) (c.add_all.ensures.listed gs c.self.invariant.1)),
       ap versions_in (c.replace-listed.ensures.after ∙ c.new.ensures),
       record {
-        lists = omega (arith, ap lists_in c.in-Ok.ensures.items, lists-push gs c.new-2.result, c.self.invariant.3.lists, c.requires.above, ap (λ (v : ChainsValue). v.last) c.self.view_is,
-            c.new-2.ensures.lists, length-set c.replace-listed.result 0 c.add_all.new.listed, ap length c.replace-listed.ensures.value, c.self.invariant.3.ready);
+        lists = omega (
+          arith,
+          ap lists_in c.in-Ok.ensures.items,
+          lists-push gs c.new-2.result,
+          c.self.invariant.3.lists,
+          c.requires.above,
+          ap (λ (v : ChainsValue). v.last) c.self.view_is,
+          c.new-2.ensures.lists,
+          length-set c.replace-listed.result 0 c.add_all.new.listed,
+          ap length c.replace-listed.ensures.value,
+          c.self.invariant.3.ready,
+        );
         ready = omega (arith, ap length (c.replace-listed.ensures.after ∙ c.new.ensures));
         fits = c.requires.fits;
       },

@@ -20,8 +20,8 @@ loop-write-preserved c =
     let inv = c.loop-write.invariant in
     let roomier = roomier-trans c.args.self.now.chains c.loop-write.self.chains c.make_room.new.self.chains inv.roomier e.chains in
     let prepared = preparing (length c.args.writes.now) c.args.writes.now c.loop-write.write-index c.write-item.result c.lend_key.result.bytes.now
-        c.loop-write.self.chains c.make_room.new.self.chains c.loop-write.self.pages c.make_room.new.self.pages
-        (omega arith) c.write-item.is c.lend_key.ensures c.make_room.ensures.chains c.make_room.ensures.rooms c.loop-write.invariant.prepared c.in_ok-make_room.ensures.room c.in_ok-make_room.ensures.place in
+    c.loop-write.self.chains c.make_room.new.self.chains c.loop-write.self.pages c.make_room.new.self.pages
+    (omega arith) c.write-item.is c.lend_key.ensures c.make_room.ensures.chains c.make_room.ensures.rooms c.loop-write.invariant.prepared c.in_ok-make_room.ensures.room c.in_ok-make_room.ensures.place in
     search (arith, roomier, prepared, ◌∙◌, e.rooms, e.last, e.groups, e.listed_spare, e.groups_spare, inv.pages, inv.last, inv.groups, inv.listed_spare, inv.groups_spare)
 
 -- ---- a chain was refused its room
@@ -44,7 +44,7 @@ returns-in_err-make_room-clause-known c = λ p.
     let fs = c.loop-write.self.chains in
     let more = c.loop-write.invariant.roomier in
     let at = placed-at (length ws) ws c.loop-write.write-index c.write-item.result k es fs c.args.self.now.pages c.loop-write.self.pages
-        (omega arith) c.write-item.is c.lend_key.ensures more c.loop-write.invariant.pages p.chains p.places in
+    (omega arith) c.write-item.is c.lend_key.ensures more c.loop-write.invariant.pages p.chains p.places in
     absurd (both_ways false refl (c.in_err-make_room.ensures.known at.0 at.1))
 
 -- ---- the list, or the groups, were refused theirs
