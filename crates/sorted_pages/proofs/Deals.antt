@@ -1,5 +1,5 @@
 -- Entries that are dealt to two vectors.
-use Rattle.sorted_pages.proofs.Words.{common_steps, ◌≡◌, ℕ, ◌+◌, ◌-◌, ◌<◌, ◌≤◌, List, [], ◌∷◌, ◌++◌, length, arith, append_assoc, length-append}
+use Rattle.sorted_pages.proofs.Words.{common_steps, ◌≡◌, ℕ, ◌<◌, ◌≤◌, List, [], ◌∷◌, ◌++◌, length, arith, append_assoc, length-append}
 
 -- the lower ones are the first of all, up to a place, the upper ones follow, and the rest is still to come
 pub record Dealt {E : Type 0} (at : ℕ) (all rest lower upper : List E) : Type 0 where

@@ -1,4 +1,4 @@
-use Rattle.commit_log.proofs.Words.{common_steps, ◌++◌, ◌∙◌, ◌+◌, List, ap, arith, append_assoc, length-append, flat_map, take_all, KeyWrite, entry_bytes}
+use Rattle.commit_log.proofs.Words.{common_steps, ◌++◌, ◌∙◌, List, ap, arith, append_assoc, length-append, flat_map, take_all, KeyWrite, entry_bytes}
 use Rattle.commit_log.proofs.Encoding.{entries-more, entry_size, payload_size-more, payload_size_le}
 use Rattle.commit_log.proofs.encode.add_writes.Goals as goal
 

@@ -1,4 +1,4 @@
-use Rattle.commit_log.proofs.Words.{common_steps, ◌≡◌, ◌+◌, ◌++◌, ℕ, List, Some, take, arith, append_assoc, length-append, flat_map, Bytes, entry_bytes, puts}
+use Rattle.commit_log.proofs.Words.{common_steps, ◌≡◌, ◌++◌, ℕ, List, Some, take, arith, append_assoc, length-append, flat_map, Bytes, entry_bytes, puts}
 use Rattle.commit_log.proofs.{Encoding.entry_size, Putting.next_pair, Putting.not_none, Putting.size_le}
 use Rattle.commit_log.proofs.pairs.add_pairs.Goals as goal
 

@@ -1,4 +1,4 @@
-use Rattle.sorted_pages.proofs.Words.{common_steps, [], ◌∷◌, ◌++◌, ap, ◌∙◌, arith, Bytes, Page, entries}
+use Rattle.sorted_pages.proofs.Words.{common_steps, [], ◌∷◌, ◌++◌, ap, ◌∙◌, arith, Bytes, Page}
 use Rattle.sorted_pages.proofs.Placings.{full-push, loose-push, pushed_page, tight-push}
 use Rattle.sorted_pages.proofs.changing.push_page.Goals as goal
 
