@@ -59,7 +59,7 @@ module _ {D : Type 0} {g : Ghosts D} {hub : Hub D g} (none : NoneRuns hub) {s : 
       → (from : List ℕ) → (tells → a.given ≡ b.given) → (tells → a.taken ≡ b.taken ++ take (bytes_written answer) from) → EndsWith (Write answer) b a
       → Leads hub hub (λ h k. WritesSome s tells h b answer k a)
   wrote_none (Wrote n) differs present from given taken calls = absurd (differs n refl)
-  wrote_none answer differs present from given taken calls = 
+  wrote_none answer differs present from given taken calls =
       leads_none hub none _ (λ h stands. record { moves = answered (present_in s stands.state present) (λ t. rw append-nil (given t)) taken; answered = calls; why = refl })
 
   pub read_none : (room : ℕ) (into : List ℕ) → (tells → a.taken ≡ b.taken) → (answer : ReadAnswer) → ((n : ℕ) → answer ≢ Moved n) → (tells → a.given ≡ b.given ++ take (bytes_read answer) into) → EndsWith (Read answer) b a

@@ -23,13 +23,13 @@ answered_on {s} {h} {es} {fs} {before} {between} {after} (inr some) (inl same) =
 module _ {D : Type 0} {g : Ghosts D} (s : ℕ) (h : HubState) where
   -- more events came since
   pub all_since : Follow D g → (a b c : Hub D g) (es fs : List (HubEvent × Choice)) → Ran b c fs → (ds : List Departure) → AllByRecursion (IsToldBefore s h a b es) ds → AllByRecursion (IsToldBefore s h a c (es ++ fs)) ds
-  all_since follow a b c es fs ran ds = all-each (IsToldBefore s h a b es) (IsToldBefore s h a c (es ++ fs)) ds 
+  all_since follow a b c es fs ran ds = all-each (IsToldBefore s h a b es) (IsToldBefore s h a c (es ++ fs)) ds
       (λ d t. search (ap (λ l. l ++ fs) t.events_are ∙ append_assoc t.before t.since fs, follow t.hub b c t.since fs t.goes_on ran))
 
   -- others had come before
   pub all_before : Follow D g → (a b c : Hub D g) (es fs : List (HubEvent × Choice)) → Ran a b es → (ds : List Departure) → AllByRecursion (IsToldBefore s (run h es) b c fs) ds
       → AllByRecursion (IsToldBefore s h a c (es ++ fs)) ds
-  all_before follow a b c es fs ran ds = all-each (IsToldBefore s (run h es) b c fs) (IsToldBefore s h a c (es ++ fs)) ds 
+  all_before follow a b c es fs ran ds = all-each (IsToldBefore s (run h es) b c fs) (IsToldBefore s h a c (es ++ fs)) ds
       (λ d t. search (ap (λ l. es ++ l) t.events_are ∙ sym (append_assoc es t.before t.since), follow a b t.hub es t.before ran t.came, answered_then s h es t.before d.bytes t.told))
 
   -- nothing left

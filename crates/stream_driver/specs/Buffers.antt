@@ -2,7 +2,7 @@
 use Rattle.std.specs.Prelude.{◌≡◌, ◌⊎◌, ◌-◌, ◌<◌, ◌≤◌, ◌++◌, ◌||◌, ◌≢◌, ◌↔◌, ℕ, Bool, true, false, List, [], ◌∷◌, take, drop, length, vec_len}
 use Rattle.stream_driver.specs.Types.{Call, Read, Write, ReadAnswer, Moved, Blocked, Failed, Ended, WriteAnswer, Wrote, WriteBlocked, WriteFailed, HeldBytes, Flushed, All, FlushedBlocked as FlushBlocked, FlushedFailed as FlushFailed, BufferedStream}
 use Rattle.stream_driver.specs.Counts.{counted, counted_with}
-use Rattle.stream_driver.specs.Traffic.{AllMoved, Departure, DepartAt, EndsWith, Traffic, ReadsWithin, WritesWithin, bytes_read, bytes_written, untouched}
+use Rattle.stream_driver.specs.Traffic.{AllMoved, DepartAt, EndsWith, Traffic, ReadsWithin, WritesWithin, bytes_read, bytes_written, untouched}
 
 -- the bytes that are held
 abbrev pub held_in : HeldBytes → List ℕ
