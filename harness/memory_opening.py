@@ -2,8 +2,8 @@
 
 The writes of a log are collected, and then put into the map by rising key. Each time no more than half of their room is used it is given back, so at most
 the room of all writes is held beside half of the map, or half of it beside the map. A reader that gave it back at the end would hold both whole. In these logs
-the keys rise, so sorting takes no memory, keys are short and values empty, so neither takes memory of its own, and the number of the writes is a power
-of two, so no room is spare. The judge is shown to fail by the figures of such a reader.
+the keys rise, so sorting takes no memory; keys are short and values empty, so neither takes memory of its own; the number of the writes is a power of two,
+so no room is spare; and they are fewer than what is swept while it is collected. The judge is shown to fail by the figure of such a reader.
 """
 import os
 import sys
@@ -16,9 +16,9 @@ from logs import write_records      # noqa: E402
 
 COMMIT_WRITES = 64
 # A collected write takes so many bytes, and a pair of the map so many.
-ENTRY_BYTES, PAIR_BYTES = 80, 64
+ENTRY_BYTES, PAIR_BYTES = 80, 56
 # What the program takes besides, as for the record that it reads.
-REST = 65_536
+REST = 32_768
 
 
 def most_held(place, writes):
@@ -50,7 +50,7 @@ def main():
     need()
     tally = Tally("what making the map of a log holds")
     with folder() as place:
-        for writes in (8_192, 65_536):
+        for writes in (8_192, 32_768):
             with tally.run(f"{writes:,} writes"):
                 most = most_held(place, writes)
                 print(f"  memory: {most:,} bytes are held at most while the map of {writes:,} writes is made, of {judge(most, writes):,}")
