@@ -40,6 +40,19 @@ pub(crate) fn add_run(runs: &mut Runs<ReadRun>, run: ReadRun)
     runs.push(run);
 }
 
+// Gives back the room of the two runs that one is made of, once nothing is left of them.
+fn give_room_back(first: &mut VecDeque<Step>, second: &mut VecDeque<Step>)
+    ensures first { first.new.items ≡ first.old.items }
+    ensures second { second.new.items ≡ second.old.items }
+    ensures lens { deque_len first.new + deque_len second.new ≡ deque_len first.old + deque_len second.old }
+    ensures room { deque_len first.old + deque_len second.old ≡ 0 → deque_capacity first.new + deque_capacity second.new ≡ 0 }
+{
+    if are_empty(first, second) {
+        first.shrink_to_fit();
+        second.shrink_to_fit();
+    }
+}
+
 impl Run for ReadRun {
     type Places = VecDeque<Step>;
 
@@ -101,11 +114,7 @@ impl Run for ReadRun {
 
     fn move_one(&mut self, oldest: u64) {
         move_greatest(&mut self.first, &mut self.second, &mut self.made, oldest);
-    }
-
-    fn give_places_back(&mut self) {
-        self.first.shrink_to_fit();
-        self.second.shrink_to_fit();
+        give_room_back(&mut self.first, &mut self.second);
     }
 
     fn into_stale(self) -> (VecDeque<Step>, VecDeque<Step>, VecDeque<Step>) {

@@ -43,8 +43,7 @@ pub(crate) fn open_last<R: Run>(runs: &mut Vec<R>, oldest: u64, refused: &mut u6
     }
 }
 
-// Moves elements of the run so many times at most: how many moves are left, which are none while there is something to move. Once nothing is
-// left of the two runs that it is made of, it gives back their places.
+// Moves elements of the run so many times at most: how many moves are left, which are none while there is something to move.
 fn move_on<R: Run>(run: &mut R, oldest: u64, most: usize) -> usize
     requires { oldest < (R.sizes run.old).last }
     ensures agree { R.agree oldest (run.new ∷ []) (run.old ∷ []) }
@@ -57,7 +56,6 @@ fn move_on<R: Run>(run: &mut R, oldest: u64, most: usize) -> usize
 {
     for moved in 0..most {
         if run.is_at_rest() {
-            run.give_places_back();
             return most - moved;
         }
         run.move_one(oldest);

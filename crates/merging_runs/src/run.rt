@@ -68,7 +68,7 @@ pub trait Run: Drop {
         ensures rest { result ≡ true → (sizes self.now).left ≡ 0 }
         ensures under_way { result ≡ false → 0 < (sizes self.now).left };
 
-    /// Moves an element of the two, or more of one key. Takes no memory.
+    /// Moves an element of the two, or more of one key, and gives back their room once nothing is left of them. Takes no memory.
     fn move_one(&mut self, oldest: u64)
         requires late { oldest < (sizes self.old).last }
         requires some { 0 < (sizes self.old).left }
@@ -76,15 +76,9 @@ pub trait Run: Drop {
         ensures agree { agree oldest (self.new ∷ []) (self.old ∷ []) }
         ensures last { (sizes self.new).last ≡ (sizes self.old).last }
         ensures whole { each ≡ 1 → (sizes self.new).left + (sizes self.new).made ≡ (sizes self.old).left + (sizes self.old).made }
+        ensures room { (sizes self.new).left ≡ 0 → room self.new ≡ 0 }
         ensures fewer { (sizes self.new).left < (sizes self.old).left }
         ensures slowly { (sizes self.old).left ≤ (sizes self.new).left + each };
-
-    /// Gives back the places of the two runs, once nothing is left of them. Takes no memory.
-    fn give_places_back(&mut self)
-        requires { (sizes self.old).left ≡ 0 }
-        ensures room { room self.new ≡ 0 }
-        ensures sizes { sizes self.new ≡ sizes self.old }
-        ensures agree { (oldest : ℕ) → agree oldest (self.new ∷ []) (self.old ∷ []) };
 
     /// What there is to give back of it. Takes no memory.
     fn into_stale(self) -> Self::Stale

@@ -1,8 +1,9 @@
 //! Runs of written keys, merged in steps.
-ghost use Rattle.std.specs.Prelude.{◌≡◌, ◌≤◌, ◌+◌, length};
+ghost use Rattle.std.specs.Prelude.{◌≡◌, ◌≤◌, ◌+◌, length, Bool};
 ghost use Rattle.std.specs.Vec.{vec_capacity};
 ghost use Rattle.std.proofs.Common.{refl, ◌∙◌};
-ghost use Rattle.pivot_check.specs.Inside.{held_of, sizes_of};
+ghost use Rattle.pivot_check.specs.Inside.{held_of, in_run, sizes_of};
+ghost use Rattle.pivot_check.specs.Postings.{Posting, least};
 ghost use Rattle.pivot_check.specs.Merged.{fit_one};
 ghost use Rattle.pivot_check.specs.Agreeing.{Agree, agree_between, none_of_old};
 
@@ -26,6 +27,20 @@ fn bounds_for(alloc: Global, count: usize) -> Vec<Bound>
         Ok(bounds) => bounds,
         Err(_) => Vec::new(alloc),
     }
+}
+
+// Gives back the room of the two runs that one is made of, once nothing is left of them.
+fn give_room_back(run: &mut WrittenRun)
+    ensures sizes { sizes_of run.new ≡ sizes_of run.old }
+    ensures same { (c : Posting → Bool) → least c (in_run run.new) ≡ least c (in_run run.old) }
+    ensures room { (sizes_of run.new).left ≡ 0 → vec_capacity run.new.first.written + vec_capacity run.new.second.written ≡ 0 }
+{
+    if run.first.len() > 0 || run.second.len() > 0 {
+        return;
+    }
+    let alloc = *run.made.written.allocator();
+    run.first = nothing(alloc);
+    run.second = nothing(alloc);
 }
 
 impl Run for WrittenRun {
@@ -92,15 +107,7 @@ impl Run for WrittenRun {
 
     fn move_one(&mut self, _oldest: u64) {
         move_least(&mut self.first, &mut self.second, &mut self.made);
-    }
-
-    fn give_places_back(&mut self) {
-        if self.first.written.capacity() == 0 && self.second.written.capacity() == 0 {
-            return;
-        }
-        let alloc = *self.made.written.allocator();
-        self.first = nothing(alloc);
-        self.second = nothing(alloc);
+        give_room_back(self);
     }
 
     fn into_stale(self) -> (Vec<Written>, Vec<Written>, Vec<Written>) {

@@ -1,6 +1,9 @@
 use Rattle.std.specs.Prelude.{nat_lt, ◌&&◌}
+use Rattle.pivot_check.proofs.Words.{◌∙◌, Posting}
 use Rattle.pivot_check.proofs.Joined.{same_agrees}
 use Rattle.pivot_check.proofs.merges.WrittenRunRun.move_one.Goals as goal
 
 pub returns-clause-agree : goal.returns-clause-agree
-returns-clause-agree c = λ t. same_agrees (λ p. nat_lt c.args._oldest p.number && t p) _ _ (c.move_least.ensures.same (λ p. nat_lt c.args._oldest p.number && t p))
+returns-clause-agree c = λ t.
+    let above = λ (p : Posting). nat_lt c.args._oldest p.number && t p in
+    same_agrees above _ _ (c.give_room_back.ensures.same above ∙ c.move_least.ensures.same above)
