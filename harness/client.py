@@ -31,6 +31,15 @@ class Deviation(Exception):
     """The program did what it should not."""
 
 
+def is_refused(judge, *figures):
+    """Does the judge find a deviation in these figures?"""
+    try:
+        judge(*figures)
+    except Deviation:
+        return True
+    return False
+
+
 def need(*files):
     """Ends the harness with a message where a program or a library that it needs is missing."""
     for name in files or (PROGRAM, SHIM):

@@ -3,10 +3,13 @@
 Each COMMIT replaces a version, which nobody sees. The memory of the process must not grow with how many came, also while they come: a server that gives such
 versions back only at the end of its turns falls behind. Beside an old transaction a version of each key is kept. A preloaded library must count these,
 and that they are given back after its end, also while further commits come.
+
+Beside an old transaction, what commits have read is merged in steps. How often memory is asked for is counted too: a merge that gave back room with each of its
+moves, and not with its last, would ask for it more than twice as often.
 """
 import os
 
-from client import Connection, Refusals, Server, Tally, create, expect, folder, need, run_harness
+from client import MEMORY, Connection, Refusals, Server, Tally, create, expect, folder, need, run_harness
 from model import frame
 
 SECTORS = 65_536
@@ -17,6 +20,8 @@ PIECES, KEYS = 200, 840
 # By how much the process may grow while commits come, and what may be held more than before once an old transaction has ended: what a session keeps,
 # which memory_sessions.py bounds by 215,040 bytes, and a quarter of that.
 GROWTH, BOUND = 1 << 20, 268_800
+# So many transactions of so many reads, and how often each may ask for memory.
+READERS, READS, CALLS = 400, 60, 180
 BEGIN, COMMIT, ABORT = (frame(word) for word in ("BEGIN", "COMMIT", "ABORT"))
 OK = b"+OK\r\n"
 
@@ -72,6 +77,20 @@ def an_old_one_is_counted(tally, port, held):
         expect(more <= BOUND, f"{more:,} bytes more are held after its end")
 
 
+def readings_ask_rarely(tally, port, allocations):
+    """The keys fall, so that the earlier of two runs is the first of which nothing is left."""
+    with Connection(port) as client, Connection(port) as old, tally.run("reads beside an old transaction"):
+        expect(old.ask(BEGIN) == OK and old.ask(frame("GET", b"k")) == b"$-1\r\n", "the old transaction was refused")
+        first = allocations.made
+        for start in range(READERS * READS, 0, -READS):
+            client.send(BEGIN + b"".join(frame("GET", b"%08d" % (start + number)) for number in range(READS)) + COMMIT)
+            replies = [client.reply() for _ in range(READS + 2)]
+            expect(replies[0] == OK and replies[-1][:1] == b":", f"a transaction was answered {replies}")
+        calls = (allocations.made - first) // READERS
+        print(f"  memory: asked for {calls} times by each transaction of {READS} reads beside an old one, of {CALLS}")
+        expect(calls <= CALLS, f"memory is asked for {calls} times by each transaction")
+
+
 def main():
     need()
     tally = Tally("what commits leave")
@@ -81,6 +100,7 @@ def main():
         with Server(data, refusals.environment()) as server:
             commits_leave_nothing(tally, server)
             an_old_one_is_counted(tally, server.port, refusals.held)
+            readings_ask_rarely(tally, server.port, refusals.of(MEMORY))
             expect(server.is_alive() and server.error_text() == b"", "the server ended, or wrote an error")
     return 0 if tally.end() else 1
 

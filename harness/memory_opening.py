@@ -8,7 +8,7 @@ so no room is spare; and they are fewer than what is swept while it is collected
 import os
 import sys
 
-from client import HERE, Deviation, Refusals, Tally, expect, folder, need, run, run_harness
+from client import HERE, Refusals, Tally, expect, folder, is_refused, need, run, run_harness
 
 sys.path.append(os.path.join(HERE, "..", "bench"))
 
@@ -38,14 +38,6 @@ def judge(most, writes):
     return bound
 
 
-def is_refused(most, writes):
-    try:
-        judge(most, writes)
-    except Deviation:
-        return True
-    return False
-
-
 def main():
     need()
     tally = Tally("what making the map of a log holds")
@@ -54,7 +46,7 @@ def main():
             with tally.run(f"{writes:,} writes"):
                 most = most_held(place, writes)
                 print(f"  memory: {most:,} bytes are held at most while the map of {writes:,} writes is made, of {judge(most, writes):,}")
-                expect(is_refused((ENTRY_BYTES + PAIR_BYTES) * writes, writes), "room that is given back at the end is taken")
+                expect(is_refused(judge, (ENTRY_BYTES + PAIR_BYTES) * writes, writes), "room that is given back at the end is taken")
                 expect(most > ENTRY_BYTES * writes, "not even the writes are counted")
     return 0 if tally.end() else 1
 

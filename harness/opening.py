@@ -7,7 +7,7 @@ square does.
 import os
 import sys
 
-from client import HERE, PROGRAM, Deviation, Server, Tally, expect, folder, need, run_harness
+from client import HERE, PROGRAM, Server, Tally, expect, folder, is_refused, need, run_harness
 
 sys.path.append(os.path.join(HERE, "..", "bench"))
 
@@ -43,14 +43,6 @@ def judge(small, large):
     return growth
 
 
-def is_refused(small, large):
-    try:
-        judge(small, large)
-    except Deviation:
-        return True
-    return False
-
-
 def records(key_of, writes):
     """The records of a log of so many writes."""
     for start in range(0, writes, COMMIT_WRITES):
@@ -75,7 +67,7 @@ def main():
             with tally.run(name):
                 growths.append(judge(*of_log(place, key_of)))
     with tally.run("the bound"):
-        expect(is_refused(1, TIMES ** 2) and not is_refused(1, TIMES), "growth by the square is taken, or growth by the size is not")
+        expect(is_refused(judge, 1, TIMES ** 2) and not is_refused(judge, 1, TIMES), "growth by the square is taken, or growth by the size is not")
     return 0 if tally.end(f"; for each write at most {max(growths):.2f} times as much, of {BOUND}" if growths else "") else 1
 
 

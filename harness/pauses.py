@@ -11,7 +11,7 @@ import argparse
 import os
 import sys
 
-from client import HERE, PROGRAM, Deviation, Tally, expect, need, run_harness
+from client import HERE, PROGRAM, Tally, expect, is_refused, need, run_harness
 
 sys.path.append(os.path.join(HERE, "..", "bench"))
 
@@ -52,14 +52,6 @@ def judge(what, took_ms):
     expect(took_ms <= bound_ms, f"{what}: {took_ms} ms of the processor between two polls, the bound is {bound_ms}")
 
 
-def is_refused(what, took_ms):
-    try:
-        judge(what, took_ms)
-    except Deviation:
-        return True
-    return False
-
-
 def parts(scene, wasted_ms=0):
     """What the scene is made of, each with the longest processor time between two polls."""
     try:
@@ -74,7 +66,7 @@ def least_parts(scene, wasted_ms=0):
     for _ in range(TRIES):
         for what, took_ms in parts(scene, wasted_ms):
             least[what] = min(took_ms, least.get(what, took_ms))
-        if not any(is_refused(what, took_ms) for what, took_ms in least.items()):
+        if not any(is_refused(judge, what, took_ms) for what, took_ms in least.items()):
             break
     return least.items()
 
@@ -94,11 +86,11 @@ def judged(tally, seen):
     """What is above a bound is refused, and what a server wastes is seen."""
     with tally.run("the bounds"):
         expect(set(seen) == set(BOUNDS_MS), f"there are bounds for {set(BOUNDS_MS) - set(seen)}, which no scene has")
-        expect(all(is_refused(what, 1.001 * bound) for what, bound in BOUNDS_MS.items()), "a figure above its bound is taken")
+        expect(all(is_refused(judge, what, 1.001 * bound) for what, bound in BOUNDS_MS.items()), "a figure above its bound is taken")
     with tally.run("a server that wastes time"):
         wasted_ms = 1 + max(BOUNDS_MS.values())
         for what, took_ms in least_parts("quiet", wasted_ms):
-            expect(took_ms >= wasted_ms and is_refused(what, took_ms), f"it wasted {wasted_ms} ms, and {took_ms} ms were seen")
+            expect(took_ms >= wasted_ms and is_refused(judge, what, took_ms), f"it wasted {wasted_ms} ms, and {took_ms} ms were seen")
 
 
 def main():
