@@ -15,14 +15,28 @@ if pkg-config --exists fuse3 2>/dev/null; then    # where it isn't there, lossy.
 fi
 export PYTHONDONTWRITEBYTECODE=1
 failed=0
+
+# Runs these harnesses in the form $form, $JOBS of them at a time, four where it isn't set, and prints what each says once it has ended.
+run_all() {
+    # shellcheck disable=SC2016    # $0 and the name are for the shell of each
+    printf '%s\n' "$@" | xargs -P "${JOBS:-4}" -I NAME \
+        sh -c 'python3 NAME.py "$0" >out/NAME.log 2>&1; status=$?; cat out/NAME.log; exit $status' "$form" || failed=1
+}
+
 for form in ${1:-quick long}; do
     case $form in
-        quick) names="documents audit reading frames histories pictures clients cookbook proxies languages operation packaging lossy commands streams trace every_command random_scripts memory_commands memory_calls memory_reads memory_pages memory_sessions memory_commits memory_opening opening server_calls hostile system_limits pauses kills" ;;
-        long) names="documents histories pictures clients cookbook proxies languages resending operation packaging lossy commands streams trace every_command random_scripts server_calls hostile system_limits kills" ;;
+        quick) names="kills hostile operation clients languages lossy histories commands documents system_limits server_calls proxies cookbook
+            every_command random_scripts trace streams pictures packaging audit reading frames memory_commands memory_calls memory_reads
+            memory_pages memory_sessions memory_commits memory_opening memory_order" ;;
+        long) names="kills hostile operation clients languages lossy histories resending commands documents system_limits server_calls proxies cookbook
+            every_command random_scripts trace streams pictures packaging" ;;
         *) echo "usage: run.sh [quick | long]" >&2; exit 2 ;;
     esac
-    for name in $names; do
-        python3 "$name.py" "$form" || failed=1
-    done
+    # shellcheck disable=SC2086    # a list of names
+    run_all $names
+    # Those that judge processor time run by themselves.
+    if [ "$form" = quick ]; then
+        JOBS=1 run_all opening pauses
+    fi
 done
 exit $failed

@@ -2,7 +2,8 @@
  *
  * Preloaded into a program. To the file named by TRACE_LOG it appends, behind each call, five numbers of 64 bits, and then bytes: the kind,
  * the descriptor, the place (of an opening its flags, of an advice which it is), the result, and how many bytes follow: what was written or sent as far as the call
- * took it, or the path of an opening or a removal. Where TRACE_SKIP is `fdatasync`, that call isn't made, succeeds, and is not written down.
+ * took it, or the path of an opening or a removal. Where TRACE_SKIP is `fdatasync`, that call isn't made, succeeds, and is not written down. Where
+ * TRACE_MEMORY is set, what is received is written down too, without its bytes, and each call that asks for memory, with the bytes that it asks for.
  */
 #define _GNU_SOURCE
 #include <errno.h>
@@ -15,13 +16,17 @@
 #include <sys/uio.h>
 #include <unistd.h>
 
-enum kind { OPEN, WRITE, WRITE_AT, READ_AT, SYNC, SYNC_DATA, CLOSE, REMOVE, TRUNCATE, SEND, ADVISE };
+enum kind { OPEN, WRITE, WRITE_AT, READ_AT, SYNC, SYNC_DATA, CLOSE, REMOVE, TRUNCATE, SEND, ADVISE, RECEIVE, MEMORY };
 
 /* The descriptors below are the program's own. */
 static const int LEAST_DESCRIPTOR = 500;
 
+extern void *__libc_malloc(size_t size);
+extern void *__libc_calloc(size_t count, size_t size);
+extern void *__libc_realloc(void *old, size_t size);
+
 static int trace = -1;
-static int skips;
+static int skips, traces_memory;
 
 __attribute__((constructor)) static void open_trace(void) {
     const char *name = getenv("TRACE_LOG"), *skip = getenv("TRACE_SKIP");
@@ -31,6 +36,7 @@ __attribute__((constructor)) static void open_trace(void) {
     trace = fcntl(file, F_DUPFD_CLOEXEC, LEAST_DESCRIPTOR);
     syscall(SYS_close, file);
     skips = skip && !strcmp(skip, "fdatasync");
+    traces_memory = getenv("TRACE_MEMORY") != NULL;
 }
 
 /* Writes down a call, and answers its result. */
@@ -131,4 +137,29 @@ ssize_t sendto(int file, const void *from, size_t size, int flags, const struct 
 
 ssize_t sendmsg(int file, const struct msghdr *message, int flags) {
     return note_pieces(SEND, file, message->msg_iov, message->msg_iovlen, syscall(SYS_sendmsg, file, message, flags));
+}
+
+ssize_t recv(int file, void *into, size_t size, int flags) {
+    ssize_t moved = syscall(SYS_recvfrom, file, into, size, flags, NULL, NULL);
+    return traces_memory ? note(RECEIVE, file, 0, moved, NULL, 0) : moved;
+}
+
+static void note_memory(size_t size) {
+    if (traces_memory)
+        note(MEMORY, -1, 0, (int64_t)size, NULL, 0);
+}
+
+void *malloc(size_t size) {
+    note_memory(size);
+    return __libc_malloc(size);
+}
+
+void *calloc(size_t count, size_t size) {
+    note_memory(count * size);
+    return __libc_calloc(count, size);
+}
+
+void *realloc(void *old, size_t size) {
+    note_memory(size);
+    return __libc_realloc(old, size);
 }

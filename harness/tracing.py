@@ -5,8 +5,9 @@ from dataclasses import dataclass
 
 from client import TRACER
 
-OPEN, WRITE, WRITE_AT, READ_AT, SYNC, SYNC_DATA, CLOSE, REMOVE, TRUNCATE, SEND, ADVISE, SYNC_NAMES = range(12)
-NAMES = ("open", "write", "write at", "read at", "sync", "sync of data", "close", "remove", "truncate", "send", "advise", "sync of names")
+OPEN, WRITE, WRITE_AT, READ_AT, SYNC, SYNC_DATA, CLOSE, REMOVE, TRUNCATE, SEND, ADVISE, RECEIVE, MEMORY, SYNC_NAMES = range(14)
+NAMES = ("open", "write", "write at", "read at", "sync", "sync of data", "close", "remove", "truncate", "send", "advise", "receive",
+         "memory", "sync of names")
 
 
 @dataclass(frozen=True)
@@ -29,11 +30,12 @@ class Trace:
 
     HEAD = struct.Struct("=5q")
 
-    def __init__(self, place, name="trace", skips_sync=False):
-        self.name, self.skips_sync = os.path.join(place, name), skips_sync
+    def __init__(self, place, name="trace", skips_sync=False, traces_memory=False):
+        self.name, self.skips_sync, self.traces_memory = os.path.join(place, name), skips_sync, traces_memory
 
     def environment(self):
         more = {"TRACE_SKIP": "fdatasync"} if self.skips_sync else {}
+        more |= {"TRACE_MEMORY": "1"} if self.traces_memory else {}
         return {**os.environ, "LD_PRELOAD": TRACER, "TRACE_LOG": self.name, **more}
 
     def calls(self):

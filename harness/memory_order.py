@@ -1,0 +1,135 @@
+"""When memory is asked for: never between the first write of an append and the reply to its COMMIT, nor where bytes come in, where a
+reply has left, or where a session leaves.
+
+A preloaded library writes down, in their order, the calls on the data file, what is received and sent, and each call that asks for memory. So
+a COMMIT that is appended can't meet a want of memory any more, and a request that is answered has taken what it takes before its first byte leaves.
+
+Commits stand beside an old transaction, so that what they wrote and read is merged; replies are short and long, and come whole and in pieces.
+"""
+import os
+
+from client import Connection, Server, Tally, create, expect, folder, is_refused, need, run_harness, TRACER
+from model import frame
+from tracing import MEMORY, RECEIVE, SEND, WRITE_AT, Call, Trace
+
+SECTORS = 16_384
+COMMITS, KEYS_EACH = 150, 12
+PAIRS = 128
+BEGIN, COMMIT, ABORT, PING = (frame(word) for word in ("BEGIN", "COMMIT", "ABORT", "PING"))
+OK = b"+OK\r\n"
+
+
+def judge_appends(calls):
+    """The appends of which a reply left, none of which asked for memory before that."""
+    appends, is_open = 0, False
+    for call in calls:
+        is_open = is_open or call.kind == WRITE_AT
+        expect(not is_open or call.kind != MEMORY, f"{call.result} bytes of memory are asked for behind the first write of an append")
+        if is_open and call.kind == SEND:
+            appends, is_open = appends + 1, False
+    return appends
+
+
+def judge_replies(calls):
+    """The replies, behind whose first byte nothing asked for memory until more was received."""
+    replies, is_leaving = 0, False
+    for call in calls:
+        replies += call.kind == SEND and not is_leaving
+        is_leaving = call.kind == SEND or is_leaving and call.kind != RECEIVE
+        expect(not is_leaving or call.kind != MEMORY, f"{call.result} bytes of memory are asked for once a reply has left")
+    return replies
+
+
+def judge_pieces(calls):
+    """What was received, where no request is whole: nothing asked for memory."""
+    expect(not any(call.kind == MEMORY for call in calls), "memory is asked for where bytes come in, or where a session leaves")
+    return sum(call.kind == RECEIVE and call.result > 0 for call in calls)
+
+
+def write_beside_an_old_one(client, old):
+    """Commits of keys that rise and fall, with reads, so that runs of both kinds are merged."""
+    expect(old.ask(BEGIN) == OK and old.ask(frame("GET", b"k")) == b"$-1\r\n", "the old transaction was refused")
+    for number in range(COMMITS):
+        keys = [b"%05d" % (it * 7_919 % 99_991) for it in range(number * KEYS_EACH, (number + 1) * KEYS_EACH)]
+        requests = [BEGIN, *(frame("GET", key) for key in keys[:6]), *(frame("SET", key, b"v" * 100) for key in keys), COMMIT]
+        replies = [client.ask(request) for request in requests]
+        expect(replies[0] == OK and replies[-1][:1] == b":", f"a transaction was answered {replies}")
+    expect(old.ask(ABORT) == OK, "ABORT was refused")
+
+
+def read_much(client):
+    """Replies of some bytes, of more than a session keeps for them, and of more than is held before the socket."""
+    expect(client.ask(BEGIN) == OK, "BEGIN was refused")
+    for limit in (1, 4, 40, PAIRS, 1):
+        reply = client.ask(frame("RANGE", b"0", b"", b"%d" % limit))
+        expect(reply.startswith(b"*%d\r\n" % (2 * limit)), f"RANGE was answered {reply[:60]!r}")
+    expect(client.ask(ABORT) == OK, "ABORT was refused")
+
+
+def traced(trace, act):
+    """The calls that the server makes meanwhile."""
+    before = len(trace.calls())
+    act()
+    return trace.calls()[before:]
+
+
+def come_in_pieces(client):
+    """A request but for its last byte, in three pieces, each of which has come in before the next leaves."""
+    request = frame("SET", b"k", b"v" * 2_000)
+    for piece in (request[:10], request[10:1_000], request[1_000:-1]):
+        client.send(piece)
+        expect(client.ask_nothing(), "a reply came to a part of a request")
+
+
+class Pieces(Connection):
+    """A connection beside a client that is answered, from which one knows that what was sent before has come in."""
+
+    def __init__(self, port):
+        super().__init__(port)
+        self.beside = Connection(port)
+
+    def ask_nothing(self):
+        """Has what was sent come in, and no reply? The other client's request is served in a later turn, or in this one behind it."""
+        return self.beside.ask(PING) == self.beside.ask(PING) == b"+PONG\r\n" and not self.came
+
+    def close(self):
+        super().close()
+        self.beside.close()
+
+
+def show_that_they_fail(tally, calls):
+    """Each judge sees one call for memory more."""
+    memory = Call(MEMORY, -1, 0, 536, b"")
+    for judge, kind in ((judge_appends, WRITE_AT), (judge_replies, SEND), (judge_pieces, RECEIVE)):
+        with tally.run(f"{judge.__name__} with a call more"):
+            at = next(place for place, call in enumerate(calls) if call.kind == kind)
+            expect(is_refused(judge, [*calls[:at + 1], memory, *calls[at + 1:]]), "a call more isn't seen")
+
+
+def main():
+    need(TRACER)
+    tally = Tally("memory_order")
+    with folder() as place:
+        data, trace = os.path.join(place, "data"), Trace(place, traces_memory=True)
+        create(data, SECTORS)
+        with Server(data, trace.environment()) as server, Connection(server.port) as client, Connection(server.port) as old:
+            with tally.run("appends"):
+                appends = judge_appends(traced(trace, lambda: write_beside_an_old_one(client, old)))
+                expect(appends == COMMITS, f"{appends} appends were seen, of {COMMITS}")
+            with tally.run("replies"):
+                replies = traced(trace, lambda: read_much(client))
+                expect(judge_replies(replies) >= 7, "too few replies were seen")
+            with Pieces(server.port) as pieces, tally.run("pieces and leaving"):
+                expect(pieces.beside.ask(PING) == b"+PONG\r\n", "PING was refused")
+                come = traced(trace, lambda: come_in_pieces(pieces))
+                expect(judge_pieces(come) >= 9, "too few pieces were seen")
+                left = traced(trace, lambda: (pieces.socket.close(), pieces.beside.ask(PING), pieces.beside.ask(PING)))
+                judge_pieces(left)
+                expect(any(call.kind == RECEIVE and call.result == 0 for call in left), "nobody is seen to leave")
+            show_that_they_fail(tally, trace.calls())
+            expect(server.is_alive() and server.error_text() == b"", "the server ended, or wrote an error")
+    return 0 if tally.end() else 1
+
+
+if __name__ == "__main__":
+    run_harness(main)
