@@ -339,7 +339,7 @@ def planted(ship, data, copy):
 
 # Compaction
 
-STEPS = ("ssikvd-used", "ssikvd", "dirname", "date", "flock", "sync", "rm", "chown", "chmod", "ln", "mv", "sh")
+STEPS = ("ssikvd-used", "ssikvd-verify", "ssikvd", "realpath", "df", "dirname", "date", "flock", "sync", "rm", "chown", "chmod", "ln", "mv", "sh")
 WRAPPER = """#!/bin/sh
 n=$(($(/bin/cat "$STEPS") + 1))
 echo $n >"$STEPS"

@@ -61,6 +61,7 @@ FIRES = {
     "SsikvdLogFullSoon": ("ssikvd_log_seconds_to_full", "3500x60", "3700x60"),
     "SsikvdLogDamaged": ("ssikvd_log_damaged", "1x60", "0x60"),
     "SsikvdLogNotRead": ("ssikvd_log_read_time_seconds", "2900x60", "3100x60"),
+    "SsikvdLogNotVerified": ("ssikvd_log_verified_time_seconds", "-169300x60", "-169100x60"),
     "SsikvdDown": ('node_systemd_unit_state{name="ssikvd@shop.service", state="active"}', "0x60", "1x60"),
     "SsikvdNoTransactions": ("ssikvd_probe_status", "2x60", "1x60"),
 }

@@ -1,0 +1,293 @@
+"""Bytes that change at rest, and tools that run at the same time.
+
+Over a served file one bit is turned over: in a value, in a header, in the gate of an older record. The server goes on; `ssikvd-verify`,
+`ssikvd-used --verify` and `ssikvd-ship` say so, the backup of before stays, `ssikvd-compact` leaves the server running, `ssikvd-before` starts
+nothing over a closed gate; what is exported through the server and loaded into a fresh file is the whole map, and what stands behind the damage is
+read by `ssikvd-salvage`.
+
+What `ssikvd-verify` says of changed and forged images is what `check` says of them, but for a closed gate, of which `check` can't know.
+
+Two runs of `ssikvd-ship` over one copy, with a run begun before each call of the other: one is refused, and the copy is what it was told to be.
+"""
+import contextlib
+import json
+import os
+import random
+import shutil
+import subprocess
+
+from client import PROGRAM, Deviation, Server, Tally, create, expect, folder, is_long, is_refused, need, run, run_harness
+from model import SECTOR, log_image
+from operation_tools import DIST, ENVIRONMENT, commit, fill, loaded, log_of, map_of, simple_client, tool
+
+SECTORS = 512
+COMMITS = 30
+OLD = 5
+
+
+def places_of(image):
+    """The sectors of the gates of a log's records, and of its last one, which is closed."""
+    places, at = [], 1
+    while image[SECTOR * at] == 1:
+        places.append(at)
+        length = int.from_bytes(image[SECTOR * (at + 1):SECTOR * (at + 1) + 4], "big")
+        at += 1 + -(-(44 + length) // SECTOR)
+    return places, at
+
+
+def turn(data, at, bit=1):
+    """Turns a bit of a file over."""
+    with open(data, "r+b") as file:
+        file.seek(at)
+        byte = file.read(1)[0]
+        file.seek(at)
+        file.write(bytes([byte ^ bit]))
+
+
+def damages(data):
+    """The kinds of damage: the byte that is changed, and what is said of it."""
+    with open(data, "rb") as file:
+        places, _ = places_of(file.read())
+    gate = SECTOR * places[OLD]
+    return {
+        "a value": (gate + SECTOR + 60, f"damaged record {OLD}"),
+        "a digest": (gate + SECTOR + 12, f"damaged record {OLD}"),
+        "a length": (gate + SECTOR + 3, f"damaged record {OLD}"),
+        "a gate": (gate, f"closed gate of record {OLD}"),
+        "the head": (3, "not a log"),
+    }
+
+
+def judge_tools(data, place, said, server):
+    """What the tools say of a damaged file, whose server runs, and what they leave."""
+    status, out, err = tool("ssikvd-verify", data)
+    expect((status, out, err) == (2, "", f"{data}: {said}\n"), f"ssikvd-verify answered {status, out, err}")
+    state = os.path.join(place, "state")
+    for _ in range(2):
+        found = tool("ssikvd-used", "--state", state, "--verify", "86400", data)
+        expect(found[0] == 2 and said in found[2], f"ssikvd-used answered {found}")
+    backup = os.path.join(place, "backup")
+    before = map_of(log_of(backup))
+    for copy in (backup, os.path.join(place, "fresh")):
+        found = tool("ssikvd-ship", data, copy)
+        is_behind = copy == backup and said != "not a log"    # what is new in the data file is whole
+        expect(found[0] == (0 if is_behind else 2) and (is_behind or said in found[2]), f"ssikvd-ship to {copy} answered {found}")
+    expect(not os.path.exists(os.path.join(place, "fresh")), "a damaged log was copied")
+    expect(before.items() <= map_of(log_of(backup)).items() or said != "not a log", "the backup has lost what it had")
+    found = tool("ssikvd-compact", "--stop", "touch " + os.path.join(place, "stopped"), "--start", "true", data)
+    expect(found[0] == 2 and not os.path.exists(os.path.join(place, "stopped")), f"ssikvd-compact stopped the server: {found}")
+    expect(server.is_alive(), "the server has ended")
+
+
+def judge_export(place, server, due):
+    """What is exported through the server and loaded into a fresh file is the map."""
+    status, lines, err = tool("ssikvd-export", f"127.0.0.1:{server.port}")
+    expect(status == 0 and not err, f"ssikvd-export answered {status, err}")
+    name, fresh = os.path.join(place, "lines"), os.path.join(place, "new")
+    with open(name, "w", encoding="utf-8") as file:
+        file.write(lines)
+    create(fresh, SECTORS)
+    with Server(fresh) as other:
+        found = tool("ssikvd-load", f"127.0.0.1:{other.port}", name)
+        expect(found[0] == 0, f"ssikvd-load answered {found}")
+    expect(map_of(log_of(fresh)) == due, "the exported map is another one")
+    os.remove(fresh)
+
+
+def judge_salvage(data, place, said, log):
+    """What stands behind the damage is read, with its numbers."""
+    out = os.path.join(place, "salvaged")
+    found = tool("ssikvd-salvage", data, out, "--from", str(OLD))
+    if said == "not a log":
+        expect(found[0] == 2, f"ssikvd-salvage answered {found}")
+        return
+    first = OLD if "gate" in said else OLD + 1
+    expect(found[0] == 0, f"ssikvd-salvage answered {found}")
+    with open(out, encoding="utf-8") as file:
+        lines = [json.loads(line) for line in file]
+    expect([line["record"] for line in lines] == list(range(first, len(log))), f"it found {[line['record'] for line in lines]}")
+    for line, writes in zip(lines, log[first:]):
+        salvaged = [(write["key"].encode(), write["value"].encode()) for write in line["writes"]]
+        expect(salvaged == sorted(writes), f"record {line['record']} has other writes")
+    os.remove(out)
+
+
+def judge_start(data, said):
+    """Nothing is started over a closed gate or what is no log; of a damaged record the server itself says so."""
+    found = tool("ssikvd-before", data, str(SECTORS))
+    is_seen = said == "not a log" or "gate" in said
+    expect(found[0] == 2 if is_seen else found[0] in (0, 2), f"ssikvd-before answered {found}")
+    if not is_seen:
+        status, out, err = run(["serve", "--data", data, "--listen", "127.0.0.1:0"])
+        expect((status, out, err) == (3, b"", f"ssikvd: {said}\n".encode()), f"serve answered {status, out, err}")
+
+
+def one_bit(tally):
+    """Each kind of damage to a served file."""
+    with folder() as place:
+        whole = os.path.join(place, "whole")
+        fill(whole, COMMITS, SECTORS)
+        for name, (at, said) in damages(whole).items():
+            own = os.path.join(place, name.replace(" ", "-"))
+            os.mkdir(own)
+            data = os.path.join(own, "data")
+            shutil.copy(whole, data)
+            with tally.run(f"a bit of {name} turned over"), Server(data) as server:
+                found = tool("ssikvd-ship", data, os.path.join(own, "backup"))
+                expect(found[0] == 0, f"ssikvd-ship answered {found}")
+                turn(data, at)
+                commit(server.port, COMMITS)
+                log = log_of(whole) + log_of_last(data)
+                judge_tools(data, own, said, server)
+                judge_export(own, server, map_of(log))
+                judge_salvage(data, own, said, log)
+            with tally.run(f"a start after a bit of {name} was turned over"):
+                judge_start(data, said)
+
+
+def log_of_last(data):
+    """The writes of the last commit that `one_bit` made, as a log of one."""
+    del data
+    return [[(b"%06d" % (COMMITS % 40), b"v" * (COMMITS * 97 % 1_500)), (b"last", b"%d" % COMMITS)]]
+
+
+def judged(name):
+    """What `check` and `ssikvd-verify` say of a file, in the same words: the counts of records and sectors, or the fault."""
+    status, out, err = run(["check", "--data", name])
+    words = out.decode().split()
+    by_check = " ".join(words[:2] + words[4:]) if status == 0 else err.decode().removeprefix("ssikvd: ").strip()
+    status, out, err = tool("ssikvd-verify", name)
+    by_verify = (out if status == 0 else err).strip().removeprefix(f"{name}: ")
+    return by_check, by_verify
+
+
+def changed_images(tally):
+    """Images with one byte changed, and with several: the two say the same, but for a closed gate."""
+    chooser, count, closed = random.Random(20_261_127), 2_000 if is_long() else 150, 0
+    log = [[(b"%03d" % (number % 7), b"v" * (number * 131 % 1_200)), (b"last", b"%d" % number)] for number in range(12)]
+    image = log_image([sorted(writes) for writes in log], 64)
+    places, end = places_of(image)
+    with folder() as place:
+        name = os.path.join(place, "image")
+        for number in range(count):
+            changed = bytearray(image)
+            for _ in range(chooser.choice((1, 1, 1, 3))):
+                at = chooser.choice((chooser.randrange(SECTOR * (end + 1)), SECTOR * chooser.choice(places), SECTOR * (chooser.choice(places) + 1) + chooser.randrange(60)))
+                changed[at] = chooser.choice((0, 1, 255, changed[at] ^ 1))
+            with open(name, "wb") as file:
+                file.write(changed)
+            with tally.run(f"image {number}"):
+                by_check, by_verify = judged(name)
+                is_closed = by_verify.startswith("closed gate of record ")
+                closed += is_closed
+                expect(by_check == by_verify or is_closed and by_check.startswith(f"records {by_verify.split()[-1]} "),
+                       f"check says {by_check!r}, ssikvd-verify {by_verify!r}")
+    with tally.run("closed gates among the images"):
+        expect(closed > count // 50, f"only {closed} of {count} images have a closed gate")
+
+
+# Two at once
+
+class Interrupted:
+    """The calls of a module's `os`, before the n-th of which something else is done."""
+
+    NAMES = ("open", "pwrite", "fsync", "rename", "link", "remove", "truncate")
+
+    def __init__(self, number, act):
+        self.number, self.act, self.count = number, act, 0
+
+    def __getattr__(self, name):
+        found = getattr(os, name)
+        return self.counted(found) if name in self.NAMES else found
+
+    def counted(self, call):
+        def made(*words, **more):
+            self.count += 1
+            if self.count == self.number:
+                self.act()
+            return call(*words, **more)
+
+        return made
+
+
+def ship_while(data, copy, number):
+    """A run of `ssikvd-ship` before whose n-th call another one is made: how many calls it made, and what that one answered."""
+    ship, others = loaded("ssikvd-ship"), []
+    ship.os = Interrupted(number, lambda: others.append(tool("ssikvd-ship", data, copy)))
+    with contextlib.suppress(BlockingIOError), ship.locked(copy + ".lock"):
+        ship.ship_file(data, copy, None)
+    return ship.os.count, others
+
+
+def two_ships(tally):
+    with folder() as place:
+        data, copy = os.path.join(place, "data"), os.path.join(place, "copy")
+        fill(data, 10, SECTORS)
+        for is_first in (True, False):
+            number, calls = 1, 2
+            while number <= calls:
+                for name in (copy, copy + ".new", copy + ".old"):
+                    with contextlib.suppress(FileNotFoundError):
+                        os.remove(name)
+                if not is_first:
+                    expect(tool("ssikvd-ship", "--records", "4", data, copy)[0] == 0, "it failed")
+                with tally.run(f"another run before call {number} of {'a first copy' if is_first else 'one brought up to date'}"):
+                    calls, others = ship_while(data, copy, number)
+                    judge_two(data, copy, others, number)
+                number += 1 if is_long() or number < 6 else 3
+
+
+def judge_two(data, copy, others, number):
+    """One of the two was refused, or came first; the copy is the log."""
+    expect(len(others) <= 1, "more than one")
+    for status, _, err in others:
+        expect(status == 75 and "another process holds" in err or status == 0 and number == 1, f"the other run answered {status}: {err}")
+    expect(log_of(copy) == log_of(data), "the copy is another log")
+
+
+def two_befores(tally):
+    """A second `ssikvd-before` waits for the first."""
+    with folder() as place, tally.run("a second ssikvd-before waits"):
+        data = os.path.join(place, "data")
+        held = subprocess.Popen(["flock", place, "sleep", "1"])
+        found = tool("ssikvd-before", data, "64")
+        expect(found[0] == 0 and held.poll() is not None, f"it didn't wait: {found}")
+        held.wait()
+
+
+def show_that_they_fail(tally):
+    """A ship without its lock, and a verifier that reads no digest or doesn't look behind, are reported."""
+    with folder() as place:
+        for name in ("ssikvd-verify", "ssikvd-used", "ssikvd-ship"):
+            shutil.copy(os.path.join(DIST, name), place)
+        data, copy = os.path.join(place, "data"), os.path.join(place, "copy")
+        fill(data, 10, SECTORS)
+        with open(os.path.join(DIST, "ssikvd-ship"), encoding="utf-8") as file:
+            text = file.read().replace("fcntl.flock(file, fcntl.LOCK_EX | fcntl.LOCK_NB)", "pass")
+        with open(os.path.join(place, "ssikvd-ship"), "w", encoding="utf-8") as file:
+            file.write(text)
+        with tally.run("a ship without its lock is reported"):
+            words = [os.path.join(place, "ssikvd-ship"), data, copy]
+            ship = loaded("ssikvd-ship")
+            others = []
+            ship.os = Interrupted(4, lambda: others.append(subprocess.run(words, capture_output=True, text=True, env=ENVIRONMENT)))
+            with contextlib.suppress(OSError), ship.locked(copy + ".lock"):
+                ship.ship_file(data, copy, None)
+            answers = [(other.returncode, other.stdout, other.stderr) for other in others]
+            expect(is_refused(lambda: judge_two(data, copy, answers, 4)), "it isn't reported")
+
+
+def main():
+    need(PROGRAM)
+    tally = Tally("at_rest")
+    for part in (one_bit, changed_images, two_ships, two_befores, show_that_they_fail):
+        try:
+            part(tally)
+        except Deviation as found:
+            with tally.run(part.__name__):
+                raise found
+    return 0 if tally.end() else 1
+
+
+if __name__ == "__main__":
+    run_harness(main)
