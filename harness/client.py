@@ -13,7 +13,7 @@ import tempfile
 import time
 
 HERE = os.path.dirname(os.path.abspath(__file__))
-PROGRAM = os.environ.get("SSIKVD") or os.path.join(HERE, "..", "crates", "ssikvd", "out", "ssikvd")
+PROGRAM = os.path.abspath(os.environ.get("SSIKVD") or os.path.join(HERE, "..", "crates", "ssikvd", "out", "ssikvd"))
 SHIM = os.path.join(HERE, "out", "refuse.so")
 TRACER = os.path.join(HERE, "out", "trace.so")
 PATIENCE = 20.0

@@ -2,7 +2,7 @@
  *
  * Preloaded into a program. To the file named by TRACE_LOG it appends, behind each call, five numbers of 64 bits, and then bytes: the kind,
  * the descriptor, the place (of an opening its flags, of an advice which it is), the result, and how many bytes follow: what was written or sent as far as the call
- * took it, or the path of an opening or a removal. Where TRACE_SKIP is `fdatasync`, that call isn't made, succeeds, and is not written down. Where
+ * took it, the path of an opening or a removal, or the place and the length of an advice. Where TRACE_SKIP is `fdatasync`, that call isn't made, succeeds, and is not written down. Where
  * TRACE_MEMORY is set, what is received is written down too, without its bytes, and each call that asks for memory, with the bytes that it asks for.
  */
 #define _GNU_SOURCE
@@ -117,8 +117,8 @@ int fdatasync(int file) {
 }
 
 int posix_fadvise(int file, off_t at, off_t size, int advice) {
-    int64_t error = syscall(SYS_fadvise64, file, at, size, advice) ? errno : 0;
-    return (int)note(ADVISE, file, advice, error, NULL, 0);
+    int64_t error = syscall(SYS_fadvise64, file, at, size, advice) ? errno : 0, range[2] = {at, size};
+    return (int)note(ADVISE, file, advice, error, range, sizeof range);
 }
 
 int posix_fadvise64(int file, off_t at, off_t size, int advice) {

@@ -14,6 +14,7 @@ in what was written down. `long` plays more and larger transactions.
 """
 import os
 import random
+import struct
 from dataclasses import replace
 
 from client import PROGRAM, TRACER, Connection, Deviation, Server, Tally, expect, folder, is_long, need, run, run_harness
@@ -68,10 +69,10 @@ class Answered:
         self.replies.append((due, self.store.log[-1] if len(self.store.log) > count else None))
 
 
-def serve(data, trace, log, sectors, steps):
-    """Serves these requests, one behind the other, and kills the server."""
+def serve(data, trace, log, sectors, steps, named=None):
+    """Serves these requests, one behind the other, and kills the server. The file may be named in another way."""
     answered = Answered(log, sectors)
-    with Server(data, trace.environment()) as server:
+    with Server(named or data, trace.environment()) as server:
         expect(server.is_listening(), f"no server: {server.error_text()!r}")
         connections = {label: Connection(server.port) for label in {label for label, _ in steps}}
         for label, parts in steps:
@@ -86,6 +87,9 @@ def serve(data, trace, log, sectors, steps):
 
 
 # The calls on the data file
+
+WHOLE_FILE = struct.pack("=2q", 0, 0)    # the place and the length of an advice
+
 
 def own_calls(calls, data):
     """The calls on the file, those on its directory behind its opening, and what is sent."""
@@ -170,7 +174,7 @@ def behind_opening(calls, data):
     kinds = [call.kind for call in own[1:4] if call.result == 0]
     due = [SYNC_NAMES, SYNC_DATA, ADVISE]
     expect(reads == list(range(4, 4 + len(reads))) and reads and kinds == due, f"an opening isn't two syncs, an advice, and reads: {own[1:5]}")
-    expect(own[3].at == os.POSIX_FADV_DONTNEED, "the advice isn't to drop the copies")
+    expect(own[3].at == os.POSIX_FADV_DONTNEED and own[3].data == WHOLE_FILE, "the advice isn't to drop the copies of the whole file")
     listening = [i for i, call in enumerate(calls) if call.kind == WRITE and call.data.startswith(b"listening ")]
     last = max(i for i, call in enumerate(calls) if call.kind == READ_AT)
     expect(len(listening) == 1 and last < listening[0], "the server listens before the file is read")
@@ -341,6 +345,8 @@ def changed_openings(calls, data):
     for name, place in zip(("the directory's sync", "the file's sync", "the advice"), places):
         yield f"{name} left out of the opening", calls[:place] + calls[place + 1:]
     sync, advice = places[1:]
+    first_sector = replace(calls[advice], data=struct.pack("=2q", 0, SECTOR))
+    yield "an advice for the first sector alone", calls[:advice] + [first_sector] + calls[advice + 1:]
     yield "an advice before the sync", calls[:sync] + [calls[advice]] + calls[sync:advice] + calls[advice + 1:]
     line = next(i for i, call in enumerate(calls) if call.kind == WRITE and call.data.startswith(b"listening "))
     yield "a server that listens before it has synced", calls[:places[0]] + [calls[line]] + calls[places[0]:line] + calls[line + 1:]
@@ -358,22 +364,22 @@ def show_that_they_fail(tally, calls, data, answered):
 
 # All of it
 
-def make(tally, place, data):
-    """Creates the file. How many images of crashes were there?"""
-    trace, images = Trace(place, "create"), 0
+def make(tally, place, data, named=None):
+    """Creates the file, which may be named in another way. How many images of crashes were there?"""
+    trace, images = Trace(place, f"create {os.path.basename(data)}"), 0
     with tally.run("create"):
-        found = run(["create", "--data", data, "--sectors", str(SECTORS_OF_CREATE)], environment=trace.environment())
+        found = run(["create", "--data", named or data, "--sectors", str(SECTORS_OF_CREATE)], environment=trace.environment())
         expect(found == (0, b"", b""), f"create answered {found}")
         own = judge_create(trace.calls(), data)
         images = judge_crashes_of_create(own)
     return images
 
 
-def one_server(tally, place, data, log, sectors, steps, name):
+def one_server(tally, place, data, log, sectors, steps, name, named=None):
     """A server: the order of its calls, and what crashes leave. The log behind it, and how many images there were."""
     trace, answered, images = Trace(place, name), None, 0
     with tally.run(f"{name}, its replies"):
-        answered = serve(data, trace, log, sectors, steps)
+        answered = serve(data, trace, log, sectors, steps, named)
     if answered is None:
         return log, 0
     calls = trace.calls()
@@ -384,6 +390,17 @@ def one_server(tally, place, data, log, sectors, steps, name):
     if len(calls) < 2_000:
         show_that_they_fail(tally, calls, data, answered)
     return answered.store.log, images
+
+
+def by_bare_name(tally, place):
+    """A file that is made and served by its name alone: the folder that is synced is the one that it stands in."""
+    data, before = os.path.join(place, "bare"), os.getcwd()
+    os.chdir(place)
+    try:
+        images = make(tally, place, data, "bare")
+        return images + one_server(tally, place, data, [], SECTORS_OF_CREATE, small_steps()[:20], "server by a bare name", "bare")[1]
+    finally:
+        os.chdir(before)
 
 
 def without_syncs(tally, place, data, sectors, steps):
@@ -406,6 +423,7 @@ def main():
         images += more
         _, more = one_server(tally, place, data, log, SECTORS_OF_CREATE, transaction("1", [(b"g", b"2")]), "second server")
         images += more
+        images += by_bare_name(tally, place)
         lying = os.path.join(place, "lying")
         with open(lying, "wb") as file:
             file.write(log_image([], SECTORS_OF_CREATE))
