@@ -51,14 +51,15 @@ def write_beside_an_old_one(client, old):
     expect(old.ask(BEGIN) == OK and old.ask(frame("GET", b"k")) == b"$-1\r\n", "the old transaction was refused")
     for number in range(COMMITS):
         keys = [b"%05d" % (it * 7_919 % 99_991) for it in range(number * KEYS_EACH, (number + 1) * KEYS_EACH)]
-        requests = [BEGIN, *(frame("GET", key) for key in keys[:6]), *(frame("SET", key, b"v" * 100) for key in keys), COMMIT]
+        value = b"v" * (100 if number % 3 else 3_000)
+        requests = [BEGIN, *(frame("GET", key) for key in keys[:6]), *(frame("SET", key, value) for key in keys), COMMIT]
         replies = [client.ask(request) for request in requests]
         expect(replies[0] == OK and replies[-1][:1] == b":", f"a transaction was answered {replies}")
     expect(old.ask(ABORT) == OK, "ABORT was refused")
 
 
 def read_much(client):
-    """Replies of some bytes, of more than a session keeps for them, and of more than is held before the socket."""
+    """Replies of some bytes, of more than a session keeps for them, and of more than is held before the socket, up to some 130,000."""
     expect(client.ask(BEGIN) == OK, "BEGIN was refused")
     for limit in (1, 4, 40, PAIRS, 1):
         reply = client.ask(frame("RANGE", b"0", b"", b"%d" % limit))

@@ -129,13 +129,13 @@ def fills(tally):
                 for _ in range(number):
                     commit(server.port, number)
         with tally.run("the rate"):
-            first, _ = used.figures(data, None, 1_000.0)
+            first, _ = used.figures(data, None, 1_000.0, None)
             with Server(data) as server:
                 commit(server.port, 7)
-            second, found = used.figures(data, first, 1_010.0)
+            second, found = used.figures(data, first, 1_010.0, None)
             due = (SECTORS - second["place"] - 1) / ((second["place"] - first["place"]) / 10)
             expect(found["seconds_to_full"] == due > 0, f"{found} in place of {due}")
-            expect(used.figures(data, second, 1_020.0)[1]["seconds_to_full"] == float("inf"), "a log that does not grow fills")
+            expect(used.figures(data, second, 1_020.0, None)[1]["seconds_to_full"] == float("inf"), "a log that does not grow fills")
         with tally.run("another log of the name"):
             subprocess.run([PROGRAM, "compact", "--from", data, "--to", data + "2"], check=True, capture_output=True)
             os.replace(data + "2", data)
