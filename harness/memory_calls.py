@@ -19,7 +19,7 @@ import subprocess
 from collections import Counter
 
 from client import HERE, MEMORY, PATIENCE, SHIM, Deviation, Refusals, Tally, expect, folder, need, run_harness
-from model import SECTOR, Store, log_image
+from model import OUTPUT_ROOM, SECTOR, Store, log_image
 from rows import ROWS, request_of, shown
 
 PROGRAM = os.environ.get("REFUSED_MEMORY") or os.path.join(HERE, "..", "crates", "refused_memory", "out", "refused_memory")
@@ -319,7 +319,7 @@ def reads(tally, level):
 
 # Replies around the room that a session keeps, while every allocation is refused
 
-# Values of `a` and `b`, with the read whose reply has 536 bytes; of a byte more in the last value it has 537.
+# The bytes of the values of `a` and `b` with which the reply to this read just fits.
 AT_THE_ROOM = (((528, None), "1 GET a"), ((517, None), "1 RANGE a b 1"), ((300, 202), '1 RANGE a "" 2'))
 
 
@@ -327,7 +327,7 @@ def replies_around_the_room(tally):
     for (a, b), line in AT_THE_ROOM:
         for more in (0, 1):
             sizes = (a, b + more) if b else (a + more, 1)
-            with folder() as place, Program(place) as program, tally.run(f"hub, {line} of {536 + more} bytes"):
+            with folder() as place, Program(place) as program, tally.run(f"hub, {line} of {OUTPUT_ROOM + more} bytes"):
                 store = Store(SECTORS)
                 open_store(program, "hub", Counter())
                 expect(program.ask("1 joins") == "1 Done Open", "1 doesn't join")

@@ -7,13 +7,13 @@ import os
 import time
 
 from client import MEMORY, Connection, Refusals, Server, Tally, create, expect, folder, is_long, need, run_harness
-from model import HELD_MAX, INBOX_MAX, KEY_MAX, VALUE_MAX, frame
+from model import HELD_MAX, INBOX_MAX, KEY_MAX, OUTPUT_ROOM, VALUE_MAX, frame
 
 SECTORS = 16_384
 COUNT = 120
 PAIRS = 128
-# What an output has, what is kept for longer replies, and what the table, the session and the allocator take besides.
-OUTPUT_ROOM, OUTPUT_KEPT, REST = 536, 65_536, 2_048
+# What is kept for longer replies, and what the table, the session and the allocator take besides.
+OUTPUT_KEPT, REST = 65_536, 2_048
 # More than all that a session keeps, and less than the largest reply.
 LARGE = 1 << 20
 BEGIN, COMMIT, ABORT, PING = (frame(word) for word in ("BEGIN", "COMMIT", "ABORT", "PING"))

@@ -61,8 +61,8 @@ IsIsolated st = All (λ e. e.1.replies ≡ responses (copy_of (snapshot st e.1))
 abbrev pub MachineLaw : Type 0
 MachineLaw = (st : State) → IsReached st → IsIsolated st × IsSerializable st
 
--- What has committed has no dangerous pivot and no concurrent writers of one key. So each dependency leads to a later place, and the order
--- by places is a serial order.
+-- What has committed has no dangerous pivot and no concurrent writers of one key. So each dependency leads to a later
+-- place, and the order by places is a serial order.
 pub record IsOrderedByPlace (st : State) : Type 0 where
   pub no_pivot : HasNoDangerousPivot st.history
   pub no_concurrent_writers : NoConcurrentWriters st.history

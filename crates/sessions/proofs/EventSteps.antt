@@ -87,8 +87,8 @@ serves old new s before after outcome found sessions latest x = leads old new (S
     )))
 
 -- a session that is present leaves, and its transaction is aborted
-pub goes : {D : Type 0} {g : Ghosts D} (old new : Hub D g) (s : ℕ) (n : SessionState) → Some n ≡ lookup (test s) old.sessions → new.sessions ≡ remove_entry (test s) old.sessions → new.latest ≡ old.latest
-    → Aborts old.engine new.engine s → HubLeads old new (Leaves s) OfDone
+pub goes : {D : Type 0} {g : Ghosts D} (old new : Hub D g) (s : ℕ) (n : SessionState) → Some n ≡ lookup (test s) old.sessions
+    → new.sessions ≡ remove_entry (test s) old.sessions → new.latest ≡ old.latest → Aborts old.engine new.engine s → HubLeads old new (Leaves s) OfDone
 unfolding hub_step
 goes old new s n found sessions latest left = leads old new (Leaves s) OfDone More (λ h stands. (
     let f = stream-some old h stands s n found in (

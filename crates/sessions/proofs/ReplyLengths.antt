@@ -32,11 +32,13 @@ value_short None h = omega arith
 value_short (Some v) h = let bytes = value_bulk v.now h in omega (arith, bytes)
 
 -- what was written is as short as the text
-pub written_short : (new text : Bytes) (n : ℕ) (result : Result (Unit {0}) Memory) → OnOk result (new ≡ text) → OnErr result (new ≡ []) → length text ≤ n → length new ≤ n
+pub written_short : (new text : Bytes) (n : ℕ) (result : Result (Unit {0}) Memory) →
+    OnOk result (new ≡ text) → OnErr result (new ≡ []) → length text ≤ n → length new ≤ n
 written_short new text n (Ok done) ok err h = rw ok h
 written_short new text n (Err refused) ok err h = rw err (omega arith)
 
 -- the same of a reply that always has room
-pub brief_short : (new : Bytes) (response : Response) (result : Result (Unit {0}) Memory) → Writes (Some response) new result → length (reply_text response) ≤ 536 → length new ≤ range_reply_max
+pub brief_short : (new : Bytes) (response : Response) (result : Result (Unit {0}) Memory) →
+    Writes (Some response) new result → length (reply_text response) ≤ 536 → length new ≤ range_reply_max
 brief_short new response (Ok done) said h = rw said (omega (arith, h))
 brief_short new response (Err refused) said h = absurd said

@@ -63,8 +63,9 @@ executes_commit {D} {g} old mid new s response after r same leads keeps said =
 
 module _ {D : Type 0} {g : Ghosts D} (old new : Engine D g) (s : ℕ) (q : Operation) where
   -- a read whose response may be too long
-  pub executes_read : (response : Response) (after : Bytes) (r : Result (Unit {0}) Memory) → is_commit q ≡ false → IsTrue (takes_memory q) → Leads old new s q false (Some response) → is_refused response ≡ false
-      → OnOk r (after ≡ reply_text response) → OnErr r (after ≡ []) → Executes old new s q false after r
+  pub executes_read : (response : Response) (after : Bytes) (r : Result (Unit {0}) Memory) → is_commit q ≡ false → IsTrue (takes_memory q)
+      → Leads old new s q false (Some response) → is_refused response ≡ false → OnOk r (after ≡ reply_text response) → OnErr r (after ≡ [])
+      → Executes old new s q false after r
   executes_read response after (Ok done) no_commit takes leads plain ok err = executes_always old new s q false response after (Ok done) leads ok
   executes_read response after (Err refused) no_commit takes leads plain ok err = (
     takes,
@@ -112,21 +113,24 @@ module _ {D : Type 0} {g : Ghosts D} (old new : Engine D g) (s : ℕ) (before af
 
   -- what is pending was written
   pub whole : (parts : List Bytes) (used : ℕ) → IsFront before.inbox (Whole parts used)
-      → ((m : State) → StandsFor old m → StandsFor new (step m s (asks parts) (has_failed old new)).0 × (after.pending ≡ reply_text (step m s (asks parts) (has_failed old new)).1))
+      → ((m : State) → StandsFor old m → StandsFor new (step m s (asks parts) (has_failed old new)).0
+      × (after.pending ≡ reply_text (step m s (asks parts) (has_failed old new)).1))
       → after.inbox ≡ drop used before.inbox → after.status ≡ before.status → ServesSession old new s before after OfDone
   whole parts used front steps inbox status = (
     Whole parts used,
     λ m h. (let x = steps m h in effects _ m OfDone (front, λ wrong. absurd (cc)) x.0 (standing _ inbox x.1 (status ∙ is_open_there before may)) refl),
   )
 
-  pub more : IsFront before.inbox More → new ≡ old → after.pending ≡ [] → after.inbox ≡ before.inbox → after.status ≡ before.status → ServesSession old new s before after OfIdle
+  pub more : IsFront before.inbox More → new ≡ old → after.pending ≡ [] → after.inbox ≡ before.inbox → after.status ≡ before.status
+      → ServesSession old new s before after OfIdle
   more front same none inbox status = grind (arith, common_steps, effects, standing, nothing_pending)
 
-  pub bad : IsFront before.inbox Bad → Aborts old new s → after.inbox ≡ [] → after.pending ≡ reply_text bad_frame → after.status ≡ Ending → ServesSession old new s before after OfDone
+  pub bad : IsFront before.inbox Bad → Aborts old new s → after.inbox ≡ [] → after.pending ≡ reply_text bad_frame → after.status ≡ Ending
+      → ServesSession old new s before after OfDone
   bad front a inbox text status = (Bad, λ m h. effects _ m OfDone (front, λ wrong. absurd (cc)) (a m h) (standing _ inbox text status) refl)
 
-  pub refused_memory : (parts : List Bytes) (used : ℕ) → IsFront before.inbox (Whole parts used) → IsTrue (takes_memory (asks parts)) → Aborts old new s → after.inbox ≡ [] → after.pending ≡ [] → IsNotRefused old s (asks parts) → after.status ≡ Refused
-      → ServesSession old new s before after OfMemory
+  pub refused_memory : (parts : List Bytes) (used : ℕ) → IsFront before.inbox (Whole parts used) → IsTrue (takes_memory (asks parts)) → Aborts old new s
+      → after.inbox ≡ [] → after.pending ≡ [] → IsNotRefused old s (asks parts) → after.status ≡ Refused → ServesSession old new s before after OfMemory
   refused_memory parts used front takes a inbox none due status =
       (Whole parts used, λ m h. effects _ m OfMemory (front, λ _. (takes, due m h)) (a m h) (standing _ inbox none status) refl)
 

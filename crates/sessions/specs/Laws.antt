@@ -51,8 +51,8 @@ failures_in (e ∷ es) = if e.1.failed then failures_in es + 1 else failures_in 
 abbrev pub begins : HubState → List ℕ
 begins h = map (λ e. e.1.begin) h.machine.running
 
--- A hub between two events: the laws hold of each state that it stands for, the order by places is one of the serial orders, and unless the
--- store is stopped a crash leaves the map that is committed.
+-- A hub between two events: the laws hold of each state that it stands for, the order by places is one of the serial
+-- orders, and unless the store is stopped a crash leaves the map that is committed.
 pub record IsSound {D : Type 0} {g : Ghosts D} (hub : Hub D g) : Type 0 where
   pub lawful : (h : HubState) → StandsFor hub h → IsLawful h
   pub ordered : (h : HubState) → StandsFor hub h → IsOrderedByPlace h.machine

@@ -212,7 +212,8 @@ impl Model for ReplyBuffer {
 
     ghost view = { λ b. drop b.start b.text };
 
-    ghost invariant = { λ b. (b.start ≤ length b.text) × (b.start ≡ length b.text → length b.text ≡ 0) × (length b.text ≤ range_reply_max) };
+    ghost invariant = { λ b. (b.start ≤ length b.text) × (b.start ≡ length b.text → length b.text ≡ 0)
+        × (length b.text ≤ range_reply_max) };
 }
 
 impl ReplyBuffer {
@@ -277,8 +278,8 @@ impl ReplyBuffer {
         self.text.write_value(value)
     }
 
-    /// Writes the pairs of a range. It takes memory where their text is longer than `OUTPUT_ROOM` bytes; `Memory` where that is refused, and
-    /// nothing is left then.
+    /// Writes the pairs of a range. It takes memory where their text is longer than `OUTPUT_ROOM` bytes; `Memory` where that is refused,
+    /// and nothing is left then.
     pub(crate) fn write_pairs(&mut self, rows: Rows<'_>) -> Result<(), Memory>
         requires few { length (row_pairs rows) ≤ 128 }
         requires in_bounds { IsInBounds (row_pairs rows) }

@@ -41,7 +41,8 @@ impl Model for Session {
 
     ghost view = { λ t. record { inbox = rest t.inbox; pending = t.output; status = t.status } };
 
-    ghost invariant = { λ t. (t.inbox.start ≤ vec_len t.inbox.bytes) × (vec_len t.inbox.bytes ≤ inbox_max) × (inbox_max ≤ vec_capacity t.inbox.bytes) };
+    ghost invariant = { λ t. (t.inbox.start ≤ vec_len t.inbox.bytes) × (vec_len t.inbox.bytes ≤ inbox_max)
+        × (inbox_max ≤ vec_capacity t.inbox.bytes) };
 }
 
 impl Session {

@@ -6,9 +6,10 @@ use Rattle.sessions.proofs.requests.range.Goals as goal
 pub returns-in-Ok-clause-step : goal.returns-in-Ok-clause-step
 returns-in-Ok-clause-step g c =
     let kept = rw c.in-Ok.is at c.range.follows.holds-at-none in
-    executes_read c.args.engine.now c.range.follows.lender-at-none c.args.s (Range (key_bytes c.args.range.lo) (end_bytes c.args.range.hi) c.args.limit) _ c.write_pairs.new.self c.write_pairs.result refl refl kept.0 refl
-    c.write_pairs.ensures.ok c.write_pairs.ensures.err
+    executes_read c.args.engine.now c.range.follows.lender-at-none c.args.s (Range (key_bytes c.args.range.lo) (end_bytes c.args.range.hi) c.args.limit) _
+    c.write_pairs.new.self c.write_pairs.result refl refl kept.0 refl c.write_pairs.ensures.ok c.write_pairs.ensures.err
 
 pub returns-in-Err-clause-step : goal.returns-in-Err-clause-step
 returns-in-Err-clause-step g c =
-    executes_refused c.args.engine.now c.range.follows.lender-at-none c.args.s (Range (key_bytes c.args.range.lo) (end_bytes c.args.range.hi) c.args.limit) _ c.range.result c.in-Err.fault _ c.write_read_fault.result refl c.in-Err.is c.range.follows.holds-at-none.0 c.write_read_fault.ensures
+    executes_refused c.args.engine.now c.range.follows.lender-at-none c.args.s (Range (key_bytes c.args.range.lo) (end_bytes c.args.range.hi) c.args.limit) _
+    c.range.result c.in-Err.fault _ c.write_read_fault.result refl c.in-Err.is c.range.follows.holds-at-none.0 c.write_read_fault.ensures

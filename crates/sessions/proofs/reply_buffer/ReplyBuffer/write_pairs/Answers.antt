@@ -7,6 +7,6 @@ pub invariant_of-self : goal.invariant_of-self
 invariant_of-self c = (
   omega arith,
   (λ e. omega arith),
-  written_short c.write_pairs.new.self (reply_text (Pairs (row_pairs c.args.rows))) range_reply_max c.write_pairs.result c.write_pairs.ensures.ok c.write_pairs.ensures.err
-      (pairs_short (row_pairs c.args.rows) c.requires.in_bounds c.requires.few),
+  written_short c.write_pairs.new.self (reply_text (Pairs (row_pairs c.args.rows))) range_reply_max c.write_pairs.result
+      c.write_pairs.ensures.ok c.write_pairs.ensures.err (pairs_short (row_pairs c.args.rows) c.requires.in_bounds c.requires.few),
 )

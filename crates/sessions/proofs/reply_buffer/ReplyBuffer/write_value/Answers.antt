@@ -6,5 +6,6 @@ pub invariant_of-self : goal.invariant_of-self
 invariant_of-self c = (
   omega arith,
   (λ e. omega arith),
-  written_short c.write_value.new.self (reply_text (Value (option_copied c.args.value))) range_reply_max c.write_value.result c.write_value.ensures.ok c.write_value.ensures.err (value_short c.args.value c.requires),
+  written_short c.write_value.new.self (reply_text (Value (option_copied c.args.value))) range_reply_max c.write_value.result
+      c.write_value.ensures.ok c.write_value.ensures.err (value_short c.args.value c.requires),
 )
