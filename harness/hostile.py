@@ -20,8 +20,8 @@ import time
 from client import Connection, Deviation, Server, Tally, create, expect, folder, is_long, need, run_harness
 from good_client import KEY as GOOD_KEY, VALUE as GOOD_VALUE, GoodClient
 from model import (
-    BROKEN_FRAME, Broken, HELD_MAX, INBOX_MAX, KEY_MAX, LARGEST_REPLY, MARKS_MAX, OK, OPEN_MAX, PONG, SESSIONS_MAX, Store, VALUE_MAX, WRITES_MAX,
-    decode, frame, pairs, refusal)
+    BROKEN_FRAME, Broken, HELD_MAX, INBOX_MAX, KEY_MAX, LARGEST_REPLY, MARKS_MAX, OK, OPEN_MAX, OUTPUT_ROOM, PONG, SESSIONS_MAX, Store, VALUE_MAX,
+    WRITES_MAX, decode, frame, pairs, refusal)
 
 SECTORS = 262_144
 SLOWEST_REPLY = 5.0
@@ -510,7 +510,7 @@ def memory_bound(idle, commits):
         "idle server": idle,
         f"{SESSIONS_MAX} inboxes": SESSIONS_MAX * INBOX_MAX,
         f"{SESSIONS_MAX} streams": SESSIONS_MAX * HELD_MAX,
-        f"{SESSIONS_MAX} outputs of the largest reply": SESSIONS_MAX * LARGEST_REPLY,
+        f"{SESSIONS_MAX} outputs, and the largest reply in each": SESSIONS_MAX * (OUTPUT_ROOM + LARGEST_REPLY),
         f"keys and values of {OPEN_MAX} transactions": OPEN_MAX * (WRITES_MAX * pair + MARKS_MAX * 2 * KEY_MAX),
         "the map": len(KEYS) * pair,
         f"{entries} entries": entries * ENTRY,

@@ -9,7 +9,8 @@ n = 1, 2, 3 .. until a run meets no refusal. Each reply must be the model's.
 - Each run is made again and ends behind the refusal. At the engine the transactions are open that were before, and the device is byte
   for byte the log of the commits that were answered; at the hub that of the refused session isn't open, and all others are.
 
-Then reads that need no new mark are made while every allocation is refused.
+Then reads that need no new mark are made while every allocation is refused, at the hub also some whose replies have 536 bytes, for which a session keeps
+the room, and one byte more.
 """
 import json
 import os
@@ -18,7 +19,7 @@ import subprocess
 from collections import Counter
 
 from client import HERE, MEMORY, PATIENCE, SHIM, Deviation, Refusals, Tally, expect, folder, need, run_harness
-from model import SECTOR, Store, log_image
+from model import OUTPUT_ROOM, SECTOR, Store, log_image
 from rows import ROWS, request_of, shown
 
 PROGRAM = os.environ.get("REFUSED_MEMORY") or os.path.join(HERE, "..", "crates", "refused_memory", "out", "refused_memory")
@@ -316,6 +317,29 @@ def reads(tally, level):
             expect_end(program, store)
 
 
+# Replies around the room that a session keeps, while every allocation is refused
+
+# The bytes of the values of `a` and `b` with which the reply to this read just fits.
+AT_THE_ROOM = (((528, None), "1 GET a"), ((517, None), "1 RANGE a b 1"), ((300, 202), '1 RANGE a "" 2'))
+
+
+def replies_around_the_room(tally):
+    for (a, b), line in AT_THE_ROOM:
+        for more in (0, 1):
+            sizes = (a, b + more) if b else (a + more, 1)
+            with folder() as place, Program(place) as program, tally.run(f"hub, {line} of {OUTPUT_ROOM + more} bytes"):
+                store = Store(SECTORS)
+                open_store(program, "hub", Counter())
+                expect(program.ask("1 joins") == "1 Done Open", "1 doesn't join")
+                # The range is marked before memory is refused, by a read of the same keys.
+                for it in ("1 BEGIN", "1 SET a v", "1 SET b v", line, f"1 SET a {'v' * sizes[0]}", f"1 SET b {'v' * sizes[1]}"):
+                    answer, due = program.ask(it), reply_of(store, it)
+                    expect(answer == due, f"{it}: {answer!r}, due is {due!r}")
+                program.allocations.fail_all()
+                answer = program.ask(line)
+                expect(answer == ("1 Memory Refused" if more else reply_of(store, line)), f"{line}: {answer!r} without memory")
+
+
 def main():
     need(PROGRAM, SHIM)
     holds = True
@@ -326,6 +350,8 @@ def main():
         holds &= tally.end("; refused to " + ", ".join(f"{what} {count}" for what, count in sorted(counts.items())))
         tally = Tally(f"{level}, reads with all memory refused")
         reads(tally, level)
+        if level == "hub":
+            replies_around_the_room(tally)
         holds &= tally.end()
     return 0 if holds else 1
 

@@ -18,8 +18,8 @@ VALUE_BYTES = 1_000
 TRANSACTIONS, AHEAD = 21, 4
 PIECES, KEYS = 200, 840
 # By how much the process may grow while commits come, and what may be held more than before once an old transaction has ended: what a session keeps,
-# which memory_sessions.py bounds by 215,040 bytes, and a quarter of that.
-GROWTH, BOUND = 1 << 20, 268_800
+# which memory_sessions.py bounds by 215,576 bytes, and a quarter of that.
+GROWTH, BOUND = 1 << 20, 269_470
 # So many transactions of so many reads, and how often each may ask for memory.
 READERS, READS, CALLS = 400, 60, 180
 BEGIN, COMMIT, ABORT = (frame(word) for word in ("BEGIN", "COMMIT", "ABORT"))

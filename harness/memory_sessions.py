@@ -1,19 +1,21 @@
 """What the sessions keep, counted by a preloaded library: many read the largest reply one after another, and then send all that an inbox takes.
 
-A session keeps an inbox, a stream and 65,536 bytes of output, however large its replies were. A reply that isn't read is held whole, so
-while one is, the count must be above that bound: otherwise it would say nothing.
+A session keeps an inbox, a stream, an output of 536 bytes and 65,536 for longer replies, however large its replies were. A reply that isn't read is held
+whole, so while one is, the count must be above that bound: otherwise it would say nothing.
 """
 import os
 import time
 
-from client import Connection, Refusals, Server, Tally, create, expect, folder, is_long, need, run_harness
-from model import HELD_MAX, INBOX_MAX, KEY_MAX, VALUE_MAX, frame
+from client import MEMORY, Connection, Refusals, Server, Tally, create, expect, folder, is_long, need, run_harness
+from model import HELD_MAX, INBOX_MAX, KEY_MAX, OUTPUT_ROOM, VALUE_MAX, frame
 
 SECTORS = 16_384
 COUNT = 120
 PAIRS = 128
-# What an output may keep once it is empty, and what the table, the session and the allocator take besides.
+# What is kept for longer replies, and what the table, the session and the allocator take besides.
 OUTPUT_KEPT, REST = 65_536, 2_048
+# More than all that a session keeps, and less than the largest reply.
+LARGE = 1 << 20
 BEGIN, COMMIT, ABORT, PING = (frame(word) for word in ("BEGIN", "COMMIT", "ABORT", "PING"))
 LARGEST_RANGE = frame("RANGE", b"l", b"m", b"%d" % PAIRS)
 OK = b"+OK\r\n"
@@ -40,7 +42,7 @@ def held(refusals, client):
 
 def bound(count):
     """What so many sessions may keep that have nothing pending."""
-    return count * (INBOX_MAX + HELD_MAX + OUTPUT_KEPT + REST)
+    return count * (INBOX_MAX + HELD_MAX + OUTPUT_ROOM + OUTPUT_KEPT + REST)
 
 
 def read_largest(client):
@@ -84,6 +86,25 @@ def unread_reply_is_counted(tally, server, refusals):
         expect(kept > bound(1), f"only {kept:,} bytes are held for it")
 
 
+def sending_asks_for_none(tally, server, refusals):
+    """From when the last reply waits until all of it was sent, no memory is asked for, and its buffer is given back."""
+    allocations = refusals.of(MEMORY)
+    with Connection(server.port, receive_buffer=4_096) as late, tally.run("a reply that is read late"):
+        late.send(BEGIN)
+        first, count = refusals.held(), 0
+        while refusals.held() - first < LARGE and count < 8:
+            late.send(LARGEST_RANGE)
+            time.sleep(0.5)
+            count += 1
+        waiting, asked = refusals.held(), allocations.made
+        expect(waiting - first >= LARGE, "no reply waits")
+        sizes = [len(late.reply() or b"") for _ in range(1 + count)]
+        expect(min(sizes[1:]) > PAIRS * VALUE_MAX, f"replies of {sizes} bytes")
+        time.sleep(0.5)
+        expect(waiting - refusals.held() >= LARGE, "the buffer of a reply that was sent is held still")
+        expect(allocations.made == asked, f"memory was asked for {allocations.made - asked} times while a reply was sent")
+
+
 def main():
     need()
     tally = Tally("what sessions keep")
@@ -95,6 +116,7 @@ def main():
             for _ in range(3 if is_long() else 1):
                 sessions_keep_little(tally, server, refusals, COUNT)
             unread_reply_is_counted(tally, server, refusals)
+            sending_asks_for_none(tally, server, refusals)
             expect(server.is_alive() and server.error_text() == b"", "the server ended, or wrote an error")
     return 0 if tally.end() else 1
 

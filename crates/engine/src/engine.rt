@@ -36,7 +36,7 @@ impl<D: Sectors> Engine<D> {
     ghost use Rattle.model.specs.Operations.Operation.{Begin, Set, Del, Abort, Ping, Faulty};
     ghost use Rattle.model.specs.Operations.Response.{Done, Pong, Refused};
     ghost use Rattle.model.specs.Machine.{State, IsReached, leave};
-    ghost use Rattle.model.specs.Laws.{IsIsolated, IsSerializable};
+    ghost use Rattle.model.specs.Laws.{IsIsolated, IsOrderedByPlace, IsSerializable};
     ghost use Rattle.versions.specs.Listings.{IsUnmixed};
     ghost use Rattle.versions.specs.Meaning.{kept_of, IsReclaimed};
     ghost use Rattle.std.specs.List.{AllByRecursion};
@@ -125,9 +125,11 @@ impl<D: Sectors> Engine<D> {
     {}
 
     /// Does nothing: what holds of each state that the engine stands for. The machine reaches it; its open transactions see their own
-    /// copies alone; and what has committed has a serial order, which gives the same replies and the same final map.
+    /// copies alone; and what has committed has a serial order, which gives the same replies and the same final map. The order by places is
+    /// one, in which each dependency rises, since there is no dangerous pivot and no two concurrent transactions wrote one key.
     pub fn is_lawful(&self)
-        ensures { (m : State) → StandsFor self.now m → IsReached m × IsIsolated m × IsSerializable m }
+        ensures lawful { (m : State) → StandsFor self.now m → IsReached m × IsIsolated m × IsSerializable m }
+        ensures ordered { (m : State) → StandsFor self.now m → IsOrderedByPlace m }
     {
         machine_is_serializable();
     }

@@ -1,8 +1,8 @@
 -- The machine keeps its history faithful, without dangerous pivots and without concurrent writers of one key.
-use Rattle.model.proofs.Words.{common_steps, nat_tests, and_parts, and_from, cond_both, lt-leb, false_from_ne_true, All-contains, All-from_recursion, All-push, ◌≡◌, ◌⊎◌, ℕ, suc, ◌+◌, ◌-◌, ◌<◌, ◌≤◌, Bool, true, false, cond, ◌&&◌, List, [], ◌∷◌, ◌++◌, Option, Some, None, refl, sym, ap, subst, ◌∙◌, length, length-append, arith, inl, inr, not, IsTrue, nat_lt, nat_le, ◌==◌, nat_cmp, ◌^◌, ◌≢◌, AllByRecursion, put, where_key, Refusal, MachineLaw, VerdictHolds, KeyMap, KeyWrite, is_same_key, after_writes, Operation, Response, Begin, Commit, Abort, PrivateCopy, copy_of, copy_after, respond, responses, Record, record_of, map_at, IsNumberedFrom, IsFaithful, IsTrueRecord, is_concurrent, writes_key, write_alike, is_dangerous_pivot, NoConcurrentWriters, verdict, is_overwritten, HasNoDangerousPivot, Running, State, Input, IsReached, last, snapshot, running_of, store, commit, step_outside, own_step, step_inside, step_of, step, next, state_after, store_unless, record_to_commit, serial_order, IsSerialOrder, replay, ReplaysReplies}
+use Rattle.model.proofs.Words.{common_steps, nat_tests, and_parts, and_from, cond_both, lt-leb, false_from_ne_true, All-contains, All-from_recursion, All-push, ◌≡◌, ◌⊎◌, ℕ, suc, ◌+◌, ◌-◌, ◌<◌, ◌≤◌, Bool, true, false, cond, ◌&&◌, List, [], ◌∷◌, ◌++◌, Option, Some, None, refl, sym, ap, subst, ◌∙◌, length, length-append, arith, inl, inr, not, IsTrue, nat_lt, nat_le, ◌==◌, nat_cmp, ◌^◌, ◌≢◌, AllByRecursion, put, where_key, Refusal, MachineLaw, PlacesLaw, VerdictHolds, KeyMap, KeyWrite, is_same_key, after_writes, Operation, Response, Begin, Commit, Abort, PrivateCopy, copy_of, copy_after, respond, responses, Record, record_of, map_at, IsNumberedFrom, IsFaithful, IsTrueRecord, is_concurrent, writes_key, write_alike, is_dangerous_pivot, NoConcurrentWriters, verdict, is_overwritten, HasNoDangerousPivot, Running, State, Input, IsReached, last, snapshot, running_of, store, commit, step_outside, own_step, step_inside, step_of, step, next, state_after, store_unless, record_to_commit, serial_order, IsSerialOrder, replay, ReplaysReplies}
 use Rattle.std.specs.FinMap.Entries.{find as value_of}
 use Rattle.model.specs.{Machine.Input.Asks, Machine.Input.Leaves, Restarts.ReplaysFollow, Restarts.HaveOneOrder, Restarts.RestartLaw}
-use Rattle.model.proofs.{Elements.all-each, Elements.all-filter, Lookups.same_key_comm, SerialOrders.replay_law}
+use Rattle.model.proofs.{Elements.all-each, Elements.all-filter, Lookups.same_key_comm, SerialOrders.replay_law, SerialOrders.places_rise}
 pub use Rattle.model.proofs.Members.{commit_low}
 use Rattle.model.proofs.Members.{In, in_from_Contains, Contains-from_in, at_in, each_in, any_from_in, any_witness, none_found}
 
@@ -178,6 +178,15 @@ machine_law st reached =
           (all-each (λ e. IsTrueRunning st.base st.history e.1) _ st.running (λ e is. is.replies) k.open_true),
       record { faithful = k.faithful; order = serial_order st.history; serial = replay_law st.base st.history k.faithful k.no_pivot k.apart },
     )
+
+pub places_law : PlacesLaw
+places_law st reached =
+    let k = reached_sound st reached in record {
+      no_pivot = k.no_pivot;
+      no_concurrent_writers = k.apart;
+      rising = places_rise st.base st.history k.faithful k.no_pivot k.apart;
+      serial = replay_law st.base st.history k.faithful k.no_pivot k.apart;
+    }
 
 -- ---- serial orders of several lives, one after another, are one order
 

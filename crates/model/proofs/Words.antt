@@ -13,7 +13,7 @@ pub use Rattle.std.specs.List.{AllByRecursion, list_all, list_any}
 pub use Rattle.std.specs.Ordering.{eq_by_cmp, ordering_index, ordering_reverse}
 pub use Rattle.model.specs.Dependency.{concurrent_read_write, dependency, is_concurrent, is_dangerous_pivot, makes_dangerous_pivot, makes_pivot, NoConcurrentWriters, reads_from, reads_key, write_alike, writes_key}
 pub use Rattle.model.specs.History.{IsFaithful, IsNumberedFrom, IsTrueRecord, map_at, Record, record_of}
-pub use Rattle.model.specs.Laws.{AnswersComeBefore, ConflictsAreRecent, FaultsAreOfForm, IsAhead, IsOfForm, LastMayCommit, MachineLaw, OrdersKeepTime, PlacesKeepTime, PlacesRise, ReplayLaw, VerdictHolds}
+pub use Rattle.model.specs.Laws.{AnswersComeBefore, ConflictsAreRecent, FaultsAreOfForm, IsAhead, IsOfForm, LastMayCommit, MachineLaw, OrdersKeepTime, PlacesKeepTime, PlacesLaw, PlacesRise, ReplayLaw, VerdictHolds}
 pub use Rattle.model.specs.Machine.{commit, Input, IsReached, last, leave, next, opened, own_step, record_to_commit, Running, running_of, snapshot, State, state_after, step_inside, step_of, step_outside, store, store_unless, with_running}
 unfoldable pub use Rattle.model.specs.Machine.{step}
 pub use Rattle.model.specs.Map.{after_write, after_writes, Bytes, is_empty_range, is_in_range, is_same_key, IsInBounds, IsMap, key_cmp, KeyMap, KeyWrite, pairs_in_range, value_at}

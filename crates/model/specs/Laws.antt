@@ -7,12 +7,15 @@ use Rattle.model.specs.{Dependency.dependency, Dependency.NoConcurrentWriters, V
 use Rattle.model.specs.Machine.{State, Running, Input, IsReached, last, snapshot, running_of, record_to_commit, step, state_after}
 use Rattle.model.specs.SerialOrder.{IsSerialOrder, place, is_before, serial_order}
 
--- without dangerous pivots and concurrent writers of one key each dependency leads to a later place
+-- each dependency leads to a later place
+abbrev pub DependenciesRise : List Record → Type 0
+DependenciesRise history = (a b : Record) → Contains history a → Contains history b → IsTrue (dependency a b) →
+    IsTrue (is_before (place history a) (place history b))
+
+-- without dangerous pivots and concurrent writers of one key they do
 abbrev pub PlacesRise : Type 0
 PlacesRise = (base : KeyMap) (history : List Record) →
-    IsFaithful base history → HasNoDangerousPivot history → NoConcurrentWriters history →
-    (a b : Record) → Contains history a → Contains history b → IsTrue (dependency a b) →
-    IsTrue (is_before (place history a) (place history b))
+    IsFaithful base history → HasNoDangerousPivot history → NoConcurrentWriters history → DependenciesRise history
 
 -- pivots or not, one that had committed when another began has the earlier place
 abbrev pub PlacesKeepTime : Type 0
@@ -57,6 +60,18 @@ IsIsolated st = All (λ e. e.1.replies ≡ responses (copy_of (snapshot st e.1))
 -- whatever the sessions ask, and whenever the device fails
 abbrev pub MachineLaw : Type 0
 MachineLaw = (st : State) → IsReached st → IsIsolated st × IsSerializable st
+
+-- What has committed has no dangerous pivot and no concurrent writers of one key. So each dependency leads to a later
+-- place, and the order by places is a serial order.
+pub record IsOrderedByPlace (st : State) : Type 0 where
+  pub no_pivot : HasNoDangerousPivot st.history
+  pub no_concurrent_writers : NoConcurrentWriters st.history
+  pub rising : DependenciesRise st.history
+  pub serial : IsSerialOrder st.base st.history (serial_order st.history)
+
+-- of the serial orders that there are, this is one
+abbrev pub PlacesLaw : Type 0
+PlacesLaw = (st : State) → IsReached st → IsOrderedByPlace st
 
 -- a fault of a request's form, which is refused before anything else is looked at
 abbrev pub IsOfForm : Refusal → Type 0

@@ -1,7 +1,7 @@
 //! The laws of histories and of the machine. Each is the contract of a function that does nothing.
 ghost use Rattle.model.specs.Cycle.{CycleLaw, DangerousCycleLaw, DangerousPivotLaw};
 ghost use Rattle.model.specs.Laws.{AnswersComeBefore, ConflictsAreRecent, FaultsAreOfForm, LastMayCommit, VerdictHolds};
-ghost use Rattle.model.specs.Laws.{MachineLaw, OrdersKeepTime, PlacesKeepTime, PlacesRise, ReplayLaw};
+ghost use Rattle.model.specs.Laws.{MachineLaw, OrdersKeepTime, PlacesKeepTime, PlacesLaw, PlacesRise, ReplayLaw};
 ghost use Rattle.model.specs.Restarts.{ReplaysFollow, RestartLaw};
 
 /// Each cycle of dependencies has a pivot, and the one after it committed first of all, if no two concurrent transactions write one
@@ -33,9 +33,11 @@ pub fn faults_are_of_form()
 {}
 
 /// Whatever the sessions ask of the store, each open transaction was answered by its own copy alone, and the committed ones have a
-/// serial order, which respects real time and gives the same replies and the same final map.
+/// serial order, which respects real time and gives the same replies and the same final map. The order by places is one, in which each
+/// dependency rises: for of what has committed none is a dangerous pivot, and no two concurrent ones write one key.
 pub fn machine_is_serializable()
-    ensures { MachineLaw }
+    ensures serializable { MachineLaw }
+    ensures places { PlacesLaw }
 {}
 
 /// A number that was answered to a COMMIT before another's BEGIN is executed is at most that one's begin number. So the real time that a

@@ -9,4 +9,6 @@ mod writing;
 pub use commands::command;
 pub use decoding::{Decoded, decode, one_spelling, read_decimal};
 pub use parts::Request;
-pub use writing::{BRIEF_MAX, write_pairs, write_reply, write_request};
+pub use writing::{
+    BRIEF_MAX, write_array_line, write_pair, write_pairs, write_reply, write_request,
+};

@@ -56,8 +56,9 @@ fn write_hex(bytes: &[u8], digits: &mut [u8])
     hex::encode_to_slice(bytes, digits).unwrap();
 }
 
-// A pair's key and value, as bulks.
-fn append_pair(out: &mut Vec<u8>, key: &[u8], value: &[u8]) -> Result<(), Memory>
+/// Writes a pair's key and value, as bulks, at the end of `out`. It may grow `out`; where that is refused it answers `Memory`, and the
+/// bytes are as they were.
+pub fn write_pair(out: &mut Vec<u8>, key: &[u8], value: &[u8]) -> Result<(), Memory>
     ensures { Appends out.old out.new (bulk key.now ++ bulk value.now) result }
 {
     let mut key_buffer = itoa::Buffer::new();
@@ -72,8 +73,9 @@ fn append_pair(out: &mut Vec<u8>, key: &[u8], value: &[u8]) -> Result<(), Memory
     )
 }
 
-// The line before an array's parts.
-fn append_array_line(out: &mut Vec<u8>, pairs: usize) -> Result<(), Memory>
+/// Writes the line before an array of so many pairs at the end of `out`. It may grow `out`; where that is refused it answers `Memory`, and
+/// the bytes are as they were.
+pub fn write_array_line(out: &mut Vec<u8>, pairs: usize) -> Result<(), Memory>
     ensures { Appends out.old out.new (codes "*" ++ decimal (2 * pairs) ++ crlf) result }
 {
     let mut buffer = itoa::Buffer::new();
@@ -177,9 +179,9 @@ pub fn write_pairs<'a, I: Iterator<Item = (KeyRef<'a>, &'a [u8])> + Drop>(
     ensures capacity { vec_capacity out.old ≤ vec_capacity out.new }
 {
     let len = out.len();
-    append_array_line(out, n)?;
+    write_array_line(out, n)?;
     for (key, value) in pairs {
-        if append_pair(out, key.bytes(), value).is_err() {
+        if write_pair(out, key.bytes(), value).is_err() {
             out.truncate(len);
             return Err(Memory);
         }

@@ -92,6 +92,55 @@ fn sixty_four_transactions(rt: HostRuntime) {
     }
 }
 
+/// A text of so many letters.
+fn letters<R: Abort + AllocGlobal>(rt: &R, count: usize) -> String {
+    let mut text = String::new(rt.alloc());
+    for _ in 0..count {
+        text.push('v').expect(rt, "memory");
+    }
+    text
+}
+
+/// Sets two keys to values of these lengths, and reads them: a value, one pair and both, and then what is short again.
+fn expect_values<R: Abort + AllocGlobal>(rt: &R, store: &mut Pieces, a: usize, b: usize) {
+    let (of_a, of_b) = (letters(rt, a), letters(rt, b));
+    let alloc = rt.alloc();
+    let set_a = format!(in alloc; "1 SET a {of_a}").expect(rt, "memory");
+    let set_b = format!(in alloc; "1 SET b {of_b}").expect(rt, "memory");
+    let value = format!(in alloc; "${a} {of_a}").expect(rt, "memory");
+    let pair = format!(in alloc; "*2 $1 a ${a} {of_a}").expect(rt, "memory");
+    let both = format!(in alloc; "*4 $1 a ${a} {of_a} $1 b ${b} {of_b}").expect(rt, "memory");
+    for (asked, due) in [
+        (set_a.as_str(), "+OK"),
+        (set_b.as_str(), "+OK"),
+        ("1 GET a", value.as_str()),
+        ("1 RANGE a b 1", pair.as_str()),
+        ("1 RANGE a c 2", both.as_str()),
+        ("1 PING", "+PONG"),
+    ] {
+        expect(rt, store, asked, due);
+    }
+}
+
+/// Replies of 536 bytes, for which a session keeps the room, of one byte more, and of the longest values, each with a short one behind it.
+#[test]
+fn replies_around_the_kept_room(rt: HostRuntime) {
+    let mut store = Pieces::new(new_hub(&rt, 4096), FRAME_MAX);
+    expect(&rt, &mut store, "1 BEGIN", "+OK");
+    for (a, b) in [
+        (528usize, 1usize),
+        (529, 1),
+        (517, 1),
+        (518, 1),
+        (300, 202),
+        (300, 203),
+        (16_384, 16_384),
+        (1, 1),
+    ] {
+        expect_values(&rt, &mut store, a, b);
+    }
+}
+
 /// An old transaction keeps versions and records; once it has ended, the next event drops them.
 #[test]
 fn kept_versions_and_records(rt: HostRuntime) {

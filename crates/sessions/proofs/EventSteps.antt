@@ -1,7 +1,8 @@
 -- What an event does to a hub, by its outcome.
-use Rattle.sessions.proofs.Words.{common_steps, ◌≡◌, ℕ, Bool, List, [], ◌∷◌, length, Some, None, option_map, refl, sym, ap, subst, ◌∙◌, nat_cmp, arith, lookup, remove_entry, set_value, insert_entry, is_at, length-map, Outcome, HubState, SessionState, SessionStream, HubEvent, Serves, Front, Choice, IsPossible, hub_step, stream_of, Continued, HasEffect, ServesSession, chosen, has_failed, Ghosts, Hub, StandsFor, HubLeads, at_hand, status_or_absent, room_or_none, pending_or_none, status_of, room_of, pending_of, status_in, room_in, pending_in}
+use Rattle.sessions.proofs.Words.{common_steps, ◌≡◌, ℕ, Bool, List, [], ◌∷◌, length, Some, None, option_map, refl, sym, ap, subst, ◌∙◌, nat_cmp, arith, lookup, remove_entry, set_value, insert_entry, is_at, length-map, Outcome, HubState, SessionState, SessionStream, HubEvent, Leaves, Serves, Front, More, Aborts, Choice, IsPossible, hub_step, stream_of, Continued, HasEffect, ServesSession, chosen, has_failed, Ghosts, Hub, StandsFor, HubLeads, at_hand, status_or_absent, room_or_none, pending_or_none, status_of, room_of, pending_of, status_in, room_in, pending_in}
 use Rattle.std.proofs.lemmas.Map.Made.{lookup-map_values}
 use Rattle.engine.specs.Meaning.{StandsFor as EngineStandsFor}
+use Rattle.sessions.specs.SessionStreams.{Done as OfDone}
 
 -- ---- what is at hand in the list of sessions
 
@@ -83,4 +84,19 @@ serves old new s before after outcome found sessions latest x = leads old new (S
     let effect = subst E (sym f.now) (x.1 h.machine stands.engine) in (
       rw f.is effect.possible,
       rw f.is (record { engine = effect.engine; sessions = sessions ∙ set_is old h stands s after _ effect.session; latest = latest ∙ stands.latest; outcome_is = effect.outcome_is }),
+    )))
+
+-- a session that is present leaves, and its transaction is aborted
+pub goes : {D : Type 0} {g : Ghosts D} (old new : Hub D g) (s : ℕ) (n : SessionState) → Some n ≡ lookup (test s) old.sessions
+    → new.sessions ≡ remove_entry (test s) old.sessions → new.latest ≡ old.latest → Aborts old.engine new.engine s → HubLeads old new (Leaves s) OfDone
+unfolding hub_step
+goes old new s n found sessions latest left = leads old new (Leaves s) OfDone More (λ h stands. (
+    let f = stream-some old h stands s n found in (
+      tt,
+      rw f.is (record {
+        engine = left h.machine stands.engine;
+        sessions = sessions ∙ ap (remove_entry (test s)) stands.sessions ∙ remove-at_hand s h.present;
+        latest = latest ∙ stands.latest;
+        outcome_is = refl;
+      }),
     )))

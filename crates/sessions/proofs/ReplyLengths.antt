@@ -1,5 +1,5 @@
 -- How long the text of a reply is.
-use Rattle.sessions.proofs.Words.{◌≡◌, ℕ, ◌*◌, ◌≤◌, List, [], ◌∷◌, ◌++◌, length, Option, Some, None, Result, Ok, Err, OnOk, OnErr, arith, length-append, IfSome, option_copied, Bor, flat_map, bulk_size, key_digits, key_max, part_max, range_reply_max, Bytes, KeyMap, IsInBounds, bulk, Value, Pairs, reply_text, pair_text}
+use Rattle.sessions.proofs.Words.{◌≡◌, ℕ, ◌*◌, ◌≤◌, List, [], ◌∷◌, ◌++◌, length, Option, Some, None, Result, Ok, Err, OnOk, OnErr, arith, length-append, IfSome, option_copied, Bor, flat_map, bulk_size, key_digits, key_max, part_max, range_reply_max, Bytes, KeyMap, IsInBounds, bulk, Value, Pairs, Response, reply_text, pair_text, Writes}
 use Rattle.std.proofs.lemmas.Fmt.{length-decimal-le}
 use Rattle.model.specs.{declared.refusals.Memory.Memory, Key.IsKey, Key.IsValue}
 
@@ -31,7 +31,14 @@ pub value_short : (value : Option (Bor Bytes)) → IfSome value (λ v. IsValue v
 value_short None h = omega arith
 value_short (Some v) h = let bytes = value_bulk v.now h in omega (arith, bytes)
 
--- what was written to an empty output is as short as the text
-pub written_short : (old new text : List ℕ) (n : ℕ) (result : Result (Unit {0}) Memory) → old ≡ [] → OnOk result (new ≡ old ++ text) → OnErr result (new ≡ old) → length text ≤ n → length new ≤ n
-written_short old new text n (Ok done) none ok err h = rw (ok, none) h
-written_short old new text n (Err refused) none ok err h = rw (err, none) (omega arith)
+-- what was written is as short as the text
+pub written_short : (new text : Bytes) (n : ℕ) (result : Result (Unit {0}) Memory) →
+    OnOk result (new ≡ text) → OnErr result (new ≡ []) → length text ≤ n → length new ≤ n
+written_short new text n (Ok done) ok err h = rw ok h
+written_short new text n (Err refused) ok err h = rw err (omega arith)
+
+-- the same of a reply that always has room
+pub brief_short : (new : Bytes) (response : Response) (result : Result (Unit {0}) Memory) →
+    Writes (Some response) new result → length (reply_text response) ≤ 536 → length new ≤ range_reply_max
+brief_short new response (Ok done) said h = rw said (omega (arith, h))
+brief_short new response (Err refused) said h = absurd said

@@ -1,5 +1,5 @@
 -- How a request's parts make one step of the machine, and the parts of a Serve its effect.
-use Rattle.sessions.proofs.Words.{common_steps, ◌≡◌, ◌≢◌, ℕ, Bool, true, false, not, List, [], ◌∷◌, ◌++◌, Option, Some, None, Result, Ok, Err, OnOk, OnErr, IsTrue, refl, sym, ap, subst, ◌∙◌, nat_cmp, arith, length, drop, if◌then◌else◌, inl, inr, ◌==◌, Vec, Global, put, where_key, Bytes, Operation, Response, Commit, Done, Refused as Refusing, State, step, leave, reply_text, Writes, Executes, has_failed, refusal_to_read, LeavesSame, Aborts, HasEffect, ServesSession, Open, Ending, Idle as OfIdle, Outcome, takes_memory, SessionState, Choice, IsServed, Whole, More, Bad, IsFront, asks, bad_frame, serve_front, may_serve, IsProperBeginning, array_of_bulks, LeavesOnly, SurvivesCommit, SurvivesRequest, SurvivesFront}
+use Rattle.sessions.proofs.Words.{common_steps, ◌≡◌, ◌≢◌, ℕ, Bool, true, false, not, List, [], ◌∷◌, ◌++◌, Option, Some, None, Result, Ok, Err, OnOk, OnErr, IsTrue, refl, sym, ap, subst, ◌∙◌, nat_cmp, arith, length, drop, if◌then◌else◌, inl, inr, ◌==◌, put, where_key, Bytes, Operation, Response, Commit, Done, Refused as Refusing, State, step, leave, reply_text, Writes, Executes, has_failed, refusal_to_read, LeavesSame, Aborts, HasEffect, ServesSession, Open, Ending, Idle as OfIdle, Outcome, takes_memory, SessionState, Choice, IsServed, Whole, More, Bad, IsFront, asks, bad_frame, serve_front, may_serve, IsProperBeginning, array_of_bulks, LeavesOnly, SurvivesCommit, SurvivesRequest, SurvivesFront}
 use Rattle.sector.specs.declared.device.Sectors.{Ghosts}
 use Rattle.model.specs.declared.refusals.Memory.{Memory}
 use Rattle.model.proofs.Leading.{stepped}
@@ -63,13 +63,14 @@ executes_commit {D} {g} old mid new s response after r same leads keeps said =
 
 module _ {D : Type 0} {g : Ghosts D} (old new : Engine D g) (s : ℕ) (q : Operation) where
   -- a read whose response may be too long
-  pub executes_read : (response : Response) (before after : Vec ℕ Global) (r : Result (Unit {0}) Memory) → is_commit q ≡ false → IsTrue (takes_memory q) → Leads old new s q false (Some response) → is_refused response ≡ false → before.items ≡ []
-      → OnOk r (after.items ≡ before.items ++ reply_text response) → OnErr r (after.items ≡ before.items) → Executes old new s q false after.items r
-  executes_read response before after (Ok done) no_commit takes leads plain empty ok err = executes_always old new s q false response after.items (Ok done) leads (ok ∙ ap (λ xs. xs ++ reply_text response) empty)
-  executes_read response before after (Err refused) no_commit takes leads plain empty ok err = (
+  pub executes_read : (response : Response) (after : Bytes) (r : Result (Unit {0}) Memory) → is_commit q ≡ false → IsTrue (takes_memory q)
+      → Leads old new s q false (Some response) → is_refused response ≡ false → OnOk r (after ≡ reply_text response) → OnErr r (after ≡ [])
+      → Executes old new s q false after r
+  executes_read response after (Ok done) no_commit takes leads plain ok err = executes_always old new s q false response after (Ok done) leads ok
+  executes_read response after (Err refused) no_commit takes leads plain ok err = (
     takes,
     λ m h. let n = leads m h in (n.0, n.1, ap (λ r. leave r.0 s) (sym n.2) ∙ leave-own m s q no_commit takes),
-    err ∙ empty,
+    err,
     λ m h. ap (λ r. is_refused r.1) (leads m h).2 ∙ plain,
   )
 
@@ -110,29 +111,28 @@ module _ {D : Type 0} {g : Ghosts D} (old new : Engine D g) (s : ℕ) (before af
   standing : (n : SessionState) → after.inbox ≡ n.inbox → after.pending ≡ n.pending → after.status ≡ n.status → after ≡ n
   standing n inbox pending status = λ i. record { inbox = inbox i; pending = pending i; status = status i }
 
-  -- what is pending was written to the output
-  module _ (out : Bytes) (k : ℕ) (begun : k ≡ 0) (left : after.pending ≡ drop k out) where
-    pending : after.pending ≡ out
-    pending = left ∙ ap (λ n. drop n out) begun
+  -- what is pending was written
+  pub whole : (parts : List Bytes) (used : ℕ) → IsFront before.inbox (Whole parts used)
+      → ((m : State) → StandsFor old m → StandsFor new (step m s (asks parts) (has_failed old new)).0
+      × (after.pending ≡ reply_text (step m s (asks parts) (has_failed old new)).1))
+      → after.inbox ≡ drop used before.inbox → after.status ≡ before.status → ServesSession old new s before after OfDone
+  whole parts used front steps inbox status = (
+    Whole parts used,
+    λ m h. (let x = steps m h in effects _ m OfDone (front, λ wrong. absurd (cc)) x.0 (standing _ inbox x.1 (status ∙ is_open_there before may)) refl),
+  )
 
-    pub whole : (parts : List Bytes) (used : ℕ) → IsFront before.inbox (Whole parts used)
-        → ((m : State) → StandsFor old m → StandsFor new (step m s (asks parts) (has_failed old new)).0 × (out ≡ reply_text (step m s (asks parts) (has_failed old new)).1))
-        → after.inbox ≡ drop used before.inbox → after.status ≡ before.status → ServesSession old new s before after OfDone
-    whole parts used front steps inbox status = (
-      Whole parts used,
-      λ m h. (let x = steps m h in effects _ m OfDone (front, λ wrong. absurd (cc)) x.0 (standing _ inbox (pending ∙ x.1) (status ∙ is_open_there before may)) refl),
-    )
+  pub more : IsFront before.inbox More → new ≡ old → after.pending ≡ [] → after.inbox ≡ before.inbox → after.status ≡ before.status
+      → ServesSession old new s before after OfIdle
+  more front same none inbox status = grind (arith, common_steps, effects, standing, nothing_pending)
 
-    pub more : IsFront before.inbox More → new ≡ old → out ≡ [] → after.inbox ≡ before.inbox → after.status ≡ before.status → ServesSession old new s before after OfIdle
-    more front same none inbox status = grind (arith, common_steps, pending, effects, standing, nothing_pending)
+  pub bad : IsFront before.inbox Bad → Aborts old new s → after.inbox ≡ [] → after.pending ≡ reply_text bad_frame → after.status ≡ Ending
+      → ServesSession old new s before after OfDone
+  bad front a inbox text status = (Bad, λ m h. effects _ m OfDone (front, λ wrong. absurd (cc)) (a m h) (standing _ inbox text status) refl)
 
-    pub bad : IsFront before.inbox Bad → Aborts old new s → after.inbox ≡ [] → out ≡ reply_text bad_frame → after.status ≡ Ending → ServesSession old new s before after OfDone
-    bad front a inbox text status = (Bad, λ m h. effects _ m OfDone (front, λ wrong. absurd (cc)) (a m h) (standing _ inbox (pending ∙ text) status) refl)
-
-    pub refused_memory : (parts : List Bytes) (used : ℕ) → IsFront before.inbox (Whole parts used) → IsTrue (takes_memory (asks parts)) → Aborts old new s → after.inbox ≡ [] → out ≡ [] → IsNotRefused old s (asks parts) → after.status ≡ Refused
-        → ServesSession old new s before after OfMemory
-    refused_memory parts used front takes a inbox none due status =
-        (Whole parts used, λ m h. effects _ m OfMemory (front, λ _. (takes, due m h)) (a m h) (standing _ inbox (pending ∙ none) status) refl)
+  pub refused_memory : (parts : List Bytes) (used : ℕ) → IsFront before.inbox (Whole parts used) → IsTrue (takes_memory (asks parts)) → Aborts old new s
+      → after.inbox ≡ [] → after.pending ≡ [] → IsNotRefused old s (asks parts) → after.status ≡ Refused → ServesSession old new s before after OfMemory
+  refused_memory parts used front takes a inbox none due status =
+      (Whole parts used, λ m h. effects _ m OfMemory (front, λ _. (takes, due m h)) (a m h) (standing _ inbox none status) refl)
 
 -- nothing is the beginning of a request
 nothing_begins : IsProperBeginning []
@@ -141,7 +141,7 @@ nothing_begins = (array_of_bulks ([] ∷ []), [] ∷ [], omega arith, (record { 
 -- where nothing came in, nothing is done
 pub nothing_came : {D : Type 0} {g : Ghosts D} (e : Engine D g) (s : ℕ) (before : SessionState) → may_serve before ≡ true → before.inbox ≡ [] → ServesSession e e s before before OfIdle
 nothing_came e s before may none =
-    more e e s before before may before.pending 0 refl refl (subst IsProperBeginning (sym none) nothing_begins) refl (nothing_pending _ _ may) refl refl
+    more e e s before before may (subst IsProperBeginning (sym none) nothing_begins) refl (nothing_pending _ _ may) refl refl
 
 -- ---- what a crash during it leaves
 

@@ -1,6 +1,6 @@
 -- Runs, event by event.
 use Rattle.sessions.proofs.Words.{common_steps, ◌≡◌, ◌≤◌, ℕ, zero, suc, Bool, true, false, inl, inr, List, [], ◌∷◌, ◌++◌, take, length, refl, sym, subst, ◌∙◌, arith, ◌⊎◌, both_ways, has_failed, LeavesOnly, HoldsBeforeOrAfter, IsLeftByEvent, KeepsCommitted, AppliesWhole, SurvivesEvent, ServesCommit, Commits, HubState, HubEvent, Choice, IsPossible, hub_step, run, IsReachedHub, Ghosts, Hub, StandsFor, device, failures, is_stopped, IsLawful, IsSound, LeadsTo, Ran, Steps, Holds, Operation, State, step}
-use Rattle.model.specs.Laws.{MachineLaw}
+use Rattle.model.specs.Laws.{MachineLaw, PlacesLaw}
 use Rattle.sessions.proofs.LifeLaws.{hub-stopped, Survives, goes_on, nothing, one_event, weaker, loses_nothing as survivors_lose_nothing}
 pub use Rattle.sessions.proofs.LifeLaws.{CountsNow, OnlyNow}
 use Rattle.sessions.proofs.{StreamLaws.always, StreamLaws.machine_reached, StreamLaws.are_streams, EventSteps.stream-some}
@@ -13,8 +13,12 @@ lawful_at law h reached =
     record { reached = machine; isolated = (law h.machine machine).0; serializable = (law h.machine machine).1; transactions = (always h reached).ends; present = streams.present; gone = streams.gone }
 
 -- between two events
-pub sound : {D : Type 0} {g : Ghosts D} (hub : Hub D g) → MachineLaw → (g.keeps_model → KeepsCommitted hub) → IsSound hub
-sound hub law stored = record { lawful = λ h s. lawful_at law h s.reached; stored = λ keeps h s up c left. (stored keeps h s).running up c left }
+pub sound : {D : Type 0} {g : Ghosts D} (hub : Hub D g) → MachineLaw → PlacesLaw → (g.keeps_model → KeepsCommitted hub) → IsSound hub
+sound hub law places stored = record {
+  lawful = λ h s. lawful_at law h s.reached;
+  ordered = λ h s. places h.machine (machine_reached h s.reached);
+  stored = λ keeps h s up c left. (stored keeps h s).running up c left;
+}
 
 -- ---- parts of a run
 

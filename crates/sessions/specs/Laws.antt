@@ -5,7 +5,7 @@ use Rattle.sector.specs.SectorModel.{LeavesOnly}
 use Rattle.engine.specs.{Meaning.committed_of, Meaning.facts_of, Meaning.versions_of, Recovery.HoldsMap, Recovery.committed_map}
 use Rattle.pivot_check.specs.Kept.{HasForgotten, IsGivenBack, runs_due}
 use Rattle.versions.specs.Meaning.{IsReclaimed, due_of}
-use Rattle.model.specs.{Map.Bytes, Laws.IsIsolated, Laws.IsSerializable, ReplyText.reply_text}
+use Rattle.model.specs.{Map.Bytes, Laws.IsIsolated, Laws.IsOrderedByPlace, Laws.IsSerializable, ReplyText.reply_text}
 use Rattle.model.specs.Operations.{Operation, Response, Begin, Done}
 use Rattle.model.specs.Machine.{IsReached, Running, last, running_of, snapshot}
 use Rattle.sessions.specs.{Calls.has_failed, Crashes.HoldsBeforeOrAfter}
@@ -51,10 +51,11 @@ failures_in (e ∷ es) = if e.1.failed then failures_in es + 1 else failures_in 
 abbrev pub begins : HubState → List ℕ
 begins h = map (λ e. e.1.begin) h.machine.running
 
--- A hub between two events: the laws hold of each state that it stands for, and unless the store is stopped a crash leaves the map that is
--- committed.
+-- A hub between two events: the laws hold of each state that it stands for, the order by places is one of the serial
+-- orders, and unless the store is stopped a crash leaves the map that is committed.
 pub record IsSound {D : Type 0} {g : Ghosts D} (hub : Hub D g) : Type 0 where
   pub lawful : (h : HubState) → StandsFor hub h → IsLawful h
+  pub ordered : (h : HubState) → StandsFor hub h → IsOrderedByPlace h.machine
   pub stored : g.keeps_model → (h : HubState) → StandsFor hub h → h.machine.stopped ≡ false → (c : List (List ℕ)) → g.may_leave (device hub) c → HoldsMap c (committed_map h.machine)
 
 -- One event, by a choice that is possible, leads on from each state that the old hub stood for. The device failed in it only where the

@@ -1,8 +1,6 @@
 //! Bytes that are added at the end and taken from the front.
-ghost use Rattle.std.specs.Prelude.{◌≡◌, ◌≤◌, ◌+◌, ◌++◌, [], length, drop, vec_len, vec_capacity, OnOk};
+ghost use Rattle.std.specs.Prelude.{◌≡◌, ◌≤◌, ◌+◌, ◌++◌, [], length, drop, vec_len, vec_capacity};
 ghost use Rattle.sessions.specs.Calls.{rest};
-
-use model::Memory;
 
 /// Bytes, of which the first `start` are given out.
 #[derive(Drop)]
@@ -42,26 +40,6 @@ impl Buffer {
         if self.start == self.bytes.len() {
             self.clear();
         }
-    }
-
-    /// Where nothing is left and there is room for more than `kept` bytes, room for `least` takes its place. `Memory` where that is refused,
-    /// and nothing has changed then.
-    pub(crate) fn give_back(&mut self, least: usize, kept: usize) -> Result<(), Memory>
-        requires start { self.old.start ≤ vec_len self.old.bytes }
-        requires least { least ≤ kept }
-        ensures rest { rest self.new ≡ rest self.old }
-        ensures start { self.new.start ≤ vec_len self.new.bytes }
-        ensures len { vec_len self.new.bytes ≡ vec_len self.old.bytes }
-        ensures capacity { least ≤ vec_capacity self.old.bytes → least ≤ vec_capacity self.new.bytes }
-        ensures kept { OnOk result (vec_len self.new.bytes ≡ 0 → vec_capacity self.new.bytes ≤ kept) }
-    {
-        if self.bytes.is_empty() && self.bytes.capacity() > kept {
-            let Ok(small) = Vec::with_capacity(*self.bytes.allocator(), least) else {
-                return Err(Memory);
-            };
-            self.bytes = small;
-        }
-        Ok(())
     }
 
     /// The bytes that were given out make place.

@@ -5,10 +5,12 @@ use model::VALUE_MAX;
 /// The most bytes that an inbox holds. It is reserved when a session joins.
 pub const INBOX_MAX: usize = 8 * VALUE_MAX;
 
-/// The bytes of output that are reserved when a session joins. Each reply but a value and the pairs of a range fits.
+/// The bytes of output that are reserved when a session joins, and kept until it leaves. Each reply but a value and the pairs of a range
+/// fits; one that is longer has a buffer of its own.
 pub const OUTPUT_ROOM: usize = 536;
 
-/// The most bytes that an output keeps once all of it was sent. What it grew beyond that for a large reply it gives back.
+/// The most bytes of room that are kept of the buffer of a longer reply once all of it was sent, for the next such reply. A buffer with
+/// more goes whole.
 pub const OUTPUT_KEPT: usize = 65_536;
 
 /// The most sessions that are present at a time.

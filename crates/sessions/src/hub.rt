@@ -2,6 +2,7 @@
 ghost use Rattle.std.specs.Prelude.{◌≡◌, ◌≤◌, ℕ, true, [], length, map};
 ghost use Rattle.engine.specs.Meaning.{device_of};
 ghost use Rattle.engine.specs.Meaning.{StandsFor as EngineStandsFor};
+ghost use Rattle.model.specs.Laws.{IsOrderedByPlace};
 ghost use Rattle.model.specs.Machine.{State};
 ghost use Rattle.sessions.specs.Crashes.{SurvivesEvent, AppliesWhole, KeepsCommitted};
 ghost use Rattle.sessions.specs.Laws.{GivesBack, IsLawful, NoneRuns, Runs, RunsAlone, RunsFollow, RunsLead, RunsPart};
@@ -234,8 +235,8 @@ impl<D: Sectors> Hub<D> {
     /// Applies one event, exactly where it may be applied, and answers `Done` then. Each other outcome and what it leaves stands at
     /// `Outcome`.
     ///
-    /// `Joined` takes the session's inbox and output, 131,608 bytes, and its place; `Serve` what the engine takes for the request and
-    /// the reply's text beyond 536 bytes. `Bytes`, `Sent` and `Left` take no memory.
+    /// `Joined` takes the session's inbox and output, 131,608 bytes, and its place; `Serve` what the engine takes for the request, and a
+    /// buffer for a reply whose text is longer than 536 bytes. `Bytes`, `Sent` and `Left` take no memory.
     ///
     /// A crash at any moment of the event leaves the map committed before it or, where it executes a COMMIT, that with the
     /// transaction's writes; after the event it leaves the map that is then committed. A store that is stopped leaves the device alone.
@@ -323,9 +324,11 @@ impl<D: Sectors> Hub<D> {
 
     /// Does nothing, and takes no memory. Its contract says what holds of every state that the hub stands for: no reply of an open
     /// transaction depends on others, what has committed has a serial order, and each session's bytes are those of its requests and of
-    /// the machine's replies.
+    /// the machine's replies. The order by places is such an order, in which each dependency rises: there is no dangerous pivot, and no two
+    /// concurrent transactions wrote one key.
     pub fn is_lawful(&self)
-        ensures { (h : HubState) → StandsFor self.now h → IsLawful h }
+        ensures lawful { (h : HubState) → StandsFor self.now h → IsLawful h }
+        ensures ordered { (h : HubState) → StandsFor self.now h → IsOrderedByPlace h.machine }
     {
         machine_is_serializable();
     }

@@ -13,6 +13,7 @@ mod hub;
 mod laws;
 mod opening;
 mod present;
+mod reply_buffer;
 mod requests;
 mod session;
 

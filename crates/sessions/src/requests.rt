@@ -1,59 +1,40 @@
 //! One request of a session: executed by the engine, answered into an output.
-ghost use Rattle.std.specs.Prelude.{◌≡◌, ◌≤◌, [], length, vec_capacity, Some, true, false};
-ghost use Rattle.model.specs.Bounds.{range_reply_max};
+ghost use Rattle.std.specs.Prelude.{◌≡◌, ◌≤◌, [], true, false};
 ghost use Rattle.model.specs.KeyBytes.{key_bytes, end_bytes};
-ghost use Rattle.model.specs.Operations.{operation_of, response_of, IsFit};
+ghost use Rattle.model.specs.Operations.{operation_of, IsFit};
 ghost use Rattle.model.specs.Operations.Operation.{Get, Range, Abort as ToAbort, Commit as ToCommit};
 ghost use Rattle.model.specs.Operations.Response.{Done};
-ghost use Rattle.resp.specs.Writing.{IsBrief};
 ghost use Rattle.engine.specs.Meaning.{failures_of, device_of, is_stopped, response_to};
 ghost use Rattle.sessions.specs.Calls.{range_of, Writes, refusal_to_read, Executes, Aborts, ServesFront, has_failed};
 ghost use Rattle.sessions.specs.Crashes.{SurvivesCommit, SurvivesRequest, SurvivesFront};
 ghost use Rattle.sessions.specs.SessionStreams.{asks};
 
+use crate::reply_buffer::ReplyBuffer;
 use engine::{Engine, EngineFault, ReadFault};
 use model::{Command, KeyRef, Memory, RangeRef, Refusal, Reply};
-use resp::{Decoded, Request, command, decode, write_pairs, write_reply};
+use resp::{Decoded, Request, command, decode};
 use sector::Sectors;
 
-/// Writes a reply that always has room: any but a value and the pairs of a range.
-fn write_brief(out: &mut Vec<u8>, reply: &Reply<'_>) -> Result<(), Memory>
-    requires brief { IsBrief reply.now }
-    requires empty { out.old.items ≡ [] }
-    requires room { 536 ≤ vec_capacity out.old }
-    ensures written { Writes (Some (response_of reply.now)) out.new.items result }
-    ensures short { length out.new.items ≤ range_reply_max }
-    ensures capacity { vec_capacity out.old ≤ vec_capacity out.new }
-{
-    write_reply(out, reply)
-}
-
 /// Writes what a call without a value answered.
-fn write_done(out: &mut Vec<u8>, answer: Result<(), EngineFault>) -> Result<(), Memory>
-    requires empty { out.old.items ≡ [] }
-    requires room { 536 ≤ vec_capacity out.old }
-    ensures written { Writes (response_to (λ _. Done) answer) out.new.items result }
-    ensures short { length out.new.items ≤ range_reply_max }
-    ensures capacity { vec_capacity out.old ≤ vec_capacity out.new }
+fn write_done(out: &mut ReplyBuffer, answer: Result<(), EngineFault>) -> Result<(), Memory>
+    requires { out.old ≡ [] }
+    ensures { Writes (response_to (λ _. Done) answer) out.new result }
 {
     match answer {
-        Ok(()) => write_brief(out, &Reply::Done),
-        Err(EngineFault::Refused(refusal)) => write_brief(out, &Reply::Refused(&refusal)),
+        Ok(()) => out.write_brief(&Reply::Done),
+        Err(EngineFault::Refused(refusal)) => out.write_brief(&Reply::Refused(&refusal)),
         Err(EngineFault::Memory) => Err(Memory),
     }
 }
 
 /// Writes why a read was refused.
-fn write_read_fault(out: &mut Vec<u8>, fault: ReadFault) -> Result<(), Memory>
-    requires empty { out.old.items ≡ [] }
-    requires room { 536 ≤ vec_capacity out.old }
-    ensures written { Writes (refusal_to_read fault) out.new.items result }
-    ensures short { length out.new.items ≤ range_reply_max }
-    ensures capacity { vec_capacity out.old ≤ vec_capacity out.new }
+fn write_read_fault(out: &mut ReplyBuffer, fault: ReadFault) -> Result<(), Memory>
+    requires { out.old ≡ [] }
+    ensures { Writes (refusal_to_read fault) out.new result }
 {
     match fault {
-        ReadFault::NotOpen => write_brief(out, &Reply::Refused(&Refusal::NotOpen)),
-        ReadFault::FullMarks => write_brief(out, &Reply::Refused(&Refusal::FullMarks)),
+        ReadFault::NotOpen => out.write_brief(&Reply::Refused(&Refusal::NotOpen)),
+        ReadFault::FullMarks => out.write_brief(&Reply::Refused(&Refusal::FullMarks)),
         ReadFault::Memory => Err(Memory),
     }
 }
@@ -63,17 +44,14 @@ fn get<D: Sectors>(
     engine: &mut Engine<D>,
     s: u64,
     key: KeyRef<'_>,
-    out: &mut Vec<u8>,
+    out: &mut ReplyBuffer,
 ) -> Result<(), Memory>
-    requires empty { out.old.items ≡ [] }
-    requires room { 536 ≤ vec_capacity out.old }
-    ensures step { Executes engine.old engine.new s (Get (key_bytes key.entry)) false out.new.items result }
+    requires { out.old ≡ [] }
+    ensures step { Executes engine.old engine.new s (Get (key_bytes key.entry)) false out.new result }
     ensures device { device_of engine.new ≡ device_of engine.old }
-    ensures short { length out.new.items ≤ range_reply_max }
-    ensures capacity { vec_capacity out.old ≤ vec_capacity out.new }
 {
     match engine.get(s, key) {
-        Ok(value) => write_reply(out, &Reply::Value(value)),
+        Ok(value) => out.write_value(value),
         Err(fault) => write_read_fault(out, fault),
     }
 }
@@ -84,54 +62,45 @@ fn range<D: Sectors>(
     s: u64,
     range: RangeRef<'_>,
     limit: u8,
-    out: &mut Vec<u8>,
+    out: &mut ReplyBuffer,
 ) -> Result<(), Memory>
-    requires empty { out.old.items ≡ [] }
-    requires room { 536 ≤ vec_capacity out.old }
+    requires empty { out.old ≡ [] }
     requires limit { (1 ≤ limit) × (limit ≤ 128) }
-    ensures step { Executes engine.old engine.new s (range_of range.entry limit) false out.new.items result }
+    ensures step { Executes engine.old engine.new s (range_of range.entry limit) false out.new result }
     ensures device { device_of engine.new ≡ device_of engine.old }
-    ensures short { length out.new.items ≤ range_reply_max }
-    ensures capacity { vec_capacity out.old ≤ vec_capacity out.new }
 {
     match engine.range(s, range, limit) {
-        Ok(rows) => write_pairs(out, rows.len(), rows),
+        Ok(rows) => out.write_pairs(rows),
         Err(fault) => write_read_fault(out, fault),
     }
 }
 
 /// Executes a COMMIT, and writes its reply.
-fn commit<D: Sectors>(engine: &mut Engine<D>, s: u64, out: &mut Vec<u8>) -> Result<(), Memory>
-    requires empty { out.old.items ≡ [] }
-    requires room { 536 ≤ vec_capacity out.old }
-    ensures step { Executes engine.old engine.new s ToCommit (has_failed engine.old engine.new) out.new.items result }
+fn commit<D: Sectors>(engine: &mut Engine<D>, s: u64, out: &mut ReplyBuffer) -> Result<(), Memory>
+    requires { out.old ≡ [] }
+    ensures step { Executes engine.old engine.new s ToCommit (has_failed engine.old engine.new) out.new result }
     ensures crash { SurvivesCommit engine.old engine.new s }
     ensures still { is_stopped engine.old ≡ true → device_of engine.new ≡ device_of engine.old }
     ensures device { failures_of engine.old ≤ failures_of engine.new }
-    ensures short { length out.new.items ≤ range_reply_max }
-    ensures capacity { vec_capacity out.old ≤ vec_capacity out.new }
 {
     match engine.commit(s) {
         Ok(number) => {
             engine.reclaim();
-            write_brief(out, &Reply::Number(number))
+            out.write_brief(&Reply::Number(number))
         }
         Err(EngineFault::Refused(refusal)) => {
             engine.reclaim();
-            write_brief(out, &Reply::Refused(&refusal))
+            out.write_brief(&Reply::Refused(&refusal))
         }
         Err(EngineFault::Memory) => Err(Memory),
     }
 }
 
 /// Executes an ABORT, and writes its reply.
-fn abort<D: Sectors>(engine: &mut Engine<D>, s: u64, out: &mut Vec<u8>) -> Result<(), Memory>
-    requires empty { out.old.items ≡ [] }
-    requires room { 536 ≤ vec_capacity out.old }
-    ensures step { Executes engine.old engine.new s ToAbort false out.new.items result }
+fn abort<D: Sectors>(engine: &mut Engine<D>, s: u64, out: &mut ReplyBuffer) -> Result<(), Memory>
+    requires { out.old ≡ [] }
+    ensures step { Executes engine.old engine.new s ToAbort false out.new result }
     ensures device { device_of engine.new ≡ device_of engine.old }
-    ensures short { length out.new.items ≤ range_reply_max }
-    ensures capacity { vec_capacity out.old ≤ vec_capacity out.new }
 {
     let answer = engine.abort(s);
     engine.reclaim();
@@ -143,17 +112,14 @@ fn execute<D: Sectors>(
     engine: &mut Engine<D>,
     s: u64,
     command: Command<'_>,
-    out: &mut Vec<u8>,
+    out: &mut ReplyBuffer,
 ) -> Result<(), Memory>
     requires fits { IsFit command }
-    requires empty { out.old.items ≡ [] }
-    requires room { 536 ≤ vec_capacity out.old }
-    ensures step { Executes engine.old engine.new s (operation_of command.entry) (has_failed engine.old engine.new) out.new.items result }
+    requires empty { out.old ≡ [] }
+    ensures step { Executes engine.old engine.new s (operation_of command.entry) (has_failed engine.old engine.new) out.new result }
     ensures crash { SurvivesRequest engine.old engine.new s (operation_of command.entry) }
     ensures still { is_stopped engine.old ≡ true → device_of engine.new ≡ device_of engine.old }
     ensures device { failures_of engine.old ≤ failures_of engine.new }
-    ensures short { length out.new.items ≤ range_reply_max }
-    ensures capacity { vec_capacity out.old ≤ vec_capacity out.new }
 {
     match command {
         Command::Begin => {
@@ -174,7 +140,7 @@ fn execute<D: Sectors>(
         Command::Abort => abort(engine, s, out),
         Command::Ping => {
             engine.passes(s);
-            write_brief(out, &Reply::Pong)
+            out.write_brief(&Reply::Pong)
         }
     }
 }
@@ -184,22 +150,19 @@ fn execute_request<D: Sectors>(
     engine: &mut Engine<D>,
     s: u64,
     request: &Request<'_>,
-    out: &mut Vec<u8>,
+    out: &mut ReplyBuffer,
 ) -> Result<(), Memory>
-    requires empty { out.old.items ≡ [] }
-    requires room { 536 ≤ vec_capacity out.old }
-    ensures step { Executes engine.old engine.new s (asks request.now) (has_failed engine.old engine.new) out.new.items result }
+    requires { out.old ≡ [] }
+    ensures step { Executes engine.old engine.new s (asks request.now) (has_failed engine.old engine.new) out.new result }
     ensures crash { SurvivesRequest engine.old engine.new s (asks request.now) }
     ensures still { is_stopped engine.old ≡ true → device_of engine.new ≡ device_of engine.old }
     ensures device { failures_of engine.old ≤ failures_of engine.new }
-    ensures short { length out.new.items ≤ range_reply_max }
-    ensures capacity { vec_capacity out.old ≤ vec_capacity out.new }
 {
     match command(request) {
         Ok(command) => execute(engine, s, command, out),
         Err(refusal) => {
             engine.passes(s);
-            write_brief(out, &Reply::Refused(&refusal))
+            out.write_brief(&Reply::Refused(&refusal))
         }
     }
 }
@@ -235,16 +198,13 @@ pub(crate) fn serve_request<D: Sectors>(
     engine: &mut Engine<D>,
     s: u64,
     inbox: &[u8],
-    out: &mut Vec<u8>,
+    out: &mut ReplyBuffer,
 ) -> Served
-    requires empty { out.old.items ≡ [] }
-    requires room { 536 ≤ vec_capacity out.old }
-    ensures step { ServesFront engine.old engine.new s (has_failed engine.old engine.new) inbox.now out.new.items result }
+    requires { out.old ≡ [] }
+    ensures step { ServesFront engine.old engine.new s (has_failed engine.old engine.new) inbox.now out.new result }
     ensures crash { SurvivesFront engine.old engine.new s inbox.now }
     ensures still { is_stopped engine.old ≡ true → device_of engine.new ≡ device_of engine.old }
     ensures device { failures_of engine.old ≤ failures_of engine.new }
-    ensures short { length out.new.items ≤ range_reply_max }
-    ensures capacity { vec_capacity out.old ≤ vec_capacity out.new }
 {
     match decode(inbox) {
         Decoded::Whole(request, used) => match execute_request(engine, s, &request, out) {
@@ -257,7 +217,7 @@ pub(crate) fn serve_request<D: Sectors>(
         Decoded::More => Served::Incomplete,
         Decoded::Bad => {
             abort_transaction(engine, s);
-            let _ = write_brief(out, &Reply::Refused(&Refusal::BadFrame));
+            let _ = out.write_brief(&Reply::Refused(&Refusal::BadFrame));
             Served::Broken
         }
     }

@@ -3,7 +3,8 @@ ghost use Rattle.std.specs.Prelude.{◌≡◌, [], IfOk, vec_capacity};
 ghost use Rattle.model.specs.Bounds.{inbox_max};
 
 use crate::buffer::Buffer;
-use crate::events::{INBOX_MAX, OUTPUT_KEPT, OUTPUT_ROOM, Outcome, Status};
+use crate::events::{INBOX_MAX, Outcome, Status};
+use crate::reply_buffer::ReplyBuffer;
 use crate::requests::{Served, serve_request};
 use engine::Engine;
 use model::Memory;
@@ -22,42 +23,26 @@ fn empty_inbox(alloc: Global) -> Result<Buffer, Memory>
     }
 }
 
-/// An output that asked for `OUTPUT_ROOM` bytes and no more.
-fn empty_output(alloc: Global) -> Result<Buffer, Memory>
-    ensures empty { IfOk result (λ b. (b.bytes.items ≡ []) × (b.start ≡ 0)) }
-    ensures exact { IfOk result (λ b. vec_capacity b.bytes ≡ 536) }
-{
-    match Vec::with_capacity(alloc, OUTPUT_ROOM) {
-        Ok(bytes) => Ok(Buffer { bytes, start: 0 }),
-        Err(_refused) => Err(Memory),
-    }
-}
-
 /// What came in and was not read yet, what is to be sent, and how the session stands.
 #[derive(Drop)]
 pub(crate) struct Session {
     inbox: Buffer,
-    output: Buffer,
-    /// Memory was refused where an emptied output was to give its room back.
-    has_surplus: bool,
+    output: ReplyBuffer,
     status: Status,
 }
 
 impl Model for Session {
-    ghost use Rattle.std.specs.Prelude.{◌≡◌, ◌≤◌, false, vec_len, vec_capacity};
-    ghost use Rattle.model.specs.Bounds.{inbox_max, range_reply_max};
-    ghost use Rattle.sessions.specs.Calls.{output_kept};
+    ghost use Rattle.std.specs.Prelude.{◌≤◌, vec_len, vec_capacity};
+    ghost use Rattle.model.specs.Bounds.{inbox_max};
     ghost use Rattle.sessions.specs.Calls.{rest};
     ghost use Rattle.sessions.specs.SessionStreams.{SessionState};
 
     ghost Value = { SessionState };
 
-    ghost view = { λ t. record { inbox = rest t.inbox; pending = rest t.output; status = t.status } };
+    ghost view = { λ t. record { inbox = rest t.inbox; pending = t.output; status = t.status } };
 
-    ghost invariant = { λ t. (t.inbox.start ≤ vec_len t.inbox.bytes) × (vec_len t.inbox.bytes ≤ inbox_max) × (inbox_max ≤ vec_capacity t.inbox.bytes)
-        × (t.output.start ≤ vec_len t.output.bytes) × (536 ≤ vec_capacity t.output.bytes)
-        × (t.has_surplus ≡ false → vec_len t.output.bytes ≡ 0 → vec_capacity t.output.bytes ≤ output_kept)
-        × (vec_len t.output.bytes ≤ range_reply_max) };
+    ghost invariant = { λ t. (t.inbox.start ≤ vec_len t.inbox.bytes) × (vec_len t.inbox.bytes ≤ inbox_max)
+        × (inbox_max ≤ vec_capacity t.inbox.bytes) };
 }
 
 impl Session {
@@ -73,11 +58,10 @@ impl Session {
         ensures { IfOk result (λ t. t ≡ new_session) }
     {
         let inbox = empty_inbox(alloc)?;
-        let output = empty_output(alloc)?;
+        let output = ReplyBuffer::new(alloc)?;
         Ok(Session {
             inbox,
             output,
-            has_surplus: false,
             status: Status::Open,
         })
     }
@@ -126,14 +110,12 @@ impl Session {
         self.inbox.append(piece, INBOX_MAX);
     }
 
-    /// The first `n` pending bytes leave. Where none is left, an output that grew beyond `OUTPUT_KEPT` bytes gives its room back.
+    /// The first `n` pending bytes leave. Takes no memory.
     pub(crate) fn mark_sent(&mut self, n: usize)
         requires { n ≤ length self.old.pending }
         ensures { self.new ≡ record { inbox = self.old.inbox; pending = drop n self.old.pending; status = self.old.status } }
     {
         self.output.consume(n);
-        let given = self.output.give_back(OUTPUT_ROOM, OUTPUT_KEPT);
-        self.has_surplus = given.is_err();
     }
 
     /// Executes the request at the front of the inbox, if a reply is not pending and a whole request stands there.
@@ -149,11 +131,7 @@ impl Session {
         if self.inbox.as_slice().is_empty() {
             return Outcome::Idle;
         }
-        self.output.clear();
-        let served = serve_request(engine, s, self.inbox.as_slice(), &mut self.output.bytes);
-        let given = self.output.give_back(OUTPUT_ROOM, OUTPUT_KEPT);
-        self.has_surplus = given.is_err();
-        match served {
+        match serve_request(engine, s, self.inbox.as_slice(), &mut self.output) {
             Served::Answered(used) => {
                 self.inbox.consume(used);
                 Outcome::Done

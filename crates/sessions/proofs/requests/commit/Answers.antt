@@ -11,14 +11,14 @@ returns-in-Err-Refused-clause-crash g c =
 
 pub returns-in-Ok-clause-step : goal.returns-in-Ok-clause-step
 returns-in-Ok-clause-step g c =
-    executes_commit c.args.engine.now c.commit.new.self c.reclaim.new.self c.args.s _ _ c.write_brief.result c.reclaim.ensures.device c.in-Ok.ensures.step c.reclaim.ensures.keeps c.write_brief.ensures.written
+    executes_commit c.args.engine.now c.commit.new.self c.reclaim.new.self c.args.s _ _ c.write_brief.result c.reclaim.ensures.device c.in-Ok.ensures.step c.reclaim.ensures.keeps c.write_brief.ensures
 
 pub returns-in-Err-Refused-clause-step : goal.returns-in-Err-Refused-clause-step
 returns-in-Err-Refused-clause-step g c =
     executes_commit c.args.engine.now c.commit.new.self c.reclaim-in-Err-Refused.new.self c.args.s _ _ c.write_brief-in-Err-Refused.result c.reclaim-in-Err-Refused.ensures.device
-    (rw c.in-Err-Refused.field-0-is at c.in-Err-Refused.ensures.step) c.reclaim-in-Err-Refused.ensures.keeps c.write_brief-in-Err-Refused.ensures.written
+    (rw c.in-Err-Refused.field-0-is at c.in-Err-Refused.ensures.step) c.reclaim-in-Err-Refused.ensures.keeps c.write_brief-in-Err-Refused.ensures
 
 pub returns-in-Err-Memory-clause-step : goal.returns-in-Err-Memory-clause-step
 returns-in-Err-Memory-clause-step g c =
     let same = rw (c.in-Err-Memory.is ∙ ap Err c.in-Err-Memory.field-0-is) at c.commit.ensures.step in
-    (refl, (λ m h. (m, (same.0 m).0 h, refl)), c.requires.empty, same.1)
+    (refl, (λ m h. (m, (same.0 m).0 h, refl)), c.requires, same.1)

@@ -1,5 +1,8 @@
-use Rattle.sessions.proofs.Runs.{lawful_at}
+use Rattle.sessions.proofs.{Runs.lawful_at, StreamLaws.machine_reached}
 use Rattle.sessions.proofs.hub.Hub.is_lawful.Goals as goal
 
-pub returns : goal.returns
-returns g c h stands = lawful_at c.machine_is_serializable.ensures h stands.reached
+pub returns-clause-lawful : goal.returns-clause-lawful
+returns-clause-lawful g c h stands = lawful_at c.machine_is_serializable.ensures.serializable h stands.reached
+
+pub returns-clause-ordered : goal.returns-clause-ordered
+returns-clause-ordered g c h stands = c.machine_is_serializable.ensures.places h.machine (machine_reached h stands.reached)

@@ -1,12 +1,10 @@
-use Rattle.sessions.proofs.Words.{common_steps, arith, hub_step, More}
-use Rattle.sessions.proofs.EventSteps.{leads, stream-some, stream-none, remove-at_hand}
+use Rattle.sessions.proofs.Words.{common_steps, arith, refl, hub_step, More}
+use Rattle.sessions.proofs.EventSteps.{goes, leads, stream-none}
 use Rattle.sessions.proofs.hub.Hub.left.Goals as goal
 
 pub returns-in-Some-clause-step : goal.returns-in-Some-clause-step
-unfolding hub_step
-returns-in-Some-clause-step g c = leads c.args.self.now _ _ _ More (λ h stands. (
-    let f = stream-some c.args.self.now h stands c.args.s _ c.in-Some.ensures.value in
-    grind (arith, common_steps, remove-at_hand c.args.s h.present)))
+returns-in-Some-clause-step g c =
+    goes c.args.self.now _ c.args.s _ c.in-Some.ensures.value c.in-Some.ensures.entries refl c.abort_transaction.ensures.left
 
 pub returns-in-None-clause-step : goal.returns-in-None-clause-step
 unfolding hub_step

@@ -2,10 +2,10 @@ use Rattle.sessions.proofs.Runs.{sound}
 use Rattle.sessions.proofs.hub.Hub.reclaim.Goals as goal
 
 pub returns : goal.returns
-returns g c = record {
+returns g c = let law = c.machine_is_serializable.ensures in record {
   ran = (
-    sound c.args.self.now c.machine_is_serializable.ensures c.is_stored.ensures,
-    sound _ c.machine_is_serializable.ensures c.is_stored-2.ensures,
+    sound c.args.self.now law.serializable law.places c.is_stored.ensures,
+    sound _ law.serializable law.places c.is_stored-2.ensures,
     record {
       stands = λ h s. record { engine = c.reclaim-more.ensures.keeps h.machine s.engine; sessions = s.sessions; latest = s.latest; reached = s.reached };
       device_is = c.reclaim-more.ensures.device;

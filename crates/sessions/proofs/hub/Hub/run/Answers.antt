@@ -4,9 +4,9 @@ use Rattle.sessions.proofs.{Reached.reached, Runs.no_event, Runs.ran_then, Runs.
 use Rattle.sessions.proofs.hub.Hub.run.Goals as goal
 
 pub loop-event-init : goal.loop-event-init
-loop-event-init g c = record {
+loop-event-init g c = let law = c.machine_is_serializable.ensures in record {
   device = omega arith;
-  runs = record { choices = []; are = refl; by = no_event c.args.self.now (sound c.args.self.now c.machine_is_serializable.ensures c.is_stored.ensures) };
+  runs = record { choices = []; are = refl; by = no_event c.args.self.now (sound c.args.self.now law.serializable law.places c.is_stored.ensures) };
 }
 
 pub loop-event-preserved : goal.loop-event-preserved

@@ -2,7 +2,8 @@ use Rattle.sessions.proofs.Runs.{leads_to, no_event, ran_parts, ran_then, sound}
 use Rattle.sessions.proofs.hub.Hub.runs_follow.Goals as goal
 
 pub returns-clause-none : goal.returns-clause-none
-returns-clause-none g c = no_event c.args.self.now (sound c.args.self.now c.machine_is_serializable.ensures c.is_stored.ensures)
+returns-clause-none g c =
+    let law = c.machine_is_serializable.ensures in no_event c.args.self.now (sound c.args.self.now law.serializable law.places c.is_stored.ensures)
 
 pub returns-clause-follow : goal.returns-clause-follow
 returns-clause-follow g c = ran_then
