@@ -83,7 +83,9 @@ abbrev pub ready_len : Option (List StepValue) → ℕ
 ready_len None = 0
 ready_len (Some ss) = length ss
 
--- the steps that were made ready came with number n as a run, and the merges under way were moved on; a move takes one step, or two of one
--- key
+-- The steps that were made ready came with number n as a run, and the merges under way were moved on; a move takes one step, or two of one
+-- key. No merge was begun, so no memory for one was refused.
 abbrev pub AreMoved : ℕ → LastReadersValue → LastReadersValue → Type 0
-AreMoved n old new = let count = ready_len old.room.ready in IsMoved 2 new.readers.oldest (moves_for count) (with_run n count old.runs) new.runs
+AreMoved n old new =
+    let count = ready_len old.room.ready in
+    IsMoved 2 new.readers.oldest (moves_for count) (with_run n count old.runs) new.runs × (new.refused ≡ old.refused)

@@ -144,7 +144,6 @@ impl LastReaders {
         ensures upto { AreUpto n self.new.readers }
         ensures oldest { self.new.readers.oldest ≡ self.old.readers.oldest }
         ensures moved { AreMoved n self.old self.new }
-        ensures refused { self.new.refused ≡ self.old.refused }
     {
         let count = self.add_ready(n);
         self.runs.move_on(self.oldest, count);
