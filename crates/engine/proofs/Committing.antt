@@ -1,12 +1,14 @@
 -- What a commit does to the states that an engine stands for.
-use Rattle.engine.proofs.Words.{common_steps, ◌≡◌, ◌⊎◌, ◌≤◌, ◌+◌, ◌-◌, ◌^◌, ℕ, suc, Bool, true, false, List, [], ◌∷◌, ◌++◌, Option, Some, None, refl, sym, ap, subst, ◌∙◌, length, length-append, arith, ⊎_elim, inl, slice_index_or, lt-ltb, le-ltb, eq-eqb, ne_eqb, or_left, or_right, both_ways, Refusal, StoreStopped, FullNumbers, FullLog, StoreFault, Overwritten, Bytes, KeyMap, KeyWrite, after_writes, Operation, Response, Commit, Number, Refused, Record, State, Running, last, snapshot, leave, record_to_commit, refuse, join_history, body_sectors, store, store_unless, commit, step, View, HasMade, is_refused, writes, Facts, CommittedValue, IsInReach, Ghosts, Log, is_stopped, used_sectors, sector_count, HistoryValue, IsSameHistory, Joins, Engine, StandsFor, IsRunning, entry_of, Leaves, IsWritten, HasLogRoom, IsLogged, IsLogStopped, sectors_taken, StandsForSame, Leads, IsNotRefused, IsReadOnly, IsLeftByCommit, has_risen, response_to, IsStored, WhereStored, SurvivesAppend, LeavesInDoubt, HoldsMap, committed_map, device_of, AreRunning}
+use Rattle.engine.proofs.Words.{common_steps, ◌≡◌, ◌⊎◌, ◌≤◌, ◌+◌, ◌-◌, ◌^◌, ℕ, suc, Bool, true, false, List, [], ◌∷◌, ◌++◌, Option, Some, None, refl, sym, ap, subst, ◌∙◌, length, length-append, arith, ⊎_elim, inl, slice_index_or, lt-ltb, le-ltb, eq-eqb, ne_eqb, or_left, or_right, both_ways, Refusal, StoreStopped, FullNumbers, FullLog, StoreFault, Overwritten, Bytes, KeyMap, KeyWrite, after_writes, Operation, Response, Commit, Number, Refused, Record, State, Running, last, snapshot, leave, record_to_commit, refuse, join_history, body_sectors, store, store_unless, commit, step, View, HasMade, is_refused, writes, Facts, CommittedValue, IsInReach, Ghosts, Log, is_stopped, used_sectors, sector_count, HistoryValue, IsSameHistory, Joins, Engine, StandsFor, IsRunning, entry_of, Leaves, IsWritten, HasLogRoom, IsLogged, IsLogStopped, sectors_taken, StandsForSame, Leads, IsNotRefused, IsReadOnly, IsLeftByCommit, has_risen, response_to, IsStored, WhereStored, SurvivesAppend, LeavesInDoubt, HoldsMap, committed_map}
+use Rattle.engine.proofs.Words.{device_of, AreRunning}
 use Rattle.engine.specs.Recovery.{IsInDoubt}
 use Rattle.std.specs.Prelude.{Err}
 use Rattle.std.proofs.lemmas.Option.{get_or_from_slice_get}
 use Rattle.model.specs.Verdict.{verdict}
 use Rattle.model.proofs.{Lookups.some_same, Machines.map_at-append}
 use Rattle.versions.specs.StandsFor.{StandsFor as VersionsStandFor}
-use Rattle.pivot_check.specs.StandsFor.{IsRecordOf, IsVerdict, IsClear, IsCleared, StandForSame, StandsFor as CommittedStandsFor}
+use Rattle.pivot_check.specs.StandsFor.{IsRecordOf, IsVerdict, IsClear, IsCleared, StandForSame}
+use Rattle.pivot_check.specs.StandsFor.{StandsFor as CommittedStandsFor}
 use Rattle.pivot_check.proofs.SameHistories.{in_reach_still, stand_back, still_cleared}
 use Rattle.pivot_check.specs.declared.Verdict.TheVariants as verdicts
 use Rattle.pivot_check.specs.declared.verdict.Cleared.{Cleared}
@@ -39,19 +41,22 @@ pub weaker_crash : {D : Type 0} (moment : D → ℕ) (left_since : D → ℕ →
 weaker_crash moment left_since old new P Q f h = grind (arith, common_steps, ⊎_elim)
 
 -- a transaction that runs beside what is kept runs beside what stands for the same histories
-runs_beside : (old new : Facts) (held : ℕ → Bool) (base : KeyMap) (history : List Record) → StandForSame old new → (t : View) (r : Running) → IsRunning old held base history t r → IsRunning new held base history t r
-runs_beside old new held base history same t r is = record { begin = is.begin; made = is.made; in_reach = in_reach_still old new t same is.in_reach; is_held = is.is_held }
+runs_beside : (old new : Facts) (held : ℕ → Bool) (base : KeyMap) (history : List Record) → StandForSame old new → (t : View) (r : Running)
+    → IsRunning old held base history t r → IsRunning new held base history t r
+runs_beside old new held base history same t r is =
+    record { begin = is.begin; made = is.made; in_reach = in_reach_still old new t same is.in_reach; is_held = is.is_held }
 
 module _ {D : Type 0} {g : Ghosts D} where
   -- only memory was made ready
-  same_with : (e e' : Engine D g) (m : State) → e'.log ≡ e.log → e'.running.entries ≡ e.running.entries → StandForSame e.history.committed.facts e'.history.committed.facts
+  same_with : (e e' : Engine D g) (m : State) → e'.log ≡ e.log → e'.running.entries ≡ e.running.entries
+      → StandForSame e.history.committed.facts e'.history.committed.facts
       → ((held : ℕ → Bool) (base : KeyMap) (history : List Record) → VersionsStandFor e.history.versions held base history → VersionsStandFor e'.history.versions held base history) → StandsFor e m → StandsFor e' m
   same_with e e' m log entries same stands h =
       let stopped : is_stopped e'.log ≡ is_stopped e.log = ap (λ (l : Log D g). is_stopped l) log in
       let used : used_sectors e'.log ≡ used_sectors e.log = ap (λ (l : Log D g). used_sectors l) log in
       let count : sector_count e'.log ≡ sector_count e.log = ap (λ (l : Log D g). sector_count l) log in
       let running = beside_weaker (Held e m h) (λ t r. IsRunning e'.history.committed.facts h.held m.base m.history t r)
-          (runs_beside e.history.committed.facts e'.history.committed.facts h.held m.base m.history same) e.running.entries m.running h.running in
+      (runs_beside e.history.committed.facts e'.history.committed.facts h.held m.base m.history same) e.running.entries m.running h.running in
       let oldest = same.oldest in
       let kept = h.kept in
       record {
@@ -145,7 +150,8 @@ module _ {D : Type 0} {g : Ghosts D} where
       → (m : State) → StandsFor e m → StandsFor (record e' { log = e.log }) (leave m s)
   left_by e e' log history s same leaves m h =
       leave_call (record e { history = history }) (record e' { log = e.log }) s
-      (record { store = record { log = refl; history = leaves.store.history }; entries = leaves.entries; fewer = leaves.fewer }) m (same_with e (record e { history = history }) m refl refl same.committed (λ held base history. (same.stands held base history).0) h)
+      (record { store = record { log = refl; history = leaves.store.history }; entries = leaves.entries; fewer = leaves.fewer }) m
+      (same_with e (record e { history = history }) m refl refl same.committed (λ held base history. (same.stands held base history).0) h)
 
   -- ---- a commit in which the device failed
 
@@ -179,7 +185,8 @@ module _ {D : Type 0} {g : Ghosts D} where
       → e'.log ≡ e.log → e'.running.entries ≡ e.running.entries → IsSameHistory e.history e'.history → StandsForSame e e' × IsNotRefused e s Commit
   commit_memory e e' s t j log entries same =
       let there = λ (m : State). same_with e e' m log entries same.committed (λ held base history. (same.stands held base history).0) in
-      let back = λ (m : State). same_with e' e m (sym log) (sym entries) (stand_back _ _ same.committed) (λ held base history. (same.stands held base history).1) in
+      let back = λ (m : State). same_with e' e m (sym log) (sym entries) (stand_back _ _ same.committed)
+          (λ held base history. (same.stands held base history).1) in
       (λ m. (there m, back m), λ m h. ap (λ (p : State × Response). is_refused p.1) (step_joined e s t false j (λ _. refl) m h (found_open e m s t h j.asked.entry)))
 
   -- the committed map with the transaction's writes
@@ -200,8 +207,10 @@ module _ {D : Type 0} {g : Ghosts D} where
       let left = left_by e e' log history s same leaves m h in
       let stay : StandForSame e.history.committed.facts e'.history.committed.facts =
       subst (λ (v : HistoryValue). StandForSame e.history.committed.facts v.committed.facts) (sym leaves.store.history) same.committed in
-      let own = subst (λ (v : View). IsInReach e'.history.committed.facts v × IsRecordOf v (e'.history.committed.facts.last + 1) r) (sym (some_same (taken ∙ j.asked.entry)))
-      (in_reach_still e.history.committed.facts e'.history.committed.facts t stay at.same.in_reach, subst (λ n. IsRecordOf t (n + 1) r) (sym stay.last) (own_record e m t at.run h j.made at.same)) in
+      let own = subst (λ (v : View). IsInReach e'.history.committed.facts v × IsRecordOf v (e'.history.committed.facts.last + 1) r)
+      (sym (some_same (taken ∙ j.asked.entry)))
+      (in_reach_still e.history.committed.facts e'.history.committed.facts t stay at.same.in_reach,
+      subst (λ n. IsRecordOf t (n + 1) r) (sym stay.last) (own_record e m t at.run h j.made at.same)) in
       let l = left.history.committed.last in let used = h.used in let taken' = logged.used in let log' = leaves.store.log in
       let long : length (m.history ++ r ∷ []) ≡ length m.history + 1 = length-append m.history (r ∷ []) in
       let counted : suc (length m.history) ≡ n = omega arith in
@@ -215,8 +224,9 @@ module _ {D : Type 0} {g : Ghosts D} where
       (join.0, grind (arith, common_steps, both_ways), is ∙ ap (λ k. (join.0, Number k)) counted)
 
   -- the transaction that has ended was cleared, and memory alone was made ready since
-  pub cleared_still : (e e' : Engine D g) (log : Log D g) (history : HistoryValue) (s : ℕ) (t u : View) (cleared : Cleared) → entry_of s e ≡ Some t → IsCleared e.history.committed.facts t cleared
-      → IsSameHistory e.history history → Leaves (record e { log = log; history = history }) e' s → Some u ≡ entry_of s e → IsCleared e'.history.committed.facts u cleared
+  pub cleared_still : (e e' : Engine D g) (log : Log D g) (history : HistoryValue) (s : ℕ) (t u : View) (cleared : Cleared) → entry_of s e ≡ Some t
+      → IsCleared e.history.committed.facts t cleared → IsSameHistory e.history history → Leaves (record e { log = log; history = history }) e' s
+      → Some u ≡ entry_of s e → IsCleared e'.history.committed.facts u cleared
   cleared_still e e' log history s t u cleared entry is same leaves taken =
       subst (λ (v : View). IsCleared e'.history.committed.facts v cleared) (sym (some_same (taken ∙ entry)))
       (still_cleared e.history.committed.facts e'.history.committed.facts t cleared

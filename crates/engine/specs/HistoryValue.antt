@@ -1,5 +1,5 @@
 -- What has committed, as contracts see it: the versions of its writes, and what is kept to check later commits.
-use Rattle.std.specs.Prelude.{◌≡◌, ◌↔◌, ℕ, ◌+◌, ◌&&◌, Bool, IsTrue, nat_lt, List, [], ◌∷◌, ◌++◌}
+use Rattle.std.specs.Prelude.{◌↔◌, ℕ, ◌+◌, ◌&&◌, Bool, IsTrue, nat_lt, List, [], ◌∷◌, ◌++◌}
 use Rattle.std.specs.List.{AllByRecursion}
 use Rattle.model.specs.{Map.KeyMap, History.Record}
 use Rattle.versions.specs.{Chains.ChainsValue, Chains.IsPrepared, Listings.IsUnmixed, Meaning.IsSameMeaning, Meaning.due_of, Meaning.is_among}

@@ -1,5 +1,6 @@
 -- What a COMMIT was judged to be.
-use Rattle.std.specs.Prelude.{◌≡◌, ℕ, ◌<◌, ◌-◌, ◌^◌, Bool, false, List, [], Option, Some, None, length, slice_index_or}
+use Rattle.std.specs.Prelude.{◌≡◌, ℕ, ◌<◌, ◌-◌, ◌^◌, Bool, false, List, [], length, slice_index_or}
+use Rattle.std.specs.Prelude.{Option, Some, None}
 use Rattle.model.specs.{declared.refusals.Refusal.Refusal, Map.KeyMap, Map.KeyWrite, Operations.Operation, Operations.Operation.Commit, PrivateCopy.writes}
 use Rattle.model.specs.declared.refusals.Refusal.TheVariants as refusals
 use Rattle.model.specs.Machine.{State, refuse, step, payload_size}
@@ -37,7 +38,8 @@ IsPayload ws (Some len) = IsWritten ws × (len ≡ payload_size ws)
 abbrev pub IsJudged : {D : Type 0} {g : Ghosts D} → Engine D g → ℕ → View → Judgement → Type 0
 IsJudged e s t (Refused refusal) = IsRefused e s refusal
 IsJudged e s t (Overwritten i) = (i < length t.writes) × ((d : KeyWrite) → IsRefused e s (refusals.Overwritten (slice_index_or t.writes i d).0))
-IsJudged e s t (Clear payload cleared) = IsToCommit e s t × IsPayload t.writes payload × IsCleared e.history.committed.facts t cleared
+IsJudged e s t (Clear payload cleared) =
+    IsToCommit e s t × IsPayload t.writes payload × IsCleared e.history.committed.facts t cleared
 
 -- so it is in each engine with this log and these commits, for each session that runs the transaction
 abbrev pub IsJudgedOver : {D : Type 0} {g : Ghosts D} → Log D g → HistoryValue → View → Judgement → Type 0

@@ -63,8 +63,8 @@ impl History {
         self.committed.reserve(transaction)
     }
 
-    /// Takes the transaction, which was cleared, in as the next commit, in the memory that was made for it, and answers its number. Takes no
-    /// memory.
+    /// Takes the transaction, which was cleared, in as the next commit, in the memory that was made for it, and answers its number. Takes
+    /// no memory.
     pub(crate) fn join(&mut self, transaction: Transaction, cleared: Cleared) -> u64
         requires ready { IsReady self.old transaction }
         requires cleared { IsCleared self.old.committed.facts transaction cleared }

@@ -83,8 +83,8 @@ abbrev pub ready_len : Option (List StepValue) → ℕ
 ready_len None = 0
 ready_len (Some ss) = length ss
 
--- The steps that were made ready came with number n as a run, and the merges under way were moved on; a move takes one step, or two of one
--- key. No merge was begun, so no memory for one was refused.
+-- The steps that were made ready came with number n as a run, and the merges under way were moved on; a move takes one
+-- step, or two of one key. No merge was begun, so no memory for one was refused.
 abbrev pub AreMoved : ℕ → LastReadersValue → LastReadersValue → Type 0
 AreMoved n old new =
     let count = ready_len old.room.ready in

@@ -3,8 +3,8 @@ ghost use Rattle.std.specs.Prelude.{◌≡◌, ◌<◌, ◌-◌, ℕ, List, [], 
 ghost use Rattle.model.specs.Map.{Bytes};
 ghost use Rattle.model.specs.PrivateCopy.{Mark};
 ghost use Rattle.merging_runs.specs.Held.{due_upto, given_a_forget, size_in};
-ghost use Rattle.last_readers.specs.Readers.{last_reader, after, AnswerAlike, AreMoved, AreUpto, IsNoted, IsForgotten, IsReady, HasRoom};
-ghost use Rattle.last_readers.specs.Readers.{due_of, ready_len};
+ghost use Rattle.last_readers.specs.Readers.{AnswerAlike, AreMoved, AreUpto, HasRoom, IsForgotten, IsNoted, IsReady};
+ghost use Rattle.last_readers.specs.Readers.{after, due_of, last_reader, ready_len};
 ghost use Rattle.merging_runs.specs.RunSizes.{IsTried, are_alike, left_above, with_run};
 
 use crate::gathering::steps_of;
@@ -95,8 +95,8 @@ impl LastReaders {
     /// Makes all room that noting these marks takes, so that `note` can't fail: copies of the keys in the marks, and the place of a run.
     /// `Memory` where memory for that is refused. It takes the time of sorting the marks, and answers as before in either case.
     ///
-    /// It begins to merge the last two runs beside one another that are of a like size, where there are such: that takes the places of both.
-    /// Where memory for these is refused, it counts the refusal, and the two stay.
+    /// It begins to merge the last two runs beside one another that are of a like size, where there are such: that takes the places of
+    /// both. Where memory for these is refused, it counts the refusal, and the two stay.
     pub fn reserve(&mut self, marks: &Marks) -> Result<(), Memory>
         ensures readers { AnswerAlike self.old.readers self.new.readers }
         ensures tried { IsTried (are_alike self.old.readers.oldest) self.old.runs self.new.runs self.old.refused self.new.refused }

@@ -100,7 +100,9 @@ module _ (f : Facts) (history : List Record) (s : StandsFor f history) (t : View
 
   -- ---- the transaction commits
   pub flag_is : list_any (concurrent_read_write r) history ≡ list_any (λ k. follows k t) records
-  flag_is = sym (any_filter (λ y. concurrent_read_write r y) (λ p. nat_lt t.begin p.commit) (λ y h. read_write_kept t.begin r y low (or_left (concurrent_read_write r y) _ h)) history)
+  flag_is =
+      sym (any_filter (λ y. concurrent_read_write r y) (λ p. nat_lt t.begin p.commit)
+      (λ y h. read_write_kept t.begin r y low (or_left (concurrent_read_write r y) _ h)) history)
       ∙ any_kept (concurrent_read_write r) (λ k. follows k t) from_new
 
   own_flag : has_earlier_target (history ++ r ∷ []) r ≡ list_any (λ k. follows k t) records

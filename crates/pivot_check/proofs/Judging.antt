@@ -2,13 +2,16 @@
 use Rattle.pivot_check.proofs.Words.{◌≡◌, ◌≤◌, ◌<◌, ◌+◌, ℕ, Bool, true, false, cond, List, [], ◌∷◌, ◌++◌, Option, Some, None, map, length, refl, sym, ap, subst, ◌∙◌, arith, nat_lt, is_some, find, not, list_any, filter, position, Bytes, KeyWrite, Mark, Record, IsRising as RecordsRise, rising_from_numbered, all-map, find_alike, length_push, nil_from_length, View, KeptRecord, Facts, keys_of, is_written, leads_to, follows, becomes_pivot, first_number, last_number, are_in_order, own_record, IsInReach, Posting, postings_by, least, lesser, covered_of, are_upto, StandsFor, IsRecordOf, Says, AreWriters, verdict_found, kept_of, kept_above, Readers, last_reader, IsNoted, IsForgotten}
 use Rattle.std.specs.Prelude.{option_map, ◌&&◌}
 use Rattle.model.specs.Dependency.{concurrent_read_write}
-use Rattle.pivot_check.specs.{declared.verdict.Cleared.Cleared, StandsFor.IsCleared, StandsFor.IsClearedBy, StandsFor.IsVerdict}
+use Rattle.pivot_check.specs.declared.verdict.Cleared.{Cleared}
+use Rattle.pivot_check.specs.StandsFor.{IsCleared, IsClearedBy, IsVerdict}
 use Rattle.model.specs.{declared.refusals.Refusal.Refusal, Verdict.verdict, Verdict.conflict_of}
 use Rattle.model.specs.declared.refusals.Refusal.TheVariants as refusal
 use Rattle.pivot_check.specs.Index.{is_written_since, target, source, other_pivot, answer_found}
-use Rattle.pivot_check.specs.{declared.verdict.Verdict.Verdict, declared.verdict.Verdict.TheVariants.Clear, declared.verdict.Verdict.TheVariants.Overwritten, declared.verdict.Verdict.TheVariants.PivotSelf, declared.verdict.Verdict.TheVariants.Pivot}
+use Rattle.pivot_check.specs.declared.verdict.Verdict.{Verdict}
+use Rattle.pivot_check.specs.declared.verdict.Verdict.TheVariants.{Clear, Overwritten, PivotSelf, Pivot}
 use Rattle.pivot_check.proofs.{Lists.found_at, Lists.found_nowhere, LastSources.source_found, LastSources.noted_readers, LastSources.forgotten_readers}
-use Rattle.pivot_check.proofs.Histories.{flag_is, history_rises, kept_later, verdict_is, all_kept, numbered, begun, no_pivot}
+use Rattle.pivot_check.proofs.Histories.{flag_is}
+use Rattle.pivot_check.proofs.Histories.{history_rises, kept_later, verdict_is, all_kept, numbered, begun, no_pivot}
 use Rattle.pivot_check.proofs.Writers.{IsRising, any_is_found, written as written_by, target as target_by, pivot as pivot_by, noted as writers_noted, forgotten as writers_forgotten, by_upto}
 
 rising_map : (h rs : List Record) → RecordsRise rs → IsRising (map (kept_of h) rs)
@@ -68,7 +71,9 @@ module _ (f : Facts) (history : List Record) (s : StandsFor f history) where
     target_found = ap is_some (sym target_is) ∙ sym (any_is_found (λ k. follows k t) records) ∙ sym (flag_is f history s t reach r own)
 
     module _ (clear : verdict history r ≡ None) (readers : Readers) (read : IsNoted t.marks (f.last + 1) f.readers readers)
-        (postings : List Posting) (has : (c : Posting → Bool) → least c postings ≡ lesser (least c f.postings) (least c (postings_by (f.last + 1) (list_any (concurrent_read_write r) history) (keys_of t.writes)))) where
+        (postings : List Posting)
+        (has : (c : Posting → Bool) → least c postings
+            ≡ lesser (least c f.postings) (least c (postings_by (f.last + 1) (list_any (concurrent_read_write r) history) (keys_of t.writes)))) where
       pub noted : StandsFor (record { readers = readers; postings = postings; oldest = f.oldest; last = f.last + 1 }) (history ++ r ∷ [])
       noted =
           let n = f.last + 1 in
@@ -112,7 +117,8 @@ clear_is f t e = sym (λ i. verdict_found (are_in_order (sym e i) (source f t)) 
 pub notes : (f : Facts) (history : List Record) → StandsFor f history → (t : View) → IsInReach f t → (n : ℕ) → n ≡ f.last + 1 → (r : Record) → IsRecordOf t n r
     → (cleared : Cleared) → IsCleared f t cleared → (keys : List Bytes) → keys ≡ keys_of t.writes
     → (readers : Readers) → IsNoted t.marks n f.readers readers
-    → (postings : List Posting) → ((c : Posting → Bool) → least c postings ≡ lesser (least c f.postings) (least c (postings_by n cleared.has_earlier_target keys)))
+    → (postings : List Posting)
+    → ((c : Posting → Bool) → least c postings ≡ lesser (least c f.postings) (least c (postings_by n cleared.has_earlier_target keys)))
     → (oldest : ℕ) → oldest ≡ f.oldest → StandsFor (record { readers = readers; postings = postings; oldest = oldest; last = n }) (history ++ r ∷ [])
 notes f history s t reach n next r own cleared is keys keys_is readers read postings has oldest oldest_is =
     let own' : IsRecordOf t (f.last + 1) r = subst (λ m. IsRecordOf t m r) next own in
@@ -121,7 +127,8 @@ notes f history s t reach n next r own cleared is keys keys_is readers read post
     (noted f history s t reach r own' clear.0 readers (subst (λ m. IsNoted t.marks m f.readers readers) next read)
     postings (λ c. has c ∙ (λ i. lesser (least c f.postings) (least c (postings_by (next i) (clear.1 i) (keys_is i))))))
 
-found_follows : (own : Bool) (other : Option ℕ) (follows : Bool) (cleared : Cleared) → Clear cleared ≡ verdict_found own other follows → cleared.has_earlier_target ≡ follows
+found_follows : (own : Bool) (other : Option ℕ) (follows : Bool) (cleared : Cleared) → Clear cleared ≡ verdict_found own other follows
+    → cleared.has_earlier_target ≡ follows
 found_follows true other follows cleared e = cc
 found_follows false None follows cleared e = grind arith
 found_follows false (Some n) follows cleared e = cc

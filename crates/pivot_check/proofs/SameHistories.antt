@@ -1,11 +1,16 @@
 -- What stands for the same histories.
-use Rattle.pivot_check.proofs.Words.{◌≡◌, ◌+◌, ℕ, Bool, List, refl, sym, ap, subst, ◌∙◌, arith, ◌&&◌, nat_lt, cut, last_reader, Record, View, Facts, IsInReach, Posting, least}
+use Rattle.pivot_check.proofs.Words.{◌≡◌, ◌+◌, ℕ, Bool, List, sym, ap, subst, ◌∙◌, arith, ◌&&◌, nat_lt, cut}
+use Rattle.pivot_check.proofs.Words.{last_reader, Record, View, Facts, IsInReach, Posting, least}
 use Rattle.pivot_check.proofs.Words.{AreWriters, IsRecordOf, kept_above, last_reader_in, StandsFor}
 use Rattle.last_readers.specs.Readers.{AnswerAlike}
 use Rattle.pivot_check.specs.{declared.verdict.Cleared.Cleared, StandsFor.IsCleared, StandsFor.StandForSame}
 
+-- the least number above that one is the same, whatever is asked
+abbrev AnswerSame : ℕ → List Posting → List Posting → Type 0
+AnswerSame o old new = (c : Posting → Bool) → least (λ p. nat_lt o p.number && c p) new ≡ least (λ p. nat_lt o p.number && c p) old
+
 -- what answers alike stands for the same histories
-alike : (f g : Facts) → AnswerAlike f.readers g.readers → ((c : Posting → Bool) → least (λ p. nat_lt f.oldest p.number && c p) g.postings ≡ least (λ p. nat_lt f.oldest p.number && c p) f.postings)
+alike : (f g : Facts) → AnswerAlike f.readers g.readers → AnswerSame f.oldest f.postings g.postings
     → g.oldest ≡ f.oldest → g.last ≡ f.last → (history : List Record) → StandsFor f history → StandsFor g history
 alike f g readers postings oldest last history s = record {
   numbered = s.numbered;
@@ -16,20 +21,23 @@ alike f g readers postings oldest last history s = record {
   writers = subst (λ o. AreWriters o g.postings (kept_above o history)) (sym oldest) (λ c. postings c ∙ s.writers c);
 }
 
-stand_for_same : (f g : Facts) → AnswerAlike f.readers g.readers → ((c : Posting → Bool) → least (λ p. nat_lt f.oldest p.number && c p) g.postings ≡ least (λ p. nat_lt f.oldest p.number && c p) f.postings)
+stand_for_same : (f g : Facts) → AnswerAlike f.readers g.readers → AnswerSame f.oldest f.postings g.postings
     → g.oldest ≡ f.oldest → g.last ≡ f.last → StandForSame f g
 stand_for_same f g readers postings oldest last =
-    let back = λ (c : Posting → Bool). ap (λ o. least (λ p. nat_lt o p.number && c p) f.postings) oldest ∙ sym (postings c) ∙ ap (λ o. least (λ p. nat_lt o p.number && c p) g.postings) (sym oldest) in
+    let readers_back : AnswerAlike g.readers f.readers = record { readers = λ k. sym (readers.readers k); oldest = sym readers.oldest } in
+    let back : AnswerSame g.oldest g.postings f.postings = subst (λ o. AnswerSame o g.postings f.postings) (sym oldest) (λ c. sym (postings c)) in
     record {
-      stands = λ history. (alike f g readers postings oldest last history, alike g f (record { readers = λ k. sym (readers.readers k); oldest = sym readers.oldest }) back (sym oldest) (sym last) history);
+      stands = λ history. (alike f g readers postings oldest last history, alike g f readers_back back (sym oldest) (sym last) history);
       oldest = oldest;
       last = last;
     }
 
-pub same_from : (was f g : Facts) → f ≡ was → AnswerAlike f.readers g.readers → ((c : Posting → Bool) → least (λ p. nat_lt f.oldest p.number && c p) g.postings ≡ least (λ p. nat_lt f.oldest p.number && c p) f.postings)
+-- where what was kept is a view
+pub same_from : (was f g : Facts) → f ≡ was → AnswerAlike f.readers g.readers → AnswerSame f.oldest f.postings g.postings
     → g.oldest ≡ f.oldest → g.last ≡ f.last → StandForSame was g
 same_from was f g is readers postings oldest last = subst (λ (h : Facts). StandForSame h g) is (stand_for_same f g readers postings oldest last)
 
+-- the other way round
 pub stand_back : (f g : Facts) → StandForSame f g → StandForSame g f
 stand_back f g same = record { stands = λ history. ((same.stands history).1, (same.stands history).0); oldest = sym same.oldest; last = sym same.last }
 

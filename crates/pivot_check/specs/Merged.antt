@@ -8,14 +8,16 @@ use Rattle.pivot_check.specs.Kept.{CommittedValue}
 abbrev pub fit_one : ℕ → RunSize → RunSize → Bool
 fit_one o r s = are_alike o r s && nat_le (r.made + s.made) 131072
 
--- two runs of a like size beside one another are being made one, or memory for that was refused, which is counted, or there are no such two
+-- two runs of a like size beside one another are being made one, or memory for that was refused, which is counted, or
+-- there are no such two
 abbrev pub IsTriedIn : CommittedValue → CommittedValue → Type 0
 IsTriedIn old new = IsTried (fit_one old.facts.oldest) old.held.sizes new.held.sizes old.held.refused new.held.refused
 
--- The merges that are under way in runs of these sizes were moved on, for so many written keys, one posting a move. No merge was begun, so
--- no memory for one was refused.
+-- The merges that are under way in runs of these sizes were moved on, for so many written keys, one posting a move. No
+-- merge was begun, so no memory for one was refused.
 abbrev pub AreMoved : ℕ → List RunSize → CommittedValue → CommittedValue → Type 0
-AreMoved count sizes old new = IsMoved 1 new.facts.oldest (moves_for count) sizes new.held.sizes × (new.held.refused ≡ old.held.refused)
+AreMoved count sizes old new =
+    IsMoved 1 new.facts.oldest (moves_for count) sizes new.held.sizes × (new.held.refused ≡ old.held.refused)
 
 -- so it is once the written keys of the transaction have come with number n as a run
 abbrev pub AreMovedWith : View → ℕ → CommittedValue → CommittedValue → Type 0

@@ -1,9 +1,11 @@
 -- The histories for which what is kept stands, and what the check of a commit says about them.
-use Rattle.std.specs.Prelude.{◌≡◌, ℕ, ◌<◌, ◌+◌, Bool, true, false, ◌&&◌, List, [], ◌∷◌, ◌++◌, Option, Some, None, map, max, nat_lt, if◌then◌else◌, length, All, slice_get, ⊤, ◌↔◌}
+use Rattle.std.specs.Prelude.{◌≡◌, ℕ, ◌<◌, ◌+◌, Bool, true, false, ◌&&◌, List, [], ◌∷◌, ◌++◌, Option, Some, None, map, max, nat_lt, if◌then◌else◌, length, All, slice_get, ⊤}
+use Rattle.std.specs.Prelude.{◌↔◌}
 use Rattle.std.specs.List.{list_any, filter}
 use Rattle.model.specs.{declared.refusals.Refusal.Refusal, Map.Bytes, Map.KeyWrite, PrivateCopy.is_covered, History.Record, History.IsNumberedFrom}
 use Rattle.model.specs.declared.refusals.Refusal.TheVariants as refusal
-use Rattle.pivot_check.specs.{declared.verdict.Cleared.Cleared, declared.verdict.Verdict.Verdict, Postings.Posting, Postings.postings_by, Postings.least}
+use Rattle.pivot_check.specs.declared.verdict.Cleared.{Cleared}
+use Rattle.pivot_check.specs.{declared.verdict.Verdict.Verdict, Postings.Posting, Postings.postings_by, Postings.least}
 use Rattle.pivot_check.specs.declared.verdict.Verdict.TheVariants.{Clear, Overwritten, PivotSelf, Pivot}
 use Rattle.model.specs.{Dependency.concurrent_read_write, Verdict.verdict, Verdict.HasNoDangerousPivot}
 use Rattle.snapshot.specs.View.{View}
@@ -93,9 +95,11 @@ IsVerdict f t answer = (history : List Record) → StandsFor f history → (r : 
 abbrev pub IsClear : Facts → View → Type 0
 IsClear f t = (history : List Record) → StandsFor f history → (r : Record) → IsRecordOf t (f.last + 1) r → verdict history r ≡ None
 
--- a transaction in reach was cleared: over each of them it may commit, and has a read-write dependency to a concurrent one where that is said
+-- a transaction in reach was cleared: over each of them it may commit, and has a read-write dependency to a concurrent
+-- one where that is said
 abbrev pub IsCleared : Facts → View → Cleared → Type 0
-IsCleared f t cleared = IsInReach f t → (history : List Record) → StandsFor f history → (r : Record) → IsRecordOf t (f.last + 1) r
+IsCleared f t cleared =
+    IsInReach f t → (history : List Record) → StandsFor f history → (r : Record) → IsRecordOf t (f.last + 1) r
     → (verdict history r ≡ None) × (cleared.has_earlier_target ≡ list_any (concurrent_read_write r) history)
 
 -- what clears it is its own
@@ -113,4 +117,6 @@ pub record StandForSame (old new : Facts) : Type 0 where
 
 -- what the old facts stand for, the new ones stand for with the record of the transaction as number n
 abbrev pub StandWithRecord : Facts → Facts → View → ℕ → Type 0
-StandWithRecord old new t n = IsInReach old t → (h : List Record) → StandsFor old h → (r : Record) → IsRecordOf t n r → StandsFor new (h ++ r ∷ [])
+StandWithRecord old new t n =
+    IsInReach old t → (h : List Record) → StandsFor old h → (r : Record) → IsRecordOf t n r
+    → StandsFor new (h ++ r ∷ [])

@@ -153,9 +153,9 @@ impl Committed {
     /// several reasons it names the least overwritten key, else the transaction itself, else the pivot of least commit number.
     ///
     /// It takes a binary search in each run for each written key, two for each mark, three times as many in a run that is being made of
-    /// two, and a look at a bound for each 64 keys written under a mark; the numbers of these keys are looked at where the bound lets one be
-    /// less than what was found. The marks are sorted by start, and a key under several of them is looked at once. Where the transaction has
-    /// read what a concurrent one wrote, it takes also a look-up of the last reader of each written key. Takes no memory.
+    /// two, and a look at a bound for each 64 keys written under a mark; the numbers of these keys are looked at where the bound lets one
+    /// be less than what was found. The marks are sorted by start, and a key under several of them is looked at once. Where the transaction
+    /// has read what a concurrent one wrote, it takes also a look-up of the last reader of each written key. Takes no memory.
     pub fn verdict(&self, tx: &Transaction) -> Verdict
         ensures verdict { IsInReach self.now.facts tx.now → IsVerdict self.now.facts tx.now result }
         ensures cleared { IsClearedBy self.now.facts tx.now result }

@@ -12,8 +12,10 @@ noted c = c.note.ensures.noted c.args.tx.now.marks (subst (λ (r : ReadersRoom).
 read : (c : goal.After-self-1) → IsNoted c.args.tx.now.marks c.args.n c.args.self.now.facts.readers c.note.new.self.readers
 read c = λ k. grind (arith, noted c k)
 
-added : (c : goal.After-self-1) (t : Posting → Bool) → least t (postings_in c.add_run.new.runs.runs) ≡ lesser (least t c.args.self.now.facts.postings) (least t (postings_by c.args.n c.args.cleared.has_earlier_target c.in-Some.ready.keys.items))
-added c t = grind (arith, c.has_earlier_target.ensures, c.add_run.ensures.same t, c.add_all.ensures.added t, nil_from_length c.in-Some.ready.places.items c.in-Some.ready.none)
+added : (c : goal.After-self-1) (t : Posting → Bool) → least t (postings_in c.add_run.new.runs.runs)
+    ≡ lesser (least t c.args.self.now.facts.postings) (least t (postings_by c.args.n c.args.cleared.has_earlier_target c.in-Some.ready.keys.items))
+added c t =
+    grind (arith, c.has_earlier_target.ensures, c.add_run.ensures.same t, c.add_all.ensures.added t, nil_from_length c.in-Some.ready.places.items c.in-Some.ready.none)
 
 pub add_run-requires-clause-upto : goal.add_run-requires-clause-upto
 add_run-requires-clause-upto c = upto_own c.args.n c.has_earlier_target.result c.in-Some.ready.keys.items c.in-Some.ready.places.items c.add_all.new.postings.items c.in-Some.ready.none c.add_all.ensures.added
