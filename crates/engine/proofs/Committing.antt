@@ -1,12 +1,17 @@
 -- What a commit does to the states that an engine stands for.
 use Rattle.engine.proofs.Words.{common_steps, ◌≡◌, ◌⊎◌, ◌≤◌, ◌+◌, ◌-◌, ◌^◌, ℕ, suc, Bool, true, false, List, [], ◌∷◌, ◌++◌, Option, Some, None, refl, sym, ap, subst, ◌∙◌, length, length-append, arith, ⊎_elim, inl, slice_index_or, lt-ltb, le-ltb, eq-eqb, ne_eqb, or_left, or_right, both_ways, Refusal, StoreStopped, FullNumbers, FullLog, StoreFault, Overwritten, Bytes, KeyMap, KeyWrite, after_writes, Operation, Response, Commit, Number, Refused, Record, State, Running, last, snapshot, leave, record_to_commit, refuse, join_history, body_sectors, store, store_unless, commit, step, View, HasMade, is_refused, writes, Facts, CommittedValue, IsInReach, Ghosts, Log, is_stopped, used_sectors, sector_count, HistoryValue, IsSameHistory, Joins, Engine, StandsFor, IsRunning, entry_of, Leaves, IsWritten, HasLogRoom, IsLogged, IsLogStopped, sectors_taken, StandsForSame, Leads, IsNotRefused, IsReadOnly, IsLeftByCommit, has_risen, response_to, IsStored, WhereStored, SurvivesAppend, LeavesInDoubt, HoldsMap, committed_map}
+use Rattle.engine.proofs.Words.{device_of, AreRunning}
+use Rattle.engine.specs.Recovery.{IsInDoubt}
 use Rattle.std.specs.Prelude.{Err}
 use Rattle.std.proofs.lemmas.Option.{get_or_from_slice_get}
 use Rattle.model.specs.Verdict.{verdict}
 use Rattle.model.proofs.{Lookups.some_same, Machines.map_at-append}
 use Rattle.versions.specs.StandsFor.{StandsFor as VersionsStandFor}
-use Rattle.pivot_check.specs.StandsFor.{IsRecordOf, IsVerdict, IsClear, StandsFor as CommittedStandsFor}
+use Rattle.pivot_check.specs.StandsFor.{IsRecordOf, IsVerdict, IsClear, IsCleared, StandForSame}
+use Rattle.pivot_check.specs.StandsFor.{StandsFor as CommittedStandsFor}
+use Rattle.pivot_check.proofs.SameHistories.{in_reach_still, stand_back, still_cleared}
 use Rattle.pivot_check.specs.declared.Verdict.TheVariants as verdicts
+use Rattle.pivot_check.specs.declared.verdict.Cleared.{Cleared}
 use Rattle.sector.specs.{Failures.Rose, Failures.Stayed, SectorModel.LeavesOnly}
 use Rattle.engine.specs.{declared.faults.EngineFault.EngineFault, declared.faults.EngineFault.TheVariants.Refused as Refusing}
 use Rattle.engine.proofs.{Sessions.IsFound, Sessions.beside_weaker, Calls.Held, Calls.found_open, Calls.leave_call}
@@ -35,11 +40,40 @@ HasVerdict f t o = IsInReach f t → (history : List Record) → CommittedStands
 pub weaker_crash : {D : Type 0} (moment : D → ℕ) (left_since : D → ℕ → List (List ℕ) → Type 0) (old new : D) (P Q : List (List ℕ) → Type 0) → ((c : List (List ℕ)) → P c → Q c) → LeavesOnly moment left_since old new P → LeavesOnly moment left_since old new Q
 weaker_crash moment left_since old new P Q f h = grind (arith, common_steps, ⊎_elim)
 
+-- a transaction that runs beside what is kept runs beside what stands for the same histories
+runs_beside : (old new : Facts) (held : ℕ → Bool) (base : KeyMap) (history : List Record) → StandForSame old new → (t : View) (r : Running)
+    → IsRunning old held base history t r → IsRunning new held base history t r
+runs_beside old new held base history same t r is =
+    record { begin = is.begin; made = is.made; in_reach = in_reach_still old new t same is.in_reach; is_held = is.is_held }
+
 module _ {D : Type 0} {g : Ghosts D} where
   -- only memory was made ready
-  same_with : (e e' : Engine D g) (m : State) → e'.log ≡ e.log → e'.running.entries ≡ e.running.entries → e'.history.committed.facts ≡ e.history.committed.facts
+  same_with : (e e' : Engine D g) (m : State) → e'.log ≡ e.log → e'.running.entries ≡ e.running.entries
+      → StandForSame e.history.committed.facts e'.history.committed.facts
       → ((held : ℕ → Bool) (base : KeyMap) (history : List Record) → VersionsStandFor e.history.versions held base history → VersionsStandFor e'.history.versions held base history) → StandsFor e m → StandsFor e' m
-  same_with e e' m log entries facts stands h = let versions = stands h.held m.base m.history h.history.versions in grind (arith, common_steps)
+  same_with e e' m log entries same stands h =
+      let stopped : is_stopped e'.log ≡ is_stopped e.log = ap (λ (l : Log D g). is_stopped l) log in
+      let used : used_sectors e'.log ≡ used_sectors e.log = ap (λ (l : Log D g). used_sectors l) log in
+      let count : sector_count e'.log ≡ sector_count e.log = ap (λ (l : Log D g). sector_count l) log in
+      let running = beside_weaker (Held e m h) (λ t r. IsRunning e'.history.committed.facts h.held m.base m.history t r)
+      (runs_beside e.history.committed.facts e'.history.committed.facts h.held m.base m.history same) e.running.entries m.running h.running in
+      let oldest = same.oldest in
+      let kept = h.kept in
+      record {
+        reached = h.reached;
+        stopped = h.stopped ∙ sym stopped;
+        used = h.used ∙ sym used;
+        count = h.count ∙ sym count;
+        stored = λ keeps run. subst (λ (l : Log D g). IsStored l (committed_map m)) (sym log) (h.stored keeps (sym stopped ∙ run));
+        doubt = λ keeps stop. subst (λ (l : Log D g). IsInDoubt (committed_map m) (g.may_leave (device_of l))) (sym log) (h.doubt keeps (sym stopped ∙ stop));
+        held = h.held;
+        history = record { versions = stands h.held m.base m.history h.history.versions; committed = (same.stands m.history).0 h.history.committed };
+        kept = omega (arith, kept, oldest);
+        few = h.few;
+        running = subst (λ (es : List (ℕ × View)). AreRunning e'.history.committed.facts h.held m.base m.history es m.running) (sym entries) running;
+        sorted = h.sorted;
+        few_open = subst (λ (es : List (ℕ × View)). length es ≤ 64) (sym entries) h.few_open;
+      }
 
   -- ---- a commit that is refused, and ends the transaction
 
@@ -116,7 +150,8 @@ module _ {D : Type 0} {g : Ghosts D} where
       → (m : State) → StandsFor e m → StandsFor (record e' { log = e.log }) (leave m s)
   left_by e e' log history s same leaves m h =
       leave_call (record e { history = history }) (record e' { log = e.log }) s
-      (record { store = record { log = refl; history = leaves.store.history }; entries = leaves.entries; fewer = leaves.fewer }) m (same_with e (record e { history = history }) m refl refl same.facts (λ held base history. (same.stands held base history).0) h)
+      (record { store = record { log = refl; history = leaves.store.history }; entries = leaves.entries; fewer = leaves.fewer }) m
+      (same_with e (record e { history = history }) m refl refl same.committed (λ held base history. (same.stands held base history).0) h)
 
   -- ---- a commit in which the device failed
 
@@ -149,8 +184,9 @@ module _ {D : Type 0} {g : Ghosts D} where
   pub commit_memory : (e e' : Engine D g) (s : ℕ) (t : View) → IsToCommit e s t
       → e'.log ≡ e.log → e'.running.entries ≡ e.running.entries → IsSameHistory e.history e'.history → StandsForSame e e' × IsNotRefused e s Commit
   commit_memory e e' s t j log entries same =
-      let there = λ (m : State). same_with e e' m log entries same.facts (λ held base history. (same.stands held base history).0) in
-      let back = λ (m : State). same_with e' e m (sym log) (sym entries) (sym same.facts) (λ held base history. (same.stands held base history).1) in
+      let there = λ (m : State). same_with e e' m log entries same.committed (λ held base history. (same.stands held base history).0) in
+      let back = λ (m : State). same_with e' e m (sym log) (sym entries) (stand_back _ _ same.committed)
+          (λ held base history. (same.stands held base history).1) in
       (λ m. (there m, back m), λ m h. ap (λ (p : State × Response). is_refused p.1) (step_joined e s t false j (λ _. refl) m h (found_open e m s t h j.asked.entry)))
 
   -- the committed map with the transaction's writes
@@ -169,9 +205,12 @@ module _ {D : Type 0} {g : Ghosts D} where
       let join : State × Response = join_history m s r (sectors_taken t.writes) in
       let is : step m s Commit failed ≡ join = step_joined e s t failed j quiet m h at in
       let left = left_by e e' log history s same leaves m h in
-      let facts : e'.history.committed.facts ≡ e.history.committed.facts = ap (λ (v : HistoryValue). v.committed.facts) leaves.store.history ∙ same.facts in
-      let own = subst (λ (p : Facts × View). IsInReach p.0 p.1 × IsClear p.0 p.1 × IsRecordOf p.1 (p.0.last + 1) r)
-      {x = (e.history.committed.facts, t)} {y = (e'.history.committed.facts, u)} (λ i. (sym facts i, sym (some_same (taken ∙ j.asked.entry)) i)) (at.same.in_reach, j.clear at.same.in_reach, own_record e m t at.run h j.made at.same) in
+      let stay : StandForSame e.history.committed.facts e'.history.committed.facts =
+      subst (λ (v : HistoryValue). StandForSame e.history.committed.facts v.committed.facts) (sym leaves.store.history) same.committed in
+      let own = subst (λ (v : View). IsInReach e'.history.committed.facts v × IsRecordOf v (e'.history.committed.facts.last + 1) r)
+      (sym (some_same (taken ∙ j.asked.entry)))
+      (in_reach_still e.history.committed.facts e'.history.committed.facts t stay at.same.in_reach,
+      subst (λ n. IsRecordOf t (n + 1) r) (sym stay.last) (own_record e m t at.run h j.made at.same)) in
       let l = left.history.committed.last in let used = h.used in let taken' = logged.used in let log' = leaves.store.log in
       let long : length (m.history ++ r ∷ []) ≡ length m.history + 1 = length-append m.history (r ∷ []) in
       let counted : suc (length m.history) ≡ n = omega arith in
@@ -180,9 +219,18 @@ module _ {D : Type 0} {g : Ghosts D} where
       let running' = beside_weaker (Held (record e' { log = e.log }) (leave m s) left) (λ v x. IsRunning new.committed.facts left.held m.base (m.history ++ r ∷ []) v x) later e'.running.entries (leave m s).running left.running in
       let reached' = reached_by m s Commit failed join is h.reached in
       let stored' = λ (keeps : g.keeps_model). subst (IsStored log) (sym (map_joined e s t j m h at)) (stored keeps (committed_map m) (h.stored keeps j.asked.running)) in
-      let history' = joins left.held m.base m.history r left.history own.0 own.1 own.2 in
+      let history' = joins left.held m.base m.history r left.history own.0 own.1 in
       let numbers = j.asked.numbers in let runs = j.asked.running in
       (join.0, grind (arith, common_steps, both_ways), is ∙ ap (λ k. (join.0, Number k)) counted)
+
+  -- the transaction that has ended was cleared, and memory alone was made ready since
+  pub cleared_still : (e e' : Engine D g) (log : Log D g) (history : HistoryValue) (s : ℕ) (t u : View) (cleared : Cleared) → entry_of s e ≡ Some t
+      → IsCleared e.history.committed.facts t cleared → IsSameHistory e.history history → Leaves (record e { log = log; history = history }) e' s
+      → Some u ≡ entry_of s e → IsCleared e'.history.committed.facts u cleared
+  cleared_still e e' log history s t u cleared entry is same leaves taken =
+      subst (λ (v : View). IsCleared e'.history.committed.facts v cleared) (sym (some_same (taken ∙ entry)))
+      (still_cleared e.history.committed.facts e'.history.committed.facts t cleared
+      (subst (λ (v : HistoryValue). StandForSame e.history.committed.facts v.committed.facts) (sym leaves.store.history) same.committed) is)
 
   -- where the session has written nothing, its transaction hasn't
   pub unwritten : (e : Engine D g) (s : ℕ) (t : View) (m : State) → StandsFor e m → IsToCommit e s t → IsReadOnly m s → t.writes ≡ []

@@ -1,11 +1,11 @@
 -- What has committed, as contracts see it: the versions of its writes, and what is kept to check later commits.
-use Rattle.std.specs.Prelude.{◌≡◌, ◌↔◌, ℕ, ◌+◌, ◌&&◌, Bool, IsTrue, nat_lt, List, [], ◌∷◌, ◌++◌}
+use Rattle.std.specs.Prelude.{◌↔◌, ℕ, ◌+◌, ◌&&◌, Bool, IsTrue, nat_lt, List, [], ◌∷◌, ◌++◌}
 use Rattle.std.specs.List.{AllByRecursion}
 use Rattle.model.specs.{Map.KeyMap, History.Record}
 use Rattle.versions.specs.{Chains.ChainsValue, Chains.IsPrepared, Listings.IsUnmixed, Meaning.IsSameMeaning, Meaning.due_of, Meaning.is_among}
 use Rattle.versions.specs.StandsFor.{StandsFor as VersionsStandFor}
 use Rattle.pivot_check.specs.Kept.{CommittedValue, HasRoom, IsInReach, runs_due}
-use Rattle.pivot_check.specs.StandsFor.{StandsFor as CommittedStandsFor, IsRecordOf, IsClear}
+use Rattle.pivot_check.specs.StandsFor.{StandsFor as CommittedStandsFor, StandForSame, IsRecordOf}
 use Rattle.snapshot.specs.View.{View}
 
 pub record HistoryValue : Type 0 where
@@ -20,7 +20,7 @@ pub record HistoryStandsFor (h : HistoryValue) (held : ℕ → Bool) (base : Key
 -- what the transaction's commit makes of the history
 abbrev pub Joins : HistoryValue → HistoryValue → View → Type 0
 Joins old new t = (held : ℕ → Bool) (base : KeyMap) (history : List Record) (r : Record) → HistoryStandsFor old held base history
-    → IsInReach old.committed.facts t → IsClear old.committed.facts t → IsRecordOf t (old.committed.facts.last + 1) r
+    → IsInReach old.committed.facts t → IsRecordOf t (old.committed.facts.last + 1) r
     → HistoryStandsFor new held base (history ++ r ∷ [])
 
 -- what the history stands for stays, with those of the numbers held that are among these
@@ -37,11 +37,11 @@ Unmixes old new bs = (held : ℕ → Bool) (base : KeyMap) (history : List Recor
 abbrev pub is_due : List ℕ → HistoryValue → Bool
 is_due bs h = nat_lt 0 (due_of bs h.versions + runs_due h.committed)
 
--- nothing but the memory that was made ready has changed
+-- memory may have been made ready, and the history means what it meant
 pub record IsSameHistory (old new : HistoryValue) : Type 0 where
   pub versions : IsSameMeaning old.versions new.versions
   pub stands : (held : ℕ → Bool) (base : KeyMap) (history : List Record) → VersionsStandFor old.versions held base history ↔ VersionsStandFor new.versions held base history
-  pub facts : new.committed.facts ≡ old.committed.facts
+  pub committed : StandForSame old.committed.facts new.committed.facts
 
 -- the memory that the commit of the transaction needs has been made
 pub record IsReady (h : HistoryValue) (t : View) : Type 0 where

@@ -1,10 +1,11 @@
 -- What a COMMIT was judged to be.
-use Rattle.std.specs.Prelude.{◌≡◌, ℕ, ◌<◌, ◌-◌, ◌^◌, Bool, false, List, [], Option, Some, None, is_some, length, slice_index_or}
+use Rattle.std.specs.Prelude.{◌≡◌, ℕ, ◌<◌, ◌-◌, ◌^◌, Bool, false, List, [], length, slice_index_or}
+use Rattle.std.specs.Prelude.{Option, Some, None}
 use Rattle.model.specs.{declared.refusals.Refusal.Refusal, Map.KeyMap, Map.KeyWrite, Operations.Operation, Operations.Operation.Commit, PrivateCopy.writes}
 use Rattle.model.specs.declared.refusals.Refusal.TheVariants as refusals
 use Rattle.model.specs.Machine.{State, refuse, step, payload_size}
 use Rattle.snapshot.specs.{View.View, Made.HasMade}
-use Rattle.pivot_check.specs.{Kept.IsInReach, Index.target, StandsFor.IsClear}
+use Rattle.pivot_check.specs.{Kept.IsInReach, StandsFor.IsClear, StandsFor.IsCleared}
 use Rattle.sector.specs.declared.device.Sectors.{Ghosts}
 use Rattle.commit_log.specs.{declared.log.Log.Log, LogState.is_stopped, LogState.used_sectors, LogState.sector_count}
 use Rattle.engine.specs.{declared.engine.Engine.Engine, declared.judging.Judgement.Judgement, HistoryValue.HistoryValue, StandsFor.StandsFor}
@@ -37,8 +38,8 @@ IsPayload ws (Some len) = IsWritten ws × (len ≡ payload_size ws)
 abbrev pub IsJudged : {D : Type 0} {g : Ghosts D} → Engine D g → ℕ → View → Judgement → Type 0
 IsJudged e s t (Refused refusal) = IsRefused e s refusal
 IsJudged e s t (Overwritten i) = (i < length t.writes) × ((d : KeyWrite) → IsRefused e s (refusals.Overwritten (slice_index_or t.writes i d).0))
-IsJudged e s t (Clear payload has_earlier_target) =
-    IsToCommit e s t × IsPayload t.writes payload × (has_earlier_target ≡ is_some (target e.history.committed.facts t))
+IsJudged e s t (Clear payload cleared) =
+    IsToCommit e s t × IsPayload t.writes payload × IsCleared e.history.committed.facts t cleared
 
 -- so it is in each engine with this log and these commits, for each session that runs the transaction
 abbrev pub IsJudgedOver : {D : Type 0} {g : Ghosts D} → Log D g → HistoryValue → View → Judgement → Type 0

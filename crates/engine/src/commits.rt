@@ -44,13 +44,13 @@ impl<D: Sectors> Engine<D> {
         let Some(transaction) = self.running.get(&s) else {
             return Err(EngineFault::Refused(Refusal::NotOpen));
         };
-        let (payload, has_earlier_target) = match judge(&self.log, &self.history, transaction) {
+        let (payload, cleared) = match judge(&self.log, &self.history, transaction) {
             Judgement::Refused(refusal) => return Err(self.refuse(s, refusal)),
             Judgement::Overwritten(i) => {
                 let key = self.end(s).into_key(i);
                 return Err(EngineFault::Refused(Refusal::Overwritten(key)));
             }
-            Judgement::Clear(payload, has_earlier_target) => (payload, has_earlier_target),
+            Judgement::Clear(payload, cleared) => (payload, cleared),
         };
         match carry_out(
             &mut self.log,
@@ -64,7 +64,7 @@ impl<D: Sectors> Engine<D> {
             Err(AppendFault::Device) => return Err(self.refuse(s, Refusal::StoreFault)),
         }
         let ended = self.end(s);
-        Ok(self.history.join(ended, has_earlier_target))
+        Ok(self.history.join(ended, cleared))
     }
 
     // Ends the session's transaction.

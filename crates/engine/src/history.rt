@@ -1,12 +1,12 @@
 //! What has committed.
-ghost use Rattle.std.specs.Prelude.{◌≡◌, ◌+◌, ◌-◌, ◌^◌, ◌<◌, ◌≤◌, true, [], IfOk, OnOk, is_some, max};
+ghost use Rattle.std.specs.Prelude.{◌≡◌, ◌+◌, ◌-◌, ◌^◌, ◌<◌, ◌≤◌, true, [], IfOk, OnOk, max};
 ghost use Rattle.versions.specs.Meaning.{IsReclaimed};
 ghost use Rattle.pivot_check.specs.Kept.{HasForgotten, IsEmpty, IsGivenBack};
-ghost use Rattle.pivot_check.specs.Index.{target};
+ghost use Rattle.pivot_check.specs.StandsFor.{IsCleared};
 ghost use Rattle.engine.specs.HistoryValue.{HistoryStandsFor, IsSameHistory, IsReady, Joins, KeepsHeld, Unmixes, is_due};
 
 use model::{Map, Memory};
-use pivot_check::Committed;
+use pivot_check::{Cleared, Committed};
 use snapshot::Transaction;
 use std::alloc::Global;
 use std::marker::Model;
@@ -63,11 +63,11 @@ impl History {
         self.committed.reserve(transaction)
     }
 
-    /// Takes the transaction in as the next commit, in the memory that was made for it, with what `Verdict::Clear` said of its dependencies,
-    /// and answers its number.
-    pub(crate) fn join(&mut self, transaction: Transaction, has_earlier_target: bool) -> u64
+    /// Takes the transaction, which was cleared, in as the next commit, in the memory that was made for it, and answers its number. Takes
+    /// no memory.
+    pub(crate) fn join(&mut self, transaction: Transaction, cleared: Cleared) -> u64
         requires ready { IsReady self.old transaction }
-        requires target { has_earlier_target ≡ is_some (target self.old.committed.facts transaction) }
+        requires cleared { IsCleared self.old.committed.facts transaction cleared }
         requires few { self.old.committed.facts.last < 2 ^ 63 - 1 }
         ensures number { result ≡ self.old.committed.facts.last + 1 }
         ensures last { self.new.committed.facts.last ≡ self.old.committed.facts.last + 1 }
@@ -75,8 +75,7 @@ impl History {
         ensures stands { Joins self.old self.new transaction }
     {
         let number = self.committed.last() + 1;
-        self.committed
-            .note(&transaction, number, has_earlier_target);
+        self.committed.note(&transaction, number, cleared);
         let writes = transaction.into_writes();
         read_only_record_follows();
         if !writes.is_empty() {

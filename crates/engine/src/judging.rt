@@ -4,7 +4,7 @@ ghost use Rattle.engine.specs.Judgements.{IsJudgedOver, IsWeighedOver};
 use crate::history::History;
 use commit_log::{Log, payload_len};
 use model::Refusal;
-use pivot_check::Verdict;
+use pivot_check::{Cleared, Verdict};
 use sector::Sectors;
 use snapshot::Transaction;
 
@@ -18,9 +18,9 @@ pub(crate) enum Judgement {
     Refused(Refusal),
     /// It is refused for the key at this place of the transaction's writes.
     Overwritten(usize),
-    /// Nothing refuses it. Where it wrote something, the log has room for its record, whose payload has this many bytes. Then what
-    /// `Verdict::Clear` said of its dependencies.
-    Clear(Option<u32>, bool),
+    /// Nothing refuses it, and the check of conflicts has cleared it. Where it wrote something, the log has room for its record, whose
+    /// payload has this many bytes.
+    Clear(Option<u32>, Cleared),
 }
 
 // Judges the COMMIT of an open transaction: the first of its refusals that come before memory and the device, in the machine's order.
@@ -45,18 +45,18 @@ fn weigh<D: Sectors>(log: &Log<D>, history: &History, transaction: &Transaction)
     ensures { IsWeighedOver log.now history.now transaction.now result }
 {
     let writes = transaction.entries();
-    let has_earlier_target = match history.committed().verdict(transaction) {
-        Verdict::Clear(has_earlier_target) => has_earlier_target,
+    let cleared = match history.committed().verdict(transaction) {
+        Verdict::Clear(cleared) => cleared,
         Verdict::Overwritten(i) => return Judgement::Overwritten(i),
         Verdict::PivotSelf => return Judgement::Refused(Refusal::PivotSelf),
         Verdict::Pivot(n) => return Judgement::Refused(Refusal::Pivot(n)),
     };
     if writes.is_empty() {
-        return Judgement::Clear(None, has_earlier_target);
+        return Judgement::Clear(None, cleared);
     }
     let len = payload_len(writes);
     if !log.room(len) {
         return Judgement::Refused(Refusal::FullLog);
     }
-    Judgement::Clear(Some(len), has_earlier_target)
+    Judgement::Clear(Some(len), cleared)
 }

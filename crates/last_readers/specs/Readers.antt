@@ -2,7 +2,7 @@
 use Rattle.std.specs.Prelude.{◌≡◌, ℕ, ◌<◌, ◌≤◌, max, nat_lt, List, [], ◌∷◌, length, Option, Some, None, IsSome, if◌then◌else◌}
 use Rattle.model.specs.{Map.Bytes, PrivateCopy.Mark, PrivateCopy.is_covered}
 use Rattle.merging_runs.specs.Held.{Held, due_upto}
-use Rattle.merging_runs.specs.RunSizes.{RunSize, IsMergedFor, are_alike, moves_for, with_run}
+use Rattle.merging_runs.specs.RunSizes.{RunSize, IsMoved, moves_for, with_run}
 use Rattle.last_readers.specs.Steps.{StepValue, RunValue, number_at, number_in}
 
 -- what is kept: numbers by key in several runs, some of which may be being made of two, those up to `oldest` counting as none
@@ -47,6 +47,11 @@ last_reader r k = cut r.oldest (greatest_at r.runs k)
 abbrev pub after : ℕ → ℕ → Option ℕ
 after begin n = if nat_lt begin n then Some n else None
 
+-- each key has the last reader that it had, and the same numbers are forgotten
+pub record AnswerAlike (old new : Readers) : Type 0 where
+  pub readers : (k : Bytes) → last_reader new k ≡ last_reader old k
+  pub oldest : new.oldest ≡ old.oldest
+
 -- no last reader has a number above n
 abbrev pub AreUpto : ℕ → Readers → Type 0
 AreUpto n r = (k : Bytes) → last_reader r k ≤ n
@@ -78,9 +83,9 @@ abbrev pub ready_len : Option (List StepValue) → ℕ
 ready_len None = 0
 ready_len (Some ss) = length ss
 
--- the steps that were made ready came with number n as a run, one merge at most was begun, and those under way were moved on; a move takes
--- one step, or two of one key
-abbrev pub IsMerged : ℕ → LastReadersValue → LastReadersValue → Type 0
-IsMerged n old new =
+-- The steps that were made ready came with number n as a run, and the merges under way were moved on; a move takes one
+-- step, or two of one key. No merge was begun, so no memory for one was refused.
+abbrev pub AreMoved : ℕ → LastReadersValue → LastReadersValue → Type 0
+AreMoved n old new =
     let count = ready_len old.room.ready in
-    IsMergedFor (are_alike new.readers.oldest) 2 new.readers.oldest (moves_for count) (with_run n count old.runs) new.runs old.refused new.refused
+    IsMoved 2 new.readers.oldest (moves_for count) (with_run n count old.runs) new.runs × (new.refused ≡ old.refused)

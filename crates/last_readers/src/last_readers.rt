@@ -3,8 +3,9 @@ ghost use Rattle.std.specs.Prelude.{◌≡◌, ◌<◌, ◌-◌, ℕ, List, [], 
 ghost use Rattle.model.specs.Map.{Bytes};
 ghost use Rattle.model.specs.PrivateCopy.{Mark};
 ghost use Rattle.merging_runs.specs.Held.{due_upto, given_a_forget, size_in};
-ghost use Rattle.last_readers.specs.Readers.{last_reader, after, AreUpto, IsNoted, IsForgotten, IsMerged, IsReady, HasRoom, due_of, ready_len};
-ghost use Rattle.merging_runs.specs.RunSizes.{left_above, with_run};
+ghost use Rattle.last_readers.specs.Readers.{AnswerAlike, AreMoved, AreUpto, HasRoom, IsForgotten, IsNoted, IsReady};
+ghost use Rattle.last_readers.specs.Readers.{after, due_of, last_reader, ready_len};
+ghost use Rattle.merging_runs.specs.RunSizes.{IsTried, are_alike, left_above, with_run};
 
 use crate::gathering::steps_of;
 use crate::run::{ReadRun, Ready};
@@ -91,17 +92,18 @@ impl LastReaders {
         if later < number { Some(number) } else { None }
     }
 
-    /// Makes all room that noting these marks takes, so that `note` can't fail: copies of the keys in the marks, and the place of a run. It
-    /// takes the time of sorting the marks; `Memory` where memory is refused. What is kept is as it was in either case.
+    /// Makes all room that noting these marks takes, so that `note` can't fail: copies of the keys in the marks, and the place of a run.
+    /// `Memory` where memory for that is refused. It takes the time of sorting the marks, and answers as before in either case.
+    ///
+    /// It begins to merge the last two runs beside one another that are of a like size, where there are such: that takes the places of
+    /// both. Where memory for these is refused, it counts the refusal, and the two stay.
     pub fn reserve(&mut self, marks: &Marks) -> Result<(), Memory>
-        ensures readers { self.new.readers ≡ self.old.readers }
+        ensures readers { AnswerAlike self.old.readers self.new.readers }
+        ensures tried { IsTried (are_alike self.old.readers.oldest) self.old.runs self.new.runs self.old.refused self.new.refused }
         ensures room { OnOk result (HasRoom marks.now self.new.room) }
-        ensures runs { self.new.runs ≡ self.old.runs }
-        ensures refused { self.new.refused ≡ self.old.refused }
     {
-        let alloc = self.runs.allocator();
-        let steps = steps_of(alloc, marks.held())?;
-        self.runs.reserve()?;
+        self.runs.reserve(self.oldest)?;
+        let steps = steps_of(self.runs.allocator(), marks.held())?;
         self.ready = Some(Ready { steps });
         Ok(())
     }
@@ -132,9 +134,8 @@ impl LastReaders {
     /// they cover, and the other keys have the one that they had. The number is above `oldest`, and no last reader has one above it. It can't
     /// fail: `reserve` made room.
     ///
-    /// Then it begins to merge two runs beside one another that are of a like size, where there are such; where memory for that is refused, it
-    /// counts the refusal. The merges that are under way go on by 16 moves for each step of the marks, and 64, until nothing is left to move.
-    /// A move takes one step, or two of one key.
+    /// Then the merges that are under way go on by 16 moves for each step of the marks, and 64, until nothing is left to move. A move takes
+    /// one step, or two of one key. It takes no memory.
     pub fn note(&mut self, n: u64)
         requires later { self.old.readers.oldest < n }
         requires upto { AreUpto n self.old.readers }
@@ -142,10 +143,10 @@ impl LastReaders {
         ensures noted { (marks : List Mark) → HasRoom marks self.old.room → IsNoted marks n self.old.readers self.new.readers }
         ensures upto { AreUpto n self.new.readers }
         ensures oldest { self.new.readers.oldest ≡ self.old.readers.oldest }
-        ensures merged { IsMerged n self.old self.new }
+        ensures moved { AreMoved n self.old self.new }
     {
         let count = self.add_ready(n);
-        self.runs.merge(self.oldest, count);
+        self.runs.move_on(self.oldest, count);
     }
 
     /// Forgets the last readers with numbers up to `oldest`: to such keys it answers from then on that there is none. Merging leaves out what is

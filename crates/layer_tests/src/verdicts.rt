@@ -5,16 +5,35 @@ use snapshot::Transaction;
 use std::process::Abort;
 use versions::Versions;
 
+// What a test expects of a commit.
+#[derive(Clone, Copy, Debug, PartialEq, Eq)]
+enum Answer {
+    Clear,
+    // It may commit, and has read what a concurrent one wrote that committed before it.
+    ClearWithTarget,
+    Overwritten(usize),
+    PivotSelf,
+    Pivot(u64),
+}
+
 // Commits as the next number a transaction that is in reach.
-fn commit<R: Abort>(rt: &R, committed: &mut Committed, tx: &Transaction) -> Verdict {
+fn commit<R: Abort>(rt: &R, committed: &mut Committed, tx: &Transaction) -> Answer {
     let last = committed.last();
     assert!(rt; tx.begin() <= last && committed.oldest() <= tx.begin() && last < u64::MAX);
-    let verdict = committed.verdict(tx);
-    if let Verdict::Clear(has_earlier_target) = verdict {
-        committed.reserve(tx).expect(rt, "memory");
-        committed.note(tx, last + 1, has_earlier_target);
+    let cleared = match committed.verdict(tx) {
+        Verdict::Clear(cleared) => cleared,
+        Verdict::Overwritten(i) => return Answer::Overwritten(i),
+        Verdict::PivotSelf => return Answer::PivotSelf,
+        Verdict::Pivot(n) => return Answer::Pivot(n),
+    };
+    let has_earlier_target = cleared.has_earlier_target();
+    committed.reserve(tx).expect(rt, "memory");
+    committed.note(tx, last + 1, cleared);
+    if has_earlier_target {
+        Answer::ClearWithTarget
+    } else {
+        Answer::Clear
     }
-    verdict
 }
 
 // A request of a transaction, by keys of one letter.
@@ -56,58 +75,56 @@ fn transaction<R: Abort + AllocGlobal>(
     tx
 }
 
-// A commit: the begin, the keys that are read and those that are written, and the verdict.
-type Commit = (u64, &'static [u8], &'static [u8], Verdict);
-
-const CLEAR: Verdict = Verdict::Clear(false);
-
-// It may commit, and has read what a concurrent one wrote that committed before it.
-const CLEAR_WITH_TARGET: Verdict = Verdict::Clear(true);
+// A commit: the begin, the keys that are read and those that are written, and the answer.
+type Commit = (u64, &'static [u8], &'static [u8], Answer);
 
 const FIRST_COMMITTER_WINS: [Commit; 4] = [
-    (0, b"", b"jk", CLEAR),
-    (0, b"", b"k", Verdict::Overwritten(0)),
-    (0, b"", b"ajk", Verdict::Overwritten(1)),
-    (1, b"", b"ajk", CLEAR),
+    (0, b"", b"jk", Answer::Clear),
+    (0, b"", b"k", Answer::Overwritten(0)),
+    (0, b"", b"ajk", Answer::Overwritten(1)),
+    (1, b"", b"ajk", Answer::Clear),
 ];
 
 const WRITE_SKEW: [Commit; 2] = [
-    (0, b"xy", b"x", CLEAR),
-    (0, b"xy", b"y", Verdict::PivotSelf),
+    (0, b"xy", b"x", Answer::Clear),
+    (0, b"xy", b"y", Answer::PivotSelf),
 ];
 
 const READ_ONLY_ANOMALY: [Commit; 3] = [
-    (0, b"y", b"y", CLEAR),
-    (1, b"xy", b"", CLEAR),
-    (0, b"xy", b"x", Verdict::PivotSelf),
+    (0, b"y", b"y", Answer::Clear),
+    (1, b"xy", b"", Answer::Clear),
+    (0, b"xy", b"x", Answer::PivotSelf),
 ];
 
 const READER_FINDS_A_COMMITTED_PIVOT: [Commit; 3] = [
-    (0, b"", b"m", CLEAR),
-    (0, b"m", b"k", CLEAR_WITH_TARGET),
-    (0, b"k", b"", Verdict::Pivot(2)),
+    (0, b"", b"m", Answer::Clear),
+    (0, b"m", b"k", Answer::ClearWithTarget),
+    (0, b"k", b"", Answer::Pivot(2)),
 ];
 
 // That a writer finds a committed pivot behind an earlier reader is harmless.
 const EARLIER_READER_AND_COMMITTED_PIVOT: [Commit; 3] = [
-    (0, b"k", b"", CLEAR),
-    (0, b"m", b"k", CLEAR),
-    (0, b"", b"m", CLEAR),
+    (0, b"k", b"", Answer::Clear),
+    (0, b"m", b"k", Answer::Clear),
+    (0, b"", b"m", Answer::Clear),
 ];
 
 const EARLIER_READER_IS_HARMLESS: [Commit; 3] = [
-    (0, b"k", b"", CLEAR),
-    (0, b"", b"m", CLEAR),
-    (0, b"m", b"k", CLEAR_WITH_TARGET),
+    (0, b"k", b"", Answer::Clear),
+    (0, b"", b"m", Answer::Clear),
+    (0, b"m", b"k", Answer::ClearWithTarget),
 ];
 
 const PIVOT_WITH_A_LATER_WRITER_IS_HARMLESS: [Commit; 3] = [
-    (0, b"m", b"k", CLEAR),
-    (0, b"k", b"", CLEAR_WITH_TARGET),
-    (0, b"", b"m", CLEAR),
+    (0, b"m", b"k", Answer::Clear),
+    (0, b"k", b"", Answer::ClearWithTarget),
+    (0, b"", b"m", Answer::Clear),
 ];
 
-const ONE_AFTER_THE_OTHER: [Commit; 2] = [(0, b"xy", b"x", CLEAR), (1, b"xy", b"y", CLEAR)];
+const ONE_AFTER_THE_OTHER: [Commit; 2] = [
+    (0, b"xy", b"x", Answer::Clear),
+    (1, b"xy", b"y", Answer::Clear),
+];
 
 static WORKED: [(&str, &[Commit]); 8] = [
     ("first committer wins", &FIRST_COMMITTER_WINS),
@@ -129,11 +146,11 @@ static WORKED: [(&str, &[Commit]); 8] = [
     ("one after the other", &ONE_AFTER_THE_OTHER),
 ];
 
-// Commits one after the other, each with its verdict.
+// Commits one after the other, each with its answer.
 fn run<R: Abort + AllocGlobal>(rt: &R, committed: &mut Committed, name: &str, commits: &[Commit]) {
-    for (begin, reads, writes, verdict) in commits {
+    for (begin, reads, writes, answer) in commits {
         let tx = transaction(rt, *begin, reads, writes);
-        assert_eq!(rt; commit(rt, committed, &tx), *verdict, "{name}");
+        assert_eq!(rt; commit(rt, committed, &tx), *answer, "{name}");
     }
 }
 
@@ -156,10 +173,13 @@ fn phantom<R: Abort + AllocGlobal>(rt: &R, written: &[u8]) -> Transaction {
 #[test]
 fn phantom_skew(rt: HostRuntime) {
     let mut committed = Committed::new(rt.alloc());
-    assert_eq!(rt; commit(&rt, &mut committed, &phantom(&rt, b"a")), CLEAR);
+    assert_eq!(rt;
+        commit(&rt, &mut committed, &phantom(&rt, b"a")),
+        Answer::Clear
+    );
     assert_eq!(rt;
         commit(&rt, &mut committed, &phantom(&rt, b"b")),
-        Verdict::PivotSelf
+        Answer::PivotSelf
     );
 }
 
@@ -169,9 +189,12 @@ fn forget(committed: &mut Committed, oldest: u64) {
     }
 }
 
-const TARGET_AND_PIVOT: [Commit; 2] = [(0, b"", b"m", CLEAR), (0, b"m", b"k", CLEAR_WITH_TARGET)];
+const TARGET_AND_PIVOT: [Commit; 2] = [
+    (0, b"", b"m", Answer::Clear),
+    (0, b"m", b"k", Answer::ClearWithTarget),
+];
 
-const READER_OF_THE_PIVOT: [Commit; 1] = [(1, b"k", b"", Verdict::Pivot(2))];
+const READER_OF_THE_PIVOT: [Commit; 1] = [(1, b"k", b"", Answer::Pivot(2))];
 
 #[test]
 fn pivot_after_its_target_was_forgotten(rt: HostRuntime) {
@@ -182,9 +205,12 @@ fn pivot_after_its_target_was_forgotten(rt: HostRuntime) {
     run(&rt, &mut committed, "after", &READER_OF_THE_PIVOT);
 }
 
-const READER_AND_PIVOT: [Commit; 2] = [(0, b"k", b"", CLEAR), (0, b"m", b"k", CLEAR)];
+const READER_AND_PIVOT: [Commit; 2] = [
+    (0, b"k", b"", Answer::Clear),
+    (0, b"m", b"k", Answer::Clear),
+];
 
-const WRITER_OF_THE_TARGET: [Commit; 1] = [(1, b"", b"m", CLEAR)];
+const WRITER_OF_THE_TARGET: [Commit; 1] = [(1, b"", b"m", Answer::Clear)];
 
 #[test]
 fn pivot_after_its_neighbour_was_forgotten(rt: HostRuntime) {
@@ -212,7 +238,7 @@ fn old_runs_go_in_steps(rt: HostRuntime) {
     let mut committed = Committed::new(rt.alloc());
     for n in 0..40u8 {
         let tx = writer(&rt, committed.last(), n);
-        assert!(rt; commit(&rt, &mut committed, &tx) == CLEAR);
+        assert!(rt; commit(&rt, &mut committed, &tx) == Answer::Clear);
     }
     let last = committed.last();
     assert!(rt; last == 40 && !committed.forget(0));
@@ -232,7 +258,7 @@ fn reader_of<R: Abort + AllocGlobal>(rt: &R, begin: u64, writer: u8, n: u8) -> T
 // Commits one that has read what a `writer` wrote, which is found to have committed since its begin.
 fn finds<R: Abort + AllocGlobal>(rt: &R, committed: &mut Committed, writer: u8, n: u8) -> bool {
     let tx = reader_of(rt, 0, writer, n);
-    commit(rt, committed, &tx) == CLEAR_WITH_TARGET
+    commit(rt, committed, &tx) == Answer::ClearWithTarget
 }
 
 // Two thousand written keys, and beside them commits that move the merges of their runs on by few steps each, so that large ones are half
@@ -242,7 +268,7 @@ fn while_large_runs_are_merged(rt: HostRuntime) {
     let mut committed = Committed::new(rt.alloc());
     for n in 0..33u8 {
         let tx = writer(&rt, committed.last(), n);
-        assert!(rt; commit(&rt, &mut committed, &tx) == CLEAR);
+        assert!(rt; commit(&rt, &mut committed, &tx) == Answer::Clear);
         assert!(rt; finds(&rt, &mut committed, n, 3 * n));
         assert!(rt; finds(&rt, &mut committed, n - n / 4, 3 * n + 1));
         assert!(rt; finds(&rt, &mut committed, n / 2, 3 * n + 2));
@@ -258,7 +284,7 @@ fn written_keys_stay_in_few_runs(rt: HostRuntime) {
         let reads = [(n % 97) as u8];
         let writes = [(n % 101) as u8, (n % 89) as u8];
         let tx = transaction(&rt, n, &reads, &writes);
-        assert!(rt; commit(&rt, &mut committed, &tx) == CLEAR);
+        assert!(rt; commit(&rt, &mut committed, &tx) == Answer::Clear);
         if n % 16 == 15 {
             forget(&mut committed, n / 2);
         }

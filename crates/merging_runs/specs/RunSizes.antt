@@ -87,9 +87,3 @@ pub record IsMoved (each o most : ℕ) (old new : List RunSize) : Type 0 where
   pub wholes : each ≡ 1 → wholes_of new ≡ wholes_of old
   pub moved : left_above o new + min most (left_above o old) ≤ left_above o old
   pub slowly : AtMostMoved each o most old new
-
--- one merge at most was begun, and those under way were moved on
-pub record IsMergedFor (alike : RunSize → RunSize → Bool) (each o most : ℕ) (old new : List RunSize) (was is : ℕ) : Type 0 where
-  pub begun : List RunSize
-  pub tried : IsTried alike old begun was is
-  pub moved : IsMoved each o most begun new

@@ -1,6 +1,6 @@
 -- What `Runs` holds as contracts see it.
-use Rattle.std.specs.Prelude.{ℕ, ◌+◌, Bool, List, map, Option, Some, None}
-use Rattle.merging_runs.specs.{Held.Held, Held.HeldRun, Held.size_upto, RunSizes.RunSize, RunSizes.IsMergedFor, RunSizes.moves_for}
+use Rattle.std.specs.Prelude.{ℕ, ◌+◌, List, map, Option, Some, None}
+use Rattle.merging_runs.specs.{Held.Held, Held.HeldRun, Held.size_upto, RunSizes.RunSize}
 
 -- the runs, how many more fit without memory, how far each is merged, how much they hold, and how often memory for a merge was refused
 pub record RunsValue (R : Type 0) : Type 0 where
@@ -27,7 +27,3 @@ taken_of left (Some s) = left s + 1
 -- how much there is to give back of the runs that have no number above that one
 abbrev pub size_old : {R : Type 0} → (R → RunSize) → (R → ℕ) → ℕ → List R → ℕ
 size_old sizes held oldest rs = size_upto oldest (map (held_of sizes held) rs)
-
--- one merge at most was begun, and those under way were moved on, for so many elements that were noted
-abbrev pub AreMerged : {R : Type 0} → (ℕ → RunSize → RunSize → Bool) → ℕ → ℕ → ℕ → RunsValue R → RunsValue R → Type 0
-AreMerged alike each o count old new = IsMergedFor (alike o) each o (moves_for count) old.sizes new.sizes old.refused new.refused

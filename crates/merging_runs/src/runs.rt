@@ -1,8 +1,8 @@
 //! Runs, merged and given back in steps.
 ghost use Rattle.std.specs.Prelude.{◌≡◌, ◌≤◌, ◌<◌, ◌+◌, ◌-◌, ◌++◌, [], ◌∷◌, length, nat_lt, OnOk, None};
 ghost use Rattle.merging_runs.specs.Held.{due_upto, given_a_forget, size_in};
-ghost use Rattle.merging_runs.specs.RunSizes.{left_above};
-ghost use Rattle.merging_runs.specs.Value.{AreMerged, size_of};
+ghost use Rattle.merging_runs.specs.RunSizes.{IsMoved, IsTried, left_above, moves_for};
+ghost use Rattle.merging_runs.specs.Value.{size_of};
 
 use crate::give_back::GiveBack;
 use crate::merges::{move_runs, open_last};
@@ -89,14 +89,15 @@ impl<R: Run> Runs<R> {
         *self.runs.allocator()
     }
 
-    /// Makes room for one more run. What is held stays in either case.
-    pub fn reserve(&mut self) -> Result<(), AllocError>
+    /// Makes room for one more run, and begins to merge the last two runs beside one another that are of a like size, where there are such.
+    /// Where memory for the merge is refused, it counts the refusal, and these two stay. `AllocError` where memory for the place of the run
+    /// is refused. The runs answer as they did in each case. It takes the places of a run for the merge, and looks at each run.
+    pub fn reserve(&mut self, oldest: u64) -> Result<(), AllocError>
+        ensures agree { R.agree oldest self.new.runs self.old.runs }
+        ensures tried { IsTried (R.alike oldest) self.old.sizes self.new.sizes self.old.refused self.new.refused }
         ensures room { OnOk result (0 < self.new.places) }
-        ensures runs { self.new.runs ≡ self.old.runs }
-        ensures sizes { self.new.sizes ≡ self.old.sizes }
-        ensures held { self.new.held ≡ self.old.held }
-        ensures refused { self.new.refused ≡ self.old.refused }
     {
+        open_last(&mut self.runs, oldest, &mut self.refused);
         self.runs.reserve(1)
     }
 
@@ -113,14 +114,13 @@ impl<R: Run> Runs<R> {
         }
     }
 
-    /// Begins to merge two runs beside one another that are of a like size, where there are such; where memory for that is refused, it
-    /// counts the refusal. The merges that are under way go on by 16 moves for each of so many elements, and 64, until nothing is left to
-    /// move.
-    pub fn merge(&mut self, oldest: u64, count: usize)
+    /// Moves on the merges that are under way, by 16 moves for each of so many elements, and 64, until nothing is left to move. Takes no
+    /// memory.
+    pub fn move_on(&mut self, oldest: u64, count: usize)
         ensures agree { R.agree oldest self.new.runs self.old.runs }
-        ensures merged { AreMerged R.alike R.each oldest count self.old self.new }
+        ensures moved { IsMoved R.each oldest (moves_for count) self.old.sizes self.new.sizes }
+        ensures refused { self.new.refused ≡ self.old.refused }
     {
-        open_last(&mut self.runs, oldest, &mut self.refused);
         let most = count.saturating_mul(MOVES_EACH).saturating_add(MOVES_MORE);
         move_runs(&mut self.runs, oldest, most);
     }

@@ -99,10 +99,14 @@ module _ (f : Facts) (history : List Record) (s : StandsFor f history) (t : View
       ∙ (λ i. conflict_of (overwritten i) (cond (between i) (Some refusal.PivotSelf) (first_pivot i)))
 
   -- ---- the transaction commits
-  own_flag : has_earlier_target (history ++ r ∷ []) r ≡ list_any (λ k. follows k t) records
-  own_flag = own_earlier_target history r before_new
-      ∙ sym (any_filter (λ y. concurrent_read_write r y) (λ p. nat_lt t.begin p.commit) (λ y h. read_write_kept t.begin r y low (or_left (concurrent_read_write r y) _ h)) history)
+  pub flag_is : list_any (concurrent_read_write r) history ≡ list_any (λ k. follows k t) records
+  flag_is =
+      sym (any_filter (λ y. concurrent_read_write r y) (λ p. nat_lt t.begin p.commit)
+      (λ y h. read_write_kept t.begin r y low (or_left (concurrent_read_write r y) _ h)) history)
       ∙ any_kept (concurrent_read_write r) (λ k. follows k t) from_new
+
+  own_flag : has_earlier_target (history ++ r ∷ []) r ≡ list_any (λ k. follows k t) records
+  own_flag = own_earlier_target history r before_new ∙ flag_is
 
   -- what is kept of the others stays as it is
   others_stay : kept_above f.oldest history ≡ map (kept_of (history ++ r ∷ [])) (filter (λ p. nat_lt f.oldest p.commit) history)

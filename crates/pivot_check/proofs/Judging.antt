@@ -1,11 +1,16 @@
 -- What is kept decides the verdict over the whole history, and goes on standing for it.
-use Rattle.pivot_check.proofs.Words.{◌≡◌, ◌≤◌, ◌<◌, ◌+◌, ℕ, Bool, true, false, cond, List, [], ◌∷◌, ◌++◌, Option, Some, None, map, length, refl, sym, ap, subst, ◌∙◌, arith, nat_lt, is_some, find, not, list_any, filter, position, Bytes, KeyWrite, Mark, Record, IsRising as RecordsRise, rising_from_numbered, all-map, find_alike, length_push, nil_from_length, View, KeptRecord, Facts, keys_of, is_written, leads_to, follows, becomes_pivot, first_number, last_number, are_in_order, own_record, IsInReach, Posting, postings_by, least, lesser, covered_of, are_upto, StandsFor, IsRecordOf, IsClear, Says, AreWriters, verdict_found, kept_of, kept_above, Readers, last_reader, IsNoted, IsForgotten}
+use Rattle.pivot_check.proofs.Words.{◌≡◌, ◌≤◌, ◌<◌, ◌+◌, ℕ, Bool, true, false, cond, List, [], ◌∷◌, ◌++◌, Option, Some, None, map, length, refl, sym, ap, subst, ◌∙◌, arith, nat_lt, is_some, find, not, list_any, filter, position, Bytes, KeyWrite, Mark, Record, IsRising as RecordsRise, rising_from_numbered, all-map, find_alike, length_push, nil_from_length, View, KeptRecord, Facts, keys_of, is_written, leads_to, follows, becomes_pivot, first_number, last_number, are_in_order, own_record, IsInReach, Posting, postings_by, least, lesser, covered_of, are_upto, StandsFor, IsRecordOf, Says, AreWriters, verdict_found, kept_of, kept_above, Readers, last_reader, IsNoted, IsForgotten}
 use Rattle.std.specs.Prelude.{option_map, ◌&&◌}
+use Rattle.model.specs.Dependency.{concurrent_read_write}
+use Rattle.pivot_check.specs.declared.verdict.Cleared.{Cleared}
+use Rattle.pivot_check.specs.StandsFor.{IsCleared, IsClearedBy, IsVerdict}
 use Rattle.model.specs.{declared.refusals.Refusal.Refusal, Verdict.verdict, Verdict.conflict_of}
 use Rattle.model.specs.declared.refusals.Refusal.TheVariants as refusal
 use Rattle.pivot_check.specs.Index.{is_written_since, target, source, other_pivot, answer_found}
-use Rattle.pivot_check.specs.{declared.verdict.Verdict.Verdict, declared.verdict.Verdict.TheVariants.Clear, declared.verdict.Verdict.TheVariants.Overwritten}
+use Rattle.pivot_check.specs.declared.verdict.Verdict.{Verdict}
+use Rattle.pivot_check.specs.declared.verdict.Verdict.TheVariants.{Clear, Overwritten, PivotSelf, Pivot}
 use Rattle.pivot_check.proofs.{Lists.found_at, Lists.found_nowhere, LastSources.source_found, LastSources.noted_readers, LastSources.forgotten_readers}
+use Rattle.pivot_check.proofs.Histories.{flag_is}
 use Rattle.pivot_check.proofs.Histories.{history_rises, kept_later, verdict_is, all_kept, numbered, begun, no_pivot}
 use Rattle.pivot_check.proofs.Writers.{IsRising, any_is_found, written as written_by, target as target_by, pivot as pivot_by, noted as writers_noted, forgotten as writers_forgotten, by_upto}
 
@@ -61,11 +66,14 @@ module _ (f : Facts) (history : List Record) (s : StandsFor f history) where
         let say = judged ∙ ap (λ o. conflict_of o pivots_say) (found_nowhere overwrites t.writes (sym none)) in
         grind arith
 
-    module _ (clear : verdict history r ≡ None) (readers : Readers) (read : IsNoted t.marks (f.last + 1) f.readers readers)
-        (postings : List Posting) (has : (c : Posting → Bool) → least c postings ≡ lesser (least c f.postings) (least c (postings_by (f.last + 1) (is_some (target f t)) (keys_of t.writes)))) where
-      flag : is_some (target f t) ≡ list_any (λ k. follows k t) records
-      flag = ap is_some (sym target_is) ∙ sym (any_is_found (λ k. follows k t) records)
+    -- whether it has read what a concurrent one wrote
+    pub target_found : is_some (target f t) ≡ list_any (concurrent_read_write r) history
+    target_found = ap is_some (sym target_is) ∙ sym (any_is_found (λ k. follows k t) records) ∙ sym (flag_is f history s t reach r own)
 
+    module _ (clear : verdict history r ≡ None) (readers : Readers) (read : IsNoted t.marks (f.last + 1) f.readers readers)
+        (postings : List Posting)
+        (has : (c : Posting → Bool) → least c postings
+            ≡ lesser (least c f.postings) (least c (postings_by (f.last + 1) (list_any (concurrent_read_write r) history) (keys_of t.writes)))) where
       pub noted : StandsFor (record { readers = readers; postings = postings; oldest = f.oldest; last = f.last + 1 }) (history ++ r ∷ [])
       noted =
           let n = f.last + 1 in
@@ -79,7 +87,7 @@ module _ (f : Facts) (history : List Record) (s : StandsFor f history) where
             readers = noted_readers f.oldest (last_reader f.readers) (last_reader readers) history r t.marks n s.readers s.numbered above len own.commit own.reads read;
             writers = subst (λ ks. AreWriters f.oldest postings ks) (all_kept f history s t reach r own)
                 (writers_noted f.oldest f.postings postings kept (own_record records t n) s.writers above
-                (λ c. has c ∙ ap (λ x. lesser (least c f.postings) (least c (postings_by n x (keys_of t.writes)))) flag));
+                (λ c. has c ∙ ap (λ x. lesser (least c f.postings) (least c (postings_by n x (keys_of t.writes)))) (flag_is f history s t reach r own)));
           }
 
   -- older ones are forgotten
@@ -102,20 +110,38 @@ none_flagged : (ms : List Mark) (b : ℕ) (ps : List Posting) → least (covered
 none_flagged ms b [] e = refl
 none_flagged ms b (p ∷ ps) e = grind (arith, none_flagged ms b ps)
 
-pub clear_is : (f : Facts) (t : View) → None ≡ target f t → Clear false ≡ answer_found f t
+pub clear_is : (f : Facts) (t : View) → None ≡ target f t → Clear (record { has_earlier_target = false }) ≡ answer_found f t
 clear_is f t e = sym (λ i. verdict_found (are_in_order (sym e i) (source f t)) (none_flagged t.marks t.begin f.postings (sym e) i) (is_some (sym e i)))
 
 -- the transaction commits as number n
-pub notes : (f : Facts) (history : List Record) → StandsFor f history → (t : View) → IsInReach f t → (n : ℕ) → n ≡ f.last + 1 → (r : Record) → IsRecordOf t n r → IsClear f t
-    → (flag : Bool) → flag ≡ is_some (target f t) → (keys : List Bytes) → keys ≡ keys_of t.writes
+pub notes : (f : Facts) (history : List Record) → StandsFor f history → (t : View) → IsInReach f t → (n : ℕ) → n ≡ f.last + 1 → (r : Record) → IsRecordOf t n r
+    → (cleared : Cleared) → IsCleared f t cleared → (keys : List Bytes) → keys ≡ keys_of t.writes
     → (readers : Readers) → IsNoted t.marks n f.readers readers
-    → (postings : List Posting) → ((c : Posting → Bool) → least c postings ≡ lesser (least c f.postings) (least c (postings_by n flag keys)))
+    → (postings : List Posting)
+    → ((c : Posting → Bool) → least c postings ≡ lesser (least c f.postings) (least c (postings_by n cleared.has_earlier_target keys)))
     → (oldest : ℕ) → oldest ≡ f.oldest → StandsFor (record { readers = readers; postings = postings; oldest = oldest; last = n }) (history ++ r ∷ [])
-notes f history s t reach n next r own clear flag flag_is keys keys_is readers read postings has oldest oldest_is =
+notes f history s t reach n next r own cleared is keys keys_is readers read postings has oldest oldest_is =
     let own' : IsRecordOf t (f.last + 1) r = subst (λ m. IsRecordOf t m r) next own in
+    let clear = is reach history s r own' in
     subst (λ (g : Facts). StandsFor g (history ++ r ∷ [])) (λ i. record { readers = readers; postings = postings; oldest = sym oldest_is i; last = sym next i })
-    (noted f history s t reach r own' (clear history s r own') readers (subst (λ m. IsNoted t.marks m f.readers readers) next read)
-    postings (λ c. has c ∙ (λ i. lesser (least c f.postings) (least c (postings_by (next i) (flag_is i) (keys_is i))))))
+    (noted f history s t reach r own' clear.0 readers (subst (λ m. IsNoted t.marks m f.readers readers) next read)
+    postings (λ c. has c ∙ (λ i. lesser (least c f.postings) (least c (postings_by (next i) (clear.1 i) (keys_is i))))))
+
+found_follows : (own : Bool) (other : Option ℕ) (follows : Bool) (cleared : Cleared) → Clear cleared ≡ verdict_found own other follows
+    → cleared.has_earlier_target ≡ follows
+found_follows true other follows cleared e = cc
+found_follows false None follows cleared e = grind arith
+found_follows false (Some n) follows cleared e = cc
+
+-- the answer clears the transaction
+pub clears : (f : Facts) (t : View) (v : Verdict) → (IsInReach f t → IsVerdict f t v) → v ≡ answer_found f t → IsClearedBy f t v
+clears f t (Clear cleared) says v_is = λ reach history s r own. (
+  says reach history s r own,
+  found_follows (are_in_order (target f t) (source f t)) (other_pivot f t) (is_some (target f t)) cleared v_is ∙ target_found f history s t reach r own,
+)
+clears f t (Overwritten i) says v_is = tt
+clears f t PivotSelf says v_is = tt
+clears f t (Pivot n) says v_is = tt
 
 -- the keys of one transaction alone
 pub upto_own : (n : ℕ) (flag : Bool) (ks : List Bytes) (ps qs : List Posting) → length ps ≡ 0 → ((c : Posting → Bool) → least c qs ≡ lesser (least c ps) (least c (postings_by n flag ks))) → are_upto n qs ≡ true

@@ -9,5 +9,6 @@ pub mod Looking
 pub mod Walks
 pub mod PlacedMarks
 pub mod Judging
+pub mod SameHistories
 pub mod Joined
 pub mod Words

@@ -1,9 +1,8 @@
 -- What is kept says of a transaction that commits next.
-use Rattle.std.specs.Prelude.{◌≡◌, ℕ, Bool, true, false, is_some, Option, List, ⊤}
+use Rattle.std.specs.Prelude.{ℕ, Bool, true, false, is_some, Option, List}
 use Rattle.model.specs.{Map.Bytes, PrivateCopy.Mark.OfKey}
 use Rattle.snapshot.specs.View.{View}
 use Rattle.pivot_check.specs.{declared.verdict.Verdict.Verdict, StandsFor.verdict_found}
-use Rattle.pivot_check.specs.declared.verdict.Verdict.TheVariants.{Clear, Overwritten, PivotSelf, Pivot}
 use Rattle.pivot_check.specs.Kept.{Facts, keys_of, last_source, are_in_order}
 use Rattle.last_readers.specs.Readers.{last_reader}
 use Rattle.pivot_check.specs.Postings.{Posting, least, asked_of, covered_of}
@@ -27,10 +26,3 @@ other_pivot f t = least (covered_of t.marks t.begin true) f.postings
 -- the answer where it overwrites no concurrent commit
 abbrev pub answer_found : Facts → View → Verdict
 answer_found f t = verdict_found (are_in_order (target f t) (source f t)) (other_pivot f t) (is_some (target f t))
-
--- one that may commit is told with whether it has read what a concurrent transaction wrote
-abbrev pub FindsTarget : Facts → View → Verdict → Type 0
-FindsTarget f t (Clear has_earlier_target) = has_earlier_target ≡ is_some (target f t)
-FindsTarget f t (Overwritten i) = ⊤
-FindsTarget f t PivotSelf = ⊤
-FindsTarget f t (Pivot n) = ⊤

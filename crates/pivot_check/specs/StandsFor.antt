@@ -1,8 +1,10 @@
 -- The histories for which what is kept stands, and what the check of a commit says about them.
 use Rattle.std.specs.Prelude.{◌≡◌, ℕ, ◌<◌, ◌+◌, Bool, true, false, ◌&&◌, List, [], ◌∷◌, ◌++◌, Option, Some, None, map, max, nat_lt, if◌then◌else◌, length, All, slice_get, ⊤}
+use Rattle.std.specs.Prelude.{◌↔◌}
 use Rattle.std.specs.List.{list_any, filter}
 use Rattle.model.specs.{declared.refusals.Refusal.Refusal, Map.Bytes, Map.KeyWrite, PrivateCopy.is_covered, History.Record, History.IsNumberedFrom}
 use Rattle.model.specs.declared.refusals.Refusal.TheVariants as refusal
+use Rattle.pivot_check.specs.declared.verdict.Cleared.{Cleared}
 use Rattle.pivot_check.specs.{declared.verdict.Verdict.Verdict, Postings.Posting, Postings.postings_by, Postings.least}
 use Rattle.pivot_check.specs.declared.verdict.Verdict.TheVariants.{Clear, Overwritten, PivotSelf, Pivot}
 use Rattle.model.specs.{Dependency.concurrent_read_write, Verdict.verdict, Verdict.HasNoDangerousPivot}
@@ -66,7 +68,7 @@ pub record IsRecordOf (t : View) (n : ℕ) (r : Record) : Type 0 where
 
 -- what the answer says of the writes is the conflict
 abbrev pub Says : Verdict → List KeyWrite → Option Refusal → Type 0
-Says (Clear has_earlier_target) ws conflict = conflict ≡ None
+Says (Clear cleared) ws conflict = conflict ≡ None
 Says (Overwritten i) ws conflict = (w : KeyWrite) × (slice_get ws i ≡ Some w) × (conflict ≡ Some (refusal.Overwritten w.0))
 Says PivotSelf ws conflict = conflict ≡ Some refusal.PivotSelf
 Says (Pivot n) ws conflict = conflict ≡ Some (refusal.Pivot n)
@@ -74,7 +76,7 @@ Says (Pivot n) ws conflict = conflict ≡ Some (refusal.Pivot n)
 -- an overwritten key has a place among the writes
 abbrev pub IsPlaced : Verdict → List KeyWrite → Type 0
 IsPlaced (Overwritten i) ws = i < length ws
-IsPlaced (Clear has_earlier_target) ws = ⊤
+IsPlaced (Clear cleared) ws = ⊤
 IsPlaced PivotSelf ws = ⊤
 IsPlaced (Pivot n) ws = ⊤
 
@@ -82,7 +84,7 @@ IsPlaced (Pivot n) ws = ⊤
 -- does it follow one that committed before it
 abbrev pub verdict_found : Bool → Option ℕ → Bool → Verdict
 verdict_found true other follows = PivotSelf
-verdict_found false None follows = Clear follows
+verdict_found false None follows = Clear (record { has_earlier_target = follows })
 verdict_found false (Some n) follows = Pivot n
 
 -- the answer is the verdict over each history that is stood for
@@ -93,7 +95,28 @@ IsVerdict f t answer = (history : List Record) → StandsFor f history → (r : 
 abbrev pub IsClear : Facts → View → Type 0
 IsClear f t = (history : List Record) → StandsFor f history → (r : Record) → IsRecordOf t (f.last + 1) r → verdict history r ≡ None
 
--- what the old facts stand for, the new ones stand for with the record of the transaction, which may commit, as number n
+-- a transaction in reach was cleared: over each of them it may commit, and has a read-write dependency to a concurrent
+-- one where that is said
+abbrev pub IsCleared : Facts → View → Cleared → Type 0
+IsCleared f t cleared =
+    IsInReach f t → (history : List Record) → StandsFor f history → (r : Record) → IsRecordOf t (f.last + 1) r
+    → (verdict history r ≡ None) × (cleared.has_earlier_target ≡ list_any (concurrent_read_write r) history)
+
+-- what clears it is its own
+abbrev pub IsClearedBy : Facts → View → Verdict → Type 0
+IsClearedBy f t (Clear cleared) = IsCleared f t cleared
+IsClearedBy f t (Overwritten i) = ⊤
+IsClearedBy f t PivotSelf = ⊤
+IsClearedBy f t (Pivot n) = ⊤
+
+-- what is kept stands for the same histories, with the same last commit number, and the same were forgotten
+pub record StandForSame (old new : Facts) : Type 0 where
+  pub stands : (history : List Record) → StandsFor old history ↔ StandsFor new history
+  pub oldest : new.oldest ≡ old.oldest
+  pub last : new.last ≡ old.last
+
+-- what the old facts stand for, the new ones stand for with the record of the transaction as number n
 abbrev pub StandWithRecord : Facts → Facts → View → ℕ → Type 0
 StandWithRecord old new t n =
-    IsInReach old t → IsClear old t → (h : List Record) → StandsFor old h → (r : Record) → IsRecordOf t n r → StandsFor new (h ++ r ∷ [])
+    IsInReach old t → (h : List Record) → StandsFor old h → (r : Record) → IsRecordOf t n r
+    → StandsFor new (h ++ r ∷ [])

@@ -1,20 +1,21 @@
 //! The committed transactions.
-ghost use Rattle.std.specs.Prelude.{◌≡◌, ◌+◌, ◌≤◌, ◌<◌, List, [], true, false, is_some, length, max, nat_lt, OnOk, ◌-◌};
+ghost use Rattle.std.specs.Prelude.{◌≡◌, ◌+◌, ◌≤◌, ◌<◌, List, [], length, max, nat_lt, OnOk, ◌-◌};
 ghost use Rattle.model.specs.History.{Record};
 ghost use Rattle.last_readers.specs.Readers.{IsForgotten};
 ghost use Rattle.merging_runs.specs.Held.{size_in};
 ghost use Rattle.merging_runs.specs.RunSizes.{left_above, with_run};
-ghost use Rattle.pivot_check.specs.Merged.{AreMerged, IsMerged};
+ghost use Rattle.pivot_check.specs.Merged.{AreMoved, AreMovedWith, IsTriedIn};
 ghost use Rattle.pivot_check.specs.Kept.{HasForgotten, IsEmpty, IsInReach, HasRoom, IsGivenBack, runs_due};
-ghost use Rattle.pivot_check.specs.Index.{FindsTarget, answer_found, target};
-ghost use Rattle.pivot_check.specs.StandsFor.{StandWithRecord, StandsFor, IsVerdict, IsPlaced};
+ghost use Rattle.pivot_check.specs.Index.{answer_found};
+ghost use Rattle.pivot_check.specs.StandsFor.{StandForSame, StandWithRecord, StandsFor};
+ghost use Rattle.pivot_check.specs.StandsFor.{IsCleared, IsClearedBy, IsPlaced, IsVerdict};
 
 use crate::by_start::ByStart;
 use crate::ready::Ready;
 use crate::run::WrittenRun;
 use crate::runs::{add_run, first_overwritten, least_covered};
 use crate::sources::last_source;
-use crate::verdict::Verdict;
+use crate::verdict::{Cleared, Verdict};
 use crate::written::add_all;
 use last_readers::LastReaders;
 use merging_runs::Runs;
@@ -129,12 +130,12 @@ impl Committed {
     {
         let runs = self.runs.as_slice();
         if runs.is_empty() {
-            return Verdict::Clear(false);
+            return Verdict::Clear(Cleared::new(false));
         }
         let begin = tx.begin();
         let order = ByStart::of(tx.marks().held());
         let Some(target) = least_covered(runs, &order, begin, false) else {
-            return Verdict::Clear(false);
+            return Verdict::Clear(Cleared::new(false));
         };
         if let Some(source) = last_source(&self.readers, tx.entries(), begin) {
             if target <= source {
@@ -143,7 +144,7 @@ impl Committed {
         }
         match least_covered(runs, &order, begin, true) {
             Some(n) => Verdict::Pivot(n),
-            None => Verdict::Clear(true),
+            None => Verdict::Clear(Cleared::new(true)),
         }
     }
 
@@ -151,13 +152,13 @@ impl Committed {
     /// commit, and neither it nor a committed transaction would be a dangerous pivot (Cahill, Röhm, Fekete 2008; Ports, Grittner 2012). Of
     /// several reasons it names the least overwritten key, else the transaction itself, else the pivot of least commit number.
     ///
-    /// It takes a binary search in each run for each written key, two for each mark, three times as many in a run that is being made of two, and a look at a bound for each 64 keys written under a
-    /// mark; the numbers of these keys are looked at where the bound lets one be less than what was found. The marks are sorted by start, and
-    /// a key under several of them is looked at once. Where the transaction has read what a concurrent one wrote, it takes also a look-up of
-    /// the last reader of each written key. Takes no memory.
+    /// It takes a binary search in each run for each written key, two for each mark, three times as many in a run that is being made of
+    /// two, and a look at a bound for each 64 keys written under a mark; the numbers of these keys are looked at where the bound lets one
+    /// be less than what was found. The marks are sorted by start, and a key under several of them is looked at once. Where the transaction
+    /// has read what a concurrent one wrote, it takes also a look-up of the last reader of each written key. Takes no memory.
     pub fn verdict(&self, tx: &Transaction) -> Verdict
         ensures verdict { IsInReach self.now.facts tx.now → IsVerdict self.now.facts tx.now result }
-        ensures target { FindsTarget self.now.facts tx.now result }
+        ensures cleared { IsClearedBy self.now.facts tx.now result }
         ensures place { IsPlaced result tx.now.writes }
     {
         match first_overwritten(self.runs.as_slice(), tx.entries(), tx.begin()) {
@@ -167,26 +168,26 @@ impl Committed {
     }
 
     /// Makes room for what is kept of the transaction, so that `note` can't fail. It takes a copy of the keys in its marks and of its written
-    /// keys, the place of each of these keys, and the places of two runs; where that is refused it answers `Memory`. What is kept is as
-    /// it was in either case.
+    /// keys, the place of each of these keys, and the places of two runs; `Memory` where that is refused. What is kept stands for the same
+    /// histories in either case.
+    ///
+    /// It begins to merge two runs beside one another that are of a like size, where there are such: that takes the places of both. Where
+    /// memory for these is refused, it counts the refusal, and the two stay. So it does with the last readers, by a count of their own.
     pub fn reserve(&mut self, tx: &Transaction) -> Result<(), Memory>
-        ensures facts { self.new.facts ≡ self.old.facts }
-        ensures sizes { self.new.held.sizes ≡ self.old.held.sizes }
-        ensures refused { self.new.held.refused ≡ self.old.held.refused }
+        ensures same { StandForSame self.old.facts self.new.facts }
+        ensures tried { IsTriedIn self.old self.new }
         ensures room { OnOk result (HasRoom self.new.room tx.now) }
     {
-        let alloc = self.runs.allocator();
-        let ready = Ready::for_commit(alloc, tx)?;
+        self.runs.reserve(self.oldest)?;
         self.readers.reserve(tx.marks())?;
-        self.runs.reserve()?;
-        self.ready = Some(ready);
+        self.ready = Some(Ready::for_commit(self.runs.allocator(), tx)?);
         Ok(())
     }
 
     // Adds what is kept of the transaction, in the room that was made for it.
-    fn add_record(&mut self, tx: &Transaction, n: u64, has_earlier_target: bool)
+    fn add_record(&mut self, tx: &Transaction, n: u64, cleared: Cleared)
         requires next { n ≡ self.old.facts.last + 1 }
-        requires target { has_earlier_target ≡ is_some (target self.old.facts tx.now) }
+        requires cleared { IsCleared self.old.facts tx.now cleared }
         requires room { HasRoom self.old.room tx.now }
         ensures stands_for { StandWithRecord self.old.facts self.new.facts tx.now n }
         ensures last { self.new.facts.last ≡ n }
@@ -199,37 +200,36 @@ impl Committed {
         };
         let Ready { keys, mut places } = ready;
         self.readers.note(n);
-        add_all(&mut places, keys, n, has_earlier_target);
+        add_all(&mut places, keys, n, cleared.has_earlier_target());
         add_run(&mut self.runs, places, n);
         self.last = n;
     }
 
-    // Begins one merge at most of two runs of a like size, and moves postings of those that are under way, for so many that were noted.
-    fn merge(&mut self, count: usize)
+    // Moves postings of the merges that are under way, for so many that were noted.
+    fn move_on(&mut self, count: usize)
         ensures stands_for { (h : List Record) → StandsFor self.old.facts h → StandsFor self.new.facts h }
         ensures oldest { self.new.facts.oldest ≡ self.old.facts.oldest }
         ensures last { self.new.facts.last ≡ self.old.facts.last }
-        ensures merged { AreMerged count self.old.held.sizes self.old self.new }
+        ensures moved { AreMoved count self.old.held.sizes self.old self.new }
     {
-        self.runs.merge(self.oldest, count);
+        self.runs.move_on(self.oldest, count);
     }
 
-    /// Keeps what the check needs of the transaction, which commits as number `n`, the next one; what `Verdict::Clear` said of its
-    /// dependencies comes along, so that they aren't looked for again. From each history that is stood for it leads to that history with the
-    /// new record. It can't fail: `reserve` made room. Then it begins to merge two runs beside one another that are of a like size, where
-    /// there are such; where memory for that is refused, it counts the refusal. The merges that are under way go on by 16 postings for each
-    /// written key, and 64, until nothing is left to move. The last readers are merged in the same way, by a count of their own.
-    pub fn note(&mut self, tx: &Transaction, n: u64, has_earlier_target: bool)
+    /// Keeps what the check needs of the transaction, which commits as number `n`, the next one, and was cleared for it by `verdict`. From
+    /// each history that is stood for it leads to that history with the new record. It can't fail and takes no memory: `reserve` made room.
+    /// Then the merges that are under way go on by 16 postings for each written key, and 64, until nothing is left to move. The last
+    /// readers are merged in the same way, by a count of their own.
+    pub fn note(&mut self, tx: &Transaction, n: u64, cleared: Cleared)
         requires next { n ≡ self.old.facts.last + 1 }
-        requires target { has_earlier_target ≡ is_some (target self.old.facts tx.now) }
+        requires cleared { IsCleared self.old.facts tx.now cleared }
         requires room { HasRoom self.old.room tx.now }
         ensures stands_for { StandWithRecord self.old.facts self.new.facts tx.now n }
         ensures last { self.new.facts.last ≡ n }
         ensures oldest { self.new.facts.oldest ≡ self.old.facts.oldest }
-        ensures merged { IsMerged tx.now n self.old self.new }
+        ensures moved { AreMovedWith tx.now n self.old self.new }
     {
-        self.add_record(tx, n, has_earlier_target);
-        self.merge(tx.entries().len());
+        self.add_record(tx, n, cleared);
+        self.move_on(tx.entries().len());
     }
 
     /// Drops what was kept of the transactions that committed at or before number `oldest`, from the runs when the whole run is as

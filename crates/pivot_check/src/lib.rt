@@ -21,4 +21,4 @@ mod verdict;
 mod written;
 
 pub use committed::Committed;
-pub use verdict::Verdict;
+pub use verdict::{Cleared, Verdict};

@@ -1,10 +1,33 @@
 //! The answer to a commit.
+ghost use Rattle.std.specs.Prelude.{◌≡◌};
+
+/// What `Committed::verdict` says of a transaction that may commit, and `Committed::note` keeps of it.
+#[derive(Debug, Drop, PartialEq, Eq)]
+pub struct Cleared {
+    has_earlier_target: bool,
+}
+
+impl Cleared {
+    // With this answer to `has_earlier_target`.
+    pub(crate) fn new(has_earlier_target: bool) -> Cleared
+        ensures { result ≡ record { has_earlier_target = has_earlier_target } }
+    {
+        Cleared { has_earlier_target }
+    }
+
+    /// Has the transaction a read-write dependency to a concurrent one that committed before it? Takes no memory.
+    pub fn has_earlier_target(&self) -> bool
+        ensures { result ≡ self.now.has_earlier_target }
+    {
+        self.has_earlier_target
+    }
+}
 
 /// Whether a transaction may commit, and what it is refused for.
-#[derive(Clone, Copy, Debug, PartialEq, Eq)]
+#[derive(Debug, Drop, PartialEq, Eq)]
 pub enum Verdict {
-    /// It may commit. Has it a read-write dependency to a concurrent transaction that committed before it? `Committed::note` keeps that.
-    Clear(bool),
+    /// It may commit.
+    Clear(Cleared),
     /// A transaction that committed since it began has written a key that it wrote too. The number is the place of the least
     /// such key among its entries.
     Overwritten(usize),

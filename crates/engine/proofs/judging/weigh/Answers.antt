@@ -37,7 +37,7 @@ returns-then-is_empty g c e s log history j =
     let none = none_written _ t.writes _ c.is_empty.ensures c.entries-writes.ensures.writes c.if-is_empty.true in (
       to_commit e s t j _ _ c.committed.ensures history _ c.entries-writes.ensures.writes c.entries-writes.ensures.made c.in-Clear.ensures.verdict (λ some. absurd (some none)),
       none,
-      rw (history, ← c.committed.ensures) c.in-Clear.ensures.target,
+      rw (history, ← c.committed.ensures) c.in-Clear.ensures.cleared,
     )
 
 pub returns-then-not-room : goal.returns-then-not-room
@@ -53,5 +53,5 @@ returns g c e s log history j =
     let len = c.payload_len-len.ensures.len ∙ ap payload_size c.entries-writes.ensures.writes in (
       to_commit e s t j _ _ c.committed.ensures history _ c.entries-writes.ensures.writes c.entries-writes.ensures.made c.in-Clear.ensures.verdict (has_room c.args.log.now e.log log t.writes _ len _ c.room.ensures c.if-not-room.false),
       (some_written _ t.writes _ c.is_empty.ensures c.entries-writes.ensures.writes c.if-is_empty.false, len),
-      rw (history, ← c.committed.ensures) c.in-Clear.ensures.target,
+      rw (history, ← c.committed.ensures) c.in-Clear.ensures.cleared,
     )

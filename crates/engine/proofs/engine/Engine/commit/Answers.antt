@@ -1,6 +1,7 @@
 use Rattle.engine.proofs.Words.{refl, sym, ap, ◌∙◌, Err, NotOpen, Commit, Number, device_of as log_device}
 use Rattle.engine.specs.Meaning.{device_of}
 use Rattle.engine.proofs.Calls.{refused_outside}
+use Rattle.engine.proofs.Committing.{cleared_still}
 use Rattle.engine.proofs.Committing.{ended_refused, ended_overwritten, ended_fault, joined, risen, not_risen, commit_memory, unwritten, crash_stored}
 use Rattle.engine.proofs.engine.Engine.commit.Goals as goal
 
@@ -39,6 +40,12 @@ pub returns-in-Err-Device-clause-crash : goal.returns-in-Err-Device-clause-crash
 returns-in-Err-Device-clause-crash g c keeps =
     crash_stored c.args.self.now c.carry_out.new.log (device_of c.refuse-in-Err-Device.new.self) c.args.s c.in-Some.transaction.now (c.in-Clear.ensures c.args.self.now c.args.s refl refl (sym c.in-Some.ensures.value)).0
     (ap log_device c.refuse-in-Err-Device.ensures.leaves.store.log) (c.in-Err-Device.ensures.crash keeps) keeps
+
+pub join-requires-clause-cleared : goal.join-requires-clause-cleared
+join-requires-clause-cleared g c =
+    let j = c.in-Clear.ensures c.args.self.now c.args.s refl refl (sym c.in-Some.ensures.value) in
+    cleared_still c.args.self.now c.end-ended.new.self c.carry_out.new.log c.carry_out.new.history c.args.s _ c.end-ended.result c.in-Clear.cleared
+    j.0.asked.entry j.2 c.carry_out.ensures.same c.end-ended.ensures.leaves c.end-ended.ensures.taken
 
 pub returns-clause-step : goal.returns-clause-step
 returns-clause-step g c =

@@ -1,18 +1,18 @@
 use Rattle.engine.proofs.Words.{◌≡◌, ℕ, ◌+◌, Bool, true, List, [], ◌∷◌, ◌++◌, ap, sym, subst, ◌∙◌, length, arith, ◌==◌, nat_tests, nil_from_length, KeyMap, KeyWrite, Record, IsInReach, View, HistoryValue, Joins}
 use Rattle.versions.specs.StandsFor.{StandsFor as VersionsStandFor}
-use Rattle.pivot_check.specs.StandsFor.{StandsFor as CommittedStandsFor, IsRecordOf, IsClear}
+use Rattle.pivot_check.specs.StandsFor.{StandsFor as CommittedStandsFor, IsRecordOf}
 use Rattle.engine.proofs.history.History.join.Goals as goal
 
 next_joined : (old new : HistoryValue) (t : View) (ws : List KeyWrite) (n : ℕ) → n ≡ old.committed.facts.last + 1 → ws ≡ t.writes
     → ((held : ℕ → Bool) (base : KeyMap) (history : List Record) (r : Record) → VersionsStandFor old.versions held base history → length history + 1 ≡ n → r.commit ≡ n → r.writes ≡ ws → VersionsStandFor new.versions held base (history ++ r ∷ []))
-    → (IsInReach old.committed.facts t → IsClear old.committed.facts t → (history : List Record) → CommittedStandsFor old.committed.facts history → (r : Record) → IsRecordOf t n r → CommittedStandsFor new.committed.facts (history ++ r ∷ []))
+    → (IsInReach old.committed.facts t → (history : List Record) → CommittedStandsFor old.committed.facts history → (r : Record) → IsRecordOf t n r → CommittedStandsFor new.committed.facts (history ++ r ∷ []))
     → Joins old new t
-next_joined old new t ws n number same adds notes held base history r h reach clear own =
+next_joined old new t ws n number same adds notes held base history r h reach own =
     let last = h.committed.last in
     let is : IsRecordOf t n r = subst (λ k. IsRecordOf t k r) (sym number) own in
     record {
       versions = adds held base history r h.versions (omega (arith, last, number)) is.commit (own.writes ∙ sym same);
-      committed = notes reach clear history h.committed r is;
+      committed = notes reach history h.committed r is;
     }
 
 -- a list that was found to be empty

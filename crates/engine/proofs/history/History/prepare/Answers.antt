@@ -4,9 +4,10 @@ use Rattle.engine.proofs.history.History.prepare.Goals as goal
 pub returns-in_err-prepare-clause-same : goal.returns-in_err-prepare-clause-same
 returns-in_err-prepare-clause-same c =
     subst (λ (v : HistoryValue). IsSameHistory v (record { versions = c.prepare.new.self; committed = c.self.inside.committed })) c.self.view_is
-    (record { versions = c.prepare.ensures.same; stands = c.prepare.ensures.stands; facts = refl })
+    (record { versions = c.prepare.ensures.same; stands = c.prepare.ensures.stands; committed =
+        record { stands = λ history. (λ s. s, λ s. s); oldest = refl; last = refl } })
 
 pub returns-clause-same : goal.returns-clause-same
 returns-clause-same c =
     subst (λ (v : HistoryValue). IsSameHistory v (record { versions = c.prepare.new.self; committed = c.reserve.new.self })) c.self.view_is
-    (record { versions = c.prepare.ensures.same; stands = c.prepare.ensures.stands; facts = c.reserve.ensures.facts })
+    (record { versions = c.prepare.ensures.same; stands = c.prepare.ensures.stands; committed = c.reserve.ensures.same })

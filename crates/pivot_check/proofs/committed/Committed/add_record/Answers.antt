@@ -12,16 +12,18 @@ noted c = c.note.ensures.noted c.args.tx.now.marks (subst (λ (r : ReadersRoom).
 read : (c : goal.After-self-1) → IsNoted c.args.tx.now.marks c.args.n c.args.self.now.facts.readers c.note.new.self.readers
 read c = λ k. grind (arith, noted c k)
 
-added : (c : goal.After-self-1) (t : Posting → Bool) → least t (postings_in c.add_run.new.runs.runs) ≡ lesser (least t c.args.self.now.facts.postings) (least t (postings_by c.args.n c.args.has_earlier_target c.in-Some.ready.keys.items))
-added c t = grind (arith, c.add_run.ensures.same t, c.add_all.ensures.added t, nil_from_length c.in-Some.ready.places.items c.in-Some.ready.none)
+added : (c : goal.After-self-1) (t : Posting → Bool) → least t (postings_in c.add_run.new.runs.runs)
+    ≡ lesser (least t c.args.self.now.facts.postings) (least t (postings_by c.args.n c.args.cleared.has_earlier_target c.in-Some.ready.keys.items))
+added c t =
+    grind (arith, c.has_earlier_target.ensures, c.add_run.ensures.same t, c.add_all.ensures.added t, nil_from_length c.in-Some.ready.places.items c.in-Some.ready.none)
 
 pub add_run-requires-clause-upto : goal.add_run-requires-clause-upto
-add_run-requires-clause-upto c = upto_own c.args.n c.args.has_earlier_target c.in-Some.ready.keys.items c.in-Some.ready.places.items c.add_all.new.postings.items c.in-Some.ready.none c.add_all.ensures.added
+add_run-requires-clause-upto c = upto_own c.args.n c.has_earlier_target.result c.in-Some.ready.keys.items c.in-Some.ready.places.items c.add_all.new.postings.items c.in-Some.ready.none c.add_all.ensures.added
 
 pub returns-clause-stands_for : goal.returns-clause-stands_for
-returns-clause-stands_for c = λ reach clear h s r own.
-    notes c.args.self.now.facts h s c.args.tx.now reach c.args.n c.requires.next r own clear
-    c.args.has_earlier_target c.requires.target c.in-Some.ready.keys.items (keys c)
+returns-clause-stands_for c = λ reach h s r own.
+    notes c.args.self.now.facts h s c.args.tx.now reach c.args.n c.requires.next r own
+    c.args.cleared c.requires.cleared c.in-Some.ready.keys.items (keys c)
     c.note.new.self.readers (read c) (postings_in c.add_run.new.runs.runs) (added c)
     c.self.inside.oldest (ap (λ (v : CommittedValue). v.facts.oldest) c.self.view_is)
 

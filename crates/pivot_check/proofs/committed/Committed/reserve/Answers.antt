@@ -1,0 +1,15 @@
+use Rattle.pivot_check.proofs.Words.{refl, ap, CommittedValue}
+use Rattle.pivot_check.proofs.SameHistories.{same_from}
+use Rattle.pivot_check.proofs.committed.Committed.reserve.Goals as goal
+
+pub returns-in_err-reserve-2-clause-same : goal.returns-in_err-reserve-2-clause-same
+returns-in_err-reserve-2-clause-same c =
+    same_from _ _ _ (ap (λ (v : CommittedValue). v.facts) c.self.view_is) c.reserve-2.ensures.readers c.reserve.ensures.agree refl refl
+
+pub returns-in_err-for_commit-clause-same : goal.returns-in_err-for_commit-clause-same
+returns-in_err-for_commit-clause-same c =
+    same_from _ _ _ (ap (λ (v : CommittedValue). v.facts) c.self.view_is) c.reserve-2.ensures.readers c.reserve.ensures.agree refl refl
+
+pub returns-clause-same : goal.returns-clause-same
+returns-clause-same c =
+    same_from _ _ _ (ap (λ (v : CommittedValue). v.facts) c.self.view_is) c.reserve-2.ensures.readers c.reserve.ensures.agree refl refl
