@@ -113,11 +113,11 @@ fn commit<D: Sectors>(engine: &mut Engine<D>, s: u64, out: &mut Vec<u8>) -> Resu
 {
     match engine.commit(s) {
         Ok(number) => {
-            engine.reclaim();
+            engine.reclaim_step();
             write_brief(out, &Reply::Number(number))
         }
         Err(EngineFault::Refused(refusal)) => {
-            engine.reclaim();
+            engine.reclaim_step();
             write_brief(out, &Reply::Refused(&refusal))
         }
         Err(EngineFault::Memory) => Err(Memory),
@@ -134,7 +134,7 @@ fn abort<D: Sectors>(engine: &mut Engine<D>, s: u64, out: &mut Vec<u8>) -> Resul
     ensures capacity { vec_capacity out.old ≤ vec_capacity out.new }
 {
     let answer = engine.abort(s);
-    engine.reclaim();
+    engine.reclaim_step();
     write_done(out, answer)
 }
 
@@ -211,7 +211,7 @@ pub(crate) fn abort_transaction<D: Sectors>(engine: &mut Engine<D>, s: u64)
 {
     match engine.abort(s) {
         Ok(()) => {
-            engine.reclaim();
+            engine.reclaim_step();
         }
         Err(_not_open) => {}
     }
