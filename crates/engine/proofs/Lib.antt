@@ -3,4 +3,5 @@ pub mod Steps
 pub mod Calls
 pub mod Requests
 pub mod Committing
+pub mod Reclaims
 pub mod Words

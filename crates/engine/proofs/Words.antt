@@ -24,7 +24,7 @@ pub use Rattle.pivot_check.specs.Kept.{CommittedValue, Facts, HasForgotten, IsEm
 pub use Rattle.sector.specs.declared.device.Sectors.{Ghosts}
 pub use Rattle.snapshot.specs.Made.{HasMade, is_refused, IsFault, IsKnownRange, MakesOneMoreOver, range_read, WhereMade, WhereSeen}
 pub use Rattle.snapshot.specs.View.{after_get, is_known_get, new_view, View}
-pub use Rattle.versions.specs.Meaning.{is_among, IsReclaimed, map_seen}
+pub use Rattle.versions.specs.Meaning.{is_among, IsReclaimed, IsReclaimedInPart, map_seen}
 pub use Rattle.engine.specs.Changes.{entry_of, HasLogRoom, IsLogged, IsLogStopped, IsSameStore, IsWritten, Leaves, sectors_taken}
 pub use Rattle.engine.specs.HistoryValue.{HistoryStandsFor, HistoryValue, is_due, IsSameHistory, Joins, KeepsHeld}
 pub use Rattle.engine.specs.Least.{IsLeast}

@@ -38,7 +38,7 @@ impl<D: Sectors> Engine<D> {
     ghost use Rattle.model.specs.Machine.{State, IsReached, leave};
     ghost use Rattle.model.specs.Laws.{IsIsolated, IsOrderedByPlace, IsSerializable};
     ghost use Rattle.versions.specs.Listings.{IsUnmixed};
-    ghost use Rattle.versions.specs.Meaning.{kept_of, IsReclaimed};
+    ghost use Rattle.versions.specs.Meaning.{kept_of, IsReclaimed, IsReclaimedInPart};
     ghost use Rattle.std.specs.List.{AllByRecursion};
     ghost use Rattle.pivot_check.specs.Kept.{IsGivenBack};
     ghost use Rattle.engine.specs.HistoryValue.{is_due};
@@ -140,16 +140,14 @@ impl<D: Sectors> Engine<D> {
         ensures { D.keeps_model → (m : State) → StandsFor self.now m → LeavesCommitted m (D.may_leave (device_of self.now)) }
     {}
 
-    /// Drops what no open transaction needs: what was kept of transactions that were committed when each open one began, and versions that
-    /// are neither the newest of their keys nor seen from the begin of an open transaction. Answers whether it has to be called again until
-    /// all of that is gone.
+    /// A step of what `reclaim` does, which is short however much is due. Answers whether it has to be called again until all is done.
     ///
     /// What each commit replaced is a list. One is due once no open transaction began with the number under which it stands, and a call
-    /// looks at 2 of those that are due, and at no other. What was kept to check later commits stands in runs, and a call gives back 1,024 written keys and
-    /// as many steps of last readers of those that are wholly old. Takes no memory.
-    pub fn reclaim(&mut self) -> bool
+    /// looks at 2 of those that are due, and at no other. What was kept to check later commits stands in runs, and a call gives back 1,024
+    /// written keys and as many steps of last readers of those that are wholly old. Takes no memory.
+    pub fn reclaim_step(&mut self) -> bool
         ensures keeps { (m : State) → StandsFor self.old m → StandsFor self.new m }
-        ensures versions { (m : State) → StandsFor self.old m → IsReclaimed (versions_of self.old) (versions_of self.new) (open_begins m) }
+        ensures versions { (m : State) → StandsFor self.old m → IsReclaimedInPart (versions_of self.old) (versions_of self.new) (open_begins m) }
         ensures still { (m : State) → StandsFor self.old m → result ≡ is_due (open_begins m) self.new.history }
         ensures unmixed { (m : State) → StandsFor self.old m → AllByRecursion IsUnmixed (versions_of self.new).groups }
         ensures given_back { IsGivenBack (committed_of self.old) (committed_of self.new) }
@@ -159,11 +157,29 @@ impl<D: Sectors> Engine<D> {
     {
         let last = self.history.committed().last();
         if self.running.is_empty() {
-            return self.history.reclaim(&[], last);
+            return self.history.reclaim_step(&[], last);
         }
         let mut numbers = [0; OPEN_MAX];
         let Gathered { count, oldest } = gather_begins(&self.running, last, &mut numbers);
-        self.history.reclaim(&numbers[..count], oldest)
+        self.history.reclaim_step(&numbers[..count], oldest)
+    }
+
+    /// Drops what no open transaction needs: what was kept of transactions that were committed when each open one began, and the versions
+    /// that are neither the newest of their keys nor seen from the begin of an open transaction.
+    ///
+    /// It looks at all lists of versions that are due, so its time grows with them (`Versions::reclaim`). Takes no memory.
+    pub fn reclaim(&mut self)
+        ensures keeps { (m : State) → StandsFor self.old m → StandsFor self.new m }
+        ensures versions { (m : State) → StandsFor self.old m → IsReclaimed (versions_of self.old) (versions_of self.new) (open_begins m) }
+        ensures unmixed { (m : State) → StandsFor self.old m → AllByRecursion IsUnmixed (versions_of self.new).groups }
+        ensures forgotten { (m : State) → StandsFor self.old m → HasForgottenOld m (facts_of self.new) }
+        ensures device { device_of self.new ≡ device_of self.old }
+        ensures stopped { is_stopped self.new ≡ is_stopped self.old }
+    {
+        let last = self.history.committed().last();
+        let mut numbers = [0; OPEN_MAX];
+        let Gathered { count, oldest } = gather_begins(&self.running, last, &mut numbers);
+        self.history.reclaim(&numbers[..count], oldest);
     }
 
     /// Has the device failed in a commit? Nothing can begin or commit any more.

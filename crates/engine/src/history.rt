@@ -1,6 +1,6 @@
 //! What has committed.
 ghost use Rattle.std.specs.Prelude.{◌≡◌, ◌+◌, ◌-◌, ◌^◌, ◌<◌, ◌≤◌, true, [], IfOk, OnOk, max};
-ghost use Rattle.versions.specs.Meaning.{IsReclaimed};
+ghost use Rattle.versions.specs.Meaning.{IsReclaimed, IsReclaimedInPart};
 ghost use Rattle.pivot_check.specs.Kept.{HasForgotten, IsEmpty, IsGivenBack};
 ghost use Rattle.pivot_check.specs.StandsFor.{IsCleared};
 ghost use Rattle.engine.specs.HistoryValue.{HistoryStandsFor, IsSameHistory, IsReady, Joins, KeepsHeld, Unmixes, is_due};
@@ -84,22 +84,36 @@ impl History {
         number
     }
 
-    /// Drops versions that are neither the newest of their keys nor seen from one of the numbers, as `Versions::reclaim` does, and what was
-    /// kept of commits with a number of at most `oldest`, as `Committed::forget` does. Answers whether it has to be called again until all of
-    /// that is gone.
-    pub(crate) fn reclaim(&mut self, begins: &[u64], oldest: u64) -> bool
+    /// A step of what `reclaim` does, which is short: those of `Versions::reclaim_step` and `Committed::forget`. Answers whether it has to be
+    /// called again until all is done.
+    pub(crate) fn reclaim_step(&mut self, begins: &[u64], oldest: u64) -> bool
         requires { oldest ≤ self.old.committed.facts.last }
         ensures stands { KeepsHeld self.old self.new begins.now }
         ensures last { self.new.committed.facts.last ≡ self.old.committed.facts.last }
         ensures oldest { self.new.committed.facts.oldest ≡ max self.old.committed.facts.oldest oldest }
-        ensures reclaimed { IsReclaimed self.old.versions self.new.versions begins.now }
+        ensures reclaimed { IsReclaimedInPart self.old.versions self.new.versions begins.now }
         ensures given_back { IsGivenBack self.old.committed self.new.committed }
         ensures still { result ≡ is_due begins.now self.new }
         ensures forgotten { HasForgotten oldest self.new.committed.facts }
         ensures unmixed { Unmixes self.old self.new begins.now }
     {
-        let versions_due = self.versions.reclaim(begins);
+        let versions_due = self.versions.reclaim_step(begins);
         let runs_due = self.committed.forget(oldest);
         versions_due || runs_due
+    }
+
+    /// Drops the versions that are neither the newest of their keys nor seen from one of the numbers, as `Versions::reclaim` does, and what
+    /// was kept of commits with a number of at most `oldest`, as `Committed::forget` does.
+    pub(crate) fn reclaim(&mut self, begins: &[u64], oldest: u64)
+        requires { oldest ≤ self.old.committed.facts.last }
+        ensures stands { KeepsHeld self.old self.new begins.now }
+        ensures last { self.new.committed.facts.last ≡ self.old.committed.facts.last }
+        ensures oldest { self.new.committed.facts.oldest ≡ max self.old.committed.facts.oldest oldest }
+        ensures reclaimed { IsReclaimed self.old.versions self.new.versions begins.now }
+        ensures forgotten { HasForgotten oldest self.new.committed.facts }
+        ensures unmixed { Unmixes self.old self.new begins.now }
+    {
+        self.versions.reclaim(begins);
+        self.committed.forget(oldest);
     }
 }

@@ -127,7 +127,7 @@ impl<D: Sectors> EventLoop<D> {
     /// It drives before it accepts: so an event of this poll can't be taken for one of a connection that came since under the same key,
     /// and the places of those that left are free for those that come.
     ///
-    /// At its end it gives back what no open transaction needs, a step of it (`Hub::reclaim`). So turns go on with that, also where no
+    /// At its end it gives back what no open transaction needs, a step of it (`Hub::reclaim_step`). So turns go on with that, also where no
     /// session sends anything, until nothing is due.
     ///
     /// It waits for no more than `timeout`, without end where none is given. It doesn't wait at all where a session is still ready, where
@@ -225,7 +225,7 @@ impl<D: Sectors> EventLoop<D> {
         ensures gives_back { IsGivenBack self.old self.new }
         ensures poller { self.new.poller ≡ self.old.poller }
     {
-        self.due = self.hub.reclaim();
+        self.due = self.hub.reclaim_step();
     }
 
     // Accepts connections, where the listener may hold more or the last poll told of it.

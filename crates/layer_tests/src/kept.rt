@@ -76,16 +76,16 @@ fn after_six_commits<R: Abort + AllocGlobal>(rt: &R) -> Versions {
     versions
 }
 
-/// Where no number before the last is held, older versions go in three calls, since each of six commits has a list, and a call looks at two.
+/// Where no number before the last is held, older versions go in three steps, since each of six commits has a list, and a step looks at two.
 /// The deleted key before the other isn't shown.
 #[test]
-fn few_lists_go_in_three_calls(rt: HostRuntime) {
+fn few_lists_go_in_three_steps(rt: HostRuntime) {
     let (a, b) = (key(b"a"), key(b"b"));
     let mut versions = after_six_commits(&rt);
     assert!(rt; versions.kept(a) == 5);
-    assert!(rt; versions.reclaim(&[6]));
-    assert!(rt; versions.reclaim(&[6]));
-    assert!(rt; !versions.reclaim(&[6]));
+    assert!(rt; versions.reclaim_step(&[6]));
+    assert!(rt; versions.reclaim_step(&[6]));
+    assert!(rt; !versions.reclaim_step(&[6]));
     assert!(rt; versions.kept(a) == 1 && versions.kept(b) == 1);
     assert!(rt; versions.newest(a) == Some(5));
     let from_a = RangeRef { lo: a, hi: None };
@@ -123,19 +123,33 @@ fn older_versions(versions: &Versions, keys: u8) -> u64 {
     count
 }
 
-/// Ten lists go in five calls, two in each, and each call but the last asks for another.
+/// Ten lists go in five steps, two in each, and each step but the last asks for another.
 #[test]
 fn lists_go_in_instalments(rt: HostRuntime) {
     let mut versions = after_commits(&rt, 10);
     assert!(rt; older_versions(&versions, 10) == 10);
     for left in [8, 6, 4, 2, 0] {
-        assert!(rt; versions.reclaim(&[10]) == (left > 0), "{left}");
+        assert!(rt; versions.reclaim_step(&[10]) == (left > 0), "{left}");
         assert!(rt; older_versions(&versions, 10) == left, "{left}");
     }
     assert!(rt; versions.at(10, key(&[7])) == Some(b"new".as_slice()));
 }
 
-// Commits a value of the key with this number, and reclaims what none of two numbers sees.
+/// All of ten lists are looked at in one call, and what a number that is held sees is left.
+#[test]
+fn all_lists_go_at_once(rt: HostRuntime) {
+    let mut versions = after_commits(&rt, 10);
+    versions.reclaim(&[4, 10]);
+    assert!(rt; older_versions(&versions, 10) == 6);
+    assert!(rt; versions.at(4, key(&[3])) == Some(b"new".as_slice()));
+    assert!(rt; versions.at(4, key(&[4])) == Some(b"old".as_slice()));
+    assert!(rt; !versions.reclaim_step(&[4, 10]));
+    versions.reclaim(&[]);
+    assert!(rt; older_versions(&versions, 10) == 0);
+    assert!(rt; versions.at(10, key(&[4])) == Some(b"new".as_slice()));
+}
+
+// Commits a value of the key with this number, and takes a step to reclaim what none of two numbers sees.
 fn commit_and_reclaim<R: Abort + AllocGlobal>(
     rt: &R,
     versions: &mut Versions,
@@ -147,7 +161,7 @@ fn commit_and_reclaim<R: Abort + AllocGlobal>(
     ensures { versions.new.last ≡ n }
 {
     commit(rt, versions, n, key, Some(b"new"));
-    versions.reclaim(&[200, 230]);
+    versions.reclaim_step(&[200, 230]);
 }
 
 /// While 200 lists are due, a key that each commit writes has three versions at most, and one of the lists at least goes with each commit.

@@ -69,13 +69,11 @@ fn pages_places_and_groups_stay_few(rt: HostRuntime) {
     for n in 1..COMMITS {
         commit(&rt, &mut versions, n);
         renew(&mut begins, n);
-        versions.reclaim(&begins);
+        versions.reclaim_step(&begins);
         assert!(rt; versions.groups() <= 5, "after commit {n}");
         let keys = n.min(KEYS) as usize;
         assert!(rt; are_small(&versions, keys), "after commit {n}");
     }
-    for _step in 0..COMMITS {
-        versions.reclaim(&[]);
-    }
+    versions.reclaim(&[]);
     assert!(rt; versions.groups() <= 1);
 }

@@ -32,11 +32,11 @@ fn end_reader<R: Abort + AllocGlobal>(rt: &R, store: &mut Pieces) {
         }
         let set = format!(in rt.alloc(); "2 SET k{} {n}", n % 10).expect(rt, "memory");
         commit(rt, store, &["2 BEGIN", set.as_str(), "2 COMMIT"], n + 1);
-        assert!(rt; !store.hub.reclaim(), "commit {n}");
+        assert!(rt; !store.hub.reclaim_step(), "commit {n}");
     }
     reply_to(rt.alloc(), store, "1 ABORT").expect(rt, "memory");
     for left in [true, true, true, false] {
-        assert!(rt; store.hub.reclaim() == left);
+        assert!(rt; store.hub.reclaim_step() == left);
     }
 }
 

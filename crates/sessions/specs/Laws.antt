@@ -4,7 +4,7 @@ use Rattle.std.specs.List.{AllByRecursion, flat_map}
 use Rattle.sector.specs.SectorModel.{LeavesOnly}
 use Rattle.engine.specs.{Meaning.committed_of, Meaning.facts_of, Meaning.versions_of, Recovery.HoldsMap, Recovery.committed_map}
 use Rattle.pivot_check.specs.Kept.{HasForgotten, IsGivenBack, runs_due}
-use Rattle.versions.specs.Meaning.{IsReclaimed, due_of}
+use Rattle.versions.specs.Meaning.{IsReclaimedInPart, due_of}
 use Rattle.model.specs.{Map.Bytes, Laws.IsIsolated, Laws.IsOrderedByPlace, Laws.IsSerializable, ReplyText.reply_text}
 use Rattle.model.specs.Operations.{Operation, Response, Begin, Done}
 use Rattle.model.specs.Machine.{IsReached, Running, last, running_of, snapshot}
@@ -105,7 +105,7 @@ NoneRuns hub = Ran hub hub []
 -- are still due.
 pub record GivesBack {D : Type 0} {g : Ghosts D} (old new : Hub D g) (more : Bool) : Type 0 where
   pub ran : Ran old new []
-  pub versions : (h : HubState) → StandsFor old h → IsReclaimed (versions_of old.engine) (versions_of new.engine) (begins h)
+  pub versions : (h : HubState) → StandsFor old h → IsReclaimedInPart (versions_of old.engine) (versions_of new.engine) (begins h)
   pub more_is : (h : HubState) → StandsFor old h → more ≡ nat_lt 0 (due_of (begins h) (versions_of new.engine) + runs_due (committed_of new.engine))
   pub runs : IsGivenBack (committed_of old.engine) (committed_of new.engine)
   pub forgotten : (h : HubState) → StandsFor old h → (n : ℕ) → n ≤ last h.machine → AllByRecursion (λ e. n ≤ e.1.begin) h.machine.running → HasForgotten n (facts_of new.engine)

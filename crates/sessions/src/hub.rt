@@ -278,12 +278,12 @@ impl<D: Sectors> Hub<D> {
     /// what the hub stands for stays, and so does the device. Ends of transactions take such a step themselves; called again until it answers
     /// no, it ends what an old reader has left. It looks at 2 of the lists of old versions that are due, and gives back 1,024 written keys and as
     /// many steps of last readers of old runs, so it is short. Takes no memory.
-    pub fn reclaim(&mut self) -> bool
+    pub fn reclaim_step(&mut self) -> bool
         ensures { GivesBack self.old self.new result }
     {
         machine_is_serializable();
         self.is_stored();
-        let more = self.engine.reclaim();
+        let more = self.engine.reclaim_step();
         self.is_stored();
         more
     }

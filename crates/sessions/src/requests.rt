@@ -85,11 +85,11 @@ fn commit<D: Sectors>(engine: &mut Engine<D>, s: u64, out: &mut ReplyBuffer) -> 
 {
     match engine.commit(s) {
         Ok(number) => {
-            engine.reclaim();
+            engine.reclaim_step();
             out.write_brief(&Reply::Number(number))
         }
         Err(EngineFault::Refused(refusal)) => {
-            engine.reclaim();
+            engine.reclaim_step();
             out.write_brief(&Reply::Refused(&refusal))
         }
         Err(EngineFault::Memory) => Err(Memory),
@@ -103,7 +103,7 @@ fn abort<D: Sectors>(engine: &mut Engine<D>, s: u64, out: &mut ReplyBuffer) -> R
     ensures device { device_of engine.new ≡ device_of engine.old }
 {
     let answer = engine.abort(s);
-    engine.reclaim();
+    engine.reclaim_step();
     write_done(out, answer)
 }
 
@@ -174,7 +174,7 @@ pub(crate) fn abort_transaction<D: Sectors>(engine: &mut Engine<D>, s: u64)
 {
     match engine.abort(s) {
         Ok(()) => {
-            engine.reclaim();
+            engine.reclaim_step();
         }
         Err(_not_open) => {}
     }

@@ -1,5 +1,5 @@
 -- The loops over what is listed.
-use Rattle.versions.proofs.Words.{add-one, GroupStaysUnder, GroupsJoinUnder, AreUnder, AreOfBoth, get_or-take, length-take, drop-set, take-set, take-take, ◌≡◌, ℕ, zero, suc, ◌+◌, ◌-◌, ◌<◌, ◌≤◌, Bool, true, false, ◌&&◌, List, [], ◌∷◌, ◌++◌, length, take, drop, get_or, set, Option, Some, None, refl, sym, ap, subst, ◌∙◌, arith, inl, inr, option_map, nat_lt, nat_le, ◌==◌, ◌⊎◌, if◌then◌else◌, swap_remove, IfSome, common_steps, Vec, AllByRecursion, list_any, list_all, remove, both_ways, and_right, nat_tests, Bytes, same_key, same_key_itself, Stamped, ChainValue, Chains, ChainsValue, find_chain, first_number, is_between, reclaimed, IsKept, IsReclaimedAt, is_seen_from, is_seen_by, AreSeenFrom, is_of, is_in, is_listed, AreListed, IsListedChain, IsListed, AreFound, has_version, AreNeeded, IsNeededChain, IsSettled, IsPartReclaimed, AreKept, AreAmong, AreMixedSettled, IsTrulyMixed, versions_in, witness_for, witnesses, lists_in, GroupValue, Listed, AreUnderWitnesses, IsUnderWitness, is_among, due_for, due_in, lists_a_reclaim, drop_all, take_all, length-set, list_all-append, sum_by, all-each, all-get, all-map, all-more, all-remove, all-set, all-take, any-remove, any-set}
+use Rattle.versions.proofs.Words.{add-one, GroupStaysUnder, GroupsJoinUnder, AreUnder, AreOfBoth, get_or-take, length-take, drop-set, take-set, take-take, ◌≡◌, ℕ, zero, suc, ◌+◌, ◌-◌, ◌<◌, ◌≤◌, Bool, true, false, ◌&&◌, List, [], ◌∷◌, ◌++◌, length, take, drop, get_or, set, Option, Some, None, refl, sym, ap, subst, ◌∙◌, arith, inl, inr, option_map, nat_lt, nat_le, ◌==◌, ◌⊎◌, if◌then◌else◌, swap_remove, IfSome, common_steps, Vec, AllByRecursion, list_any, list_all, remove, both_ways, and_right, nat_tests, Bytes, same_key, same_key_itself, Stamped, ChainValue, Chains, ChainsValue, find_chain, first_number, is_between, reclaimed, IsKept, IsReclaimedAt, is_seen_from, is_seen_by, AreSeenFrom, is_of, is_in, is_listed, AreListed, IsListedChain, IsListed, AreFound, has_version, AreNeeded, IsNeededChain, IsSettled, IsPartReclaimed, AreKept, AreAmong, AreMixedSettled, IsTrulyMixed, versions_in, witness_for, witnesses, lists_in, GroupValue, Listed, AreUnderWitnesses, IsUnderWitness, is_among, due_for, due_in, lists_a_step, drop_all, take_all, length-set, list_all-append, sum_by, all-each, all-get, all-map, all-more, all-remove, all-set, all-take, any-remove, any-set}
 use Rattle.std.proofs.{lemmas.List.Sorted.list_any-IsPermutation, lemmas.List.Sorted.IsPermutation-swap_remove, lemmas.List.Recursion.is_sum_by}
 use Rattle.versions.proofs.{Stores.rising_found, Witnesses.lists-set, UnderWitnesses.IsUnder, ChainLaws.any-weaker, ChainLaws.between-wider}
 use Rattle.versions.proofs.Listings.{needed-chain, reclaimed-needed, part-at, part-trans, all-settled-part, left-part, listed-part}
@@ -154,9 +154,9 @@ pub record Settling (bs : List ℕ) (old now : Chains) (olds gs : List GroupValu
   pub kept : (last : ℕ) → IsKept old last → IsKept now last
   pub listed : IsListed now gs
   pub settled : AllByRecursion (IsLookedAfter bs now) (drop left gs)
-  pub looked_at : due_in bs gs + lists_a_reclaim ≡ due_in bs olds + most
+  pub looked_at : due_in bs gs + lists_a_step ≡ due_in bs olds + most
   pub none_behind : 0 < most → due_in bs (drop left gs) ≡ 0
-  pub few : most ≤ lists_a_reclaim
+  pub few : most ≤ lists_a_step
   pub held : AllByRecursion (IsHeld bs) (drop left gs)
   pub truly : AllByRecursion (IsTrulyMixed bs) (drop left gs)
   pub lists : lists_in gs ≤ lists_in olds
@@ -165,7 +165,7 @@ pub record Settling (bs : List ℕ) (old now : Chains) (olds gs : List GroupValu
   pub mixed : AreMixedSettled bs now (drop left gs)
 
 -- no group was looked at
-pub settling-none : (bs : List ℕ) (es : Chains) (gs : List GroupValue) → IsListed es gs → Settling bs es es gs gs (length gs) lists_a_reclaim
+pub settling-none : (bs : List ℕ) (es : Chains) (gs : List GroupValue) → IsListed es gs → Settling bs es es gs gs (length gs) lists_a_step
 settling-none bs es gs listed =
     let none = drop_all (length gs) gs (omega arith) in
     record {
@@ -242,7 +242,7 @@ all-settled bs es [] none h = tt
 all-settled bs es (g ∷ gs) none h = (h.0 (omega (arith, none)), all-settled bs es gs (omega (arith, none)) h.1)
 
 -- so many lists are due no more
-pub settling-due : (bs : List ℕ) (old now : Chains) (olds gs : List GroupValue) (most : ℕ) → Settling bs old now olds gs 0 most → due_in bs gs ≡ due_in bs olds - lists_a_reclaim
+pub settling-due : (bs : List ℕ) (old now : Chains) (olds gs : List GroupValue) (most : ℕ) → Settling bs old now olds gs 0 most → due_in bs gs ≡ due_in bs olds - lists_a_step
 settling-due bs old now olds gs most s =
     let none : 0 < most → due_in bs gs ≡ 0 = s.none_behind in
     grind (arith, s.looked_at, s.few)

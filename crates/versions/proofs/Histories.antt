@@ -1,5 +1,5 @@
 -- The histories that versions stand for, from call to call.
-use Rattle.versions.proofs.Words.{◌≡◌, ℕ, ◌+◌, ◌<◌, ◌≤◌, Bool, ◌&&◌, List, [], ◌∷◌, ◌++◌, length, Option, Some, refl, sym, subst, ◌∙◌, arith, ◌↔◌, option_map, nat_le, if◌then◌else◌, cond_both, nat_tests, Bytes, KeyMap, KeyWrite, IsMap, after_writes, value_at, IsMap-after_writes, ChainsValue, IsRoomier, is_among, IsSameMeaning, IsInstalled, IsReclaimed, StandsFor, last_writer_from, AreUnderWitnesses}
+use Rattle.versions.proofs.Words.{◌≡◌, ℕ, ◌+◌, ◌<◌, ◌≤◌, Bool, ◌&&◌, List, [], ◌∷◌, ◌++◌, length, Option, Some, refl, sym, ap, subst, ◌∙◌, arith, inl, inr, and_parts, or_cases, or_left, or_right, ◌↔◌, option_map, nat_le, if◌then◌else◌, cond_both, nat_tests, Bytes, KeyMap, KeyWrite, IsMap, after_writes, value_at, IsMap-after_writes, ChainsValue, IsRoomier, is_among, IsSameMeaning, IsInstalled, IsSeenSame, StandsFor, StandWhereAmong, UnmixedWhereHeld, last_writer_from, AreUnderWitnesses}
 use Rattle.std.proofs.Common.{length-append}
 use Rattle.model.specs.{History.Record, History.map_at, Dependency.writes_key}
 use Rattle.versions.proofs.UnderWitnesses.{groups-under, under-roomier, under-roomy}
@@ -53,7 +53,7 @@ module _ (v : ChainsValue) (held : ℕ → Bool) (base : KeyMap) (history : List
           witnessed = under s.witnessed;
         }
 
-    pub stands-reclaimed : (bs : List ℕ) → IsReclaimed v new bs → (AreUnderWitnesses held v v.groups → AreUnderWitnesses (λ n. held n && is_among bs n) new new.groups) → StandsFor v held base history → StandsFor new (λ n. held n && is_among bs n) base history
+    pub stands-reclaimed : (bs : List ℕ) → IsSeenSame v new bs → (AreUnderWitnesses held v v.groups → AreUnderWitnesses (λ n. held n && is_among bs n) new new.groups) → StandsFor v held base history → StandsFor new (λ n. held n && is_among bs n) base history
     stands-reclaimed bs h under s =
         let last = h.last in
         record {
@@ -63,6 +63,38 @@ module _ (v : ChainsValue) (held : ℕ → Bool) (base : KeyMap) (history : List
           within = omega (arith, s.within);
           witnessed = under s.witnessed;
         }
+
+-- ---- a reclaim, step by step
+
+-- a number that is held twice is held
+abbrev held_twice : (bs : List ℕ) (held : ℕ → Bool) (n : ℕ) → ((held n && is_among bs n) && is_among bs n) ≡ (held n && is_among bs n)
+held_twice bs held n = grind arith
+
+pub stands-on : (bs : List ℕ) (old mid new : ChainsValue) → StandWhereAmong bs old mid → StandWhereAmong bs mid new → StandWhereAmong bs old new
+stands-on bs old mid new g h = λ held base history s.
+    subst (λ (f : ℕ → Bool). StandsFor new f base history) (λ i n. held_twice bs held n i) (h (λ n. held n && is_among bs n) base history (g held base history s))
+
+pub unmixed-on : (bs : List ℕ) (old mid new : ChainsValue) → StandWhereAmong bs old mid → UnmixedWhereHeld bs mid new → UnmixedWhereHeld bs old new
+unmixed-on bs old mid new g h = λ held base history s all.
+    h (λ n. held n && is_among bs n) base history (g held base history s) (λ n t. ap (λ b. b && is_among bs n) (all n t) ∙ t)
+
+pub stands-itself : (bs : List ℕ) (v : ChainsValue) → StandWhereAmong bs v v
+stands-itself bs v = λ held base history s. record {
+  is_map = s.is_map;
+  maps = λ n t. s.maps n (elim (or_cases (held n && is_among bs n) (nat_le v.last n) t) [
+    | inl e ↦ or_left (held n) (nat_le v.last n) (and_parts (held n) (is_among bs n) e).0
+    | inr e ↦ or_right (held n) (nat_le v.last n) e
+  ]);
+  newest = s.newest;
+  within = s.within;
+  witnessed = groups-under held (λ n. held n && is_among bs n) v v v.groups (λ w x h. record {
+    before = h.before;
+    rises = h.rises;
+    installed = h.installed;
+    between = λ b t. h.between b (and_parts (held b) (is_among bs b) t).0;
+    chain = λ c found. (let u = h.chain c found in record { behind = u.behind; installed = u.installed; sees = λ b t. u.sees b (and_parts (held b) (is_among bs b) t).0 });
+  }) s.witnessed;
+}
 
 -- what stands for a history sees maps
 pub maps-history : (base : KeyMap) (history : List Record) (n : ℕ) → IsMap base → IsMap (map_at base history n)

@@ -1,5 +1,5 @@
 -- All chains: what is made, what more room leaves, what an install adds and what a reclaim leaves.
-use Rattle.versions.proofs.Words.{is_sorted, [], ◌≡◌, ℕ, suc, ◌+◌, ◌-◌, ◌<◌, ◌≤◌, true, false, T, cond, ◌||◌, List, ◌∷◌, length, take, set, Option, Some, None, IsSome, Result, Ok, Err, refl, sym, ap, subst, ◌∙◌, arith, option_map, nat_le, if◌then◌else◌, IfSome, OnOk, swap_remove, AllByRecursion, is_eq, is_lt, nat_cmp, slice_cmp, put, below_all, both_ways, Page, room_at, Bytes, KeyMap, KeyWrite, IsMap, key_cmp, value_at, after_writes, same_key, same_key_itself, same_key_comm, same_map, Stamped, ChainValue, Chains, ChainsValue, find_chain, seen, seen_in, value_of, visible, with_value, added, stamped, IsReady, HasPlace, HasRoom, reclaimed, IsReclaimedAt, base_chains, IsKept, IsRisingChain, IsRoomier, IsRoomierChain, kept_in, is_written_by, is_among, due_of, lists_a_reclaim, IsSameMeaning, IsReclaimed, IsTightChain, writes_of, IsPartReclaimed, IsSorted, IsBelowAll, turned, both, less, parts, common_steps, get_or_default, nat_tests, all-each}
+use Rattle.versions.proofs.Words.{is_sorted, [], ◌≡◌, ℕ, suc, ◌+◌, ◌-◌, ◌<◌, ◌≤◌, true, false, T, cond, ◌||◌, List, ◌∷◌, length, take, set, Option, Some, None, IsSome, Result, Ok, Err, refl, sym, ap, subst, ◌∙◌, arith, option_map, nat_le, if◌then◌else◌, IfSome, OnOk, swap_remove, AllByRecursion, is_eq, is_lt, nat_cmp, slice_cmp, put, below_all, both_ways, Page, room_at, Bytes, KeyMap, KeyWrite, IsMap, key_cmp, value_at, after_writes, same_key, same_key_itself, same_key_comm, same_map, Stamped, ChainValue, Chains, ChainsValue, find_chain, seen, seen_in, value_of, visible, with_value, added, stamped, IsReady, HasPlace, HasRoom, reclaimed, IsReclaimedAt, base_chains, IsKept, IsRisingChain, IsRoomier, IsRoomierChain, kept_in, is_written_by, is_among, due_of, lists_a_step, IsSameMeaning, IsReclaimed, IsReclaimedInPart, IsSeenSame, IsTightChain, writes_of, IsPartReclaimed, IsSorted, IsBelowAll, turned, both, less, parts, common_steps, get_or_default, nat_tests, all-each}
 use Rattle.std.specs.declared.cmp.Ordering.TheVariants.{Less}
 use Rattle.std.proofs.lemmas.Map.Lookups.{exact_bytes}
 use Rattle.sorted_pages.specs.Trims.{put_some, changed_at}
@@ -211,20 +211,46 @@ sees_found bs last n (Some c) h t = let low = h.1 in grind (arith, nat_tests, ve
 tight_found : (bs : List ℕ) (last : ℕ) (o : Option ChainValue) (c : ChainValue) → IfSome o (λ c. IsRisingChain last c) → option_map (reclaimed bs) o ≡ Some c → IsTightChain bs c
 tight_found bs last o c h e = grind (arith, tight-reclaimed bs)
 
-pub reclaimed-whole : (old new : ChainsValue) (bs : List ℕ) → IsKept old.chains old.last → IsKept new.chains new.last → new.last ≡ old.last → due_of bs new ≡ due_of bs old - lists_a_reclaim → IsPartReclaimed bs old.chains new.chains
-    → (due_of bs new ≡ 0 → (k : Bytes) → find_chain k new.chains ≡ option_map (reclaimed bs) (find_chain k old.chains)) → IsReclaimed old new bs
-reclaimed-whole old new bs h g e due part is = record {
+seen-part : (old new : ChainsValue) (bs : List ℕ) → IsKept old.chains old.last → IsKept new.chains new.last → new.last ≡ old.last → IsPartReclaimed bs old.chains new.chains → IsSeenSame old new bs
+seen-part old new bs h g e part = record {
   maps = λ n t. same_map _ _ (IsMap-visible n new.chains g.sorted) (IsMap-visible n old.chains h.sorted) (λ q.
       let sees = sees_found bs old.last n (find_chain q old.chains) (rising_found q old.chains old.last h) t in
       grind (arith, value-visible n q new.chains g.sorted, value-visible n q old.chains h.sorted, part q));
   newest = λ k. grind (arith, part k);
   last = e;
-  due = due;
   needed = λ k. grind (arith, part k, twice bs old.last (find_chain k old.chains) (rising_found k old.chains old.last h));
-  kept = λ k. grind (arith, part k);
-  none_left = λ none k. ap kept_in (is none k);
-  tight = λ none k c f. tight_found bs old.last (find_chain k old.chains) c (rising_found k old.chains old.last h) (sym (is none k) ∙ f);
 }
+
+pub reclaimed-part : (old new : ChainsValue) (bs : List ℕ) → IsKept old.chains old.last → IsKept new.chains new.last → new.last ≡ old.last → due_of bs new ≡ due_of bs old - lists_a_step → IsPartReclaimed bs old.chains new.chains
+    → (due_of bs new ≡ 0 → (k : Bytes) → find_chain k new.chains ≡ option_map (reclaimed bs) (find_chain k old.chains)) → IsReclaimedInPart old new bs
+reclaimed-part old new bs h g e due part is =
+    let seen = seen-part old new bs h g e part in
+    record {
+      seen = seen;
+      due = due;
+      kept = λ k. grind (arith, part k);
+      all = λ none. record {
+        seen = seen;
+        kept = λ k. ap kept_in (is none k);
+        tight = λ k c f. tight_found bs old.last (find_chain k old.chains) c (rising_found k old.chains old.last h) (sym (is none k) ∙ f);
+      };
+    }
+
+-- ---- a reclaim, step by step
+
+pub seen-itself : (v : ChainsValue) (bs : List ℕ) → IsSeenSame v v bs
+seen-itself v bs = record { maps = λ n t. refl; newest = λ k. refl; last = refl; needed = λ k. refl }
+
+pub seen-on : (old mid new : ChainsValue) (bs : List ℕ) → IsSeenSame old mid bs → IsSeenSame mid new bs → IsSeenSame old new bs
+seen-on old mid new bs g h = record {
+  maps = λ n t. h.maps n (subst (λ l. (is_among bs n || nat_le l n) ≡ true) (sym g.last) t) ∙ g.maps n t;
+  newest = λ k. h.newest k ∙ g.newest k;
+  last = h.last ∙ g.last;
+  needed = λ k. h.needed k ∙ g.needed k;
+}
+
+pub reclaimed-on : (old mid new : ChainsValue) (bs : List ℕ) → IsSeenSame old mid bs → IsReclaimed mid new bs → IsReclaimed old new bs
+reclaimed-on old mid new bs g h = record { seen = seen-on old mid new bs g h.seen; kept = λ k. h.kept k ∙ g.needed k; tight = h.tight }
 
 -- one chain reclaimed in its place
 kept-some : (bs : List ℕ) (k : Bytes) (es : Chains) (last : ℕ) (o : Option ChainValue) → IfSome o (λ c. IsRisingChain last c) → IsKept es last → IsKept (put_some k (option_map (reclaimed bs) o) es) last

@@ -21,6 +21,6 @@ pub use Rattle.sorted_pages.specs.Pages.{entries, Page, room_at}
 pub use Rattle.versions.specs.Chains.{added, base_chains, Chains, ChainsValue, ChainValue, find_chain, first_number, first_shown, fresh_chain, HasPlace, HasPlaceAt, HasRoom, hides, is_between, IsKept, IsReady, IsReclaimedAt, IsRisingChain, IsRisingTo, IsRoomier, IsRoomierChain, last_at, least_value, reclaimed, seen, seen_by, seen_in, Stamped, stamped, u64_max, value_of, version_at, visible, with_value}
 pub use Rattle.versions.specs.Groups.{GroupValue, Listed}
 pub use Rattle.versions.specs.Listings.{AreAmong, AreApart, AreFilled, AreFound, AreIn, AreKept, AreListed, AreOfBoth, AreMixedSettled, AreNeeded, AreSeenFrom, CanJoin, followed, has_version, is_in, is_listed, is_of, is_seen_by, is_seen_from, IsFollowed, IsListed, IsListedChain, IsNeededChain, IsPartReclaimed, IsSettled, IsTakenIn, IsTrulyMixed, IsUnmixed, lists_in, unwitnessed, versions_in, witness_for, witnesses}
-pub use Rattle.versions.specs.Meaning.{AreInstalled, due_for, due_in, due_of, is_among, is_written_by, IsInstalled, IsReclaimed, IsSameMeaning, IsSeen, IsTightChain, kept_in, lists_a_reclaim, writes_of}
-pub use Rattle.versions.specs.StandsFor.{last_writer_from, StandsFor, StandForSame}
+pub use Rattle.versions.specs.Meaning.{AreInstalled, due_for, due_in, due_of, is_among, is_written_by, IsInstalled, IsReclaimed, IsReclaimedInPart, IsSameMeaning, IsSeen, IsSeenSame, IsTightChain, kept_in, lists_a_step, writes_of}
+pub use Rattle.versions.specs.StandsFor.{last_writer_from, StandsFor, StandForSame, StandWhereAmong, UnmixedWhereHeld}
 pub use Rattle.versions.specs.Witnesses.{AreUnderWitnesses, IsAddedTo, IsUnderChain, IsUnderWitness, number_at, number_seen, AreUnder, GroupStaysUnder, GroupsJoinUnder}

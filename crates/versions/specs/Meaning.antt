@@ -83,18 +83,28 @@ IsTight bs v = (k : Bytes) (c : ChainValue) → find_chain k v.chains ≡ Some c
 abbrev pub needed_of : List ℕ → ChainsValue → Bytes → ℕ
 needed_of bs v k = kept_in (option_map (reclaimed bs) (find_chain k v.chains))
 
--- how many lists of older versions a reclaim looks at; a list has what one commit replaced
-abbrev pub lists_a_reclaim : ℕ
-lists_a_reclaim = 2
+-- how many lists of older versions a step of a reclaim looks at; a list has what one commit replaced
+abbrev pub lists_a_step : ℕ
+lists_a_step = 2
 
--- What the numbers see, and what the greatest installed and those above it see, hasn't changed. So many lists are due no more. Each key has
--- all its versions still or none but those that are needed, and has none but those where no list is due.
-pub record IsReclaimed (old new : ChainsValue) (bs : List ℕ) : Type 0 where
+-- What the numbers see, and what the greatest installed and those above it see, hasn't changed, nor which of a key's
+-- versions are needed for that.
+pub record IsSeenSame (old new : ChainsValue) (bs : List ℕ) : Type 0 where
   pub maps : (n : ℕ) → IsTrue (is_among bs n || nat_le old.last n) → map_seen new n ≡ map_seen old n
   pub newest : (k : Bytes) → newest_of new k ≡ newest_of old k
   pub last : new.last ≡ old.last
-  pub due : due_of bs new ≡ due_of bs old - lists_a_reclaim
   pub needed : (k : Bytes) → needed_of bs new k ≡ needed_of bs old k
+
+-- So it is, and of each key those that are needed are left, and no other: its newest, and those that some of the numbers sees.
+pub record IsReclaimed (old new : ChainsValue) (bs : List ℕ) : Type 0 where
+  pub seen : IsSeenSame old new bs
+  pub kept : (k : Bytes) → kept_of new k ≡ needed_of bs old k
+  pub tight : IsTight bs new
+
+-- A step of that: so many lists are due no more. Each key has all its versions still or those alone that are needed, and
+-- where no list is due, all of it is done.
+pub record IsReclaimedInPart (old new : ChainsValue) (bs : List ℕ) : Type 0 where
+  pub seen : IsSeenSame old new bs
+  pub due : due_of bs new ≡ due_of bs old - lists_a_step
   pub kept : (k : Bytes) → (kept_of new k ≡ kept_of old k) ⊎ (kept_of new k ≡ needed_of bs old k)
-  pub none_left : due_of bs new ≡ 0 → (k : Bytes) → kept_of new k ≡ needed_of bs old k
-  pub tight : due_of bs new ≡ 0 → IsTight bs new
+  pub all : due_of bs new ≡ 0 → IsReclaimed old new bs

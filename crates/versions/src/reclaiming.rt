@@ -10,7 +10,7 @@ ghost use Rattle.versions.specs.Chains.{Chains, IsKept, IsReclaimedAt, find_chai
 ghost use Rattle.versions.specs.Witnesses.{GroupStaysUnder, GroupTakesUnder, GroupsJoinUnder, GroupsStayUnder, MoveUnderWitnesses, StayUnder};
 ghost use Rattle.versions.specs.Listings.{AreAmong, AreApart, AreFilled, AreFound, AreIn, AreKept, AreMixedSettled, AreOfBoth, AreSeenFrom, CanJoin, IsAllReclaimed, IsListed, IsPartReclaimed, IsSettled, IsTakenIn, IsTrulyMixed, StaySettled, has_version, lists_in, versions_in, witness_for, witnesses};
 ghost use Rattle.versions.specs.Meaning.{due_for, due_in};
-ghost use Rattle.versions.specs.Meaning.{is_among, lists_a_reclaim};
+ghost use Rattle.versions.specs.Meaning.{is_among, lists_a_step};
 
 use crate::chain::Chain;
 use crate::listing::{Group, OldVersion, are_empty, are_seen_from, greatest_below, is_among};
@@ -18,8 +18,8 @@ use sorted_pages::SortedPages;
 use std::collections::LinkedList;
 use std::mem;
 
-// How many of the due lists one reclaim looks at.
-const LISTS_A_RECLAIM: usize = 2;
+// How many of the due lists one step looks at.
+const LISTS_A_STEP: usize = 2;
 
 // Drops the older versions of the key that none of the numbers sees. Is this one still there?
 fn reclaim_version(chains: &mut SortedPages<Chain>, version: &OldVersion, begins: &[u64]) -> bool
@@ -273,7 +273,7 @@ impl Group {
 fn reclaim_groups(chains: &mut SortedPages<Chain>, groups: &mut [Group], begins: &[u64])
     requires kept { (last : ℕ) × IsKept (entries chains.old) last }
     requires listed { IsListed (entries chains.old) groups.old }
-    ensures due { due_in begins.now groups.new ≡ due_in begins.now groups.old - lists_a_reclaim }
+    ensures due { due_in begins.now groups.new ≡ due_in begins.now groups.old - lists_a_step }
     ensures part { IsPartReclaimed begins.now (entries chains.old) (entries chains.new) }
     ensures all { due_in begins.now groups.new ≡ 0 → IsAllReclaimed begins.now (entries chains.old) (entries chains.new) }
     ensures kept { (last : ℕ) → IsKept (entries chains.old) last → IsKept (entries chains.new) last }
@@ -284,7 +284,7 @@ fn reclaim_groups(chains: &mut SortedPages<Chain>, groups: &mut [Group], begins:
     ensures each { MoveUnderWitnesses begins.now groups.old groups.new }
     ensures mixed { AreMixedSettled begins.now (entries chains.new) groups.new }
 {
-    let mut most = LISTS_A_RECLAIM;
+    let mut most = LISTS_A_STEP;
     let mut left = groups.len();
     while left > 0 {
         left -= 1;
@@ -365,7 +365,7 @@ pub(crate) fn reclaim_versions(
     requires listed { IsListed (entries chains.old) groups.old.items }
     requires few { lists_in groups.old.items < 2 ^ 63 }
     ensures still { result ≡ nat_lt 0 (due_in begins.now groups.new.items) }
-    ensures due { due_in begins.now groups.new.items ≡ due_in begins.now groups.old.items - lists_a_reclaim }
+    ensures due { due_in begins.now groups.new.items ≡ due_in begins.now groups.old.items - lists_a_step }
     ensures part { IsPartReclaimed begins.now (entries chains.old) (entries chains.new) }
     ensures all { due_in begins.now groups.new.items ≡ 0 → IsAllReclaimed begins.now (entries chains.old) (entries chains.new) }
     ensures kept { (last : ℕ) → IsKept (entries chains.old) last → IsKept (entries chains.new) last }

@@ -1,5 +1,5 @@
 //! The versions of all keys.
-ghost use Rattle.std.specs.Prelude.{◌≡◌, ◌≢◌, ℕ, T, true, nat_lt, ◌^◌, ◌+◌, ◌≤◌, ◌<◌, List, [], ◌∷◌, ◌++◌, length, IsOk, IfOk, IfSome, OnOk, option_copied};
+ghost use Rattle.std.specs.Prelude.{◌≡◌, ◌≢◌, ℕ, T, true, false, nat_lt, ◌^◌, ◌+◌, ◌≤◌, ◌<◌, List, [], ◌∷◌, ◌++◌, length, IsOk, IfOk, IfSome, OnOk, option_copied};
 ghost use Rattle.model.specs.Key.{IsValue};
 ghost use Rattle.std.specs.Ordering.{nat_cmp};
 ghost use Rattle.std.specs.Cmp.Lexicographic.{slice_cmp};
@@ -8,6 +8,7 @@ ghost use Rattle.model.specs.KeyBytes.{end_bytes};
 ghost use Rattle.model.specs.Map.{Bytes, value_at, pairs_in_range};
 ghost use Rattle.versions.specs.Chains.{IsPrepared, HasPlaceAt, HasRoom, IsRoomier, WhereRoom, find_chain};
 ghost use Rattle.versions.specs.Meaning.{map_seen, newest_of, kept_of, due_of, groups_of, IsSameMeaning, IsInstalled, IsReclaimed};
+ghost use Rattle.versions.specs.Meaning.{IsReclaimedInPart};
 ghost use Rattle.sorted_pages.specs.Pages.{places_in, room_at};
 ghost use Rattle.std.specs.List.{AllByRecursion};
 ghost use Rattle.versions.specs.Listings.{IsTrulyMixed};
@@ -196,18 +197,18 @@ impl Versions {
         }
     }
 
-    /// Drops versions that are neither the newest of their keys nor seen from one of the numbers; there may be no number. A deletion
-    /// that is the newest version of its key stays. Answers whether it has to be called again until all those versions are gone.
+    /// A step of what `reclaim` does. Answers whether it has to be called again until all is done.
     ///
     /// What each commit replaced is a list, of as many versions as it wrote, under a number that sees them. Once that number is none of
-    /// these, the list is due, and a call looks at 2 of the lists that are due, from the last group on: so a new list need not wait for those
-    /// that an old number left. For each version in a list it walks the key's chain once, beside the numbers themselves, and called again
-    /// with the same numbers it ends. Takes no memory: where the lists of two commits come under one number,
-    /// they are linked. What stands under one number is one group, so there are no more groups than numbers and one. Lists that are needed
-    /// though their number isn't held, or doesn't see all of them, are mixed, and looked at by each call; no others are. Where each of the
-    /// numbers was held at the calls before, or is at least that of the last commit, there are none.
-    pub fn reclaim(&mut self, begins: &[u64]) -> bool
-        ensures reclaimed { IsReclaimed self.old self.new begins.now }
+    /// these, the list is due, and a call looks at 2 of the lists that are due, from the last group on: so a new list need not wait for
+    /// those that an old number left. For each version in a list it walks the key's chain once, beside the numbers themselves, and called
+    /// again with the same numbers it ends. Takes no memory: where the lists of two commits come under one number, they are linked. What
+    /// stands under one number is one group, so there are no more groups than numbers and one. Lists that are needed though their number
+    /// isn't held, or doesn't see all of them, are mixed, and looked at by each call; no others are. Where each of the numbers was held at
+    /// the calls before, or is at least that of the last commit, there are none.
+    pub fn reclaim_step(&mut self, begins: &[u64]) -> bool
+        ensures reclaimed { IsReclaimedInPart self.old self.new begins.now }
+        ensures all { result ≡ false → IsReclaimed self.old self.new begins.now }
         ensures still { result ≡ nat_lt 0 (due_of begins.now self.new) }
         ensures few { groups_of self.new ≤ length begins.now + 1 }
         ensures mixed { AllByRecursion (IsTrulyMixed begins.now) self.new.groups }
@@ -215,5 +216,21 @@ impl Versions {
         ensures stands { StandWhereAmong begins.now self.old self.new }
     {
         reclaim_versions(&mut self.chains, &mut self.groups, begins)
+    }
+
+    /// Drops the versions that are neither the newest of their keys nor seen from one of the numbers; there may be no number. A deletion
+    /// that is the newest version of its key stays.
+    ///
+    /// It takes the steps of `reclaim_step` until no list is due. So its time grows with the versions in the lists that are due, each with
+    /// its key's chain beside the numbers, and where lists are mixed, with the versions in them for each step. Takes no memory.
+    pub fn reclaim(&mut self, begins: &[u64])
+        ensures reclaimed { IsReclaimed self.old self.new begins.now }
+        ensures none_due { due_of begins.now self.new ≡ 0 }
+        ensures few { groups_of self.new ≤ length begins.now + 1 }
+        ensures mixed { AllByRecursion (IsTrulyMixed begins.now) self.new.groups }
+        ensures unmixed { UnmixedWhereHeld begins.now self.old self.new }
+        ensures stands { StandWhereAmong begins.now self.old self.new }
+    {
+        while self.reclaim_step(begins) {}
     }
 }

@@ -3,20 +3,20 @@ use Rattle.sessions.proofs.RequestSteps.{survives_after, executes_commit}
 use Rattle.sessions.proofs.requests.commit.Goals as goal
 
 pub returns-in-Ok-clause-crash : goal.returns-in-Ok-clause-crash
-returns-in-Ok-clause-crash g c = survives_after c.args.engine.now c.commit.new.self c.reclaim.new.self c.args.s c.reclaim.ensures.device c.commit.ensures.crash
+returns-in-Ok-clause-crash g c = survives_after c.args.engine.now c.commit.new.self c.reclaim_step.new.self c.args.s c.reclaim_step.ensures.device c.commit.ensures.crash
 
 pub returns-in-Err-Refused-clause-crash : goal.returns-in-Err-Refused-clause-crash
 returns-in-Err-Refused-clause-crash g c =
-    survives_after c.args.engine.now c.commit.new.self c.reclaim-in-Err-Refused.new.self c.args.s c.reclaim-in-Err-Refused.ensures.device c.commit.ensures.crash
+    survives_after c.args.engine.now c.commit.new.self c.reclaim_step-in-Err-Refused.new.self c.args.s c.reclaim_step-in-Err-Refused.ensures.device c.commit.ensures.crash
 
 pub returns-in-Ok-clause-step : goal.returns-in-Ok-clause-step
 returns-in-Ok-clause-step g c =
-    executes_commit c.args.engine.now c.commit.new.self c.reclaim.new.self c.args.s _ _ c.write_brief.result c.reclaim.ensures.device c.in-Ok.ensures.step c.reclaim.ensures.keeps c.write_brief.ensures
+    executes_commit c.args.engine.now c.commit.new.self c.reclaim_step.new.self c.args.s _ _ c.write_brief.result c.reclaim_step.ensures.device c.in-Ok.ensures.step c.reclaim_step.ensures.keeps c.write_brief.ensures
 
 pub returns-in-Err-Refused-clause-step : goal.returns-in-Err-Refused-clause-step
 returns-in-Err-Refused-clause-step g c =
-    executes_commit c.args.engine.now c.commit.new.self c.reclaim-in-Err-Refused.new.self c.args.s _ _ c.write_brief-in-Err-Refused.result c.reclaim-in-Err-Refused.ensures.device
-    (rw c.in-Err-Refused.field-0-is at c.in-Err-Refused.ensures.step) c.reclaim-in-Err-Refused.ensures.keeps c.write_brief-in-Err-Refused.ensures
+    executes_commit c.args.engine.now c.commit.new.self c.reclaim_step-in-Err-Refused.new.self c.args.s _ _ c.write_brief-in-Err-Refused.result c.reclaim_step-in-Err-Refused.ensures.device
+    (rw c.in-Err-Refused.field-0-is at c.in-Err-Refused.ensures.step) c.reclaim_step-in-Err-Refused.ensures.keeps c.write_brief-in-Err-Refused.ensures
 
 pub returns-in-Err-Memory-clause-step : goal.returns-in-Err-Memory-clause-step
 returns-in-Err-Memory-clause-step g c =

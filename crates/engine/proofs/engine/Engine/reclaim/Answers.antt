@@ -1,87 +1,19 @@
-use Rattle.engine.proofs.Words.{common_steps, ◌≡◌, ◌≤◌, ◌&&◌, ℕ, Bool, true, false, List, [], ◌∷◌, refl, ap, sym, subst, ◌∙◌, length, arith, rules, map, max, ◌==◌, values, values_of, both_ways, or_left, or_right, and_from, eq-eqb, nat_tests, nil_from_length, KeyMap, Record, State, Running, is_among, IsReclaimed, View, CommittedValue, Facts, HasForgotten, Ghosts, HistoryValue, KeepsHeld, is_due, Engine, StandsFor, AreRunning, IsLeast, open_begins, HasForgottenOld}
-use Rattle.std.specs.List.{AllByRecursion}
-use Rattle.std.proofs.lemmas.List.Elements.{All-from_recursion, recursion_from_All}
+use Rattle.engine.proofs.Words.{◌∙◌, ap, subst, rules, values, IsReclaimed, CommittedValue, IsLeast}
+use Rattle.engine.proofs.Reclaims.{are_held, none_below, numbers_are, reclaimed_stands}
 use Rattle.engine.proofs.engine.Engine.reclaim.Goals as goal
-
-abbrev begins_of : List (ℕ × View) → List ℕ
-begins_of es = map (λ t. t.begin) (values_of es)
-
-module _ (facts : Facts) (held : ℕ → Bool) (base : KeyMap) (history : List Record) where
-  still_running : (facts' : Facts) (bs : List ℕ) (oldest : ℕ) → facts'.last ≡ facts.last → facts'.oldest ≡ max facts.oldest oldest → (es : List (ℕ × View)) (rs : List (ℕ × Running)) → AllByRecursion (λ t. oldest ≤ t.begin) (values_of es)
-      → ((n : ℕ) → is_among (begins_of es) n ≡ true → is_among bs n ≡ true) → AreRunning facts held base history es rs → AreRunning facts' (λ n. held n && is_among bs n) base history es rs
-  still_running facts' bs oldest l o [] [] low among h = tt
-  still_running facts' bs oldest l o (e ∷ es) (r ∷ rs) low among h =
-      let own = among e.1.begin (or_left (e.1.begin == e.1.begin) (is_among (begins_of es) e.1.begin) (eq-eqb e.1.begin e.1.begin refl)) in
-      let rest = still_running facts' bs oldest l o es rs low.1 (λ n t. among n (or_right (e.1.begin == n) (is_among (begins_of es) n) t)) h.1 in
-      grind (arith, common_steps, and_from)
-  still_running facts' bs oldest l o b5 b6 low among h = absurd h
-
-  begins_same : (es : List (ℕ × View)) (rs : List (ℕ × Running)) → AreRunning facts held base history es rs → begins_of es ≡ map (λ r. r.1.begin) rs
-  begins_same [] [] h = refl
-  begins_same (e ∷ es) (r ∷ rs) h = λ i. h.0.1.begin i ∷ begins_same es rs h.1 i
-  begins_same b0 b1 h = absurd h
-
-  begins_held : (es : List (ℕ × View)) (rs : List (ℕ × Running)) → AreRunning facts held base history es rs → (n : ℕ) → is_among (begins_of es) n ≡ true → held n ≡ true
-  begins_held [] rs h n t = cc
-  begins_held (e ∷ es) [] h n t = absurd h
-  begins_held (e ∷ es) (r ∷ rs) h n t = grind (arith, common_steps, nat_tests, begins_held es rs h.1 n)
-
-  begins_low : (n : ℕ) (es : List (ℕ × View)) (rs : List (ℕ × Running)) → AreRunning facts held base history es rs → AllByRecursion (λ r. n ≤ r.1.begin) rs → AllByRecursion (λ t. n ≤ t.begin) (values_of es)
-  begins_low n [] [] h low = tt
-  begins_low n (e ∷ es) (r ∷ rs) h low = (subst (λ k. n ≤ k) (sym h.0.1.begin) low.0, begins_low n es rs h.1 low.1)
-  begins_low n b1 b2 h low = absurd h
-
-module _ {D : Type 0} {g : Ghosts D} (e : Engine D g) (new : HistoryValue) (oldest : ℕ) (bs : List ℕ) (least : IsLeast (λ t. t.begin) e.history.committed.facts.last (values e.running) oldest)
-    (numbers : length e.running.entries ≤ 64 → bs ≡ begins_of e.running.entries) where
-  reclaimed_stands : KeepsHeld e.history new bs → new.committed.facts.last ≡ e.history.committed.facts.last → new.committed.facts.oldest ≡ max e.history.committed.facts.oldest oldest → (m : State) → StandsFor e m → StandsFor (record e { history = new }) m
-  reclaimed_stands stands l o m h =
-      let is = h.history.committed.last in let kept = h.kept in let below = least.below_last in
-      let after = stands h.held m.base m.history h.history in
-      let running = still_running e.history.committed.facts h.held m.base m.history new.committed.facts bs oldest l o e.running.entries m.running
-      (recursion_from_All (λ t. oldest ≤ t.begin) (values e.running) least.below) (λ n t. subst (λ ns. is_among ns n ≡ true) (sym (numbers h.few_open)) t) h.running in
-      grind (arith, common_steps)
-
-  numbers_are : (m : State) → StandsFor e m → bs ≡ open_begins m
-  numbers_are m h = numbers h.few_open ∙ begins_same e.history.committed.facts h.held m.base m.history e.running.entries m.running h.running
-
-  are_held : (m : State) → (h : StandsFor e m) → (n : ℕ) → is_among bs n ≡ true → h.held n ≡ true
-  are_held m h n t = begins_held e.history.committed.facts h.held m.base m.history e.running.entries m.running h.running n (subst (λ ns. is_among ns n ≡ true) (numbers h.few_open) t)
-
-  none_below : (m : State) → StandsFor e m → (facts : Facts) → HasForgotten oldest facts → HasForgottenOld m facts
-  none_below m h facts forgotten n low each =
-      let is = h.history.committed.last in
-      let below : n ≤ oldest = least.greatest n (omega (arith, is)) (All-from_recursion (λ t. n ≤ t.begin) (values e.running) (begins_low e.history.committed.facts h.held m.base m.history n e.running.entries m.running h.running each)) in
-      let upto = forgotten.upto in
-      record { upto = omega arith; readers = λ k some. (let above = forgotten.readers k some in omega arith) }
-
--- where none is open, the last commit is the oldest that is needed
-none_open : {D : Type 0} {g : Ghosts D} (e : Engine D g) → length e.running.entries ≡ 0 → IsLeast (λ t. t.begin) e.history.committed.facts.last (values e.running) e.history.committed.facts.last × ([] ≡ begins_of e.running.entries)
-none_open e none =
-    rw (nil_from_length e.running.entries none) (record { below_last = omega arith; below = λ k d lt. absurd (omega (arith, lt)); greatest = λ k l a. l }, refl)
 
 pub returns : goal.returns
 returns g c =
     let e = c.args.self.now in
-    let new = c.reclaim-2.new.self in
+    let new = c.reclaim.new.self in
     let oldest = c.gather_begins-count.result.oldest in
     let least = subst (λ n. IsLeast (λ t. t.begin) n (values e.running) oldest) (c.last-last.ensures ∙ ap (λ (v : CommittedValue). v.facts.last) c.committed.ensures) c.gather_begins-count.ensures.oldest in
     let numbers = numbers_are e new oldest _ least c.gather_begins-count.ensures.numbers in
     record {
-      keeps = reclaimed_stands e new oldest _ least c.gather_begins-count.ensures.numbers c.reclaim-2.ensures.stands c.reclaim-2.ensures.last c.reclaim-2.ensures.oldest;
-      versions = λ m h. subst (IsReclaimed e.history.versions new.versions) (numbers m h) c.reclaim-2.ensures.reclaimed;
-      still = λ m h. subst (λ ns. c.reclaim-2.result ≡ is_due ns new) (numbers m h) c.reclaim-2.ensures.still;
-      unmixed = λ m h. c.reclaim-2.ensures.unmixed h.held m.base m.history h.history (are_held e new oldest _ least c.gather_begins-count.ensures.numbers m h);
-      given_back = search rules;
-      forgotten = λ m h. none_below e new oldest _ least c.gather_begins-count.ensures.numbers m h new.committed.facts c.reclaim-2.ensures.forgotten;
+      keeps = reclaimed_stands e new oldest _ least c.gather_begins-count.ensures.numbers c.reclaim.ensures.stands c.reclaim.ensures.last c.reclaim.ensures.oldest;
+      versions = λ m h. subst (IsReclaimed e.history.versions new.versions) (numbers m h) c.reclaim.ensures.reclaimed;
+      unmixed = λ m h. c.reclaim.ensures.unmixed h.held m.base m.history h.history (are_held e new oldest _ least c.gather_begins-count.ensures.numbers m h);
+      forgotten = λ m h. none_below e new oldest _ least c.gather_begins-count.ensures.numbers m h new.committed.facts c.reclaim.ensures.forgotten;
       device = search rules;
       stopped = search rules;
     }
-
-pub returns-then-is_empty-clause-keeps : goal.returns-then-is_empty-clause-keeps
-returns-then-is_empty-clause-keeps g c =
-    let none = none_open c.args.self.now (c.is_empty.ensures.0 c.if-is_empty.true) in
-    reclaimed_stands c.args.self.now c.reclaim.new.self c.last-last.result [] (subst (λ n. IsLeast (λ t. t.begin) c.args.self.now.history.committed.facts.last (values c.args.self.now.running) n) (sym (c.last-last.ensures ∙ ap (λ (v : CommittedValue). v.facts.last) c.committed.ensures)) none.0) (λ few. none.1)
-    c.reclaim.ensures.stands c.reclaim.ensures.last c.reclaim.ensures.oldest
-
-pub returns-then-is_empty-clause-unmixed : goal.returns-then-is_empty-clause-unmixed
-returns-then-is_empty-clause-unmixed g c m h = c.reclaim.ensures.unmixed h.held m.base m.history h.history (λ n t. absurd (both_ways false refl t))

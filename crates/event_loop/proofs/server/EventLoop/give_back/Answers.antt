@@ -6,12 +6,12 @@ use Rattle.event_loop.proofs.server.EventLoop.give_back.Goals as goal
 pub invariant_of-self : goal.invariant_of-self
 invariant_of-self g c =
     let old = c.args.self.now in
-    let new = c.reclaim-self.new.self in
-    let rests = leads_rest c.reclaim-self.ensures.ran in
+    let new = c.reclaim_step-self.new.self in
+    let rests = leads_rest c.reclaim_step-self.ensures.ran in
     record {
       room = old.room;
       stands = stands_after old.stands rests;
-      serving = rest_serves old.hub new c.reclaim-self.ensures.ran old.table.slots old.lingering.queue.items old.serving;
+      serving = rest_serves old.hub new c.reclaim_step-self.ensures.ran old.table.slots old.lingering.queue.items old.serving;
       sessions = record { present = λ key entry e alive. present_after entry.session entry.session (old.sessions.present key entry e alive) rests (λ h k p same. subst (λ (q : Point). IsPresentIn q.hub entry.session) (sym same) p); own = old.sessions.own };
       entries = λ s without.
           seen_after (hlevel props) old.stands rests (λ h k was stands same. status_seen new k.hub stands s ∙ ap (λ (q : Point). status_at q.hub s) same ∙ sym (status_seen old.hub h.hub was s) ∙ old.entries s without);

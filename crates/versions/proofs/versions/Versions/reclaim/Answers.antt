@@ -1,25 +1,23 @@
-use Rattle.versions.proofs.Words.{ℕ, List, ◌≡◌, ◌-◌, option_map, Bytes, IsKept, find_chain, reclaimed, IsPartReclaimed, due_of, lists_a_reclaim, ◌&&◌, subst, sym, ap, ◌∙◌, refl, arith, ChainsValue, IsReclaimed, is_among, AreUnderWitnesses}
-use Rattle.versions.proofs.{Stores.reclaimed-whole, Histories.stands-reclaimed, UnderWitnesses.groups-unmixed, UnderWitnesses.under-reclaimed}
+use Rattle.versions.proofs.{Words.rules, Stores.seen-itself, Stores.seen-on, Stores.reclaimed-on, Histories.stands-itself, Histories.stands-on, Histories.unmixed-on}
 use Rattle.versions.proofs.versions.Versions.reclaim.Goals as goal
 
-whole : (old inside new : ChainsValue) (bs : List ℕ) → inside ≡ old → IsKept inside.chains inside.last → IsKept new.chains new.last → new.last ≡ inside.last → due_of bs new ≡ due_of bs inside - lists_a_reclaim → IsPartReclaimed bs inside.chains new.chains
-    → (due_of bs new ≡ 0 → (k : Bytes) → find_chain k new.chains ≡ option_map (reclaimed bs) (find_chain k inside.chains)) → IsReclaimed old new bs
-whole old inside new bs same kept kept' last due part all = subst (λ (v : ChainsValue). IsReclaimed v new bs) same (reclaimed-whole inside new bs kept kept' last due part all)
+pub loop-init : goal.loop-init
+loop-init c = record { seen = seen-itself c.args.self.now c.args.begins.now; stands = stands-itself c.args.begins.now c.args.self.now }
 
-pub invariant_of-self : goal.invariant_of-self
-invariant_of-self c = (c.reclaim_versions.ensures.kept c.self.inside.last c.self.invariant.0, c.reclaim_versions.ensures.listed, c.self.invariant.2, record { lists = omega (arith, c.self.invariant.3.lists, c.reclaim_versions.ensures.lists); ready = c.self.invariant.3.ready; fits = c.self.invariant.3.fits })
+pub loop-preserved : goal.loop-preserved
+loop-preserved c =
+    let old = c.args.self.now in
+    let bs = c.args.begins.now in
+    record {
+      seen = seen-on old c.loop.self c.reclaim_step.new.self bs c.loop.invariant.seen c.reclaim_step.ensures.reclaimed.seen;
+      stands = stands-on bs old c.loop.self c.reclaim_step.new.self c.loop.invariant.stands c.reclaim_step.ensures.stands;
+    }
 
 pub returns-clause-reclaimed : goal.returns-clause-reclaimed
-returns-clause-reclaimed c = whole c.args.self.now _ _ c.args.begins.now c.self.view_is c.self.invariant.0 (c.reclaim_versions.ensures.kept c.self.inside.last c.self.invariant.0) refl c.reclaim_versions.ensures.due c.reclaim_versions.ensures.part c.reclaim_versions.ensures.all
-
-pub returns-clause-stands : goal.returns-clause-stands
-returns-clause-stands c = λ held base history s. stands-reclaimed c.args.self.now held base history _ c.args.begins.now (returns-clause-reclaimed c)
-    (λ h. c.reclaim_versions.ensures.each held (λ n. held n && is_among c.args.begins.now n) _ _ (under-reclaimed held c.args.begins.now _ _ c.reclaim_versions.ensures.part refl)
-    (subst (λ (v : ChainsValue). AreUnderWitnesses held v v.groups) (sym c.self.view_is) h)) s
+returns-clause-reclaimed c = reclaimed-on c.args.self.now c.loop.self c.reclaim_step.new.self c.args.begins.now c.loop.invariant.seen (c.reclaim_step.ensures.all (search rules))
 
 pub returns-clause-unmixed : goal.returns-clause-unmixed
-returns-clause-unmixed c = λ held base history s all.
-    let bs = c.args.begins.now in
-    groups-unmixed bs (λ n. held n && is_among bs n) _ c.self.inside.last
-    (λ n t. ap (λ b. b && is_among bs n) (all n t) ∙ t) (c.reclaim_versions.ensures.kept c.self.inside.last c.self.invariant.0) c.reclaim_versions.new.groups.items
-    c.reclaim_versions.ensures.held (returns-clause-stands c held base history s).witnessed c.reclaim_versions.ensures.mixed c.reclaim_versions.ensures.truly
+returns-clause-unmixed c = unmixed-on c.args.begins.now c.args.self.now c.loop.self c.reclaim_step.new.self c.loop.invariant.stands c.reclaim_step.ensures.unmixed
+
+pub returns-clause-stands : goal.returns-clause-stands
+returns-clause-stands c = stands-on c.args.begins.now c.args.self.now c.loop.self c.reclaim_step.new.self c.loop.invariant.stands c.reclaim_step.ensures.stands
