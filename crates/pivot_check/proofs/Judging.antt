@@ -73,7 +73,7 @@ module _ (f : Facts) (history : List Record) (s : StandsFor f history) where
     module _ (clear : verdict history r ≡ None) (readers : Readers) (read : IsNoted t.marks (f.last + 1) f.readers readers)
         (postings : List Posting)
         (has : (c : Posting → Bool) → least c postings
-            ≡ lesser (least c f.postings) (least c (postings_by (f.last + 1) (list_any (concurrent_read_write r) history) (keys_of t.writes)))) where
+        ≡ lesser (least c f.postings) (least c (postings_by (f.last + 1) (list_any (concurrent_read_write r) history) (keys_of t.writes)))) where
       pub noted : StandsFor (record { readers = readers; postings = postings; oldest = f.oldest; last = f.last + 1 }) (history ++ r ∷ [])
       noted =
           let n = f.last + 1 in

@@ -13,7 +13,7 @@ ghost use Rattle.pivot_check.specs.StandsFor.{IsCleared, IsClearedBy, IsPlaced, 
 use crate::by_start::ByStart;
 use crate::ready::Ready;
 use crate::run::WrittenRun;
-use crate::runs::{add_run, first_overwritten, least_covered};
+use crate::runs::{add_run, first_overwritten, first_pivot, first_target};
 use crate::sources::last_source;
 use crate::verdict::{Cleared, Verdict};
 use crate::written::add_all;
@@ -134,7 +134,7 @@ impl Committed {
         }
         let begin = tx.begin();
         let order = ByStart::of(tx.marks().held());
-        let Some(target) = least_covered(runs, &order, begin, false) else {
+        let Some(target) = first_target(runs, &order, begin) else {
             return Verdict::Clear(Cleared::new(false));
         };
         if let Some(source) = last_source(&self.readers, tx.entries(), begin) {
@@ -142,7 +142,7 @@ impl Committed {
                 return Verdict::PivotSelf;
             }
         }
-        match least_covered(runs, &order, begin, true) {
+        match first_pivot(runs, &order, begin) {
             Some(n) => Verdict::Pivot(n),
             None => Verdict::Clear(Cleared::new(true)),
         }

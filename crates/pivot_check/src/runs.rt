@@ -1,5 +1,5 @@
 //! Runs of written keys.
-ghost use Rattle.std.specs.Prelude.{◌≡◌, ◌<◌, IsTrue, position, length};
+ghost use Rattle.std.specs.Prelude.{◌≡◌, ◌<◌, IsTrue, true, false, position, length};
 ghost use Rattle.std.specs.List.{filter};
 ghost use Rattle.model.specs.Map.{KeyWrite};
 ghost use Rattle.marks.specs.Lent.{lent_mark};
@@ -67,12 +67,7 @@ pub(crate) fn least_of(
 }
 
 // The same for several marks, in one run after another.
-pub(crate) fn least_covered(
-    runs: &[WrittenRun],
-    order: &ByStart<'_>,
-    begin: u64,
-    flagged: bool,
-) -> Option<u64>
+fn least_covered(runs: &[WrittenRun], order: &ByStart<'_>, begin: u64, flagged: bool) -> Option<u64>
     ensures { result ≡ least (covered_of (marks_of order.now.marks.now) begin flagged) (postings_in runs.now) }
 {
     let mut found = None;
@@ -80,6 +75,20 @@ pub(crate) fn least_covered(
         found = run.least_covered(order, found, begin, flagged);
     }
     found
+}
+
+// The least commit number above `begin` that has written a key that one of the marks covers.
+pub(crate) fn first_target(runs: &[WrittenRun], order: &ByStart<'_>, begin: u64) -> Option<u64>
+    ensures { result ≡ least (covered_of (marks_of order.now.marks.now) begin false) (postings_in runs.now) }
+{
+    least_covered(runs, order, begin, false)
+}
+
+// The same of those that have a dependency to a concurrent one that committed before them.
+pub(crate) fn first_pivot(runs: &[WrittenRun], order: &ByStart<'_>, begin: u64) -> Option<u64>
+    ensures { result ≡ least (covered_of (marks_of order.now.marks.now) begin true) (postings_in runs.now) }
+{
+    least_covered(runs, order, begin, true)
 }
 
 // The place of the first key that was written after `begin`.
