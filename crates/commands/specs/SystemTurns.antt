@@ -3,7 +3,8 @@ use Rattle.std.specs.Prelude.{◌≡◌, Bool, None, Result, OnOk, OnErr}
 use Rattle.std.specs.declared.io.Error.{Error}
 use Rattle.sector.specs.declared.device.Sectors.{Ghosts}
 use Rattle.sessions.specs.{SessionStreams.HubState, StandsFor.StandsFor}
-use Rattle.event_loop.specs.{Loops.hub_of, Sockets.SocketsTell, Sockets.traffic_of, Turns.IsTurn, Turns.IsUntouched, Turns.Waits}
+use Rattle.event_loop.specs.{Loops.hub_of, Sockets.SocketsTell, Sockets.traffic_of}
+use Rattle.event_loop.specs.Turns.{IsTurn, IsUntouched, Waits}
 use Rattle.event_loop.specs.declared.server.EventLoop.{EventLoop}
 
 -- It polled once, and waited for as long as it may with no timeout. Where that failed it answered the fault, and nothing else was done; else

@@ -27,13 +27,16 @@ pub record IsInOrder (t : Traffic) : Type 0 where
 
 -- with one more, of which there may be input
 abbrev pub with_one_more : Socket → Lingerers → Lingerers
-with_one_more socket old = record old { all = newest LINGERING_MAX old.all (record { socket = socket; left = LINGERING_BYTES }); has_more = true }
+with_one_more socket old =
+    record old { all = newest LINGERING_MAX old.all (record { socket = socket; left = LINGERING_BYTES }); has_more = true }
 
--- A connection whose session has left lingers, if it is in order and the system doesn't refuse, which is counted, and else is closed.
+-- A connection whose session has left lingers, if it is in order and the system doesn't refuse, which is counted, and
+-- else is closed.
 abbrev pub Leaves : Socket → Lingerers → Lingerers → Type 0
 Leaves socket old new =
     ((IsInOrder (traffic_of socket) → ⊥) × (new ≡ old))
-    ⊎ (IsInOrder (traffic_of socket) × ((new ≡ record old { refused = one_more old.refused }) ⊎ (new ≡ with_one_more socket old)))
+    ⊎ (IsInOrder (traffic_of socket)
+    × ((new ≡ record old { refused = one_more old.refused }) ⊎ (new ≡ with_one_more socket old)))
 
 -- ---- what a turn makes of them
 

@@ -64,7 +64,8 @@ impl<D: Sectors> EventLoop<D> {
     ghost use Rattle.event_loop.specs.Loops.{HasItsSessions, hub_of};
     ghost use Rattle.event_loop.specs.Sockets.{SocketsTell, traffic_of};
     ghost use Rattle.event_loop.specs.TableBytes.{ConnectionsSpeak, KeepBytes};
-    ghost use Rattle.event_loop.specs.Turns.{Accepted, DrivesAndEnds, IsGivenBack, IsTurn, IsUntouched, LeavingsAreKept, TurnsAreRuns, Waits, accepts_now, is_told_of, turn_waits};
+    ghost use Rattle.event_loop.specs.Turns.{Accepted, DrivesAndEnds, IsGivenBack, IsTurn, IsUntouched, LeavingsAreKept, TurnsAreRuns, Waits};
+    ghost use Rattle.event_loop.specs.Turns.{accepts_now, has_work, is_told_of, turn_waits};
     ghost use Rattle.event_loop.specs.Waits.{nanos_of};
 
     /// Listens at an address for the sessions of a hub that was opened. Port 0 stands for one that the system picks.
@@ -207,8 +208,14 @@ impl<D: Sectors> EventLoop<D> {
     fn next_wait(&self, timeout: Option<Duration>) -> Option<Duration>
         ensures { nanos_of result ≡ turn_waits self.now timeout }
     {
-        let has_work = self.due || self.lingering.has_more() || any_ready(&self.table);
-        longest_wait(self.backlog, has_work, timeout)
+        longest_wait(self.backlog, self.has_work(), timeout)
+    }
+
+    // Is there work: a step that is due, input to drop, or a session that is ready?
+    fn has_work(&self) -> bool
+        ensures { result ≡ has_work self.now }
+    {
+        self.due || self.lingering.has_more() || any_ready(&self.table)
     }
 
     // Gives back what no open transaction needs, a step of it.

@@ -1,6 +1,8 @@
-use Rattle.event_loop.proofs.Words.{rules, refl, lingers_in}
+use Rattle.event_loop.proofs.Words.{◌≡◌, ◌||◌, ◌∙◌, true, rules, refl, sym, ap, subst, lingers_in, TurnedIf}
 use Rattle.event_loop.proofs.Turned.{all_turned, none_turned, one_turned}
 use Rattle.event_loop.proofs.lingering.Lingering.turn.Goals as goal
+use Rattle.event_loop.proofs.lingering.Lingering.turn.Goals.{else-not-is_told-via-then-not-is_told+else-not-self}
+use Rattle.event_loop.proofs.lingering.Lingering.turn.Goals.{else-not-is_told-via-else-not-is_told}
 
 pub loop-init : goal.loop-init
 loop-init g c = none_turned (g.D.Sectors.moment c.args.device.now) _ refl
@@ -9,4 +11,11 @@ pub loop-preserved : goal.loop-preserved
 loop-preserved g c = one_turned (g.D.Sectors.moment c.args.device.now) _ _ _ _ c.loop.counter (search rules) c.loop.invariant c.turn_first.ensures
 
 pub returns : goal.returns
-returns g c = ?
+returns g c =
+    let reads : (c.args.is_told || c.args.self.now.has_more) ≡ true = elim c.else-not-is_told.branch [
+      | else-not-is_told-via-then-not-is_told+else-not-self w ↦ ap (λ b. b || c.args.self.now.has_more) w.if-not-is_told.true ∙ w.if-not-self.false
+      | else-not-is_told-via-else-not-is_told w ↦ ap (λ b. b || c.args.self.now.has_more) w.if-not-is_told.false
+    ] in
+    let all = lingers_in c.loop.self in
+    subst (λ b. TurnedIf (g.D.Sectors.moment c.args.device.now) b (lingers_in c.args.self.now) all) (sym reads)
+    (all_turned (g.D.Sectors.moment c.args.device.now) _ _ all c.loop.counter (search rules) c.loop.invariant, c.loop.invariant.refused_is)

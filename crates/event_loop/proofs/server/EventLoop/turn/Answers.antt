@@ -1,7 +1,7 @@
-use Rattle.event_loop.proofs.Words.{◌≡◌, ◌∙◌, Err, refl, sym, ap, items, LINGERER, lingers_in, accepts_now, is_told_of}
+use Rattle.event_loop.proofs.Words.{◌≡◌, ◌∙◌, sym, ap, items, LINGERER, lingers_in, accepts_now, is_told_of}
 use Rattle.std.proofs.lemmas.Result.{err_from_is_err_and}
-use Rattle.event_loop.specs.{declared.polling.Poller.Poller, contracts.socket.SocketStream.TheImpl.ghosts, Waits.nanos_of}
-use Rattle.event_loop.proofs.{Departing.is_served, Departing.turns_serve, Departing.keeps_what_leaves, OneTurn.turned_by, OneTurn.wait_failed, OneTurn.wait_told}
+use Rattle.event_loop.specs.{declared.polling.Poller.Poller, contracts.socket.SocketStream.TheImpl.ghosts, Polls.polls_of, Waits.nanos_of}
+use Rattle.event_loop.proofs.{Departing.is_served, Departing.turns_serve, Departing.keeps_what_leaves, OneTurn.turned_by}
 use Rattle.event_loop.proofs.WholeTurns.{accepts_keep, rest_keeps, rest_leads, then_accepts}
 use Rattle.event_loop.proofs.server.EventLoop.turn.Goals as goal
 
@@ -28,10 +28,17 @@ returns-clause-bytes g c =
     (accepts_keep c.runs_follow.ensures.follow c.args.self.now.hub _ c.accept_told.new.self c.args.self.now.table.slots c.drive.ensures.keeps _ c.accept_told.ensures.accepts)
 
 pub returns-in_err-wait-clause-waits : goal.returns-in_err-wait-clause-waits
-returns-in_err-wait-clause-waits g c = ?
+returns-in_err-wait-clause-waits g c =
+    let p = err_from_is_err_and c.from_residual.result c.from_residual.ensures.1 in
+    record { told = rw (p.1, p.2) c.in_err-wait.ensures.polls; waited = ap nanos_of c.wait.ensures.waited ∙ c.next_wait-wait.ensures; room = rw c.wait.ensures.room c.args.self.now.room }
 
 pub returns-clause-waits : goal.returns-clause-waits
-returns-clause-waits g c = ?
+returns-clause-waits g c =
+    let same : c.give_back.new.self.poller ≡ c.wait.new.self = c.give_back.ensures.poller ∙ c.accept_told.ensures.poller ∙ c.drive.ensures.poller in record {
+      told = ap polls_of same ∙ c.in_ok-wait.ensures.polls;
+      waited = ap (λ (p : Poller). nanos_of p.waited) same ∙ ap nanos_of c.wait.ensures.waited ∙ c.next_wait-wait.ensures;
+      room = c.give_back.new.self.room;
+    }
 
 pub returns-in_err-wait-clause-served : goal.returns-in_err-wait-clause-served
 returns-in_err-wait-clause-served g c = (is_served c.args.self.now.hub c.args.self.now.table.slots c.args.self.now.lingering.queue.items c.args.self.now.serving, is_served c.args.self.now.hub c.args.self.now.table.slots c.args.self.now.lingering.queue.items c.args.self.now.serving)
