@@ -1,5 +1,17 @@
 -- What left over the connections stays told before as the loop goes on, and is kept, also where a turn takes a connection out or closes it.
-use Rattle.event_loop.proofs.Words.{◌≡◌, ◌≢◌, ◌⊎◌, inl, inr, ℕ, ◌+◌, ◌-◌, ◌||◌, Bool, true, false, List, [], ◌∷◌, ◌++◌, Option, Some, None, length, append_assoc, drop, refl, sym, ap, subst, ◌∙◌, arith, cases_eq, append-nil, All-drop, All-from_recursion, recursion_from_All, AllByRecursion, items, IsLawful, IsSessionStream, IsSound, NoneRuns, Ran, Ready, Gone, run_then, some_same, at_point, point_of, EndAll, EndEach, LeavesAs, LeavesIf, NoneEnded, AllTurned, AreTurned, DropsInput, Lingerers, lingers_in, TurnedIf, IsNewSocket, SocketsTell, session_of, traffic_of, ConnectionsSpeak, HaveBytes, Nobody, OneMore, EventLoop, Accepted, DrivesReady, IsTurn, KeepsWhatLeaves, accepts_now, Event, Ghosts, Hub, HubState, HubEvent, Choice, SessionStream, replies_text, run, stream_of, StandsFor, device, BufferedStream, Entry, held_in, traffic_through, DrivenAll, EndsDrive, HaveSessions, is_over, Adds, Point, StandsAt, Departure, DepartAt, IsBeginning, Traffic, Socket, AdmitsEach, ComeEach, EndsTurn, joins_of, slot_at}
+use Rattle.event_loop.proofs.Words.{◌≡◌, ◌≢◌, ◌⊎◌, inl, inr, ℕ, ◌+◌, ◌-◌, ◌||◌, Bool, true, false, List, [], ◌∷◌}
+use Rattle.event_loop.proofs.Words.{◌++◌, Option, Some, None, length, append_assoc, drop, refl, sym, ap, subst, ◌∙◌}
+use Rattle.event_loop.proofs.Words.{arith, cases_eq, append-nil, All-drop, All-from_recursion, recursion_from_All}
+use Rattle.event_loop.proofs.Words.{AllByRecursion, items, IsLawful, IsSessionStream, IsSound, NoneRuns, Ran, Ready}
+use Rattle.event_loop.proofs.Words.{Gone, run_then, some_same, at_point, point_of, EndAll, EndEach, LeavesAs}
+use Rattle.event_loop.proofs.Words.{LeavesIf, NoneEnded, AllTurned, AreTurned, DropsInput, Lingerers, lingers_in}
+use Rattle.event_loop.proofs.Words.{TurnedIf, IsNewSocket, SocketsTell, session_of, traffic_of, ConnectionsSpeak}
+use Rattle.event_loop.proofs.Words.{HaveBytes, Nobody, OneMore, EventLoop, Accepted, DrivesReady, IsTurn}
+use Rattle.event_loop.proofs.Words.{KeepsWhatLeaves, accepts_now, Event, Ghosts, Hub, HubState, HubEvent, Choice}
+use Rattle.event_loop.proofs.Words.{SessionStream, replies_text, run, stream_of, StandsFor, device, BufferedStream}
+use Rattle.event_loop.proofs.Words.{Entry, held_in, traffic_through, DrivenAll, EndsDrive, HaveSessions, is_over}
+use Rattle.event_loop.proofs.Words.{Adds, Point, StandsAt, Departure, DepartAt, IsBeginning, Traffic, Socket}
+use Rattle.event_loop.proofs.Words.{AdmitsEach, ComeEach, EndsTurn, joins_of, slot_at}
 use Rattle.event_loop.specs.Lingerings.{Leaves}
 use Rattle.std.proofs.Math.Logic.{∥∥₁_map}
 use Rattle.model.proofs.Elements.{all-append, all-each}
@@ -8,10 +20,15 @@ use Rattle.sessions.proofs.LivesLaws.{lose_nothing}
 use Rattle.sessions.proofs.Runs.{CountsNow, OnlyNow, no_event, ran_parts, ran_stands, ran_then}
 use Rattle.stream_driver.specs.Sends.{AreToldBefore, HasSent, HaveSent, IsAnswered}
 use Rattle.stream_driver.proofs.Sends.{all_before, all_since, answered_since, answered_then, begins_through}
-use Rattle.event_loop.specs.{declared.lingering.Dropped.Dropped, declared.lingering.Lingerer.Lingerer, declared.lingering.TheConstants.LINGERING_BYTES, declared.lingering.TheConstants.LINGERING_MAX}
-use Rattle.event_loop.specs.Departures.{EntriesTell, HoldsAtEnds, IsCommitted, IsKept, IsServing, IsTold, KeepsWhatLeft, LingerersTell, Serving, Tells, first_state, present_state, AreKept}
+use Rattle.event_loop.specs.{declared.lingering.Dropped.Dropped, declared.lingering.Lingerer.Lingerer}
+use Rattle.event_loop.specs.{declared.lingering.TheConstants.LINGERING_BYTES}
+use Rattle.event_loop.specs.{declared.lingering.TheConstants.LINGERING_MAX}
+use Rattle.event_loop.specs.Departures.{EntriesTell, HoldsAtEnds, IsCommitted, IsKept, IsServing, IsTold}
+use Rattle.event_loop.specs.Departures.{KeepsWhatLeft, LingerersTell, Serving, Tells, first_state, present_state}
+use Rattle.event_loop.specs.Departures.{AreKept}
 use Rattle.event_loop.specs.Leavings.EndEach.{OneMore as OneEnded}
-use Rattle.event_loop.proofs.{Tables.TableStands, Entries.no_entry, Entries.polled_sessions, Polled.each_rest, Polled.was_driven, Polled.was_polled}
+use Rattle.event_loop.proofs.{Tables.TableStands, Entries.no_entry, Entries.polled_sessions, Polled.each_rest}
+use Rattle.event_loop.proofs.{Polled.was_driven, Polled.was_polled}
 use Rattle.event_loop.proofs.TableBytes.{driven_was, drives_bytes, finished, polled_bytes}
 use Rattle.event_loop.proofs.Committed.{answered_committed}
 use Rattle.event_loop.proofs.WholeTurns.{all_found, each_bytes, new_begins, they_speak}
@@ -115,7 +132,8 @@ module _ {D : Type 0} {g : Ghosts D} {hub : Hub D g} (served : Served hub) where
 
     -- ---- those that linger
 
-    one_lingers : (socket : Socket) (old new : Lingerers) → Leaves socket old new → (s : ℕ) → Tells served s (traffic_of socket) → LingerersTell served old.all → LingerersTell served new.all
+    one_lingers : (socket : Socket) (old new : Lingerers) → Leaves socket old new → (s : ℕ) → Tells served s (traffic_of socket)
+        → LingerersTell served old.all → LingerersTell served new.all
     one_lingers socket old new leaves s e tells = elim leaves [
       | inl x ↦ rw x.1 tells
       | inr x ↦ elim x.1 [
@@ -128,23 +146,27 @@ module _ {D : Type 0} {g : Ghosts D} {hub : Hub D g} (served : Served hub) where
       ]
     ]
 
-    leaves_if : (b : Bool) (socket : Socket) (old new : Lingerers) → LeavesIf b socket old new → (s : ℕ) → Tells served s (traffic_of socket) → LingerersTell served old.all → LingerersTell served new.all
+    leaves_if : (b : Bool) (socket : Socket) (old new : Lingerers) → LeavesIf b socket old new → (s : ℕ) → Tells served s (traffic_of socket)
+        → LingerersTell served old.all → LingerersTell served new.all
     leaves_if false socket old new same s e tells = rw same tells
     leaves_if true socket old new leaves s e tells = one_lingers socket old new leaves s e tells
 
-    leaves_as : SocketsTell → (slot after : Option Connection) (ended : EndsTurn SocketsTell traffic_of moment slot after) (old new : Lingerers) → LeavesAs moment slot after ended old new
+    leaves_as : SocketsTell → (slot after : Option Connection) (ended : EndsTurn SocketsTell traffic_of moment slot after) (old new : Lingerers)
+        → LeavesAs moment slot after ended old new
         → ((was : Connection) → slot ≡ Some was → Tells served was.session (through was.stream)) → LingerersTell served old.all → LingerersTell served new.all
     leaves_as t None after ended old new same tells all = subst (λ (l : Lingerers). LingerersTell served l.all) (sym same) all
     leaves_as t (Some was) after (mid, ends, is) old new leaves tells all =
         leaves_if (is_over mid) mid.stream.inner old new leaves mid.session (inner_tells mid.session mid.stream (end_tells t was mid ends (tells was refl))) all
 
-    each_lingers : SocketsTell → {slots : Slots} {old : Lingerers} {key : ℕ} {new : Slots} {later : Lingerers} → EndEach moment slots old key new later → EntriesTell served slots → LingerersTell served old.all
+    each_lingers : SocketsTell → {slots : Slots} {old : Lingerers} {key : ℕ} {new : Slots} {later : Lingerers} → EndEach moment slots old key new later
+        → EntriesTell served slots → LingerersTell served old.all
         → LingerersTell served later.all
     each_lingers t NoneEnded entries tells = tells
     each_lingers t {slots} {old} (OneEnded key between new mid later each at) entries tells =
         leaves_as t (slot_at between key) (slot_at new key) at.ended mid later at.leaves (λ was e. entries key was (sym (each_rest each key (omega arith)) ∙ e)) (each_lingers t each entries tells)
 
-    drops_tells : SocketsTell → (old : Lingerer) (dropped : Dropped) (new : Lingerer) → DropsInput moment old dropped new → (s : ℕ) → Tells served s (traffic_of old.socket) → Tells served s (traffic_of new.socket)
+    drops_tells : SocketsTell → (old : Lingerer) (dropped : Dropped) (new : Lingerer) → DropsInput moment old dropped new → (s : ℕ)
+        → Tells served s (traffic_of old.socket) → Tells served s (traffic_of new.socket)
     drops_tells t old dropped new drops s e = departs_tells s (traffic_of old.socket) (traffic_of new.socket) drops.connection (drops.taken t) (drops.departed t) e
 
     all_tell : SocketsTell → (old new : List Lingerer) (more : Bool) → AllTurned moment old new more → LingerersTell served old → LingerersTell served new
@@ -155,7 +177,8 @@ module _ {D : Type 0} {g : Ghosts D} {hub : Hub D g} (served : Served hub) where
           subst (λ (l : List Lingerer). LingerersTell served l) (sym is) (own_tells (session_of first.socket) later.socket (drops_tells t first dropped later stays.0 (session_of first.socket) tells.0), all_tell t others rest of_rest all tells.1)
     ]
 
-    turned_tell : SocketsTell → (reads : Bool) (old new : Lingerers) → TurnedIf moment reads old new → LingerersTell served old.all → LingerersTell served new.all
+    turned_tell : SocketsTell → (reads : Bool) (old new : Lingerers) → TurnedIf moment reads old new → LingerersTell served old.all
+        → LingerersTell served new.all
     turned_tell t false old new same tells = subst (λ (l : Lingerers). LingerersTell served l.all) (sym same) tells
     turned_tell t true old new turned tells = all_tell t old.all new.all new.has_more turned.0 tells
 
@@ -220,7 +243,8 @@ module _ {D : Type 0} {g : Ghosts D} (hub : Hub D g) (slots : Slots) where
   relingers : (old new : List Lingerer) → (SocketsTell → (served : Served hub) → LingerersTell served old → LingerersTell served new) → IsServing hub slots old → IsServing hub slots new
   relingers old new f some = ∥∥₁_map some (λ s. record { served = s.served; bytes = s.bytes; tells = s.tells; lingerers_tell = λ t. f t s.served (s.lingerers_tell t) })
 
-  pub turns_serve : (moment : ℕ) → moment ≡ g.moment (device hub) → (is_told : Bool) (old new : Lingerers) → AreTurned moment is_told old new → IsServing hub slots old.all → IsServing hub slots new.all
+  pub turns_serve : (moment : ℕ) → moment ≡ g.moment (device hub) → (is_told : Bool) (old new : Lingerers) → AreTurned moment is_told old new
+      → IsServing hub slots old.all → IsServing hub slots new.all
   turns_serve moment now is_told old new turned = relingers old.all new.all (λ t served.
       turned_tell served (no_event hub (last_sound served.first hub served.choices served.ran)) moment now t (is_told || old.has_more) old new turned)
 
@@ -345,7 +369,8 @@ module _ {D : Type 0} {g : Ghosts D} (hub : Hub D g) (slots : Slots) (lingerers 
 
 -- ---- what leaves in a turn
 
-holds_map : (P Q : ℕ → Traffic → Type 0) → ((s : ℕ) (t : Traffic) → P s t → Q s t) → (moment : ℕ) (driven : List (Option (Entry (BufferedStream Socket)))) (lingered turned : List Lingerer) → HoldsAtEnds P moment driven lingered turned
+holds_map : (P Q : ℕ → Traffic → Type 0) → ((s : ℕ) (t : Traffic) → P s t → Q s t)
+    → (moment : ℕ) (driven : List (Option (Entry (BufferedStream Socket)))) (lingered turned : List Lingerer) → HoldsAtEnds P moment driven lingered turned
     → HoldsAtEnds Q moment driven lingered turned
 holds_map P Q f moment driven lingered turned x = record {
   entries = λ key was entry e ends. f entry.session (traffic_of entry.stream.inner) (x.entries key was entry e ends);

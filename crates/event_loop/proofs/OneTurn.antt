@@ -1,5 +1,8 @@
 -- The parts of a turn make it.
-use Rattle.event_loop.proofs.Words.{◌≡◌, Bool, false, List, subst, items, LINGERER, EventLoop, LingerOn, Lingerers, lingers_in, unless_failed, Accepted, DrivesReady, IsGivenBack, IsTurn, accepted_joins, accepts_now, is_told_of, Event, Ghosts, device, traffic_through, DrivenAll, Adds, Leads, Point, Traffic, Socket, arith}
+use Rattle.event_loop.proofs.Words.{◌≡◌, Bool, false, List, subst, items, LINGERER, EventLoop, LingerOn, Lingerers}
+use Rattle.event_loop.proofs.Words.{lingers_in, unless_failed, Accepted, DrivesReady, IsGivenBack, IsTurn}
+use Rattle.event_loop.proofs.Words.{accepted_joins, accepts_now, is_told_of, Event, Ghosts, device, traffic_through}
+use Rattle.event_loop.proofs.Words.{DrivenAll, Adds, Leads, Point, Traffic, Socket, arith}
 use Rattle.event_loop.specs.{declared.connections.Backlog.Backlog, declared.polling.Poller.Poller}
 
 -- where a turn doesn't accept, none of those that linger is closed

@@ -100,11 +100,13 @@ module _ {T : Type 0} where
 
 module _ {moment : ℕ} {slots : Slots (BufferedStream Socket)} {old : Lingerers} where
   -- the entries at the keys that come are as they were, and the drives of the others have ended
-  pub each_rest : {key : ℕ} {new : Slots (BufferedStream Socket)} {later : Lingerers} → EndEach moment slots old key new later → (other : ℕ) → key ≤ other → slot_at new other ≡ slot_at slots other
+  pub each_rest : {key : ℕ} {new : Slots (BufferedStream Socket)} {later : Lingerers} → EndEach moment slots old key new later → (other : ℕ) → key ≤ other
+      → slot_at new other ≡ slot_at slots other
   each_rest NoneEnded other le = refl
   each_rest (OneMore key between new mid later each at) other le = at.others other (λ same. absurd (omega arith)) ∙ each_rest each other (omega arith)
 
-  each_ended : {key : ℕ} {new : Slots (BufferedStream Socket)} {later : Lingerers} → EndEach moment slots old key new later → (other : ℕ) → other < key → EndsTurn SocketsTell traffic_of moment (slot_at slots other) (slot_at new other)
+  each_ended : {key : ℕ} {new : Slots (BufferedStream Socket)} {later : Lingerers} → EndEach moment slots old key new later → (other : ℕ) → other < key
+      → EndsTurn SocketsTell traffic_of moment (slot_at slots other) (slot_at new other)
   each_ended NoneEnded other lt = absurd (omega arith)
   each_ended (OneMore key between new mid later each at) other lt = elim (cases_eq other key) [
     | inl same ↦
@@ -113,7 +115,8 @@ module _ {moment : ℕ} {slots : Slots (BufferedStream Socket)} {old : Lingerers
     | inr differs ↦ subst (λ slot. EndsTurn SocketsTell traffic_of moment (slot_at slots other) slot) (sym (at.others other differs)) (each_ended each other (omega arith))
   ]
 
-  pub all_ended : (new : Slots (BufferedStream Socket)) (later : Lingerers) → EndAll moment slots old new later → (key : ℕ) → EndsTurn SocketsTell traffic_of moment (slot_at slots key) (slot_at new key)
+  pub all_ended : (new : Slots (BufferedStream Socket)) (later : Lingerers) → EndAll moment slots old new later → (key : ℕ)
+      → EndsTurn SocketsTell traffic_of moment (slot_at slots key) (slot_at new key)
   all_ended new later all key = elim (cases_lt key all.keys) [
     | inl lt ↦ each_ended all.each key lt
     | inr le ↦
@@ -128,7 +131,8 @@ module _ (moment key : ℕ) (slots new : Slots (BufferedStream Socket)) (others 
   Ends : Option (Entry (BufferedStream Socket)) → Lingerers → Lingerers → Type 0
   Ends slot old later = (ended : EndsTurn SocketsTell traffic_of moment slot (slot_at new key)) × LeavesAs moment slot (slot_at new key) ended old later
 
-  ends : (slot : Option (Entry (BufferedStream Socket))) (old later : Lingerers) → slot_at slots key ≡ slot → Ends slot old later → EndsAt moment key slots old new later
+  ends : (slot : Option (Entry (BufferedStream Socket))) (old later : Lingerers) → slot_at slots key ≡ slot → Ends slot old later
+      → EndsAt moment key slots old new later
   unfolding Ends
   ends slot old later was here =
       let there = subst (λ slot. Ends slot old later) (sym was) here in

@@ -1,5 +1,7 @@
 -- One connection that lingers after another.
-use Rattle.event_loop.proofs.Words.{◌≡◌, ◌<◌, ◌+◌, ◌||◌, inl, inr, ℕ, suc, Bool, false, List, [], ◌∷◌, ◌++◌, length, append_assoc, refl, sym, ap, subst, ◌∙◌, arith, AllTurned, FirstTurned, Lingerers, is_all}
+use Rattle.event_loop.proofs.Words.{◌≡◌, ◌<◌, ◌+◌, ◌||◌, inl, inr, ℕ, suc, Bool, false, List, [], ◌∷◌, ◌++◌, length}
+use Rattle.event_loop.proofs.Words.{append_assoc, refl, sym, ap, subst, ◌∙◌, arith, AllTurned, FirstTurned, Lingerers}
+use Rattle.event_loop.proofs.Words.{is_all}
 use Rattle.std.proofs.Common.{append-nil}
 use Rattle.std.proofs.Math.Bool.{or-false, or_assoc}
 use Rattle.event_loop.specs.declared.lingering.Lingerer.{Lingerer}
@@ -28,7 +30,8 @@ module _ (moment : ℕ) where
     refused_is = refl;
   }
 
-  pub one_turned : (refused : ℕ) (old : List Lingerer) (mid new : Lingerers) (count : ℕ) → count < length old → TurnedSoFar refused old count mid → FirstTurned moment mid.all mid new → TurnedSoFar refused old (count + 1) new
+  pub one_turned : (refused : ℕ) (old : List Lingerer) (mid new : Lingerers) (count : ℕ) → count < length old → TurnedSoFar refused old count mid
+      → FirstTurned moment mid.all mid new → TurnedSoFar refused old (count + 1) new
   one_turned refused old mid new count some x first = by x.others x.count_is x.now_are x.turned
     where
       by : (others : List Lingerer) → count + length others ≡ length old → mid.all ≡ others ++ x.kept → Turns old x.kept mid.has_more others → TurnedSoFar refused old (count + 1) new
@@ -55,10 +58,12 @@ module _ (moment : ℕ) where
             }
           ]
 
-  pub all_turned : (refused : ℕ) (old : List Lingerer) (new : Lingerers) (count : ℕ) → length old ≡ count → TurnedSoFar refused old count new → AllTurned moment old new.all new.has_more
+  pub all_turned : (refused : ℕ) (old : List Lingerer) (new : Lingerers) (count : ℕ) → length old ≡ count → TurnedSoFar refused old count new
+      → AllTurned moment old new.all new.has_more
   all_turned refused old new count is x = by x.others x.count_is x.now_are x.turned
     where
-      by : (others : List Lingerer) → count + length others ≡ length old → new.all ≡ others ++ x.kept → Turns old x.kept new.has_more others → AllTurned moment old new.all new.has_more
+      by : (others : List Lingerer) → count + length others ≡ length old → new.all ≡ others ++ x.kept → Turns old x.kept new.has_more others
+          → AllTurned moment old new.all new.has_more
       by [] all are turned =
           subst (λ (xs : List Lingerer). AllTurned moment old xs new.has_more) (append-nil x.kept ∙ sym are)
           (subst (λ (b : Bool). AllTurned moment old (x.kept ++ []) b) (or-false new.has_more) (turned [] false (refl, refl)))

@@ -34,7 +34,8 @@ pub use Rattle.stream_driver.specs.declared.entries.EntryState.{EntryState}
 pub use Rattle.stream_driver.specs.declared.entries.EntryState.TheVariants.{Gone, Idle, Ready}
 pub use Rattle.event_loop.specs.Leavings.{EndAll, EndEach, EndsAt, LeavesAs, LeavesIf, LingerOn}
 pub use Rattle.event_loop.specs.Leavings.EndEach.{NoneEnded}
-pub use Rattle.event_loop.specs.Lingerings.{AllTurned, AreTurned, DropsInput, FirstTurned, is_all, Lingerers, lingers_in, TurnedIf, unless_failed, with_one_more}
+pub use Rattle.event_loop.specs.Lingerings.{AllTurned, AreTurned, DropsInput, FirstTurned, is_all, Lingerers}
+pub use Rattle.event_loop.specs.Lingerings.{lingers_in, TurnedIf, unless_failed}
 pub use Rattle.event_loop.specs.Numbers.{AreBelow}
 pub use Rattle.event_loop.specs.Sockets.{departure_of, IsNewSocket, session_of, SocketsTell, traffic_of}
 pub use Rattle.event_loop.specs.TableBytes.{ConnectionsSpeak, HasItsBytes, HaveBytes, KeepBytes, SpeaksFor}
