@@ -191,11 +191,23 @@ def value_above_the_bound(siege):
     all_transactions_are_free(siege)
 
 
-LINGER, LINGERING_MAX = 10.0, 64    # how long and how many connections behind a broken frame are kept, at most
+LINGERING_MAX = 64    # how many connections behind a broken frame are kept
+
+
+def are_reset(clients):
+    """Of each of these, whose server has ended: is what it sends reset, since the connection was closed?"""
+    for client in clients:
+        client.send(b"x")
+    time.sleep(0.2)
+    for client in clients:
+        client.is_closed = False
+        client.send(b"x")
+    return [client.is_closed for client in clients]
 
 
 def held_behind_broken_frames(siege):
-    """Peers that hold on behind their broken frame: they take no place, few descriptors, and these not for long."""
+    """Peers that hold on behind their broken frame: they take no place, and few descriptors. The oldest are closed, and the others when they
+    end."""
     time.sleep(0.2)    # those that left have been taken out
     before = siege.server.descriptors()
     clients = take_every_place(siege)
@@ -206,11 +218,13 @@ def held_behind_broken_frames(siege):
     all_transactions_are_free(siege)
     time.sleep(0.2)
     kept = siege.server.descriptors() - before
-    expect(kept <= LINGERING_MAX, f"{kept} descriptors of {len(clients)} are kept")
-    time.sleep(LINGER + 2.0)
-    kept = siege.server.descriptors() - before
-    expect(kept <= 0, f"{kept} descriptors are kept for more than {LINGER:.0f} seconds")
+    expect(kept == LINGERING_MAX, f"{kept} descriptors of {len(clients)} are kept")
+    reset = are_reset(clients)
+    expect(reset == [True] * (len(clients) - LINGERING_MAX) + [False] * LINGERING_MAX, f"others than the oldest were closed: {reset}")
     close_all(clients)
+    time.sleep(0.2)
+    kept = siege.server.descriptors() - before
+    expect(kept <= 0, f"{kept} descriptors are kept though their peers have ended")
 
 
 LINGERING_BYTES, IN_BUFFERS = 1 << 26, 1 << 24    # how many bytes are dropped behind a broken frame, and how many more the system may hold

@@ -638,7 +638,7 @@ fn stopping_server(stops_at: u64, fails_at: u64, kind: ErrorKind) -> Turning {
 }
 
 impl Turns for Turning {
-    fn next_turn<C: Clock>(&mut self, _clock: &C) -> io::Result<()> {
+    fn next_turn(&mut self) -> io::Result<()> {
         self.turns = self.turns.saturating_add(1);
         if self.turns == self.fails_at {
             return Err(self.kind.into());

@@ -3,14 +3,15 @@ use Rattle.std.specs.Prelude.{◌≡◌, Bool, None, Result, OnOk, OnErr}
 use Rattle.std.specs.declared.io.Error.{Error}
 use Rattle.sector.specs.declared.device.Sectors.{Ghosts}
 use Rattle.sessions.specs.{SessionStreams.HubState, StandsFor.StandsFor}
-use Rattle.event_loop.specs.{Loops.hub_of, Polls.after_wait, Polls.polls_of, Sockets.SocketsTell, Sockets.traffic_of, Turns.IsTurn, Turns.IsUntouched, Turns.Waits}
+use Rattle.event_loop.specs.{Loops.hub_of, Sockets.SocketsTell, Sockets.traffic_of}
+use Rattle.event_loop.specs.Turns.{IsTurn, IsUntouched, Waits}
 use Rattle.event_loop.specs.declared.server.EventLoop.{EventLoop}
 
 -- It polled once, and waited for as long as it may with no timeout. Where that failed it answered the fault, and nothing else was done; else
 -- it drove and accepted.
 abbrev pub TurnedSo : {D : Type 0} {g : Ghosts D} → EventLoop D g → Result (Unit {0}) Error → EventLoop D g → Type 0
 TurnedSo old result new =
-    (polls_of new.poller ≡ after_wait result (polls_of old.poller)) × Waits None old result new × OnOk result (IsTurn SocketsTell traffic_of old new) × OnErr result (IsUntouched old new)
+    Waits None old result new × OnOk result (IsTurn SocketsTell traffic_of old new) × OnErr result (IsUntouched old new)
 
 -- whether the store has stopped, in each state that its hub stands for
 abbrev pub HasStopped : {D : Type 0} {g : Ghosts D} → EventLoop D g → Bool → Type 0

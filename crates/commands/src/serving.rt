@@ -11,7 +11,6 @@ use std::alloc::Global;
 use std::io;
 use std::net::SocketAddr;
 use std::sync::Wait;
-use std::time::Clock;
 
 /// Opens a data file, listens at an address, prints `listening` and the address that the system gave, and runs turns without end. It
 /// tells once, on the error output, that the store has stopped. It does nothing else: its contract names each call of the files, the
@@ -19,7 +18,7 @@ use std::time::Clock;
 ///
 /// A fault is `Listen`, which for a text that is no address comes before the file is opened, `File`, the log's, `Poll`, or `Memory`.
 /// It takes the memory of the log's map and of the sessions and their requests.
-pub fn serve<R: Wait + Clock, F: DataFiles, P: Ports<Hub<F::Device>>, O: Lines, E: Lines>(
+pub fn serve<R: Wait, F: DataFiles, P: Ports<Hub<F::Device>>, O: Lines, E: Lines>(
     rt: &R,
     alloc: Global,
     around: &mut Around<F, P, O, E>,
@@ -42,7 +41,7 @@ pub fn serve<R: Wait + Clock, F: DataFiles, P: Ports<Hub<F::Device>>, O: Lines, 
 /// can't be written, nothing more is done.
 ///
 /// A fault is `Poll`, or `Memory`, that of the turn that failed. It takes the memory of the turns.
-pub fn serve_turns<R: Wait + Clock, S: Turns, E: Lines>(
+pub fn serve_turns<R: Wait, S: Turns, E: Lines>(
     rt: &R,
     server: &mut S,
     err: &mut E,
@@ -52,7 +51,7 @@ pub fn serve_turns<R: Wait + Clock, S: Turns, E: Lines>(
 {
     let mut told = false;
     for _turn in rt.forever() {
-        if let Err(error) = server.next_turn(rt) {
+        if let Err(error) = server.next_turn() {
             return Err(or_memory(&error, Fault::Poll));
         }
         tell_stopped(&mut told, server.is_stopped(), err);

@@ -75,8 +75,8 @@ pub trait Turns {
     /// Relates it to the address that it listens at, or to why that can't be told.
     ghost is_at: { Self → Result SocketAddr Error → Type 0 } = { λ _ _. ⊤ };
 
-    /// One turn: it waits until there is something to do, and does it, by this clock. An error is the wait's.
-    fn next_turn<C: Clock>(&mut self, clock: &C) -> io::Result<()>
+    /// One turn: it waits until there is something to do, and does it. An error is the wait's.
+    fn next_turn(&mut self) -> io::Result<()>
         ensures { turns self.old result self.new };
 
     /// Has the store stopped?
@@ -264,8 +264,8 @@ impl Turns for EventLoop<FileSectors> {
 
     ghost stops = { HasStopped };
 
-    fn next_turn<C: Clock>(&mut self, clock: &C) -> io::Result<()> {
-        self.turn(clock, None)
+    fn next_turn(&mut self) -> io::Result<()> {
+        self.turn(None)
     }
 
     fn is_stopped(&self) -> bool {

@@ -1,5 +1,17 @@
 -- What left over the connections stays told before as the loop goes on, and is kept, also where a turn takes a connection out or closes it.
-use Rattle.event_loop.proofs.Words.{◌≡◌, ◌≢◌, ◌⊎◌, inl, inr, ℕ, ◌+◌, ◌-◌, ◌||◌, Bool, true, false, List, [], ◌∷◌, ◌++◌, Option, Some, None, length, append_assoc, drop, refl, sym, ap, subst, ◌∙◌, arith, cases_eq, append-nil, All-drop, All-from_recursion, recursion_from_All, AllByRecursion, items, IsLawful, IsSessionStream, IsSound, NoneRuns, Ran, Ready, Gone, run_then, some_same, at_point, point_of, EndAll, EndEach, LeavesAs, LeavesIf, NoneEnded, AllTurned, AreTurned, DropsIf, Lingerers, lingers_in, IsNewSocket, SocketsTell, session_of, traffic_of, ConnectionsSpeak, HaveBytes, Nobody, OneMore, LINGERER, EventLoop, Accepted, DrivesReady, IsTurn, KeepsWhatLeaves, accepts_now, is_told_of, Instant, Event, Ghosts, Hub, HubState, HubEvent, Choice, SessionStream, replies_text, run, stream_of, StandsFor, device, BufferedStream, Entry, held_in, traffic_through, DrivenAll, EndsDrive, HaveSessions, is_over, Adds, Point, StandsAt, Departure, DepartAt, IsBeginning, Traffic, Socket, AdmitsEach, ComeEach, EndsTurn, joins_of, slot_at}
+use Rattle.event_loop.proofs.Words.{◌≡◌, ◌≢◌, ◌⊎◌, inl, inr, ℕ, ◌+◌, ◌-◌, ◌||◌, Bool, true, false, List, [], ◌∷◌}
+use Rattle.event_loop.proofs.Words.{◌++◌, Option, Some, None, length, append_assoc, drop, refl, sym, ap, subst, ◌∙◌}
+use Rattle.event_loop.proofs.Words.{arith, cases_eq, append-nil, All-drop, All-from_recursion, recursion_from_All}
+use Rattle.event_loop.proofs.Words.{AllByRecursion, items, IsLawful, IsSessionStream, IsSound, NoneRuns, Ran, Ready}
+use Rattle.event_loop.proofs.Words.{Gone, run_then, some_same, at_point, point_of, EndAll, EndEach, LeavesAs}
+use Rattle.event_loop.proofs.Words.{LeavesIf, NoneEnded, AllTurned, AreTurned, DropsInput, Lingerers, lingers_in}
+use Rattle.event_loop.proofs.Words.{TurnedIf, IsNewSocket, SocketsTell, session_of, traffic_of, ConnectionsSpeak}
+use Rattle.event_loop.proofs.Words.{HaveBytes, Nobody, OneMore, EventLoop, Accepted, DrivesReady, IsTurn}
+use Rattle.event_loop.proofs.Words.{KeepsWhatLeaves, accepts_now, Event, Ghosts, Hub, HubState, HubEvent, Choice}
+use Rattle.event_loop.proofs.Words.{SessionStream, replies_text, run, stream_of, StandsFor, device, BufferedStream}
+use Rattle.event_loop.proofs.Words.{Entry, held_in, traffic_through, DrivenAll, EndsDrive, HaveSessions, is_over}
+use Rattle.event_loop.proofs.Words.{Adds, Point, StandsAt, Departure, DepartAt, IsBeginning, Traffic, Socket}
+use Rattle.event_loop.proofs.Words.{AdmitsEach, ComeEach, EndsTurn, joins_of, slot_at}
 use Rattle.event_loop.specs.Lingerings.{Leaves}
 use Rattle.std.proofs.Math.Logic.{∥∥₁_map}
 use Rattle.model.proofs.Elements.{all-append, all-each}
@@ -8,10 +20,15 @@ use Rattle.sessions.proofs.LivesLaws.{lose_nothing}
 use Rattle.sessions.proofs.Runs.{CountsNow, OnlyNow, no_event, ran_parts, ran_stands, ran_then}
 use Rattle.stream_driver.specs.Sends.{AreToldBefore, HasSent, HaveSent, IsAnswered}
 use Rattle.stream_driver.proofs.Sends.{all_before, all_since, answered_since, answered_then, begins_through}
-use Rattle.event_loop.specs.{declared.lingering.Dropped.Dropped, declared.lingering.Lingerer.Lingerer, declared.lingering.TheConstants.LINGERING_MAX}
-use Rattle.event_loop.specs.Departures.{EntriesTell, HoldsAtEnds, IsCommitted, IsKept, IsServing, IsTold, KeepsWhatLeft, LingerersTell, Serving, Tells, first_state, present_state, AreKept}
+use Rattle.event_loop.specs.{declared.lingering.Dropped.Dropped, declared.lingering.Lingerer.Lingerer}
+use Rattle.event_loop.specs.{declared.lingering.TheConstants.LINGERING_BYTES}
+use Rattle.event_loop.specs.{declared.lingering.TheConstants.LINGERING_MAX}
+use Rattle.event_loop.specs.Departures.{EntriesTell, HoldsAtEnds, IsCommitted, IsKept, IsServing, IsTold}
+use Rattle.event_loop.specs.Departures.{KeepsWhatLeft, LingerersTell, Serving, Tells, first_state, present_state}
+use Rattle.event_loop.specs.Departures.{AreKept}
 use Rattle.event_loop.specs.Leavings.EndEach.{OneMore as OneEnded}
-use Rattle.event_loop.proofs.{Tables.TableStands, Entries.no_entry, Entries.polled_sessions, Polled.each_rest, Polled.was_driven, Polled.was_polled}
+use Rattle.event_loop.proofs.{Tables.TableStands, Entries.no_entry, Entries.polled_sessions, Polled.each_rest}
+use Rattle.event_loop.proofs.{Polled.was_driven, Polled.was_polled}
 use Rattle.event_loop.proofs.TableBytes.{driven_was, drives_bytes, finished, polled_bytes}
 use Rattle.event_loop.proofs.Committed.{answered_committed}
 use Rattle.event_loop.proofs.WholeTurns.{all_found, each_bytes, new_begins, they_speak}
@@ -115,46 +132,55 @@ module _ {D : Type 0} {g : Ghosts D} {hub : Hub D g} (served : Served hub) where
 
     -- ---- those that linger
 
-    one_lingers : (time : Option Instant) (socket : Socket) (old new : Lingerers) → Leaves time socket old new → (s : ℕ) → Tells served s (traffic_of socket) → LingerersTell served old.all → LingerersTell served new.all
-    one_lingers None socket old new leaves s e tells = elim leaves [ inl x ↦ rw x.1 tells | inr x ↦ absurd x.0 ]
-    one_lingers (Some time) socket old new leaves s e tells = elim leaves [
+    one_lingers : (socket : Socket) (old new : Lingerers) → Leaves socket old new → (s : ℕ) → Tells served s (traffic_of socket)
+        → LingerersTell served old.all → LingerersTell served new.all
+    one_lingers socket old new leaves s e tells = elim leaves [
       | inl x ↦ rw x.1 tells
       | inr x ↦ elim x.1 [
         | inl refused ↦ rw refused tells
         | inr begun ↦
-            rw begun.2
-            (all_drop (λ (l : Lingerer). Tells served (session_of l.socket) (traffic_of l.socket)) (length old.all + 1 - LINGERING_MAX) (old.all ++ begun.0 ∷ [])
-            (all-append (λ (l : Lingerer). Tells served (session_of l.socket) (traffic_of l.socket)) old.all (begun.0 ∷ []) tells (subst (λ (x : Socket). Tells served (session_of x) (traffic_of x)) (sym begun.1.socket_is) (own_tells s socket e), tt)))
+            let one : Lingerer = record { socket = socket; left = LINGERING_BYTES } in
+            rw begun
+            (all_drop (λ (l : Lingerer). Tells served (session_of l.socket) (traffic_of l.socket)) (length old.all + 1 - LINGERING_MAX) (old.all ++ one ∷ [])
+            (all-append (λ (l : Lingerer). Tells served (session_of l.socket) (traffic_of l.socket)) old.all (one ∷ []) tells (own_tells s socket e, tt)))
       ]
     ]
 
-    leaves_if : (time : Option Instant) (b : Bool) (socket : Socket) (old new : Lingerers) → LeavesIf time moment b socket old new → (s : ℕ) → Tells served s (traffic_of socket) → LingerersTell served old.all → LingerersTell served new.all
-    leaves_if time false socket old new same s e tells = rw same tells
-    leaves_if time true socket old new leaves s e tells = one_lingers time socket old new leaves s e tells
+    leaves_if : (b : Bool) (socket : Socket) (old new : Lingerers) → LeavesIf b socket old new → (s : ℕ) → Tells served s (traffic_of socket)
+        → LingerersTell served old.all → LingerersTell served new.all
+    leaves_if false socket old new same s e tells = rw same tells
+    leaves_if true socket old new leaves s e tells = one_lingers socket old new leaves s e tells
 
-    leaves_as : SocketsTell → (time : Option Instant) (slot after : Option Connection) (ended : EndsTurn SocketsTell traffic_of moment slot after) (old new : Lingerers) → LeavesAs time moment slot after ended old new
+    leaves_as : SocketsTell → (slot after : Option Connection) (ended : EndsTurn SocketsTell traffic_of moment slot after) (old new : Lingerers)
+        → LeavesAs moment slot after ended old new
         → ((was : Connection) → slot ≡ Some was → Tells served was.session (through was.stream)) → LingerersTell served old.all → LingerersTell served new.all
-    leaves_as t time None after ended old new same tells all = subst (λ (l : Lingerers). LingerersTell served l.all) (sym same) all
-    leaves_as t time (Some was) after (mid, ends, is) old new leaves tells all =
-        leaves_if time (is_over mid) mid.stream.inner old new leaves mid.session (inner_tells mid.session mid.stream (end_tells t was mid ends (tells was refl))) all
+    leaves_as t None after ended old new same tells all = subst (λ (l : Lingerers). LingerersTell served l.all) (sym same) all
+    leaves_as t (Some was) after (mid, ends, is) old new leaves tells all =
+        leaves_if (is_over mid) mid.stream.inner old new leaves mid.session (inner_tells mid.session mid.stream (end_tells t was mid ends (tells was refl))) all
 
-    each_lingers : SocketsTell → (time : Option Instant) {slots : Slots} {old : Lingerers} {key : ℕ} {new : Slots} {later : Lingerers} → EndEach time moment slots old key new later → EntriesTell served slots → LingerersTell served old.all
+    each_lingers : SocketsTell → {slots : Slots} {old : Lingerers} {key : ℕ} {new : Slots} {later : Lingerers} → EndEach moment slots old key new later
+        → EntriesTell served slots → LingerersTell served old.all
         → LingerersTell served later.all
-    each_lingers t time NoneEnded entries tells = tells
-    each_lingers t time {slots} {old} (OneEnded key between new mid later each at) entries tells =
-        leaves_as t time (slot_at between key) (slot_at new key) at.ended mid later at.leaves (λ was e. entries key was (sym (each_rest each key (omega arith)) ∙ e)) (each_lingers t time each entries tells)
+    each_lingers t NoneEnded entries tells = tells
+    each_lingers t {slots} {old} (OneEnded key between new mid later each at) entries tells =
+        leaves_as t (slot_at between key) (slot_at new key) at.ended mid later at.leaves (λ was e. entries key was (sym (each_rest each key (omega arith)) ∙ e)) (each_lingers t each entries tells)
 
-    drops_tells : SocketsTell → (reads : Bool) (old : Lingerer) (dropped : Dropped) (new : Lingerer) → DropsIf moment reads old dropped new → (s : ℕ) → Tells served s (traffic_of old.socket) → Tells served s (traffic_of new.socket)
-    drops_tells t true old dropped new drops s e = departs_tells s (traffic_of old.socket) (traffic_of new.socket) drops.connection (drops.taken t) (drops.departed t) e
-    drops_tells t false old dropped new drops s e = subst (λ (l : Lingerer). Tells served s (traffic_of l.socket)) (sym drops.0) e
+    drops_tells : SocketsTell → (old : Lingerer) (dropped : Dropped) (new : Lingerer) → DropsInput moment old dropped new → (s : ℕ)
+        → Tells served s (traffic_of old.socket) → Tells served s (traffic_of new.socket)
+    drops_tells t old dropped new drops s e = departs_tells s (traffic_of old.socket) (traffic_of new.socket) drops.connection (drops.taken t) (drops.departed t) e
 
-    turned_lingers : SocketsTell → (time : Option Instant) (reads : Bool) (old new : List Lingerer) (more : Bool) → AllTurned time moment reads old new more → LingerersTell served old → LingerersTell served new
-    turned_lingers t time reads [] new more turned tells = subst (λ (l : List Lingerer). LingerersTell served l) (sym turned.0) tells
-    turned_lingers t time reads (first ∷ others) new more turned tells = elim turned [
-      | inl x ↦ turned_lingers t time reads others new more x.1 tells.1
+    all_tell : SocketsTell → (old new : List Lingerer) (more : Bool) → AllTurned moment old new more → LingerersTell served old → LingerersTell served new
+    all_tell t [] new more turned tells = subst (λ (l : List Lingerer). LingerersTell served l) (sym turned.0) tells
+    all_tell t (first ∷ others) new more turned tells = elim turned [
+      | inl x ↦ all_tell t others new more x.1 tells.1
       | inr (dropped, later, rest, of_rest, stays, all, is, more_is) ↦
-          subst (λ (l : List Lingerer). LingerersTell served l) (sym is) (own_tells (session_of first.socket) later.socket (drops_tells t reads first dropped later stays.0 (session_of first.socket) tells.0), turned_lingers t time reads others rest of_rest all tells.1)
+          subst (λ (l : List Lingerer). LingerersTell served l) (sym is) (own_tells (session_of first.socket) later.socket (drops_tells t first dropped later stays.0 (session_of first.socket) tells.0), all_tell t others rest of_rest all tells.1)
     ]
+
+    turned_tell : SocketsTell → (reads : Bool) (old new : Lingerers) → TurnedIf moment reads old new → LingerersTell served old.all
+        → LingerersTell served new.all
+    turned_tell t false old new same tells = subst (λ (l : Lingerers). LingerersTell served l.all) (sym same) tells
+    turned_tell t true old new turned tells = all_tell t old.all new.all new.has_more turned.0 tells
 
 -- ---- the drives of a turn
 
@@ -162,7 +188,7 @@ have_sent : (h : HubState) (slots : Slots) → SocketsTell → HaveTheirBytes h 
 have_sent h slots t has key entry e alive = let b = has key entry e alive in record { stream = b.0; stream_is = b.1; taken = (b.2 t).1 }
 
 module _ {D : Type 0} {g : Ghosts D} (hub later : Hub D g) (slots new : Slots) (events : List Event) (d : DrivesReady SocketsTell traffic_of events hub slots later new) (sessions : HaveSessions hub slots)
-    (time : Option Instant) (old later_all : Lingerers) (left : EndAll time (g.moment (device later)) d.driven old new later_all) where
+    (old later_all : Lingerers) (left : EndAll (g.moment (device later)) d.driven old new later_all) where
   none_runs : NoneRuns later
   none_runs = no_event later (last_sound hub later d.drives.leads.choices d.drives.leads.ran)
 
@@ -196,16 +222,16 @@ module _ {D : Type 0} {g : Ghosts D} (hub later : Hub D g) (slots new : Slots) (
       tells = λ t key entry e.
           let was = was_driven SocketsTell traffic_of (g.moment (device later)) (slot_at d.driven key) (slot_at new key) entry (d.ended key) e in
           end_tells on none_runs (g.moment (device later)) refl t was.0 entry was.2 (driven_tell t key was.0 was.1);
-      lingerers_tell = λ t. each_lingers on none_runs (g.moment (device later)) refl t time left.each (driven_tell t) (lingered t);
+      lingerers_tell = λ t. each_lingers on none_runs (g.moment (device later)) refl t left.each (driven_tell t) (lingered t);
     }
 
     -- so it is of each connection as the turn leaves it
-    pub ends_tell : (reads : Bool) → SocketsTell → HoldsAtEnds (Tells on) (g.moment (device later)) reads d.driven old.all later_all.all
-    ends_tell reads t = record {
+    pub ends_tell : SocketsTell → HoldsAtEnds (Tells on) (g.moment (device later)) d.driven old.all later_all.all
+    ends_tell t = record {
       entries = λ key was entry e ends. inner_tells on entry.session entry.stream (end_tells on none_runs (g.moment (device later)) refl t was entry ends (driven_tell t key was e));
       linger = lingered t;
-      ends = all-each _ _ later_all.all (λ l e dropped after drops. drops_tells on none_runs (g.moment (device later)) refl t reads l dropped after drops (session_of l.socket) e)
-          (each_lingers on none_runs (g.moment (device later)) refl t time left.each (driven_tell t) (lingered t));
+      ends = all-each _ _ later_all.all (λ l e dropped after drops. drops_tells on none_runs (g.moment (device later)) refl t l dropped after drops (session_of l.socket) e)
+          (each_lingers on none_runs (g.moment (device later)) refl t left.each (driven_tell t) (lingered t));
     }
 
   pub drives_serve : IsServing hub slots old.all → IsServing later new later_all.all
@@ -217,9 +243,10 @@ module _ {D : Type 0} {g : Ghosts D} (hub : Hub D g) (slots : Slots) where
   relingers : (old new : List Lingerer) → (SocketsTell → (served : Served hub) → LingerersTell served old → LingerersTell served new) → IsServing hub slots old → IsServing hub slots new
   relingers old new f some = ∥∥₁_map some (λ s. record { served = s.served; bytes = s.bytes; tells = s.tells; lingerers_tell = λ t. f t s.served (s.lingerers_tell t) })
 
-  pub turns_serve : (moment : ℕ) → moment ≡ g.moment (device hub) → (time : Option Instant) (is_told : Bool) (old new : Lingerers) → AreTurned time moment is_told old new → IsServing hub slots old.all → IsServing hub slots new.all
-  turns_serve moment now time is_told old new turned = relingers old.all new.all (λ t served.
-      turned_lingers served (no_event hub (last_sound served.first hub served.choices served.ran)) moment now t time (is_told || old.has_more) old.all new.all new.has_more turned.turned)
+  pub turns_serve : (moment : ℕ) → moment ≡ g.moment (device hub) → (is_told : Bool) (old new : Lingerers) → AreTurned moment is_told old new
+      → IsServing hub slots old.all → IsServing hub slots new.all
+  turns_serve moment now is_told old new turned = relingers old.all new.all (λ t served.
+      turned_tell served (no_event hub (last_sound served.first hub served.choices served.ran)) moment now t (is_told || old.has_more) old new turned)
 
   pub closed_serves : (old new : List Lingerer) → new ≡ [] → IsServing hub slots old → IsServing hub slots new
   closed_serves old new is = relingers old new (λ t served tells. rw is tt)
@@ -342,9 +369,10 @@ module _ {D : Type 0} {g : Ghosts D} (hub : Hub D g) (slots : Slots) (lingerers 
 
 -- ---- what leaves in a turn
 
-holds_map : (P Q : ℕ → Traffic → Type 0) → ((s : ℕ) (t : Traffic) → P s t → Q s t) → (moment : ℕ) (reads : Bool) (driven : List (Option (Entry (BufferedStream Socket)))) (lingered turned : List Lingerer) → HoldsAtEnds P moment reads driven lingered turned
-    → HoldsAtEnds Q moment reads driven lingered turned
-holds_map P Q f moment reads driven lingered turned x = record {
+holds_map : (P Q : ℕ → Traffic → Type 0) → ((s : ℕ) (t : Traffic) → P s t → Q s t)
+    → (moment : ℕ) (driven : List (Option (Entry (BufferedStream Socket)))) (lingered turned : List Lingerer) → HoldsAtEnds P moment driven lingered turned
+    → HoldsAtEnds Q moment driven lingered turned
+holds_map P Q f moment driven lingered turned x = record {
   entries = λ key was entry e ends. f entry.session (traffic_of entry.stream.inner) (x.entries key was entry e ends);
   linger = all-each _ _ lingered (λ l p. f (session_of l.socket) (traffic_of l.socket) p) x.linger;
   ends = all-each _ _ turned (λ l p dropped later drops. f (session_of l.socket) (traffic_of later.socket) (p dropped later drops)) x.ends;
@@ -361,11 +389,10 @@ module _ {D : Type 0} {g : Ghosts D} where
     keeps_what_leaves t = ∥∥₁_map old.serving (λ s.
         let d = turn.drives in
         let leads = d.drives.leads in
-        let reads : Bool = is_told_of LINGERER (items new.poller.events) || turn.linger.begun.has_more in
         let moment : ℕ = g.moment (device turn.driven.hub) in
         let driven : Served turn.driven.hub = served_on s.served turn.driven.hub leads.choices leads.ran in
-        let ends : HoldsAtEnds (Tells driven) moment reads d.driven old.lingering.queue.items turn.linger.begun.all =
-        ends_tell old.hub turn.driven.hub old.table.slots turn.driven.table.slots (items new.poller.events) d old.sessions new.poller.time (lingers_in old.lingering) turn.linger.begun turn.linger.left s reads t in
+        let ends : HoldsAtEnds (Tells driven) moment d.driven old.lingering.queue.items turn.linger.begun.all =
+        ends_tell old.hub turn.driven.hub old.table.slots turn.driven.table.slots (items new.poller.events) d old.sessions (lingers_in old.lingering) turn.linger.begun turn.linger.left s t in
         let joins = joins_ran turn.driven turn.accepted (no_event turn.driven.hub (last_sound old.hub turn.driven.hub leads.choices leads.ran)) (accepts_now old.backlog (items new.poller.events)) turn.accepts in
         let accepted : Served turn.accepted.hub = served_on driven turn.accepted.hub joins.0 joins.1 in
         let now : Served new.hub = served_on accepted new.hub [] turn.gives_back.hub.ran in (
@@ -373,5 +400,5 @@ module _ {D : Type 0} {g : Ghosts D} where
           holds_map (Tells driven) (AreKept now)
               (λ n u e. all_kept new.hub new.table.slots new.lingering.queue.items new.serving crash only_now counts_now now n u.departed
               (tells_on accepted new.hub [] turn.gives_back.hub.ran n u (tells_on driven turn.accepted.hub joins.0 joins.1 n u e)).told)
-              moment reads d.driven old.lingering.queue.items turn.linger.begun.all ends,
+              moment d.driven old.lingering.queue.items turn.linger.begun.all ends,
         ))

@@ -1,8 +1,9 @@
--- The parts of a turn make it, and those of its wait.
-use Rattle.event_loop.proofs.Words.{◌≡◌, Bool, false, List, Option, Result, Ok, Err, sym, subst, items, LINGERER, EventLoop, LingerOn, Lingerers, lingers_in, unless_failed, Accepted, DrivesReady, IsGivenBack, IsTurn, Waits, accepted_joins, accepts_now, is_told_of, turn_waits, Instant, Event, Ghosts, device, traffic_through, DrivenAll, Adds, Leads, Point, Traffic, Socket, arith}
-use Rattle.std.specs.{declared.io.Error.Error, declared.time.Duration.Duration}
-use Rattle.event_loop.specs.{declared.connections.Backlog.Backlog, declared.polling.Poller.Poller, Waits.nanos_of}
-use Rattle.event_loop.specs.Polls.{Looked, NothingRead, after_wait, polls_of}
+-- The parts of a turn make it.
+use Rattle.event_loop.proofs.Words.{◌≡◌, Bool, false, List, subst, items, LINGERER, EventLoop, LingerOn, Lingerers}
+use Rattle.event_loop.proofs.Words.{lingers_in, unless_failed, Accepted, DrivesReady, IsGivenBack, IsTurn}
+use Rattle.event_loop.proofs.Words.{accepted_joins, accepts_now, is_told_of, Event, Ghosts, device, traffic_through}
+use Rattle.event_loop.proofs.Words.{DrivenAll, Adds, Leads, Point, Traffic, Socket, arith}
+use Rattle.event_loop.specs.{declared.connections.Backlog.Backlog, declared.polling.Poller.Poller}
 
 -- where a turn doesn't accept, none of those that linger is closed
 pub none_closed : (backlog : Backlog) (events : List Event) (all : Lingerers) → accepts_now backlog events ≡ false → all ≡ unless_failed backlog all
@@ -13,17 +14,17 @@ module _ {D : Type 0} {g : Ghosts D} (tells : Type 0) (traffic : Socket → Traf
   abbrev Drives : Poller → Type 0
   Drives poller = DrivesReady tells traffic (items poller.events) old.hub old.table.slots driven.hub driven.table.slots
 
-  abbrev Linger : (poller : Poller) → Drives poller → Option Instant → Bool → Type 0
-  Linger poller drives now told = LingerOn now (g.moment (device driven.hub)) told drives.driven (lingers_in old.lingering) driven.table.slots (lingers_in driven.lingering)
+  abbrev Linger : (poller : Poller) → Drives poller → Bool → Type 0
+  Linger poller drives told = LingerOn (g.moment (device driven.hub)) told drives.driven (lingers_in old.lingering) driven.table.slots (lingers_in driven.lingering)
 
   abbrev IsRun : (poller : Poller) → Drives poller → (b : Bool) → Accepted b driven accepted → Type 0
   IsRun poller drives b accepts =
       Leads old.hub new.hub (λ h l. (k : Point) × DrivenAll tells (traffic_through traffic) h drives.ready k drives.driven × Adds k (accepted_joins b driven accepted accepts) l)
 
-  pub turned_by : (poller : Poller) → new.poller ≡ poller → (b : Bool) → accepts_now old.backlog (items new.poller.events) ≡ b → (now : Option Instant) → now ≡ poller.time
-      → (told : Bool) → told ≡ is_told_of LINGERER (items poller.events) → (drives : Drives poller) → Linger poller drives now told → (accepts : Accepted b driven accepted) → IsRun poller drives b accepts → IsTurn tells traffic old new
-  turned_by poller same b due now now_is told told_is drives linger accepts run =
-      subst (λ (poller : Poller). (drives : Drives poller) → Linger poller drives poller.time (is_told_of LINGERER (items poller.events)) → (accepts : Accepted b driven accepted) → IsRun poller drives b accepts → IsTurn tells traffic old new) same
+  pub turned_by : (poller : Poller) → new.poller ≡ poller → (b : Bool) → accepts_now old.backlog (items new.poller.events) ≡ b
+      → (told : Bool) → told ≡ is_told_of LINGERER (items poller.events) → (drives : Drives poller) → Linger poller drives told → (accepts : Accepted b driven accepted) → IsRun poller drives b accepts → IsTurn tells traffic old new
+  turned_by poller same b due told told_is drives linger accepts run =
+      subst (λ (poller : Poller). (drives : Drives poller) → Linger poller drives (is_told_of LINGERER (items poller.events)) → (accepts : Accepted b driven accepted) → IsRun poller drives b accepts → IsTurn tells traffic old new) same
       (λ drives linger accepts run. subst (λ (b : Bool). (accepts : Accepted b driven accepted) → IsRun new.poller drives b accepts → IsTurn tells traffic old new) due (λ accepts run. record {
         driven = driven;
         drives = drives;
@@ -37,15 +38,4 @@ module _ {D : Type 0} {g : Ghosts D} (tells : Type 0) (traffic : Socket → Traf
         lingerers_are = lingerers_are;
         gives_back = given;
         run = run;
-      }) accepts run) drives (subst (Linger poller drives poller.time) told_is (subst (λ (time : Option Instant). Linger poller drives time told) now_is linger)) accepts run
-
--- ---- its wait
-
-module _ {D A : Type 0} {g : Ghosts D} (timeout : Option Duration) (old new : EventLoop D g) (before : Poller) (looked : Looked old.poller before) (polled : Poller) (unread : NothingRead before polled) (waited : nanos_of polled.waited ≡ turn_waits old before.time timeout) where
-  pub wait_failed : (result : Result A Error) (fault : Error) → result ≡ Err fault → polls_of polled ≡ after_wait {A = A} (Err fault) (polls_of before) → new.poller ≡ polled → Waits timeout old result new
-  wait_failed result fault is told same =
-      subst (λ (r : Result A Error). Waits timeout old r new) (sym is) (record { before = before; looked = looked; polled = polled; told = told; waited = waited; unread = unread; again = same; room = new.room })
-
-  pub wait_told : (value : A) → polls_of polled ≡ after_wait {A = A} (Ok value) (polls_of before) → (after : Poller) → Looked polled after → new.poller ≡ after → Waits {A = A} timeout old (Ok value) new
-  wait_told value told after again same =
-      record { before = before; looked = looked; polled = polled; told = told; waited = waited; unread = unread; again = subst (λ (p : Poller). Looked polled p) (sym same) again; room = new.room }
+      }) accepts run) drives (subst (Linger poller drives) told_is linger) accepts run

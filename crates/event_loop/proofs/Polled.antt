@@ -1,5 +1,5 @@
 -- What a poll and the end of a turn make of a slot, and what becomes of its connection.
-use Rattle.event_loop.proofs.Words.{◌≡◌, ◌≢◌, inl, inr, ℕ, ◌<◌, ◌≤◌, ◌==◌, ◌||◌, Bool, true, false, cond, List, [], ◌∷◌, ◌++◌, map, set, Option, Some, None, option_map, refl, sym, ap, subst, ◌∙◌, arith, and_parts, cases_eq, cases_lt, get_or-set_same, get_or-set_other, Gone, some_same, below, EndAll, EndEach, EndsAt, LeavesAs, LeavesIf, NoneEnded, Lingerers, SocketsTell, traffic_of, Instant, Event, BufferedStream, Entry, EntryState, is_settled, traffic_through, EndsDrive, is_gone, is_over, Traffic, Socket, EndsTurn, after_event, after_poll, slot_at, told, told_slot, Slots}
+use Rattle.event_loop.proofs.Words.{◌≡◌, ◌≢◌, inl, inr, ℕ, ◌<◌, ◌≤◌, ◌==◌, ◌||◌, Bool, true, false, cond, List, [], ◌∷◌, ◌++◌, map, set, Option, Some, None, option_map, refl, sym, ap, subst, ◌∙◌, arith, and_parts, cases_eq, cases_lt, get_or-set_same, get_or-set_other, Gone, some_same, below, EndAll, EndEach, EndsAt, LeavesAs, LeavesIf, NoneEnded, Lingerers, SocketsTell, traffic_of, Event, BufferedStream, Entry, EntryState, is_settled, traffic_through, EndsDrive, is_gone, is_over, Traffic, Socket, EndsTurn, after_event, after_poll, slot_at, told, told_slot, Slots}
 use Rattle.std.proofs.Math.ListN.{get_or-eq_default}
 use Rattle.std.proofs.lemmas.Grind.{common_steps}
 use Rattle.mio.specs.Event.{event_token, is_priority, is_read_closed}
@@ -98,13 +98,15 @@ module _ {T : Type 0} where
       | false ↦ λ lasts there. without mid there ends.session
     ] refl is
 
-module _ {time : Option Instant} {moment : ℕ} {slots : Slots (BufferedStream Socket)} {old : Lingerers} where
+module _ {moment : ℕ} {slots : Slots (BufferedStream Socket)} {old : Lingerers} where
   -- the entries at the keys that come are as they were, and the drives of the others have ended
-  pub each_rest : {key : ℕ} {new : Slots (BufferedStream Socket)} {later : Lingerers} → EndEach time moment slots old key new later → (other : ℕ) → key ≤ other → slot_at new other ≡ slot_at slots other
+  pub each_rest : {key : ℕ} {new : Slots (BufferedStream Socket)} {later : Lingerers} → EndEach moment slots old key new later → (other : ℕ) → key ≤ other
+      → slot_at new other ≡ slot_at slots other
   each_rest NoneEnded other le = refl
   each_rest (OneMore key between new mid later each at) other le = at.others other (λ same. absurd (omega arith)) ∙ each_rest each other (omega arith)
 
-  each_ended : {key : ℕ} {new : Slots (BufferedStream Socket)} {later : Lingerers} → EndEach time moment slots old key new later → (other : ℕ) → other < key → EndsTurn SocketsTell traffic_of moment (slot_at slots other) (slot_at new other)
+  each_ended : {key : ℕ} {new : Slots (BufferedStream Socket)} {later : Lingerers} → EndEach moment slots old key new later → (other : ℕ) → other < key
+      → EndsTurn SocketsTell traffic_of moment (slot_at slots other) (slot_at new other)
   each_ended NoneEnded other lt = absurd (omega arith)
   each_ended (OneMore key between new mid later each at) other lt = elim (cases_eq other key) [
     | inl same ↦
@@ -113,7 +115,8 @@ module _ {time : Option Instant} {moment : ℕ} {slots : Slots (BufferedStream S
     | inr differs ↦ subst (λ slot. EndsTurn SocketsTell traffic_of moment (slot_at slots other) slot) (sym (at.others other differs)) (each_ended each other (omega arith))
   ]
 
-  pub all_ended : (new : Slots (BufferedStream Socket)) (later : Lingerers) → EndAll time moment slots old new later → (key : ℕ) → EndsTurn SocketsTell traffic_of moment (slot_at slots key) (slot_at new key)
+  pub all_ended : (new : Slots (BufferedStream Socket)) (later : Lingerers) → EndAll moment slots old new later → (key : ℕ)
+      → EndsTurn SocketsTell traffic_of moment (slot_at slots key) (slot_at new key)
   all_ended new later all key = elim (cases_lt key all.keys) [
     | inl lt ↦ each_ended all.each key lt
     | inr le ↦
@@ -123,23 +126,24 @@ module _ {time : Option Instant} {moment : ℕ} {slots : Slots (BufferedStream S
 
 -- ---- what becomes of the connection at a key
 
-module _ (now : Option Instant) (moment key : ℕ) (slots new : Slots (BufferedStream Socket)) (others : (other : ℕ) → other ≢ key → slot_at new other ≡ slot_at slots other) where
+module _ (moment key : ℕ) (slots new : Slots (BufferedStream Socket)) (others : (other : ℕ) → other ≢ key → slot_at new other ≡ slot_at slots other) where
   -- at the slot alone
   Ends : Option (Entry (BufferedStream Socket)) → Lingerers → Lingerers → Type 0
-  Ends slot old later = (ended : EndsTurn SocketsTell traffic_of moment slot (slot_at new key)) × LeavesAs now moment slot (slot_at new key) ended old later
+  Ends slot old later = (ended : EndsTurn SocketsTell traffic_of moment slot (slot_at new key)) × LeavesAs moment slot (slot_at new key) ended old later
 
-  ends : (slot : Option (Entry (BufferedStream Socket))) (old later : Lingerers) → slot_at slots key ≡ slot → Ends slot old later → EndsAt now moment key slots old new later
+  ends : (slot : Option (Entry (BufferedStream Socket))) (old later : Lingerers) → slot_at slots key ≡ slot → Ends slot old later
+      → EndsAt moment key slots old new later
   unfolding Ends
   ends slot old later was here =
       let there = subst (λ slot. Ends slot old later) (sym was) here in
       record { ended = there.0; others = others; leaves = there.1 }
 
-  pub vacant : (old : Lingerers) → slot_at slots key ≡ None → slot_at new key ≡ None → EndsAt now moment key slots old new old
+  pub vacant : (old : Lingerers) → slot_at slots key ≡ None → slot_at new key ≡ None → EndsAt moment key slots old new old
   unfolding Ends
   vacant old was is = ends None old old was (is, refl)
 
   pub there : (old later : Lingerers) (before entry : Entry (BufferedStream Socket)) → slot_at slots key ≡ Some before → EndsDrive SocketsTell traffic_of moment before entry → (over : Bool) → over ≡ is_over entry
-      → slot_at new key ≡ cond over None (Some entry) → LeavesIf now moment over entry.stream.inner old later → EndsAt now moment key slots old new later
+      → slot_at new key ≡ cond over None (Some entry) → LeavesIf over entry.stream.inner old later → EndsAt moment key slots old new later
   unfolding Ends
   there old later before entry was drove over over_is is leaves =
-      ends (Some before) old later was ((entry, drove, is ∙ ap (λ b. cond b None (Some entry)) over_is), subst (λ b. LeavesIf now moment b entry.stream.inner old later) over_is leaves)
+      ends (Some before) old later was ((entry, drove, is ∙ ap (λ b. cond b None (Some entry)) over_is), subst (λ b. LeavesIf b entry.stream.inner old later) over_is leaves)

@@ -1,14 +1,15 @@
 -- One connection that lingers after another.
-use Rattle.event_loop.proofs.Words.{◌≡◌, ◌<◌, ◌+◌, ◌||◌, inl, inr, ℕ, suc, Bool, false, List, [], ◌∷◌, ◌++◌, length, append_assoc, Option, refl, sym, ap, subst, ◌∙◌, arith, AllTurned, FirstTurned, Lingerers, is_all}
+use Rattle.event_loop.proofs.Words.{◌≡◌, ◌<◌, ◌+◌, ◌||◌, inl, inr, ℕ, suc, Bool, false, List, [], ◌∷◌, ◌++◌, length}
+use Rattle.event_loop.proofs.Words.{append_assoc, refl, sym, ap, subst, ◌∙◌, arith, AllTurned, FirstTurned, Lingerers}
+use Rattle.event_loop.proofs.Words.{is_all}
 use Rattle.std.proofs.Common.{append-nil}
 use Rattle.std.proofs.Math.Bool.{or-false, or_assoc}
-use Rattle.std.specs.declared.time.Instant.{Instant}
 use Rattle.event_loop.specs.declared.lingering.Lingerer.{Lingerer}
 
-module _ (now : Option Instant) (moment : ℕ) (reads : Bool) where
+module _ (moment : ℕ) where
   -- with what becomes of those that come, all are turned
   abbrev Turns : List Lingerer → List Lingerer → Bool → List Lingerer → Type 0
-  Turns old kept more others = (rest : List Lingerer) (of_rest : Bool) → AllTurned now moment reads others rest of_rest → AllTurned now moment reads old (kept ++ rest) (more || of_rest)
+  Turns old kept more others = (rest : List Lingerer) (of_rest : Bool) → AllTurned moment others rest of_rest → AllTurned moment old (kept ++ rest) (more || of_rest)
 
   -- the first so many were turned, and those that stay stand behind the others
   pub record TurnedSoFar (refused : ℕ) (old : List Lingerer) (count : ℕ) (new : Lingerers) : Type 0 where
@@ -25,18 +26,19 @@ module _ (now : Option Instant) (moment : ℕ) (reads : Bool) where
     kept = [];
     count_is = omega arith;
     now_are = sym (append-nil old.all);
-    turned = λ rest of_rest turned. subst (λ (b : Bool). AllTurned now moment reads old.all rest (b || of_rest)) (sym none) turned;
+    turned = λ rest of_rest turned. subst (λ (b : Bool). AllTurned moment old.all rest (b || of_rest)) (sym none) turned;
     refused_is = refl;
   }
 
-  pub one_turned : (refused : ℕ) (old : List Lingerer) (mid new : Lingerers) (count : ℕ) → count < length old → TurnedSoFar refused old count mid → FirstTurned now moment reads mid.all mid new → TurnedSoFar refused old (count + 1) new
+  pub one_turned : (refused : ℕ) (old : List Lingerer) (mid new : Lingerers) (count : ℕ) → count < length old → TurnedSoFar refused old count mid
+      → FirstTurned moment mid.all mid new → TurnedSoFar refused old (count + 1) new
   one_turned refused old mid new count some x first = by x.others x.count_is x.now_are x.turned
     where
       by : (others : List Lingerer) → count + length others ≡ length old → mid.all ≡ others ++ x.kept → Turns old x.kept mid.has_more others → TurnedSoFar refused old (count + 1) new
       by [] all are turned = absurd (let none : count + 0 ≡ length old = all in omega arith)
       by (l ∷ others) all are turned =
           let one : count + suc (length others) ≡ length old = all in
-          elim (subst (λ xs. FirstTurned now moment reads xs mid new) are first) [
+          elim (subst (λ xs. FirstTurned moment xs mid new) are first) [
             | inl e ↦ record {
               others = others;
               kept = x.kept;
@@ -56,11 +58,13 @@ module _ (now : Option Instant) (moment : ℕ) (reads : Bool) where
             }
           ]
 
-  pub all_turned : (refused : ℕ) (old : List Lingerer) (new : Lingerers) (count : ℕ) → length old ≡ count → TurnedSoFar refused old count new → AllTurned now moment reads old new.all new.has_more
+  pub all_turned : (refused : ℕ) (old : List Lingerer) (new : Lingerers) (count : ℕ) → length old ≡ count → TurnedSoFar refused old count new
+      → AllTurned moment old new.all new.has_more
   all_turned refused old new count is x = by x.others x.count_is x.now_are x.turned
     where
-      by : (others : List Lingerer) → count + length others ≡ length old → new.all ≡ others ++ x.kept → Turns old x.kept new.has_more others → AllTurned now moment reads old new.all new.has_more
+      by : (others : List Lingerer) → count + length others ≡ length old → new.all ≡ others ++ x.kept → Turns old x.kept new.has_more others
+          → AllTurned moment old new.all new.has_more
       by [] all are turned =
-          subst (λ (xs : List Lingerer). AllTurned now moment reads old xs new.has_more) (append-nil x.kept ∙ sym are)
-          (subst (λ (b : Bool). AllTurned now moment reads old (x.kept ++ []) b) (or-false new.has_more) (turned [] false (refl, refl)))
+          subst (λ (xs : List Lingerer). AllTurned moment old xs new.has_more) (append-nil x.kept ∙ sym are)
+          (subst (λ (b : Bool). AllTurned moment old (x.kept ++ []) b) (or-false new.has_more) (turned [] false (refl, refl)))
       by (l ∷ others) all are turned = absurd (let more : count + suc (length others) ≡ length old = all in omega arith)

@@ -6,7 +6,6 @@ pub use Rattle.std.proofs.lemmas.List.{append-nil, get_or-set_other, get_or-set_
 pub use Rattle.std.proofs.lemmas.List.Elements.{All-drop, All-from_recursion, All-nil, All-weaker, Contains-append_left, Contains-push, recursion_from_All}
 pub use Rattle.std.specs.List.{All, AllByRecursion, Contains, list_any}
 pub use Rattle.std.specs.Map.{lookup, remove_entry, set_value, values_of}
-pub use Rattle.std.specs.declared.time.Instant.{Instant}
 pub use Rattle.mio.specs.Events.{items}
 pub use Rattle.mio.specs.declared.event.event.Event.{Event}
 pub use Rattle.model.proofs.Lookups.{some_same}
@@ -35,7 +34,8 @@ pub use Rattle.stream_driver.specs.declared.entries.EntryState.{EntryState}
 pub use Rattle.stream_driver.specs.declared.entries.EntryState.TheVariants.{Gone, Idle, Ready}
 pub use Rattle.event_loop.specs.Leavings.{EndAll, EndEach, EndsAt, LeavesAs, LeavesIf, LingerOn}
 pub use Rattle.event_loop.specs.Leavings.EndEach.{NoneEnded}
-pub use Rattle.event_loop.specs.Lingerings.{AllTurned, AreTurned, DropsIf, FirstTurned, is_all, Lingerers, lingers_in, unless_failed}
+pub use Rattle.event_loop.specs.Lingerings.{AllTurned, AreTurned, DropsInput, FirstTurned, is_all, Lingerers}
+pub use Rattle.event_loop.specs.Lingerings.{lingers_in, TurnedIf, unless_failed}
 pub use Rattle.event_loop.specs.Numbers.{AreBelow}
 pub use Rattle.event_loop.specs.Sockets.{departure_of, IsNewSocket, session_of, SocketsTell, traffic_of}
 pub use Rattle.event_loop.specs.TableBytes.{ConnectionsSpeak, HasItsBytes, HaveBytes, KeepBytes, SpeaksFor}

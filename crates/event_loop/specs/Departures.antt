@@ -8,7 +8,8 @@ use Rattle.sessions.specs.Lives.{FollowOn, Life, LoseNothing, Served}
 use Rattle.sessions.specs.SessionStreams.{HubState, hub_over, replies_text, run}
 use Rattle.stream_driver.specs.{declared.buffered.BufferedStream.BufferedStream, declared.entries.Entry.Entry, Buffers.traffic_through, Entries.EndsDrive}
 use Rattle.stream_driver.specs.{Sends.IsAnswered, Sends.IsToldBefore, Traffic.Departure, Traffic.IsBeginning, Traffic.Traffic}
-use Rattle.event_loop.specs.{declared.lingering.Dropped.Dropped, declared.lingering.Lingerer.Lingerer, declared.socket.Socket.Socket, Lingerings.DropsIf}
+use Rattle.event_loop.specs.{declared.lingering.Dropped.Dropped, declared.lingering.Lingerer.Lingerer}
+use Rattle.event_loop.specs.{declared.socket.Socket.Socket, Lingerings.DropsInput}
 use Rattle.event_loop.specs.{Sockets.SocketsTell, Sockets.session_of, Sockets.traffic_of, TableBytes.HaveBytes, Tables.slot_at}
 
 -- a number, which is answered to a COMMIT alone, is that of a transaction of this history
@@ -75,10 +76,13 @@ KeepsWhatLeft hub slots lingerers =
 
 -- This holds of each session and of what its connection has moved, as a turn leaves it: of each entry after its drive, whether it stays or is
 -- taken out; of each connection that lingered before the turn; and of each that was turned, whether it stays or is closed.
-pub record HoldsAtEnds (P : ℕ → Traffic → Type 0) (moment : ℕ) (reads : Bool) (driven : List (Option (Entry (BufferedStream Socket)))) (lingered turned : List Lingerer) : Type 0 where
+pub record HoldsAtEnds (P : ℕ → Traffic → Type 0) (moment : ℕ) (driven : List (Option (Entry (BufferedStream Socket))))
+    (lingered turned : List Lingerer) : Type 0 where
   pub entries : (key : ℕ) (was entry : Entry (BufferedStream Socket)) → slot_at driven key ≡ Some was → EndsDrive SocketsTell traffic_of moment was entry → P entry.session (traffic_of entry.stream.inner)
   pub linger : AllByRecursion (λ l. P (session_of l.socket) (traffic_of l.socket)) lingered
-  pub ends : AllByRecursion (λ l. (dropped : Dropped) (later : Lingerer) → DropsIf moment reads l dropped later → P (session_of l.socket) (traffic_of later.socket)) turned
+  pub ends :
+      AllByRecursion (λ l. (dropped : Dropped) (later : Lingerer) → DropsInput moment l dropped later
+      → P (session_of l.socket) (traffic_of later.socket)) turned
 
 -- each departure is kept
 abbrev pub AreKept : {D : Type 0} {g : Ghosts D} {hub : Hub D g} → Served hub → ℕ → Traffic → Type 0

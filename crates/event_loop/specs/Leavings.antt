@@ -1,15 +1,14 @@
 -- What a turn makes of the connections of those that left, and of those that linger.
 use Rattle.std.specs.Prelude.{◌≡◌, ◌≢◌, ℕ, ◌+◌, ◌≤◌, Bool, true, false, List, length, Option, Some, None}
-use Rattle.std.specs.declared.time.Instant.{Instant}
 use Rattle.stream_driver.specs.{declared.buffered.BufferedStream.BufferedStream, declared.entries.Entry.Entry, Entries.is_over}
 use Rattle.event_loop.specs.{declared.socket.Socket.Socket, Lingerings.AreTurned, Lingerings.Leaves, Lingerings.Lingerers, Sockets.SocketsTell, Sockets.traffic_of}
 use Rattle.event_loop.specs.Tables.{EndsTurn, slot_at}
 
-module _ (now : Option Instant) (moment : ℕ) where
-  abbrev pub LeavesIf : Bool → Socket → Lingerers → Lingerers → Type 0
-  LeavesIf false socket old new = new ≡ old
-  LeavesIf true socket old new = Leaves now socket old new
+abbrev pub LeavesIf : Bool → Socket → Lingerers → Lingerers → Type 0
+LeavesIf false socket old new = new ≡ old
+LeavesIf true socket old new = Leaves socket old new
 
+module _ (moment : ℕ) where
   -- the connection of an entry that was taken out lingers or is closed
   abbrev pub LeavesAs : (slot new : Option (Entry (BufferedStream Socket))) → EndsTurn SocketsTell traffic_of moment slot new → Lingerers → Lingerers → Type 0
   LeavesAs None new ended old later = later ≡ old
@@ -37,4 +36,4 @@ module _ (now : Option Instant) (moment : ℕ) where
   pub record LingerOn (is_told : Bool) (slots : List (Option (Entry (BufferedStream Socket)))) (old : Lingerers) (new : List (Option (Entry (BufferedStream Socket)))) (later : Lingerers) : Type 0 where
     pub begun : Lingerers
     pub left : EndAll slots old new begun
-    pub turned : AreTurned now moment is_told begun later
+    pub turned : AreTurned moment is_told begun later

@@ -1,12 +1,11 @@
 -- The connections that linger.
-use Rattle.std.specs.Prelude.{◌≡◌, ◌⊎◌, ℕ, ◌+◌, ◌*◌, ◌<◌, ◌-◌, ◌||◌, min, length, List, [], ◌∷◌, ◌++◌, Bool, true, false, Option, Some, None}
-use Rattle.std.specs.{Time.FitsClock, Time.instant_nanos, declared.time.Instant.Instant}
+use Rattle.std.specs.Prelude.{◌≡◌, ◌⊎◌, ℕ, ◌<◌, ◌||◌, min, length, List, [], ◌∷◌, ◌++◌, Bool, true, false}
 use Rattle.stream_driver.specs.Traffic.{DepartAt, Traffic, one_more}
 use Rattle.event_loop.specs.{declared.connections.Backlog.Backlog, declared.lingering.Dropped.Dropped, declared.lingering.Lingerer.Lingerer}
 use Rattle.event_loop.specs.declared.connections.Backlog.TheVariants.{Empty, More, Failed}
 use Rattle.event_loop.specs.declared.lingering.Dropped.TheVariants.{Blocked, All, Over}
 use Rattle.event_loop.specs.{declared.lingering.Lingering.Lingering, declared.socket.Socket.Socket, Sockets.SocketsTell, Sockets.traffic_of}
-use Rattle.event_loop.specs.declared.lingering.TheConstants.{LINGERING_MAX, LINGERING_BYTES, LINGERING_BYTES_A_TURN, LINGERING_SECONDS}
+use Rattle.event_loop.specs.declared.lingering.TheConstants.{LINGERING_MAX, LINGERING_BYTES, LINGERING_BYTES_A_TURN}
 use Rattle.event_loop.specs.Drops.{GivesAtMost, WhyDropped, left_after, newest}
 
 -- those that linger, oldest first; whether there may be input of which no poll will tell; and how often the system refused to let one linger
@@ -26,38 +25,20 @@ pub record IsInOrder (t : Traffic) : Type 0 where
   pub written : t.write_failed ≡ 0
   pub going : t.read_ended ≡ 0
 
--- until when one lingers that begins at this time, in nanoseconds
-abbrev pub lasts_until : Instant → ℕ
-lasts_until now = instant_nanos now + LINGERING_SECONDS * 1_000_000_000
+-- with one more, of which there may be input
+abbrev pub with_one_more : Socket → Lingerers → Lingerers
+with_one_more socket old =
+    record old { all = newest LINGERING_MAX old.all (record { socket = socket; left = LINGERING_BYTES }); has_more = true }
 
--- it is in order, and the clock goes as far as it would linger
-abbrev pub MayBegin : Option Instant → Socket → Type 0
-MayBegin None socket = ⊥
-MayBegin (Some now) socket = IsInOrder (traffic_of socket) × FitsClock (lasts_until now)
-
--- a connection that begins to linger at this time: how much may be dropped of it, and until when
-pub record BeginsAt (now : Instant) (socket : Socket) (lingerer : Lingerer) : Type 0 where
-  pub socket_is : lingerer.socket ≡ socket
-  pub bytes : lingerer.left ≡ LINGERING_BYTES
-  pub time : instant_nanos lingerer.until ≡ lasts_until now
-
--- with one more that begins at this time, and of which there may be input; or the system refused it
-abbrev pub Begins : Option Instant → Socket → Lingerers → Lingerers → Type 0
-Begins None socket old new = ⊥
-Begins (Some now) socket old new =
-    (new ≡ record old { refused = one_more old.refused })
-    ⊎ ((lingerer : Lingerer) × BeginsAt now socket lingerer × (new ≡ record old { all = newest LINGERING_MAX old.all lingerer; has_more = true }))
-
--- A connection whose session has left lingers, if it may and the system doesn't refuse, and else is closed.
-abbrev pub Leaves : Option Instant → Socket → Lingerers → Lingerers → Type 0
-Leaves now socket old new = ((MayBegin now socket → ⊥) × (new ≡ old)) ⊎ (MayBegin now socket × Begins now socket old new)
+-- A connection whose session has left lingers, if it is in order and the system doesn't refuse, which is counted, and
+-- else is closed.
+abbrev pub Leaves : Socket → Lingerers → Lingerers → Type 0
+Leaves socket old new =
+    ((IsInOrder (traffic_of socket) → ⊥) × (new ≡ old))
+    ⊎ (IsInOrder (traffic_of socket)
+    × ((new ≡ record old { refused = one_more old.refused }) ⊎ (new ≡ with_one_more socket old)))
 
 -- ---- what a turn makes of them
-
--- bytes may still be dropped of it, and its time isn't over
-abbrev pub MayLinger : Option Instant → Lingerer → Type 0
-MayLinger None lingerer = ⊥
-MayLinger (Some now) lingerer = (0 < lingerer.left) × (instant_nanos now < instant_nanos lingerer.until)
 
 -- the most that one turn drops of it
 abbrev pub most_of : Lingerer → ℕ
@@ -71,12 +52,6 @@ pub record DropsInput (moment : ℕ) (old : Lingerer) (dropped : Dropped) (new :
   pub connection : (traffic_of new.socket).connection ≡ (traffic_of old.socket).connection
   pub why : WhyDropped dropped (most_of old) (traffic_of old.socket) (traffic_of new.socket)
   pub left : new.left ≡ left_after dropped (most_of old) old.left
-  pub until : new.until ≡ old.until
-
--- where it is to be read
-abbrev pub DropsIf : ℕ → Bool → Lingerer → Dropped → Lingerer → Type 0
-DropsIf moment true old dropped new = DropsInput moment old dropped new
-DropsIf moment false old dropped new = (new ≡ old) × (dropped ≡ Blocked 0)
 
 -- as much was dropped as was asked for, and there may be more
 abbrev pub is_all : Dropped → Bool
@@ -84,14 +59,14 @@ is_all (Blocked n) = false
 is_all All = true
 is_all Over = false
 
-module _ (now : Option Instant) (moment : ℕ) (reads : Bool) where
-  -- it came to an end of its bytes or of its time, or its peer ended
+module _ (moment : ℕ) where
+  -- its peer ended, a call of it failed, or as much was dropped of it as may be
   abbrev pub Ends : Lingerer → Type 0
-  Ends old = (dropped : Dropped) × (new : Lingerer) × DropsIf moment reads old dropped new × (MayLinger now new → ⊥)
+  Ends old = (dropped : Dropped) × (new : Lingerer) × DropsInput moment old dropped new × (new.left ≡ 0)
 
-  -- it lingers on, within its bounds
+  -- it lingers on, and more may be dropped of it
   abbrev pub Stays : Lingerer → Dropped → Lingerer → Type 0
-  Stays old dropped new = DropsIf moment reads old dropped new × MayLinger now new
+  Stays old dropped new = DropsInput moment old dropped new × (0 < new.left)
 
   -- the first of them ends, or stays and becomes the last
   abbrev pub FirstTurned : List Lingerer → Lingerers → Lingerers → Type 0
@@ -109,12 +84,16 @@ module _ (now : Option Instant) (moment : ℕ) (reads : Bool) where
       ⊎ ((dropped : Dropped) × (later : Lingerer) × (rest : List Lingerer) × (of_rest : Bool)
       × Stays first dropped later × AllTurned others rest of_rest × (new ≡ later ∷ rest) × (more ≡ (is_all dropped || of_rest)))
 
--- they are read where the poll told of them, or there may be input of which it won't tell
-pub record AreTurned (now : Option Instant) (moment : ℕ) (is_told : Bool) (old new : Lingerers) : Type 0 where
-  pub turned : AllTurned now moment (is_told || old.has_more) old.all new.all new.has_more
-  pub refused : new.refused ≡ old.refused
+  -- all of them, where they are to be read
+  abbrev pub TurnedIf : Bool → Lingerers → Lingerers → Type 0
+  TurnedIf false old new = new ≡ old
+  TurnedIf true old new = AllTurned old.all new.all new.has_more × (new.refused ≡ old.refused)
 
--- ---- how long they linger
+  -- they are read where the poll told of them, or there may be input of which it won't tell
+  abbrev pub AreTurned : Bool → Lingerers → Lingerers → Type 0
+  AreTurned is_told old new = TurnedIf (is_told || old.has_more) old new
+
+-- ---- where an accept failed
 
 abbrev pub closed : Lingerers → Lingerers
 closed old = record old { all = []; has_more = false }
@@ -124,10 +103,3 @@ abbrev pub unless_failed : Backlog → Lingerers → Lingerers
 unless_failed Empty old = old
 unless_failed More old = old
 unless_failed Failed old = closed old
-
--- how long a poll may wait for those that linger, the oldest first, in nanoseconds: until its time is over
-abbrev pub oldest_waits : Bool → Option Instant → List Lingerer → Option ℕ
-oldest_waits has_more now [] = None
-oldest_waits true now (oldest ∷ others) = Some 0
-oldest_waits false None (oldest ∷ others) = Some 0
-oldest_waits false (Some now) (oldest ∷ others) = Some (instant_nanos oldest.until - instant_nanos now)

@@ -17,17 +17,3 @@ polls_of poller = record { told = poller.told; failed = poller.failed; fault = p
 abbrev pub after_wait : {A : Type 0} → Result A Error → Polls → Polls
 after_wait (Ok told) polls = record polls { told = one_more polls.told; fault = None }
 after_wait (Err fault) polls = record polls { failed = one_more polls.failed; fault = Some (error_kind fault) }
-
--- the clock was read once more
-abbrev pub Looked : Poller → Poller → Type 0
-Looked old new = new ≡ record old { readings = one_more old.readings; time = new.time }
-
--- the clock was not read
-pub record NothingRead (old new : Poller) : Type 0 where
-  pub readings : new.readings ≡ old.readings
-  pub time : new.time ≡ old.time
-
--- the clock was read again after a poll that told; after one that failed nothing more was done
-abbrev pub ReadAgain : {A E : Type 0} → Result A E → Poller → Poller → Type 0
-ReadAgain (Ok told) polled new = Looked polled new
-ReadAgain (Err fault) polled new = new ≡ polled

@@ -1,16 +1,17 @@
 -- What one turn of the loop does to its hub and its table.
 use Rattle.std.specs.Prelude.{◌≡◌, ◌==◌, ◌||◌, ℕ, ◌+◌, ◌≤◌, Bool, true, false, List, [], Option, Result}
-use Rattle.std.specs.{declared.io.Error.Error, declared.time.Duration.Duration, declared.time.Instant.Instant, List.list_any}
+use Rattle.std.specs.{declared.io.Error.Error, declared.time.Duration.Duration, List.list_any}
 use Rattle.mio.specs.{declared.token.Token.Token, Event.event_token, declared.event.event.Event.Event, Events.items, Events.capacity as events_capacity}
 use Rattle.sector.specs.declared.device.Sectors.{Ghosts}
 use Rattle.sessions.specs.{declared.hub.Hub.Hub, Laws.GivesBack, Laws.HasRun, Lives.Served, SessionStreams.HubEvent, SessionStreams.Choice, StandsFor.device}
 use Rattle.stream_driver.specs.{declared.buffered.BufferedStream.BufferedStream, declared.entries.Entry.Entry, Buffers.traffic_through, Entries.DrivenAll}
 use Rattle.stream_driver.specs.{Sessions.Adds, Sessions.Leads, Sessions.Point, Traffic.Traffic, Sends.DrivesTelling}
 use Rattle.event_loop.specs.{declared.server.EventLoop.EventLoop, declared.server.TheConstants.LISTENER, declared.socket.Socket.Socket, declared.listener.Port.Port}
-use Rattle.event_loop.specs.{declared.connections.Backlog.Backlog, declared.connections.TheConstants.LINGERER, declared.polling.Poller.Poller, Accepts.Accepts}
+use Rattle.event_loop.specs.{declared.connections.Backlog.Backlog, declared.connections.TheConstants.LINGERER}
+use Rattle.event_loop.specs.{Accepts.Accepts}
 use Rattle.event_loop.specs.declared.connections.Backlog.TheVariants.{Empty, More, Failed}
-use Rattle.event_loop.specs.{Leavings.EndAll, Leavings.LingerOn, Lingerings.lingers_in, Lingerings.oldest_waits, Lingerings.unless_failed}
-use Rattle.event_loop.specs.Polls.{Looked, NothingRead, ReadAgain, after_wait, polls_of}
+use Rattle.event_loop.specs.{Leavings.EndAll, Leavings.LingerOn, Lingerings.lingers_in, Lingerings.unless_failed}
+use Rattle.event_loop.specs.Polls.{after_wait, polls_of}
 use Rattle.event_loop.specs.{Waits.nanos_of, Waits.own_limit, Waits.shorter, Departures.AreKept, Departures.HoldsAtEnds}
 use Rattle.event_loop.specs.Sockets.{IsNewSocket, SocketsTell, traffic_of}
 use Rattle.event_loop.specs.Tables.{AcceptsInto, EndsTurn, after_poll, is_any_ready, joins_of, slot_at}
@@ -63,10 +64,12 @@ accepted_joins true old new accepted = joins_of accepted.became.0
 accepted_joins false old new untouched = []
 
 -- the sessions that are ready were driven, by the events of the last poll, and the drives ended
-abbrev pub DrivesAndEnds : {D : Type 0} {g : Ghosts D} → Type 0 → (Socket → Traffic) → Option Instant → EventLoop D g → EventLoop D g → Type 0
-DrivesAndEnds {D} {g} tells traffic now old new =
+abbrev pub DrivesAndEnds :
+    {D : Type 0} {g : Ghosts D} → Type 0 → (Socket → Traffic) → EventLoop D g → EventLoop D g → Type 0
+DrivesAndEnds {D} {g} tells traffic old new =
     (drives : DrivesReady tells traffic (items old.poller.events) old.hub old.table.slots new.hub new.table.slots)
-    × EndAll now (g.moment (device new.hub)) drives.driven (lingers_in old.lingering) new.table.slots (lingers_in new.lingering)
+    × EndAll (g.moment (device new.hub)) drives.driven (lingers_in old.lingering) new.table.slots
+    (lingers_in new.lingering)
 
 -- the poll told of this token
 abbrev pub is_told_of : Token → List Event → Bool
@@ -80,8 +83,8 @@ accepts_now Failed events = true
 
 -- One turn: the drives, by the events that the poll told of, then the accepts, and then a step of what no open transaction needs is given
 -- back. The events of these drives, followed by the joins of these accepts, are one run of the hub: lawful at each moment, with the
--- device's failures counted, and what a crash leaves known. After the drives it turned those that linger, by the time that the clock told
--- after the poll; they were closed where an accept failed.
+-- device's failures counted, and what a crash leaves known. After the drives it turned those that linger; they were
+-- closed where an accept failed.
 pub record IsTurn {D : Type 0} {g : Ghosts D} (tells : Type 0) (traffic : Socket → Traffic) (old new : EventLoop D g) : Type 0 where
   pub driven : EventLoop D g
   pub drives : DrivesReady tells traffic (items new.poller.events) old.hub old.table.slots driven.hub driven.table.slots
@@ -89,7 +92,9 @@ pub record IsTurn {D : Type 0} {g : Ghosts D} (tells : Type 0) (traffic : Socket
   pub port_is : driven.port ≡ old.port
   pub backlog_is : driven.backlog ≡ old.backlog
   pub refused_is : driven.refused ≡ old.refused
-  pub linger : LingerOn new.poller.time (g.moment (device driven.hub)) (is_told_of LINGERER (items new.poller.events)) drives.driven (lingers_in old.lingering) driven.table.slots (lingers_in driven.lingering)
+  pub linger :
+      LingerOn (g.moment (device driven.hub)) (is_told_of LINGERER (items new.poller.events)) drives.driven
+      (lingers_in old.lingering) driven.table.slots (lingers_in driven.lingering)
   pub accepted : EventLoop D g
   pub accepts : Accepted (accepts_now old.backlog (items new.poller.events)) driven accepted
   pub lingerers_are : lingers_in accepted.lingering ≡ unless_failed accepted.backlog (lingers_in driven.lingering)
@@ -102,7 +107,8 @@ pub record IsTurn {D : Type 0} {g : Ghosts D} (tells : Type 0) (traffic : Socket
 abbrev pub KeepsWhatLeaves : {D : Type 0} {g : Ghosts D} (old new : EventLoop D g) → IsTurn SocketsTell traffic_of old new → Type 0
 KeepsWhatLeaves {D} {g} old new turn =
     ∥ ((served : Served new.hub)
-    × HoldsAtEnds (AreKept served) (g.moment (device turn.driven.hub)) (is_told_of LINGERER (items new.poller.events) || turn.linger.begun.has_more) turn.drives.driven old.lingering.queue.items turn.linger.begun.all) ∥₁
+    × HoldsAtEnds (AreKept served) (g.moment (device turn.driven.hub)) turn.drives.driven old.lingering.queue.items
+    turn.linger.begun.all) ∥₁
 
 -- so it is of whatever turn this was
 abbrev pub LeavingsAreKept : {D : Type 0} {g : Ghosts D} → EventLoop D g → EventLoop D g → Type 0
@@ -112,20 +118,18 @@ LeavingsAreKept old new = (turn : IsTurn SocketsTell traffic_of old new) → Soc
 abbrev pub TurnsAreRuns : {D : Type 0} {g : Ghosts D} → Type 0 → (Socket → Traffic) → EventLoop D g → Type 0
 TurnsAreRuns {D} {g} tells traffic events = (old new : EventLoop D g) → IsTurn tells traffic old new → HasRun old.hub new.hub
 
--- How long a turn may wait, in nanoseconds, where the clock says this: the shortest of what the loop knows of work, as of sessions that are
--- ready or of what is due, of what the oldest that lingers has left, and of the caller's timeout.
-abbrev pub turn_waits : {D : Type 0} {g : Ghosts D} → EventLoop D g → Option Instant → Option Duration → Option ℕ
-turn_waits events now timeout =
-    shorter (own_limit events.backlog (events.due || is_any_ready events.table)) (shorter (oldest_waits events.lingering.has_more now events.lingering.queue.items) (nanos_of timeout))
+-- does the loop know of work: of a step that is due, of input to drop, of a session that is ready?
+abbrev pub has_work : {D : Type 0} {g : Ghosts D} → EventLoop D g → Bool
+has_work events = events.due || events.lingering.has_more || is_any_ready events.table
 
--- A turn reads the clock, polls so long, and reads the clock again where that told. There is room for an event of each session, of each
--- connection that lingers, and of the listener.
-pub record Waits {D A : Type 0} {g : Ghosts D} (timeout : Option Duration) (old : EventLoop D g) (result : Result A Error) (new : EventLoop D g) : Type 0 where
-  pub before : Poller
-  pub looked : Looked old.poller before
-  pub polled : Poller
-  pub told : polls_of polled ≡ after_wait result (polls_of before)
-  pub waited : nanos_of polled.waited ≡ turn_waits old before.time timeout
-  pub unread : NothingRead before polled
-  pub again : ReadAgain result polled new.poller
+-- how long a turn waits, in nanoseconds: no longer than the caller's timeout, nor than the loop itself may
+abbrev pub turn_waits : {D : Type 0} {g : Ghosts D} → EventLoop D g → Option Duration → Option ℕ
+turn_waits events timeout = shorter (own_limit events.backlog (has_work events)) (nanos_of timeout)
+
+-- A turn polls once, so long. There is room for an event of each session, of each connection that lingers, and of the
+-- listener.
+pub record Waits {D A : Type 0} {g : Ghosts D} (timeout : Option Duration) (old : EventLoop D g) (result : Result A Error)
+    (new : EventLoop D g) : Type 0 where
+  pub told : polls_of new.poller ≡ after_wait result (polls_of old.poller)
+  pub waited : nanos_of new.poller.waited ≡ turn_waits old timeout
   pub room : 128 + 64 + 1 ≤ events_capacity new.poller.events

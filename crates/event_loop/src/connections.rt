@@ -20,7 +20,6 @@ use sector::Sectors;
 use sessions::{Event, Hub, Outcome, SESSIONS_MAX};
 use slab::Slab;
 use std::alloc::Global;
-use std::time::Instant;
 use stream_driver::{BufferedStream, Entry, EntryState, Stream, end_drive};
 
 /// The token of the connections that linger, which no key of the table is.
@@ -92,12 +91,11 @@ pub(crate) fn make_polled_ready(events: &Events, table: &mut Slab<Entry<Buffered
 fn end_drive_at<D: Sectors>(
     device: &D,
     poll: &Poll,
-    now: Option<Instant>,
     key: usize,
     table: &mut Slab<Entry<BufferedStream<Socket>>>,
     lingering: &mut Lingering,
 )
-    ensures { EndsAt now (D.moment device.now) key table.old.slots (lingers_in lingering.old) table.new.slots (lingers_in lingering.new) }
+    ensures { EndsAt (D.moment device.now) key table.old.slots (lingers_in lingering.old) table.new.slots (lingers_in lingering.new) }
 {
     let Some(entry) = table.get_mut(key) else {
         return;
@@ -106,7 +104,7 @@ fn end_drive_at<D: Sectors>(
         return;
     }
     if let Some(entry) = table.try_remove(key) {
-        lingering.begin(poll, entry.stream.into_inner(), now, LINGERER);
+        lingering.begin(poll, entry.stream.into_inner(), LINGERER);
     }
 }
 
@@ -115,15 +113,14 @@ fn end_drive_at<D: Sectors>(
 pub(crate) fn end_drives<D: Sectors>(
     device: &D,
     poll: &Poll,
-    now: Option<Instant>,
     table: &mut Slab<Entry<BufferedStream<Socket>>>,
     lingering: &mut Lingering,
 )
     ensures ended { EachEnds SocketsTell traffic_of (D.moment device.now) table.old.slots table.new.slots }
-    ensures left { EndAll now (D.moment device.now) table.old.slots (lingers_in lingering.old) table.new.slots (lingers_in lingering.new) }
+    ensures left { EndAll (D.moment device.now) table.old.slots (lingers_in lingering.old) table.new.slots (lingers_in lingering.new) }
 {
     for key in 0..table.capacity() {
-        end_drive_at(device, poll, now, key, table, lingering);
+        end_drive_at(device, poll, key, table, lingering);
     }
 }
 

@@ -14,9 +14,7 @@ mod socket;
 mod waiting;
 
 pub use connections::{Backlog, accept_some};
-pub use lingering::{
-    Dropped, LINGERING_BYTES, LINGERING_BYTES_A_TURN, LINGERING_MAX, LINGERING_SECONDS, drop_input,
-};
+pub use lingering::{Dropped, LINGERING_BYTES, LINGERING_BYTES_A_TURN, LINGERING_MAX, drop_input};
 pub use listener::{AcceptAnswer, Listener, Port};
 pub use server::EventLoop;
 pub use socket::Socket;

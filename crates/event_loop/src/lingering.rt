@@ -2,7 +2,7 @@
 //!
 //! The system resets a connection that is closed while input is unread, and then replies that are under way are lost. So a connection
 //! that ended in good order is shut down for writing, and what still comes in is read and dropped until the peer ends, within bounds
-//! of number, bytes and time.
+//! of number and bytes.
 ghost use Rattle.std.specs.Prelude.{◌≡◌, ◌≤◌, length};
 ghost use Rattle.std.specs.VecDeque.{deque_len, deque_capacity};
 ghost use Rattle.event_loop.specs.declared.lingering.TheConstants.{LINGERING_MAX};
@@ -14,7 +14,6 @@ use mio::{Poll, Token};
 use sector::Sectors;
 use std::alloc::{AllocError, Global};
 use std::collections::VecDeque;
-use std::time::{Duration, Instant};
 use stream_driver::{ReadAnswer, Stream};
 
 /// The most connections that linger. Where one more comes, the one that has lingered longest is closed.
@@ -22,9 +21,6 @@ pub const LINGERING_MAX: usize = 64;
 
 /// The most bytes that are dropped of one connection.
 pub const LINGERING_BYTES: usize = 67_108_864;
-
-/// For how many seconds a connection lingers at the most.
-pub const LINGERING_SECONDS: u64 = 10;
 
 /// The most bytes that one turn drops of one connection.
 pub const LINGERING_BYTES_A_TURN: usize = 65_536;
@@ -75,28 +71,15 @@ pub fn drop_input<D: Sectors, S: Stream>(device: &D, stream: &mut S, most: usize
     Dropped::All
 }
 
-// A connection that lingers: how many bytes may still be dropped, and until when.
+// A connection that lingers, and how many bytes may still be dropped of it.
 #[derive(Drop)]
 struct Lingerer {
     socket: Socket,
     left: usize,
-    until: Instant,
 }
 
 impl Lingerer {
-    ghost use Rattle.std.specs.Prelude.{true, false};
-    ghost use Rattle.event_loop.specs.Lingerings.{DropsIf, DropsInput, MayLinger};
-
-    // Drops what came in, where it is to be read.
-    fn turn<D: Sectors>(&mut self, device: &D, reads: bool) -> Dropped
-        ensures { DropsIf (D.moment device.now) reads self.old result self.new }
-    {
-        if reads {
-            self.drop_some(device)
-        } else {
-            Dropped::Blocked(0)
-        }
-    }
+    ghost use Rattle.event_loop.specs.Lingerings.{DropsInput};
 
     // Drops what came in, as far as one turn goes.
     fn drop_some<D: Sectors>(&mut self, device: &D) -> Dropped
@@ -110,17 +93,6 @@ impl Lingerer {
             Dropped::Over => self.left = 0,
         }
         dropped
-    }
-
-    // Were as many bytes dropped as may be, or is the time over?
-    fn is_over(&self, now: Option<Instant>) -> bool
-        ensures over { result ≡ true → MayLinger now self.now → ⊥ }
-        ensures lasts { result ≡ false → MayLinger now self.now }
-    {
-        match now {
-            Some(now) => self.left == 0 || now.checked_duration_since(self.until).is_some(),
-            None => true,
-        }
     }
 }
 
@@ -138,9 +110,7 @@ pub(crate) struct Lingering {
 
 impl Lingering {
     ghost use Rattle.std.specs.Prelude.{[], IfOk};
-    ghost use Rattle.event_loop.specs.Drops.{newest};
-    ghost use Rattle.event_loop.specs.Lingerings.{AreTurned, FirstTurned, Leaves, closed, lingers_in, oldest_waits};
-    ghost use Rattle.event_loop.specs.Waits.{nanos_of};
+    ghost use Rattle.event_loop.specs.Lingerings.{AreTurned, FirstTurned, Leaves, closed, lingers_in, with_one_more};
 
     /// None lingers. Takes the memory for all.
     pub(crate) fn new(alloc: Global) -> Result<Lingering, AllocError>
@@ -153,32 +123,17 @@ impl Lingering {
         })
     }
 
-    /// How long the next poll may wait: without end where none lingers, not at all where there may be more input or the clock can't be
-    /// read, and else until the oldest has lingered long enough.
-    pub(crate) fn patience(&self, now: Option<Instant>) -> Option<Duration>
-        ensures { nanos_of result ≡ oldest_waits self.now.has_more now self.now.queue.items }
+    /// May there be input that no poll will tell of? Takes no memory.
+    pub(crate) fn has_more(&self) -> bool
+        ensures { result ≡ self.now.has_more }
     {
-        let oldest = self.queue.front()?;
-        match now {
-            Some(now) if !self.has_more => Some(oldest.until.duration_since(now)),
-            _ => Some(Duration::ZERO),
-        }
+        self.has_more
     }
 
-    /// A connection's session has left. It lingers where it ended in good order, and else is closed.
-    pub(crate) fn begin(
-        &mut self,
-        poll: &Poll,
-        mut socket: Socket,
-        now: Option<Instant>,
-        token: Token,
-    )
-        ensures { Leaves now socket (lingers_in self.old) (lingers_in self.new) }
+    /// A connection's session has left. It lingers where it ended in good order, and else is closed. Takes no memory.
+    pub(crate) fn begin(&mut self, poll: &Poll, mut socket: Socket, token: Token)
+        ensures { Leaves socket (lingers_in self.old) (lingers_in self.new) }
     {
-        let lasting = Duration::from_secs(LINGERING_SECONDS);
-        let Some(until) = now.and_then(|now| now.checked_add(lasting)) else {
-            return;
-        };
         if !socket.is_in_order() {
             return;
         }
@@ -186,12 +141,7 @@ impl Lingering {
             self.refused = self.refused.saturating_add(1);
             return;
         }
-        self.has_more = true;
-        self.push(Lingerer {
-            socket,
-            left: LINGERING_BYTES,
-            until,
-        });
+        self.push(socket);
     }
 
     /// Closes all that linger.
@@ -202,36 +152,43 @@ impl Lingering {
         self.has_more = false;
     }
 
-    // One more lingers. Where there are as many as may be, the oldest is closed.
-    fn push(&mut self, lingerer: Lingerer)
-        ensures { lingers_in self.new ≡ record (lingers_in self.old) { all = newest LINGERING_MAX self.old.queue.items lingerer } }
+    // One more lingers, and there may be input of it. Where there are as many as may be, the oldest is closed.
+    fn push(&mut self, socket: Socket)
+        ensures { lingers_in self.new ≡ with_one_more socket (lingers_in self.old) }
     {
         if self.queue.len() >= LINGERING_MAX {
             let _ = self.queue.pop_front();
         }
-        self.queue.push_back_reserved(lingerer);
+        self.queue.push_back_reserved(Lingerer {
+            socket,
+            left: LINGERING_BYTES,
+        });
+        self.has_more = true;
     }
 
-    /// Drops what came in where the poll told of it or there may be more, and closes those that are over.
-    pub(crate) fn turn<D: Sectors>(&mut self, device: &D, is_told: bool, now: Option<Instant>)
-        ensures { AreTurned now (D.moment device.now) is_told (lingers_in self.old) (lingers_in self.new) }
+    /// Drops what came in where the poll told of it or there may be more, and closes those that are over. It goes over all that linger,
+    /// and drops at most `LINGERING_BYTES_A_TURN` of each. Takes no memory.
+    pub(crate) fn turn<D: Sectors>(&mut self, device: &D, is_told: bool)
+        ensures { AreTurned (D.moment device.now) is_told (lingers_in self.old) (lingers_in self.new) }
     {
-        let reads = is_told || self.has_more;
+        if !is_told && !self.has_more {
+            return;
+        }
         self.has_more = false;
         for _ in 0..self.queue.len() {
-            self.turn_first(device, reads, now);
+            self.turn_first(device);
         }
     }
 
-    // The first is closed where it is over, and else becomes the last.
-    fn turn_first<D: Sectors>(&mut self, device: &D, reads: bool, now: Option<Instant>)
-        ensures { FirstTurned now (D.moment device.now) reads self.old.queue.items (lingers_in self.old) (lingers_in self.new) }
+    // Drops what came in of the first. It is closed where its input is over or no more may be dropped, and else becomes the last.
+    fn turn_first<D: Sectors>(&mut self, device: &D)
+        ensures { FirstTurned (D.moment device.now) self.old.queue.items (lingers_in self.old) (lingers_in self.new) }
     {
         let Some(mut lingerer) = self.queue.pop_front() else {
             return;
         };
-        let dropped = lingerer.turn(device, reads);
-        if !lingerer.is_over(now) {
+        let dropped = lingerer.drop_some(device);
+        if lingerer.left > 0 {
             self.has_more = self.has_more || dropped.is_all();
             self.queue.push_back_reserved(lingerer);
         }

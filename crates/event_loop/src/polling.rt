@@ -2,17 +2,17 @@
 ghost use Rattle.std.specs.Prelude.{◌≡◌};
 ghost use Rattle.std.specs.Prelude.{IfOk};
 ghost use Rattle.mio.specs.Events.{capacity as events_capacity};
-ghost use Rattle.event_loop.specs.Polls.{Looked, NothingRead, after_wait, polls_of};
+ghost use Rattle.event_loop.specs.Polls.{after_wait, polls_of};
 
 use mio::{Events, Poll};
 use std::alloc::{AllocError, Global};
 use std::io;
-use std::time::{Clock, Duration, Instant};
+use std::time::Duration;
 
-/// The system's poll, with what it told last, and the clock by which it is used.
+/// The system's poll, with what it told last.
 ///
-/// How often it told, how often it failed and how often the clock was read is counted. A count is a u64: it rises with its answer, and
-/// once it stands at 2^64 - 1 it stays. The kind of the last fault is kept. It leaves open of what it tells, and what the clock says.
+/// How often it told and how often it failed is counted. A count is a u64: it rises with its answer, and once it stands at 2^64 - 1 it
+/// stays. The kind of the last fault is kept. It leaves open of what it tells.
 #[derive(Drop)]
 pub(crate) struct Poller {
     poll: Poll,
@@ -23,10 +23,6 @@ pub(crate) struct Poller {
     fault: Option<io::ErrorKind>,
     /// The wait that it was given last.
     waited: Option<Duration>,
-    /// How often the clock was read.
-    readings: u64,
-    /// What the clock said last, none where it couldn't be read.
-    time: Option<Instant>,
 }
 
 impl Poller {
@@ -41,8 +37,6 @@ impl Poller {
             failed: 0,
             fault: None,
             waited: None,
-            readings: 0,
-            time: None,
         })
     }
 
@@ -58,27 +52,11 @@ impl Poller {
         &self.events
     }
 
-    /// What the clock said last, none where it couldn't be read. Takes no memory.
-    pub(crate) fn time(&self) -> Option<Instant>
-        ensures { result ≡ self.now.time }
-    {
-        self.time
-    }
-
-    /// Reads the clock once. Takes no memory.
-    pub(crate) fn look<C: Clock>(&mut self, clock: &C)
-        ensures { Looked self.old self.new }
-    {
-        self.readings = self.readings.saturating_add(1);
-        self.time = Instant::now(clock).ok();
-    }
-
     /// Polls once: waits until there is an event or the time is up, without end where no time is given. A fault is the system's. Takes no
     /// memory.
     pub(crate) fn wait(&mut self, timeout: Option<Duration>) -> io::Result<()>
         ensures polls { polls_of self.new ≡ after_wait result (polls_of self.old) }
         ensures waited { self.new.waited ≡ timeout }
-        ensures clock { NothingRead self.old self.new }
         ensures room { events_capacity self.new.events ≡ events_capacity self.old.events }
     {
         self.waited = timeout;

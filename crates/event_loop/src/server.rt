@@ -14,7 +14,7 @@ use crate::lingering::{LINGERING_MAX, Lingering};
 use crate::listener::Port;
 use crate::polling::Poller;
 use crate::socket::Socket;
-use crate::waiting::{longest_wait, shorter};
+use crate::waiting::longest_wait;
 use mio::net::TcpListener;
 use mio::{Interest, Poll, Token};
 use sector::Sectors;
@@ -23,7 +23,7 @@ use slab::Slab;
 use std::alloc::Global;
 use std::io;
 use std::net::{Net, SocketAddr};
-use std::time::{Clock, Duration, Instant};
+use std::time::Duration;
 use stream_driver::{BufferedStream, Entry, Stream, drive_ready};
 
 /// The token of the listener, which no key of the table is.
@@ -62,10 +62,10 @@ impl<D: Sectors> EventLoop<D> {
     ghost use Rattle.event_loop.specs.Departures.{KeepsWhatLeft};
     ghost use Rattle.event_loop.specs.Lingerings.{lingers_in, unless_failed};
     ghost use Rattle.event_loop.specs.Loops.{HasItsSessions, hub_of};
-    ghost use Rattle.event_loop.specs.Polls.{after_wait, polls_of};
     ghost use Rattle.event_loop.specs.Sockets.{SocketsTell, traffic_of};
     ghost use Rattle.event_loop.specs.TableBytes.{ConnectionsSpeak, KeepBytes};
-    ghost use Rattle.event_loop.specs.Turns.{Accepted, DrivesAndEnds, IsGivenBack, IsTurn, IsUntouched, LeavingsAreKept, TurnsAreRuns, Waits, accepts_now, is_told_of, turn_waits};
+    ghost use Rattle.event_loop.specs.Turns.{Accepted, DrivesAndEnds, IsGivenBack, IsTurn, IsUntouched, LeavingsAreKept, TurnsAreRuns, Waits};
+    ghost use Rattle.event_loop.specs.Turns.{accepts_now, has_work, is_told_of, turn_waits};
     ghost use Rattle.event_loop.specs.Waits.{nanos_of};
 
     /// Listens at an address for the sessions of a hub that was opened. Port 0 stands for one that the system picks.
@@ -131,15 +131,15 @@ impl<D: Sectors> EventLoop<D> {
     /// session sends anything, until nothing is due.
     ///
     /// It waits for no more than `timeout`, without end where none is given. It doesn't wait at all where a session is still ready, where
-    /// 128 connections were accepted last time, or where the turn before it has left old versions or runs that are due. After an accept
-    /// that fails, the next turn waits for no more than `RETRY_AFTER_MILLIS` and accepts again. A connection beyond 128 sessions, or for
-    /// which memory, registration or an option of the socket is refused, is closed without a byte.
+    /// 128 connections were accepted last time, or where the turn before it has left old versions or runs that are due, or more input to
+    /// drop. After an accept that fails, the next turn waits for no more than `RETRY_AFTER_MILLIS` and accepts again. A connection beyond
+    /// 128 sessions, or for which memory, registration or an option of the socket is refused, is closed without a byte.
     ///
     /// The connection of a session that left is closed once its stream holds nothing, or has failed. Where none of its calls failed and
     /// its peer has not ended, it lingers first: it is shut down for writing, and what comes in is dropped, at most
-    /// `LINGERING_BYTES_A_TURN` a turn, so that the last replies arrive. It is closed where the peer ends, after `LINGERING_BYTES` bytes or
-    /// `LINGERING_SECONDS` seconds, where `LINGERING_MAX` others have come to linger since, or where an accept fails, perhaps because there
-    /// are no more descriptors. While some linger, a turn may wait no longer than the oldest may.
+    /// `LINGERING_BYTES_A_TURN` a turn, so that the last replies arrive. It is closed where the peer ends, after `LINGERING_BYTES` bytes,
+    /// where `LINGERING_MAX` others have come to linger since, or where an accept fails, perhaps because there are no more descriptors. No
+    /// time bounds it: a peer that never ends holds a descriptor until then.
     ///
     /// It polls once, and answers a fault exactly where that failed, of that fault's kind; nothing else was done then. It may grow the
     /// table, and what the sessions' requests grow.
@@ -156,11 +156,10 @@ impl<D: Sectors> EventLoop<D> {
     ///
     /// What left over a connection by the end of its part in the turn is kept as `keeps_what_left` has it, also where the turn took the
     /// connection out or closed it.
-    pub fn turn<C: Clock>(&mut self, clock: &C, timeout: Option<Duration>) -> io::Result<()>
+    pub fn turn(&mut self, timeout: Option<Duration>) -> io::Result<()>
         ensures turned { OnOk result (IsTurn ⟦<Socket as Stream>⟧.tells ⟦<Socket as Stream>⟧.traffic self.old self.new) }
         ensures fault { OnErr result (IsUntouched self.old self.new) }
         ensures bytes { OnOk result (KeepBytes self.old.hub self.old.table.slots self.new.hub self.new.table.slots) }
-        ensures polled { polls_of self.new.poller ≡ after_wait result (polls_of self.old.poller) }
         ensures waits { Waits timeout self.old result self.new }
         ensures sessions { HasItsSessions self.old × HasItsSessions self.new }
         ensures served { IsServed (hub_of self.old) × IsServed (hub_of self.new) }
@@ -168,14 +167,11 @@ impl<D: Sectors> EventLoop<D> {
     {
         self.hub.runs_follow();
         self.hub.loses_nothing();
-        self.poller.look(clock);
         let wait = self.next_wait(timeout);
         self.poller.wait(wait)?;
-        self.poller.look(clock);
-        let now = self.poller.time();
-        self.drive(now);
+        self.drive();
         let comes_more = self.is_told(LINGERER);
-        self.lingering.turn(self.hub.device(), comes_more, now);
+        self.lingering.turn(self.hub.device(), comes_more);
         self.accept_told();
         self.give_back();
         Ok(())
@@ -210,14 +206,16 @@ impl<D: Sectors> EventLoop<D> {
 
     // How long the next poll waits.
     fn next_wait(&self, timeout: Option<Duration>) -> Option<Duration>
-        ensures { nanos_of result ≡ turn_waits self.now self.now.poller.time timeout }
+        ensures { nanos_of result ≡ turn_waits self.now timeout }
     {
-        let patience = self.lingering.patience(self.poller.time());
-        longest_wait(
-            self.backlog,
-            self.due || any_ready(&self.table),
-            shorter(patience, timeout),
-        )
+        longest_wait(self.backlog, self.has_work(), timeout)
+    }
+
+    // Is there work: a step that is due, input to drop, or a session that is ready?
+    fn has_work(&self) -> bool
+        ensures { result ≡ has_work self.now }
+    {
+        self.due || self.lingering.has_more() || any_ready(&self.table)
     }
 
     // Gives back what no open transaction needs, a step of it.
@@ -260,8 +258,8 @@ impl<D: Sectors> EventLoop<D> {
     }
 
     // Drives the sessions that are ready, those that the last poll told of among them.
-    fn drive(&mut self, now: Option<Instant>)
-        ensures drives { DrivesAndEnds ⟦<Socket as Stream>⟧.tells ⟦<Socket as Stream>⟧.traffic now self.old self.new }
+    fn drive(&mut self)
+        ensures drives { DrivesAndEnds ⟦<Socket as Stream>⟧.tells ⟦<Socket as Stream>⟧.traffic self.old self.new }
         ensures poller { self.new.poller ≡ self.old.poller }
         ensures next { self.new.next ≡ self.old.next }
         ensures port { self.new.port ≡ self.old.port }
@@ -274,7 +272,6 @@ impl<D: Sectors> EventLoop<D> {
         end_drives(
             self.hub.device(),
             self.poller.poll(),
-            now,
             &mut self.table,
             &mut self.lingering,
         );

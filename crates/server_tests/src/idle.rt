@@ -53,10 +53,7 @@ fn steps_finish(rt: HostRuntime) {
 }
 
 /// A reader keeps old versions of 90 keys, which are written in as many commits, and ends.
-fn read_and_write<R: Net + Clock + Abort + AllocGlobal>(
-    rt: &R,
-    events: &mut EventLoop<MemSectors>,
-) {
+fn read_and_write<R: Net + Abort + AllocGlobal>(rt: &R, events: &mut EventLoop<MemSectors>) {
     let mut reader = client(rt, events);
     let mut writer = client(rt, events);
     for n in 0..180usize {
@@ -89,7 +86,7 @@ fn turn_takes<R: Clock + Abort>(
     wait: Duration,
 ) -> Duration {
     let before = Instant::now(rt).expect(rt, "a clock");
-    events.turn(rt, Some(wait)).expect(rt, "a turn");
+    events.turn(Some(wait)).expect(rt, "a turn");
     let after = Instant::now(rt).expect(rt, "a clock");
     after.duration_since(before)
 }

@@ -11,7 +11,7 @@ use std::rt::Files;
 use std::time::{Clock, Duration};
 
 /// Sends a request, and runs turns until a reply of this length is there or the turns are over. Is it this reply?
-pub(crate) fn asks<D: Sectors, R: Clock + Abort, S: Read + Write>(
+pub(crate) fn asks<D: Sectors, R: Abort, S: Read + Write>(
     rt: &R,
     events: &mut EventLoop<D>,
     client: &mut S,
@@ -22,7 +22,7 @@ pub(crate) fn asks<D: Sectors, R: Clock + Abort, S: Read + Write>(
     let mut got = [0u8; 64];
     let mut len = 0usize;
     for _ in 0..200u32 {
-        let turned = events.turn(rt, Some(Duration::from_millis(10)));
+        let turned = events.turn(Some(Duration::from_millis(10)));
         turned.expect(rt, "a turn");
         if len < 64
             && let Ok(n) = client.read(&mut got[len..])

@@ -2,4 +2,5 @@ use Rattle.event_loop.proofs.Words.{EndEach, lingers_in}
 use Rattle.event_loop.proofs.connections.end_drives.Given as goal
 
 abbrev pub invariant-loop-key : goal.invariant-loop-key
-invariant-loop-key g l = EndEach l.now (g.D.Sectors.moment l.device) l.initial.table.slots (lingers_in l.initial.lingering) l.key l.table.slots (lingers_in l.lingering)
+invariant-loop-key g l =
+    EndEach (g.D.Sectors.moment l.device) l.initial.table.slots (lingers_in l.initial.lingering) l.key l.table.slots (lingers_in l.lingering)

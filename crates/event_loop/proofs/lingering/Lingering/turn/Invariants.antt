@@ -3,4 +3,4 @@ use Rattle.event_loop.proofs.Turned.{TurnedSoFar}
 use Rattle.event_loop.proofs.lingering.Lingering.turn.Given as goal
 
 abbrev pub invariant-loop : goal.invariant-loop
-invariant-loop g l = TurnedSoFar l.now (g.D.Sectors.moment l.device) l.reads l.initial.self.refused l.initial.self.queue.items l.counter (lingers_in l.self)
+invariant-loop g l = TurnedSoFar (g.D.Sectors.moment l.device) l.initial.self.refused l.initial.self.queue.items l.counter (lingers_in l.self)

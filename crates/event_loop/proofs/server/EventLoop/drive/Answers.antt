@@ -21,7 +21,7 @@ invariant_of-self g c =
       room = old.room;
       stands = stands_after old.stands c.drive_ready.ensures.driven.leads;
       serving = drives_serve old.hub later old.table.slots new events (record { ready = ready; told = polled; driven = driven; drives = c.drive_ready.ensures.driven; ended = rw c.device.ensures at ended })
-          old.sessions c.args.now _ _ (rw c.device.ensures at c.end_drives.ensures.left) old.serving;
+          old.sessions _ _ (rw c.device.ensures at c.end_drives.ensures.left) old.serving;
       sessions = remain_sessions later driven new (ended_remain driven new ghosts.tells ghosts.traffic _ ended) c.drive_ready.ensures.sessions;
       entries = ended_entries driven new ghosts.tells ghosts.traffic _ ended later
           (driven_entries old.hub later _ _ ready driven old.stands c.drive_ready.ensures.driven.leads (polled_entries old.table.slots ready events polled old.hub old.entries));

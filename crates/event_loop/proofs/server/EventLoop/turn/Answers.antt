@@ -1,13 +1,13 @@
-use Rattle.event_loop.proofs.Words.{◌≡◌, ◌∙◌, Err, refl, sym, ap, items, LINGERER, lingers_in, accepts_now, is_told_of}
+use Rattle.event_loop.proofs.Words.{◌≡◌, ◌∙◌, sym, ap, items, LINGERER, lingers_in, accepts_now, is_told_of}
 use Rattle.std.proofs.lemmas.Result.{err_from_is_err_and}
-use Rattle.event_loop.specs.{declared.polling.Poller.Poller, contracts.socket.SocketStream.TheImpl.ghosts, Waits.nanos_of}
-use Rattle.event_loop.proofs.{Departing.is_served, Departing.turns_serve, Departing.keeps_what_leaves, OneTurn.turned_by, OneTurn.wait_failed, OneTurn.wait_told}
+use Rattle.event_loop.specs.{declared.polling.Poller.Poller, contracts.socket.SocketStream.TheImpl.ghosts, Polls.polls_of, Waits.nanos_of}
+use Rattle.event_loop.proofs.{Departing.is_served, Departing.turns_serve, Departing.keeps_what_leaves, OneTurn.turned_by}
 use Rattle.event_loop.proofs.WholeTurns.{accepts_keep, rest_keeps, rest_leads, then_accepts}
 use Rattle.event_loop.proofs.server.EventLoop.turn.Goals as goal
 
 pub invariant_of-self-4-clause-serving : goal.invariant_of-self-4-clause-serving
 invariant_of-self-4-clause-serving g c =
-    turns_serve c.drive.new.self.hub c.drive.new.self.table.slots (g.D.Sectors.moment c.device.result.now) (ap (λ d. g.D.Sectors.moment d) c.device.ensures) c.time-now.result c.is_told-comes_more.result
+    turns_serve c.drive.new.self.hub c.drive.new.self.table.slots (g.D.Sectors.moment c.device.result.now) (ap (λ d. g.D.Sectors.moment d) c.device.ensures) c.is_told-comes_more.result
     (lingers_in c.drive.new.self.lingering) (lingers_in c.turn.new.self) c.turn.ensures c.drive.new.self.serving
 
 pub returns-clause-turned : goal.returns-clause-turned
@@ -16,7 +16,7 @@ returns-clause-turned g c =
     ap (λ (p : Poller). accepts_now c.args.self.now.backlog (items p.events)) (c.give_back.ensures.poller ∙ c.accept_told.ensures.poller) ∙ ap (λ backlog. accepts_now backlog (items c.drive.new.self.poller.events)) (sym c.drive.ensures.backlog)
     in
     turned_by ghosts.tells ghosts.traffic c.args.self.now _ c.accept_told.new.self c.give_back.new.self c.drive.ensures.next c.drive.ensures.port c.drive.ensures.backlog
-    c.drive.ensures.refused c.accept_told.ensures.lingerers c.give_back.ensures.gives_back c.look-2.new.self (c.give_back.ensures.poller ∙ c.accept_told.ensures.poller ∙ c.drive.ensures.poller) _ due c.time-now.result c.time-now.ensures
+    c.drive.ensures.refused c.accept_told.ensures.lingerers c.give_back.ensures.gives_back c.wait.new.self (c.give_back.ensures.poller ∙ c.accept_told.ensures.poller ∙ c.drive.ensures.poller) _ due
     c.is_told-comes_more.result (c.is_told-comes_more.ensures ∙ ap (λ (p : Poller). is_told_of LINGERER (items p.events)) c.drive.ensures.poller) c.drive.ensures.drives.0
     (record { begun = lingers_in c.drive.new.self.lingering; left = c.drive.ensures.drives.1; turned = rw c.device.ensures at c.turn.ensures }) c.accept_told.ensures.accepts
     (rest_leads c.runs_follow.ensures.follow c.args.self.now.hub c.accept_told.new.self c.give_back.new.self c.give_back.ensures.gives_back _
@@ -30,13 +30,15 @@ returns-clause-bytes g c =
 pub returns-in_err-wait-clause-waits : goal.returns-in_err-wait-clause-waits
 returns-in_err-wait-clause-waits g c =
     let p = err_from_is_err_and c.from_residual.result c.from_residual.ensures.1 in
-    wait_failed c.args.timeout c.args.self.now _ c.look.new.self c.look.ensures c.wait.new.self c.wait.ensures.clock (ap nanos_of c.wait.ensures.waited ∙ c.next_wait-wait.ensures)
-    c.from_residual.result c.in_err-wait.field-0.0 (p.1 ∙ ap Err p.2) c.in_err-wait.ensures.polls refl
+    record { told = rw (p.1, p.2) c.in_err-wait.ensures.polls; waited = ap nanos_of c.wait.ensures.waited ∙ c.next_wait-wait.ensures; room = rw c.wait.ensures.room c.args.self.now.room }
 
 pub returns-clause-waits : goal.returns-clause-waits
 returns-clause-waits g c =
-    wait_told c.args.timeout c.args.self.now c.give_back.new.self c.look.new.self c.look.ensures c.wait.new.self c.wait.ensures.clock (ap nanos_of c.wait.ensures.waited ∙ c.next_wait-wait.ensures)
-    tt c.in_ok-wait.ensures.polls c.look-2.new.self c.look-2.ensures (c.give_back.ensures.poller ∙ c.accept_told.ensures.poller ∙ c.drive.ensures.poller)
+    let same : c.give_back.new.self.poller ≡ c.wait.new.self = c.give_back.ensures.poller ∙ c.accept_told.ensures.poller ∙ c.drive.ensures.poller in record {
+      told = ap polls_of same ∙ c.in_ok-wait.ensures.polls;
+      waited = ap (λ (p : Poller). nanos_of p.waited) same ∙ ap nanos_of c.wait.ensures.waited ∙ c.next_wait-wait.ensures;
+      room = c.give_back.new.self.room;
+    }
 
 pub returns-in_err-wait-clause-served : goal.returns-in_err-wait-clause-served
 returns-in_err-wait-clause-served g c = (is_served c.args.self.now.hub c.args.self.now.table.slots c.args.self.now.lingering.queue.items c.args.self.now.serving, is_served c.args.self.now.hub c.args.self.now.table.slots c.args.self.now.lingering.queue.items c.args.self.now.serving)
