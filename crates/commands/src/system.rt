@@ -43,6 +43,9 @@ pub trait DataFiles {
     /// The same of a file that is to be read alone.
     ghost reads: { Self → List ℕ → Result Self.Device Error → Self → Type 0 } = { λ _ _ _ _. ⊤ };
 
+    /// The same of a file that is to be checked.
+    ghost checks: { Self → List ℕ → Result Self.Device Error → Self → Type 0 } = { λ _ _ _ _. ⊤ };
+
     /// Relates it before it made a file, the file's name, its number of sectors, how that came out, and it afterwards.
     ghost makes: { Self → List ℕ → ℕ → Result Self.Device Error → Self → Type 0 } = { λ _ _ _ _ _. ⊤ };
 
@@ -53,6 +56,10 @@ pub trait DataFiles {
     /// Opens a data file to be read alone.
     fn open_to_read(&mut self, data: &str) -> io::Result<Self::Device>
         ensures { reads self.old data.now result self.new };
+
+    /// Opens a data file to be checked: to be read alone, and from the device where the system has copies of it.
+    fn open_to_check(&mut self, data: &str) -> io::Result<Self::Device>
+        ensures { checks self.old data.now result self.new };
 
     /// Makes a data file of so many sectors. Its name must be free.
     fn create(&mut self, data: &str, sectors: u64) -> io::Result<Self::Device>
@@ -218,6 +225,10 @@ impl<R: Files<File = File> + Clock> DataFiles for SystemFiles<'_, R> {
 
     fn open_to_read(&mut self, data: &str) -> io::Result<FileSectors> {
         FileSectors::open_to_read(self.rt, data)
+    }
+
+    fn open_to_check(&mut self, data: &str) -> io::Result<FileSectors> {
+        FileSectors::open_to_check(self.rt, data)
     }
 
     fn create(&mut self, data: &str, sectors: u64) -> io::Result<FileSectors> {
