@@ -2,14 +2,12 @@
 //! calls it makes.
 
 use command_line::{Asked, Refusal, parse};
-use event_loop::EventLoop;
 use scripts::{ScriptFault, play};
 use sector::{FileSectors, Sectors};
-use sessions::Hub;
 use std::alloc::Global;
 use std::fs::File;
 use std::io::{self, Read, Write};
-use std::net::{Net, SocketAddr};
+use std::net::SocketAddr;
 use std::rt::Files;
 use std::time::Clock;
 
@@ -233,57 +231,5 @@ impl<R: Files<File = File> + Clock> DataFiles for SystemFiles<'_, R> {
 
     fn create(&mut self, data: &str, sectors: u64) -> io::Result<FileSectors> {
         FileSectors::create(self.rt, data, sectors)
-    }
-}
-
-/// The ports of the system. They take a hub that was opened.
-#[derive(Drop)]
-pub struct SystemPorts<'a, R> {
-    rt: &'a R,
-}
-
-impl<'a, R> SystemPorts<'a, R> {
-    /// Listens through this runtime. Takes no memory.
-    pub fn new(rt: &'a R) -> Self {
-        SystemPorts { rt }
-    }
-}
-
-impl<R: Net> Ports<Hub<FileSectors>> for SystemPorts<'_, R> {
-    ghost use Rattle.sessions.specs.Lives.{IsOpened};
-
-    ghost takes = { λ hub. IsOpened hub };
-
-    type Server = EventLoop<FileSectors>;
-
-    fn listen(
-        &mut self,
-        alloc: Global,
-        address: SocketAddr,
-        hub: Hub<FileSectors>,
-    ) -> io::Result<EventLoop<FileSectors>>
-        requires { IsOpened hub }
-    {
-        EventLoop::bind(self.rt, alloc, address, hub)
-    }
-}
-
-impl Turns for EventLoop<FileSectors> {
-    ghost use Rattle.commands.specs.SystemTurns.{HasStopped, TurnedSo};
-
-    ghost turns = { TurnedSo };
-
-    ghost stops = { HasStopped };
-
-    fn next_turn<C: Clock>(&mut self, clock: &C) -> io::Result<()> {
-        self.turn(clock, None)
-    }
-
-    fn is_stopped(&self) -> bool {
-        self.stopped()
-    }
-
-    fn address(&self) -> io::Result<SocketAddr> {
-        EventLoop::address(self)
     }
 }
