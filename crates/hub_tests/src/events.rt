@@ -41,6 +41,7 @@ fn hub_events(rt: HostRuntime) {
         assert!(rt; hub.step(event) == *outcome, "{i}");
         assert!(rt; hub.pending(5) == *pending && hub.room(5) == *room, "{i}");
     }
+    assert!(rt; hub.status(5) == Status::Absent);
 }
 
 #[test]

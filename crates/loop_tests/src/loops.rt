@@ -1,14 +1,14 @@
 //! The loop, with clients over sockets of the same process.
-use commit_log::{Log, format};
 use event_loop::EventLoop;
-use sector::{FileSectors, MemSectors, Sectors};
-use std::fs::{self, File};
+use sector::{MemSectors, Sectors};
 use std::io::{Read, Write};
 use std::net::{Ipv4Addr, Net, OpenStream, SocketAddr, TcpStream};
 use std::process::Abort;
-use std::rt::Files;
 use std::time::{Clock, Duration};
-use test_hubs::{new_hub, open_hub};
+use test_hubs::new_hub;
+
+/// The most turns for one request, each of 10 milliseconds: fewer than 1,000 for six requests.
+const TURNS_MAX: u32 = 160;
 
 /// Sends a request, and runs turns until a reply of this length is there or the turns are over. Is it this reply?
 pub(crate) fn asks<D: Sectors, R: Clock + Abort, S: Read + Write>(
@@ -21,7 +21,7 @@ pub(crate) fn asks<D: Sectors, R: Clock + Abort, S: Read + Write>(
     client.write_all(request).expect(rt, "written");
     let mut got = [0u8; 64];
     let mut len = 0usize;
-    for _ in 0..200u32 {
+    for _ in 0..TURNS_MAX {
         let turned = events.turn(rt, Some(Duration::from_millis(10)));
         turned.expect(rt, "a turn");
         if len < 64
@@ -36,14 +36,11 @@ pub(crate) fn asks<D: Sectors, R: Clock + Abort, S: Read + Write>(
     &got[..len.min(64)] == reply
 }
 
-pub(crate) fn anywhere() -> SocketAddr {
-    SocketAddr::from((Ipv4Addr::LOCALHOST, 0))
-}
-
 /// A loop over an empty store of 4,096 sectors in memory.
 pub(crate) fn new_loop<R: Net + Abort + AllocGlobal>(rt: &R) -> EventLoop<MemSectors> {
     let hub = new_hub(rt.alloc(), 4096).expect(rt, "a hub");
-    EventLoop::bind(rt, rt.alloc(), anywhere(), hub).expect(rt, "a loop")
+    let anywhere = SocketAddr::from((Ipv4Addr::LOCALHOST, 0));
+    EventLoop::bind(rt, rt.alloc(), anywhere, hub).expect(rt, "a loop")
 }
 
 /// A client of the loop, which doesn't wait.
@@ -85,31 +82,4 @@ fn write_skew(rt: HostRuntime) {
         assert!(rt; asks(&rt, &mut events, client, request, reply), "{reply:?}");
     }
     assert!(rt; !events.stopped());
-}
-
-/// A commit through a loop over the file of this name.
-fn commit_into<R: Files<File = File> + Net + Clock + Abort + AllocGlobal>(rt: &R, name: &str) {
-    let device = FileSectors::open(rt, name).expect(rt, "a file");
-    let hub = open_hub(rt.alloc(), device).expect(rt, "a hub");
-    let mut events = EventLoop::bind(rt, rt.alloc(), anywhere(), hub).expect(rt, "a loop");
-    let mut client = client(rt, &events);
-    let request =
-        b"*1\r\n$5\r\nBEGIN\r\n*3\r\n$3\r\nSET\r\n$1\r\na\r\n$1\r\n1\r\n*1\r\n$6\r\nCOMMIT\r\n";
-    let reply = b"+OK\r\n+OK\r\n:1\r\n";
-    assert!(rt; asks(rt, &mut events, &mut client, request, reply));
-}
-
-/// One commit through the loop into a file of four sectors, whose log has its record then.
-#[test]
-fn data_file(rt: HostRuntime) {
-    let name = "loop.data";
-    let _ = fs::remove_file(&rt, name);
-    let mut device = FileSectors::create(&rt, name, 4).expect(&rt, "made");
-    format(&mut device).expect(&rt, "an empty log");
-    drop(device);
-    commit_into(&rt, name);
-    let device = FileSectors::open(&rt, name).expect(&rt, "a file");
-    let (log, map) = Log::open(rt.alloc(), device).expect(&rt, "a log");
-    assert!(rt; (log.records(), log.used(), map.len()) == (1, 4, 1));
-    assert!(rt; fs::remove_file(&rt, name).is_ok());
 }
