@@ -2,7 +2,7 @@
 ghost use Rattle.commit_log.specs.Format.{current};
 ghost use Rattle.commit_log.specs.RecordFormat.{IsWriteSet};
 
-use commands::{DONE, FAULT, SystemFiles, create, run};
+use commands::{DONE, FAULT, SystemFiles, create};
 use commit_log::Log;
 use model::{Key, KeyRef, Write};
 use sector::FileSectors;
@@ -13,6 +13,7 @@ use std::process::Abort;
 use std::rt::Files;
 use std::sync::Wait;
 use std::time::Clock;
+use system::run;
 
 /// Makes the file of this name, of four sectors, whose log has one record.
 fn make<R: Files<File = File> + Clock + Abort + AllocGlobal>(rt: &R, name: &str) {

@@ -7,3 +7,5 @@ mod copied;
 mod created;
 #[cfg(test)]
 mod programs;
+#[cfg(test)]
+mod served;

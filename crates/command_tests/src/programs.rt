@@ -2,7 +2,7 @@
 use command_line::{Asked, Refusal, parse};
 use commands::{
     BAD_LINE, DONE, Ending, FAULT, Fault, Opener, REFUSED, Told, Turns, check_device,
-    format_device, keep_standard, report, run, serve_turns, tell,
+    format_device, keep_standard, report, serve_turns, tell,
 };
 use model::VALUE_MAX;
 use scripts::{ScriptFault, play};
@@ -16,6 +16,7 @@ use std::rt::Files;
 use std::sync::Wait;
 use std::test::Fail;
 use std::time::Clock;
+use system::run;
 
 /// A text that is due.
 #[derive(Clone, Copy)]

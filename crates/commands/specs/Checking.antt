@@ -43,10 +43,10 @@ pub data Checks {D O : Type 0} (g : Ghosts D) (writes : O → List ℕ → Resul
   Counted : (counts : LogCounts) (outcome : Result (Unit {0}) Error) (result : Result (Unit {0}) Fault) (printed : O) → Counting g device (Ok counts)
       → writes out (line_of counts) outcome printed → EndsAs outcome result → Checks g writes device out result printed
 
--- Checking a data file: it is opened, counted, and its line printed. Nothing else is called.
-pub data Checking {F D O : Type 0} (g : Ghosts D) (opens : F → List ℕ → Result D Error → F → Type 0) (writes : O → List ℕ → Result (Unit {0}) Error → O → Type 0)
+-- Checking a data file: it is opened to be checked, counted, and its line printed. Nothing else is called.
+pub data Checking {F D O : Type 0} (g : Ghosts D) (checks : F → List ℕ → Result D Error → F → Type 0) (writes : O → List ℕ → Result (Unit {0}) Error → O → Type 0)
     (name : List ℕ) (files : F) (out : O) : Result (Unit {0}) Fault → F → O → Type 0 where
-  NotOpened : (error : Error) (fault : Fault) (opened : F) → opens files name (Err error) opened → IsToldAs error File fault
-      → Checking g opens writes name files out (Err fault) opened out
-  Opened : (device : D) (result : Result (Unit {0}) Fault) (opened : F) (printed : O) → opens files name (Ok device) opened
-      → Checks g writes device out result printed → Checking g opens writes name files out result opened printed
+  NotOpened : (error : Error) (fault : Fault) (opened : F) → checks files name (Err error) opened → IsToldAs error File fault
+      → Checking g checks writes name files out (Err fault) opened out
+  Opened : (device : D) (result : Result (Unit {0}) Fault) (opened : F) (printed : O) → checks files name (Ok device) opened
+      → Checks g writes device out result printed → Checking g checks writes name files out result opened printed

@@ -9,4 +9,3 @@ pub mod Openings
 pub mod Printing
 pub mod Running
 pub mod Serving
-pub mod SystemTurns

@@ -23,7 +23,7 @@ module _ {F P S O E D V : Type 0} {g : Ghosts D} (files : DataFiles F D) (ports 
         Creating g files.makes name.now sectors old.files ended new.files × (new ≡ record old { files = new.files })
     Does scripts old (Serve name listen) ended new = IsErrAnd ended (λ fault. EndsServing files ports server out err name.now listen.now old fault new)
     Does scripts old (Check name) ended new =
-        Checking g files.opens out.writes name.now old.files old.out ended new.files new.out × (new ≡ record old { files = new.files; out = new.out })
+        Checking g files.checks out.writes name.now old.files old.out ended new.files new.out × (new ≡ record old { files = new.files; out = new.out })
     Does scripts old (Compact from to sectors) ended new = Compacting g files out err from.now to.now sectors old ended new
     Does scripts old (Play sectors) ended new =
         (played : Result (Unit {0}) ScriptFault) × player.plays scripts sectors old.out played new.out × (ended ≡ of_played played)

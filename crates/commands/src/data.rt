@@ -50,7 +50,8 @@ pub fn format_device<D: Sectors>(device: &mut D) -> Result<(), Fault>
     Ok(())
 }
 
-/// Opens a data file and prints how many records, keys and sectors it holds, and how many sectors it has.
+/// Opens a data file to be checked and prints how many records, keys and sectors it holds, and how many sectors it has. The file is never
+/// written, and leave to read it is enough.
 ///
 /// It calls nothing else: its contract names each call of the files and the output.
 ///
@@ -61,9 +62,9 @@ pub fn check<F: DataFiles, O: Lines>(
     data: &str,
     out: &mut O,
 ) -> Result<(), Fault>
-    ensures { Checking F.Device.Sectors F.opens O.writes data.now files.old out.old result files.new out.new }
+    ensures { Checking F.Device.Sectors F.checks O.writes data.now files.old out.old result files.new out.new }
 {
-    let device = files.open(data)?;
+    let device = files.open_to_check(data)?;
     check_device(alloc, device, out)
 }
 

@@ -15,11 +15,11 @@ pub use compacting::{compact, copy_count, copy_device};
 pub use data::{check, check_device, create, format_device};
 pub use endings::{Ending, Told, report, tell};
 pub use faults::Fault;
-pub use running::{run, run_command, run_watched};
+pub use running::run_command;
 pub use serving::{serve, serve_turns};
 pub use streams::{NullDevice, Opener, keep_standard};
 pub use system::{
-    Around, CommandLine, DataFiles, Lines, Ports, Scripts, SystemFiles, SystemPorts, Turns, Words,
+    Around, CommandLine, DataFiles, Lines, Ports, Scripts, SystemFiles, Turns, Words,
 };
 
 /// The status of a command that was done, or of help that was asked for.

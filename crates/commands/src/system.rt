@@ -2,14 +2,12 @@
 //! calls it makes.
 
 use command_line::{Asked, Refusal, parse};
-use event_loop::EventLoop;
 use scripts::{ScriptFault, play};
 use sector::{FileSectors, Sectors};
-use sessions::Hub;
 use std::alloc::Global;
 use std::fs::File;
 use std::io::{self, Read, Write};
-use std::net::{Net, SocketAddr};
+use std::net::SocketAddr;
 use std::rt::Files;
 use std::time::Clock;
 
@@ -43,6 +41,9 @@ pub trait DataFiles {
     /// The same of a file that is to be read alone.
     ghost reads: { Self → List ℕ → Result Self.Device Error → Self → Type 0 } = { λ _ _ _ _. ⊤ };
 
+    /// The same of a file that is to be checked.
+    ghost checks: { Self → List ℕ → Result Self.Device Error → Self → Type 0 } = { λ _ _ _ _. ⊤ };
+
     /// Relates it before it made a file, the file's name, its number of sectors, how that came out, and it afterwards.
     ghost makes: { Self → List ℕ → ℕ → Result Self.Device Error → Self → Type 0 } = { λ _ _ _ _ _. ⊤ };
 
@@ -53,6 +54,10 @@ pub trait DataFiles {
     /// Opens a data file to be read alone.
     fn open_to_read(&mut self, data: &str) -> io::Result<Self::Device>
         ensures { reads self.old data.now result self.new };
+
+    /// Opens a data file to be checked: to be read alone, and from the device where the system has copies of it.
+    fn open_to_check(&mut self, data: &str) -> io::Result<Self::Device>
+        ensures { checks self.old data.now result self.new };
 
     /// Makes a data file of so many sectors. Its name must be free.
     fn create(&mut self, data: &str, sectors: u64) -> io::Result<Self::Device>
@@ -220,59 +225,11 @@ impl<R: Files<File = File> + Clock> DataFiles for SystemFiles<'_, R> {
         FileSectors::open_to_read(self.rt, data)
     }
 
+    fn open_to_check(&mut self, data: &str) -> io::Result<FileSectors> {
+        FileSectors::open_to_check(self.rt, data)
+    }
+
     fn create(&mut self, data: &str, sectors: u64) -> io::Result<FileSectors> {
         FileSectors::create(self.rt, data, sectors)
-    }
-}
-
-/// The ports of the system. They take a hub that was opened.
-#[derive(Drop)]
-pub struct SystemPorts<'a, R> {
-    rt: &'a R,
-}
-
-impl<'a, R> SystemPorts<'a, R> {
-    /// Listens through this runtime. Takes no memory.
-    pub fn new(rt: &'a R) -> Self {
-        SystemPorts { rt }
-    }
-}
-
-impl<R: Net> Ports<Hub<FileSectors>> for SystemPorts<'_, R> {
-    ghost use Rattle.sessions.specs.Lives.{IsOpened};
-
-    ghost takes = { λ hub. IsOpened hub };
-
-    type Server = EventLoop<FileSectors>;
-
-    fn listen(
-        &mut self,
-        alloc: Global,
-        address: SocketAddr,
-        hub: Hub<FileSectors>,
-    ) -> io::Result<EventLoop<FileSectors>>
-        requires { IsOpened hub }
-    {
-        EventLoop::bind(self.rt, alloc, address, hub)
-    }
-}
-
-impl Turns for EventLoop<FileSectors> {
-    ghost use Rattle.commands.specs.SystemTurns.{HasStopped, TurnedSo};
-
-    ghost turns = { TurnedSo };
-
-    ghost stops = { HasStopped };
-
-    fn next_turn(&mut self) -> io::Result<()> {
-        self.turn(None)
-    }
-
-    fn is_stopped(&self) -> bool {
-        self.stopped()
-    }
-
-    fn address(&self) -> io::Result<SocketAddr> {
-        EventLoop::address(self)
     }
 }

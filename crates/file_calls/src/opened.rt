@@ -1,7 +1,7 @@
 //! Opening a file.
 ghost use Rattle.std.specs.Prelude.{IfErr, IfOk, OnOk};
 
-use std::fs::{File, OpenFile, OpenOptions};
+use std::fs::{self, File, OpenFile, OpenOptions};
 use std::io;
 use std::os::fd::AsRawFd;
 use std::path::Path;
@@ -46,11 +46,17 @@ impl OpenedFile {
     }
 
     /// Opens a file to be read alone: the system refuses each write to it. Answers the system's error, also where there is no file of
-    /// this name. Takes no memory.
+    /// this name. What is no regular file has to be open to be written meanwhile: so a directory answers the error that it answers to
+    /// `open`, and a named pipe doesn't wait for somebody who writes. Takes no memory.
     pub fn open_to_read<R: Files<File = File> + Clock>(rt: &R, path: &str) -> io::Result<OpenedFile>
         ensures opened { IfOk result (λ f. WasOpenedToRead f path.now) }
         ensures error { IfErr result (λ e. WasAnswered e) }
     {
+        let _meanwhile = if fs::metadata(rt, path)?.is_file() {
+            None
+        } else {
+            Some(OpenedFile::open(rt, path)?)
+        };
         Ok(OpenedFile {
             file: File::open(rt, Path::new(path))?,
             opened: SystemTime::now(rt).ok(),

@@ -87,6 +87,18 @@ impl FileSectors {
         with_whole_sectors(OpenedFile::open_to_read(rt, path)?, false)
     }
 
+    /// Opens a file of whole sectors to be checked, with the errors of `open`. It is opened to be read alone, so that leave to read it is
+    /// enough, and its directory is not synced. After the first sync that succeeds, reads come from the device and not from the
+    /// system's copies, as after `open`. Takes no memory.
+    pub fn open_to_check<R: Files<File = File> + Clock>(rt: &R, path: &str) -> io::Result<Self>
+        ensures failures { IfOk result (λ f. f.failures ≡ 0) }
+        ensures opened { IfOk result (λ f. WasOpenedWholeToRead path.now f.file) }
+        ensures drops { IfOk result (λ f. f.drops_copies ≡ true) }
+        ensures refused { IfErr result (λ e. WhyNotOpened (λ f. WasOpenedToRead f path.now) e) }
+    {
+        with_whole_sectors(OpenedFile::open_to_read(rt, path)?, true)
+    }
+
     /// Counts a call of the file, and tells how it ended. Where the count stands at its end, each call fails.
     fn told(&mut self, outcome: io::Result<()>) -> Result<(), DeviceFault>
         ensures told { IsOk result ↔ (IsOk outcome × (self.old.failures < greatest)) }

@@ -5,7 +5,8 @@ ghost use Rattle.sector.specs.Failures.{Rose, Stayed};
 ghost use Rattle.sector.specs.Settled.{AreSettledBefore, AreSettledFrom};
 
 use crate::{DeviceFault, SECTOR_SIZE, Sector, Sectors};
-use std::alloc::{AllocError, Global};
+use model::Memory;
+use std::alloc::Global;
 
 /// A sector of a device in memory.
 #[derive(Clone, Copy, Debug)]
@@ -72,8 +73,8 @@ pub struct MemSectors {
 impl MemSectors {
     ghost use Rattle.sector.specs.Slots.{image, AreFilled, MayLeave, IsAllSettled, calls_to_failure, FailsNext, CountsDown};
 
-    /// A device of `count` sectors of zeros, all settled. It takes about 1 KiB for each sector; `AllocError` where they are refused.
-    pub fn new(alloc: Global, count: u64) -> Result<Self, AllocError>
+    /// A device of `count` sectors of zeros, all settled. It takes about 1 KiB for each sector; `Memory` where they are refused.
+    pub fn new(alloc: Global, count: u64) -> Result<Self, Memory>
         ensures image { IfOk result (λ m. image m ≡ replicate count (replicate 512 0)) }
         ensures settled { IfOk result IsAllSettled }
         ensures failures { IfOk result (λ m. m.failures ≡ 0) }
@@ -94,9 +95,9 @@ impl MemSectors {
         })
     }
 
-    /// A device of these bytes, all settled, whose number is one of whole sectors. It takes about 1 KiB for each sector; `AllocError`
-    /// where they are refused.
-    pub fn from_image(alloc: Global, bytes: &[u8]) -> Result<Self, AllocError>
+    /// A device of these bytes, all settled, whose number is one of whole sectors. It takes about 1 KiB for each sector; `Memory` where
+    /// they are refused.
+    pub fn from_image(alloc: Global, bytes: &[u8]) -> Result<Self, Memory>
         requires { length bytes.now % 512 ≡ 0 }
         ensures image { IfOk result (λ m. concat (image m) ≡ bytes.now) }
         ensures settled { IfOk result IsAllSettled }

@@ -1,11 +1,12 @@
 // The program: its words, its standard streams, and the exit status that the command answers.
 #![tactic(auto)]
 
-use commands::{Ending, Fault, NullDevice, keep_standard, report, run_watched, tell};
+use commands::{Ending, Fault, NullDevice, keep_standard, report, tell};
 use std::alloc::{Alloc, AllocError, Global};
 use std::env::{self, Env};
 use std::io::{self, ErrorKind, IsTerminal};
 use std::process::ExitCode;
+use system::run_watched;
 
 fn main(rt: HostRuntime) -> ExitCode {
     let mut err = rt.stderr();

@@ -1,12 +1,13 @@
 //! Copies of a map into a log of its own, and crashes and failures at each device call of one.
-ghost use Rattle.std.specs.Prelude.{◌<◌, ◌^◌};
+ghost use Rattle.std.specs.Prelude.{◌<◌, ◌≤◌, ◌^◌, length};
 
 use crate::helpers::put as put_key;
 use crate::log::helpers::{FILLS, Fill, append, crashed, empty_log, has, opened, put};
 use crate::log::stated::{FIRST_BODY, SECOND_BODY};
 use commit_log::{Log, LogFault, copy_into, copy_sectors, read_map};
 use model::Map;
-use sector::MemSectors;
+use sector::{MemSectors, Sectors};
+use sha2::{Digest, Sha256};
 use std::process::Abort;
 use test_devices::Stopping;
 
@@ -139,14 +140,74 @@ fn compact_an_old_log(rt: HostRuntime) {
     }
 }
 
+/// A key of three bytes.
+fn numbered_key(n: u8) -> [u8; 3]
+    requires { n < 100 }
+{
+    [b'k', b'0' + n / 10, b'0' + n % 10]
+}
+
 #[test]
 fn compact_many_keys(rt: HostRuntime) {
     let mut log = empty_log(&rt, 200);
     for n in 1..66u8 {
-        let key = [b'k', b'0' + n / 10, b'0' + n % 10];
-        append(&rt, &mut log, &put(&rt, &key, b"1"));
+        append(&rt, &mut log, &put(&rt, &numbered_key(n), b"1"));
     }
     assert_eq!(rt; log.used(), 132);
     let mut device = log.into_device();
     assert_eq!(rt; copied(&rt, &mut device, 200), (2, 2, 7, 65));
+}
+
+/// The same keys in a log of format 1.
+#[test]
+fn compact_many_keys_of_an_old_log(rt: HostRuntime) {
+    let mut device = old_log(&rt, 200, 66);
+    assert_eq!(rt; copied(&rt, &mut device, 200), (1, 2, 7, 65));
+}
+
+/// A log of format 1, written by its format: the keys from 1 on and before `end` are put to 1, a record each.
+fn old_log<R: Abort + AllocGlobal>(rt: &R, sectors: u64, end: u8) -> MemSectors
+    requires { end ≤ 100 }
+{
+    let mut device = zeros(rt, sectors);
+    write_sector(rt, &mut device, 0, b"SSIKVLG1");
+    let mut gate = 1u64;
+    let mut digest = [0; 32];
+    for n in 1..end {
+        write_sector(rt, &mut device, gate, &[1]);
+        let (body, next) = old_body(n - 1, numbered_key(n), &digest);
+        write_sector(rt, &mut device, gate + 1, &body);
+        gate += 2;
+        digest = next;
+    }
+    device
+}
+
+/// Writes these bytes to a sector, and zeros behind them.
+fn write_sector<R: Abort>(rt: &R, device: &mut MemSectors, at: u64, bytes: &[u8])
+    requires { length bytes.now ≤ 512 }
+{
+    let mut sector = [0; 512];
+    sector[..bytes.len()].copy_from_slice(bytes);
+    if at < device.count() {
+        device.write(at, &sector).expect(rt, "written");
+    }
+}
+
+/// The body of a record of format 1 that puts a key to 1, behind a record of this digest, and its own digest.
+fn old_body(index: u8, key: [u8; 3], before: &[u8; 32]) -> ([u8; 59], [u8; 32]) {
+    let [a, b, c] = key;
+    let payload = [0, 0, 0, 1, 0, 3, a, b, c, 1, 0, 0, 0, 1, b'1'];
+    let number = [0, 0, 0, 0, 0, 0, 0, index];
+    let mut hasher = Sha256::new();
+    hasher.update(before.as_slice());
+    hasher.update(number.as_slice());
+    hasher.update(payload.as_slice());
+    let digest = hasher.finalize();
+    let mut body = [0; 59];
+    body[3] = 15;
+    body[4..12].copy_from_slice(&number);
+    body[12..44].copy_from_slice(&digest);
+    body[44..].copy_from_slice(&payload);
+    (body, digest)
 }

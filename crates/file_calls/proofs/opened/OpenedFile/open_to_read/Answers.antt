@@ -5,5 +5,8 @@ use Rattle.file_calls.proofs.opened.OpenedFile.open_to_read.Goals as goal
 pub returns : goal.returns
 returns g c = search (rules, real_open_to_read)
 
-pub returns-in_err-open-clause-error : goal.returns-in_err-open-clause-error
-returns-in_err-open-clause-error g c = real_error _
+pub returns-in_err-metadata-clause-error : goal.returns-in_err-metadata-clause-error
+returns-in_err-metadata-clause-error g c = real_error _
+
+pub returns-in_err-open-2-clause-error : goal.returns-in_err-open-2-clause-error
+returns-in_err-open-2-clause-error g c = real_error _
