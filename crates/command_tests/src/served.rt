@@ -59,7 +59,7 @@ fn commit_into<R: Files<File = File> + Net + Clock + Abort + AllocGlobal>(rt: &R
     let mut got = [0u8; 64];
     let mut len = 0usize;
     for _ in 0..200u32 {
-        let turned = events.turn(rt, Some(Duration::from_millis(10)));
+        let turned = events.turn(Some(Duration::from_millis(10)));
         turned.expect(rt, "a turn");
         if len < 14
             && let Ok(n) = client.read(&mut got[len..])
