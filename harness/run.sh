@@ -17,8 +17,8 @@ export PYTHONDONTWRITEBYTECODE=1
 failed=0
 for form in ${1:-quick long}; do
     case $form in
-        quick) names="documents audit reading frames histories pictures clients cookbook proxies languages operation packaging lossy commands streams trace every_command random_scripts memory_commands memory_calls memory_reads memory_pages memory_sessions memory_commits memory_opening opening server_calls hostile system_limits pauses kills" ;;
-        long) names="documents histories pictures clients cookbook proxies languages resending operation packaging lossy commands streams trace every_command random_scripts server_calls hostile system_limits kills" ;;
+        quick) names="documents audit reading frames histories pictures clients cookbook proxies languages packages operation packaging lossy commands streams trace every_command random_scripts memory_commands memory_calls memory_reads memory_pages memory_sessions memory_commits memory_opening opening server_calls hostile system_limits pauses kills" ;;
+        long) names="documents histories pictures clients cookbook proxies languages packages resending operation packaging lossy commands streams trace every_command random_scripts server_calls hostile system_limits kills" ;;
         *) echo "usage: run.sh [quick | long]" >&2; exit 2 ;;
     esac
     for name in $names; do
