@@ -111,7 +111,7 @@ def decode(data: bytes | bytearray, at: int = 0) -> tuple[Reply, int] | None:
 
 def key_of(key: Data, least: int = 1) -> bytes:
     """The bytes of a key, or with least 0 of a bound."""
-    data = key.encode() if isinstance(key, str) else bytes(key)
+    data = key.encode() if isinstance(key, str) else bytes(memoryview(key))
     if not least <= len(data) <= KEY_MAX:
         raise Invalid(f"a key has 1 to {KEY_MAX} bytes, this one has {len(data)}")
     return data
@@ -119,7 +119,7 @@ def key_of(key: Data, least: int = 1) -> bytes:
 
 def value_of(value: Data) -> bytes:
     """The bytes of a value."""
-    data = value.encode() if isinstance(value, str) else bytes(value)
+    data = value.encode() if isinstance(value, str) else bytes(memoryview(value))
     if len(data) > VALUE_MAX:
         raise Invalid(f"a value has at most {VALUE_MAX} bytes, this one has {len(data)}")
     return data
