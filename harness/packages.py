@@ -79,6 +79,10 @@ PACKAGES = [
             ("package.json", r'^  "version": "(.*)",$'), r"\w+(?<!harness)\.(js|d\.ts)", "node harness.js", "node --test tests/", "node first.mjs"),
     Package("Ruby", "ruby", "ruby -e 'exit RUBY_VERSION >= \"3.1\"'", "Ruby 3.1", ("lib/ssikvd/version.rb", r'^  VERSION = "(.*)"$'),
             r"lib/.*\.rb", "ruby -Ilib harness.rb", "ruby -Ilib test/frames_test.rb", "ruby -Ilib first.rb"),
+    Package("Rust", "rust", "cargo --version", "cargo (Debian's cargo)", ("Cargo.toml", r'^version = "(.*)"$'), r"src/\w+\.rs",
+            "target/release/examples/jobs", "cargo test --quiet --offline",
+            "mkdir -p examples && cp first.rs examples/ && cargo run --release --quiet --offline --example first # first.rs",
+            "cargo build --release --quiet --offline --example jobs"),
 ]
 
 ERRORS = """overwritten: Conflict key 6b
@@ -378,9 +382,9 @@ def frames():
 
 
 def code_lines(text):
-    """How many lines of code there are, without blank lines and comments."""
+    """How many lines of code there are: those that hold a word, outside of comments."""
     text = re.sub(r'"""(.|\n)*?"""', "", text)
-    return sum(bool(line.strip()) and not re.match(r"\s*(#|//|/\*|\*)", line) for line in text.splitlines())
+    return sum(bool(re.search(r"\w", line)) and not re.match(r"\s*(#|//|/\*|\*)", line) for line in text.splitlines())
 
 
 def length_and_version(package):
