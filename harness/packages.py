@@ -83,6 +83,10 @@ PACKAGES = [
             "target/release/examples/jobs", "cargo test --quiet --offline",
             "mkdir -p examples && cp first.rs examples/ && cargo run --release --quiet --offline --example first # first.rs",
             "cargo build --release --quiet --offline --example jobs"),
+    Package("C", "c", "cc --version", "a C compiler as cc", ("ssikvd.h", r'^#define SSIKVD_VERSION "(.*)"$'), r"ssikvd\.c", "out/jobs",
+            "cc -std=c11 -o out/test_frames test_frames.c -lpthread && out/test_frames",
+            "cc -std=c11 -o out/first first.c ssikvd.c -lpthread && out/first # first.c",
+            "mkdir -p out && cc -std=c11 -O2 -Wall -Wextra -o out/jobs jobs.c ssikvd.c -lpthread"),
 ]
 
 ERRORS = """overwritten: Conflict key 6b
