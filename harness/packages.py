@@ -87,6 +87,8 @@ PACKAGES = [
             "cc -std=c11 -o out/test_frames test_frames.c -lpthread && out/test_frames",
             "cc -std=c11 -o out/first first.c ssikvd.c -lpthread && out/first # first.c",
             "mkdir -p out && cc -std=c11 -O2 -Wall -Wextra -o out/jobs jobs.c ssikvd.c -lpthread"),
+    Package("Go", "go", "go version", "Go (Debian's golang-go)", ("ssikvd.go", r'^const Version = "(.*)"$'), r"(?!\w+_test)\w+\.go", "out/jobs", "go test .",
+            "mkdir -p first && cp main.go first/ && rm main.go && go run ./first # main.go", "go build -o out/jobs ./jobs"),
 ]
 
 ERRORS = """overwritten: Conflict key 6b
