@@ -89,6 +89,9 @@ PACKAGES = [
             "mkdir -p out && cc -std=c11 -O2 -Wall -Wextra -o out/jobs jobs.c ssikvd.c -lpthread"),
     Package("Go", "go", "go version", "Go (Debian's golang-go)", ("ssikvd.go", r'^const Version = "(.*)"$'), r"(?!\w+_test)\w+\.go", "out/jobs", "go test .",
             "mkdir -p first && cp main.go first/ && rm main.go && go run ./first # main.go", "go build -o out/jobs ./jobs"),
+    Package("Java", "java", "javac --version", "a JDK", ("pom.xml", r"^  <version>(.*)</version>$"), r"src/main/java/ssikvd/\w+\.java",
+            "java -cp out ssikvd.Jobs", "java -cp out ssikvd.FramesTest", "java -cp out First.java",
+            "javac -d out src/main/java/ssikvd/*.java src/test/java/ssikvd/*.java"),
 ]
 
 ERRORS = """overwritten: Conflict key 6b
