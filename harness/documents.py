@@ -10,6 +10,7 @@ them, with the figures of docs/PERFORMANCE.md, and the crates of docs/ARCHITECTU
 docs/PROTOCOL.md, docs/CLIENTS.md and man/ssikvd.7 are those of the definitions, and the tables of docs/LOG_FORMAT.md those of the model's
 logs. Of each block of ```ini and ```python: a unit that `systemd-analyze verify` takes, Python that is Python.
 """
+import glob
 import os
 import re
 import select
@@ -31,6 +32,8 @@ NOT_RUN = (
     (r"^bench/", "measures for minutes"),
     (r"^wrong_bodies/", "proves for hours"),
     (r"^systemd-run ", "starts a unit of the system"),
+    (r"(pip|npm|gem|composer|cargo|mvn) ", "installs a client package, which may need the network"),
+    (r"(python3|node|ruby|php) first\.", "is run by `packages.py`, with the file that stands above it"),
     (r".*psql", "needs a PostgreSQL; `clients.py long` starts one"),
 )
 COMMAND = r"(rt|ssikvd|python3|grep|cp|psql|\(cd|harness/|bench/|wrong_bodies/|[A-Z]+=\S+) ?"
@@ -63,7 +66,7 @@ BEFORE = {"docs/CLIENTS.md": AS_README, "docs/OPERATIONS.md": AS_README}
 def documents():
     found = sorted(name for name in os.listdir(TOP) if name.endswith(".md")) + ["harness/README.md"]
     found += sorted("docs/" + name for name in os.listdir(os.path.join(TOP, "docs")) if name.endswith(".md"))
-    return found
+    return found + sorted(os.path.relpath(name, TOP) for pattern in ("*.md", "*/*.md") for name in glob.glob(os.path.join(TOP, "clients", pattern)))
 
 
 def text_of(name):

@@ -19,7 +19,7 @@ import subprocess
 import time
 
 from client import HERE, PATIENCE, PROGRAM, Connection, Deviation, Server, Tally, expect, folder, is_long, need, run_harness
-from clients import Cutting, fresh, missing
+from clients import SECTORS, Cutting, fresh, missing
 from model import OK, decode, frame, refusal
 
 DOCUMENT = os.path.join(HERE, "..", "docs", "CLIENTS.md")
@@ -125,8 +125,8 @@ def wait_for(holds, process):
 class Run:
     """A run of one language's client, over a proxy."""
 
-    def __init__(self, language, built, place, share, times):
-        self.language, self.due, self.data = language, WORKERS * times, fresh(place)
+    def __init__(self, language, built, place, share, times, sectors=SECTORS):
+        self.language, self.due, self.data = language, WORKERS * times, fresh(place, sectors)
         self.server, self.process = Server(self.data), None
         self.proxy = Proxy(self.server.port, share)
         self.begin = lambda: language.start(built, self.proxy.own_port, times)

@@ -1,0 +1,3 @@
+module ssikvd
+
+go 1.19

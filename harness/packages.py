@@ -1,0 +1,491 @@
+"""The client packages of `clients` against `serve`, and against a server of this harness that answers by a script.
+
+Each language has a program, `PROGRAM ADDRESS JOB WORDS..`, that does the jobs below over its package. One judge looks at what they print, so that a
+package is held to the same in every language. All languages that are installed run at once, each with servers of its own.
+
+    count NAME WORKERS TIMES        each worker adds 1 to NAME so many times, the n-th time by `once` of NAME:WORKER:n, from 0
+                                    prints `counter N tries M`, M being how often the work ran
+    reserve ROOM WORKERS TIMES      each worker books so many times of a room by `once` of by:ROOM:WORKER:n, unless one that overlaps is booked;
+                                    the n-th begins at s = (13 WORKER + 7 n) mod 60 and ends at e = s + 1 + (WORKER + n) mod 5;
+                                    the key ROOM:e, e in three digits, holds `s WORKER n`; the first key from ROOM:s+1 up to ROOM; tells;
+                                    prints `WORKER n booked` or `WORKER n taken`, as `once` gave it, in any order
+    walk PAIRS                      all pairs of the store, so many in each transaction
+                                    prints `pairs N sum S`: from 0, for each byte of each key and its value, S = (31 S + byte) mod 1,000,000,007
+    errors                          provokes the errors of ERRORS below
+    set KEY VALUE DEADLINE REPLY    sets the key, with a deadline and a reply timeout in seconds; prints `done`, or the error
+    once KEY DEADLINE REPLY         a `once` whose work gives `made`; prints what it gave, or the error
+
+An error is printed as its kind, and what it says: `Conflict key HEX`, `Conflict pivot self`, `Conflict pivot N`, `Full LIMIT`, `Stopped`, `Refused
+TEXT`, `Lost`, `Unreachable`, `Invalid`. The deadline of count, reserve and walk is 60 seconds; all else is as `connect` has it.
+
+Then: the frames of clients/frames.txt by the model, each package's own tests, its version, and its length. `quick` runs each job once, with kills,
+cut connections and 64 other transactions at once; `long` also conflicts, cuts and kills alone. A language that isn't installed is left out, and a
+line says so.
+"""
+import collections
+import concurrent.futures
+import contextlib
+import os
+import re
+import shutil
+import signal
+import socket
+import subprocess
+import threading
+import time
+
+from client import PATIENCE, PROGRAM, Connection, Deviation, Server, Tally, expect, folder, is_long, is_refused, need, run, run_harness
+from clients import fresh, missing
+from languages import WORKERS, Proxy, Run, shell
+from model import OK, PONG, WRITES_MAX, bulk, decode, frame, log_image, pairs, refusal
+
+TOP = os.path.normpath(os.path.join(os.path.dirname(os.path.abspath(__file__)), ".."))
+CLIENTS = os.path.join(TOP, "clients")
+LINES_MAX = 400
+KEYS = 100_000
+SEATS = 60
+SECTORS = 16_384
+
+
+class Package:
+    """A package: its folder, what ends with status 0 where its language is there, and its commands, which are run in a copy of its folder.
+
+    The version is a file and a pattern. `first` runs the file of that name that the package's README shows first."""
+
+    def __init__(self, name, place, probe, needs, version, sources, run, test=None, first=None, build=None):
+        self.name, self.place, self.probe, self.needs, self.version, self.sources = name, place, probe, needs, version, sources
+        self.run, self.test, self.first, self.build = run, test, first, build
+
+    def is_there(self):
+        return shell(self.probe, TOP)[0] == 0
+
+    def job(self, port, *words):
+        """The program doing a job, as a process. It is a group of its own, with its workers, where those are processes."""
+        command = f"exec env {self.run} 127.0.0.1:{port} " + " ".join(words)
+        return subprocess.Popen(["bash", "-c", command], cwd=os.path.join(self.copy, self.place), env={**os.environ, "PYTHONDONTWRITEBYTECODE": "1"},
+                                stdout=subprocess.PIPE, stderr=subprocess.PIPE, text=True, start_new_session=True)
+
+    def start(self, copy, port, times):
+        return self.job(port, "count", "visits", str(WORKERS), str(times))
+
+
+PACKAGES = [
+    Package("Python", "python", "python3 -c 'import asyncio; asyncio.timeout'", "Python 3.11", ("pyproject.toml", r'^version = "(.*)"$'),
+            r"src/ssikvd/\w+\.py", "PYTHONPATH=src python3 harness.py", "PYTHONPATH=src python3 -m unittest discover -s tests",
+            "PYTHONPATH=src python3 first.py"),
+    Package("Python, asyncio", "python", "python3 -c 'import asyncio; asyncio.timeout'", "Python 3.11",
+            ("src/ssikvd/__init__.py", r'^__version__ = "(.*)"$'), r"src/ssikvd/\w+\.py", "PYTHONPATH=src python3 harness.py aio"),
+    Package("JavaScript", "javascript", "node -e 'process.exit(parseInt(process.versions.node) < 18)'", "Node.js 18",
+            ("package.json", r'^  "version": "(.*)",$'), r"\w+(?<!harness)\.(js|d\.ts)", "node harness.js", "node --test tests/", "node first.mjs"),
+    Package("Ruby", "ruby", "ruby -e 'exit RUBY_VERSION >= \"3.1\"'", "Ruby 3.1", ("lib/ssikvd/version.rb", r'^  VERSION = "(.*)"$'),
+            r"lib/.*\.rb", "ruby -Ilib harness.rb", "ruby -Ilib test/frames_test.rb", "ruby -Ilib first.rb"),
+    Package("Rust", "rust", "cargo --version", "cargo (Debian's cargo)", ("Cargo.toml", r'^version = "(.*)"$'), r"src/\w+\.rs",
+            "target/release/examples/jobs", "cargo test --quiet --offline",
+            "mkdir -p examples && cp first.rs examples/ && cargo run --release --quiet --offline --example first # first.rs",
+            "cargo build --release --quiet --offline --example jobs"),
+    Package("C", "c", "cc --version", "a C compiler as cc", ("ssikvd.h", r'^#define SSIKVD_VERSION "(.*)"$'), r"ssikvd\.c", "out/jobs",
+            "cc -std=c11 -o out/test_frames test_frames.c -lpthread && out/test_frames",
+            "cc -std=c11 -o out/first first.c ssikvd.c -lpthread && out/first # first.c",
+            "mkdir -p out && cc -std=c11 -O2 -Wall -Wextra -o out/jobs jobs.c ssikvd.c -lpthread"),
+    Package("Go", "go", "go version", "Go (Debian's golang-go)", ("ssikvd.go", r'^const Version = "(.*)"$'), r"(?!\w+_test)\w+\.go", "out/jobs", "go test .",
+            "mkdir -p first && cp main.go first/ && rm main.go && go run ./first # main.go", "go build -o out/jobs ./jobs"),
+    Package("Java", "java", "javac --version", "a JDK", ("pom.xml", r"^  <version>(.*)</version>$"), r"src/main/java/ssikvd/\w+\.java",
+            "java -cp out ssikvd.Jobs", "java -cp out ssikvd.FramesTest", "java -cp out First.java",
+            "javac -d out src/main/java/ssikvd/*.java src/test/java/ssikvd/*.java"),
+]
+
+ERRORS = """overwritten: Conflict key 6b
+pivot: Conflict pivot self
+writes: Full writes
+marks: Full marks
+connections: Full connections
+empty key: Invalid
+long key: Invalid
+long value: Invalid
+zero limit: Invalid
+ended: Invalid
+raised: Raised
+after it: none
+closed: Invalid
+"""
+
+
+# Jobs
+
+def ended(process, seconds=3 * PATIENCE):
+    """What a job printed. It ends with status 0."""
+    try:
+        out, err = process.communicate(timeout=seconds)
+    finally:
+        if process.poll() is None:
+            os.killpg(process.pid, signal.SIGKILL)
+            process.communicate()
+    expect(process.returncode == 0, f"it ended with {process.returncode}, {out[-200:]!r} {err[-600:]!r}")
+    return out
+
+
+class Count(Run):
+    """A run of `count` over a proxy, as those of the example clients."""
+
+    def __init__(self, package, place, share, times):
+        super().__init__(package, package.copy, place, share, times, SECTORS)
+
+    def result(self):
+        found = re.fullmatch(r"counter (\d+) tries (\d+)\n", ended(self.process))
+        expect(found, "it printed something else")
+        expect(int(found[1]) == self.due, f"the counter holds {found[1]}, due is {self.due}")
+        expect(self.proxy.firsts <= {b"BEGIN", b"PING"}, f"connections begin with {self.proxy.firsts}")
+        return int(found[2])
+
+
+def all_at_once(package):
+    """Conflicts, 64 other transactions, connections that are cut, and a kill."""
+    with folder() as place, Count(package, place, 0.15, 12) as count:
+        count.among_others()
+        count.kill(count.due // 2)
+        count.result()
+        expect(count.proxy.cuts > 5, f"only {count.proxy.cuts} connections were cut")
+
+
+def conflicts(package):
+    with folder() as place, Count(package, place, 0.0, 100) as count:
+        for is_first in (True, False):
+            count.process = count.begin()
+            tries = count.result()
+            expect((tries > count.due) == is_first, f"it took {tries} tries; the first time is {is_first}")
+
+
+def cuts(package):
+    with folder() as place, Count(package, place, 0.4, 40) as count:
+        count.process = count.begin()
+        count.result()
+        expect(count.proxy.cuts > count.due // 4, f"only {count.proxy.cuts} connections were cut")
+
+
+def kills(package):
+    with folder() as place, Count(package, place, 0.0, 100) as count:
+        count.process = count.begin()
+        for number in range(1, 6):
+            count.kill(number * count.due // 6)
+        count.result()
+
+
+class Booking(Count):
+    """A run of `reserve` over a proxy."""
+
+    def __init__(self, package, place, times):
+        super().__init__(package, place, 0.15, times)
+        self.process = package.job(self.proxy.own_port, "reserve", "blue", str(WORKERS), str(times))
+
+    def result(self):
+        return bookings(ended(self.process)), in_store(self.server.port, b"blue:", b"blue;")
+
+
+def bookings(text):
+    """What `reserve` printed: for each worker and turn whether it is booked."""
+    rows = [line.split() for line in text.splitlines()]
+    expect(all(len(row) == 3 and row[2] in ("booked", "taken") for row in rows), f"it printed {text[:200]!r}")
+    return {(int(worker), int(turn)): what == "booked" for worker, turn, what in rows}
+
+
+def in_store(port, lo, hi):
+    """The pairs of a range of at most 128, by a connection of this harness."""
+    with Connection(port) as connection:
+        expect(connection.ask(frame("BEGIN")) == OK, "BEGIN was refused")
+        parts = connection.ask(frame("RANGE", lo, hi, "128"))
+        parts = re.findall(rb"\$\d+\r\n(.*?)\r\n", parts, re.S)
+        return list(zip(parts[0::2], parts[1::2]))
+
+
+def time_of(worker, turn):
+    start = (13 * worker + 7 * turn) % SEATS
+    return start, start + 1 + (worker + turn) % 5
+
+
+def judge_bookings(said, stored, times):
+    """Each turn was answered; what was answered `booked` is what is stored; no two overlap; what was answered `taken` overlaps one."""
+    due = {(worker, turn) for worker in range(WORKERS) for turn in range(times)}
+    expect(set(said) == due, f"{len(due - set(said))} have no answer")
+    booked = {one for one, is_booked in said.items() if is_booked}
+    kept = {(int(worker), int(turn)) for _, value in stored for _, worker, turn in [value.split()]}
+    expect(kept == booked and len(stored) == len(booked), f"the store and the answers differ in {kept ^ booked}")
+    taken = collections.Counter(second for one in booked for second in range(*time_of(*one)))
+    expect(max(taken.values()) == 1, f"{[second for second, number in taken.items() if number > 1]} are booked twice")
+    idle = [one for one in due - booked if not any(second in taken for second in range(*time_of(*one)))]
+    expect(not idle, f"{idle} were refused, and nothing overlaps them")
+
+
+def reservations(package, times=12):
+    with folder() as place, Booking(package, place, times) as booking:
+        booking.kill(WORKERS * times // 3)
+        judge_bookings(*booking.result(), times)
+        expect(booking.proxy.cuts > 2, f"only {booking.proxy.cuts} connections were cut")
+
+
+def errors(package):
+    with folder() as place, Server(fresh(place, 1_024)) as server:
+        found = ended(package.job(server.port, "errors"))
+        expect(found == ERRORS, f"it printed {[line for line in found.splitlines() if line not in ERRORS.splitlines()]}")
+
+
+class Filled:
+    """A server with many keys, which all packages walk over. The model writes its log."""
+
+    def __init__(self, place):
+        rows, self.sum = [(b"walk:%06d" % number, b"value %d" % (number * 7919 % KEYS)) for number in range(KEYS)], 0
+        for byte in b"".join(key + value for key, value in rows):
+            self.sum = (31 * self.sum + byte) % 1_000_000_007
+        data = os.path.join(place, "filled")
+        with open(data, "wb") as file:
+            file.write(log_image([rows[at:at + WRITES_MAX] for at in range(0, KEYS, WRITES_MAX)], SECTORS))
+        self.server = Server(data)
+
+    def walk(self, package):
+        found = ended(package.job(self.server.port, "walk", "20000"))
+        expect(found == f"pairs {KEYS} sum {self.sum}\n", f"it printed {found!r}, the sum is {self.sum}")
+
+
+def readme(package):
+    """The first block of code in the package's README, as the file that is run next, prints what the README says."""
+    here, name = os.path.join(package.copy, package.place), package.first.split()[-1]
+    with open(os.path.join(here, "README.md"), encoding="utf-8") as file:
+        text = file.read()
+    code = re.search(r"^```(?!console)\w+\n(.*?)^```$", text, re.M | re.S)[1]
+    due = re.search(rf"^\$ .*{re.escape(name)}\n(.*?)^```$", text, re.M | re.S)[1]
+    with folder() as place, Server(fresh(place, 1_024)) as server:
+        with open(os.path.join(here, name), "w", encoding="utf-8") as file:
+            file.write(code.replace("7777", str(server.port)))
+        status, out, errors = shell(package.first, here)
+        expect(status == 0 and out == due, f"{name} ended with {status}, {out!r} {errors[-400:]!r}, due is {due!r}")
+
+
+# A server that answers by a script
+
+CLOSE, SILENCE = object(), object()
+USUAL = {b"PING": PONG, b"BEGIN": OK, b"GET": bulk(None), b"SET": OK, b"DEL": OK, b"RANGE": pairs([]), b"COMMIT": b":1\r\n", b"ABORT": OK}
+
+
+class Scripted:
+    """Answers each request by the next answer for its name, the last one again and again; a name without answers as the store would.
+
+    An answer is bytes, a list of pieces, CLOSE for a closed connection, SILENCE for none. What was asked is counted by its name."""
+
+    def __init__(self, answers):
+        self.answers = {name.encode(): list(given) for name, given in answers.items()}
+        self.asked, self.listener = collections.Counter(), socket.create_server(("127.0.0.1", 0), backlog=64)
+        self.port, self.open = self.listener.getsockname()[1], []
+        threading.Thread(target=self._accept, daemon=True).start()
+
+    def _accept(self):
+        with contextlib.suppress(OSError):
+            while True:
+                self.open.append(self.listener.accept()[0])
+                threading.Thread(target=self._serve, args=(self.open[-1],), daemon=True).start()
+
+    def _serve(self, stream):
+        with contextlib.suppress(OSError), stream:
+            stream.setsockopt(socket.IPPROTO_TCP, socket.TCP_NODELAY, 1)
+            for name, _ in Proxy._requests(stream):
+                self.asked[name.decode()] += 1
+                given = self.answers.get(name)
+                answer = USUAL[name] if not given else given.pop(0) if len(given) > 1 else given[0]
+                if answer is CLOSE:
+                    return
+                for piece in [] if answer is SILENCE else answer if isinstance(answer, list) else [answer]:
+                    stream.sendall(piece)
+                    time.sleep(0.001 if isinstance(answer, list) else 0)
+
+    def close(self):
+        self.listener.close()
+        for stream in self.open:
+            stream.close()
+
+
+def in_pieces(reply):
+    return [reply[at:at + 1] for at in range(len(reply))]
+
+
+FULL, PIVOT = refusal("FULL transactions"), refusal("CONFLICT pivot 7")
+SET, ONCE = "set a b 0 0.5", "once a 0 0.5"
+PATIENT_SET, PATIENT_ONCE = "set a b 10 0.5", "once a 10 0.5"
+# What is scripted, the job, the answers by name, what the job prints, and how often each name is asked.
+SCRIPTS = [
+    ("the usual", SET, {}, "done", {"PING": 1, "BEGIN": 1, "SET": 1, "COMMIT": 1}),
+    ("replies in pieces", SET, {"BEGIN": [in_pieces(OK)], "COMMIT": [in_pieces(b":123\r\n")]}, "done", {"COMMIT": 1}),
+    ("a conflict", SET, {"COMMIT": [PIVOT]}, "Conflict pivot 7", {"BEGIN": 1, "COMMIT": 1, "ABORT": 0}),
+    ("a key overwritten", SET, {"COMMIT": [refusal("CONFLICT overwritten 00ff")]}, "Conflict key 00ff", {"COMMIT": 1}),
+    ("three conflicts", PATIENT_SET, {"COMMIT": [PIVOT, PIVOT, PIVOT, b":1\r\n"]}, "done", {"BEGIN": 4, "SET": 4, "COMMIT": 4}),
+    ("64 others", SET, {"BEGIN": [FULL]}, "Full transactions", {"BEGIN": 1, "ABORT": 0}),
+    ("64 others for a while", PATIENT_SET, {"BEGIN": [FULL] * 3 + [OK]}, "done", {"BEGIN": 4, "SET": 1, "COMMIT": 1}),
+    ("a full log", PATIENT_SET, {"COMMIT": [refusal("FULL log")]}, "Full log", {"COMMIT": 1}),
+    ("a stopped store", PATIENT_SET, {"BEGIN": [refusal("STORE stopped")]}, "Stopped", {"BEGIN": 1}),
+    ("a store that stops", PATIENT_SET, {"COMMIT": [refusal("STORE stopped")]}, "Stopped", {"COMMIT": 1}),
+    ("a fault", PATIENT_SET, {"COMMIT": [refusal("STORE fault")]}, "Lost", {"COMMIT": 1}),
+    ("a refusal amid it", PATIENT_SET, {"SET": [refusal("ERR key")]}, "Refused ERR key", {"BEGIN": 1, "SET": 1, "ABORT": 1, "COMMIT": 0}),
+    ("no room for a write", PATIENT_SET, {"SET": [refusal("FULL writes")]}, "Full writes", {"ABORT": 1, "COMMIT": 0}),
+    ("a COMMIT that is cut", PATIENT_SET, {"COMMIT": [CLOSE]}, "Lost", {"BEGIN": 1, "COMMIT": 1}),
+    ("a COMMIT without a reply", PATIENT_SET, {"COMMIT": [SILENCE]}, "Lost", {"BEGIN": 1, "COMMIT": 1}),
+    ("half a reply to COMMIT", PATIENT_SET, {"COMMIT": [[b":1"]]}, "Lost", {"COMMIT": 1}),
+    ("a reply that is none", SET, {"SET": [b"?\r\n"]}, "Unreachable", {"SET": 1, "COMMIT": 0}),
+    ("cut at BEGIN", SET, {"BEGIN": [CLOSE]}, "Unreachable", {"BEGIN": 1, "SET": 0}),
+    ("cut at BEGIN once", PATIENT_SET, {"BEGIN": [CLOSE, OK]}, "done", {"BEGIN": 2, "COMMIT": 1}),
+    ("cut at SET once", PATIENT_SET, {"SET": [CLOSE, OK]}, "done", {"BEGIN": 2, "SET": 2, "COMMIT": 1}),
+    ("no reply to SET once", PATIENT_SET, {"SET": [SILENCE, OK]}, "done", {"BEGIN": 2, "SET": 2, "COMMIT": 1, "ABORT": 0}),
+    ("no reply to PING", PATIENT_SET, {"PING": [SILENCE]}, "Unreachable", {"PING": 1, "BEGIN": 0}),
+    ("cut at PING", PATIENT_SET, {"PING": [CLOSE]}, "Unreachable", {"PING": 1, "BEGIN": 0}),
+    ("once", ONCE, {}, "made", {"GET": 1, "SET": 1, "COMMIT": 1}),
+    ("once, done before", ONCE, {"GET": [bulk(b"before")]}, "before", {"GET": 1, "SET": 0, "COMMIT": 1}),
+    ("once, cut, and carried out", PATIENT_ONCE, {"COMMIT": [CLOSE, b":1\r\n"], "GET": [bulk(None), bulk(b"made")]}, "made", {"SET": 1, "COMMIT": 2}),
+    ("once, cut, and not carried out", PATIENT_ONCE, {"COMMIT": [CLOSE, b":1\r\n"]}, "made", {"SET": 2, "COMMIT": 2}),
+    ("once, cut, at the deadline", ONCE, {"COMMIT": [CLOSE]}, "Lost", {"COMMIT": 1}),
+    ("once, cut, then stopped", PATIENT_ONCE, {"COMMIT": [CLOSE], "BEGIN": [OK, refusal("STORE stopped")]}, "Lost", {"BEGIN": 2, "COMMIT": 1}),
+    ("once, a fault, then stopped", PATIENT_ONCE, {"COMMIT": [refusal("STORE fault")], "BEGIN": [OK, refusal("STORE stopped")]}, "Lost", {"BEGIN": 2}),
+    ("once, a full log", PATIENT_ONCE, {"COMMIT": [refusal("FULL log")]}, "Full log", {"COMMIT": 1}),
+]
+
+
+def judge_script(out, asked, due, counts):
+    expect(out == due + "\n", f"it printed {out!r}, due is {due}")
+    wrong = {name: asked[name] for name, count in counts.items() if asked[name] != count}
+    expect(not wrong, f"it asked {wrong}, due is {counts}")
+
+
+def scripted(package, what, words, answers, due, counts):
+    server = Scripted(answers)
+    try:
+        judge_script(ended(package.job(server.port, *words.split())), server.asked, due, counts)
+    except Deviation as found:
+        raise Deviation(f"{what}: {found}") from None
+    finally:
+        server.close()
+
+
+def no_server(package):
+    with socket.create_server(("127.0.0.1", 0)) as closed:
+        port = closed.getsockname()[1]
+    found = ended(package.job(port, *PATIENT_SET.split()))
+    expect(found == "Unreachable\n", f"without a server it printed {found!r}")
+
+
+# Frames, versions, lengths
+
+def bytes_of(word):
+    return b"" if word == "-" else bytes.fromhex(word)
+
+
+def frames():
+    """Each row of frames.txt as the model has it."""
+    with open(os.path.join(CLIENTS, "frames.txt"), encoding="utf-8") as file:
+        rows = [re.split(r" = ", line.strip().partition(" ")[2]) for line in file if line.startswith(("request", "reply"))]
+    expect(len(rows) > 15, f"there are {len(rows)} rows")
+    for left, right in rows:
+        kind, *words = right.split()
+        parts = [bytes_of(word) for word in words if kind != "number"]
+        due = {"done": lambda: b"+%s\r\n" % parts[0], "refused": lambda: b"-%s\r\n" % parts[0], "number": lambda: b":%d\r\n" % int(words[0]),
+               "value": lambda: bulk(parts[0]), "none": lambda: bulk(None), "pairs": lambda: pairs(list(zip(parts[0::2], parts[1::2])))}
+        if kind in due:
+            expect(bytes_of(left) == due[kind](), f"the reply {left} isn't {right}")
+        else:
+            request = [bytes_of(word) for word in left.split()]
+            expect(bytes_of(kind) == frame(*request) and decode(frame(*request))[0] == request, f"the request {left} isn't {right}")
+
+
+def code_lines(text):
+    """How many lines of code there are: those that hold a word, outside of comments."""
+    text = re.sub(r'"""(.|\n)*?"""', "", text)
+    return sum(bool(re.search(r"\w", line)) and not re.match(r"\s*(#|//|/\*|\*)", line) for line in text.splitlines())
+
+
+def length_and_version(package):
+    sources, here = [], os.path.join(CLIENTS, package.place)
+    for place, _, names in os.walk(here):
+        sources += [os.path.join(place, name) for name in names if re.fullmatch(package.sources, os.path.relpath(os.path.join(place, name), here))]
+    lines = 0
+    for name in sources:
+        with open(name, encoding="utf-8") as file:
+            lines += code_lines(file.read())
+    expect(0 < lines <= LINES_MAX, f"it has {lines} lines of code")
+    with open(os.path.join(here, package.version[0]), encoding="utf-8") as file:
+        found = re.search(package.version[1], file.read(), re.M)
+    due = run(["--version"])[1].decode().split()[-1]
+    expect(found and found[1] == due, f"its version is {found and found[1]}, that of the program {due}")
+
+
+def judges():
+    """The judges find what is wrong."""
+    right = {(worker, turn): True for worker in range(WORKERS) for turn in range(1)}
+    stored = [(b"blue:%03d" % time_of(*one)[1], b"%d %d %d" % (time_of(*one)[0], *one)) for one in right]
+    judge_bookings(right, stored, 1)
+    for said, kept, times in ((right, stored[1:], 1), (right, stored + stored[:1], 1), (right, stored, 2), ({**right, (0, 0): False}, stored[1:], 1),
+                              ({**right, (0, 7): True}, stored + [(b"blue:052", b"49 0 7")], 1)):
+        expect(is_refused(judge_bookings, said, kept, times), f"{said} with {kept} was taken")
+    for out, asked in (("Lost\n", {"COMMIT": 2}), ("done\n", {"COMMIT": 1})):
+        expect(is_refused(judge_script, out, collections.Counter(asked), "Lost", {"COMMIT": 1}), f"{out} with {asked} was taken")
+    expect(code_lines('a\n\n# b\n"""c\nd\n"""\n // e\nf // g\n') == 2, "lines are counted in another way")
+
+
+# All packages at once
+
+def parts_of(package, filled):
+    """The runs of a package, each with its name."""
+    yield "length and version", lambda: length_and_version(package)
+    if package.test:
+        yield "its tests", lambda: expect_command(package, package.test)
+    if package.first:
+        yield "its README", lambda: readme(package)
+    yield "all at once", lambda: all_at_once(package)
+    yield "reservations", lambda: reservations(package)
+    yield "a walk", lambda: filled.walk(package)
+    yield "errors", lambda: errors(package)
+    yield "no server", lambda: no_server(package)
+    for script in SCRIPTS:
+        yield "a script", lambda script=script: scripted(package, *script)
+    for part in (conflicts, cuts, kills) if is_long() else ():
+        yield part.__name__, lambda part=part: part(package)
+
+
+def expect_command(package, command):
+    found = shell(command, os.path.join(package.copy, package.place))
+    expect(found[0] == 0, f"{command} ended with {found[0]}: {(found[1] + found[2])[-600:]}")
+
+
+def play(package, filled):
+    """All runs of a package, with how long they took."""
+    tally, begun = Tally(f"packages, {package.name}"), time.monotonic()
+    with folder() as place:
+        package.copy = os.path.join(place, "clients")
+        shutil.copytree(CLIENTS, package.copy, ignore=shutil.ignore_patterns("out", "__pycache__"))
+        if package.build:
+            with tally.run("build"):
+                expect_command(package, package.build)
+        for what, part in parts_of(package, filled):
+            with tally.run(what):
+                part()
+    return tally, time.monotonic() - begun
+
+
+def main():
+    need(PROGRAM)
+    tally = Tally("packages")
+    with tally.run("judges"):
+        judges()
+    with tally.run("frames"):
+        frames()
+    there = [package for package in PACKAGES if package.is_there()]
+    for package in PACKAGES:
+        if package not in there:
+            missing(f"the package for {package.name}", package.needs)
+    with folder() as place, concurrent.futures.ThreadPoolExecutor(len(there)) as threads:
+        filled = Filled(place)
+        try:
+            for found, seconds in threads.map(lambda package: play(package, filled), there):
+                tally.runs += found.runs
+                tally.deviations.update({f"{found.name}: {text}": places for text, places in found.deviations.items()})
+                print(f"  {found.name}: {found.runs} runs in {seconds:.0f} seconds", flush=True)
+        finally:
+            filled.server.kill()
+    return 0 if tally.end() else 1
+
+
+if __name__ == "__main__":
+    run_harness(main)
