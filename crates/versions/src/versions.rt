@@ -231,6 +231,6 @@ impl Versions {
         ensures unmixed { UnmixedWhereHeld begins.now self.old self.new }
         ensures stands { StandWhereAmong begins.now self.old self.new }
     {
-        while self.reclaim_step(begins) {}
+        'steps: while self.reclaim_step(begins) {}
     }
 }

@@ -1,23 +1,23 @@
 use Rattle.versions.proofs.{Words.rules, Stores.seen-itself, Stores.seen-on, Stores.reclaimed-on, Histories.stands-itself, Histories.stands-on, Histories.unmixed-on}
 use Rattle.versions.proofs.versions.Versions.reclaim.Goals as goal
 
-pub loop-init : goal.loop-init
-loop-init c = record { seen = seen-itself c.args.self.now c.args.begins.now; stands = stands-itself c.args.begins.now c.args.self.now }
+pub steps-init : goal.steps-init
+steps-init c = record { seen = seen-itself c.args.self.now c.args.begins.now; stands = stands-itself c.args.begins.now c.args.self.now }
 
-pub loop-preserved : goal.loop-preserved
-loop-preserved c =
+pub steps-preserved : goal.steps-preserved
+steps-preserved c =
     let old = c.args.self.now in
     let bs = c.args.begins.now in
     record {
-      seen = seen-on old c.loop.self c.reclaim_step.new.self bs c.loop.invariant.seen c.reclaim_step.ensures.reclaimed.seen;
-      stands = stands-on bs old c.loop.self c.reclaim_step.new.self c.loop.invariant.stands c.reclaim_step.ensures.stands;
+      seen = seen-on old c.steps.self c.reclaim_step.new.self bs c.steps.invariant.seen c.reclaim_step.ensures.reclaimed.seen;
+      stands = stands-on bs old c.steps.self c.reclaim_step.new.self c.steps.invariant.stands c.reclaim_step.ensures.stands;
     }
 
 pub returns-clause-reclaimed : goal.returns-clause-reclaimed
-returns-clause-reclaimed c = reclaimed-on c.args.self.now c.loop.self c.reclaim_step.new.self c.args.begins.now c.loop.invariant.seen (c.reclaim_step.ensures.all (search rules))
+returns-clause-reclaimed c = reclaimed-on c.args.self.now c.steps.self c.reclaim_step.new.self c.args.begins.now c.steps.invariant.seen (c.reclaim_step.ensures.all (search rules))
 
 pub returns-clause-unmixed : goal.returns-clause-unmixed
-returns-clause-unmixed c = unmixed-on c.args.begins.now c.args.self.now c.loop.self c.reclaim_step.new.self c.loop.invariant.stands c.reclaim_step.ensures.unmixed
+returns-clause-unmixed c = unmixed-on c.args.begins.now c.args.self.now c.steps.self c.reclaim_step.new.self c.steps.invariant.stands c.reclaim_step.ensures.unmixed
 
 pub returns-clause-stands : goal.returns-clause-stands
-returns-clause-stands c = stands-on c.args.begins.now c.args.self.now c.loop.self c.reclaim_step.new.self c.loop.invariant.stands c.reclaim_step.ensures.stands
+returns-clause-stands c = stands-on c.args.begins.now c.args.self.now c.steps.self c.reclaim_step.new.self c.steps.invariant.stands c.reclaim_step.ensures.stands
