@@ -85,8 +85,8 @@ impl History {
     }
 
     /// Drops versions that are neither the newest of their keys nor seen from one of the numbers, as `Versions::reclaim` does, and what was
-    /// kept of commits with a number of at most `oldest`, as `Committed::forget` does. Answers whether it has to be called again until all of
-    /// that is gone.
+    /// kept of commits with a number of at most `oldest`, as `Committed::forget_step` does. Answers whether it has to be called again until
+    /// all of that is gone.
     pub(crate) fn reclaim(&mut self, begins: &[u64], oldest: u64) -> bool
         requires { oldest ≤ self.old.committed.facts.last }
         ensures stands { KeepsHeld self.old self.new begins.now }
@@ -99,7 +99,7 @@ impl History {
         ensures unmixed { Unmixes self.old self.new begins.now }
     {
         let versions_due = self.versions.reclaim(begins);
-        let runs_due = self.committed.forget(oldest);
+        let runs_due = self.committed.forget_step(oldest);
         versions_due || runs_due
     }
 }
