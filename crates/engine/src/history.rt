@@ -84,7 +84,7 @@ impl History {
         number
     }
 
-    /// A step of what `reclaim` does, which is short: those of `Versions::reclaim_step` and `Committed::forget`. Answers whether it has to be
+    /// A step of what `reclaim` does, which is short: those of `Versions::reclaim_step` and `Committed::forget_step`. Answers whether it has to be
     /// called again until all is done.
     pub(crate) fn reclaim_step(&mut self, begins: &[u64], oldest: u64) -> bool
         requires { oldest ≤ self.old.committed.facts.last }
@@ -98,7 +98,7 @@ impl History {
         ensures unmixed { Unmixes self.old self.new begins.now }
     {
         let versions_due = self.versions.reclaim_step(begins);
-        let runs_due = self.committed.forget(oldest);
+        let runs_due = self.committed.forget_step(oldest);
         versions_due || runs_due
     }
 

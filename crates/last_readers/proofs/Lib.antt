@@ -4,3 +4,4 @@ pub mod MergeLaws
 pub mod RunLaws
 pub mod MarkSteps
 pub mod Words
+pub mod Sweeps

@@ -1,6 +1,6 @@
 -- Two step functions made into one, from their ends.
-use Rattle.last_readers.proofs.Words.{◌≡◌, ℕ, Bool, true, false, List, [], ◌∷◌, ◌++◌, length, refl, sym, ap, subst, ◌∙◌, arith, max, if◌then◌else◌, Less, Equal, is_le, nat_tests, append_assoc, length_push, same_from_push, Bytes, key_cmp, StepValue, is_level, by_order, number_from, number_at, merged_at, end_of, are_over, steps_rise, are_under, cut, later, EndsOver, EndsEqual, IsParted, IsJoined, with_step, turned, itself, same_keys, turned_less}
-use Rattle.std.proofs.{lemmas.Bool.and_parts, Math.Nat.max_comm}
+use Rattle.last_readers.proofs.Words.{◌≡◌, ℕ, Bool, true, false, List, [], ◌∷◌, ◌++◌, length, refl, sym, ap, subst, ◌∙◌, arith, max, if◌then◌else◌, Less, Equal, is_le, nat_tests, append_assoc, length_push, same_from_push, Bytes, key_cmp, StepValue, is_level, by_order, number_from, number_at, merged_at, end_of, are_over, steps_rise, are_under, is_step_from, steps_from, cut, later, EndsOver, EndsEqual, IsParted, IsJoined, with_step, turned, itself, same_keys, turned_less}
+use Rattle.std.proofs.{lemmas.Bool.and_parts, lemmas.List.Folds.list_all-append, Math.Nat.max_comm}
 use Rattle.last_readers.proofs.StepLaws.{around, put_between, over_less, under_more, low, high, end_push, number_push, end_is, under_last}
 
 -- ---- the steps below a key
@@ -14,6 +14,7 @@ parted_popped xs ys w is rise =
       below = λ j e. number_push 0 ys w j under ∙ ap (λ o. by_order o (number_at ys j) w.at w.above) e;
       above = λ j e. number_push 0 ys w j under ∙ ap (λ o. by_order o (number_at ys j) w.at w.above) (turned_less w.key j e) ∙ sym (end_push 0 ys w);
       under = under;
+      from = λ n h. (and_parts _ _ (sym (list_all-append (is_step_from n) ys (w ∷ [])) ∙ h)).0;
       rising = λ ts h. (around ys w ts (ap steps_rise (sym (append_assoc ys (w ∷ []) ts)) ∙ h)).without;
     })
 
@@ -23,6 +24,7 @@ parted_kept xs k under = record {
   below = λ j e. refl;
   above = λ j e. high 0 xs j (under_more k j xs (ap is_le e) under);
   under = under;
+  from = λ n h. h;
   rising = λ ts h. h;
 }
 

@@ -1,6 +1,7 @@
 -- The greatest numbers of several runs.
-use Rattle.last_readers.proofs.Words.{◌≡◌, ◌+◌, ℕ, List, [], ◌∷◌, ◌++◌, length, drop, arith, max, deque_len, nil_from_length, Bytes, StepValue, number_at, number_in, merged_at, cut, greatest_at}
-use Rattle.last_readers.specs.{declared.run.ReadRun.ReadRun, Inside.run_of, Inside.runs_in, Agreeing.greatest-append}
+use Rattle.last_readers.proofs.Words.{◌≡◌, ◌≤◌, ◌+◌, true, refl, ◌∙◌, ◌&&◌, are_from, steps_from, ℕ, List, [], ◌∷◌, ◌++◌, length, drop, arith, max, deque_len, nil_from_length, Bytes, StepValue, number_at, number_in, merged_at, cut, greatest_at}
+use Rattle.last_readers.specs.{declared.run.ReadRun.ReadRun, Inside.run_of, Inside.runs_in, Agreeing.from_more, Agreeing.greatest-append}
+use Rattle.std.proofs.lemmas.Bool.{and_from, and_parts}
 use Rattle.last_readers.proofs.StepLaws.{at_rest}
 
 pub greatest_added : (rs : List ReadRun) (r : ReadRun) (k : Bytes) → greatest_at (runs_in (rs ++ r ∷ [])) k ≡ max (greatest_at (runs_in rs) k) (number_in (run_of r) k)
@@ -15,6 +16,17 @@ pub joined_runs : (first second : ReadRun) (xs made : List StepValue) (k : Bytes
     → merged_at xs second.made.items made k ≡ max (number_in (run_of first) k) (number_in (run_of second) k)
 joined_runs first second xs made k rest rests is none =
     grind (arith, nil_from_length made none, resting first k rest, resting second k rests)
+
+made_from : (r : ReadRun) → steps_from r.earliest r.made.items ≡ true
+made_from r =
+    let others = and_parts (steps_from r.earliest r.first.items) (steps_from r.earliest r.second.items && steps_from r.earliest r.made.items) r.numbers in
+    (and_parts (steps_from r.earliest r.second.items) (steps_from r.earliest r.made.items) others.1).1
+
+-- the numbers of both are from the lesser of theirs on
+pub joined_are_from : (n : ℕ) (first second : ReadRun) (xs made : List StepValue) → n ≤ first.earliest → n ≤ second.earliest → xs ≡ first.made.items → length made ≡ 0 → are_from n xs second.made.items made ≡ true
+joined_are_from n first second xs made low lower is none =
+    (λ i. are_from n (is i) second.made.items (nil_from_length made none i))
+    ∙ and_from _ _ (from_more n first.earliest first.made.items low (made_from first)) (and_from _ _ (from_more n second.earliest second.made.items lower (made_from second)) refl)
 
 -- ---- a look-up in one run after another
 

@@ -6,7 +6,7 @@ use Rattle.std.proofs.{lemmas.Bool.and_parts, lemmas.List.Folds.list_all-append,
 
 -- ---- lists that rise
 
-over_both : (x : StepValue) (xs ys : List StepValue) → are_over x.key (xs ++ ys) ≡ (are_over x.key xs && are_over x.key ys)
+pub over_both : (x : StepValue) (xs ys : List StepValue) → are_over x.key (xs ++ ys) ≡ (are_over x.key xs && are_over x.key ys)
 over_both x xs ys = list_all-append (λ s. is_lt (key_cmp x.key s.key)) xs ys
 
 pub rises_left : (xs ys : List StepValue) → steps_rise (xs ++ ys) ≡ true → steps_rise xs ≡ true

@@ -10,5 +10,5 @@ pub use Rattle.model.proofs.Entries.{turned}
 pub use Rattle.model.proofs.KeyOrder.{itself, le_of_lt, less, less_trans, lt_le_trans, lt_of_not_le, lt_trans, same_keys, turned_greater, turned_less}
 pub use Rattle.model.specs.Map.{Bytes, key_cmp}
 pub use Rattle.last_readers.specs.Merging.{EndsEqual, EndsOver, IsJoined, IsParted, later, with_step}
-pub use Rattle.last_readers.specs.Readers.{cut, greatest_at}
-pub use Rattle.last_readers.specs.Steps.{are_over, are_under, by_order, end_from, end_of, in_place_of, is_level, merged_at, number_at, number_from, number_in, renumbered, span_at, steps_rise, StepValue}
+pub use Rattle.last_readers.specs.Readers.{greatest_at}
+pub use Rattle.last_readers.specs.Steps.{are_from, are_over, are_under, by_order, cut, cut_step, end_from, end_of, in_place_of, is_from, is_level, is_step_from, is_told, merged_at, number_at, number_from, number_in, renumbered, span_at, steps_from, steps_rise, StepValue, swept}

@@ -1,9 +1,9 @@
 -- Runs that answer as others do.
-use Rattle.std.proofs.Common.{◌≡◌, ◌≤◌, ℕ, List, [], ◌∷◌, ◌++◌, sym, ap, ◌∙◌, arith}
+use Rattle.std.proofs.Common.{◌≡◌, ◌≤◌, ◌<◌, ◌+◌, ℕ, true, refl, List, [], ◌∷◌, ◌++◌, sym, ap, ◌∙◌, arith}
 use Rattle.std.specs.Prelude.{max}
 use Rattle.std.proofs.lemmas.Bool.Decides.{nat_tests}
 use Rattle.model.specs.Map.{Bytes}
-use Rattle.last_readers.specs.{declared.run.ReadRun.ReadRun, Steps.number_in, Readers.cut, Readers.greatest_at, Inside.run_of, Inside.runs_in}
+use Rattle.last_readers.specs.{declared.run.ReadRun.ReadRun, Steps.StepValue, Steps.cut, Steps.is_run_from, Steps.number_in, Steps.steps_from, Readers.greatest_at, Inside.run_of, Inside.runs_in}
 
 -- at each key the numbers are the same, where those up to that one count as none
 abbrev pub Agree : ℕ → List ReadRun → List ReadRun → Type 0
@@ -23,6 +23,17 @@ agree_between o front xs ys behind same k =
     let all : (zs : List ReadRun) → greatest_at (runs_in (front ++ (zs ++ behind))) k ≡ max f (max (greatest_at (runs_in zs) k) b)
     = λ zs. greatest-append front (zs ++ behind) k ∙ ap (max f) (greatest-append zs behind k) in
     ap (cut o) (all xs) ∙ one_of_three o f (greatest_at (runs_in xs) k) (greatest_at (runs_in ys) k) b (same k) ∙ sym (ap (cut o) (all ys))
+
+-- the numbers of a run are above one that the least of them is above
+pub from_more : (m n : ℕ) (ss : List StepValue) → m ≤ n → steps_from n ss ≡ true → steps_from m ss ≡ true
+from_more m n [] le h = refl
+from_more m n (s ∷ ss) le h = grind (arith, nat_tests, from_more m n ss le)
+
+pub from_later : (o : ℕ) (r : ReadRun) → o < r.earliest → is_run_from (o + 1) (run_of r) ≡ true
+from_later o r lt =
+    let more = λ (ss : List StepValue). from_more (o + 1) r.earliest ss (omega arith) in
+    let numbers = r.numbers in
+    grind (arith, more r.first.items, more r.second.items, more r.made.items)
 
 none_up_to : (o n : ℕ) → n ≤ o → cut o 0 ≡ cut o (max n 0)
 none_up_to o n le = grind (arith, nat_tests)

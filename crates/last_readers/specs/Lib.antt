@@ -1,5 +1,6 @@
 pub mod Steps
 pub mod Merging
+pub mod Sweeping
 pub mod Readers
 pub mod Inside
 pub mod Agreeing

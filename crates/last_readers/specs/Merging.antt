@@ -2,8 +2,7 @@
 use Rattle.std.specs.Prelude.{◌≡◌, ◌<◌, ℕ, max, true, List, length, [], ◌∷◌, ◌++◌, if◌then◌else◌}
 use Rattle.std.specs.declared.cmp.Ordering.TheVariants.{Less}
 use Rattle.model.specs.Map.{Bytes, key_cmp}
-use Rattle.last_readers.specs.Steps.{StepValue, is_level, number_at, merged_at, end_of, steps_rise, are_under}
-use Rattle.last_readers.specs.Readers.{cut}
+use Rattle.last_readers.specs.Steps.{StepValue, cut, is_level, number_at, merged_at, are_from, end_of, steps_from, steps_rise, are_under}
 
 -- the number that is kept of two: the greater, where it is above o
 abbrev pub later : ℕ → ℕ → ℕ → ℕ
@@ -25,6 +24,7 @@ pub record IsParted (xs : List StepValue) (k : Bytes) (ys : List StepValue) : Ty
   pub below : (j : Bytes) → key_cmp j k ≡ Less → number_at xs j ≡ number_at ys j
   pub above : (j : Bytes) → key_cmp k j ≡ Less → number_at xs j ≡ end_of xs
   pub under : are_under k ys ≡ true
+  pub from : (n : ℕ) → steps_from n xs ≡ true → steps_from n ys ≡ true
   pub rising : (ts : List StepValue) → steps_rise (xs ++ ts) ≡ true → steps_rise (ys ++ ts) ≡ true
 
 -- the greatest key of xs and ys was taken off both: m is its step in both as one
@@ -42,6 +42,10 @@ with_step m below ts = if is_level below m then ts else m ∷ ts
 -- so a step was put in front of what was made, where xs and ys are left; its numbers up to o count as none
 abbrev pub IsMade : ℕ → List StepValue → List StepValue → List StepValue → List StepValue → Type 0
 IsMade o xs ys ts ts' = (m : StepValue) × (m.at ≡ cut o m.at) × (m.above ≡ cut o m.above) × (ts' ≡ with_step m (later o (end_of xs) (end_of ys)) ts)
+
+-- the numbers of the new lists are none or from n on, where those of the old ones are
+abbrev pub StayFrom : List StepValue → List StepValue → List StepValue → List StepValue → List StepValue → List StepValue → Type 0
+StayFrom xs ys ts xs' ys' ts' = (n : ℕ) → are_from n xs' ys' ts' ≡ true → are_from n xs ys ts ≡ true
 
 -- at each key the number of the lists that are being merged stays, where those up to o count as none
 abbrev pub StayMerged : ℕ → List StepValue → List StepValue → List StepValue → List StepValue → List StepValue → List StepValue → Type 0

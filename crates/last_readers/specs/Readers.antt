@@ -1,9 +1,9 @@
 -- The last reader of each key, by commit number.
-use Rattle.std.specs.Prelude.{◌≡◌, ℕ, ◌<◌, ◌≤◌, max, nat_lt, List, [], ◌∷◌, length, Option, Some, None, IsSome, if◌then◌else◌}
+use Rattle.std.specs.Prelude.{◌≡◌, ℕ, ◌<◌, ◌≤◌, ◌+◌, max, nat_lt, true, All, List, [], ◌∷◌, length, Option, Some, None, IsSome, if◌then◌else◌}
 use Rattle.model.specs.{Map.Bytes, PrivateCopy.Mark, PrivateCopy.is_covered}
 use Rattle.merging_runs.specs.Held.{Held, due_upto}
 use Rattle.merging_runs.specs.RunSizes.{RunSize, IsMoved, moves_for, with_run}
-use Rattle.last_readers.specs.Steps.{StepValue, RunValue, number_at, number_in}
+use Rattle.last_readers.specs.Steps.{StepValue, RunValue, cut, is_run_from, number_at, number_in}
 
 -- what is kept: numbers by key in several runs, some of which may be being made of two, those up to `oldest` counting as none
 pub record Readers : Type 0 where
@@ -25,10 +25,6 @@ pub record LastReadersValue : Type 0 where
 -- how much is to be given back of runs all of whose numbers are forgotten
 abbrev pub due_of : LastReadersValue → ℕ
 due_of v = due_upto v.readers.oldest v.held
-
--- n, where it is above o, else 0
-abbrev pub cut : ℕ → ℕ → ℕ
-cut o n = if nat_lt o n then n else 0
 
 -- the greatest number that a run has at the key
 abbrev pub greatest_at : List RunValue → Bytes → ℕ
@@ -63,6 +59,10 @@ IsNoted marks n old new = (k : Bytes) → last_reader new k ≡ (if is_covered m
 -- the last readers up to that number are forgotten
 abbrev pub IsForgotten : ℕ → Readers → Readers → Type 0
 IsForgotten oldest old new = (k : Bytes) → last_reader new k ≡ cut oldest (last_reader old k)
+
+-- no step of the runs names a number up to that one, but for 0, which is nobody
+abbrev pub NameNoneUpto : ℕ → Readers → Type 0
+NameNoneUpto oldest r = All (λ (run : RunValue). is_run_from (oldest + 1) run ≡ true) r.runs
 
 -- some marks can be noted
 pub record IsReady (room : ReadersRoom) : Type 0 where

@@ -1,5 +1,5 @@
 -- Numbers by key as a step function: its steps by strictly rising key.
-use Rattle.std.specs.Prelude.{◌≡◌, ℕ, max, Bool, true, ◌&&◌, ◌==◌, if◌then◌else◌, List, [], ◌∷◌}
+use Rattle.std.specs.Prelude.{◌≡◌, ℕ, max, nat_lt, nat_le, Bool, true, false, ◌&&◌, ◌||◌, ◌==◌, if◌then◌else◌, List, [], ◌∷◌, Option, Some, None}
 use Rattle.std.specs.{List.list_all, Ordering.is_lt, Ordering.is_le, declared.cmp.Ordering.Ordering}
 use Rattle.std.specs.declared.cmp.Ordering.TheVariants.{Less, Equal, Greater}
 use Rattle.model.specs.Map.{Bytes, key_cmp}
@@ -64,6 +64,37 @@ steps_rise (s ∷ ss) = are_over s.key ss && steps_rise ss
 abbrev pub are_under : Bytes → List StepValue → Bool
 are_under k ss = list_all (λ s. is_lt (key_cmp s.key k)) ss
 
+-- n, where it is above o, else 0
+abbrev pub cut : ℕ → ℕ → ℕ
+cut o n = if nat_lt o n then n else 0
+
+-- 0 in the place of each number up to o
+abbrev pub cut_step : ℕ → StepValue → StepValue
+cut_step o s = record { key = s.key; at = cut o s.at; above = cut o s.above }
+
+-- whether the step says no more than that the numbers from its key on are the one that is told
+abbrev pub is_told : Option ℕ → StepValue → Bool
+is_told None s = false
+is_told (Some n) s = is_level n s
+
+-- 0 in the place of each number up to o, without the steps that say no more then than those before them, where `told` is the number that
+-- they tell of the keys from theirs on
+abbrev pub swept : ℕ → Option ℕ → List StepValue → List StepValue
+swept o told [] = []
+swept o told (s ∷ ss) = let t = cut_step o s in if is_told told t then swept o told ss else t ∷ swept o (Some t.above) ss
+
+-- whether the number is none, or one from n on
+abbrev pub is_from : ℕ → ℕ → Bool
+is_from n m = m == 0 || nat_le n m
+
+-- whether both numbers of the step are
+abbrev pub is_step_from : ℕ → StepValue → Bool
+is_step_from n s = is_from n s.at && is_from n s.above
+
+-- whether those of all steps are
+abbrev pub steps_from : ℕ → List StepValue → Bool
+steps_from n ss = list_all (is_step_from n) ss
+
 -- the number n in the place of one that isn't 0
 abbrev pub in_place_of : ℕ → ℕ → ℕ
 in_place_of n was = if was == 0 then 0 else n
@@ -82,3 +113,11 @@ steps_between lo end at = record { key = lo; at = 1; above = 1 } ∷ record { ke
 -- where two lists of steps are being merged, the numbers are n in the place of those of the steps ss
 abbrev pub AreNumbered : ℕ → List StepValue → List StepValue → List StepValue → List StepValue → Type 0
 AreNumbered n xs ys ts ss = (k : Bytes) → merged_at xs ys ts k ≡ in_place_of n (number_at ss k)
+
+-- whether those of three lists are
+abbrev pub are_from : ℕ → List StepValue → List StepValue → List StepValue → Bool
+are_from n xs ys ts = steps_from n xs && (steps_from n ys && steps_from n ts)
+
+-- whether no step of the run names a number below n but 0, which is none
+abbrev pub is_run_from : ℕ → RunValue → Bool
+is_run_from n r = are_from n r.first r.second r.made

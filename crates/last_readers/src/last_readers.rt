@@ -1,11 +1,11 @@
 //! The last readers.
-ghost use Rattle.std.specs.Prelude.{◌≡◌, ◌<◌, ◌-◌, ℕ, List, [], None, length, max, nat_lt, OnOk};
+ghost use Rattle.std.specs.Prelude.{◌≡◌, ◌<◌, ◌-◌, ℕ, List, [], None, length, max, nat_lt, false, OnOk};
 ghost use Rattle.model.specs.Map.{Bytes};
 ghost use Rattle.model.specs.PrivateCopy.{Mark};
 ghost use Rattle.merging_runs.specs.Held.{due_upto, given_a_forget, size_in};
 ghost use Rattle.last_readers.specs.Readers.{AnswerAlike, AreMoved, AreUpto, HasRoom, IsForgotten, IsNoted, IsReady};
-ghost use Rattle.last_readers.specs.Readers.{after, due_of, last_reader, ready_len};
-ghost use Rattle.merging_runs.specs.RunSizes.{IsTried, are_alike, left_above, with_run};
+ghost use Rattle.last_readers.specs.Readers.{NameNoneUpto, after, due_of, last_reader, ready_len};
+ghost use Rattle.merging_runs.specs.RunSizes.{IsTried, LeavesMerges, are_alike, with_run};
 
 use crate::gathering::steps_of;
 use crate::run::{ReadRun, Ready};
@@ -149,19 +149,33 @@ impl LastReaders {
         self.runs.move_on(self.oldest, count);
     }
 
-    /// Forgets the last readers with numbers up to `oldest`: to such keys it answers from then on that there is none. Merging leaves out what is
-    /// as old, and runs are dropped once all their numbers are as old, 1,024 of their steps a call at most, where a run counts as one step more.
-    /// Answers whether it has to be called again until no such run is left. Takes no memory.
-    pub fn forget(&mut self, oldest: u64) -> bool
+    /// Forgets the last readers with numbers up to `oldest`: to such keys it answers from then on that there is none. Of what stands in the
+    /// runs it drops a part: what is as old goes in steps, as much in each as `Runs::forget_step` tells. Merging leaves out what is as old
+    /// too. Answers whether it has to be called again until all that is as old is gone. Takes no memory.
+    pub fn forget_step(&mut self, oldest: u64) -> bool
         ensures forgotten { IsForgotten oldest self.old.readers self.new.readers }
         ensures upto { (n : ℕ) → AreUpto n self.old.readers → AreUpto n self.new.readers }
         ensures oldest { self.new.readers.oldest ≡ max self.old.readers.oldest oldest }
         ensures due { due_of self.new ≡ due_upto self.new.readers.oldest self.old.held - given_a_forget }
         ensures still { result ≡ nat_lt 0 (due_of self.new) }
-        ensures left { left_above self.new.readers.oldest self.new.runs ≡ left_above self.new.readers.oldest self.old.runs }
-        ensures refused { self.new.refused ≡ self.old.refused }
+        ensures named { result ≡ false → NameNoneUpto self.new.readers.oldest self.new.readers }
+        ensures merges { LeavesMerges self.new.readers.oldest self.old.runs self.new.runs self.old.refused self.new.refused }
     {
         self.oldest = self.oldest.max(oldest);
-        self.runs.forget(self.oldest)
+        self.runs.forget_step(self.oldest)
+    }
+
+    /// Forgets the last readers with numbers up to `oldest`, all of them at once: no step names such a number any more. It takes the time of
+    /// a look at each step that the runs hold, and no memory.
+    pub fn forget(&mut self, oldest: u64)
+        ensures forgotten { IsForgotten oldest self.old.readers self.new.readers }
+        ensures upto { (n : ℕ) → AreUpto n self.old.readers → AreUpto n self.new.readers }
+        ensures oldest { self.new.readers.oldest ≡ max self.old.readers.oldest oldest }
+        ensures due { due_of self.new ≡ 0 }
+        ensures named { NameNoneUpto self.new.readers.oldest self.new.readers }
+        ensures merges { LeavesMerges self.new.readers.oldest self.old.runs self.new.runs self.old.refused self.new.refused }
+    {
+        self.oldest = self.oldest.max(oldest);
+        self.runs.forget(self.oldest);
     }
 }

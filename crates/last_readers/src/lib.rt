@@ -11,5 +11,6 @@ mod merging;
 mod run;
 mod runs;
 mod step;
+mod sweeping;
 
 pub use last_readers::LastReaders;

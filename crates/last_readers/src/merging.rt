@@ -4,7 +4,7 @@ ghost use Rattle.std.specs.VecDeque.{deque_len, deque_capacity};
 ghost use Rattle.std.specs.declared.cmp.Ordering.TheVariants.{Less, Equal, Greater};
 ghost use Rattle.model.specs.Map.{Bytes};
 ghost use Rattle.last_readers.specs.Steps.{number_at, end_of, steps_rise};
-ghost use Rattle.last_readers.specs.Merging.{EndsOver, EndsEqual, IsJoined, IsMade, StayMerged, later, with_step};
+ghost use Rattle.last_readers.specs.Merging.{EndsOver, EndsEqual, IsJoined, IsMade, StayFrom, StayMerged, later, with_step};
 
 use crate::step::{Step, end_of};
 use std::cmp::Ordering;
@@ -115,6 +115,7 @@ pub(crate) fn move_greatest(
     requires room { deque_len to.old < deque_capacity to.old }
     ensures same { StayMerged oldest first.new.items second.new.items to.new.items first.old.items second.old.items to.old.items }
     ensures made { IsMade oldest first.new.items second.new.items to.old.items to.new.items }
+    ensures from { StayFrom first.new.items second.new.items to.new.items first.old.items second.old.items to.old.items }
     ensures first { IsTrue (steps_rise (first.new.items ++ to.new.items)) }
     ensures second { IsTrue (steps_rise (second.new.items ++ to.new.items)) }
     ensures fewer { deque_len first.new + deque_len second.new < deque_len first.old + deque_len second.old }

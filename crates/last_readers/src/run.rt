@@ -2,7 +2,7 @@
 ghost use Rattle.std.specs.Prelude.{◌≡◌, ◌≤◌, ◌+◌, ◌-◌, ◌++◌, IsTrue, map};
 ghost use Rattle.std.specs.VecDeque.{deque_len, deque_capacity};
 ghost use Rattle.model.specs.Map.{Bytes};
-ghost use Rattle.last_readers.specs.Steps.{AreNumbered, steps_rise, merged_at, renumbered};
+ghost use Rattle.last_readers.specs.Steps.{AreNumbered, are_from, steps_rise, merged_at, renumbered};
 
 use crate::step::{Step, number_from};
 use model::KeyRef;
@@ -15,11 +15,13 @@ pub(crate) struct Ready {
     ghost rising: { IsTrue (steps_rise steps.items) },
 }
 
-/// For each key the number of its last reader among commits that came one after another, and a number that none is above. It is at rest,
-/// with all its steps in `made`, or is being made of two runs. Then it has places for what is left of them.
+/// For each key the number of its last reader among commits that came one after another, a number that none is above, and one that none is
+/// below. It is at rest, with all its steps in `made`, or is being made of two runs. Then it has places for what is left of them.
 #[derive(Drop)]
 pub(crate) struct ReadRun {
     pub(crate) last: u64,
+    // a number that none of its numbers is below
+    pub(crate) earliest: u64,
     // what is left of the two runs that it is made of
     pub(crate) first: VecDeque<Step>,
     pub(crate) second: VecDeque<Step>,
@@ -29,6 +31,7 @@ pub(crate) struct ReadRun {
     ghost second_rises: { IsTrue (steps_rise (second.items ++ made.items)) },
     ghost room: { deque_len first + deque_len second ≤ deque_capacity made - deque_len made },
     ghost upto: { (k : Bytes) → merged_at first.items second.items made.items k ≤ last },
+    ghost numbers: { IsTrue (are_from earliest first.items second.items made.items) },
 }
 
 // This number in the place of each that isn't 0.
@@ -53,6 +56,7 @@ impl ReadRun {
         let alloc = *made.allocator();
         ReadRun {
             last: number,
+            earliest: number,
             first: VecDeque::new(alloc),
             second: VecDeque::new(alloc),
             made,

@@ -1,16 +1,18 @@
 //! Runs of numbers by key, merged in steps.
-ghost use Rattle.std.specs.Prelude.{◌≡◌, ◌≤◌, ◌<◌, ◌+◌, ◌++◌, [], ◌∷◌, max};
+ghost use Rattle.std.specs.Prelude.{◌≡◌, ◌≤◌, ◌<◌, ◌+◌, ◌++◌, [], ◌∷◌, IsTrue, max};
 ghost use Rattle.std.specs.VecDeque.{deque_len, deque_capacity};
-ghost use Rattle.last_readers.specs.Readers.{IsWithRun, cut, greatest_at};
+ghost use Rattle.last_readers.specs.Readers.{IsWithRun, greatest_at};
+ghost use Rattle.last_readers.specs.Steps.{cut, is_run_from};
 ghost use Rattle.last_readers.specs.Inside.{run_of, runs_in, held_of, sizes_of};
 ghost use Rattle.merging_runs.specs.RunSizes.{are_alike};
 ghost use Rattle.last_readers.specs.Merging.{IsMade};
-ghost use Rattle.last_readers.specs.Agreeing.{Agree, agree_between, none_of_old};
+ghost use Rattle.last_readers.specs.Agreeing.{Agree, agree_between, from_later, none_of_old};
 ghost use Rattle.std.proofs.Common.{refl, ◌∙◌};
 
 use crate::merging::{are_empty, move_greatest};
 use crate::run::ReadRun;
 use crate::step::Step;
+use crate::sweeping::{sweep, told_of};
 use merging_runs::{Run, Runs};
 use model::KeyRef;
 use std::alloc::Global;
@@ -62,6 +64,10 @@ impl Run for ReadRun {
 
     ghost held = { held_of };
 
+    ghost from = { λ r. r.earliest };
+
+    ghost above = { λ o r. IsTrue (is_run_from (o + 1) (run_of r)) };
+
     ghost room = { λ r. deque_capacity r.first + deque_capacity r.second };
 
     ghost fit = { λ n places. (deque_len places ≡ 0) × (n ≤ deque_capacity places) };
@@ -77,6 +83,10 @@ impl Run for ReadRun {
 
     fn last(&self) -> u64 {
         self.last
+    }
+
+    fn earliest(&self) -> u64 {
+        self.earliest
     }
 
     fn size(&self) -> usize {
@@ -106,14 +116,29 @@ impl Run for ReadRun {
     }
 
     fn join(&mut self, second: ReadRun, places: VecDeque<Step>) {
-        let ReadRun { last, made, .. } = second;
+        let ReadRun {
+            last,
+            earliest,
+            made,
+            ..
+        } = second;
         self.last = self.last.max(last);
+        self.earliest = self.earliest.min(earliest);
         self.second = made;
         self.first = mem::replace(&mut self.made, places);
     }
 
     fn move_one(&mut self, oldest: u64) {
         move_greatest(&mut self.first, &mut self.second, &mut self.made, oldest);
+        give_room_back(&mut self.first, &mut self.second);
+    }
+
+    fn sweep(&mut self, oldest: u64) {
+        sweep(&mut self.first, oldest, Some(0));
+        sweep(&mut self.second, oldest, Some(0));
+        let told = told_of(&self.first, &self.second);
+        sweep(&mut self.made, oldest, told);
+        self.earliest = oldest + 1;
         give_room_back(&mut self.first, &mut self.second);
     }
 
@@ -134,4 +159,6 @@ impl Run for ReadRun {
     ghost between = { agree_between };
 
     ghost old = { none_of_old };
+
+    ghost later = { from_later };
 }

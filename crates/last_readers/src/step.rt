@@ -2,7 +2,7 @@
 ghost use Rattle.std.specs.Prelude.{◌≡◌, ◌≤◌, IsTrue, true, if◌then◌else◌};
 ghost use Rattle.std.specs.Ordering.{is_eq};
 ghost use Rattle.model.specs.Map.{key_cmp};
-ghost use Rattle.last_readers.specs.Steps.{StepValue, is_level, number_from, end_of, steps_rise, in_place_of, renumbered};
+ghost use Rattle.last_readers.specs.Steps.{StepValue, cut, cut_step, is_level, number_from, end_of, steps_rise, in_place_of, renumbered};
 
 use model::{Key, KeyRef};
 use std::collections::VecDeque;
@@ -75,6 +75,18 @@ impl Step {
         self.at == number && self.above == number
     }
 
+    // 0 in the place of each number up to `oldest`.
+    pub(crate) fn cut(self, oldest: u64) -> Step
+        ensures { result ≡ cut_step oldest self }
+    {
+        let Step { key, at, above } = self;
+        Step {
+            key,
+            at: cut(oldest, at),
+            above: cut(oldest, above),
+        }
+    }
+
     // This number in the place of each that isn't 0.
     pub(crate) fn renumber(&mut self, number: u64)
         ensures { self.new ≡ renumbered number self.old }
@@ -82,6 +94,13 @@ impl Step {
         self.at = in_place_of(self.at, number);
         self.above = in_place_of(self.above, number);
     }
+}
+
+// The number, where it is above `oldest`, else 0.
+pub(crate) fn cut(oldest: u64, number: u64) -> u64
+    ensures { result ≡ cut oldest number }
+{
+    if oldest < number { number } else { 0 }
 }
 
 // The number, where there was one.

@@ -36,6 +36,12 @@ impl Commits {
         number
     }
 
+    fn forget_step(&mut self, oldest: u64) {
+        if oldest <= self.last {
+            self.readers.forget_step(oldest);
+        }
+    }
+
     fn forget(&mut self, oldest: u64) {
         if oldest <= self.last {
             self.readers.forget(oldest);
@@ -88,14 +94,12 @@ fn last_readers_stay_in_few_runs(rt: HostRuntime) {
         seed = next;
         commits.commit(&rt, &marks);
         if i % 16 == 15 {
-            commits.forget(i / 2);
+            commits.forget_step(i / 2);
         }
         assert!(rt; commits.readers.runs() <= 24, "after commit {i}");
         assert!(rt; commits.readers.steps() <= 96, "after commit {i}");
     }
-    for _ in 0..100 {
-        commits.forget(3_000);
-    }
+    commits.forget(3_000);
     assert!(rt; commits.readers.runs() == 0);
     assert!(rt; commits.readers.steps() == 0);
 }
@@ -124,4 +128,27 @@ fn worked_last_readers(rt: HostRuntime) {
     commits.forget(2);
     assert!(rt; commits.readers.last(key(b"b"), 0).is_none());
     assert!(rt; commits.readers.last(key(b"c"), 0) == Some(3));
+}
+
+/// Of 300 commits that read a key each the steps of the last one are left once the others are forgotten, and those that a merge had moved.
+#[test]
+fn mixed_runs_of_readers_are_swept(rt: HostRuntime) {
+    for at_once in [true, false] {
+        let mut commits = Commits::new(rt.alloc());
+        for n in 0..300u64 {
+            let bytes = [(n / 256) as u8, (n % 256) as u8];
+            let mut marks = Marks::new(rt.alloc());
+            mark(&mut marks, 5, &bytes, &bytes).expect(&rt, "marked");
+            commits.commit(&rt, &marks);
+        }
+        if at_once {
+            commits.forget(299);
+        }
+        for _ in 0..16 {
+            commits.forget_step(299);
+        }
+        assert!(rt; commits.readers.steps() <= 8);
+        assert!(rt; commits.readers.last(key(&[1, 42]), 0).is_none());
+        assert!(rt; commits.readers.last(key(&[1, 43]), 0) == Some(300));
+    }
 }

@@ -241,9 +241,31 @@ fn old_runs_go_in_steps(rt: HostRuntime) {
         assert!(rt; commit(&rt, &mut committed, &tx) == Answer::Clear);
     }
     let last = committed.last();
-    assert!(rt; last == 40 && !committed.forget(0));
-    assert!(rt; committed.forget(last) && committed.forget(last));
-    assert!(rt; !committed.forget(last) && !committed.forget(last));
+    assert!(rt; last == 40 && !committed.forget_step(0));
+    assert!(rt; committed.forget_step(last) && committed.forget_step(last));
+    assert!(rt; !committed.forget_step(last) && !committed.forget_step(last));
+}
+
+/// Of 40 transactions that wrote 64 keys each the keys of the last are left, and those that a merge had moved, once the others are
+/// forgotten: at once, or in steps, of which a look at all keys takes some.
+#[test]
+fn mixed_runs_are_swept(rt: HostRuntime) {
+    for at_once in [true, false] {
+        let mut committed = Committed::new(rt.alloc());
+        for n in 0..40u8 {
+            let tx = writer(&rt, committed.last(), n);
+            assert!(rt; commit(&rt, &mut committed, &tx) == Answer::Clear);
+        }
+        assert!(rt; committed.last() == 40 && committed.postings() >= 2_560);
+        if at_once {
+            committed.forget(39);
+        }
+        let mut steps = 0;
+        while steps < 64 && committed.forget_step(39) {
+            steps += 1;
+        }
+        assert!(rt; steps < 64 && committed.postings() <= 160);
+    }
 }
 
 // A transaction that has read what a `writer` wrote, some of its keys, and then written a key that no other one writes.
@@ -285,16 +307,14 @@ fn written_keys_stay_in_few_runs(rt: HostRuntime) {
         let writes = [(n % 101) as u8, (n % 89) as u8];
         let tx = transaction(&rt, n, &reads, &writes);
         assert!(rt; commit(&rt, &mut committed, &tx) == Answer::Clear);
-        if n % 16 == 15 {
-            forget(&mut committed, n / 2);
+        if n % 16 == 15 && n / 2 <= committed.last() {
+            committed.forget_step(n / 2);
         }
         assert!(rt; committed.runs() <= 24, "after commit {n}");
         let most = committed.kept().saturating_add(64).saturating_mul(6);
         assert!(rt; committed.postings() <= most, "after commit {n}");
     }
-    for _ in 0..100 {
-        forget(&mut committed, 2_000);
-    }
+    forget(&mut committed, 2_000);
     assert!(rt; committed.runs() == 0);
     assert!(rt; committed.postings() == 0);
 }

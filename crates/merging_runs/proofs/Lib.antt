@@ -2,3 +2,4 @@ pub mod RunSteps
 pub mod OldRuns
 pub mod Moves
 pub mod Words
+mod SweptRuns

@@ -1,5 +1,5 @@
 -- How much is to be given back of runs.
-use Rattle.merging_runs.proofs.Words.{◌≡◌, ◌≤◌, ◌<◌, ◌+◌, ℕ, zero, suc, List, [], ◌∷◌, None, Some, length, get_or, map, refl, ap, ◌∙◌, arith, nat_lt, nat_le, is_some, RunSize, HeldRun, size_upto}
+use Rattle.merging_runs.proofs.Words.{◌≡◌, ◌≤◌, ◌<◌, ◌+◌, ℕ, zero, suc, List, [], ◌∷◌, None, Some, length, get_or, map, refl, ap, ◌∙◌, arith, nat_lt, nat_le, is_some, RunSize, HeldRun, mixed_upto, size_upto}
 use Rattle.std.specs.List.{remove, position}
 use Rattle.std.proofs.{lemmas.Bool.Decides.nat_tests, lemmas.Bool.leb-true, lemmas.List.Quantifiers.position-Some}
 
@@ -15,6 +15,12 @@ pub part_of : {R : Type 0} (f : R → HeldRun) (o : ℕ) (rs : List R) (i : ℕ)
 part_of f o [] i r lt is le = absurd (omega arith)
 part_of f o (q ∷ rs) zero r lt is le = grind (arith, nat_tests, ap f is)
 part_of f o (q ∷ rs) (suc i) r lt is le = let rest = part_of f o rs i r (omega arith) is le in omega (arith, rest)
+
+-- an old run is not one with others above
+pub mixed_without : {R : Type 0} (f : R → HeldRun) (o : ℕ) (rs : List R) (i : ℕ) (r : R) → i < length rs → r ≡ get_or rs i r → (f r).last ≤ o → mixed_upto o (map f (remove rs i)) ≡ mixed_upto o (map f rs)
+mixed_without f o [] i r lt is le = absurd (omega arith)
+mixed_without f o (q ∷ rs) zero r lt is le = grind (arith, nat_tests, ap f is)
+mixed_without f o (q ∷ rs) (suc i) r lt is le = let rest = mixed_without f o rs i r (omega arith) is le in omega (arith, rest)
 
 -- no run is old
 none : {R : Type 0} (f : R → HeldRun) (o : ℕ) (rs : List R) → position (λ r. nat_le (f r).last o) rs ≡ None → size_upto o (map f rs) ≡ 0

@@ -1,16 +1,20 @@
--- How much runs hold, and how much of it is to be given back.
-use Rattle.std.specs.Prelude.{ℕ, ◌+◌, ◌-◌, ◌^◌, min, nat_le, List, [], ◌∷◌, if◌then◌else◌}
+-- How much runs hold, and how much work it is to forget what is old.
+use Rattle.std.specs.Prelude.{◌≡◌, ℕ, ◌+◌, ◌*◌, ◌-◌, ◌^◌, ◌&&◌, min, nat_le, nat_lt, List, [], ◌∷◌, if◌then◌else◌}
 use Rattle.std.specs.List.{fold}
 
--- a run: a number that none of its numbers is above, and how much there is to give back of it, which is one more than what stands in it
+-- a run: a number that none of its numbers is below, one that none is above, and how much there is to give back of it, which is one more than
+-- what stands in it
 pub record HeldRun : Type 0 where
+  pub from : ℕ
   pub last : ℕ
   pub size : ℕ
 
--- the runs, and how much there is still to give back of one that was taken out, of which nothing is asked any more
+-- the runs; how much there is still to give back of one that was taken out, of which nothing is asked any more; and how much work earlier
+-- steps have left over, none of which was enough for a run
 pub record Held : Type 0 where
   pub runs : List HeldRun
   pub taken : ℕ
+  pub credit : ℕ
 
 -- how much all runs hold, where each counts as one more: 2^64 - 1 where there was more
 abbrev pub size_in : List HeldRun → ℕ
@@ -21,10 +25,30 @@ abbrev pub size_upto : ℕ → List HeldRun → ℕ
 size_upto oldest [] = 0
 size_upto oldest (r ∷ rs) = (if nat_le r.last oldest then r.size else 0) + size_upto oldest rs
 
--- how much is to be given back where the numbers up to that one are forgotten
-abbrev pub due_upto : ℕ → Held → ℕ
-due_upto oldest h = h.taken + size_upto oldest h.runs
+-- how much work it is to look at all that stands in the runs that may have numbers up to that one, and others above it: 8 for each element, and
+-- 2^63 for one run at most
+abbrev pub mixed_upto : ℕ → List HeldRun → ℕ
+mixed_upto oldest [] = 0
+mixed_upto oldest (r ∷ rs) = (if nat_le r.from oldest && nat_lt oldest r.last then min (8 * r.size) (2 ^ 63) else 0) + mixed_upto oldest rs
 
--- how much of it one call gives back
+-- how much is to be given back of whole runs where the numbers up to that one are forgotten
+abbrev pub whole_upto : ℕ → Held → ℕ
+whole_upto oldest h = h.taken + size_upto oldest h.runs
+
+-- how much is to be done where the numbers up to that one are forgotten: what is to be given back, and what is to be looked at
+abbrev pub due_upto : ℕ → Held → ℕ
+due_upto oldest h = whole_upto oldest h + (mixed_upto oldest h.runs - h.credit)
+
+-- nothing has changed but how much there is still to give back of the one that was taken out
+pub record IsSameBut (old new : Held) : Type 0 where
+  pub runs : new.runs ≡ old.runs
+  pub credit : new.credit ≡ old.credit
+
+-- what there is to look at stays, and how much of it may be
+pub record IsSameMixed (oldest : ℕ) (old new : Held) : Type 0 where
+  pub mixed : mixed_upto oldest new.runs ≡ mixed_upto oldest old.runs
+  pub credit : new.credit ≡ old.credit
+
+-- how much of it one step does
 abbrev pub given_a_forget : ℕ
 given_a_forget = 1024

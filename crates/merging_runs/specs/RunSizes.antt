@@ -13,6 +13,11 @@ abbrev pub left_above : ℕ → List RunSize → ℕ
 left_above o [] = 0
 left_above o (r ∷ rs) = (if nat_lt o r.last then r.left else 0) + left_above o rs
 
+-- no more is to be moved than before in those runs, and no refusal was counted
+pub record LeavesMerges (o : ℕ) (old new : List RunSize) (was is : ℕ) : Type 0 where
+  pub left : left_above o new ≤ left_above o old
+  pub refused : is ≡ was
+
 -- nothing is left to move in either run, the first has numbers above that one, and it has at most twice as many elements as the second, and
 -- one
 abbrev pub are_alike : ℕ → RunSize → RunSize → Bool
@@ -30,6 +35,12 @@ has_alike alike (r ∷ rs) = starts_alike alike r rs || has_alike alike rs
 -- the run that is to be made of both
 abbrev pub joined : RunSize → RunSize → RunSize
 joined r s = record { last = max r.last s.last; left = r.made + s.made; made = 0 }
+
+-- some of its elements have been dropped
+pub record IsSwept (old new : RunSize) : Type 0 where
+  pub last : new.last ≡ old.last
+  pub left : new.left ≤ old.left
+  pub made : new.made ≤ old.made
 
 -- of two runs beside one another that are alike one is being made
 pub record IsBegun (alike : RunSize → RunSize → Bool) (old new : List RunSize) : Type 0 where

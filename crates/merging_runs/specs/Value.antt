@@ -1,6 +1,6 @@
 -- What `Runs` holds as contracts see it.
-use Rattle.std.specs.Prelude.{ℕ, ◌+◌, List, map, Option, Some, None}
-use Rattle.merging_runs.specs.{Held.Held, Held.HeldRun, Held.size_upto, RunSizes.RunSize}
+use Rattle.std.specs.Prelude.{◌≡◌, ◌≤◌, ◌<◌, ℕ, ◌+◌, ◌^◌, nat_le, if◌then◌else◌, List, map, Option, Some, None}
+use Rattle.merging_runs.specs.{Held.Held, Held.HeldRun, Held.mixed_upto, Held.size_upto, RunSizes.RunSize}
 
 -- the runs, how many more fit without memory, how far each is merged, how much they hold, and how often memory for a merge was refused
 pub record RunsValue (R : Type 0) : Type 0 where
@@ -11,8 +11,8 @@ pub record RunsValue (R : Type 0) : Type 0 where
   pub refused : ℕ
 
 -- how much there is to give back of a run of so many elements: one more
-abbrev pub held_of : {R : Type 0} → (R → RunSize) → (R → ℕ) → R → HeldRun
-held_of sizes held r = record { last = (sizes r).last; size = held r + 1 }
+abbrev pub held_of : {R : Type 0} → (R → ℕ) → (R → RunSize) → (R → ℕ) → R → HeldRun
+held_of from sizes held r = record { from = from r; last = (sizes r).last; size = held r + 1 }
 
 -- the same, if there is one
 abbrev pub size_of : {R : Type 0} → (R → ℕ) → Option R → ℕ
@@ -25,5 +25,19 @@ taken_of left None = 0
 taken_of left (Some s) = left s + 1
 
 -- how much there is to give back of the runs that have no number above that one
-abbrev pub size_old : {R : Type 0} → (R → RunSize) → (R → ℕ) → ℕ → List R → ℕ
-size_old sizes held oldest rs = size_upto oldest (map (held_of sizes held) rs)
+abbrev pub size_old : {R : Type 0} → (R → ℕ) → (R → RunSize) → (R → ℕ) → ℕ → List R → ℕ
+size_old from sizes held oldest rs = size_upto oldest (map (held_of from sizes held) rs)
+
+-- how much work it is to look at the runs that may have numbers up to that one, and others above it
+abbrev pub size_mixed : {R : Type 0} → (R → ℕ) → (R → RunSize) → (R → ℕ) → ℕ → List R → ℕ
+size_mixed from sizes held oldest rs = mixed_upto oldest (map (held_of from sizes held) rs)
+
+-- Of the work of looking at runs, one of them is so much, and was done where that is no more than `most`; or there is none.
+abbrev pub LooksAt : Option ℕ → ℕ → ℕ → ℕ → Type 0
+LooksAt None most was is = (was ≡ 0) × (is ≡ 0)
+LooksAt (Some n) most was is = (0 < n) × (n ≤ 2 ^ 63) × (n ≤ was) × (was ≡ is + (if nat_le n most then n else 0))
+
+-- So much of it was done as `most` is enough for: what is left of that isn't enough for another run, or there is no other.
+abbrev pub LooksFor : Option ℕ → ℕ → ℕ → ℕ → Type 0
+LooksFor None most was is = (was ≤ most) × (is ≡ 0)
+LooksFor (Some n) most was is = (n < is) × (was + n ≡ is + most)

@@ -2,7 +2,7 @@
 ghost use Rattle.std.specs.Prelude.{◌≡◌, ◌+◌, nat_lt, nat_le, map, None};
 ghost use Rattle.std.specs.List.{position};
 ghost use Rattle.merging_runs.specs.RunSizes.{left_above};
-ghost use Rattle.merging_runs.specs.Value.{size_of, size_old};
+ghost use Rattle.merging_runs.specs.Value.{size_mixed, size_of, size_old};
 
 use crate::run::Run;
 
@@ -15,7 +15,7 @@ fn first_old<R: Run>(runs: &[R], oldest: u64) -> Option<usize>
 
 // Has some run no number above `oldest`?
 pub(crate) fn is_one_old<R: Run>(runs: &[R], oldest: u64) -> bool
-    ensures { result ≡ nat_lt 0 (size_old R.sizes R.held oldest runs.now) }
+    ensures { result ≡ nat_lt 0 (size_old R.from R.sizes R.held oldest runs.now) }
 {
     first_old(runs, oldest).is_some()
 }
@@ -23,8 +23,10 @@ pub(crate) fn is_one_old<R: Run>(runs: &[R], oldest: u64) -> bool
 // Takes out a run that has no number above `oldest`, if there is one.
 pub(crate) fn take_old<R: Run>(runs: &mut Vec<R>, oldest: u64) -> Option<R>
     ensures agree { R.agree oldest runs.new.items runs.old.items }
-    ensures none { result ≡ None → size_old R.sizes R.held oldest runs.new.items ≡ 0 }
-    ensures size { size_old R.sizes R.held oldest runs.old.items ≡ size_of R.held result + size_old R.sizes R.held oldest runs.new.items }
+    ensures none { result ≡ None → size_old R.from R.sizes R.held oldest runs.new.items ≡ 0 }
+    ensures size { size_old R.from R.sizes R.held oldest runs.old.items
+        ≡ size_of R.held result + size_old R.from R.sizes R.held oldest runs.new.items }
+    ensures mixed { size_mixed R.from R.sizes R.held oldest runs.new.items ≡ size_mixed R.from R.sizes R.held oldest runs.old.items }
     ensures left { left_above oldest (map R.sizes runs.new.items) ≡ left_above oldest (map R.sizes runs.old.items) }
 {
     match first_old(runs, oldest) {

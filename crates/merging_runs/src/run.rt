@@ -1,6 +1,6 @@
 //! What is asked of a run.
 ghost use Rattle.std.specs.Prelude.{◌≡◌, ◌≤◌, ◌<◌, ◌+◌, ◌-◌, ◌^◌, ◌++◌, ℕ, Bool, true, false, List, [], ◌∷◌, min, IfSome, ⊤};
-ghost use Rattle.merging_runs.specs.RunSizes.{RunSize, joined};
+ghost use Rattle.merging_runs.specs.RunSizes.{IsSwept, RunSize, joined};
 
 use crate::give_back::GiveBack;
 use std::alloc::Global;
@@ -18,6 +18,12 @@ pub trait Run: Drop {
 
     /// How many elements it holds.
     ghost held: { Self → ℕ };
+
+    /// A number that none of its numbers is below.
+    ghost from: { Self → ℕ };
+
+    /// All that it holds has a number above that one, or none.
+    ghost above: { ℕ → Self → Type 0 };
 
     /// For how many elements the two that it is made of have room.
     ghost room: { Self → ℕ };
@@ -40,6 +46,10 @@ pub trait Run: Drop {
     /// A number that none of its numbers is above. Takes no memory.
     fn last(&self) -> u64
         ensures { result ≡ (sizes self.now).last };
+
+    /// A number that none of its numbers is below. Takes no memory.
+    fn earliest(&self) -> u64
+        ensures { result ≡ from self.now };
 
     /// How many elements it holds, and one more: 2^64 - 1 where there were more. Takes no memory.
     fn size(&self) -> usize
@@ -80,6 +90,15 @@ pub trait Run: Drop {
         ensures fewer { (sizes self.new).left < (sizes self.old).left }
         ensures slowly { (sizes self.old).left ≤ (sizes self.new).left + each };
 
+    /// Drops what has a number up to `oldest`. It looks at each element that it holds, and takes no memory.
+    fn sweep(&mut self, oldest: u64)
+        requires late { oldest < (sizes self.old).last }
+        ensures from { oldest < from self.new }
+        ensures agree { agree oldest (self.new ∷ []) (self.old ∷ []) }
+        ensures swept { IsSwept (sizes self.old) (sizes self.new) }
+        ensures held { held self.new ≤ held self.old }
+        ensures room { (sizes self.new).left ≡ 0 → room self.new ≡ 0 };
+
     /// What there is to give back of it. Takes no memory.
     fn into_stale(self) -> Self::Stale
         ensures { held self ≡ Self.Stale.left result };
@@ -95,4 +114,7 @@ pub trait Run: Drop {
 
     /// A run without a number above that one answers as none.
     ghost old: { (o : ℕ) (r : Self) → (sizes r).last ≤ o → agree o [] (r ∷ []) };
+
+    /// A run whose numbers are all from one on that is above that number holds nothing up to it.
+    ghost later: { (o : ℕ) (r : Self) → o < from r → above o r };
 }

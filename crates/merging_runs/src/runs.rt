@@ -1,13 +1,14 @@
 //! Runs, merged and given back in steps.
-ghost use Rattle.std.specs.Prelude.{◌≡◌, ◌≤◌, ◌<◌, ◌+◌, ◌-◌, ◌++◌, [], ◌∷◌, length, nat_lt, OnOk, None};
-ghost use Rattle.merging_runs.specs.Held.{due_upto, given_a_forget, size_in};
-ghost use Rattle.merging_runs.specs.RunSizes.{IsMoved, IsTried, left_above, moves_for};
+ghost use Rattle.std.specs.Prelude.{◌≡◌, ◌≤◌, ◌<◌, ◌+◌, ◌-◌, ◌++◌, [], ◌∷◌, length, nat_lt, All, OnOk, None, false};
+ghost use Rattle.merging_runs.specs.Held.{IsSameBut, IsSameMixed, due_upto, given_a_forget, size_in, whole_upto};
+ghost use Rattle.merging_runs.specs.RunSizes.{IsMoved, IsTried, LeavesMerges, left_above, moves_for};
 ghost use Rattle.merging_runs.specs.Value.{size_of};
 
 use crate::give_back::GiveBack;
 use crate::merges::{move_runs, open_last};
 use crate::old::{is_one_old, take_old};
 use crate::run::Run;
+use crate::sweeps::{sweep_all, sweep_for};
 use std::alloc::{AllocError, Global};
 use std::marker::Model;
 
@@ -17,7 +18,7 @@ const MOVES_EACH: usize = 16;
 /// How many more they get for a commit.
 const MOVES_MORE: usize = 64;
 
-/// The most elements that are given back in one call, where a run counts as one more.
+/// How much work a step does: each element that is given back counts as one, and each run as one more.
 const GIVEN_BACK_MAX: usize = 1_024;
 
 /// Runs of commits one after another, the earliest first. A clause sees the runs, how many more fit (`places`), how far each is merged
@@ -27,12 +28,14 @@ pub struct Runs<R: Run> {
     runs: Vec<R>,
     // a run of which nothing is asked any more
     stale: Option<R::Stale>,
+    // how much work earlier steps have left over, since it wasn't enough for a run
+    credit: usize,
     // how often memory for a merge was refused. It stays at 2^64 - 1
     refused: u64,
 }
 
 impl<R: Run> Model for Runs<R> {
-    ghost use Rattle.std.specs.Prelude.{◌-◌, map};
+    ghost use Rattle.std.specs.Prelude.{◌<◌, ◌-◌, ◌^◌, map};
     ghost use Rattle.std.specs.Vec.{vec_len, vec_capacity};
     ghost use Rattle.merging_runs.specs.Value.{RunsValue, held_of, taken_of};
 
@@ -42,9 +45,11 @@ impl<R: Run> Model for Runs<R> {
       runs = s.runs.items;
       places = vec_capacity s.runs - vec_len s.runs;
       sizes = map R.sizes s.runs.items;
-      held = record { runs = map (held_of R.sizes R.held) s.runs.items; taken = taken_of R.Stale.left s.stale };
+      held = record { runs = map (held_of R.from R.sizes R.held) s.runs.items; taken = taken_of R.Stale.left s.stale; credit = s.credit };
       refused = s.refused;
     } };
+
+    ghost invariant = { λ s. s.credit < 2 ^ 63 };
 }
 
 impl<R: Run> Runs<R> {
@@ -56,6 +61,7 @@ impl<R: Run> Runs<R> {
         Runs {
             runs: Vec::new(alloc),
             stale: None,
+            credit: 0,
             refused: 0,
         }
     }
@@ -128,9 +134,10 @@ impl<R: Run> Runs<R> {
     // Takes out a run that has no number above `oldest`, if there is one.
     fn take_old(&mut self, oldest: u64) -> Option<R>
         ensures agree { R.agree oldest self.new.runs self.old.runs }
-        ensures due { due_upto oldest self.old.held ≡ size_of R.held result + due_upto oldest self.new.held }
+        ensures whole { whole_upto oldest self.old.held ≡ size_of R.held result + whole_upto oldest self.new.held }
+        ensures mixed { IsSameMixed oldest self.old.held self.new.held }
         ensures taken { self.new.held.taken ≡ self.old.held.taken }
-        ensures none { result ≡ None → due_upto oldest self.new.held ≡ self.new.held.taken }
+        ensures none { result ≡ None → whole_upto oldest self.new.held ≡ self.new.held.taken }
         ensures left { left_above oldest self.new.sizes ≡ left_above oldest self.old.sizes }
         ensures refused { self.new.refused ≡ self.old.refused }
     {
@@ -141,7 +148,7 @@ impl<R: Run> Runs<R> {
     // something is left of it.
     fn give_back(&mut self, most: usize) -> usize
         ensures runs { self.new.runs ≡ self.old.runs }
-        ensures held { self.new.held.runs ≡ self.old.held.runs }
+        ensures held { IsSameBut self.old.held self.new.held }
         ensures sizes { self.new.sizes ≡ self.old.sizes }
         ensures refused { self.new.refused ≡ self.old.refused }
         ensures taken { self.old.held.taken + result ≡ self.new.held.taken + most }
@@ -164,7 +171,7 @@ impl<R: Run> Runs<R> {
         requires some { 0 < most }
         requires most { most ≤ given_a_forget }
         ensures runs { self.new.runs ≡ self.old.runs }
-        ensures held { self.new.held.runs ≡ self.old.held.runs }
+        ensures held { IsSameBut self.old.held self.new.held }
         ensures sizes { self.new.sizes ≡ self.old.sizes }
         ensures refused { self.new.refused ≡ self.old.refused }
         ensures taken { R.held run + 1 + result ≡ self.new.held.taken + most }
@@ -178,32 +185,70 @@ impl<R: Run> Runs<R> {
         self.give_back(most)
     }
 
-    // Gives back runs that have no number above `oldest`, 1,024 of their elements at most.
-    fn give_back_old(&mut self, oldest: u64)
+    // Gives back runs that have no number above `oldest`, 1,024 of their elements at most: how many more may be given back, which are none
+    // while such a run is left.
+    fn give_back_old(&mut self, oldest: u64) -> usize
         ensures agree { R.agree oldest self.new.runs self.old.runs }
-        ensures due { due_upto oldest self.new.held ≡ due_upto oldest self.old.held - given_a_forget }
+        ensures whole { whole_upto oldest self.old.held + result ≡ whole_upto oldest self.new.held + given_a_forget }
+        ensures ended { 0 < result → whole_upto oldest self.new.held ≡ 0 }
+        ensures mixed { IsSameMixed oldest self.old.held self.new.held }
         ensures left { left_above oldest self.new.sizes ≡ left_above oldest self.old.sizes }
         ensures refused { self.new.refused ≡ self.old.refused }
     {
         let mut left = self.give_back(GIVEN_BACK_MAX);
         'runs: while left > 0 {
             let Some(run) = self.take_old(oldest) else {
-                return;
+                return left;
             };
             left = self.give_back_run(run, left);
         }
+        0
     }
 
-    /// Gives back runs that have no number above `oldest`, 1,024 of their elements a call at most, where a run counts as one more. Answers
-    /// whether it has to be called again until no such run is left. Takes no memory.
-    pub fn forget(&mut self, oldest: u64) -> bool
+    // Sweeps runs that hold what is old beside what isn't, as far as so much work goes, with what earlier steps have left over. Are there
+    // more?
+    fn sweep(&mut self, oldest: u64, most: usize) -> bool
+        requires whole { whole_upto oldest self.old.held ≡ 0 }
+        requires most { most ≤ given_a_forget }
+        ensures agree { R.agree oldest self.new.runs self.old.runs }
+        ensures due { due_upto oldest self.new.held ≡ due_upto oldest self.old.held - most }
+        ensures still { result ≡ nat_lt 0 (due_upto oldest self.new.held) }
+        ensures above { result ≡ false → All (R.above oldest) self.new.runs }
+        ensures merges { LeavesMerges oldest self.old.sizes self.new.sizes self.old.refused self.new.refused }
+    {
+        let rest = sweep_for(&mut self.runs, oldest, self.credit + most);
+        self.credit = rest.unwrap_or(0);
+        rest.is_some()
+    }
+
+    /// Does a part of what `forget` does: it gives back runs that have no number above `oldest`, 1,024 of their elements at most, where a
+    /// run counts as one more. Once no such run is left, it sweeps runs that hold what is old beside what isn't, as far as what is left of
+    /// the 1,024 goes, where each element that is looked at counts as 8. What isn't enough for a run is left over for the next step. So a
+    /// run of n elements is swept at once, but only after n / 128 steps. Answers whether it has to be called again until all that is old is
+    /// gone. Takes no memory.
+    pub fn forget_step(&mut self, oldest: u64) -> bool
         ensures agree { R.agree oldest self.new.runs self.old.runs }
         ensures due { due_upto oldest self.new.held ≡ due_upto oldest self.old.held - given_a_forget }
         ensures still { result ≡ nat_lt 0 (due_upto oldest self.new.held) }
-        ensures left { left_above oldest self.new.sizes ≡ left_above oldest self.old.sizes }
-        ensures refused { self.new.refused ≡ self.old.refused }
+        ensures above { result ≡ false → All (R.above oldest) self.new.runs }
+        ensures merges { LeavesMerges oldest self.old.sizes self.new.sizes self.old.refused self.new.refused }
     {
-        self.give_back_old(oldest);
-        self.stale.is_some() || is_one_old(&self.runs, oldest)
+        let most = self.give_back_old(oldest);
+        if self.stale.is_some() || is_one_old(&self.runs, oldest) {
+            return true;
+        }
+        self.sweep(oldest, most)
+    }
+
+    /// Drops all that has a number up to `oldest`: it gives back the runs that have no other, and sweeps those that have. It takes the time
+    /// of a look at each element of these runs, and no memory.
+    pub fn forget(&mut self, oldest: u64)
+        ensures agree { R.agree oldest self.new.runs self.old.runs }
+        ensures due { due_upto oldest self.new.held ≡ 0 }
+        ensures above { All (R.above oldest) self.new.runs }
+        ensures merges { LeavesMerges oldest self.old.sizes self.new.sizes self.old.refused self.new.refused }
+    {
+        'old: while self.give_back_old(oldest) == 0 {}
+        sweep_all(&mut self.runs, oldest);
     }
 }

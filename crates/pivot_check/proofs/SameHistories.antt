@@ -1,6 +1,6 @@
 -- What stands for the same histories.
 use Rattle.pivot_check.proofs.Words.{◌≡◌, ◌+◌, ℕ, Bool, List, sym, ap, subst, ◌∙◌, arith, ◌&&◌, nat_lt, cut}
-use Rattle.pivot_check.proofs.Words.{last_reader, Record, View, Facts, IsInReach, Posting, least}
+use Rattle.pivot_check.proofs.Words.{Record, View, Facts, IsInReach, Posting, least}
 use Rattle.pivot_check.proofs.Words.{AreWriters, IsRecordOf, kept_above, last_reader_in, StandsFor}
 use Rattle.last_readers.specs.Readers.{AnswerAlike}
 use Rattle.pivot_check.specs.{declared.verdict.Cleared.Cleared, StandsFor.IsCleared, StandsFor.StandForSame}

@@ -12,7 +12,8 @@ pub use Rattle.std.specs.List.Sorted.{IsPartitionedBy, IsPartitionPoint}
 pub use Rattle.std.specs.Option.{option_map}
 pub use Rattle.std.specs.Ordering.{is_le, is_lt}
 pub use Rattle.std.specs.Prelude.{All, find, is_some, IsPermutation, max, min, nat_le, nat_lt, not, slice_get}
-pub use Rattle.last_readers.specs.Readers.{after, cut, HasRoom, IsForgotten, IsNoted, last_reader, Readers, ReadersRoom}
+pub use Rattle.last_readers.specs.Readers.{after, HasRoom, IsForgotten, IsNoted, last_reader, Readers, ReadersRoom}
+pub use Rattle.last_readers.specs.Steps.{cut}
 pub use Rattle.marks.specs.Lent.{lent_mark}
 pub use Rattle.marks.specs.Marked.{mark_of, marks_of, start_of}
 pub use Rattle.model.proofs.Elements.{all-append, all-each, all-filter, all-get, all-map, all-pass, all-take}

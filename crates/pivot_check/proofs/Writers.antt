@@ -25,7 +25,7 @@ all_postings-push c (s ∷ rs) r =
 
 -- ---- forgetting
 
-least-filter : (c q : Posting → Bool) (ps : List Posting) → least c (filter q ps) ≡ least (λ p. q p && c p) ps
+pub least-filter : (c q : Posting → Bool) (ps : List Posting) → least c (filter q ps) ≡ least (λ p. q p && c p) ps
 least-filter c q [] = refl
 least-filter c q (p ∷ ps) = grind (arith, least-filter c q ps)
 

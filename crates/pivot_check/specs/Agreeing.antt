@@ -1,9 +1,9 @@
 -- Runs that answer as others do.
-use Rattle.std.proofs.Common.{◌≡◌, ◌≤◌, ℕ, Bool, true, List, [], ◌∷◌, ◌++◌, Option, None, refl, sym, ap, ◌∙◌, arith}
+use Rattle.std.proofs.Common.{◌≡◌, ◌≤◌, ◌<◌, ℕ, Bool, true, List, [], ◌∷◌, ◌++◌, Option, None, refl, sym, ap, ◌∙◌, arith}
 use Rattle.std.specs.Prelude.{nat_lt, ◌&&◌}
-use Rattle.std.proofs.lemmas.Bool.Decides.{nat_tests}
-use Rattle.pivot_check.specs.{declared.run.WrittenRun.WrittenRun, Inside.in_run, Inside.postings_in}
-use Rattle.pivot_check.specs.Postings.{Posting, least, lesser, are_upto}
+use Rattle.std.proofs.lemmas.Bool.{and_from, Decides.nat_tests}
+use Rattle.pivot_check.specs.{declared.run.WrittenRun.WrittenRun, declared.bound.Bound.Bound, Bounds.are_from_bound, Inside.first_number, Inside.in_run, Inside.is_run_later, Inside.postings_in}
+use Rattle.pivot_check.specs.Postings.{Posting, are_later, least, lesser, are_upto}
 
 -- whatever is asked of postings with numbers above that one, the least number is the same
 abbrev pub Agree : ℕ → List WrittenRun → List WrittenRun → Type 0
@@ -29,6 +29,16 @@ agree_between o front xs ys behind same c =
     let all : (zs : List WrittenRun) → least above (postings_in (front ++ (zs ++ behind))) ≡ lesser (least above (postings_in front)) (lesser (least above (postings_in zs)) (least above (postings_in behind)))
     = λ zs. least-runs above front (zs ++ behind) ∙ ap (lesser (least above (postings_in front))) (least-runs above zs behind) in
     all xs ∙ ap (λ n. lesser (least above (postings_in front)) (lesser n (least above (postings_in behind)))) (same c) ∙ sym (all ys)
+
+-- the numbers of a run are above one that the least of them is above
+later_by : (o : ℕ) (b : Bound) (ps : List Posting) → o < b.number → are_from_bound b ps ≡ true → are_later o ps ≡ true
+later_by o b [] lt h = refl
+later_by o b (p ∷ ps) lt h = grind (arith, nat_tests, later_by o b ps)
+
+pub from_later : (o : ℕ) (r : WrittenRun) → o < first_number r → is_run_later o r ≡ true
+from_later o r lt =
+    and_from _ _ (later_by o r.made.bound r.made.written.items (omega arith) r.made.bounded)
+    (and_from _ _ (later_by o r.first.bound r.first.written.items (omega arith) r.first.bounded) (later_by o r.second.bound r.second.written.items (omega arith) r.second.bounded))
 
 -- none has a number above one that all are up to
 none_above : (o last : ℕ) (c : Posting → Bool) (ps : List Posting) → last ≤ o → are_upto last ps ≡ true → least (λ p. nat_lt o p.number && c p) ps ≡ None

@@ -15,9 +15,10 @@ are_from_bound b ps = list_all (is_from_bound b) ps
 abbrev pub allows : Bound → ℕ → ℕ → Bool → Bool
 allows b most begin flagged = nat_lt begin most && (nat_lt begin b.last && nat_le (if flagged then b.flagged else b.number) most)
 
--- how many bounds there are, of which there were so many, once n postings stand: one more where a block ends there, and there is room for it
+-- how many bounds there are, of which there were so many, once n postings stand: one more where a block without a bound is whole, and there is
+-- room for it
 abbrev pub bound_count : ℕ → ℕ → ℕ → ℕ
-bound_count n room count = if n - 64 * count == 64 && nat_lt count room then count + 1 else count
+bound_count n room count = if nat_le 64 (n - 64 * count) && nat_lt count room then count + 1 else count
 
 -- each bound is one of its block of 64 postings; behind the blocks with a bound there may be more postings
 abbrev pub AreBounds : List Bound → List Posting → Type 0

@@ -1,8 +1,8 @@
 -- What a `Committed` holds as contracts see it.
-use Rattle.std.specs.Prelude.{ℕ, ◌+◌, List, [], ◌∷◌, ◌++◌, Option, option_map}
+use Rattle.std.specs.Prelude.{ℕ, ◌+◌, ◌&&◌, Bool, min, List, [], ◌∷◌, ◌++◌, Option, option_map}
 use Rattle.std.specs.Vec.{vec_len}
 use Rattle.merging_runs.specs.RunSizes.{RunSize}
-use Rattle.pivot_check.specs.{declared.ready.Ready.Ready, declared.run.WrittenRun.WrittenRun, Postings.Posting, Parts.left, Parts.live_in}
+use Rattle.pivot_check.specs.{declared.ready.Ready.Ready, declared.run.WrittenRun.WrittenRun, Postings.Posting, Postings.are_later, Parts.left, Parts.live_in}
 use Rattle.model.specs.Map.{Bytes}
 
 -- the postings of a run
@@ -20,6 +20,14 @@ ready_of ready = option_map (λ r. r.keys.items) ready
 -- how many postings a run holds, also those that were taken
 abbrev pub held_of : WrittenRun → ℕ
 held_of r = vec_len r.first.written + vec_len r.second.written + vec_len r.made.written
+
+-- a number that none of its numbers is below, by the bounds of its parts
+abbrev pub first_number : WrittenRun → ℕ
+first_number r = min r.made.bound.number (min r.first.bound.number r.second.bound.number)
+
+-- whether all that it holds, also what was taken, has a number above this one
+abbrev pub is_run_later : ℕ → WrittenRun → Bool
+is_run_later o r = are_later o r.made.written.items && (are_later o r.first.written.items && are_later o r.second.written.items)
 
 -- how far a run is merged
 abbrev pub sizes_of : WrittenRun → RunSize

@@ -1,11 +1,11 @@
 -- What is kept of committed transactions, so that a commit can be checked once older ones are forgotten.
-use Rattle.std.specs.Prelude.{◌≡◌, ℕ, ◌<◌, ◌≤◌, nat_le, Bool, false, ◌&&◌, List, [], ◌∷◌, Option, Some, None, find, option_map, map, max, ◌+◌, ◌-◌, if◌then◌else◌}
+use Rattle.std.specs.Prelude.{◌≡◌, ℕ, ◌<◌, ◌≤◌, nat_le, Bool, true, false, ◌&&◌, List, [], ◌∷◌, Option, Some, None, find, option_map, map, max, ◌+◌, ◌-◌, if◌then◌else◌}
 use Rattle.std.specs.List.{list_any}
 use Rattle.model.specs.{Map.Bytes, Map.KeyWrite, Map.is_same_key, PrivateCopy.Mark, PrivateCopy.is_covered}
 use Rattle.snapshot.specs.View.{View}
-use Rattle.last_readers.specs.Readers.{Readers, ReadersRoom, last_reader, after, HasRoom as HasReadersRoom}
-use Rattle.merging_runs.specs.{Held.Held, Held.due_upto, Held.given_a_forget, RunSizes.RunSize}
-use Rattle.pivot_check.specs.Postings.{Posting}
+use Rattle.last_readers.specs.Readers.{IsForgotten, NameNoneUpto, Readers, ReadersRoom, last_reader, after, HasRoom as HasReadersRoom}
+use Rattle.merging_runs.specs.{Held.Held, Held.due_upto, Held.given_a_forget, RunSizes.LeavesMerges, RunSizes.RunSize}
+use Rattle.pivot_check.specs.Postings.{Posting, are_later}
 
 -- what the check needs of a committed transaction: the marks of what it read, the keys that it wrote by rising key, and whether it has a
 -- read-write dependency to a concurrent one that committed before it
@@ -104,6 +104,17 @@ pub record HasForgotten (oldest : ℕ) (f : Facts) : Type 0 where
   pub upto : oldest ≤ f.oldest
   pub readers : AreAbove oldest (last_reader f.readers)
 
+-- the last readers up to that number are forgotten, and the last commit number stays
+pub record Forgets (n : ℕ) (old new : Facts) : Type 0 where
+  pub readers : IsForgotten n old.readers new.readers
+  pub oldest : new.oldest ≡ max old.oldest n
+  pub last : new.last ≡ old.last
+
+-- nothing is kept of a commit up to that number: neither a key that it wrote, nor that it was the last to read one
+pub record KeepsNoneUpto (oldest : ℕ) (f : Facts) : Type 0 where
+  pub written : are_later oldest f.postings ≡ true
+  pub readers : NameNoneUpto oldest f.readers
+
 -- nothing is kept
 pub record IsEmpty (f : Facts) : Type 0 where
   pub readers : (k : Bytes) → last_reader f.readers k ≡ 0
@@ -147,3 +158,7 @@ runs_due v = due_upto v.facts.readers.oldest v.held.readers + due_upto v.facts.o
 pub record IsGivenBack (old new : CommittedValue) : Type 0 where
   pub readers : due_upto new.facts.readers.oldest new.held.readers ≡ due_upto new.facts.readers.oldest old.held.readers - given_a_forget
   pub written : due_upto new.facts.oldest new.held.written ≡ due_upto new.facts.oldest old.held.written - given_a_forget
+
+-- no more postings are to be moved than before in runs with numbers that may be asked for, and no refusal was counted
+abbrev pub LeavesMergesOf : CommittedValue → CommittedValue → Type 0
+LeavesMergesOf old new = LeavesMerges new.facts.oldest old.held.sizes new.held.sizes old.held.refused new.held.refused

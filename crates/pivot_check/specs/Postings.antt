@@ -1,6 +1,6 @@
 -- Written keys of committed transactions, and the least number among them.
 use Rattle.std.specs.Prelude.{◌≡◌, ℕ, ◌-◌, min, Bool, true, not, ◌&&◌, ◌||◌, List, [], ◌∷◌, Option, Some, None, is_some, if◌then◌else◌, nat_lt, take, drop}
-use Rattle.std.specs.{List.list_all, Ordering.is_le, Ordering.is_lt}
+use Rattle.std.specs.{List.filter, List.list_all, Ordering.is_le, Ordering.is_lt}
 use Rattle.model.specs.{Map.Bytes, Map.key_cmp, PrivateCopy.Mark, PrivateCopy.covers, PrivateCopy.is_covered}
 
 -- a written key, with the commit number and the flag of the transaction that wrote it
@@ -64,6 +64,14 @@ are_from low ps = list_all (λ p. not (is_lt (key_cmp p.key low))) ps
 -- whether no posting has a number above this one
 abbrev pub are_upto : ℕ → List Posting → Bool
 are_upto last ps = not (is_some (least (λ p. nat_lt last p.number) ps))
+
+-- the postings with numbers above this one
+abbrev pub later_than : ℕ → List Posting → List Posting
+later_than oldest ps = filter (λ p. nat_lt oldest p.number) ps
+
+-- whether each posting has a number above this one
+abbrev pub are_later : ℕ → List Posting → Bool
+are_later oldest ps = list_all (λ p. nat_lt oldest p.number) ps
 
 -- the postings from one place to before another
 abbrev pub between : ℕ → ℕ → List Posting → List Posting

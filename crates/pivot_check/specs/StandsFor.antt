@@ -9,7 +9,7 @@ use Rattle.pivot_check.specs.{declared.verdict.Verdict.Verdict, Postings.Posting
 use Rattle.pivot_check.specs.declared.verdict.Verdict.TheVariants.{Clear, Overwritten, PivotSelf, Pivot}
 use Rattle.model.specs.{Dependency.concurrent_read_write, Verdict.verdict, Verdict.HasNoDangerousPivot}
 use Rattle.snapshot.specs.View.{View}
-use Rattle.last_readers.specs.Readers.{cut, last_reader}
+use Rattle.last_readers.specs.{Readers.last_reader, Steps.cut}
 use Rattle.pivot_check.specs.Kept.{KeptRecord, Facts, IsInReach, keys_of}
 
 -- what is kept of a record of the history, the whole of which decides its flag

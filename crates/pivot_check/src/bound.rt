@@ -1,5 +1,5 @@
 //! Bounds of the numbers of written keys.
-ghost use Rattle.std.specs.Prelude.{◌≡◌, ◌<◌, IsTrue, ℕ, true, false};
+ghost use Rattle.std.specs.Prelude.{◌≡◌, ◌<◌, ◌-◌, ◌^◌, IsTrue, ℕ, true, false};
 ghost use Rattle.pivot_check.specs.Postings.{Posting, is_asked};
 ghost use Rattle.pivot_check.specs.Bounds.{allows, is_from_bound, are_from_bound};
 
@@ -36,15 +36,35 @@ impl Bound {
         }
     }
 
-    // The bound of these postings, by which none is asked for where there are none.
-    pub(crate) fn of(postings: &[Written]) -> Bound
-        ensures { IsTrue (are_from_bound result postings.now) }
+    // The same bound, of postings that all have a number above this one.
+    pub(crate) fn above(self, oldest: u64) -> Bound
+        requires { oldest < 2 ^ 64 - 1 }
+        ensures postings { (p : Posting) → oldest < p.number → IsTrue (is_from_bound self p) → IsTrue (is_from_bound result p) }
+        ensures number { oldest < result.number }
     {
-        let mut bound = Bound {
+        Bound {
+            number: self.number.max(oldest + 1),
+            flagged: self.flagged,
+            last: self.last,
+        }
+    }
+
+    // The bound of no postings, by which none is asked for.
+    pub(crate) fn of_none() -> Bound
+        ensures { result.number ≡ 2 ^ 64 - 1 }
+    {
+        Bound {
             number: u64::MAX,
             flagged: u64::MAX,
             last: 0,
-        };
+        }
+    }
+
+    // The bound of these postings.
+    pub(crate) fn of(postings: &[Written]) -> Bound
+        ensures { IsTrue (are_from_bound result postings.now) }
+    {
+        let mut bound = Bound::of_none();
         for posting in postings {
             bound = bound.with(posting);
         }

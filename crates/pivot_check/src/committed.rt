@@ -1,11 +1,11 @@
 //! The committed transactions.
-ghost use Rattle.std.specs.Prelude.{◌≡◌, ◌+◌, ◌≤◌, ◌<◌, List, [], length, max, nat_lt, OnOk, ◌-◌};
+ghost use Rattle.std.specs.Prelude.{◌≡◌, ◌+◌, ◌≤◌, ◌<◌, List, [], length, nat_lt, false, OnOk, ◌-◌};
 ghost use Rattle.model.specs.History.{Record};
-ghost use Rattle.last_readers.specs.Readers.{IsForgotten};
 ghost use Rattle.merging_runs.specs.Held.{size_in};
-ghost use Rattle.merging_runs.specs.RunSizes.{left_above, with_run};
+ghost use Rattle.merging_runs.specs.RunSizes.{with_run};
 ghost use Rattle.pivot_check.specs.Merged.{AreMoved, AreMovedWith, IsTriedIn};
-ghost use Rattle.pivot_check.specs.Kept.{HasForgotten, IsEmpty, IsInReach, HasRoom, IsGivenBack, runs_due};
+ghost use Rattle.pivot_check.specs.Kept.{Forgets, HasForgotten, HasRoom, IsEmpty, IsGivenBack};
+ghost use Rattle.pivot_check.specs.Kept.{IsInReach, KeepsNoneUpto, LeavesMergesOf, runs_due};
 ghost use Rattle.pivot_check.specs.Index.{answer_found};
 ghost use Rattle.pivot_check.specs.StandsFor.{StandForSame, StandWithRecord, StandsFor};
 ghost use Rattle.pivot_check.specs.StandsFor.{IsCleared, IsClearedBy, IsPlaced, IsVerdict};
@@ -42,7 +42,7 @@ pub struct Committed {
 }
 
 impl Model for Committed {
-    ghost use Rattle.std.specs.Prelude.{◌≤◌};
+    ghost use Rattle.std.specs.Prelude.{◌≡◌, ◌≤◌};
     ghost use Rattle.last_readers.specs.Readers.{last_reader, AreUpto};
     ghost use Rattle.pivot_check.specs.Kept.{CommittedValue, AreAbove};
     ghost use Rattle.pivot_check.specs.Inside.{postings_in, ready_of};
@@ -58,6 +58,7 @@ impl Model for Committed {
     ghost invariant = { λ c. record {
       order : c.oldest ≤ c.last;
       forgotten : c.readers.readers.oldest ≤ c.last;
+      together : c.readers.readers.oldest ≡ c.oldest;
       upto : AreUpto c.last c.readers.readers;
       above : AreAbove c.oldest (last_reader c.readers.readers);
     } };
@@ -232,26 +233,41 @@ impl Committed {
         self.move_on(tx.entries().len());
     }
 
-    /// Drops what was kept of the transactions that committed at or before number `oldest`, from the runs when the whole run is as
-    /// old: from then on none may ask that began before it. What is left stands for the same histories, since a flag was fixed when it was
-    /// noted. One call drops 1,024 written keys and as many steps of the last readers at most, where a run counts as one more, so that it is
-    /// short also at the end of a transaction that was open for long. Answers whether it has to be called again until no run is left that is
-    /// wholly as old. Takes no memory.
-    pub fn forget(&mut self, oldest: u64) -> bool
+    /// Does a part of what `forget` does. From then on none may ask that began before `oldest`, and what is left stands for the same
+    /// histories, since a flag was fixed when it was noted. What was kept of the transactions that committed at or before `oldest` is
+    /// dropped in steps: as much in each as `Runs::forget_step` tells, of the written keys and of the last readers, so that it is short also
+    /// at the end of a transaction that was open for long. Answers whether it has to be called again until nothing is kept of them. Takes
+    /// no memory.
+    pub fn forget_step(&mut self, oldest: u64) -> bool
         requires { oldest ≤ self.old.facts.last }
         ensures stands_for { (h : List Record) → StandsFor self.old.facts h → StandsFor self.new.facts h }
-        ensures readers { IsForgotten oldest self.old.facts.readers self.new.facts.readers }
+        ensures forgets { Forgets oldest self.old.facts self.new.facts }
         ensures forgotten { HasForgotten oldest self.new.facts }
-        ensures oldest { self.new.facts.oldest ≡ max self.old.facts.oldest oldest }
-        ensures last { self.new.facts.last ≡ self.old.facts.last }
         ensures given_back { IsGivenBack self.old self.new }
         ensures still { result ≡ nat_lt 0 (runs_due self.new) }
-        ensures left { left_above self.new.facts.oldest self.new.held.sizes ≡ left_above self.new.facts.oldest self.old.held.sizes }
-        ensures refused { self.new.held.refused ≡ self.old.held.refused }
+        ensures kept { result ≡ false → KeepsNoneUpto self.new.facts.oldest self.new.facts }
+        ensures merges { LeavesMergesOf self.old self.new }
     {
-        let are_readers_due = self.readers.forget(oldest);
+        let are_readers_due = self.readers.forget_step(oldest);
         self.oldest = self.oldest.max(oldest);
-        let are_runs_due = self.runs.forget(self.oldest);
+        let are_runs_due = self.runs.forget_step(self.oldest);
         are_readers_due || are_runs_due
+    }
+
+    /// Drops all that was kept of the transactions that committed at or before number `oldest`: their written keys, and the last readers
+    /// among them. From then on none may ask that began before it, and what is left stands for the same histories, since a flag was fixed
+    /// when it was noted. It takes the time of a look at all that the runs hold, and no memory.
+    pub fn forget(&mut self, oldest: u64)
+        requires { oldest ≤ self.old.facts.last }
+        ensures stands_for { (h : List Record) → StandsFor self.old.facts h → StandsFor self.new.facts h }
+        ensures forgets { Forgets oldest self.old.facts self.new.facts }
+        ensures forgotten { HasForgotten oldest self.new.facts }
+        ensures due { runs_due self.new ≡ 0 }
+        ensures kept { KeepsNoneUpto self.new.facts.oldest self.new.facts }
+        ensures merges { LeavesMergesOf self.old self.new }
+    {
+        self.readers.forget(oldest);
+        self.oldest = oldest.max(self.oldest);
+        self.runs.forget(self.oldest);
     }
 }

@@ -1,11 +1,11 @@
 //! Runs of written keys, merged in steps.
-ghost use Rattle.std.specs.Prelude.{◌≡◌, ◌≤◌, ◌+◌, length, Bool};
+ghost use Rattle.std.specs.Prelude.{◌≡◌, ◌≤◌, ◌<◌, ◌+◌, ◌-◌, ◌^◌, ℕ, IsTrue, length, Bool};
 ghost use Rattle.std.specs.Vec.{vec_capacity};
 ghost use Rattle.std.proofs.Common.{refl, ◌∙◌};
-ghost use Rattle.pivot_check.specs.Inside.{held_of, in_run, sizes_of};
+ghost use Rattle.pivot_check.specs.Inside.{first_number, held_of, in_run, is_run_later, sizes_of};
 ghost use Rattle.pivot_check.specs.Postings.{Posting, least};
 ghost use Rattle.pivot_check.specs.Merged.{fit_one};
-ghost use Rattle.pivot_check.specs.Agreeing.{Agree, agree_between, none_of_old};
+ghost use Rattle.pivot_check.specs.Agreeing.{Agree, agree_between, from_later, none_of_old};
 
 use crate::bound::{BLOCK, Bound};
 use crate::merging::move_least;
@@ -33,6 +33,8 @@ fn bounds_for(alloc: Global, count: usize) -> Vec<Bound>
 fn give_room_back(run: &mut WrittenRun)
     ensures sizes { sizes_of run.new ≡ sizes_of run.old }
     ensures same { (c : Posting → Bool) → least c (in_run run.new) ≡ least c (in_run run.old) }
+    ensures from { (o : ℕ) → o < 2 ^ 64 - 1 → o < first_number run.old → o < first_number run.new }
+    ensures held { held_of run.new ≤ held_of run.old }
     ensures room { (sizes_of run.new).left ≡ 0 → vec_capacity run.new.first.written + vec_capacity run.new.second.written ≡ 0 }
 {
     if run.first.len() > 0 || run.second.len() > 0 {
@@ -52,6 +54,10 @@ impl Run for WrittenRun {
 
     ghost held = { held_of };
 
+    ghost from = { first_number };
+
+    ghost above = { λ o r. IsTrue (is_run_later o r) };
+
     ghost room = { λ r. vec_capacity r.first.written + vec_capacity r.second.written };
 
     ghost fit = { λ n places. (length places.written.items ≡ 0) × (n ≤ vec_capacity places.written) };
@@ -64,6 +70,13 @@ impl Run for WrittenRun {
 
     fn last(&self) -> u64 {
         self.last
+    }
+
+    fn earliest(&self) -> u64 {
+        self.made
+            .bound
+            .number
+            .min(self.first.bound.number.min(self.second.bound.number))
     }
 
     fn size(&self) -> usize {
@@ -110,6 +123,14 @@ impl Run for WrittenRun {
         give_room_back(self);
     }
 
+    fn sweep(&mut self, oldest: u64) {
+        let _last = self.last;
+        self.first.sweep(oldest);
+        self.second.sweep(oldest);
+        self.made.sweep(oldest);
+        give_room_back(self);
+    }
+
     fn into_stale(self) -> (Vec<Written>, Vec<Written>, Vec<Written>) {
         let WrittenRun {
             first,
@@ -131,4 +152,6 @@ impl Run for WrittenRun {
     ghost between = { agree_between };
 
     ghost old = { none_of_old };
+
+    ghost later = { from_later };
 }

@@ -1,11 +1,11 @@
 //! A part of a run of written keys.
-ghost use Rattle.std.specs.Prelude.{◌≡◌, ◌≤◌, ◌<◌, ◌+◌, ◌*◌, ◌-◌, ◌++◌, IsTrue, length, drop, [], ◌∷◌};
+ghost use Rattle.std.specs.Prelude.{◌≡◌, ◌≤◌, ◌<◌, ◌+◌, ◌*◌, ◌-◌, ◌/◌, ◌^◌, ◌++◌, IsTrue, length, drop, min, [], ◌∷◌};
 ghost use Rattle.std.specs.Vec.{vec_capacity};
-ghost use Rattle.pivot_check.specs.Postings.{keys_rise};
+ghost use Rattle.pivot_check.specs.Postings.{keys_rise, later_than};
 ghost use Rattle.pivot_check.specs.Bounds.{are_from_bound, AreBounds, bound_count};
 
 use crate::bound::{BLOCK, Bound};
-use crate::written::Written;
+use crate::written::{Written, count_later};
 
 /// Written keys by rising key. Those before `start` were taken: their numbers and flags stay, so that the bounds stay true. The bounds of
 /// its blocks may be missing.
@@ -67,16 +67,19 @@ impl Part {
         written
     }
 
-    // Adds the bound of the block that ends here, in the room that was made for it.
+    // Adds the bound of the first whole block that has none, in the room that was made for it.
     fn add_bound(&mut self)
         ensures written { self.new.written ≡ self.old.written }
         ensures start { self.new.start ≡ self.old.start }
+        ensures bound { self.new.bound ≡ self.old.bound }
+        ensures room { vec_capacity self.new.bounds ≡ vec_capacity self.old.bounds }
         ensures bounds { length self.new.bounds.items
             ≡ bound_count (length self.old.written.items) (vec_capacity self.old.bounds) (length self.old.bounds.items) }
     {
         let first = BLOCK * self.bounds.len();
-        if self.written.len() - first == BLOCK && self.bounds.len() < self.bounds.capacity() {
-            self.bounds.push_reserved(Bound::of(&self.written[first..]));
+        if self.written.len() - first >= BLOCK && self.bounds.len() < self.bounds.capacity() {
+            self.bounds
+                .push_reserved(Bound::of(&self.written[first..first + BLOCK]));
         }
     }
 
@@ -94,5 +97,35 @@ impl Part {
         self.bound = self.bound.with(&written);
         self.written.push_reserved(written);
         self.add_bound();
+    }
+
+    // Adds the bounds of the whole blocks that have none, in the room that was made for them.
+    fn add_bounds(&mut self)
+        requires none { length self.old.bounds.items ≡ 0 }
+        ensures written { self.new.written ≡ self.old.written }
+        ensures start { self.new.start ≡ self.old.start }
+        ensures bound { self.new.bound ≡ self.old.bound }
+        ensures bounds { length self.new.bounds.items ≡ min (length self.old.written.items / 64) (vec_capacity self.old.bounds) }
+    {
+        for _block in 0..self.written.len() / BLOCK {
+            self.add_bound();
+        }
+    }
+
+    // Drops those with numbers up to `oldest`, also of those that were taken. It looks at each of them.
+    pub(crate) fn sweep(&mut self, oldest: u64)
+        requires { oldest < 2 ^ 64 - 1 }
+        ensures written { self.new.written.items ≡ later_than oldest self.old.written.items }
+        ensures left { drop self.new.start self.new.written.items ≡ later_than oldest (drop self.old.start self.old.written.items) }
+        ensures number { oldest < self.new.bound.number }
+        ensures capacity { vec_capacity self.new.written ≡ vec_capacity self.old.written }
+        ensures bounds { length self.new.bounds.items ≡ min (length self.new.written.items / 64) (vec_capacity self.old.bounds) }
+    {
+        let start = count_later(&self.written[..self.start], oldest);
+        self.bounds.clear();
+        self.written.retain(|written| oldest < written.number());
+        self.start = start;
+        self.bound = self.bound.above(oldest);
+        self.add_bounds();
     }
 }

@@ -1,9 +1,10 @@
 //! A run of written keys.
-ghost use Rattle.std.specs.Prelude.{◌≡◌, ◌≤◌, ◌+◌, ◌-◌, ◌++◌, IsTrue, Bool, length};
+ghost use Rattle.std.specs.Prelude.{◌≡◌, ◌≤◌, ◌+◌, ◌-◌, ◌^◌, ◌++◌, IsTrue, Bool, length};
 ghost use Rattle.std.specs.Vec.{vec_capacity};
 ghost use Rattle.pivot_check.specs.Postings.{Posting, keys_rise, are_upto, least};
 ghost use Rattle.pivot_check.specs.Parts.{live, left, live_in};
 
+use crate::bound::Bound;
 use crate::part::Part;
 use crate::written::Written;
 use std::alloc::Global;
@@ -29,8 +30,14 @@ pub(crate) struct WrittenRun {
 pub(crate) fn nothing(alloc: Global) -> Part
     ensures none { length result.written.items ≡ 0 }
     ensures places { vec_capacity result.written ≡ 0 }
+    ensures number { result.bound.number ≡ 2 ^ 64 - 1 }
 {
-    Part::of(Vec::new(alloc), Vec::new(alloc))
+    Part {
+        written: Vec::new(alloc),
+        start: 0,
+        bound: Bound::of_none(),
+        bounds: Vec::new(alloc),
+    }
 }
 
 impl WrittenRun {

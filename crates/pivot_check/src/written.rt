@@ -1,5 +1,6 @@
 //! Written keys by rising key.
-ghost use Rattle.std.specs.Prelude.{◌≡◌, ◌≤◌, ◌<◌, ◌+◌, ◌-◌, IsTrue, Bool, nat_lt, not, ◌&&◌, ◌||◌, [], ◌∷◌, length, take, Some, None, if◌then◌else◌};
+ghost use Rattle.std.specs.Prelude.{◌≡◌, ◌≤◌, ◌<◌, ◌+◌, ◌-◌, ◌&&◌, ◌||◌, [], ◌∷◌, if◌then◌else◌};
+ghost use Rattle.std.specs.Prelude.{Bool, IsTrue, None, Some, count_by, length, nat_lt, not, take};
 ghost use Rattle.std.specs.List.{insert};
 ghost use Rattle.std.specs.Vec.{vec_len, vec_capacity};
 ghost use Rattle.marks.specs.Lent.{lent_mark};
@@ -108,6 +109,16 @@ pub(crate) fn least_number(
         found = found_with(found, posting, begin, flagged);
     }
     found
+}
+
+// How many of the postings have numbers above this one.
+pub(crate) fn count_later(postings: &[Written], oldest: u64) -> usize
+    ensures { result ≡ count_by (λ p. nat_lt oldest p.number) postings.now }
+{
+    postings
+        .iter()
+        .filter(|posting| oldest < posting.number())
+        .count()
 }
 
 /// Places of postings: from `first` to before `end`.

@@ -1,5 +1,5 @@
 use Rattle.last_readers.proofs.Words.{◌∙◌, with_step, later}
-use Rattle.last_readers.proofs.{Cuts.cut_again, StepLaws.rises_left, MergeLaws.moved}
+use Rattle.last_readers.proofs.{Cuts.cut_again, StepLaws.rises_left, MergeLaws.moved, Sweeps.joined_from}
 use Rattle.last_readers.proofs.merging.move_greatest.Goals as goal
 
 pub take_greatest-step-requires-clause-first : goal.take_greatest-step-requires-clause-first
@@ -20,6 +20,7 @@ returns c =
     record {
       same = all.same;
       made = (step.result, cut_again o _ _ made.at, cut_again o _ _ made.above, added);
+      from = λ n h. joined_from n o c.args.first.now.items step.new.first.items c.args.second.now.items step.new.second.items to c.add_step.new.to.items step.result _ step.ensures.joined added h;
       first = all.first;
       second = all.second;
       fewer = step.ensures.fewer;

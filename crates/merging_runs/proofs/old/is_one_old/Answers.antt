@@ -4,4 +4,4 @@ use Rattle.merging_runs.proofs.OldRuns.{is_one}
 use Rattle.merging_runs.proofs.old.is_one_old.Goals as goal
 
 pub returns : goal.returns
-returns g c = c.is_some.ensures ∙ ap is_some c.first_old.ensures ∙ is_one (held_of g.R.Run.sizes g.R.Run.held) c.args.oldest c.args.runs.now (λ r. omega arith)
+returns g c = c.is_some.ensures ∙ ap is_some c.first_old.ensures ∙ is_one (held_of g.R.Run.from g.R.Run.sizes g.R.Run.held) c.args.oldest c.args.runs.now (λ r. omega arith)

@@ -1,6 +1,6 @@
-use Rattle.merging_runs.proofs.Words.{◌+◌, map, sym, ap, ◌∙◌, size_upto, left_above}
+use Rattle.merging_runs.proofs.Words.{◌+◌, map, sym, ap, ◌∙◌, mixed_upto, size_upto, left_above}
 use Rattle.merging_runs.specs.Value.{held_of}
-use Rattle.merging_runs.proofs.{OldRuns.old_at, OldRuns.part_of, OldRuns.none_old, RunSteps.left_without, RunSteps.rest_agrees}
+use Rattle.merging_runs.proofs.{OldRuns.old_at, OldRuns.mixed_without, OldRuns.part_of, OldRuns.none_old, RunSteps.left_without, RunSteps.rest_agrees}
 use Rattle.merging_runs.proofs.old.take_old.Goals as goal
 
 pub returns-in-Some : goal.returns-in-Some
@@ -10,7 +10,7 @@ returns-in-Some g c =
     let i = c.in-Some.place in
     let o = c.args.oldest in
     let size = g.R.Run.sizes in
-    let held = held_of size g.R.Run.held in
+    let held = held_of g.R.Run.from size g.R.Run.held in
     let at = c.remove.ensures.value in
     let found = old_at size o rs c.deref.result.now i r (sym c.deref.ensures.value) (sym c.first_old.ensures ∙ c.in-Some.is) at in
     let items = c.remove.ensures.items in
@@ -18,6 +18,7 @@ returns-in-Some g c =
       agree = rw items (rest_agrees (g.R.Run.agree o) (g.met.R.Run.between o) rs i r found.0 at (g.met.R.Run.old o r found.1));
       none = λ none. absurd cc;
       size = part_of held o rs i r found.0 at found.1 ∙ ap (λ l. (held r).size + size_upto o (map held l)) (sym items);
+      mixed = ap (λ l. mixed_upto o (map held l)) items ∙ mixed_without held o rs i r found.0 at found.1;
       left = ap (λ l. left_above o (map size l)) items ∙ left_without size o rs i r found.0 at found.1;
     }
 
@@ -26,4 +27,4 @@ returns-in-None-clause-agree g c = g.met.R.Run.same c.args.oldest c.args.runs.no
 
 pub returns-in-None-clause-none : goal.returns-in-None-clause-none
 returns-in-None-clause-none g c = λ none.
-    none_old (held_of g.R.Run.sizes g.R.Run.held) c.args.oldest c.args.runs.now.items c.deref.result.now (sym c.deref.ensures.value) (sym c.first_old.ensures ∙ c.in-None.is)
+    none_old (held_of g.R.Run.from g.R.Run.sizes g.R.Run.held) c.args.oldest c.args.runs.now.items c.deref.result.now (sym c.deref.ensures.value) (sym c.first_old.ensures ∙ c.in-None.is)

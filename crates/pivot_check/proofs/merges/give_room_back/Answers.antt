@@ -7,3 +7,9 @@ returns-clause-same c = λ t.
     let was = c.args.run.now in
     let none : left c.nothing.result + left c.nothing-2.result ≡ 0 = omega (arith, c.nothing.ensures, c.nothing-2.ensures) in
     at_rest t was.made c.nothing.result c.nothing-2.result none ∙ sym (at_rest t was.made was.first was.second (omega arith))
+
+pub returns-clause-from : goal.returns-clause-from
+returns-clause-from c = λ o most lt. omega (arith, c.nothing.ensures.number, c.nothing-2.ensures.number)
+
+pub returns-clause-held : goal.returns-clause-held
+returns-clause-held c = omega (arith, c.nothing.ensures.none, c.nothing-2.ensures.none, c.nothing.result.written.ok.0, c.nothing-2.result.written.ok.0)

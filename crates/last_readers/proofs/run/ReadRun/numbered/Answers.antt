@@ -1,5 +1,6 @@
-use Rattle.last_readers.proofs.Words.{◌≡◌, ap, ◌∙◌, ◌++◌, true, arith, steps_rise, number_at}
+use Rattle.last_readers.proofs.Words.{◌≡◌, ap, ◌∙◌, ◌++◌, true, arith, are_from, steps_rise, number_at}
 use Rattle.last_readers.proofs.StepLaws.{renumbered_rises, renumbered_run, in_place_low}
+use Rattle.last_readers.proofs.Sweeps.{renumbered_are_from}
 use Rattle.last_readers.proofs.run.ReadRun.numbered.Goals as goal
 
 pub invariant_of-result : goal.invariant_of-result
@@ -15,6 +16,7 @@ invariant_of-result c =
       upto = λ k.
           let is = renumbered_run n c.new.result.items c.new-2.result.items made was k c.new.ensures.items c.new-2.ensures.items c.renumber.ensures in
           omega (arith, is, in_place_low n (number_at was k));
+      numbers = (λ i. are_from n (c.new.ensures.items i) (c.new-2.ensures.items i) (c.renumber.ensures i)) ∙ renumbered_are_from n was;
     }
 
 pub returns-clause-numbers : goal.returns-clause-numbers

@@ -1,5 +1,5 @@
 use Rattle.last_readers.proofs.Words.{length, ap, sym, ◌∙◌, arith, deque_len, deque_capacity, cut, steps_rise}
-use Rattle.last_readers.proofs.{StepLaws.rises_with, StepLaws.rises_right, RunLaws.joined_runs}
+use Rattle.last_readers.proofs.{StepLaws.rises_with, StepLaws.rises_right, RunLaws.joined_are_from, RunLaws.joined_runs}
 use Rattle.last_readers.proofs.runs.ReadRunRun.join.Goals as goal
 
 pub invariant_of-self : goal.invariant_of-self
@@ -17,6 +17,7 @@ invariant_of-self c =
       upto = λ k.
           let both = joined_runs was more c.replace.result.items made k c.requires.first c.requires.second (λ i. (value i).items) none in
           omega (arith, both, was.upto k, more.upto k, c.max-self.ensures);
+      numbers = joined_are_from c.min-self.result was more c.replace.result.items made (omega (arith, c.min-self.ensures)) (omega (arith, c.min-self.ensures)) (λ i. (value i).items) none;
     }
 
 pub returns-clause-agree : goal.returns-clause-agree

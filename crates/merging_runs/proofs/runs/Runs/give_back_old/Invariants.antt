@@ -1,10 +1,12 @@
-use Rattle.merging_runs.proofs.Words.{◌≡◌, ◌≤◌, ◌<◌, ◌+◌, due_upto, left_above}
+use Rattle.merging_runs.proofs.Words.{◌≡◌, ◌≤◌, ◌<◌, ◌+◌, mixed_upto, whole_upto, left_above}
 use Rattle.merging_runs.proofs.runs.Runs.give_back_old.Given as goal
 
 abbrev pub invariant-runs : goal.invariant-runs
 invariant-runs g l = record {
   agree : g.R.Run.agree l.oldest l.self.runs l.fn.self.runs;
-  due : due_upto l.oldest l.fn.self.held + l.left ≡ due_upto l.oldest l.self.held + 1024;
+  whole : whole_upto l.oldest l.fn.self.held + l.left ≡ whole_upto l.oldest l.self.held + 1024;
+  mixed : mixed_upto l.oldest l.self.held.runs ≡ mixed_upto l.oldest l.fn.self.held.runs;
+  credit : l.self.held.credit ≡ l.fn.self.held.credit;
   left : left_above l.oldest l.self.sizes ≡ left_above l.oldest l.fn.self.sizes;
   refused : l.self.refused ≡ l.fn.self.refused;
   most : l.left ≤ 1024;

@@ -1,4 +1,4 @@
-use Rattle.pivot_check.proofs.Words.{nil_from_length, ◌≡◌, ◌+◌, Bool, sym, ap, subst, arith, last_reader, IsNoted, HasRoom as HasReadersRoom, ReadersRoom, CommittedValue, keys_of, Posting, postings_by, least, lesser, postings_in}
+use Rattle.pivot_check.proofs.Words.{◌∙◌, nil_from_length, ◌≡◌, ◌+◌, Bool, sym, ap, subst, arith, last_reader, IsNoted, HasRoom as HasReadersRoom, ReadersRoom, CommittedValue, keys_of, Posting, postings_by, least, lesser, postings_in}
 use Rattle.pivot_check.proofs.{Judging.notes, Judging.upto_own, LastSources.noted_upto, LastSources.noted_above}
 use Rattle.pivot_check.proofs.committed.Committed.add_record.Goals as goal
 
@@ -34,6 +34,7 @@ invariant_of-self c =
     record {
       order = omega (arith, n_is, c.self.invariant.order);
       forgotten = omega (arith, n_is, c.self.invariant.forgotten, c.note.ensures.oldest);
+      together = c.note.ensures.oldest ∙ c.self.invariant.together;
       upto = noted_upto (last_reader c.self.inside.readers.readers) (last_reader c.note.new.self.readers) c.args.tx.now.marks c.self.inside.last c.args.n n_is c.self.invariant.upto (noted c);
       above = noted_above (last_reader c.self.inside.readers.readers) (last_reader c.note.new.self.readers) c.args.tx.now.marks c.self.inside.oldest c.args.n (omega (arith, n_is, c.self.invariant.order)) c.self.invariant.above (noted c);
     }

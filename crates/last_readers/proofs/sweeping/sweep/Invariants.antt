@@ -1,0 +1,10 @@
+use Rattle.last_readers.proofs.Words.{◌≡◌, ◌≤◌, deque_capacity, deque_len}
+use Rattle.last_readers.proofs.Sweeps.{IsSoFar}
+use Rattle.last_readers.proofs.sweeping.sweep.Given as goal
+
+abbrev pub invariant-loop-turn : goal.invariant-loop-turn
+invariant-loop-turn l = record {
+  far : IsSoFar l.oldest l.fn.told l.told l.fn.steps.items l.steps.items l._turn;
+  len : deque_len l.steps ≤ deque_len l.fn.steps;
+  capacity : deque_capacity l.steps ≡ deque_capacity l.fn.steps;
+}

@@ -1,0 +1,12 @@
+use Rattle.merging_runs.proofs.Words.{◌≡◌, left_above, whole_upto}
+use Rattle.merging_runs.proofs.runs.Runs.forget.Given as goal
+
+abbrev pub invariant-old : goal.invariant-old
+invariant-old g l = record {
+  agree : g.R.Run.agree l.oldest l.self.runs l.fn.self.runs;
+  left : left_above l.oldest l.self.sizes ≡ left_above l.oldest l.fn.self.sizes;
+  refused : l.self.refused ≡ l.fn.self.refused;
+}
+
+abbrev pub decreases-old : goal.decreases-old
+decreases-old g l = whole_upto l.oldest l.self.held
