@@ -40,7 +40,7 @@ impl<D: Sectors> Engine<D> {
     ghost use Rattle.versions.specs.Listings.{IsUnmixed};
     ghost use Rattle.versions.specs.Meaning.{kept_of, IsReclaimed, IsReclaimedInPart};
     ghost use Rattle.std.specs.List.{AllByRecursion};
-    ghost use Rattle.pivot_check.specs.Kept.{IsGivenBack};
+    ghost use Rattle.pivot_check.specs.Kept.{IsGivenBack, KeepsNoneUpto};
     ghost use Rattle.engine.specs.HistoryValue.{is_due};
     ghost use Rattle.engine.specs.Recovery.{LeavesCommitted};
     ghost use Rattle.engine.specs.Meaning.{StandsFor, Leads, response_to, device_of, is_stopped, versions_of, committed_of, facts_of, open_begins, HasForgottenOld};
@@ -167,12 +167,13 @@ impl<D: Sectors> Engine<D> {
     /// Drops what no open transaction needs: what was kept of transactions that were committed when each open one began, and the versions
     /// that are neither the newest of their keys nor seen from the begin of an open transaction.
     ///
-    /// It looks at all lists of versions that are due, so its time grows with them (`Versions::reclaim`). Takes no memory.
+    /// It looks at all lists of versions that are due, and at all that is kept of commits, so its time grows with both. Takes no memory.
     pub fn reclaim(&mut self)
         ensures keeps { (m : State) → StandsFor self.old m → StandsFor self.new m }
         ensures versions { (m : State) → StandsFor self.old m → IsReclaimed (versions_of self.old) (versions_of self.new) (open_begins m) }
         ensures unmixed { (m : State) → StandsFor self.old m → AllByRecursion IsUnmixed (versions_of self.new).groups }
         ensures forgotten { (m : State) → StandsFor self.old m → HasForgottenOld m (facts_of self.new) }
+        ensures kept { KeepsNoneUpto (facts_of self.new).oldest (facts_of self.new) }
         ensures device { device_of self.new ≡ device_of self.old }
         ensures stopped { is_stopped self.new ≡ is_stopped self.old }
     {

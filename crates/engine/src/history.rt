@@ -1,7 +1,7 @@
 //! What has committed.
 ghost use Rattle.std.specs.Prelude.{◌≡◌, ◌+◌, ◌-◌, ◌^◌, ◌<◌, ◌≤◌, true, [], IfOk, OnOk, max};
 ghost use Rattle.versions.specs.Meaning.{IsReclaimed, IsReclaimedInPart};
-ghost use Rattle.pivot_check.specs.Kept.{HasForgotten, IsEmpty, IsGivenBack};
+ghost use Rattle.pivot_check.specs.Kept.{HasForgotten, IsEmpty, IsGivenBack, KeepsNoneUpto};
 ghost use Rattle.pivot_check.specs.StandsFor.{IsCleared};
 ghost use Rattle.engine.specs.HistoryValue.{HistoryStandsFor, IsSameHistory, IsReady, Joins, KeepsHeld, Unmixes, is_due};
 
@@ -111,6 +111,7 @@ impl History {
         ensures oldest { self.new.committed.facts.oldest ≡ max self.old.committed.facts.oldest oldest }
         ensures reclaimed { IsReclaimed self.old.versions self.new.versions begins.now }
         ensures forgotten { HasForgotten oldest self.new.committed.facts }
+        ensures kept { KeepsNoneUpto self.new.committed.facts.oldest self.new.committed.facts }
         ensures unmixed { Unmixes self.old self.new begins.now }
     {
         self.versions.reclaim(begins);

@@ -14,6 +14,7 @@ returns g c =
       versions = λ m h. subst (IsReclaimed e.history.versions new.versions) (numbers m h) c.reclaim.ensures.reclaimed;
       unmixed = λ m h. c.reclaim.ensures.unmixed h.held m.base m.history h.history (are_held e new oldest _ least c.gather_begins-count.ensures.numbers m h);
       forgotten = λ m h. none_below e new oldest _ least c.gather_begins-count.ensures.numbers m h new.committed.facts c.reclaim.ensures.forgotten;
+      kept = c.reclaim.ensures.kept;
       device = search rules;
       stopped = search rules;
     }
