@@ -1,4 +1,5 @@
 //! The loop, with clients over sockets of the same process.
+use crate::buffers::transaction;
 use crate::hubs::{new_hub, opened};
 use commit_log::{Log, format};
 use event_loop::EventLoop;
@@ -85,6 +86,35 @@ fn write_skew(rt: HostRuntime) {
         assert!(rt; asks(&rt, &mut events, client, request, reply), "{reply:?}");
     }
     assert!(rt; !events.stopped());
+}
+
+/// Reads what is there, at most 1 MiB, and says how many bytes that was.
+fn reads<S: Read>(client: &mut S) -> usize {
+    let mut got = [0u8; 4_096];
+    let mut count = 0usize;
+    for _ in 0..256u32 {
+        let Ok(n) = client.read(&mut got) else {
+            return count;
+        };
+        count = count.saturating_add(n);
+    }
+    count
+}
+
+/// Replies of more than two shares of a turn come whole, though the poll tells of nothing once all requests were read.
+#[test]
+fn more_than_a_share(rt: HostRuntime) {
+    let (input, replies) = transaction(&rt, 40);
+    let mut events = new_loop(&rt);
+    let mut client = client(&rt, &events);
+    client.write_all(&input).expect(&rt, "written");
+    let mut count = 0usize;
+    for _ in 0..200u32 {
+        let turned = events.turn(&rt, Some(Duration::from_millis(10)));
+        turned.expect(&rt, "a turn");
+        count = count.saturating_add(reads(&mut client));
+    }
+    assert!(rt; count == replies.len());
 }
 
 /// A commit through a loop over the file of this name.
