@@ -1,5 +1,5 @@
 -- The turns of the loops.
-use Rattle.stream_driver.proofs.Words.{◌≡◌, ◌≢◌, ◌⊎◌, inl, inr, ℕ, ◌+◌, ◌-◌, ◌<◌, ◌≤◌, List, [], ◌++◌, length, Some, refl, sym, ap, subst, ◌∙◌, arith, length-append, ◌∷◌, append-nil, inbox_max, flat_map, reply_text, IsProperBeginning, Absent, Open, Ending, Refused, Outcome, Done, Memory, SessionStream, Serves, Choice, hub_step, stream_of, RunsAlone, StandsFor, HubLeads, pending_of, status_in, pending_in, room_in, failures, pending_seen, Read, Write, ReadAnswer, WriteAnswer, Moved, Blocked, Failed, Ended, Wrote, WriteBlocked, WriteFailed, Progress, Waiting, Again, Gone, OutputState, Empty, FlushBlocked, FlushFailed, Exchange, Served, Broke as ExchangeBroke, Starved as ExchangeStarved, ExchangeBlocked, Traffic, AllMoved, EndsWith, Ghosts, Hub, Leads, Stands, Point, Runs, AwaitsMore, status_at, pending_at, room_at, inbox_at, inbox_in, IsPresentIn, Carried, Departs, Drove, EndsAs, Why, Moves, WritesSome, ReadsSome, Flushes, Exchanges, WhyExchanged, WhyFlushed, WrittenSoFar, ReadSoFar, DrivenSoFar, DrivenOut, served_in, LeadsTelling}
+use Rattle.stream_driver.proofs.Words.{◌≡◌, ◌≢◌, ◌⊎◌, inl, inr, ℕ, ◌+◌, ◌-◌, ◌<◌, ◌≤◌, List, [], ◌++◌, length, Some, refl, sym, ap, subst, ◌∙◌, arith, length-append, inbox_max, IsProperBeginning, Absent, Open, Ending, Refused, Outcome, Done, Memory, SessionStream, Serves, Choice, hub_step, stream_of, RunsAlone, StandsFor, HubLeads, pending_of, status_in, pending_in, room_in, failures, pending_seen, Read, Write, ReadAnswer, WriteAnswer, Moved, Blocked, Failed, Ended, Wrote, WriteBlocked, WriteFailed, Progress, Waiting, Again, Gone, OutputState, Empty, FlushBlocked, FlushFailed, Exchange, Served, Broke as ExchangeBroke, Starved as ExchangeStarved, ExchangeBlocked, Traffic, AllMoved, EndsWith, Ghosts, Hub, Leads, Stands, Point, Runs, AwaitsMore, status_at, pending_at, room_at, inbox_at, inbox_in, IsPresentIn, Carried, Departs, Drove, EndsAs, Why, Moves, WritesSome, ReadsSome, Flushes, Exchanges, WhyExchanged, WhyFlushed, WrittenSoFar, ReadSoFar, DrivenSoFar, DrivenOut, served_in, LeadsTelling}
 use Rattle.std.proofs.Math.Nat.{ℕ_set}
 use Rattle.sessions.specs.declared.events.Status.{Status}
 use Rattle.stream_driver.proofs.{States.Follow, States.seen_after, Inboxes.beginning_short, Answered.none_called, Answered.moved_then, Answered.ends_then}

@@ -1,5 +1,5 @@
 use denote.Struct.Props.{props}
-use Rattle.stream_driver.proofs.Words.{inl, inr, ◌≡◌, arith, refl, sym, ap, ◌∙◌, pending_seen, status_seen}
+use Rattle.stream_driver.proofs.Words.{inl, inr, arith, sym, ◌∙◌, pending_seen, status_seen}
 use Rattle.stream_driver.proofs.States.{leads_none, present_in, present_after, seen_after, stands_after}
 use Rattle.stream_driver.proofs.Sends.{tells_still, tells_three, tells_two_at}
 use Rattle.stream_driver.proofs.Loops.{again, driven_none, flushes_out, gone_closed, gone_serving, gone_writing, leaves, out_broke, out_served, waits_to_read, waits_to_write}
