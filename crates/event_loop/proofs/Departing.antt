@@ -126,7 +126,7 @@ module _ {D : Type 0} {g : Ghosts D} {hub : Hub D g} (served : Served hub) where
     -- the end of an entry's drive
     end_tells : SocketsTell → (was entry : Connection) → EndsDrive SocketsTell traffic_of moment was entry → Tells served was.session (through was.stream) → Tells served entry.session (through entry.stream)
     end_tells t was entry ends e =
-        let f = finished SocketsTell traffic_of moment was.state was.stream entry.stream ends.stream in
+        let f = finished SocketsTell traffic_of moment entry.state was.stream entry.stream ends.stream in
         subst (λ (s : ℕ). Tells served s (through entry.stream)) (sym ends.session)
         (departs_tells was.session (through was.stream) (through entry.stream) f.connection (f.taken t) (f.departed t) e)
 

@@ -1,9 +1,9 @@
 -- Each session that is present has an entry that isn't gone.
 use denote.Struct.Props.{props}
-use Rattle.event_loop.proofs.Words.{◌≡◌, ◌≢◌, inl, inr, ℕ, zero, suc, ◌<◌, List, [], ◌∷◌, Option, Some, None, refl, sym, ap, subst, ◌∙◌, cases_eq, lookup, Absent, Idle, Ready, Gone as EntryGone, status_seen, test, some_same, ends_other, seen_after, AreBelow, Event, Ghosts, Hub, IsReachedHub, Continued, Leaves, status_in, BufferedStream, Entry, EntryState, DrivenAll, DrivenIn, DrivenSlot, DrivenOnce, HaveSessions, state_after, Point, Leads, IsPresent, Stands, status_at, Traffic, untouched, EndsTurn, HasNobody, HaveEntries, IsWithoutEntry, after_poll, slot_at, Slots}
+use Rattle.event_loop.proofs.Words.{◌≡◌, ◌≢◌, inl, inr, ℕ, zero, suc, ◌<◌, List, [], ◌∷◌, Option, Some, None, refl, sym, ap, subst, ◌∙◌, cases_eq, lookup, Absent, Idle, Ready, Gone as EntryGone, status_seen, test, some_same, ends_other, seen_after, AreBelow, Event, Ghosts, Hub, IsReachedHub, Continued, Leaves, status_in, BufferedStream, has_had_share, Entry, EntryState, DrivenAll, DrivenIn, DrivenSlot, DrivenOnce, HaveSessions, state_after, Point, Leads, IsPresent, Stands, status_at, Traffic, untouched, EndsTurn, HasNobody, HaveEntries, IsWithoutEntry, after_poll, slot_at, Slots}
 use Rattle.stream_driver.specs.{declared.answers.Progress.Progress, declared.answers.Progress.TheVariants.Gone, Drives.EndsAs}
 use Rattle.sessions.specs.StandsFor.{status_or_absent}
-use Rattle.event_loop.proofs.Polled.{gone_as, gone_before, then_polled, was_driven, was_polled}
+use Rattle.event_loop.proofs.Polled.{gone_as, gone_at_end, gone_before, then_polled, was_driven, was_polled}
 use Rattle.event_loop.proofs.Present.{reached-run, absent_then}
 
 -- nobody is there, so each session is absent
@@ -118,7 +118,7 @@ module _ {T : Type 0} (old new : Slots (BufferedStream T)) where
     pub ended_remain : Remain old new
     ended_remain key entry e =
         let b = was_driven tells traffic moment (slot_at old key) (slot_at new key) entry (ended key) e in
-        (b.0, b.1, sym b.2.session, λ alive gone. alive (b.2.state ∙ gone))
+        (b.0, b.1, sym b.2.session, λ alive gone. alive (b.2.state ∙ gone_at_end b.0.state (has_had_share b.0.stream) gone))
 
     pub ended_entries : {D : Type 0} {g : Ghosts D} (hub : Hub D g) → HaveEntries hub old → HaveEntries hub new
     ended_entries hub has s without = has s (λ key entry e same.

@@ -1,5 +1,5 @@
 -- What a poll and the end of a turn make of a slot, and what becomes of its connection.
-use Rattle.event_loop.proofs.Words.{◌≡◌, ◌≢◌, inl, inr, ℕ, ◌<◌, ◌≤◌, ◌==◌, ◌||◌, Bool, true, false, cond, List, [], ◌∷◌, ◌++◌, map, set, Option, Some, None, option_map, refl, sym, ap, subst, ◌∙◌, arith, and_parts, cases_eq, cases_lt, get_or-set_same, get_or-set_other, Gone, some_same, below, EndAll, EndEach, EndsAt, LeavesAs, LeavesIf, NoneEnded, Lingerers, SocketsTell, traffic_of, Event, BufferedStream, Entry, EntryState, is_settled, traffic_through, EndsDrive, is_gone, is_over, Traffic, Socket, EndsTurn, after_event, after_poll, slot_at, told, told_slot, Slots}
+use Rattle.event_loop.proofs.Words.{◌≡◌, ◌≢◌, inl, inr, ℕ, ◌<◌, ◌≤◌, ◌==◌, ◌||◌, Bool, true, false, cond, List, [], ◌∷◌, ◌++◌, map, set, Option, Some, None, option_map, refl, sym, ap, subst, ◌∙◌, arith, and_parts, cases_eq, cases_lt, get_or-set_same, get_or-set_other, Idle, Ready, Gone, some_same, below, EndAll, EndEach, EndsAt, LeavesAs, LeavesIf, NoneEnded, Lingerers, SocketsTell, traffic_of, Event, BufferedStream, Entry, EntryState, has_had_share, is_settled, state_at_end, traffic_through, EndsDrive, is_gone, is_over, Traffic, Socket, EndsTurn, after_event, after_poll, slot_at, told, told_slot, Slots}
 use Rattle.std.proofs.Math.ListN.{get_or-eq_default}
 use Rattle.std.proofs.lemmas.Grind.{common_steps}
 use Rattle.mio.specs.Event.{event_token, is_priority, is_read_closed}
@@ -11,6 +11,16 @@ mapped_some f (Some x) p y same is = (x, refl, cc (ap (option_map f) is))
 
 gone_at : (state : EntryState) → is_gone state ≡ true → state ≡ Gone
 gone_at state is = grind arith
+
+-- an entry is gone at the end of its drive exactly where it was
+pub gone_at_end : (state : EntryState) (had : Bool) → state ≡ Gone → state_at_end state had ≡ Gone
+gone_at_end state had gone = ap (λ s. state_at_end s had) gone
+
+was_gone : (state : EntryState) (had : Bool) → state_at_end state had ≡ Gone → state ≡ Gone
+was_gone Gone had gone = refl
+was_gone Ready had gone = gone
+was_gone Idle true gone = absurd (let bad : Ready ≡ Gone = gone in cc)
+was_gone Idle false gone = gone
 
 pub gone_as : (a b : EntryState) → is_gone a ≡ is_gone b → a ≡ Gone → b ≡ Gone
 gone_as a b same gone = gone_at b (sym same ∙ ap is_gone gone)
@@ -93,10 +103,10 @@ module _ {T : Type 0} where
     -- it was gone where it is taken out, or is gone
     pub gone_before : (was : Entry (BufferedStream T)) (after : Option (Entry (BufferedStream T))) → EndsTurn tells traffic moment (Some was) after
         → ((entry : Entry (BufferedStream T)) → after ≡ Some entry → entry.session ≡ was.session → entry.state ≡ Gone) → was.state ≡ Gone
-    gone_before was after (mid, ends, is) without = sym ends.state ∙ elim (is_over mid) as (λ b. is_over mid ≡ b → after ≡ cond b None (Some mid) → mid.state ≡ Gone) [
+    gone_before was after (mid, ends, is) without = was_gone was.state (has_had_share was.stream) (sym ends.state ∙ elim (is_over mid) as (λ b. is_over mid ≡ b → after ≡ cond b None (Some mid) → mid.state ≡ Gone) [
       | true ↦ λ over none. gone_at mid.state (and_parts (is_gone mid.state) (is_settled mid.stream) over).0
       | false ↦ λ lasts there. without mid there ends.session
-    ] refl is
+    ] refl is)
 
 module _ {moment : ℕ} {slots : Slots (BufferedStream Socket)} {old : Lingerers} where
   -- the entries at the keys that come are as they were, and the drives of the others have ended

@@ -1,7 +1,7 @@
 -- What the drives of a turn leave of each entry: its session, the number of its connection, and the bytes of its session.
-use Rattle.event_loop.proofs.Words.{◌≡◌, ◌≢◌, inl, inr, ℕ, zero, suc, List, [], ◌∷◌, ◌++◌, Option, Some, None, refl, sym, ap, subst, ◌∙◌, arith, Idle, Ready, Gone as EntryGone, flushed_same, none_departed, one_history, some_same, ends_last, entry_other, HasItsBytes, HaveBytes, Event, HubState, SessionStream, stream_of, BufferedStream, Entry, EntryState, fresh, traffic_through, DrivenAll, DrivenEntry, DrivenIn, DrivenSlot, EndsIn, state_after, Point, DepartAt, Traffic, EndsTurn, after_poll, slot_at, Slots}
+use Rattle.event_loop.proofs.Words.{◌≡◌, ◌≢◌, inl, inr, ℕ, zero, suc, List, [], ◌∷◌, ◌++◌, Option, Some, None, refl, sym, ap, subst, ◌∙◌, arith, Idle, Ready, Gone as EntryGone, flushed_same, none_departed, one_history, some_same, ends_last, entry_other, HasItsBytes, HaveBytes, Event, HubState, SessionStream, stream_of, BufferedStream, Entry, EntryState, fresh, has_had_share, traffic_through, DrivenAll, DrivenEntry, DrivenIn, DrivenSlot, EndsIn, state_after, Point, DepartAt, Traffic, EndsTurn, after_poll, slot_at, Slots}
 use Rattle.stream_driver.specs.{declared.answers.Progress.Progress, declared.answers.Progress.TheVariants.Gone, Drives.Why}
-use Rattle.event_loop.proofs.{Entries.no_entry, Polled.gone_as, Polled.was_driven, Polled.was_polled}
+use Rattle.event_loop.proofs.{Entries.no_entry, Polled.gone_as, Polled.gone_at_end, Polled.was_driven, Polled.was_polled}
 
 -- a drive keeps the number of a stream's connection
 why_same : (s : ℕ) (last : HubState) (before after : Traffic) (served sent : ℕ) (answer : Progress) → Why s last before after served sent answer → after.connection ≡ before.connection
@@ -144,6 +144,6 @@ module _ {T : Type 0} (tells : Type 0) (traffic : T → Traffic) (moment : ℕ) 
     pub drives_bytes : (h k : Point) → DrivenAll tells through h ready k driven → HaveBytes tells through h.hub slots → HaveBytes tells through k.hub new
     drives_bytes h k d has key entry e alive =
         let b = was_driven tells traffic moment (slot_at driven key) (slot_at new key) entry (ended key) e in
-        let f = finished b.0.state b.0.stream entry.stream b.2.stream in
+        let f = finished entry.state b.0.stream entry.stream b.2.stream in
         kept_bytes tells through k.hub b.0 entry b.2.session (λ t. (f.given t, f.taken t))
-        (driven_bytes tells through h ready k driven d own (polled_bytes slots ready events polled h.hub has) key b.0 b.1 (λ gone. alive (b.2.state ∙ gone)))
+        (driven_bytes tells through h ready k driven d own (polled_bytes slots ready events polled h.hub has) key b.0 b.1 (λ gone. alive (b.2.state ∙ gone_at_end b.0.state (has_had_share b.0.stream) gone)))

@@ -24,8 +24,8 @@ pub use Rattle.stream_driver.proofs.Carry.{adds_then, one_history, run_then}
 pub use Rattle.stream_driver.proofs.Events.{adds_none, test}
 pub use Rattle.stream_driver.proofs.OneEntry.{below, ends_last, ends_other, entry_other}
 pub use Rattle.stream_driver.proofs.States.{at_point, Follow, leads_event, leads_map, leads_none, leads_then, leads_two_at, point_of, present_after, seen_after, stands_after}
-pub use Rattle.stream_driver.specs.Buffers.{fresh, held_in, is_settled, IsNew, traffic_through}
-pub use Rattle.stream_driver.specs.Entries.{DrivenAll, DrivenEntry, DrivenIn, DrivenOnce, DrivenSlot, EndsDrive, EndsIn, HaveSessions, is_gone, is_over, KeepSessions, state_after}
+pub use Rattle.stream_driver.specs.Buffers.{fresh, has_had_share, held_in, is_settled, IsNew, traffic_through}
+pub use Rattle.stream_driver.specs.Entries.{DrivenAll, DrivenEntry, DrivenIn, DrivenOnce, DrivenSlot, EndsDrive, EndsIn, HaveSessions, is_gone, is_over, KeepSessions, state_after, state_at_end}
 pub use Rattle.stream_driver.specs.Sessions.{Adds, IsPresent, IsPresentIn, Leads, Point, Stands, StandsAt, status_at}
 pub use Rattle.stream_driver.specs.Traffic.{bytes_read, bytes_written, DepartAt, Departure, IsBeginning, IsUncalled, one_more, Traffic, untouched}
 pub use Rattle.stream_driver.specs.declared.buffered.BufferedStream.{BufferedStream}

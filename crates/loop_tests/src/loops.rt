@@ -83,3 +83,53 @@ fn write_skew(rt: HostRuntime) {
     }
     assert!(rt; !events.stopped());
 }
+
+/// Reads what is there, at most 1 MiB, and says how many bytes that was.
+fn reads<S: Read>(client: &mut S) -> usize {
+    let mut got = [0u8; 4_096];
+    let mut count = 0usize;
+    for _ in 0..256u32 {
+        let Ok(n) = client.read(&mut got) else {
+            return count;
+        };
+        count = count.saturating_add(n);
+    }
+    count
+}
+
+fn add<R: Abort>(rt: &R, bytes: &mut Vec<u8>, more: &[u8]) {
+    bytes.extend_from_slice(more).expect(rt, "memory");
+}
+
+/// A transaction that is not committed: a value of 16,000 bytes is set, and read so many times.
+fn long_transaction<R: Abort + AllocGlobal>(rt: &R, reads: u32) -> Vec<u8> {
+    let mut input = Vec::new(rt.alloc());
+    add(
+        rt,
+        &mut input,
+        b"*1\r\n$5\r\nBEGIN\r\n*3\r\n$3\r\nSET\r\n$1\r\na\r\n$16000\r\n",
+    );
+    add(rt, &mut input, &[b'v'; 16_000]);
+    add(rt, &mut input, b"\r\n");
+    for _ in 0..reads {
+        add(rt, &mut input, b"*2\r\n$3\r\nGET\r\n$1\r\na\r\n");
+    }
+    input
+}
+
+/// Replies of more than two shares of a turn come whole, though the poll tells of nothing once all requests were read. A value takes 16,010
+/// bytes of them, the other two replies take ten.
+#[test]
+fn more_than_a_share(rt: HostRuntime) {
+    let input = long_transaction(&rt, 40);
+    let mut events = new_loop(&rt);
+    let mut client = client(&rt, &events);
+    client.write_all(&input).expect(&rt, "written");
+    let mut count = 0usize;
+    for _ in 0..200u32 {
+        let turned = events.turn(Some(Duration::from_millis(10)));
+        turned.expect(&rt, "a turn");
+        count = count.saturating_add(reads(&mut client));
+    }
+    assert!(rt; count == 640_410);
+}

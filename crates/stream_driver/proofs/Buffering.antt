@@ -1,6 +1,8 @@
 -- A buffer that holds nothing has room.
-use Rattle.stream_driver.proofs.Words.{◌≡◌, ◌≢◌, inl, inr, ℕ, ◌-◌, ◌<◌, ◌≤◌, ◌⊎◌, ◌↔◌, not, true, false, List, [], ◌++◌, append_assoc, Bool, length, take, drop, vec_len, refl, sym, ap, subst, ◌∙◌, arith, AllByRecursion, common_steps, append-nil, take-append-drop, all-each, ReadAnswer, Moved, WriteAnswer, Wrote, WriteBlocked, WriteFailed, Read, Write, HeldBytes, Flushed, All, FlushedBlocked as Blocked, FlushedFailed as Failed, BufferedStream, held_in, BehindEnds, BehindMoved, FlushFails, GivesSome, KeepsBytes, ShortAfter, TakesSome, WasRead, WhyGave, WhyTook, traffic_through, ReadFails, RoomFails, StaysFailed, WhyRoom, WriteFails, WritesHeld, AllMoved, Departure, DepartAt, EndsWith, IsBeginning, ReadsWithin, Traffic, WritesWithin, bytes_read, bytes_written, all-append}
+use Rattle.stream_driver.proofs.Words.{◌≡◌, ◌≢◌, inl, inr, ℕ, ◌-◌, ◌<◌, ◌≤◌, ◌⊎◌, ◌↔◌, not, true, false, List, [], ◌++◌, append_assoc, Bool, length, take, drop, vec_len, refl, sym, ap, subst, ◌∙◌, arith, AllByRecursion, common_steps, append-nil, take-append-drop, all-each, ReadAnswer, Moved, WriteAnswer, Wrote, WriteBlocked, WriteFailed, Read, Write, HeldBytes, Flushed, All, FlushedBlocked as Blocked, FlushedFailed as Failed, BufferedStream, held_in, BehindEnds, BehindMoved, FlushFails, GivesSome, KeepsBytes, ShortAfter, TakesSome, WasRead, WhyGave, WhyGaveSome, WhyTook, WhyTookSome, traffic_through, ReadFails, RoomFails, StaysFailed, WhyRoom, WriteFails, WritesHeld, AllMoved, Departure, DepartAt, EndsWith, IsBeginning, ReadsWithin, Traffic, WritesWithin, bytes_read, bytes_written, all-append}
 use Rattle.std.proofs.Common.{length-drop}
+use Rattle.std.proofs.lemmas.List.{length-take-le, take-take}
+use Rattle.stream_driver.specs.Types.{Blocked as ReadBlocked}
 use Rattle.stream_driver.specs.Buffers.{room_in, Flushes, WhyFlushed}
 use Rattle.stream_driver.proofs.Answered.{ends_then, moved_then, none_called}
 use Rattle.stream_driver.proofs.Carry.{grown}
@@ -19,6 +21,13 @@ room_after traffic answer a b e = grind (arith, empty_room)
 -- a read that moved bytes is short where they are fewer than it asked for, unless such a read means nothing
 pub short_moved : (n len : ℕ) (was now short : Bool) → now ≡ was → ((n < len) × (short ≡ not now)) ⊎ ((len ≤ n) × (short ≡ false)) → (short ≡ true) ↔ ((n < len) × (was ≡ false))
 short_moved n len was now short same how = (λ on. (grind (arith, common_steps), grind (arith, common_steps)), λ p. grind (arith, common_steps))
+
+-- a write that was to take so many bytes
+within_most : (answer : WriteAnswer) (most len : ℕ) → most ≤ len → WritesWithin answer most → WritesWithin answer len
+within_most answer most len le within = grind arith
+
+pub took_most : (answer : WriteAnswer) (most : ℕ) → WritesWithin answer most → bytes_written answer ≤ most
+took_most answer most within = grind arith
 
 -- ---- what left
 
@@ -71,33 +80,46 @@ module _ {T : Type 0} where
 
   -- a call of a buffered stream is of the connection of the stream behind
   module _ (traffic : T → Traffic) (old new : BufferedStream T) where
+    gave_some_same : (answer : ReadAnswer) → WhyGaveSome traffic old answer new → (traffic new.inner).connection ≡ (traffic old.inner).connection
+    gave_some_same answer why = grind arith
+
+    took_some_same : (answer : WriteAnswer) → WhyTookSome traffic old answer new → (traffic new.inner).connection ≡ (traffic old.inner).connection
+    took_some_same answer why = grind arith
+
     pub gave_same : (answer : ReadAnswer) → WhyGave traffic old answer new → (traffic new.inner).connection ≡ (traffic old.inner).connection
-    gave_same answer why = grind arith
+    gave_same answer (inl pauses) = ap (λ (i : T). (traffic i).connection) pauses.0.inner_is
+    gave_same answer (inr why) = gave_some_same answer why.1
 
     pub took_same : (answer : WriteAnswer) → WhyTook traffic old answer new → (traffic new.inner).connection ≡ (traffic old.inner).connection
-    took_same answer why = grind arith
+    took_same answer (inl pauses) = ap (λ (i : T). (traffic i).connection) pauses.0.inner_is
+    took_same answer (inr why) = took_some_same answer why.1
 
     pub flushed_same : (answer : Flushed) → WhyFlushed traffic old answer new → (traffic new.inner).connection ≡ (traffic old.inner).connection
     flushed_same answer why = grind arith
 
-    why_gave : (answer : ReadAnswer) → WasRead traffic old answer new → WhyGave traffic old answer new
+    why_gave : (answer : ReadAnswer) → WasRead traffic old answer new → WhyGaveSome traffic old answer new
     why_gave answer read = grind arith
 
-    why_took : (answer : WriteAnswer) → BehindEnds traffic (Write answer) old new → WhyTook traffic old answer new
+    why_took : (answer : WriteAnswer) → BehindEnds traffic (Write answer) old new → WhyTookSome traffic old answer new
     why_took answer ends = grind arith
 
     -- what left in a call of the stream behind
     left_behind : {moment : ℕ} → DepartAt moment (traffic old.inner) (traffic new.inner) → DepartAt moment (traffic_through traffic old) (traffic_through traffic new)
     left_behind {moment} p = search (p.departed_are, beginnings_then moment (traffic new.inner).taken (held_in new.held) (traffic_through traffic new).taken refl p.departures p.each)
 
+  pub takes_why : (traffic : T → Traffic) (old mid : BufferedStream T) {inner : T} (answer : WriteAnswer) → BehindMoved traffic old mid
+      → EndsWith (Write answer) (traffic mid.inner) (traffic inner) → WhyTookSome traffic old answer (record mid { inner = inner })
+  takes_why traffic old mid {inner} answer moved answered =
+      why_took traffic old (record mid { inner = inner }) answer (ends_then (Write answer) (traffic old.inner) (traffic mid.inner) (traffic inner) moved answered)
+
   module _ {tells : Type 0} {traffic : T → Traffic} {moment : ℕ} where
     kept_then : {a b c : BufferedStream T} → KeepsBytes tells traffic moment a b → KeepsBytes tells traffic moment b c → KeepsBytes tells traffic moment a c
     kept_then {a} {b} p q =
         let departed = λ (t : tells). departed_then [] (q.taken t ∙ sym (append-nil ((traffic b.inner).taken ++ held_in b.held))) (p.departed t) (q.departed t) in
-        assumption (λ (t : tells). q.given t ∙ p.given t, λ (t : tells). q.taken t ∙ p.taken t, departed, q.counts ∙ p.counts, q.short ∙ p.short, q.drained ∙ p.drained, q.reads_on ∙ p.reads_on)
+        assumption (λ (t : tells). q.given t ∙ p.given t, λ (t : tells). q.taken t ∙ p.taken t, departed, q.counts ∙ p.counts, q.short ∙ p.short, q.drained ∙ p.drained, q.reads_on ∙ p.reads_on, q.share ∙ p.share)
 
     pub flushed_none : (b : BufferedStream T) → FlushedSoFar tells traffic moment b b
-    flushed_none b = (record { given = λ t. refl; taken = λ t. refl; departed = λ t. none_departed refl; counts = refl; short = refl; drained = refl; reads_on = refl }, inl (refl, refl), none_called (traffic b.inner))
+    flushed_none b = (record { given = λ t. refl; taken = λ t. refl; departed = λ t. none_departed refl; counts = refl; short = refl; drained = refl; reads_on = refl; share = refl }, inl (refl, refl), none_called (traffic b.inner))
 
     module _ {a b : BufferedStream T} (so_far : FlushedSoFar tells traffic moment a b) {c : BufferedStream T} where
       pub flushed_more : {n : ℕ} → WritesHeld tells traffic moment b (Wrote n) c → FlushedSoFar tells traffic moment a c
@@ -133,27 +155,84 @@ module _ {T : Type 0} where
     -- the stream behind was read once nothing was held
     pub gives_some : {old mid : BufferedStream T} {inner : T} (short : Bool) {before after : List ℕ} (answer : ReadAnswer) → Flushes tells traffic moment old All mid → ReadsWithin answer (length before)
         → (tells → (traffic inner).given ≡ (traffic mid.inner).given ++ take (bytes_read answer) after) → (tells → (traffic inner).taken ≡ (traffic mid.inner).taken) → (tells → DepartAt moment (traffic mid.inner) (traffic inner))
-        → EndsWith (Read answer) (traffic mid.inner) (traffic inner) → mid.is_drained ≡ false → ShortAfter old (length before) answer (record mid { inner = inner; is_short = short })
+        → ShortAfter old (length before) answer (record mid { inner = inner; is_short = short })
         → GivesSome tells traffic moment old before answer (record mid { inner = inner; is_short = short }) after
-    gives_some {old} {mid} {inner} short {before} {after} answer flushed within given taken departed answered more shorter =
+    gives_some {old} {mid} {inner} short {before} {after} answer flushed within given taken departed shorter =
         let new : BufferedStream T = record mid { inner = inner; is_short = short } in
         let all = λ (t : tells). ap (λ l. l ++ held_in mid.held) (taken t) in
         let left = λ (t : tells). left_then old mid new [] flushed.kept t (all t ∙ sym (append-nil ((traffic mid.inner).taken ++ held_in mid.held))) (departed t) in
-        let why = why_gave traffic old new answer (sym flushed.kept.drained ∙ more, flushed.why.0, ends_then (Read answer) (traffic old.inner) (traffic mid.inner) (traffic inner) flushed.why.1 answered) in
-        assumption (λ (t : tells). given t ∙ ap (λ l. l ++ take (bytes_read answer) after) (flushed.kept.given t), λ (t : tells). all t ∙ flushed.kept.taken t, left, why, read_fails old new answer flushed.why.0 flushed.failed)
+        assumption (λ (t : tells). given t ∙ ap (λ l. l ++ take (bytes_read answer) after) (flushed.kept.given t), λ (t : tells). all t ∙ flushed.kept.taken t, left, read_fails old new answer flushed.why.0 flushed.failed)
 
-    module _ {old mid : BufferedStream T} (kept : KeepsBytes tells traffic moment old mid) (stays : RoomFails old All mid) (moved : BehindMoved traffic old mid) {from : List ℕ} where
+    -- why it answers so
+    pub gives_why : {old mid : BufferedStream T} {inner : T} (short : Bool) (answer : ReadAnswer) → Flushes tells traffic moment old All mid → EndsWith (Read answer) (traffic mid.inner) (traffic inner) → mid.is_drained ≡ false
+        → WhyGaveSome traffic old answer (record mid { inner = inner; is_short = short })
+    gives_why {old} {mid} {inner} short answer flushed answered more =
+        let new : BufferedStream T = record mid { inner = inner; is_short = short } in
+        why_gave traffic old new answer (sym flushed.kept.drained ∙ more, flushed.why.0, ends_then (Read answer) (traffic old.inner) (traffic mid.inner) (traffic inner) flushed.why.1 answered)
+
+    -- a share that is used up
+    pub gave_none : (b : BufferedStream T) (bytes : List ℕ) → GivesSome tells traffic moment b bytes ReadBlocked b bytes
+    gave_none b bytes = record {
+      within = tt;
+      given = λ t. sym (append-nil (traffic b.inner).given);
+      taken = λ t. refl;
+      departed = λ t. none_departed refl;
+      counts = refl;
+      failed = inl (refl, refl);
+      short = record { short = refl; drained = refl; reads_on = refl; share = refl };
+    }
+
+    pub took_none : (b : BufferedStream T) (from : List ℕ) → TakesSome tells traffic moment b from WriteBlocked b
+    took_none b from = record {
+      within = tt;
+      given = λ t. refl;
+      taken = λ t. sym (append-nil ((traffic b.inner).taken ++ held_in b.held));
+      departed = λ t. none_departed refl;
+      counts = refl;
+      failed = inl (refl, refl);
+      short = refl;
+      drained = refl;
+      reads_on = refl;
+      share = refl;
+    }
+
+    -- of the bytes, those at the front were to be taken
+    module _ {old new : BufferedStream T} {answer : WriteAnswer} (most : ℕ) (piece from : List ℕ) (is : piece ≡ take most from) (le : most ≤ length from)
+        (p : TakesSome tells traffic moment old piece answer new) where
+      fits_front : WritesWithin answer most
+      fits_front = subst (λ n. WritesWithin answer n) (ap length is ∙ length-take-le most from le) p.within
+
+      pub took_front : bytes_written answer ≤ most
+      took_front = took_most answer most fits_front
+
+      same_front : take (bytes_written answer) piece ≡ take (bytes_written answer) from
+      same_front = ap (λ l. take (bytes_written answer) l) is ∙ take-take (bytes_written answer) most from took_front
+
+      pub takes_front : TakesSome tells traffic moment old from answer new
+      takes_front = record {
+        within = within_most answer most (length from) le fits_front;
+        given = p.given;
+        taken = λ t. p.taken t ∙ ap (λ l. ((traffic old.inner).taken ++ held_in old.held) ++ l) same_front;
+        departed = p.departed;
+        counts = p.counts;
+        failed = p.failed;
+        short = p.short;
+        drained = p.drained;
+        reads_on = p.reads_on;
+        share = p.share;
+      }
+
+    module _ {old mid : BufferedStream T} (kept : KeepsBytes tells traffic moment old mid) (stays : RoomFails old All mid) {from : List ℕ} where
       -- the stream behind took them
       pub takes_on : {inner : T} {answer : WriteAnswer} → held_in mid.held ≡ [] → WritesWithin answer (length from) → (tells → (traffic inner).given ≡ (traffic mid.inner).given)
-          → (tells → (traffic inner).taken ≡ (traffic mid.inner).taken ++ take (bytes_written answer) from) → (tells → DepartAt moment (traffic mid.inner) (traffic inner)) → EndsWith (Write answer) (traffic mid.inner) (traffic inner)
+          → (tells → (traffic inner).taken ≡ (traffic mid.inner).taken ++ take (bytes_written answer) from) → (tells → DepartAt moment (traffic mid.inner) (traffic inner))
           → TakesSome tells traffic moment old from answer (record mid { inner = inner })
-      takes_on {inner} {answer} none within given taken departed answered =
+      takes_on {inner} {answer} none within given taken departed =
           let new : BufferedStream T = record mid { inner = inner } in
           let all : tells → (traffic inner).taken ++ held_in mid.held ≡ ((traffic mid.inner).taken ++ held_in mid.held) ++ take (bytes_written answer) from =
           λ t. rw none (append-nil (traffic inner).taken ∙ taken t ∙ ap (λ l. l ++ take (bytes_written answer) from) (sym (append-nil (traffic mid.inner).taken))) in
           let left = λ (t : tells). left_then old mid new (take (bytes_written answer) from) kept t (all t) (departed t) in
-          let why = why_took traffic old new answer (ends_then (Write answer) (traffic old.inner) (traffic mid.inner) (traffic inner) moved answered) in
-          assumption (λ (t : tells). given t ∙ kept.given t, λ (t : tells). all t ∙ ap (λ l. l ++ take (bytes_written answer) from) (kept.taken t), left, why, write_fails old new answer none stays)
+          assumption (λ (t : tells). given t ∙ kept.given t, λ (t : tells). all t ∙ ap (λ l. l ++ take (bytes_written answer) from) (kept.taken t), left, write_fails old new answer none stays)
 
       -- they are held
       pub takes_in : (held : HeldBytes) {n : ℕ} → (0 < n) × (n ≤ length from) → held_in held ≡ held_in mid.held ++ take n from → TakesSome tells traffic moment old from (Wrote n) (record mid { held = held })

@@ -139,7 +139,7 @@ comes front c m s n is = grind (arith, common_steps)
 pub comes_idle : (o : Outcome) (n : SessionState) (e : Effect) → o ≢ Done → o ≢ Memory → Comes o n e → Comes Idle n e
 comes_idle o n e a b w = grind arith
 
-pub one_each : (front : Front) (c : Choice) (m : State) (s : ℕ) (n : SessionState) → (length (serve_front front c m s n).served ≤ 1) × (length (serve_front front c m s n).replies ≤ 1)
+pub one_each : (front : Front) (c : Choice) (m : State) (s : ℕ) (n : SessionState) → length (serve_front front c m s n).served ≤ 1
 one_each front c m s n = grind arith
 
 kept : (front : Front) (c : Choice) (m : State) (s : ℕ) (n : SessionState) → n.status ≢ Absent → (serve_front front c m s n).now.status ≢ Absent

@@ -1,19 +1,11 @@
 -- The turns of the loops.
-use Rattle.stream_driver.proofs.Words.{◌≡◌, ◌≢◌, ◌⊎◌, inl, inr, ℕ, ◌+◌, ◌-◌, ◌<◌, ◌≤◌, List, [], ◌++◌, length, Some, refl, sym, ap, subst, ◌∙◌, arith, length-append, ◌∷◌, append-nil, inbox_max, flat_map, reply_text, IsProperBeginning, Absent, Open, Ending, Refused, Outcome, Done, Memory, SessionStream, Serves, Choice, hub_step, stream_of, RunsAlone, StandsFor, HubLeads, pending_of, status_in, pending_in, room_in, failures, pending_seen, Read, Write, ReadAnswer, WriteAnswer, Moved, Blocked, Failed, Ended, Wrote, WriteBlocked, WriteFailed, Progress, Waiting, Again, Gone, OutputState, Empty, FlushBlocked, FlushFailed, Exchange, Served, Broke as ExchangeBroke, Starved as ExchangeStarved, ExchangeBlocked, Traffic, AllMoved, EndsWith, Ghosts, Hub, Leads, Stands, Point, Runs, AwaitsMore, status_at, pending_at, room_at, inbox_at, inbox_in, IsPresentIn, Carried, ComeWithin, Departs, Drove, EndsAs, Why, Moves, WritesSome, ReadsSome, Flushes, Exchanges, WhyExchanged, WhyFlushed, WrittenSoFar, ReadSoFar, DrivenSoFar, DrivenOut, served_in, LeadsTelling}
+use Rattle.stream_driver.proofs.Words.{◌≡◌, ◌≢◌, ◌⊎◌, inl, inr, ℕ, ◌+◌, ◌-◌, ◌<◌, ◌≤◌, List, [], ◌++◌, length, Some, refl, sym, ap, subst, ◌∙◌, arith, length-append, inbox_max, IsProperBeginning, Absent, Open, Ending, Refused, Outcome, Done, Memory, SessionStream, Serves, Choice, hub_step, stream_of, RunsAlone, StandsFor, HubLeads, pending_of, status_in, pending_in, room_in, failures, pending_seen, Read, Write, ReadAnswer, WriteAnswer, Moved, Blocked, Failed, Ended, Wrote, WriteBlocked, WriteFailed, Progress, Waiting, Again, Gone, OutputState, Empty, FlushBlocked, FlushFailed, Exchange, Served, Broke as ExchangeBroke, Starved as ExchangeStarved, ExchangeBlocked, Traffic, AllMoved, EndsWith, Ghosts, Hub, Leads, Stands, Point, Runs, AwaitsMore, status_at, pending_at, room_at, inbox_at, inbox_in, IsPresentIn, Carried, Departs, Drove, EndsAs, Why, Moves, WritesSome, ReadsSome, Flushes, Exchanges, WhyExchanged, WhyFlushed, WrittenSoFar, ReadSoFar, DrivenSoFar, DrivenOut, served_in, LeadsTelling}
 use Rattle.std.proofs.Math.Nat.{ℕ_set}
 use Rattle.sessions.specs.declared.events.Status.{Status}
 use Rattle.stream_driver.proofs.{States.Follow, States.seen_after, Inboxes.beginning_short, Answered.none_called, Answered.moved_then, Answered.ends_then}
 use Rattle.stream_driver.proofs.Sends.{tells_step, tells_still, tells_three, tells_two_at}
 use Rattle.stream_driver.proofs.Events.{Happens, point_after, Comes, comes_idle, comes_to, one_each, serves_is, served_event, effect, open_present}
 use Rattle.stream_driver.proofs.Carry.{nothing, alone, and_then}
-use Rattle.model.specs.Operations.{Response}
-
--- replies that come while fewer than 262,144 bytes were sent: one more at most
-pub within_then : (sent : ℕ) (xs ys : List Response) → ComeWithin sent xs → length ys ≤ 1 → sent + length (flat_map reply_text xs) < 262144 → ComeWithin sent (xs ++ ys)
-within_then sent [] [] within few below = tt
-within_then sent [] (y ∷ []) within few below = (omega arith, tt)
-within_then sent [] (y ∷ z ∷ zs) within few below = absurd (omega arith)
-within_then sent (x ∷ xs) ys within few below = (within.0, within_then (sent + length (reply_text x)) xs ys within.1 few (omega (arith, length-append (reply_text x) (flat_map reply_text xs))))
 
 pub none_in_both : {A : Type 0} {xs ys : List A} → xs ≡ [] → ys ≡ [] → xs ++ ys ≡ []
 none_in_both a b = rw (a, b)
@@ -30,8 +22,8 @@ module _ {s : ℕ} {tells : Type 0} where
   read_nothing {h} {t} is_open none is =
       record { moves = nothing (open_present h.hub s is_open); moved = none_called t; none_sent = refl; is_open = is_open; nothing = none; room_is = is }
 
-  pub driven_none : {h : Point} {t : Traffic} → IsPresentIn h.hub s → DrivenOut s tells h t h t 0 0
-  driven_none {h} {t} present = record { driven = record { carried = (nothing present).carried; few = omega arith; bounded = tt }; moved = none_called t; served_is = λ _. refl; out = refl }
+  pub driven_none : {h : Point} {t : Traffic} → IsPresentIn h.hub s → DrivenOut s tells h t h t 0
+  driven_none {h} {t} present = record { driven = record { carried = (nothing present).carried; few = omega arith }; moved = none_called t; served_is = λ _. refl }
 
   module _ {old : Point} {before : Traffic} {mid : Point} {between : Traffic} {new : Point} {after : Traffic} where
     abbrev pub moves_then : Moves s tells old before mid between → Moves s tells mid between new after → Moves s tells old before new after
@@ -70,9 +62,8 @@ module _ {s : ℕ} {tells : Type 0} where
       read_stopped answer exchange more q same why =
           let all : Moves s tells old before new after = moves_then p.moves q.moves in
           let few : served_in all.carried ≤ 1 = omega (arith, all.none_served) in
-          let one_reply : length all.carried.runs.history.replies ≤ 1 = rw all.none_replied (omega arith) in
           let why_so = why (served_in all.carried) (ends_then (Read answer) before between after p.moved q.answered, rw same more) in
-          record { carried = all.carried; few = few; one_reply = one_reply; none_sent = none_in_both p.none_sent q.none_sent; why = why_so }
+          record { carried = all.carried; few = few; none_sent = none_in_both p.none_sent q.none_sent; why = why_so }
 
   -- ---- a request is looked for
 
@@ -114,9 +105,8 @@ module _ {s : ℕ} {tells : Type 0} where
     exchanged : (exchange : Exchange) → WhyExchanged s new.hub before between (served_in done) exchange → Exchanges s tells old before exchange new between
     exchanged exchange why =
         let one = one_each c.front c mid.hub.machine s st.now in
-        let few : served_in done ≤ 1 = omega (arith, how_many, one.0) in
-        let one_reply = subst (λ l. length (l ++ served.history.replies) ≤ 1) (sym p.moves.none_replied) one.1 in
-        record { carried = done; few = few; one_reply = one_reply; none_sent = none_in_both p.none_sent refl; why = why }
+        let few : served_in done ≤ 1 = omega (arith, how_many, one) in
+        record { carried = done; few = few; none_sent = none_in_both p.none_sent refl; why = why }
 
     pub serve_starved : outcome ≡ Memory → Exchanges s tells old before ExchangeStarved new between
     serve_starved e = exchanged ExchangeStarved (p.moved, status_is ∙ (what Memory e).0)
@@ -149,55 +139,34 @@ module _ {s : ℕ} {tells : Type 0} where
 
   -- ---- between two requests
 
-  -- fewer than 262,144 bytes were made so far
-  abbrev pub IsBelow : {old : Point} {before : Traffic} {mid : Point} {between : Traffic} {count : ℕ} → DrivenSoFar s tells old before mid between count → Type 0
-  IsBelow {old} p = length (pending_at old.hub s) + length (flat_map reply_text p.carried.runs.history.replies) < 262144
-
   module _ {old : Point} {before : Traffic} {mid : Point} {between : Traffic} {new : Point} {after : Traffic} {count : ℕ} (p : DrivenSoFar s tells old before mid between count) where
     -- the output was written, as far as it goes
     abbrev pub driven_flushed : Moves s tells mid between new after → DrivenSoFar s tells old before new after count
     driven_flushed q =
         let both = length-append p.carried.runs.history.served q.carried.runs.history.served in
-        record { carried = and_then p.carried q.carried; few = omega (arith, p.few, q.none_served); bounded = rw (q.none_replied, append-nil) p.bounded }
+        record { carried = and_then p.carried q.carried; few = omega (arith, p.few, q.none_served) }
 
     -- a request was looked for
-    abbrev pub driven_served : IsBelow p → {exchange : Exchange} → Exchanges s tells mid between exchange new after → DrivenSoFar s tells old before new after (count + 1)
-    driven_served below q = record {
+    abbrev pub driven_served : {exchange : Exchange} → Exchanges s tells mid between exchange new after → DrivenSoFar s tells old before new after (count + 1)
+    driven_served q = record {
       carried = and_then p.carried q.carried;
       few = let all = length-append p.carried.runs.history.served q.carried.runs.history.served in omega (arith, p.few, q.few);
-      bounded = within_then _ p.carried.runs.history.replies q.carried.runs.history.replies p.bounded q.one_reply below;
     }
 
   -- the drive ends
   drove : {old : Point} {before : Traffic} {last : Point} {after : Traffic} {count : ℕ} (p : DrivenSoFar s tells old before last after count) → count ≤ 64 → (answer : Progress) → {end : Point} → EndsAs s last end answer
-      → Why s last.hub before after (served_in p.carried) (length p.carried.runs.history.sent) answer → Drove s tells old before answer end after
-  drove {old} {before} {last} p le answer ends why = record { last = last; carried = p.carried; few = (omega (arith, p.few)); bounded = p.bounded; ends = ends; why = why }
-
-  -- what was pending and all that was made has left
-  all_sent : {old : Point} {before : Traffic} {new : Point} {after : Traffic} (q : Carried s tells old before new after) → pending_at new.hub s ≡ []
-      → length (pending_at old.hub s) + length (flat_map reply_text q.runs.history.replies) ≡ length q.runs.history.sent
-  all_sent q nothing =
-      let none : length q.runs.last.now.pending ≡ 0 = ap length (sym (ap pending_in q.runs.last_is) ∙ nothing) in
-      omega (arith, length-append {A = ℕ}, ap length q.runs.history.texts, ap (λ o. length (pending_in o)) q.runs.first_is)
+      → Why s last.hub before after (served_in p.carried) answer → Drove s tells old before answer end after
+  drove {old} {before} {last} p le answer ends why = record { last = last; carried = p.carried; few = (omega (arith, p.few)); ends = ends; why = why }
 
   -- ---- the output is written
 
-  module _ {old : Point} {before : Traffic} {mid : Point} {between : Traffic} {new : Point} {after : Traffic} {count sent : ℕ} (p : DrivenOut s tells old before mid between count sent) where
+  module _ {old : Point} {before : Traffic} {mid : Point} {between : Traffic} {new : Point} {after : Traffic} {count : ℕ} (p : DrivenOut s tells old before mid between count) where
     served_still : (q : Moves s tells mid between new after) → status_at new.hub s ≡ Open → served_in (driven_flushed p.driven q).carried ≡ count
     served_still q is_open =
         omega (arith, length-append p.driven.carried.runs.history.served q.carried.runs.history.served, p.served_is (sym q.status ∙ is_open), q.none_served)
 
-    pub out_flushed : {owed total : ℕ} → owed ≡ length (pending_at mid.hub s) → total ≡ sent + owed → Flushes s tells mid between Empty new after
-        → DrivenOut s tells old before new after count total × (pending_at new.hub s ≡ [])
-    out_flushed owed_is total_is q = (
-      record {
-        driven = driven_flushed p.driven q.moves;
-        moved = moved_then before between after p.moved q.why.0;
-        served_is = served_still q.moves;
-        out = omega (arith, p.out, length-append {A = ℕ}, all_sent q.moves.carried q.why.1, ap (λ rs. length (flat_map reply_text rs)) q.moves.none_replied);
-      },
-      q.why.1,
-    )
+    pub out_flushed : Flushes s tells mid between Empty new after → DrivenOut s tells old before new after count × (pending_at new.hub s ≡ [])
+    out_flushed q = (record { driven = driven_flushed p.driven q.moves; moved = moved_then before between after p.moved q.why.0; served_is = served_still q.moves }, q.why.1)
 
     pub waits_to_write : count ≤ 64 → Flushes s tells mid between FlushBlocked new after → Drove s tells old before Waiting new after
     waits_to_write le q = drove (driven_flushed p.driven q.moves) le Waiting refl (inl (ends_then (Write WriteBlocked) before between after p.moved q.why.0, q.why.1))
@@ -205,7 +174,7 @@ module _ {s : ℕ} {tells : Type 0} where
     pub again : count ≡ 64 → Flushes s tells mid between Empty new after → status_at new.hub s ≡ Open → Drove s tells old before Again new after
     again all q is_open =
         drove (driven_flushed p.driven q.moves) (omega arith) Again refl
-        (moved_then before between after p.moved q.why.0, inl (served_still q.moves is_open ∙ all), is_open, q.why.1)
+        (moved_then before between after p.moved q.why.0, served_still q.moves is_open ∙ all, is_open, q.why.1)
 
     pub gone_writing : count ≤ 64 → Flushes s tells mid between FlushFailed new after → {gone : Point} → Departs s new gone → Drove s tells old before Gone gone after
     gone_writing le q departs = drove (driven_flushed p.driven q.moves) le Gone departs (inr (inl (ends_then (Write WriteFailed) before between after p.moved q.why.0, q.why.1)))
@@ -218,40 +187,33 @@ module _ {s : ℕ} {tells : Type 0} where
 
   -- ---- a request, once what was pending has left
 
-  module _ {old : Point} {before : Traffic} {mid : Point} {between : Traffic} {count total : ℕ} (p : DrivenOut s tells old before mid between count total × (pending_at mid.hub s ≡ [])) where
-    pub again_full : count ≤ 64 → 262144 ≤ total → status_at mid.hub s ≡ Open → Drove s tells old before Again mid between
-    again_full le enough is_open = drove p.0.driven le Again refl (p.0.moved, inr (let out = p.0.out in omega arith), is_open, p.1)
-
-    pub is_below : total < 262144 → IsBelow p.0.driven
-    is_below room = let all = all_sent p.0.driven.carried p.1 in let out = p.0.out in omega arith
-
-    module _ (room : total < 262144) {new : Point} {after : Traffic} {exchange : Exchange} (q : Exchanges s tells mid between exchange new after) where
+  module _ {old : Point} {before : Traffic} {mid : Point} {between : Traffic} {count : ℕ} (p : DrivenOut s tells old before mid between count × (pending_at mid.hub s ≡ [])) where
+    module _ {new : Point} {after : Traffic} {exchange : Exchange} (q : Exchanges s tells mid between exchange new after) where
       abbrev pub on : DrivenSoFar s tells old before new after (count + 1)
-      on = driven_served p.0.driven (is_below room) q
+      on = driven_served p.0.driven q
 
-      out_on : AllMoved between after → (status_at new.hub s ≡ Open → (status_at mid.hub s ≡ Open) × (served_in q.carried ≡ 1)) → DrivenOut s tells old before new after (count + 1) total
+      out_on : AllMoved between after → (status_at new.hub s ≡ Open → (status_at mid.hub s ≡ Open) × (served_in q.carried ≡ 1)) → DrivenOut s tells old before new after (count + 1)
       out_on moved one = record {
         driven = on;
         moved = moved_then before between after p.0.moved moved;
         served_is = λ is_open. omega (arith, length-append p.0.driven.carried.runs.history.served q.carried.runs.history.served, p.0.served_is (one is_open).0, (one is_open).1);
-        out = omega (arith, length-append p.0.driven.carried.runs.history.sent q.carried.runs.history.sent, ap length q.none_sent, p.0.out);
       }
 
-    module _ (room : total < 262144) {new : Point} {after : Traffic} where
-      pub out_served : status_at mid.hub s ≡ Open → Exchanges s tells mid between Served new after → DrivenOut s tells old before new after (count + 1) total
-      out_served is_open q = out_on room q q.why.0 (λ _. (is_open, q.why.2))
+    module _ {new : Point} {after : Traffic} where
+      pub out_served : status_at mid.hub s ≡ Open → Exchanges s tells mid between Served new after → DrivenOut s tells old before new after (count + 1)
+      out_served is_open q = out_on q q.why.0 (λ _. (is_open, q.why.2))
 
-      pub out_broke : Exchanges s tells mid between ExchangeBroke new after → DrivenOut s tells old before new after (count + 1) total
-      out_broke q = out_on room q q.why.0 (λ is_open. absurd (let bad : Open ≡ Ending = sym is_open ∙ q.why.1 in cc))
+      pub out_broke : Exchanges s tells mid between ExchangeBroke new after → DrivenOut s tells old before new after (count + 1)
+      out_broke q = out_on q q.why.0 (λ is_open. absurd (let bad : Open ≡ Ending = sym is_open ∙ q.why.1 in cc))
 
       pub waits_to_read : count < 64 → Exchanges s tells mid between ExchangeBlocked new after → Drove s tells old before Waiting new after
-      waits_to_read lt q = drove (on room q) (omega arith) Waiting refl (inr (ends_then (Read Blocked) before between after p.0.moved q.why.0, q.why.1))
+      waits_to_read lt q = drove (on q) (omega arith) Waiting refl (inr (ends_then (Read Blocked) before between after p.0.moved q.why.0, q.why.1))
 
       pub gone_serving : count < 64 → (answer : Exchange) → answer ≢ Served → answer ≢ ExchangeBroke → answer ≢ ExchangeBlocked
           → Exchanges s tells mid between answer new after → {gone : Point} → Departs s new gone → Drove s tells old before Gone gone after
       gone_serving lt answer a b c q departs =
-          let why : Why s new.hub before after 0 0 Gone = grind (arith, q.why, moved_then before between after p.0.moved, ends_then (Read Failed) before between after p.0.moved, ends_then (Read Ended) before between after p.0.moved) in
-          drove (on room q) (omega arith) Gone departs why
+          let why : Why s new.hub before after 0 Gone = grind (arith, q.why, moved_then before between after p.0.moved, ends_then (Read Failed) before between after p.0.moved, ends_then (Read Ended) before between after p.0.moved) in
+          drove (on q) (omega arith) Gone departs why
 
 -- from hub to hub
 
@@ -260,16 +222,15 @@ pub owed_now : {D : Type 0} {g : Ghosts D} {a b : Hub D g} {s : ℕ} {tells : Ty
     → owed ≡ length (pending_of b s)
 owed_now {D} {g} {a} {b} {s} some p = seen_after (hlevel ℕ_set) some p.leads (λ h k was stands x. x.owed_is ∙ ap length (sym (pending_seen b k.hub stands s)))
 
-module _ {D : Type 0} {g : Ghosts D} (follow : Follow D g) {a b c : Hub D g} {s : ℕ} {tells : Type 0} {before between behind : Traffic} {count sent : ℕ}
-    (p : LeadsTelling s tells a before b between (λ h k. DrivenOut s tells h before k between count sent)) where
-  pub flushes_out : {owed total : ℕ} → owed ≡ length (pending_of b s) → total ≡ sent + owed
-      → LeadsTelling s tells b between c behind (λ k l. Flushes s tells k between Empty l behind)
-      → LeadsTelling s tells a before c behind (λ h l. DrivenOut s tells h before l behind count total × (pending_at l.hub s ≡ []))
-  flushes_out owed_is total_is q = tells_two_at follow p q (λ h k x. x.driven.carried) (λ h k l was stands x y. out_flushed x (owed_is ∙ ap length (pending_seen b k.hub was s)) total_is y)
+module _ {D : Type 0} {g : Ghosts D} (follow : Follow D g) {a b c : Hub D g} {s : ℕ} {tells : Type 0} {before between behind : Traffic} {count : ℕ}
+    (p : LeadsTelling s tells a before b between (λ h k. DrivenOut s tells h before k between count)) where
+  pub flushes_out : LeadsTelling s tells b between c behind (λ k l. Flushes s tells k between Empty l behind)
+      → LeadsTelling s tells a before c behind (λ h l. DrivenOut s tells h before l behind count × (pending_at l.hub s ≡ []))
+  flushes_out q = tells_two_at follow p q (λ h k x. x.driven.carried) (λ h k l was stands x y. out_flushed x y)
 
   -- the session leaves after a write of the output
   pub leaves : {d : Hub D g} {answer : Progress} {flush : OutputState} → answer ≡ Gone → LeadsTelling s tells b between c behind (λ k l. Flushes s tells k between flush l behind) → Leads c d (λ l m. Departs s l m)
-      → ((h k l m : Point) → StandsFor c l.hub → DrivenOut s tells h before k between count sent → Flushes s tells k between flush l behind → Departs s l m → Drove s tells h before Gone m behind)
+      → ((h k l m : Point) → StandsFor c l.hub → DrivenOut s tells h before k between count → Flushes s tells k between flush l behind → Departs s l m → Drove s tells h before Gone m behind)
       → LeadsTelling s tells a before d behind (λ h m. Drove s tells h before answer m behind)
   leaves is q left f = rw is (tells_three follow p q (tells_still left) (λ h k x. x.driven.carried) (λ k l y. y.moves.carried) f)
 

@@ -17,9 +17,9 @@ pub use Rattle.sessions.specs.StandsFor.{device, failures, HubLeads, pending_in,
 pub use Rattle.sessions.specs.declared.events.Outcome.{Outcome}
 pub use Rattle.sessions.specs.declared.events.Outcome.TheVariants.{Done, Memory}
 pub use Rattle.sessions.specs.declared.events.Status.TheVariants.{Absent, Ending, Open, Refused}
-pub use Rattle.stream_driver.specs.Buffers.{BehindEnds, BehindMoved, FlushFails, GivesSome, held_in, KeepsBytes, ReadFails, RoomFails, ShortAfter, StaysFailed, TakesSome, traffic_through, WasRead, WhyGave, WhyRoom, WhyTook, WriteFails, WritesHeld}
+pub use Rattle.stream_driver.specs.Buffers.{BehindEnds, BehindMoved, FlushFails, GivesSome, held_in, KeepsBytes, ReadFails, RoomFails, ShortAfter, StaysFailed, TakesSome, traffic_through, WasRead, WhyGave, WhyGaveSome, WhyRoom, WhyTook, WhyTookSome, WriteFails, WritesHeld}
 pub use Rattle.stream_driver.specs.Calls.{DrivenOut, DrivenSoFar, Exchanges, Flushes, Moves, ReadSoFar, ReadsSome, served_in, WhyExchanged, WhyFlushed, WritesSome, WrittenSoFar}
-pub use Rattle.stream_driver.specs.Drives.{Carried, ComeWithin, Departs, Drove, EndsAs, Why}
+pub use Rattle.stream_driver.specs.Drives.{Carried, Departs, Drove, EndsAs, Why}
 pub use Rattle.stream_driver.specs.Entries.{DrivenAll, DrivenEntry, DrivenIn, DrivenSlot, EntriesSoFar, HaveSessions, KeepSessions, state_after}
 pub use Rattle.stream_driver.specs.Sends.{AreToldBefore, DrivesTelling, HasSent, HaveSent, IsAnswered, IsToldBefore, LeadsTelling}
 pub use Rattle.stream_driver.specs.Sessions.{Adds, AwaitsMore, ComeInTurn, Ghosts, GoesOn, Hub, inbox_at, inbox_in, IsPresent, IsPresentIn, Leads, pending_at, Point, room_at, Runs, session_of, Stands, StandsAt, status_at}

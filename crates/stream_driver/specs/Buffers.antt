@@ -1,5 +1,6 @@
 -- A stream that holds what it has taken, before another one.
-use Rattle.std.specs.Prelude.{◌≡◌, ◌⊎◌, ◌-◌, ◌<◌, ◌≤◌, ◌++◌, ◌||◌, ◌≢◌, ◌↔◌, ℕ, Bool, true, false, List, [], ◌∷◌, take, drop, length, vec_len}
+use Rattle.std.specs.Prelude.{◌≡◌, ◌⊎◌, ◌+◌, ◌-◌, ◌<◌, ◌≤◌, ◌==◌, ◌++◌, ◌||◌, ◌≢◌, ◌↔◌, ℕ, Bool, true, false}
+use Rattle.std.specs.Prelude.{List, [], ◌∷◌, take, drop, length, vec_len}
 use Rattle.stream_driver.specs.Types.{Call, Read, Write, ReadAnswer, Moved, Blocked, Failed, Ended, WriteAnswer, Wrote, WriteBlocked, WriteFailed, HeldBytes, Flushed, All, FlushedBlocked as FlushBlocked, FlushedFailed as FlushFailed, BufferedStream}
 use Rattle.stream_driver.specs.Counts.{counted, counted_with}
 use Rattle.stream_driver.specs.Traffic.{AllMoved, DepartAt, EndsWith, Traffic, ReadsWithin, WritesWithin, bytes_read, bytes_written, untouched}
@@ -30,11 +31,22 @@ module _ {T : Type 0} where
     pub short : b.is_short ≡ false
     pub drained : b.is_drained ≡ false
     pub reads_on : b.reads_on ≡ false
+    pub share : b.share ≡ 262144
     pub counts : counted b.counts ≡ untouched
 
-  -- the next drive may read
+  -- the next drive may read, and has a share of its own
   abbrev pub fresh : BufferedStream T → BufferedStream T
-  fresh b = record b { is_short = false; is_drained = false }
+  fresh b = record b { is_short = false; is_drained = false; share = 262144 }
+
+  -- it has taken its share of this turn
+  abbrev pub has_had_share : BufferedStream T → Bool
+  has_had_share b = b.share == 0
+
+  -- No share is left, and nothing happens: the stream behind isn't called, and what is held is held still.
+  pub record Pauses (old new : BufferedStream T) : Type 0 where
+    pub none_left : old.share ≡ 0
+    pub inner_is : new.inner ≡ old.inner
+    pub held_is : new.held ≡ old.held
 
   -- The traffic of a buffered stream: what it gave is what the stream behind gave, and what it took is what the stream behind took, followed
   -- by what it holds. What has left, left from the stream behind, whose number it has. The answers are its own.
@@ -65,6 +77,7 @@ module _ {T : Type 0} where
     pub short : ShortAfter old len answer new
     pub drained : new.is_drained ≡ old.is_drained
     pub reads_on : new.reads_on ≡ old.reads_on
+    pub share : new.share ≡ old.share
 
   -- once bytes were taken after a short read, this drive has read all that is there
   abbrev pub is_drained_after : WriteAnswer → BufferedStream T → Bool
@@ -72,10 +85,12 @@ module _ {T : Type 0} where
   is_drained_after WriteBlocked b = b.is_drained
   is_drained_after WriteFailed b = b.is_drained
 
+  -- and what it took uses up its share
   pub record Drains (old : BufferedStream T) (answer : WriteAnswer) (new : BufferedStream T) : Type 0 where
     pub drained : new.is_drained ≡ is_drained_after answer old
     pub short : new.is_short ≡ old.is_short
     pub reads_on : new.reads_on ≡ old.reads_on
+    pub share : new.share + bytes_written answer ≡ old.share
 
   -- Nothing of what is held has left, and whether it failed to leave is as it was; or some has, and it has not failed since.
   abbrev pub StaysFailed : BufferedStream T → BufferedStream T → Type 0
@@ -130,23 +145,34 @@ module _ {T : Type 0} where
     WhyRoom old FlushBlocked new = BehindEnds (Write WriteBlocked) old new
     WhyRoom old FlushFailed new = BehindEnds (Write WriteFailed) old new
 
-    -- why bytes were not taken: the stream behind blocked or failed
+    -- why bytes were not taken while some share is left: the stream behind blocked or failed
+    abbrev pub WhyTookSome : BufferedStream T → WriteAnswer → BufferedStream T → Type 0
+    WhyTookSome old (Wrote n) new = BehindMoved old new
+    WhyTookSome old WriteBlocked new = BehindEnds (Write WriteBlocked) old new
+    WhyTookSome old WriteFailed new = BehindEnds (Write WriteFailed) old new
+
+    -- why a write answers so: it blocks where no share is left
     abbrev pub WhyTook : BufferedStream T → WriteAnswer → BufferedStream T → Type 0
-    WhyTook old (Wrote n) new = BehindMoved old new
-    WhyTook old WriteBlocked new = BehindEnds (Write WriteBlocked) old new
-    WhyTook old WriteFailed new = BehindEnds (Write WriteFailed) old new
+    WhyTook old answer new = (Pauses old new × (answer ≡ WriteBlocked)) ⊎ ((0 < old.share) × WhyTookSome old answer new)
 
     -- the stream behind was read once nothing was held, in a drive that hadn't read all that is there
     abbrev pub WasRead : BufferedStream T → ReadAnswer → BufferedStream T → Type 0
     WasRead old answer new = (old.is_drained ≡ false) × (held_in new.held ≡ []) × BehindEnds (Read answer) old new
 
-    -- Why a read answers so. The stream behind was read, and answered that; or it blocked or failed as what is held was written; or this
-    -- drive had read all that is there, and it wasn't read.
+    -- Why a read answers so while some share is left. The stream behind was read, and answered that; or it blocked or
+    -- failed as what is held was written; or this drive had read all that is there, and it wasn't read.
+    abbrev pub WhyGaveSome : BufferedStream T → ReadAnswer → BufferedStream T → Type 0
+    WhyGaveSome old (Moved n) new = WasRead old (Moved n) new
+    WhyGaveSome old Ended new = WasRead old Ended new
+    WhyGaveSome old Failed new = WasRead old Failed new ⊎ BehindEnds (Write WriteFailed) old new
+    WhyGaveSome old Blocked new =
+        WasRead old Blocked new
+        ⊎ (BehindEnds (Write WriteBlocked) old new
+        ⊎ ((old.is_drained ≡ true) × (held_in new.held ≡ []) × BehindMoved old new))
+
+    -- why a read answers so: it blocks where no share is left
     abbrev pub WhyGave : BufferedStream T → ReadAnswer → BufferedStream T → Type 0
-    WhyGave old (Moved n) new = WasRead old (Moved n) new
-    WhyGave old Ended new = WasRead old Ended new
-    WhyGave old Failed new = WasRead old Failed new ⊎ BehindEnds (Write WriteFailed) old new
-    WhyGave old Blocked new = WasRead old Blocked new ⊎ (BehindEnds (Write WriteBlocked) old new ⊎ ((old.is_drained ≡ true) × (held_in new.held ≡ []) × BehindMoved old new))
+    WhyGave old answer new = (Pauses old new × (answer ≡ Blocked)) ⊎ ((0 < old.share) × WhyGaveSome old answer new)
 
     -- One write of what is held: so much has left, or the stream behind blocked or failed, and all is held still. It has failed after
     -- the stream behind failed, and no more after some has left.
@@ -171,6 +197,7 @@ module _ {T : Type 0} where
       pub short : new.is_short ≡ old.is_short
       pub drained : new.is_drained ≡ old.is_drained
       pub reads_on : new.reads_on ≡ old.reads_on
+      pub share : new.share ≡ old.share
 
     pub record WritesHeld (old : BufferedStream T) (answer : WriteAnswer) (new : BufferedStream T) : Type 0 where
       pub kept : KeepsBytes old new
@@ -191,11 +218,11 @@ module _ {T : Type 0} where
       pub taken : tells → (traffic new.inner).taken ++ held_in new.held ≡ ((traffic old.inner).taken ++ held_in old.held) ++ take (bytes_written answer) from
       pub departed : tells → DepartAt moment (traffic_through traffic old) (traffic_through traffic new)
       pub counts : new.counts ≡ old.counts
-      pub why : WhyTook traffic old answer new
       pub failed : WriteFails old answer new
       pub short : new.is_short ≡ old.is_short
       pub drained : new.is_drained ≡ old.is_drained
       pub reads_on : new.reads_on ≡ old.reads_on
+      pub share : new.share ≡ old.share
 
     pub record GivesSome (old : BufferedStream T) (before : List ℕ) (answer : ReadAnswer) (new : BufferedStream T) (after : List ℕ) : Type 0 where
       pub within : ReadsWithin answer (length before)
@@ -203,6 +230,5 @@ module _ {T : Type 0} where
       pub taken : tells → (traffic new.inner).taken ++ held_in new.held ≡ (traffic old.inner).taken ++ held_in old.held
       pub departed : tells → DepartAt moment (traffic_through traffic old) (traffic_through traffic new)
       pub counts : new.counts ≡ old.counts
-      pub why : WhyGave traffic old answer new
       pub failed : ReadFails old answer new
       pub short : ReadsShort old (length before) answer new

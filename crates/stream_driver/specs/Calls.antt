@@ -3,7 +3,7 @@ use Rattle.std.specs.Prelude.{◌≡◌, ◌≢◌, ℕ, ◌+◌, ◌<◌, ◌�
 use Rattle.sessions.specs.declared.events.Status.TheVariants.{Open, Ending, Refused}
 use Rattle.sessions.specs.SessionStreams.{HubState}
 use Rattle.stream_driver.specs.Types.{Read, Write, ReadAnswer, Moved, Blocked, Failed, Ended, WriteAnswer, Wrote, WriteBlocked, WriteFailed, OutputState, Empty, FlushBlocked, FlushFailed, Exchange, Served, Broke, Starved, ExchangeBlocked, ExchangeFailed, ExchangeEnded}
-use Rattle.stream_driver.specs.{Traffic.Traffic, Traffic.AllMoved, Traffic.EndsWith, Drives.Carried, Drives.ComeWithin}
+use Rattle.stream_driver.specs.{Traffic.Traffic, Traffic.AllMoved, Traffic.EndsWith, Drives.Carried}
 use Rattle.stream_driver.specs.Sessions.{Point, status_at, room_at, pending_at, AwaitsMore}
 
 -- how many requests were served
@@ -68,7 +68,6 @@ WhyExchanged s new before after served ExchangeEnded = EndsWith (Read Ended) bef
 pub record Exchanges (s : ℕ) (tells : Type 0) (old : Point) (before : Traffic) (answer : Exchange) (new : Point) (after : Traffic) : Type 0 where
   pub carried : Carried s tells old before new after
   pub few : served_in carried ≤ 1
-  pub one_reply : length carried.runs.history.replies ≤ 1
   pub none_sent : carried.runs.history.sent ≡ []
   pub why : WhyExchanged s new.hub before after (served_in carried) answer
 
@@ -91,11 +90,9 @@ pub record ReadSoFar (s : ℕ) (tells : Type 0) (old : Point) (before : Traffic)
 pub record DrivenSoFar (s : ℕ) (tells : Type 0) (old : Point) (before : Traffic) (new : Point) (after : Traffic) (served : ℕ) : Type 0 where
   pub carried : Carried s tells old before new after
   pub few : served_in carried ≤ served
-  pub bounded : ComeWithin (length (pending_at old.hub s)) carried.runs.history.replies
 
--- and so many bytes were sent
-pub record DrivenOut (s : ℕ) (tells : Type 0) (old : Point) (before : Traffic) (new : Point) (after : Traffic) (served sent : ℕ) : Type 0 where
+-- each call moved bytes, and while the session is open as many requests were served
+pub record DrivenOut (s : ℕ) (tells : Type 0) (old : Point) (before : Traffic) (new : Point) (after : Traffic) (served : ℕ) : Type 0 where
   pub driven : DrivenSoFar s tells old before new after served
   pub moved : AllMoved before after
   pub served_is : status_at new.hub s ≡ Open → served_in driven.carried ≡ served
-  pub out : sent ≡ length driven.carried.runs.history.sent

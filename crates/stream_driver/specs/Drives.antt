@@ -1,6 +1,5 @@
 -- What a drive does to the hub and to the stream.
-use Rattle.std.specs.Prelude.{◌≡◌, ◌≢◌, ◌⊎◌, ℕ, ◌+◌, ◌<◌, ◌≤◌, List, [], ◌∷◌, ◌++◌, length}
-use Rattle.model.specs.{Operations.Response, ReplyText.reply_text}
+use Rattle.std.specs.Prelude.{◌≡◌, ◌≢◌, ◌⊎◌, ℕ, ◌≤◌, [], ◌∷◌, ◌++◌, length}
 use Rattle.sessions.specs.declared.events.Status.TheVariants.{Open, Ending, Refused}
 use Rattle.engine.specs.Meaning.{has_risen}
 use Rattle.sessions.specs.SessionStreams.{HubState, Leaves, Choice}
@@ -16,13 +15,14 @@ pub record Carried (s : ℕ) (tells : Type 0) (old : Point) (before : Traffic) (
   pub taken : tells → after.taken ≡ before.taken ++ runs.history.sent
 
 -- Why a drive that has come this far answers so. Each of its calls of the stream moved bytes, but the last one where that is the reason:
--- so none follows a call that blocked, failed or ended. `Again` comes after 64 requests, or after 262,144 bytes.
-abbrev pub Why : ℕ → HubState → Traffic → Traffic → ℕ → ℕ → Progress → Type 0
-Why s last before after served sent Waiting =
+-- so none follows a call that blocked, failed or ended. `Again` comes after 64 requests.
+abbrev pub Why : ℕ → HubState → Traffic → Traffic → ℕ → Progress → Type 0
+Why s last before after served Waiting =
     (EndsWith (Write WriteBlocked) before after × (pending_at last s ≢ []))
     ⊎ (EndsWith (Read ReadBlocked) before after × AwaitsMore last s)
-Why s last before after served sent Again = AllMoved before after × ((served ≡ 64) ⊎ (262144 ≤ sent)) × (status_at last s ≡ Open) × (pending_at last s ≡ [])
-Why s last before after served sent Gone =
+Why s last before after served Again =
+    AllMoved before after × (served ≡ 64) × (status_at last s ≡ Open) × (pending_at last s ≡ [])
+Why s last before after served Gone =
     (EndsWith (Read ReadFailed) before after × AwaitsMore last s)
     ⊎ ((EndsWith (Write WriteFailed) before after × (pending_at last s ≢ []))
     ⊎ ((EndsWith (Read ReadEnded) before after × AwaitsMore last s)
@@ -41,16 +41,10 @@ EndsAs s last new Waiting = new ≡ last
 EndsAs s last new Again = new ≡ last
 EndsAs s last new Gone = Departs s last new
 
--- once so many bytes were sent: each of these replies is made while fewer than 262,144 bytes were
-abbrev pub ComeWithin : ℕ → List Response → Type 0
-ComeWithin sent [] = Unit {0}
-ComeWithin sent (r ∷ rs) = (sent < 262144) × ComeWithin (sent + length (reply_text r)) rs
-
--- one drive: at most 64 requests were served, and none once 262,144 bytes were sent, with what was pending before
+-- one drive: at most 64 requests were served
 pub record Drove (s : ℕ) (tells : Type 0) (old : Point) (before : Traffic) (answer : Progress) (new : Point) (after : Traffic) : Type 0 where
   pub last : Point
   pub carried : Carried s tells old before last after
   pub few : length carried.runs.history.served ≤ 64
-  pub bounded : ComeWithin (length (pending_at old.hub s)) carried.runs.history.replies
   pub ends : EndsAs s last new answer
-  pub why : Why s last.hub before after (length carried.runs.history.served) (length carried.runs.history.sent) answer
+  pub why : Why s last.hub before after (length carried.runs.history.served) answer

@@ -1,7 +1,7 @@
 -- What a turn over the table of connections does.
-use Rattle.std.specs.Prelude.{◌≡◌, ◌≢◌, ℕ, ◌&&◌, Bool, true, false, List, [], ◌∷◌, Option, Some, None, slice_index_or, take, drop, length}
+use Rattle.std.specs.Prelude.{◌≡◌, ◌≢◌, ℕ, ◌&&◌, Bool, cond, true, false, List, [], ◌∷◌, Option, Some, None, slice_index_or, take, drop, length}
 use Rattle.stream_driver.specs.Types.{Progress, Waiting, Again, Gone, EntryState, Idle, Ready, EntryGone, Entry, BufferedStream}
-use Rattle.stream_driver.specs.{Traffic.Traffic, Buffers.Finishes, Buffers.fresh, Buffers.is_settled, Sends.DrivesTelling, Sends.LeadsTelling, Drives.Drove}
+use Rattle.stream_driver.specs.{Traffic.Traffic, Buffers.Finishes, Buffers.fresh, Buffers.has_had_share, Buffers.is_settled, Sends.DrivesTelling, Sends.LeadsTelling, Drives.Drove}
 use Rattle.stream_driver.specs.Sessions.{Ghosts, Hub, IsPresent, Point}
 
 -- what an entry is after its drive
@@ -70,6 +70,12 @@ is_gone EntryGone = true
 is_gone Idle = false
 is_gone Ready = false
 
+-- what an entry is at the end of its drive: one that waits as its stream has had its share is to be driven again
+abbrev pub state_at_end : EntryState → Bool → EntryState
+state_at_end Idle had = cond had Ready Idle
+state_at_end Ready had = Ready
+state_at_end EntryGone had = EntryGone
+
 module _ {T : Type 0} where
   -- it is gone, and its stream holds nothing, or failed to take it
   abbrev pub is_over : Entry (BufferedStream T) → Bool
@@ -81,9 +87,10 @@ module _ {T : Type 0} where
     EndsIn Ready old new = Finishes tells traffic moment (fresh old) new
     EndsIn EntryGone old new = Finishes tells traffic moment (fresh old) new
 
-    -- the end of an entry's drive: what its stream holds was written as far as it goes, at this moment of the device, but for a stream that
-    -- is waited for
+    -- The end of an entry's drive. It is ready exactly where it was, or where it waits as its stream has had its share.
+    -- What its stream holds was written as far as it goes, at this moment of the device, but for a stream that is waited
+    -- for.
     pub record EndsDrive (old new : Entry (BufferedStream T)) : Type 0 where
       pub session : new.session ≡ old.session
-      pub state : new.state ≡ old.state
-      pub stream : EndsIn old.state old.stream new.stream
+      pub state : new.state ≡ state_at_end old.state (has_had_share old.stream)
+      pub stream : EndsIn new.state old.stream new.stream

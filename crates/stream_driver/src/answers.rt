@@ -36,7 +36,7 @@ pub enum Call {
 pub enum Progress {
     /// The stream blocked. The session is to be driven again once it can go on.
     Waiting,
-    /// As many requests were served, or bytes sent, as one drive serves or sends. The session is to be driven again.
+    /// As many requests were served as one drive serves, and each is answered. The session is to be driven again.
     Again,
     /// The session has left.
     Gone,

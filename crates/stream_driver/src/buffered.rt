@@ -7,6 +7,9 @@ use crate::stream::Stream;
 use sector::Sectors;
 use std::alloc::{AllocError, Global};
 
+/// The most bytes that a buffered stream takes in one turn: its share of it.
+pub const SHARE_MAX: usize = 262_144;
+
 /// How the writing of what a buffered stream holds came out.
 #[derive(Clone, Copy, PartialEq, Eq, Debug)]
 pub enum Flushed {
@@ -27,6 +30,10 @@ pub enum Flushed {
 /// `Blocked` or `Failed` only where that was written last, and answered so. After a read that gave fewer bytes than it asked for nothing
 /// more is there, until the poll tells of it: so once a reply to it was taken, a read is answered `Blocked` with no call, until the next
 /// drive begins.
+///
+/// It takes at most `SHARE_MAX` bytes in a drive, its share of a turn: a write takes no more than is left of it. Once none is left, reads
+/// and writes are answered `Blocked` with no call of the stream behind it, until the next drive begins. No poll tells of that, so whoever
+/// drives it asks whether it `has_had_its_share`. A reply that is larger than the share is taken in parts, over several turns.
 #[derive(Drop)]
 pub struct BufferedStream<S: Stream> {
     inner: S,
@@ -39,12 +46,17 @@ pub struct BufferedStream<S: Stream> {
     is_drained: bool,
     /// A short read means nothing.
     reads_on: bool,
+    /// How many bytes it may still take in this drive.
+    share: usize,
     counts: CallCounts,
 }
 
 impl<S: Stream> BufferedStream<S> {
-    ghost use Rattle.std.specs.Prelude.{◌≡◌, ◌≢◌, ◌||◌, [], IfOk, true, false};
-    ghost use Rattle.stream_driver.specs.Buffers.{held_in, Flushes, IsNew, KeepsBytes, RoomFails, WhyRoom, WritesHeld, TakesSome, Finishes, GivesSome, fresh, is_settled};
+    ghost use Rattle.std.specs.Prelude.{◌≡◌, ◌≢◌, ◌≤◌, ◌||◌, [], IfOk, true, false};
+    ghost use Rattle.stream_driver.specs.Buffers.{IsNew, fresh, has_had_share, held_in, is_settled};
+    ghost use Rattle.stream_driver.specs.Buffers.{Finishes, Flushes, KeepsBytes, RoomFails, WhyRoom, WritesHeld};
+    ghost use Rattle.stream_driver.specs.Buffers.{GivesSome, TakesSome, WhyGave, WhyGaveSome, WhyTook, WhyTookSome};
+    ghost use Rattle.stream_driver.specs.Traffic.{bytes_written};
 
     /// The stream before this one, holding nothing. Takes the memory for `HELD_MAX` bytes, and none later.
     pub fn new(alloc: Global, inner: S) -> Result<BufferedStream<S>, AllocError>
@@ -57,6 +69,7 @@ impl<S: Stream> BufferedStream<S> {
             is_short: false,
             is_drained: false,
             reads_on: false,
+            share: SHARE_MAX,
             counts: CallCounts::new(),
         })
     }
@@ -82,12 +95,21 @@ impl<S: Stream> BufferedStream<S> {
         self.reads_on = true;
     }
 
-    /// A new drive begins: there may be more to read. Takes no memory.
+    /// A new drive begins: there may be more to read, and the stream has a whole share. Takes no memory.
     pub fn begin_drive(&mut self)
         ensures { self.new ≡ fresh self.old }
     {
         self.is_short = false;
         self.is_drained = false;
+        self.share = SHARE_MAX;
+    }
+
+    /// Has it taken its share of this turn? Then it answers `Blocked` until the next drive begins, and no poll tells that it goes on. Takes
+    /// no memory.
+    pub fn has_had_its_share(&self) -> bool
+        ensures { result ≡ has_had_share self.now }
+    {
+        self.share == 0
     }
 
     // One write of what is held.
@@ -145,7 +167,8 @@ impl<S: Stream> BufferedStream<S> {
     // Takes bytes from the front. Where nothing is held and there are more than are ever held, the stream behind takes them.
     fn take_some<D: Sectors>(&mut self, device: &D, from: &[u8]) -> WriteAnswer
         requires { from.now ≢ [] }
-        ensures { TakesSome S.tells S.traffic (D.moment device.now) self.old from.now result self.new }
+        ensures takes { TakesSome S.tells S.traffic (D.moment device.now) self.old from.now result self.new }
+        ensures why { WhyTookSome S.traffic self.old result self.new }
     {
         match self.make_room(device) {
             Flushed::All => {}
@@ -158,10 +181,25 @@ impl<S: Stream> BufferedStream<S> {
         WriteAnswer::Moved(self.held.put(from))
     }
 
+    // Takes bytes from the front, no more than are left of the share.
+    fn take_in_share<D: Sectors>(&mut self, device: &D, from: &[u8]) -> WriteAnswer
+        requires { from.now ≢ [] }
+        ensures takes { TakesSome S.tells S.traffic (D.moment device.now) self.old from.now result self.new }
+        ensures why { WhyTook S.traffic self.old result self.new }
+        ensures share { bytes_written result ≤ self.old.share }
+    {
+        let most = from.len().min(self.share);
+        if most == 0 {
+            return WriteAnswer::Blocked;
+        }
+        self.take_some(device, &from[..most])
+    }
+
     // Gives bytes, once nothing is held.
     fn give_some<D: Sectors>(&mut self, device: &D, into: &mut [u8]) -> ReadAnswer
         requires { into.old ≢ [] }
-        ensures { GivesSome S.tells S.traffic (D.moment device.now) self.old into.old result self.new into.new }
+        ensures gives { GivesSome S.tells S.traffic (D.moment device.now) self.old into.old result self.new into.new }
+        ensures why { WhyGaveSome S.traffic self.old result self.new }
     {
         match self.flush(device) {
             Flushed::All => {}
@@ -176,6 +214,19 @@ impl<S: Stream> BufferedStream<S> {
             self.is_short = n < into.len() && !self.reads_on;
         }
         answer
+    }
+
+    // Gives bytes, while some of the share is left.
+    fn give_in_share<D: Sectors>(&mut self, device: &D, into: &mut [u8]) -> ReadAnswer
+        requires { into.old ≢ [] }
+        ensures gives { GivesSome S.tells S.traffic (D.moment device.now) self.old into.old result self.new into.new }
+        ensures why { WhyGave S.traffic self.old result self.new }
+    {
+        if self.share == 0 {
+            ReadAnswer::Blocked
+        } else {
+            self.give_some(device, into)
+        }
     }
 }
 
@@ -199,7 +250,7 @@ impl<S: Stream> Stream for BufferedStream<S> {
         ensures short { ReadsShort self.old (length into.old) result self.new }
         ensures failed { ReadFails self.old result self.new }
     {
-        let answer = self.give_some(device, into);
+        let answer = self.give_in_share(device, into);
         self.counts.note_read(answer);
         answer
     }
@@ -215,9 +266,10 @@ impl<S: Stream> Stream for BufferedStream<S> {
         ensures drains { Drains self.old result self.new }
         ensures failed { WriteFails self.old result self.new }
     {
-        let answer = self.take_some(device, from);
-        if let WriteAnswer::Moved(_) = answer {
+        let answer = self.take_in_share(device, from);
+        if let WriteAnswer::Moved(n) = answer {
             self.is_drained = self.is_drained || self.is_short;
+            self.share -= n;
         }
         self.counts.note_write(answer);
         answer

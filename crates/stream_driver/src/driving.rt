@@ -15,9 +15,6 @@ use sessions::{Event, Hub, Outcome, Status};
 /// The most requests that one drive serves.
 pub const REQUESTS_MAX: u32 = 64;
 
-/// Once this many bytes were sent in a drive, it serves no more requests.
-pub const OUTPUT_MAX: usize = 262_144;
-
 /// The most bytes that one read asks for.
 pub const READ_MAX: usize = 4_096;
 
@@ -154,7 +151,6 @@ pub(crate) fn drive_over<D: Sectors, S: Stream>(
     ensures driven { LeadsAs s S.tells Drove result hub.old (S.traffic stream.old) hub.new (S.traffic stream.new) }
 {
     hub.runs_follow();
-    let mut sent = 0usize;
     'requests: for _served in 0..REQUESTS_MAX {
         let owed = hub.pending(s).len();
         match write_out(hub, s, owed, stream) {
@@ -165,10 +161,6 @@ pub(crate) fn drive_over<D: Sectors, S: Stream>(
         match hub.status(s) {
             Status::Open => {}
             _ => return depart(hub, s),
-        }
-        sent = sent.saturating_add(owed);
-        if sent >= OUTPUT_MAX {
-            return Progress::Again;
         }
         match serve_one(hub, s, stream, buffer) {
             Exchange::Served | Exchange::Broke => {}
@@ -189,13 +181,13 @@ pub(crate) fn drive_over<D: Sectors, S: Stream>(
 }
 
 /// Carries bytes between a stream and a session that is present, until the stream blocks, the session has left, or `REQUESTS_MAX`
-/// requests were served and their replies sent, or `OUTPUT_MAX` bytes of replies were.
+/// requests were served and their replies sent.
 ///
 /// It writes what is pending; where nothing is, it serves a request; where the inbox holds only the beginning of one, it reads, at most
 /// `READ_MAX` bytes and never more than the inbox has room for. A call of the stream that moves no bytes is the last of the drive.
 ///
 /// `Waiting` where a write blocked, or a read while the inbox held only the beginning of a request. `Again` where the session is open and
-/// owes no reply after `REQUESTS_MAX` requests or `OUTPUT_MAX` bytes. `Gone` where the session has left, which aborts its transaction: a call of the stream
+/// owes no reply after `REQUESTS_MAX` requests. `Gone` where the session has left, which aborts its transaction: a call of the stream
 /// failed, the stream ended (what was read of a request is dropped), a request was refused memory, or there was a broken frame, whose reply
 /// is written. Other sessions are unchanged.
 ///

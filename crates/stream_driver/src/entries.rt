@@ -1,7 +1,8 @@
 //! A table of connections.
 ghost use Rattle.std.specs.Prelude.{◌≡◌, ◌≢◌};
 ghost use Rattle.stream_driver.specs.Sessions.{IsPresent};
-ghost use Rattle.stream_driver.specs.Entries.{LeadsAll, LeadsEntry, HaveSessions, KeepSessions, EndsDrive, is_over};
+ghost use Rattle.stream_driver.specs.Buffers.{has_had_share};
+ghost use Rattle.stream_driver.specs.Entries.{LeadsAll, LeadsEntry, HaveSessions, KeepSessions, EndsDrive, is_over, state_at_end};
 
 use crate::answers::Progress;
 use crate::buffered::BufferedStream;
@@ -72,7 +73,17 @@ pub fn drive_ready<D: Sectors, S: Stream>(hub: &mut Hub<D>, table: &mut Slab<Ent
     }
 }
 
-/// Ends the drive of an entry: what its stream holds is written, as far as the stream behind takes it, and the next drive may read. A
+// An entry that waits as its stream has had its share is to be driven again.
+fn ready_again<S: Stream>(entry: &mut Entry<BufferedStream<S>>)
+    ensures { entry.new ≡ record entry.old { state = state_at_end entry.old.state (has_had_share entry.old.stream) } }
+{
+    if entry.state == EntryState::Idle && entry.stream.has_had_its_share() {
+        entry.state = EntryState::Ready;
+    }
+}
+
+/// Ends the drive of an entry. One that waits only as its stream has had its share of the turn is ready again, since no poll tells of that.
+/// What the stream holds is written, as far as the stream behind takes it, and the next drive may read and has a share of its own. A
 /// stream that is waited for has blocked, and is left alone. Is the entry gone, and does its stream hold nothing that may still leave?
 ///
 /// Takes no memory that a caller sees.
@@ -80,6 +91,7 @@ pub fn end_drive<D: Sectors, S: Stream>(device: &D, entry: &mut Entry<BufferedSt
     ensures ends { EndsDrive S.tells S.traffic (D.moment device.now) entry.old entry.new }
     ensures over { result ≡ is_over entry.new }
 {
+    ready_again(entry);
     entry.stream.begin_drive();
     if entry.state != EntryState::Idle {
         entry.stream.finish(device);

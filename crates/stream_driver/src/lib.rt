@@ -12,9 +12,9 @@ mod laws;
 mod stream;
 
 pub use answers::{Call, Progress, ReadAnswer, WriteAnswer};
-pub use buffered::{BufferedStream, Flushed};
+pub use buffered::{BufferedStream, Flushed, SHARE_MAX};
 pub use counts::CallCounts;
-pub use driving::{OUTPUT_MAX, READ_MAX, REQUESTS_MAX, drive};
+pub use driving::{READ_MAX, REQUESTS_MAX, drive};
 pub use entries::{Entry, EntryState, drive_ready, end_drive};
 pub use held_bytes::HELD_MAX;
 pub use laws::leads_are_runs;

@@ -1,8 +1,8 @@
 use denote.Struct.Props.{props}
-use Rattle.stream_driver.proofs.Words.{inl, inr, ◌≡◌, ◌+◌, ◌<◌, ◌≤◌, length, arith, refl, sym, ap, ◌∙◌, pending_seen, status_seen}
+use Rattle.stream_driver.proofs.Words.{inl, inr, arith, sym, ◌∙◌, pending_seen, status_seen}
 use Rattle.stream_driver.proofs.States.{leads_none, present_in, present_after, seen_after, stands_after}
-use Rattle.stream_driver.proofs.Sends.{tells_map, tells_still, tells_three, tells_two_at}
-use Rattle.stream_driver.proofs.Loops.{again, again_full, driven_none, flushes_out, gone_closed, gone_serving, gone_writing, leaves, out_broke, out_served, waits_to_read, waits_to_write}
+use Rattle.stream_driver.proofs.Sends.{tells_still, tells_three, tells_two_at}
+use Rattle.stream_driver.proofs.Loops.{again, driven_none, flushes_out, gone_closed, gone_serving, gone_writing, leaves, out_broke, out_served, waits_to_read, waits_to_write}
 use Rattle.stream_driver.proofs.driving.drive_over.Goals as goal
 
 pub requests-init : goal.requests-init
@@ -35,22 +35,18 @@ serve_one-requires g c =
 
 pub returns-in-Blocked-serve_one : goal.returns-in-Blocked-serve_one
 returns-in-Blocked-serve_one g c =
-    let room : c.saturating_add-sent.result < 262144 = omega (arith, c.if-sent-ge-OUTPUT_MAX.false) in
-    let total : c.saturating_add-sent.result ≡ c.requests.sent + length c.pending-owed.result.now = omega (arith, c.saturating_add-sent.ensures) in
-    let flushed = flushes_out c.runs_follow.ensures.follow c.requests.invariant (ap length c.pending-owed.ensures.bytes) total c.in-Empty.ensures.written in
-    record { driven = tells_two_at c.runs_follow.ensures.follow flushed c.in-Blocked-serve_one.ensures.served (λ h l p. p.0.driven.carried) (λ h l m was stands p r. waits_to_read p room (omega arith) r) }
+    let flushed = flushes_out c.runs_follow.ensures.follow c.requests.invariant c.in-Empty.ensures.written in
+    record { driven = tells_two_at c.runs_follow.ensures.follow flushed c.in-Blocked-serve_one.ensures.served (λ h l p. p.0.driven.carried) (λ h l m was stands p r. waits_to_read p (omega arith) r) }
 
 pub returns-in_default-serve_one : goal.returns-in_default-serve_one
 returns-in_default-serve_one g c =
-    let room : c.saturating_add-sent.result < 262144 = omega (arith, c.if-sent-ge-OUTPUT_MAX.false) in
-    let total : c.saturating_add-sent.result ≡ c.requests.sent + length c.pending-owed.result.now = omega (arith, c.saturating_add-sent.ensures) in
-    let flushed = flushes_out c.runs_follow.ensures.follow c.requests.invariant (ap length c.pending-owed.ensures.bytes) total c.in-Empty.ensures.written in
+    let flushed = flushes_out c.runs_follow.ensures.follow c.requests.invariant c.in-Empty.ensures.written in
     record {
       driven =
           rw c.depart-in_default-serve_one.ensures.answer
           (tells_three c.runs_follow.ensures.follow flushed c.serve_one.ensures.served (tells_still c.depart-in_default-serve_one.ensures.left) (λ h l p. p.0.driven.carried) (λ l m r. r.carried)
           (λ h l m n stands p r t.
-          gone_serving p room (omega arith) c.serve_one.result c.in_default-serve_one.not-Served c.in_default-serve_one.not-Broke c.in_default-serve_one.not-Blocked r t));
+          gone_serving p (omega arith) c.serve_one.result c.in_default-serve_one.not-Served c.in_default-serve_one.not-Broke c.in_default-serve_one.not-Blocked r t));
     }
 
 pub write_out-requires-2-clause-present : goal.write_out-requires-2-clause-present
@@ -74,16 +70,8 @@ returns-in_default-status g c =
 
 pub requests-preserved : goal.requests-preserved
 requests-preserved g c =
-    let room : c.saturating_add-sent.result < 262144 = omega (arith, c.if-sent-ge-OUTPUT_MAX.false) in
-    let total : c.saturating_add-sent.result ≡ c.requests.sent + length c.pending-owed.result.now = omega (arith, c.saturating_add-sent.ensures) in
-    let flushed = flushes_out c.runs_follow.ensures.follow c.requests.invariant (ap length c.pending-owed.ensures.bytes) total c.in-Empty.ensures.written in
+    let flushed = flushes_out c.runs_follow.ensures.follow c.requests.invariant c.in-Empty.ensures.written in
     elim c.in-Served.is [
-      | inl e ↦ tells_two_at c.runs_follow.ensures.follow flushed (rw e at c.serve_one.ensures.served) (λ h l p. p.0.driven.carried) (λ h l m stands last p r. out_served p room (sym (c.in-Open.ensures ∙ status_seen _ _ stands c.args.s)) r)
-      | inr e ↦ tells_two_at c.runs_follow.ensures.follow flushed (rw e at c.serve_one.ensures.served) (λ h l p. p.0.driven.carried) (λ h l m stands last p r. out_broke p room r)
+      | inl e ↦ tells_two_at c.runs_follow.ensures.follow flushed (rw e at c.serve_one.ensures.served) (λ h l p. p.0.driven.carried) (λ h l m stands last p r. out_served p (sym (c.in-Open.ensures ∙ status_seen _ _ stands c.args.s)) r)
+      | inr e ↦ tells_two_at c.runs_follow.ensures.follow flushed (rw e at c.serve_one.ensures.served) (λ h l p. p.0.driven.carried) (λ h l m stands last p r. out_broke p r)
     ]
-
-pub returns-then-sent-ge-OUTPUT_MAX : goal.returns-then-sent-ge-OUTPUT_MAX
-returns-then-sent-ge-OUTPUT_MAX g c =
-    let enough : 262144 ≤ c.requests.sent + length c.pending-owed.result.now = omega (arith, c.saturating_add-sent.ensures, c.if-sent-ge-OUTPUT_MAX.true) in
-    let flushed = flushes_out c.runs_follow.ensures.follow c.requests.invariant (ap length c.pending-owed.ensures.bytes) refl c.in-Empty.ensures.written in
-    record { driven = tells_map flushed (λ h l stands p. again_full p (omega arith) enough (sym (c.in-Open.ensures ∙ status_seen _ _ stands c.args.s))) }

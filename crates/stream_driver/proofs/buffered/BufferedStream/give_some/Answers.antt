@@ -1,5 +1,5 @@
 use Rattle.stream_driver.proofs.Words.{◌≡◌, ◌<◌, ◌≤◌, ◌⊎◌, inl, inr, not, false, length, arith, nat_tests}
-use Rattle.stream_driver.proofs.Buffering.{gives_some, short_moved, short_still}
+use Rattle.stream_driver.proofs.Buffering.{gives_some, gives_why, short_moved, short_still}
 use Rattle.stream_driver.proofs.buffered.BufferedStream.give_some.Goals as goal
 use Rattle.stream_driver.proofs.buffered.BufferedStream.give_some.Goals.{then-n-into, else-n-into}
 
@@ -9,12 +9,17 @@ returns-after-n-into g c =
       | then-n-into w ↦ inl (omega (arith, w.if-n-into.true), w.self-is)
       | else-n-into w ↦ inr (omega (arith, w.if-n-into.false), grind (arith, nat_tests, w.if-n-into.false, w.self-is))
     ] in
-    gives_some c.if-n-into.self _ c.in-All.ensures
-    c.in-Moved.ensures.within c.in-Moved.ensures.given c.in-Moved.ensures.taken c.in-Moved.ensures.departed c.in-Moved.ensures.answered c.if-self.false
-    (short_moved c.in-Moved.n (length c.args.into.now) c.args.self.now.reads_on c.flush.new.self.reads_on c.if-n-into.self c.in-All.ensures.kept.reads_on how)
+    record {
+      gives = gives_some c.if-n-into.self _ c.in-All.ensures
+          c.in-Moved.ensures.within c.in-Moved.ensures.given c.in-Moved.ensures.taken c.in-Moved.ensures.departed
+          (short_moved c.in-Moved.n (length c.args.into.now) c.args.self.now.reads_on c.flush.new.self.reads_on c.if-n-into.self c.in-All.ensures.kept.reads_on how);
+      why = gives_why c.if-n-into.self _ c.in-All.ensures c.in-Moved.ensures.answered c.if-self.false;
+    }
 
 pub returns-in_default : goal.returns-in_default
-returns-in_default g c =
-    gives_some c.flush.new.self.is_short c.read-answer.result c.in-All.ensures
-    c.read-answer.ensures.within c.read-answer.ensures.given c.read-answer.ensures.taken c.read-answer.ensures.departed c.read-answer.ensures.answered c.if-self.false
-    (short_still c.args.self.now _ _ c.read-answer.result c.in_default.not-Moved c.in-All.ensures.kept.short)
+returns-in_default g c = record {
+  gives = gives_some c.flush.new.self.is_short c.read-answer.result c.in-All.ensures
+      c.read-answer.ensures.within c.read-answer.ensures.given c.read-answer.ensures.taken c.read-answer.ensures.departed
+      (short_still c.args.self.now _ _ c.read-answer.result c.in_default.not-Moved c.in-All.ensures.kept.short);
+  why = gives_why c.flush.new.self.is_short c.read-answer.result c.in-All.ensures c.read-answer.ensures.answered c.if-self.false;
+}

@@ -5,5 +5,5 @@ use Rattle.stream_driver.proofs.buffered.BufferedStreamStream.read.Goals as goal
 
 pub returns-clause-answered : goal.returns-clause-answered
 returns-clause-answered g c =
-    subst (λ k. Notes (Read c.give_some-answer.result) k c.note_read.new.self) c.give_some-answer.ensures.counts c.note_read.ensures _ _ [] [] _ [] _ _
-    (gave_same g.S.Stream.traffic c.args.self.now c.give_some-answer.new.self c.give_some-answer.result c.give_some-answer.ensures.why)
+    subst (λ k. Notes (Read c.give_in_share-answer.result) k c.note_read.new.self) c.give_in_share-answer.ensures.gives.counts c.note_read.ensures _ _ [] [] _ [] _ _
+    (gave_same g.S.Stream.traffic c.args.self.now c.give_in_share-answer.new.self c.give_in_share-answer.result c.give_in_share-answer.ensures.why)
