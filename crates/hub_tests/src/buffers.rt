@@ -146,7 +146,7 @@ fn got_after<R: Abort + AllocGlobal>(rt: &R, turns: u32, input: &[u8]) -> (Scrip
         .expect(rt, "memory");
     let one = Script::new(asks, Vec::new(rt.alloc()), 0, Trouble::Fewer);
     let other = Script::new(pings, Vec::new(rt.alloc()), 0, Trouble::Fewer);
-    let mut driven = Driven::new(rt);
+    let mut driven = Driven::new(rt.alloc()).expect(rt, "a hub");
     driven.join(1);
     driven.join(2);
     let mut one = entry_of(rt, 1, one, EntryState::Ready);
