@@ -108,8 +108,9 @@ fn end_drive_at<D: Sectors>(
     }
 }
 
-/// Ends the drives of a turn: writes what the streams hold, but for those that wait, and takes the entries out that are gone and whose
-/// streams hold nothing or failed, and no others. Connections that ended in good order linger, and the others are closed. Takes no memory.
+/// Ends the drives of a turn: makes the entries ready again that wait only as their streams have had their share of it, writes what the
+/// streams hold, but for those that wait, and takes the entries out that are gone and whose streams hold nothing or failed, and no others.
+/// Connections that ended in good order linger, and the others are closed. Takes no memory.
 pub(crate) fn end_drives<D: Sectors>(
     device: &D,
     poll: &Poll,
