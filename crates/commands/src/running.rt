@@ -15,10 +15,10 @@ use std::alloc::Global;
 use std::sync::Wait;
 use std::time::Clock;
 
-/// Runs the command that the words ask for, over whatever tells what is asked, opens and makes files, listens, plays scripts and takes lines,
-/// and answers the exit status: `DONE`, `REFUSED` for a command line that was refused, `BAD_LINE` for a line of a script that was, `FAULT`
-/// otherwise. What went wrong is written on the error output. It does nothing else: its contract names each call of these, in their order,
-/// and the status.
+/// Runs the command that the words ask for, over whatever tells what is asked, opens and makes files, listens, plays scripts and takes
+/// lines, and answers the exit status: `DONE`, `REFUSED` for a command line that was refused, `BAD_LINE` for a line of a script that was,
+/// `FAULT` otherwise. What went wrong is written on the error output. It does nothing else: its contract names each call of these, in
+/// their order, and the status.
 ///
 /// It takes the memory of the command and of reading the words.
 pub fn run_command<

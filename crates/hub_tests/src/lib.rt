@@ -1,5 +1,5 @@
-//! Tests of the sessions and of what carries their bytes. The hub: its events, and the worked rows over it, in any pieces. The driver: peers
-//! in memory, of which one call meets trouble.
+//! Tests of the sessions and of what carries their bytes. The hub: its events, and the worked rows over it, in any pieces. The driver:
+//! peers in memory, of which one call meets trouble.
 #![tactic(auto)]
 
 #[cfg(test)]

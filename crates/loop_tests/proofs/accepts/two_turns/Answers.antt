@@ -1,5 +1,9 @@
+use Rattle.sessions.specs.Lives.{IsOpened}
 use Rattle.event_loop.proofs.Entries.{nobody_entries}
+use Rattle.event_loop.proofs.Serving.{opened_nobody}
 use Rattle.loop_tests.proofs.accepts.two_turns.Goals as goal
 
 pub accept_some-first-requires-clause-entries : goal.accept_some-first-requires-clause-entries
-accept_some-first-requires-clause-entries g c = nobody_entries c.new_hub-hub.result c.new-table.result.slots c.new_hub-hub.ensures.nobody
+accept_some-first-requires-clause-entries g c =
+    let start : IsOpened c.expect-hub.result = rw c.expect-hub.ensures at c.new_hub.ensures.opened in
+    nobody_entries c.expect-hub.result c.new-table.result.slots (opened_nobody c.expect-hub.result start)

@@ -4,7 +4,8 @@ use Rattle.test_hubs.proofs.hubs.open_hub.Goals as goal
 
 pub returns : goal.returns
 returns g c =
-    let start : IsOpened c.in_ok-open.field-0 = record { dev = c.args.device; map = c.in_ok-open.ensures.begins.0; begins = c.in_ok-open.ensures.begins.1; opens = c.in_ok-open.ensures.opens } in
+    let begins = c.in_ok-open.ensures.begins in
+    let start : IsOpened c.in_ok-open.field-0 = record { dev = c.args.device; map = begins.0; begins = begins.1; opens = c.in_ok-open.ensures.opens } in
     record {
       stands = stands_once_opened _ start;
       opened = start;
