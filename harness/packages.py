@@ -79,6 +79,9 @@ PACKAGES = [
             ("package.json", r'^  "version": "(.*)",$'), r"\w+(?<!harness)\.(js|d\.ts)", "node harness.js", "node --test tests/", "node first.mjs"),
     Package("Ruby", "ruby", "ruby -e 'exit RUBY_VERSION >= \"3.1\"'", "Ruby 3.1", ("lib/ssikvd/version.rb", r'^  VERSION = "(.*)"$'),
             r"lib/.*\.rb", "ruby -Ilib harness.rb", "ruby -Ilib test/frames_test.rb", "ruby -Ilib first.rb"),
+    Package("PHP", "php", "php -r 'exit(PHP_VERSION_ID >= 80100 && extension_loaded(\"pcntl\") ? 0 : 1);'", "PHP 8.1 with pcntl",
+            ("composer.json", r'^    "version": "(.*)",$'), r"(src/\w+|autoload)\.php", "php harness.php", "php tests/frames.php",
+            "mkdir -p vendor && cp -r autoload.php src vendor && php first.php"),
 ]
 
 ERRORS = """overwritten: Conflict key 6b
