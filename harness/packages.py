@@ -75,7 +75,7 @@ PACKAGES = [
             "PYTHONPATH=src python3 first.py"),
     Package("Python, asyncio", "python", "python3 -c 'import asyncio; asyncio.timeout'", "Python 3.11",
             ("src/ssikvd/__init__.py", r'^__version__ = "(.*)"$'), r"src/ssikvd/\w+\.py", "PYTHONPATH=src python3 harness.py aio"),
-    Package("JavaScript", "javascript", "node -e 'process.exit(parseInt(process.versions.node) < 18)'", "Node.js 18",
+    Package("JavaScript", "javascript", "node -e 'process.exit(parseInt(process.versions.node) < 18 ? 1 : 0)'", "Node.js 18",
             ("package.json", r'^  "version": "(.*)",$'), r"\w+(?<!harness)\.(js|d\.ts)", "node harness.js", "node --test tests/", "node first.mjs"),
     Package("Ruby", "ruby", "ruby -e 'exit RUBY_VERSION >= \"3.1\"'", "Ruby 3.1", ("lib/ssikvd/version.rb", r'^  VERSION = "(.*)"$'),
             r"lib/.*\.rb", "ruby -Ilib harness.rb", "ruby -Ilib test/frames_test.rb", "ruby -Ilib first.rb"),
