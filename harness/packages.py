@@ -3,7 +3,8 @@
 Each language has a program, `PROGRAM ADDRESS JOB WORDS..`, that does the jobs below over its package. One judge looks at what they print, so that a
 package is held to the same in every language. All languages that are installed run at once, each with servers of its own.
 
-    count NAME WORKERS TIMES        each worker adds 1 to NAME so many times, the n-th time by `once` of NAME:WORKER:n, from 0
+    count NAME WORKERS TIMES        each worker adds 1 to NAME so many times, the n-th time by `once` of NAME:WORKER:n, from 0; where workers share a
+                                    store, it has 4 connections
                                     prints `counter N tries M`, M being how often the work ran
     reserve ROOM WORKERS TIMES      each worker books so many times of a room by `once` of by:ROOM:WORKER:n, unless one that overlaps is booked;
                                     the n-th begins at s = (13 WORKER + 7 n) mod 60 and ends at e = s + 1 + (WORKER + n) mod 5;
