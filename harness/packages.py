@@ -3,7 +3,8 @@
 Each language has a program, `PROGRAM ADDRESS JOB WORDS..`, that does the jobs below over its package. One judge looks at what they print, so that a
 package is held to the same in every language. All languages that are installed run at once, each with servers of its own.
 
-    count NAME WORKERS TIMES        each worker adds 1 to NAME so many times, the n-th time by `once` of NAME:WORKER:n, from 0
+    count NAME WORKERS TIMES        each worker adds 1 to NAME so many times, the n-th time by `once` of NAME:WORKER:n, from 0; where workers share a
+                                    store, it has 4 connections
                                     prints `counter N tries M`, M being how often the work ran
     reserve ROOM WORKERS TIMES      each worker books so many times of a room by `once` of by:ROOM:WORKER:n, unless one that overlaps is booked;
                                     the n-th begins at s = (13 WORKER + 7 n) mod 60 and ends at e = s + 1 + (WORKER + n) mod 5;
@@ -75,10 +76,13 @@ PACKAGES = [
             "PYTHONPATH=src python3 first.py"),
     Package("Python, asyncio", "python", "python3 -c 'import asyncio; asyncio.timeout'", "Python 3.11",
             ("src/ssikvd/__init__.py", r'^__version__ = "(.*)"$'), r"src/ssikvd/\w+\.py", "PYTHONPATH=src python3 harness.py aio"),
-    Package("JavaScript", "javascript", "node -e 'process.exit(parseInt(process.versions.node) < 18)'", "Node.js 18",
+    Package("JavaScript", "javascript", "node -e 'process.exit(parseInt(process.versions.node) < 18 ? 1 : 0)'", "Node.js 18",
             ("package.json", r'^  "version": "(.*)",$'), r"\w+(?<!harness)\.(js|d\.ts)", "node harness.js", "node --test tests/", "node first.mjs"),
     Package("Ruby", "ruby", "ruby -e 'exit RUBY_VERSION >= \"3.1\"'", "Ruby 3.1", ("lib/ssikvd/version.rb", r'^  VERSION = "(.*)"$'),
             r"lib/.*\.rb", "ruby -Ilib harness.rb", "ruby -Ilib test/frames_test.rb", "ruby -Ilib first.rb"),
+    Package("PHP", "php", "php -r 'exit(PHP_VERSION_ID >= 80100 && extension_loaded(\"pcntl\") ? 0 : 1);'", "PHP 8.1 with pcntl",
+            ("composer.json", r'^    "version": "(.*)",$'), r"(src/\w+|autoload)\.php", "php harness.php", "php tests/frames.php",
+            "mkdir -p vendor && cp -r autoload.php src vendor && php first.php"),
     Package("Rust", "rust", "cargo --version", "cargo (Debian's cargo)", ("Cargo.toml", r'^version = "(.*)"$'), r"src/\w+\.rs",
             "target/release/examples/jobs", "cargo test --quiet --offline",
             "mkdir -p examples && cp first.rs examples/ && cargo run --release --quiet --offline --example first # first.rs",

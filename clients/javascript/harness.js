@@ -27,7 +27,7 @@ function work(workers, times, turn) {
 }
 
 async function count(address, name, workers, times) {
-  const store = await connect(address, { deadline: 60_000 });
+  const store = await connect(address, { connections: 4, deadline: 60_000 });
   let tries = 0;
   const add = async (transaction) => {
     tries += 1;

@@ -7,7 +7,8 @@
 import { createConnection } from 'node:net';
 import { setTimeout as sleep } from 'node:timers/promises';
 import {
-  CONNECTIONS_MAX, Conflict, Full, Invalid, Lost, MARKS_MAX, PAIRS_MAX, Refused, Unreachable, WRITES_MAX, after, decode, encode, keyOf, valueOf,
+  CONNECTIONS_MAX, Conflict, Full, Invalid, Lost, MARKS_MAX, PAIRS_MAX, Refused, Unreachable, WRITES_MAX,
+  after, decode, encode, keyOf, valueOf,
 } from './frames.js';
 
 export { Conflict, Full, Invalid, Lost, Refused, SsikvdError, Stopped, Unreachable, after, endOfPrefix } from './frames.js';
@@ -40,17 +41,12 @@ class Session {
   /** Sends one request and gives its reply. Rejects with its refusal, or Unreachable. */
   ask(name, ...parts) {
     if (this.#lost) return Promise.reject(this.#lost);
-    const promise = new Promise((resolve, reject) => {
+    return new Promise((resolve, reject) => {
       const timer = setTimeout(() => this.#lose(new Unreachable('no reply in time')), this.#timeout);
       this.#waiting.push({ resolve, reject, timer });
+      this.#socket.write(encode([Buffer.from(name), ...parts]));
     });
-    this.#waiting.at(-1).promise = promise;
-    this.#socket.write(encode([Buffer.from(name), ...parts]));
-    return promise;
   }
-
-  /** Waits for the replies that are due. Rejects with the first refusal among them. */
-  settled() { return Promise.all(this.#waiting.map(({ promise }) => promise)); }
 
   /** Sends COMMIT. Rejects with its refusal, with Unreachable before it is sent, or with Lost where the outcome isn't known. */
   async commit() {
@@ -95,22 +91,15 @@ class Session {
 }
 
 class Transaction {
-  #session; #written = new Set(); #read = new Set();
+  #session; #written = new Set(); #read = new Set(); #underWay = new Set();
 
   constructor(session) { this.#session = session; }
 
-  async get(key) {
-    const data = keyOf(key), name = data.toString('latin1');
-    if (!this.#written.has(name) && !this.#read.has(name)) {
-      if (this.#read.size === MARKS_MAX) throw new Full('FULL marks');
-      this.#read.add(name);
-    }
-    return (await this.#ask('GET', data)) ?? undefined;
-  }
+  get(key) { return this.#call(() => this.#get(keyOf(key))); }
 
-  async set(key, value) { await this.#write('SET', keyOf(key), valueOf(value)); }
+  set(key, value) { return this.#call(() => this.#write('SET', keyOf(key), valueOf(value))); }
 
-  async delete(key) { await this.#write('DEL', keyOf(key)); }
+  delete(key) { return this.#call(() => this.#write('DEL', keyOf(key))); }
 
   range(lo = '', hi = undefined, limit = Infinity) {
     if (!(limit >= 1)) throw new Invalid(`a limit is at least 1, this one is ${limit}`);
@@ -127,12 +116,19 @@ class Transaction {
     }
   }
 
-  async #write(name, key, ...value) {
-    this.#written.add(key.toString('latin1'));
-    if (this.#written.size > WRITES_MAX) {
-      this.#written.delete(key.toString('latin1'));
-      throw new Full('FULL writes');
+  async #get(key) {
+    const name = key.toString('latin1');
+    if (!this.#written.has(name) && !this.#read.has(name)) {
+      if (this.#read.size === MARKS_MAX) throw new Full('FULL marks');
+      this.#read.add(name);
     }
+    return (await this.#ask('GET', key)) ?? undefined;
+  }
+
+  async #write(name, key, ...value) {
+    const written = key.toString('latin1');
+    if (!this.#written.has(written) && this.#written.size === WRITES_MAX) throw new Full('FULL writes');
+    this.#written.add(written);
     await this.#ask(name, key, ...value);
   }
 
@@ -141,8 +137,25 @@ class Transaction {
     return this.#session.ask(...parts);
   }
 
-  /** Lets further calls throw Invalid. */
-  static end(transaction) { transaction.#session = undefined; }
+  /** Gives what the steps give. Until they have ended, the call is under way. */
+  #call(steps) {
+    const call = {};
+    this.#underWay.add(call);
+    call.promise = (async () => {
+      try {
+        return await steps();
+      } finally {
+        this.#underWay.delete(call);
+      }
+    })();
+    return call.promise;
+  }
+
+  /** Lets further calls reject with Invalid, and waits for those that are under way. */
+  static async end(transaction) {
+    transaction.#session = undefined;
+    await Promise.all([...transaction.#underWay].map(({ promise }) => promise));
+  }
 }
 
 /** The tries of one call, none of which begins after its deadline, in milliseconds. */
@@ -168,7 +181,8 @@ class Store {
   constructor(address, options) {
     const parts = /^\[?([^\]]+)\]?:(\d+)$/.exec(address);
     if (!parts || Number(parts[2]) > 65_535) throw new Invalid(`an address is HOST:PORT, this one is ${address}`);
-    if (!(options.connections >= 1 && options.connections <= CONNECTIONS_MAX)) throw new Invalid(`a pool has 1 to ${CONNECTIONS_MAX} connections`);
+    const isWithin = options.connections >= 1 && options.connections <= CONNECTIONS_MAX;
+    if (!isWithin) throw new Invalid(`a pool has 1 to ${CONNECTIONS_MAX} connections`);
     this.#address = [parts[1], Number(parts[2])];
     this.#options = options;
   }
@@ -227,13 +241,12 @@ class Store {
       await session.ask('BEGIN');
       isOpen = true;
       const result = await work(transaction);
-      Transaction.end(transaction);
-      await session.settled();
+      await Transaction.end(transaction);
       isOpen = false;
       await session.commit();
       return result;
     } finally {
-      Transaction.end(transaction);
+      await Transaction.end(transaction).catch(() => undefined); // the first error is thrown, not theirs
       await this.#takeBack(session, isOpen);
     }
   }

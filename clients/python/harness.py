@@ -89,7 +89,7 @@ async def attempt(steps):
 
 
 async def count(form, address, name, workers, times):
-    store, tries = await form.connect(address, deadline=60), []
+    store, tries = await form.connect(address, connections=4, deadline=60), []
 
     async def add(transaction):
         tries.append(1)

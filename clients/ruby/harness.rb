@@ -27,7 +27,7 @@ def work(workers, times, &turn)
 end
 
 def count(address, name, workers, times)
-  store = Ssikvd.connect(address, deadline: 60)
+  store = Ssikvd.connect(address, connections: 4, deadline: 60)
   tries = Queue.new
   work(workers, times) do |worker, number|
     store.once("#{name}:#{worker}:#{number}") do |transaction|
