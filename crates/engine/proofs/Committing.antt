@@ -186,7 +186,7 @@ module _ {D : Type 0} {g : Ghosts D} where
   commit_memory e e' s t j log entries same =
       let there = λ (m : State). same_with e e' m log entries same.committed (λ held base history. (same.stands held base history).0) in
       let back = λ (m : State). same_with e' e m (sym log) (sym entries) (stand_back _ _ same.committed)
-          (λ held base history. (same.stands held base history).1) in
+      (λ held base history. (same.stands held base history).1) in
       (λ m. (there m, back m), λ m h. ap (λ (p : State × Response). is_refused p.1) (step_joined e s t false j (λ _. refl) m h (found_open e m s t h j.asked.entry)))
 
   -- the committed map with the transaction's writes
@@ -208,9 +208,10 @@ module _ {D : Type 0} {g : Ghosts D} where
       let stay : StandForSame e.history.committed.facts e'.history.committed.facts =
       subst (λ (v : HistoryValue). StandForSame e.history.committed.facts v.committed.facts) (sym leaves.store.history) same.committed in
       let own = subst (λ (v : View). IsInReach e'.history.committed.facts v × IsRecordOf v (e'.history.committed.facts.last + 1) r)
-      (sym (some_same (taken ∙ j.asked.entry)))
-      (in_reach_still e.history.committed.facts e'.history.committed.facts t stay at.same.in_reach,
-      subst (λ n. IsRecordOf t (n + 1) r) (sym stay.last) (own_record e m t at.run h j.made at.same)) in
+      (sym (some_same (taken ∙ j.asked.entry))) (
+        in_reach_still e.history.committed.facts e'.history.committed.facts t stay at.same.in_reach,
+        subst (λ n. IsRecordOf t (n + 1) r) (sym stay.last) (own_record e m t at.run h j.made at.same),
+      ) in
       let l = left.history.committed.last in let used = h.used in let taken' = logged.used in let log' = leaves.store.log in
       let long : length (m.history ++ r ∷ []) ≡ length m.history + 1 = length-append m.history (r ∷ []) in
       let counted : suc (length m.history) ≡ n = omega arith in
