@@ -33,7 +33,8 @@ NOT_RUN = (
     (r"^wrong_bodies/", "proves for hours"),
     (r"^systemd-run ", "starts a unit of the system"),
     (r"(pip|npm|gem|composer|cargo|mvn) ", "installs a client package, which may need the network"),
-    (r"(python3|node|ruby|php) first\.", "is run by `packages.py`, with the file that stands above it"),
+    (r"(python3|node|ruby|php|java -cp out) [fF]irst\.|cc -o first|go run ./first", "is run by `packages.py`, with the file that stands above it"),
+    (r"javac -d out clients|cc -O2 -c ssikvd.c|go mod edit", "is of a program that uses the package"),
     (r".*psql", "needs a PostgreSQL; `clients.py long` starts one"),
 )
 COMMAND = r"(rt|ssikvd|python3|grep|cp|psql|\(cd|harness/|bench/|wrong_bodies/|[A-Z]+=\S+) ?"
@@ -282,7 +283,7 @@ def sentences(text):
 def style(tally):
     for name in documents():
         with tally.run(f"the blocks of {name}"):
-            outside = re.findall(rf"^ {{4}}{COMMAND}.*$", text_of(name), re.M)
+            outside = re.findall(rf"^ {{4}}{COMMAND}.*$", re.sub(r"^```.*?^```$", "", text_of(name), flags=re.M | re.S), re.M)
             expect(not outside, f"{name}: a command stands outside a block of console: {outside[:1]}")
         if name in NOT_READ:
             continue

@@ -143,11 +143,12 @@ impl<D: Sectors> Engine<D> {
     /// A step of what `reclaim` does, which is short however much is due. Answers whether it has to be called again until all is done.
     ///
     /// What each commit replaced is a list. One is due once no open transaction began with the number under which it stands, and a call
-    /// looks at 2 of those that are due, and at no other. What was kept to check later commits stands in runs, and a call gives back 1,024
-    /// written keys and as many steps of last readers of those that are wholly old. Takes no memory.
+    /// looks at 2 of those that are due, and at no other. What was kept to check later commits stands in runs, of which a call gives back as
+    /// much as `Committed::forget_step` says. Takes no memory.
     pub fn reclaim_step(&mut self) -> bool
         ensures keeps { (m : State) → StandsFor self.old m → StandsFor self.new m }
-        ensures versions { (m : State) → StandsFor self.old m → IsReclaimedInPart (versions_of self.old) (versions_of self.new) (open_begins m) }
+        ensures versions { (m : State) → StandsFor self.old m
+            → IsReclaimedInPart (versions_of self.old) (versions_of self.new) (open_begins m) }
         ensures still { (m : State) → StandsFor self.old m → result ≡ is_due (open_begins m) self.new.history }
         ensures unmixed { (m : State) → StandsFor self.old m → AllByRecursion IsUnmixed (versions_of self.new).groups }
         ensures given_back { IsGivenBack (committed_of self.old) (committed_of self.new) }
