@@ -171,13 +171,12 @@ fn old_log<R: Abort + AllocGlobal>(rt: &R, sectors: u64, end: u8) -> MemSectors
 {
     let mut device = zeros(rt, sectors);
     write_sector(rt, &mut device, 0, b"SSIKVLG1");
-    let mut gate = 1u64;
     let mut digest = [0; 32];
     for n in 1..end {
+        let gate = 2 * n as u64 - 1;
         write_sector(rt, &mut device, gate, &[1]);
         let (body, next) = old_body(n - 1, numbered_key(n), &digest);
         write_sector(rt, &mut device, gate + 1, &body);
-        gate += 2;
         digest = next;
     }
     device
