@@ -4,7 +4,7 @@ Each recipe in Python is run by several clients at once, and a judge looks at wh
 and must see it: a range that is read in another transaction, an index without its deletion, a queue that deletes nothing. The code that
 the document shows must be that of the file. It prints how many tries a commit takes. Then recipe_calls.py runs the recipes of all languages.
 
-`quick` does less of each.
+`quick` does less of each. `links` writes the document's links to the lines of the recipes in the other languages.
 """
 import bisect
 import concurrent.futures
@@ -13,6 +13,7 @@ import itertools
 import os
 import random
 import re
+import sys
 import threading
 import time
 
@@ -104,8 +105,38 @@ def document(tally):
         for name, code in zip(parts[1::2], parts[2::2]):
             name, is_shown = name.split(".")[0], any(block in code for block in in_document(text))
             expect(name == "The calls" or is_shown and f"\n## {name}\n" in text, f"{DOCUMENT} shows nothing of {name!r}")
-        for place, name in itertools.product(re.findall(r"^\| \w+ \| \[[^]]*\]\(\.\./([^)]*)\)", text, re.M), re.findall(r"^## (.*)$", text, re.M)):
-            expect(re.search(rf"^ *(#|//) {name}\b", read(place), re.M), f"{place} has no recipe {name!r}")
+        expect(text.count("\nThe same in [") == text.count("\n## "), "a recipe has no links to the other languages")
+        expect(with_links(text) == text, "the links to the recipes in other languages are others: `cookbook.py links` writes them")
+        expect(with_links(text.replace("#L", "#L1")) == text, "a link to another line isn't seen")
+
+
+def with_links(text):
+    """The document with the links to each recipe's line in the other languages."""
+    places = re.findall(r"^\| (\w+) \| \[[^]]*\]\((\.\./[^)]*)\)", text, re.M)[1:]
+
+    def links(name):
+        found = [f"[{language}]({place}#L{line_of(name, read(os.path.join('docs', place)))})" for language, place in places]
+        return f"The same in {', '.join(found[:-1])} and {found[-1]}."
+
+    parts = re.split(r"^(## .*\n)", text, flags=re.M)
+    for at in range(1, len(parts), 2):
+        parts[at + 1] = re.sub(r"^The same in \[.*\]\(.*\)\.$", lambda _, at=at: links(parts[at][3:-1]), parts[at + 1], flags=re.M)
+    return "".join(parts)
+
+
+def line_of(name, code):
+    """The number of the line with the comment that names the recipe."""
+    lines = [number for number, line in enumerate(code.splitlines(), 1) if re.match(rf" *// {name}\b", line)]
+    expect(len(lines) == 1, f"the recipe {name!r} stands at the lines {lines}")
+    return lines[0]
+
+
+def write_links():
+    with open(os.path.join(TOP, DOCUMENT), "r+", encoding="utf-8") as file:
+        text = with_links(file.read())
+        file.seek(0)
+        file.write(text)
+        file.truncate()
 
 
 # Keys
@@ -508,6 +539,9 @@ def longest(tally):
 
 
 def main():
+    if "links" in sys.argv[1:]:
+        write_links()
+        return 0
     need(PROGRAM)
     tally = Tally("cookbook")
     parts = (document, keys, reservation, uniqueness, indexes, held_seats, queue, counters, table, batches)

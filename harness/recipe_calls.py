@@ -418,7 +418,7 @@ def in_languages(tally):
     with folder() as place:
         copy = shutil.copytree(CLIENTS, os.path.join(place, "clients"), ignore=shutil.ignore_patterns("out", "target", "__pycache__"))
         there = list(languages(copy))
-        with concurrent.futures.ThreadPoolExecutor(len(there)) as threads:
+        with concurrent.futures.ThreadPoolExecutor(max(1, len(there))) as threads:
             for found, seconds in threads.map(play, there):
                 tally.runs += found.runs
                 tally.deviations.update({f"{found.name}: {text}": places for text, places in found.deviations.items()})
