@@ -6,11 +6,12 @@
     ledger.py ADDRESS statement ACCOUNT FIRST COUNT     prints so many entries from the first on,
                                                         each as `NUMBER AMOUNT BALANCE ID OTHER`
 
-The answers: `moved`. `uncovered`: the account has less. `differs`: this ID was another transfer. `invalid`: a name, an amount or the account
-itself. `later`: nothing was written. `unknown`: nobody knows. After `later` and `unknown` the status is 1. Give the same lines again:
-what was moved isn't moved twice, and has the answer that it had.
+The answers: `moved`. `uncovered`: the account has less. `differs`: this ID was another transfer. `invalid`: a name, an amount, one
+account twice. `later`: nothing was written. `unknown`: nobody knows. After `later` and `unknown` the status is 1. Give the same lines
+again: what was moved isn't moved twice, and has the answer that it had.
 
-Amounts are whole cents. Money comes from the account `outside` and goes there; it alone may be below zero. So all balances add up to zero.
+Amounts are whole cents. Money comes from the account `outside` and goes there; it alone may be below zero. So all balances add up to
+zero.
 
 Keys: `account:NAME` holds the balance and how many entries there are, `entry:NAME:NUMBER` the amount, the balance behind it, the ID and
 the other account, `transfer:ID` the answer and what was asked. A transfer writes five of them in one transaction.
@@ -47,10 +48,14 @@ def move(transaction, transfer_id, source, target, amount):
     return f"moved {source} {target} {amount}"
 
 
+def is_transfer(transfer_id="", source="", target="", amount="", *more):
+    """Are these the words of a transfer?"""
+    names = (transfer_id, source, target)
+    return all(NAME.fullmatch(name) for name in names) and AMOUNT.fullmatch(amount) and source != target and not more
+
+
 def transfer(store, transfer_id, source, target, amount):
     """The answer to a transfer, made at most once however often it is asked for."""
-    if not all(NAME.fullmatch(name) for name in (transfer_id, source, target)) or not AMOUNT.fullmatch(amount) or source == target:
-        return "invalid"
     try:
         found = store.once(f"transfer:{transfer_id}", lambda transaction: move(transaction, transfer_id, source, target, int(amount)))
     except ssikvd.Lost:
@@ -66,9 +71,9 @@ def transfers(store, lines):
     """Makes the transfers one after another. Are all of them settled?"""
     is_settled = True
     for line in lines:
-        transfer_id, source, target, amount = line.split()
-        answer = transfer(store, transfer_id, source, target, amount)
-        print(transfer_id, answer, flush=True)
+        words = line.rstrip("\n").split(" ")
+        answer = transfer(store, *words) if is_transfer(*words) else "invalid"
+        print(words[0], answer, flush=True)
         is_settled = is_settled and answer not in ("later", "unknown")
     return is_settled
 

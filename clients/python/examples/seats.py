@@ -6,7 +6,9 @@
                          422: the key came before with another seat or name
 
 Whoever repeats a request with its key gets the answer that the first one got, and no second seat. Either may answer also
-    503    with Retry-After: the store is full, stopped or not to be reached, or conflicts went on until the deadline. Nothing was written
+
+    503    with Retry-After: the store is full, stopped or not to be reached, or conflicts went on until the deadline. Nothing was
+           written
     504    it isn't known whether the seat is reserved: repeat the request with the same key, and tell nobody that it failed
 
 Keys: `seat:SEAT` holds the name, and isn't there while the seat is free. `done:KEY` holds the status that was answered, the seat and the
@@ -68,7 +70,7 @@ def create_app(store):
     @app.errorhandler(ssikvd.Lost)
     def answer_lost(error):
         app.logger.warning("%s", error)
-        return GatewayTimeout("It isn't known whether this was done. Repeat the request, with the same Idempotency-Key.").get_response()
+        return GatewayTimeout("It isn't known whether this was done. Repeat it with the same Idempotency-Key.").get_response()
 
     @app.errorhandler(ssikvd.Conflict)
     @app.errorhandler(ssikvd.Full)

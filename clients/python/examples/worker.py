@@ -5,8 +5,8 @@
                                                `NAME took ID`, then `NAME did ID`, or `NAME late ID` where another took it since
 
 A worker has a job until its lease ends; then another may take it. So a worker may be killed at any moment, and its job is done again.
-**Work outside the store is done at least once**, and its result is written once. A lease is to be longer than the longest job: a worker that
-is late has worked in vain.
+**Work outside the store is done at least once**, and its result is written once. A lease is to be longer than the longest job: a worker
+that is late has worked in vain.
 
 The store has no clock. Times are those of the machines of who puts and who takes, whose clocks may differ by far less than a lease.
 Where they differ by more, jobs are taken too early, and their work is done twice, or too late. Even so no result is written twice: that
@@ -14,7 +14,7 @@ is decided by the job's key, and by no clock.
 
 Keys: `job:DUE:ID` holds the work; the job may be taken from DUE on, in milliseconds since 1970 with 15 digits. Taking it moves it to the
 end of the lease, and finishing it deletes it. `put:ID` and `done:ID` say that this came to pass, `done:ID` with the result; delete
-them once nobody puts this ID again. `finished:NAME` counts for each worker, so that workers don't meet in one key.
+both in one transaction, once nobody puts this ID again. `finished:NAME` counts for each worker, so that workers don't meet in one key.
 """
 import collections
 import sys
