@@ -1,5 +1,7 @@
 /**
- * A web application that reserves seats, over node:http: `node seats.mjs ADDRESS PORT`.
+ * A web application that reserves seats, over node:http: `node seats.mjs ADDRESS PORT`. From a shell:
+ *
+ *     curl -d name=ann -H 'Idempotency-Key: 1' http://127.0.0.1:PORT/seats/3B
  *
  *     GET  /seats          200: each seat, `free` or `taken`, as one state of the store
  *     POST /seats/SEAT     reserves the seat for the form's `name`; the header `Idempotency-Key` names the request, and is new for each
