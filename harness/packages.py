@@ -20,8 +20,8 @@ An error is printed as its kind, and what it says: `Conflict key HEX`, `Conflict
 TEXT`, `Lost`, `Unreachable`, `Invalid`. The deadline of count, reserve and walk is 60 seconds; all else is as `connect` has it.
 
 Then: the frames of clients/frames.txt by the model, each package's own tests, its version, and its length. `quick` runs each job once, with kills,
-cut connections and 64 other transactions at once; `long` also conflicts, cuts and kills alone. A language that isn't installed is left out, and a
-line says so.
+cut connections and 64 other transactions at once; `long` also conflicts, cuts and kills alone, and wrong forms of each package, which must be found.
+A language that isn't installed is left out, and a line says so.
 """
 import collections
 import concurrent.futures
@@ -46,6 +46,7 @@ LINES_MAX = 400
 KEYS = 100_000
 SEATS = 60
 SECTORS = 16_384
+SCRIPTS_AT_ONCE = 4
 
 
 class Package:
@@ -65,6 +66,12 @@ class Package:
         command = f"exec env {self.run} 127.0.0.1:{port} " + " ".join(words)
         return subprocess.Popen(["bash", "-c", command], cwd=os.path.join(self.copy, self.place), env={**os.environ, "PYTHONDONTWRITEBYTECODE": "1"},
                                 stdout=subprocess.PIPE, stderr=subprocess.PIPE, text=True, start_new_session=True)
+
+    def of(self, copy):
+        """The same package in another copy."""
+        other = object.__new__(Package)
+        other.__dict__.update(self.__dict__, copy=copy)
+        return other
 
     def start(self, copy, port, times):
         return self.job(port, "count", "visits", str(WORKERS), str(times))
@@ -364,6 +371,12 @@ def scripted(package, what, words, answers, due, counts):
         server.close()
 
 
+def scripts(package):
+    """All scripts, some at a time. The first that fails is told."""
+    with concurrent.futures.ThreadPoolExecutor(SCRIPTS_AT_ONCE) as threads:
+        list(threads.map(lambda script: scripted(package, *script), SCRIPTS))
+
+
 def no_server(package):
     with socket.create_server(("127.0.0.1", 0)) as closed:
         port = closed.getsockname()[1]
@@ -428,6 +441,51 @@ def judges():
     expect(code_lines('a\n\n# b\n"""c\nd\n"""\n // e\nf // g\n') == 2, "lines are counted in another way")
 
 
+# Wrong packages, which the judges must find
+
+NO_REPLY = ("a COMMIT that is cut", "a COMMIT without a reply")
+# A package, a file of it, what stands there once, what stands there instead, and the scripts or jobs of which each must find it.
+WRONG = [
+    ("Python", "src/ssikvd/_core.py", 'raise Lost(f"no reply to COMMIT: {error}") from error', "raise", NO_REPLY),
+    ("Python", "src/ssikvd/_core.py", '                await session.ask(b"ABORT")', "                pass", ("errors", "a refusal amid it")),
+    ("Python", "src/ssikvd/_core.py", "            if found is None:", "            if True:", ("once, done before", "once, cut, and carried out")),
+    ("Python", "src/ssikvd/_core.py", "                await transaction.set(name, found)", "                pass", ("once",)),
+    ("Python", "src/ssikvd/_core.py", "        self.is_whole = False", "        pass", ("no reply to SET once",)),
+    ("Python", "src/ssikvd/_core.py", "            transaction._session = None", "            pass", ("errors",)),
+    ("Python", "src/ssikvd/_core.py", 'raise Lost(f"{lost}; then {error}") from error', "raise", ("once, cut, then stopped",)),
+    ("JavaScript", "index.js", "if (error instanceof Unreachable || error.text", "if (error.text", NO_REPLY),
+    ("JavaScript", "index.js", "      if (isOpen) await session.ask('ABORT');", "", ("errors", "a refusal amid it")),
+    ("JavaScript", "index.js", "        lost = error;\n", "", ("once, cut, then stopped",)),
+    ("JavaScript", "index.js", "error instanceof Full && error.limit === 'transactions'", "false", ("64 others for a while",)),
+    ("Ruby", "lib/ssikvd/session.rb", 'raise Lost, "no reply to COMMIT: #{error.message}"', "raise error", NO_REPLY),
+    ("Ruby", "lib/ssikvd/store.rb", '      session.ask("ABORT") if is_open', "      nil", ("errors", "a refusal amid it")),
+    ("Ruby", "lib/ssikvd/store.rb", "        tries.wait(error)\n        retry\n      rescue Standard", "        raise\n      rescue Standard",
+     ("once, cut, and carried out",)),
+    ("PHP", "src/Session.php", "throw new Lost('no reply to COMMIT: ' . $error->getMessage(), 0, $error)", "throw $error", NO_REPLY),
+    ("PHP", "src/Store.php", "                $session->ask('ABORT');\n", "", ("errors", "a refusal amid it")),
+]
+
+
+def wrong(tally, package):
+    """Each wrong form of the package, which each of its finders must find."""
+    for name, file_name, right, instead, finders in WRONG:
+        if name != package.name:
+            continue
+        with folder() as place, tally.run(f"wrong: {instead or right}"):
+            copy = shutil.copytree(package.copy, os.path.join(place, "clients"))
+            path = os.path.join(copy, package.place, file_name)
+            with open(path, encoding="utf-8") as file:
+                text = file.read()
+            expect(text.count(right) == 1, f"{right!r} stands {text.count(right)} times in {file_name}")
+            with open(path, "w", encoding="utf-8") as file:
+                file.write(text.replace(right, instead))
+            other = package.of(copy)
+            for script in SCRIPTS:
+                if script[0] in finders:
+                    expect(is_refused(scripted, other, *script), f"{script[0]} doesn't find {instead or 'that it lacks'} {right!r}")
+            expect("errors" not in finders or is_refused(errors, other), f"errors doesn't find {instead or 'that it lacks'} {right!r}")
+
+
 # All packages at once
 
 def parts_of(package, filled):
@@ -442,8 +500,7 @@ def parts_of(package, filled):
     yield "a walk", lambda: filled.walk(package)
     yield "errors", lambda: errors(package)
     yield "no server", lambda: no_server(package)
-    for script in SCRIPTS:
-        yield "a script", lambda script=script: scripted(package, *script)
+    yield "the scripts", lambda: scripts(package)
     for part in (conflicts, cuts, kills) if is_long() else ():
         yield part.__name__, lambda part=part: part(package)
 
@@ -465,6 +522,8 @@ def play(package, filled):
         for what, part in parts_of(package, filled):
             with tally.run(what):
                 part()
+        if is_long():
+            wrong(tally, package)
     return tally, time.monotonic() - begun
 
 
@@ -479,7 +538,7 @@ def main():
     for package in PACKAGES:
         if package not in there:
             missing(f"the package for {package.name}", package.needs)
-    with folder() as place, concurrent.futures.ThreadPoolExecutor(len(there)) as threads:
+    with folder() as place, concurrent.futures.ThreadPoolExecutor(max(1, len(there))) as threads:
         filled = Filled(place)
         try:
             for found, seconds in threads.map(lambda package: play(package, filled), there):
