@@ -19,13 +19,16 @@ package is held to the same in every language. All languages that are installed 
 An error is printed as its kind, and what it says: `Conflict key HEX`, `Conflict pivot self`, `Conflict pivot N`, `Full LIMIT`, `Stopped`, `Refused
 TEXT`, `Lost`, `Unreachable`, `Invalid`. The deadline of count, reserve and walk is 60 seconds; all else is as `connect` has it.
 
+Where a package has the example of a web service, buyers ask it for the same seats at once.
+
 Then: the frames of clients/frames.txt by the model, each package's own tests, its version, and its length. `quick` runs each job once, with kills,
-cut connections and 64 other transactions at once; `long` also conflicts, cuts and kills alone. A language that isn't installed is left out, and a
-line says so.
+cut connections and 64 other transactions at once; `long` also conflicts, cuts and kills alone, and wrong forms of each package, which must be found.
+A language that isn't installed is left out, and a line says so.
 """
 import collections
 import concurrent.futures
 import contextlib
+import http.client
 import os
 import re
 import shutil
@@ -46,6 +49,7 @@ LINES_MAX = 400
 KEYS = 100_000
 SEATS = 60
 SECTORS = 16_384
+SCRIPTS_AT_ONCE = 4
 
 
 class Package:
@@ -53,18 +57,28 @@ class Package:
 
     The version is a file and a pattern. `first` runs the file of that name that the package's README shows first."""
 
-    def __init__(self, name, place, probe, needs, version, sources, run, test=None, first=None, build=None):
+    def __init__(self, name, place, probe, needs, version, sources, run, test=None, first=None, build=None, service=None):
         self.name, self.place, self.probe, self.needs, self.version, self.sources = name, place, probe, needs, version, sources
-        self.run, self.test, self.first, self.build = run, test, first, build
+        self.run, self.test, self.first, self.build, self.service = run, test, first, build, service
 
     def is_there(self):
         return shell(self.probe, TOP)[0] == 0
 
     def job(self, port, *words):
         """The program doing a job, as a process. It is a group of its own, with its workers, where those are processes."""
-        command = f"exec env {self.run} 127.0.0.1:{port} " + " ".join(words)
+        return self.process(f"{self.run} 127.0.0.1:{port} " + " ".join(words))
+
+    def process(self, words):
+        """A command of the package as a process."""
+        command = f"exec env {words}"
         return subprocess.Popen(["bash", "-c", command], cwd=os.path.join(self.copy, self.place), env={**os.environ, "PYTHONDONTWRITEBYTECODE": "1"},
                                 stdout=subprocess.PIPE, stderr=subprocess.PIPE, text=True, start_new_session=True)
+
+    def of(self, copy):
+        """The same package in another copy."""
+        other = object.__new__(Package)
+        other.__dict__.update(self.__dict__, copy=copy)
+        return other
 
     def start(self, copy, port, times):
         return self.job(port, "count", "visits", str(WORKERS), str(times))
@@ -73,11 +87,12 @@ class Package:
 PACKAGES = [
     Package("Python", "python", "python3 -c 'import asyncio; asyncio.timeout'", "Python 3.11", ("pyproject.toml", r'^version = "(.*)"$'),
             r"src/ssikvd/\w+\.py", "PYTHONPATH=src python3 harness.py", "PYTHONPATH=src python3 -m unittest discover -s tests",
-            "PYTHONPATH=src python3 first.py"),
+            "PYTHONPATH=src python3 first.py", service="PYTHONPATH=src python3 examples/seats.py"),
     Package("Python, asyncio", "python", "python3 -c 'import asyncio; asyncio.timeout'", "Python 3.11",
             ("src/ssikvd/__init__.py", r'^__version__ = "(.*)"$'), r"src/ssikvd/\w+\.py", "PYTHONPATH=src python3 harness.py aio"),
     Package("JavaScript", "javascript", "node -e 'process.exit(parseInt(process.versions.node) < 18 ? 1 : 0)'", "Node.js 18",
-            ("package.json", r'^  "version": "(.*)",$'), r"\w+(?<!harness)\.(js|d\.ts)", "node harness.js", "node --test tests/", "node first.mjs"),
+            ("package.json", r'^  "version": "(.*)",$'), r"\w+(?<!harness)\.(js|d\.ts)", "node harness.js", "node --test tests/", "node first.mjs",
+            service="node examples/seats.mjs"),
     Package("Ruby", "ruby", "ruby -e 'exit RUBY_VERSION >= \"3.1\"'", "Ruby 3.1", ("lib/ssikvd/version.rb", r'^  VERSION = "(.*)"$'),
             r"lib/.*\.rb", "ruby -Ilib harness.rb", "ruby -Ilib test/frames_test.rb", "ruby -Ilib first.rb"),
     Package("PHP", "php", "php -r 'exit(PHP_VERSION_ID >= 80100 && extension_loaded(\"pcntl\") ? 0 : 1);'", "PHP 8.1 with pcntl",
@@ -263,6 +278,51 @@ def readme(package):
         expect(status == 0 and out == due, f"{name} ended with {status}, {out!r} {errors[-400:]!r}, due is {due!r}")
 
 
+# The example of a web service
+
+BUYERS, SOLD = 6, 10
+
+
+def judge_sales(answers):
+    """Each seat has one buyer, who has its 201; all others were told that buyer. An answer that was asked for again is the same."""
+    for seat in range(SOLD):
+        told = {text for (other, _), (_, text, _) in answers.items() if other == seat}
+        expect(len(told) == 1, f"the seat {seat} is sold to {told}")
+        winners = [buyer for (other, buyer), (status, _, _) in answers.items() if other == seat and status == 201]
+        expect(len(winners) == 1 and told == {f"buyer{winners[0]}\n"}, f"the seat {seat} is sold to {winners}, and {told} is told")
+    expect(all(again == (status, text) for status, text, again in answers.values()), "a request that was sent again got another reply")
+
+
+def service(package):
+    """Buyers ask for the same seats at once, each request twice with its key."""
+    answers = {}
+
+    def post(port, seat, buyer):
+        connection = http.client.HTTPConnection("127.0.0.1", port, timeout=PATIENCE)
+        with contextlib.closing(connection):
+            connection.request("POST", f"/seats/{seat}?buyer=buyer{buyer}", headers={"Idempotency-Key": f"{seat}-{buyer}"})
+            response = connection.getresponse()
+            return response.status, response.read().decode()
+
+    def buy(port, buyer):
+        for seat in range(SOLD):
+            answers[seat, buyer] = (*post(port, seat, buyer), post(port, seat, buyer))
+
+    with folder() as place, Server(fresh(place, 1_024)) as server:
+        process = package.process(f"{package.service} 127.0.0.1:{server.port} 0")
+        try:
+            port = int(process.stdout.readline().split()[1])
+            with concurrent.futures.ThreadPoolExecutor(BUYERS) as threads:
+                list(threads.map(lambda buyer: buy(port, buyer), range(BUYERS)))
+            judge_sales(answers)
+            server.kill()
+            found = post(port, 0, "late")
+            expect(found[0] == 503, f"without a store it answered {found}")
+        finally:
+            os.killpg(process.pid, signal.SIGKILL)
+            process.communicate()
+
+
 # A server that answers by a script
 
 CLOSE, SILENCE = object(), object()
@@ -364,6 +424,12 @@ def scripted(package, what, words, answers, due, counts):
         server.close()
 
 
+def scripts(package):
+    """All scripts, some at a time. The first that fails is told."""
+    with concurrent.futures.ThreadPoolExecutor(SCRIPTS_AT_ONCE) as threads:
+        list(threads.map(lambda script: scripted(package, *script), SCRIPTS))
+
+
 def no_server(package):
     with socket.create_server(("127.0.0.1", 0)) as closed:
         port = closed.getsockname()[1]
@@ -423,9 +489,58 @@ def judges():
     for said, kept, times in ((right, stored[1:], 1), (right, stored + stored[:1], 1), (right, stored, 2), ({**right, (0, 0): False}, stored[1:], 1),
                               ({**right, (0, 7): True}, stored + [(b"blue:052", b"49 0 7")], 1)):
         expect(is_refused(judge_bookings, said, kept, times), f"{said} with {kept} was taken")
+    sales = {(seat, buyer): (409 if buyer else 201, "buyer0\n", (409 if buyer else 201, "buyer0\n")) for seat in range(SOLD) for buyer in range(2)}
+    judge_sales(sales)
+    for wrong_sale in ((201, "buyer1\n", (201, "buyer1\n")), (201, "buyer0\n", (201, "buyer0\n")), (409, "buyer0\n", (201, "buyer0\n"))):
+        expect(is_refused(judge_sales, {**sales, (0, 1): wrong_sale}), f"{wrong_sale} was taken")
     for out, asked in (("Lost\n", {"COMMIT": 2}), ("done\n", {"COMMIT": 1})):
         expect(is_refused(judge_script, out, collections.Counter(asked), "Lost", {"COMMIT": 1}), f"{out} with {asked} was taken")
     expect(code_lines('a\n\n# b\n"""c\nd\n"""\n // e\nf // g\n') == 2, "lines are counted in another way")
+
+
+# Wrong packages, which the judges must find
+
+NO_REPLY = ("a COMMIT that is cut", "a COMMIT without a reply")
+# A package, a file of it, what stands there once, what stands there instead, and the scripts or jobs of which each must find it.
+WRONG = [
+    ("Python", "src/ssikvd/_core.py", 'raise Lost(f"no reply to COMMIT: {error}") from error', "raise", NO_REPLY),
+    ("Python", "src/ssikvd/_core.py", '                await session.ask(b"ABORT")', "                pass", ("errors", "a refusal amid it")),
+    ("Python", "src/ssikvd/_core.py", "            if found is None:", "            if True:", ("once, done before", "once, cut, and carried out")),
+    ("Python", "src/ssikvd/_core.py", "                await transaction.set(name, found)", "                pass", ("once",)),
+    ("Python", "src/ssikvd/_core.py", "        self.is_whole = False", "        pass", ("no reply to SET once",)),
+    ("Python", "src/ssikvd/_core.py", "            transaction._session = None", "            pass", ("errors",)),
+    ("Python", "src/ssikvd/_core.py", 'raise Lost(f"{lost}; then {error}") from error', "raise", ("once, cut, then stopped",)),
+    ("JavaScript", "index.js", "if (error instanceof Unreachable || error.text", "if (error.text", NO_REPLY),
+    ("JavaScript", "index.js", "      if (isOpen) await session.ask('ABORT');", "", ("errors", "a refusal amid it")),
+    ("JavaScript", "index.js", "        lost = error;\n", "", ("once, cut, then stopped",)),
+    ("JavaScript", "index.js", "error instanceof Full && error.limit === 'transactions'", "false", ("64 others for a while",)),
+    ("Ruby", "lib/ssikvd/session.rb", 'raise Lost, "no reply to COMMIT: #{error.message}"', "raise error", NO_REPLY),
+    ("Ruby", "lib/ssikvd/store.rb", '      session.ask("ABORT") if is_open', "      nil", ("errors", "a refusal amid it")),
+    ("Ruby", "lib/ssikvd/store.rb", "        tries.wait(error)\n        retry\n      rescue Standard", "        raise\n      rescue Standard",
+     ("once, cut, and carried out",)),
+    ("PHP", "src/Session.php", "throw new Lost('no reply to COMMIT: ' . $error->getMessage(), 0, $error)", "throw $error", NO_REPLY),
+    ("PHP", "src/Store.php", "                $session->ask('ABORT');\n", "", ("errors", "a refusal amid it")),
+]
+
+
+def wrong(tally, package):
+    """Each wrong form of the package, which each of its finders must find."""
+    for name, file_name, right, instead, finders in WRONG:
+        if name != package.name:
+            continue
+        with folder() as place, tally.run(f"wrong: {instead or right}"):
+            copy = shutil.copytree(package.copy, os.path.join(place, "clients"))
+            path = os.path.join(copy, package.place, file_name)
+            with open(path, encoding="utf-8") as file:
+                text = file.read()
+            expect(text.count(right) == 1, f"{right!r} stands {text.count(right)} times in {file_name}")
+            with open(path, "w", encoding="utf-8") as file:
+                file.write(text.replace(right, instead))
+            other = package.of(copy)
+            for script in SCRIPTS:
+                if script[0] in finders:
+                    expect(is_refused(scripted, other, *script), f"{script[0]} doesn't find {instead or 'that it lacks'} {right!r}")
+            expect("errors" not in finders or is_refused(errors, other), f"errors doesn't find {instead or 'that it lacks'} {right!r}")
 
 
 # All packages at once
@@ -442,8 +557,9 @@ def parts_of(package, filled):
     yield "a walk", lambda: filled.walk(package)
     yield "errors", lambda: errors(package)
     yield "no server", lambda: no_server(package)
-    for script in SCRIPTS:
-        yield "a script", lambda script=script: scripted(package, *script)
+    if package.service:
+        yield "the service", lambda: service(package)
+    yield "the scripts", lambda: scripts(package)
     for part in (conflicts, cuts, kills) if is_long() else ():
         yield part.__name__, lambda part=part: part(package)
 
@@ -465,6 +581,8 @@ def play(package, filled):
         for what, part in parts_of(package, filled):
             with tally.run(what):
                 part()
+        if is_long():
+            wrong(tally, package)
     return tally, time.monotonic() - begun
 
 
