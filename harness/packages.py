@@ -597,7 +597,7 @@ def main():
     for package in PACKAGES:
         if package not in there:
             missing(f"the package for {package.name}", package.needs)
-    with folder() as place, concurrent.futures.ThreadPoolExecutor(len(there)) as threads:
+    with folder() as place, concurrent.futures.ThreadPoolExecutor(max(1, len(there))) as threads:
         filled = Filled(place)
         try:
             for found, seconds in threads.map(lambda package: play(package, filled), there):

@@ -41,7 +41,7 @@ pub use Rattle.event_loop.specs.Sockets.{departure_of, IsNewSocket, session_of, 
 pub use Rattle.event_loop.specs.TableBytes.{ConnectionsSpeak, HasItsBytes, HaveBytes, KeepBytes, SpeaksFor}
 pub use Rattle.event_loop.specs.Tables.{Admits, AdmitsEach, after_event, after_poll, ComeEach, Comes, EndsTurn, HasNobody, HaveEntries, is_any_ready, is_ready, IsTried, IsWithoutEntry, join_of, join_tried, joins_of, LetsIn, refusals_in, refusals_of, slot_at, told, told_slot}
 pub use Rattle.event_loop.specs.Tables.AdmitsEach.{Nobody, OneMore}
-pub use Rattle.event_loop.specs.Turns.{Accepted, accepted_joins, accepts_now, DrivesReady, is_told_of, IsGivenBack, IsTurn, KeepsWhatLeaves, turn_waits, Waits}
+pub use Rattle.event_loop.specs.Turns.{Accepted, accepted_joins, accepts_now, DrivesReady, is_told_of, IsGivenBack, IsTurn, KeepsWhatLeaves}
 pub use Rattle.event_loop.specs.declared.connections.TheConstants.{LINGERER}
 pub use Rattle.event_loop.specs.declared.server.EventLoop.{EventLoop}
 pub use Rattle.event_loop.specs.declared.socket.Socket.{Socket}

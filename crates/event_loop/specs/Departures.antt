@@ -1,5 +1,5 @@
 -- What left over the connections was answered before, and no crash since loses it.
-use Rattle.std.specs.Prelude.{◌≡◌, ℕ, Bool, List, Option, Some, length, map}
+use Rattle.std.specs.Prelude.{◌≡◌, ℕ, List, Option, Some, length, map}
 use Rattle.std.specs.List.{AllByRecursion, Contains}
 use Rattle.model.specs.{History.Record, Machine.opened, Operations.Response, Operations.Response.Number}
 use Rattle.sector.specs.declared.device.Sectors.{Ghosts}

@@ -1,5 +1,5 @@
 -- How the calls of the system's poll came out.
-use Rattle.std.specs.Prelude.{◌≡◌, ℕ, Option, Some, None, Result, Ok, Err}
+use Rattle.std.specs.Prelude.{ℕ, Option, Some, None, Result, Ok, Err}
 use Rattle.std.specs.{IoError.error_kind, declared.io.Error.Error, declared.io.ErrorKind.ErrorKind}
 use Rattle.stream_driver.specs.Traffic.{one_more}
 use Rattle.event_loop.specs.declared.polling.Poller.{Poller}

@@ -64,7 +64,8 @@ impl<D: Sectors> EventLoop<D> {
     ghost use Rattle.event_loop.specs.Loops.{HasItsSessions, hub_of};
     ghost use Rattle.event_loop.specs.Sockets.{SocketsTell, traffic_of};
     ghost use Rattle.event_loop.specs.TableBytes.{ConnectionsSpeak, KeepBytes};
-    ghost use Rattle.event_loop.specs.Turns.{Accepted, DrivesAndEnds, IsGivenBack, IsTurn, IsUntouched, LeavingsAreKept, TurnsAreRuns, Waits};
+    ghost use Rattle.event_loop.specs.Turns.{Accepted, DrivesAndEnds, IsGivenBack, IsTurn, IsUntouched, LeavingsAreKept};
+    ghost use Rattle.event_loop.specs.Turns.{TurnsAreRuns, Waits};
     ghost use Rattle.event_loop.specs.Turns.{accepts_now, has_work, is_told_of, turn_waits};
     ghost use Rattle.event_loop.specs.Waits.{nanos_of};
 
