@@ -101,16 +101,16 @@ PACKAGES = [
     Package("Rust", "rust", "cargo --version", "cargo (Debian's cargo)", ("Cargo.toml", r'^version = "(.*)"$'), r"src/\w+\.rs",
             "target/release/examples/jobs", "cargo test --quiet --offline",
             "mkdir -p examples && cp first.rs examples/ && cargo run --release --quiet --offline --example first # first.rs",
-            "cargo build --release --quiet --offline --example jobs"),
+            "cargo build --release --quiet --offline --examples", "target/release/examples/seats"),
     Package("C", "c", "cc --version", "a C compiler as cc", ("ssikvd.h", r'^#define SSIKVD_VERSION "(.*)"$'), r"ssikvd\.c", "out/jobs",
             "cc -std=c11 -o out/test_frames test_frames.c -lpthread && out/test_frames",
             "cc -std=c11 -o out/first first.c ssikvd.c -lpthread && out/first # first.c",
             "mkdir -p out && cc -std=c11 -O2 -Wall -Wextra -o out/jobs jobs.c ssikvd.c -lpthread"),
     Package("Go", "go", "go version", "Go (Debian's golang-go)", ("ssikvd.go", r'^const Version = "(.*)"$'), r"(?!\w+_test)\w+\.go", "out/jobs", "go test .",
-            "mkdir -p first && cp main.go first/ && rm main.go && go run ./first # main.go", "go build -o out/jobs ./jobs"),
+            "mkdir -p first && cp main.go first/ && rm main.go && go run ./first # main.go", "go build -o out/ ./jobs ./examples/...", "out/seats"),
     Package("Java", "java", "javac --version", "a JDK", ("pom.xml", r"^  <version>(.*)</version>$"), r"src/main/java/ssikvd/\w+\.java",
             "java -cp out ssikvd.Jobs", "java -cp out ssikvd.FramesTest", "java -cp out First.java",
-            "javac -d out src/main/java/ssikvd/*.java src/test/java/ssikvd/*.java"),
+            "javac -d out src/main/java/ssikvd/*.java src/test/java/ssikvd/*.java examples/*.java", "java -cp out Seats"),
 ]
 
 ERRORS = """overwritten: Conflict key 6b
@@ -574,7 +574,7 @@ def play(package, filled):
     tally, begun = Tally(f"packages, {package.name}"), time.monotonic()
     with folder() as place:
         package.copy = os.path.join(place, "clients")
-        shutil.copytree(CLIENTS, package.copy, ignore=shutil.ignore_patterns("out", "__pycache__"))
+        shutil.copytree(CLIENTS, package.copy, ignore=shutil.ignore_patterns("out", "target", "__pycache__"))
         if package.build:
             with tally.run("build"):
                 expect_command(package, package.build)
