@@ -114,10 +114,12 @@ fn post(store: &Store, seat: &str, request: &Request) -> Result<Answer, Error> {
 }
 
 fn page_of(store: &Store, request: &Request) -> Result<Answer, Error> {
-    let words: Vec<&str> = request.line.split_whitespace().collect();
-    match words[..] {
-        ["GET", "/seats", _] => list(store),
-        ["POST", path, _] if path.starts_with("/seats/") => post(store, &path["/seats/".len()..], request),
+    let mut words = request.line.split_whitespace();
+    let (method, target) = (words.next().unwrap_or(""), words.next().unwrap_or(""));
+    let path = target.split('?').next().unwrap_or("");
+    match (method, path.strip_prefix("/seats/")) {
+        ("GET", None) if path == "/seats" => list(store),
+        ("POST", Some(seat)) => post(store, seat, request),
         _ => Ok(says("404 Not Found", "There is no such page.")),
     }
 }
