@@ -515,7 +515,7 @@ def play(package, filled):
     tally, begun = Tally(f"packages, {package.name}"), time.monotonic()
     with folder() as place:
         package.copy = os.path.join(place, "clients")
-        shutil.copytree(CLIENTS, package.copy, ignore=shutil.ignore_patterns("out", "__pycache__"))
+        shutil.copytree(CLIENTS, package.copy, ignore=shutil.ignore_patterns("out", "target", "__pycache__"))
         if package.build:
             with tally.run("build"):
                 expect_command(package, package.build)
