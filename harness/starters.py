@@ -11,7 +11,8 @@ Each language has three programs, whose routes, words, keys and output the Pytho
                           zero beside them, and each account is the sum of its entries, of which each transfer has two
 
 In each of them connections are cut at a COMMIT, before it is passed on and after, and the server is killed. Programs of all languages also work on
-one store together. `long` does more of each. A language that isn't installed is left out, and a line says so.
+one store together. `long` does more of each, and tries wrong forms of the programs, which must be found. A language that isn't installed is left
+out, and a line says so.
 """
 import collections
 import concurrent.futures
@@ -37,6 +38,7 @@ from model import OK, PAIRS_MAX, bulk, frame, pairs, refusal
 from packages import CLIENTS, CLOSE, FULL, PIVOT, Scripted
 
 SECTORS, SHARE = 16_384, 0.15
+IGNORED = shutil.ignore_patterns("out", "target", "__pycache__")
 
 
 class Language:
@@ -49,6 +51,13 @@ class Language:
 
     def is_there(self):
         return shell(self.probe, CLIENTS)[0] == 0
+
+    def of(self, copy):
+        """The same language with its folder copied into this one."""
+        other = Language(self.name, self.place, self.probe, self.needs, self.run, self.build)
+        shutil.copytree(os.path.join(CLIENTS, self.place), os.path.join(copy, self.place), ignore=IGNORED)
+        other.copy = copy
+        return other
 
     def program(self, name, *words, text=""):
         command = self.run.format(name=name, Name=name.capitalize())
@@ -343,12 +352,12 @@ def jobs(language):
         taken = {f"{name} took {held[1]}" for name in ("w3", "w4")}
         wait_until(lambda: taken & {*workers[2].lines, *workers[3].lines}, "nobody took a job that was held")
         workers[1].tell(signal.SIGCONT)
-        workers[1].line(f"w2 late {held[1]}")
+        expect(workers[1].line(f"w2 (did|late) {held[1]}").split()[1] == "late", "a worker did a job that another had taken since")
         wait_until(lambda: set(store.under("done:")) >= {*ids, "long-1", "long-2"}, "jobs were not done in time")
         wait_until(lambda: not any(worker.lines[-1:] and " took " in worker.lines[-1] for worker in workers[1:]), "a worker says no more")
         lines = [line.split() for worker in workers for line in worker.lines]
         judge_jobs(lines, {*ids, "long-1", "long-2"}, store.under("done:"), store.under("finished:"), store.under("job:"))
-        expect({store.under("done:")[one] for one in held} <= {"done by w3", "done by w4"}, "a worker did a job that it had lost")
+        expect({store.under("done:")[one] for one in held} <= {"done by w3", "done by w4"}, "a worker that was held did its job")
         expect(store.proxy.cuts > 2, f"only {store.proxy.cuts} connections were cut")
 
 
@@ -533,10 +542,56 @@ def judges_of_ledgers():
         expect(is_refused(judge_balances, lines), f"{lines} was taken")
 
 
+# Wrong programs, which the judges must find
+
+# A language, a file of it, what stands there once, what stands there instead, and the run that must find it, in one of three tries.
+WRONG = [
+    ("Python", "seats.py", "    if transaction.get(place) is not None:", "    if False:", reservations),
+    ("Python", "seats.py", "lambda transaction: reserve(transaction, seat, name)", """lambda transaction, gone=store.transact(taken): (
+            f"409 {seat} {name}" if seat in gone else transaction.set(f"seat:{seat}", name) or f"201 {seat} {name}")""", reservations),
+    ("Python", "seats.py", 'if asked != f"{seat} {name}":', "if False:", answers),
+    ("Python", "seats.py", ", retry_after=1", "", answers),
+    ("Python", "worker.py", "        transaction.delete(place)\n", "", jobs),
+    ("Python", "worker.py", "        if transaction.get(job.place) is None:\n            raise Late\n", "", jobs),
+    ("Python", "worker.py", 'key_of(begun, ""), 1', '"job;", 1', jobs),
+    ("Python", "ledger.py", "if source != OUTSIDE and balance_of(transaction, source)[0] < amount:", "if False:", ledger),
+    ("Python", "ledger.py", "    post(transaction, target, amount, transfer_id, source)\n", "", ledger),
+    ("Python", "ledger.py", ' if asked == f"{source} {target} {amount}" else "differs"', "", ledger),
+    ("JavaScript", "seats.mjs", "  if (await transaction.get(`seat:${seat}`))", "  if (false)", reservations),
+    ("JavaScript", "seats.mjs", "new Answer(504,", "new Answer(503,", answers),
+    ("JavaScript", "worker.mjs", "    await transaction.delete(place);\n", "", jobs),
+    ("JavaScript", "worker.mjs", "    if (!(await transaction.get(job.place))) throw new Late();\n", "", jobs),
+    ("JavaScript", "ledger.mjs", "  if (!isCovered)", "  if (false)", ledger),
+    ("JavaScript", "ledger.mjs", "store.once(`transfer:${id}`, ", "store.once(`transfer:${id}:${Date.now()}`, ", ledger),
+]
+
+
+def wrong(language, place, file_name, right, instead, part):
+    """A wrong form of the program, which the run must find."""
+    other = language.of(place)
+    path = os.path.join(place, language.place, "examples", file_name)
+    with open(path, encoding="utf-8") as file:
+        text = file.read()
+    expect(text.count(right) == 1, f"{right!r} stands {text.count(right)} times in {file_name}")
+    with open(path, "w", encoding="utf-8") as file:
+        file.write(text.replace(right, instead))
+    build(other)
+    expect(any(is_refused(part, other) for _ in range(3)), f"{part.__name__} doesn't find {instead or 'that it lacks'} {right!r}")
+
+
+def wrong_forms(language):
+    """All wrong forms of a language's programs."""
+    found = []
+    for name, *form in WRONG:
+        if name == language.name:
+            with folder() as place:
+                found.append(judged(language, f"wrong: {form[0]}", lambda: wrong(language, place, *form)))
+    return found
+
+
 # All languages at once
 
-def build(language, place):
-    language.copy = os.path.join(place, "clients")
+def build(language):
     found = shell(language.build or "true", os.path.join(language.copy, language.place))
     expect(found[0] == 0, f"{language.build} ended with {found[0]}: {(found[1] + found[2])[-600:]}")
 
@@ -574,12 +629,14 @@ def main():
         if language not in there:
             missing(f"the examples for {language.name}", language.needs)
     with folder() as place, concurrent.futures.ThreadPoolExecutor(max(1, len(there))) as threads:
-        shutil.copytree(CLIENTS, os.path.join(place, "clients"), ignore=shutil.ignore_patterns("out", "target", "__pycache__"))
-        add(tally, threads.map(lambda language: judged(language, "build", lambda: build(language, place)), there))
+        there = [language.of(place) for language in there]
+        add(tally, threads.map(lambda language: judged(language, "build", lambda: build(language)), there))
         for found in threads.map(lambda language: play(language, (jobs, answers, ledger, reservations, order)), there):
             add(tally, found)
         if len(there) > 1:
             add(tally, play(All(there), (jobs, ledger, reservations)))
+        for found in threads.map(wrong_forms, there) if is_long() else ():
+            add(tally, found)
     return 0 if tally.end() else 1
 
 
