@@ -91,7 +91,7 @@ PACKAGES = [
             ("composer.json", r'^    "version": "(.*)",$'), r"(src/\w+|autoload)\.php", "php harness.php", "php tests/frames.php",
             "mkdir -p vendor && cp -r autoload.php src vendor && php first.php"),
     Package("Rust", "rust", "cargo --version", "cargo (Debian's cargo)", ("Cargo.toml", r'^version = "(.*)"$'), r"src/\w+\.rs",
-            "target/release/examples/jobs", "cargo test --quiet --offline",
+            "target/release/examples/jobs", "cargo test --quiet --offline --lib && cargo test --quiet --offline --doc",
             "mkdir -p examples && cp first.rs examples/ && cargo run --release --quiet --offline --example first # first.rs",
             "cargo build --release --quiet --offline --example jobs"),
     Package("C", "c", "cc --version", "a C compiler as cc", ("ssikvd.h", r'^#define SSIKVD_VERSION "(.*)"$'), r"ssikvd\.c", "out/jobs",
