@@ -357,7 +357,6 @@ def jobs(language):
         wait_until(lambda: not any(worker.lines[-1:] and " took " in worker.lines[-1] for worker in workers[1:]), "a worker says no more")
         lines = [line.split() for worker in workers for line in worker.lines]
         judge_jobs(lines, {*ids, "long-1", "long-2"}, store.under("done:"), store.under("finished:"), store.under("job:"))
-        expect({store.under("done:")[one] for one in held} <= {"done by w3", "done by w4"}, "a worker that was held did its job")
         expect(store.proxy.cuts > 2, f"only {store.proxy.cuts} connections were cut")
 
 
