@@ -31,6 +31,9 @@ import ssikvd.Transaction;
  *
  * <p>Keys: {@code account:NAME} holds the balance and how many entries there are, {@code entry:NAME:NUMBER} the amount, the balance behind
  * it, the ID and the other account, {@code transfer:ID} the answer and what was asked. A transfer writes five of them in one transaction.
+ *
+ * <p>Transfers of one account meet in its key, so that all but one of them begin again; those of other accounts don't. {@code balances}
+ * reads all accounts in one transaction, which sees at most 32,767 of them; a statement costs what it prints, however long the account is.
  */
 public class Ledger {
     private static final String OUTSIDE = "outside";

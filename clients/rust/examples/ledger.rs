@@ -17,6 +17,9 @@
 //!
 //! Keys: `account:NAME` holds the balance and how many entries there are, `entry:NAME:NUMBER` the amount, the balance behind it, the ID and
 //! the other account, `transfer:ID` the answer and what was asked. A transfer writes five of them in one transaction.
+//!
+//! Transfers of one account meet in its key, so that all but one of them begin again; those of other accounts don't. `balances` reads all
+//! accounts in one transaction, which sees at most 32,767 of them; a statement costs what it prints, however long the account is.
 use ssikvd::{connect_with, Error, Options, Store, Transaction};
 use std::process::ExitCode;
 

@@ -6,7 +6,7 @@
 //
 // A worker has a job until its lease ends; then another may take it. So a worker may be killed at any moment, and its job is done again.
 // Work outside the store is done at least once, and its result is written once. A lease is to be longer than the longest job: a worker that
-// is late has worked in vain.
+// is late has worked in vain. A job that ends each of its workers comes back each time; whoever minds counts the tries in its value.
 //
 // The store has no clock. Times are those of the machines of who puts and who takes, whose clocks may differ by far less than a lease.
 // Where they differ by more, jobs are taken too early, and their work is done twice, or too late. Even so no result is written twice: that
