@@ -19,8 +19,6 @@ package is held to the same in every language. All languages that are installed 
 An error is printed as its kind, and what it says: `Conflict key HEX`, `Conflict pivot self`, `Conflict pivot N`, `Full LIMIT`, `Stopped`, `Refused
 TEXT`, `Lost`, `Unreachable`, `Invalid`. The deadline of count, reserve and walk is 60 seconds; all else is as `connect` has it.
 
-Where a package has the example of a web service, buyers ask it for the same seats at once.
-
 Then: the frames of clients/frames.txt by the model, each package's own tests, its version, and its length. `quick` runs each job once, with kills,
 cut connections and 64 other transactions at once; `long` also conflicts, cuts and kills alone, and wrong forms of each package, which must be found.
 A language that isn't installed is left out, and a line says so.
@@ -28,7 +26,6 @@ A language that isn't installed is left out, and a line says so.
 import collections
 import concurrent.futures
 import contextlib
-import http.client
 import os
 import re
 import shutil
@@ -57,20 +54,16 @@ class Package:
 
     The version is a file and a pattern. `first` runs the file of that name that the package's README shows first."""
 
-    def __init__(self, name, place, probe, needs, version, sources, run, test=None, first=None, build=None, service=None):
+    def __init__(self, name, place, probe, needs, version, sources, run, test=None, first=None, build=None):
         self.name, self.place, self.probe, self.needs, self.version, self.sources = name, place, probe, needs, version, sources
-        self.run, self.test, self.first, self.build, self.service = run, test, first, build, service
+        self.run, self.test, self.first, self.build = run, test, first, build
 
     def is_there(self):
         return shell(self.probe, TOP)[0] == 0
 
     def job(self, port, *words):
         """The program doing a job, as a process. It is a group of its own, with its workers, where those are processes."""
-        return self.process(f"{self.run} 127.0.0.1:{port} " + " ".join(words))
-
-    def process(self, words):
-        """A command of the package as a process."""
-        command = f"exec env {words}"
+        command = f"exec env {self.run} 127.0.0.1:{port} " + " ".join(words)
         return subprocess.Popen(["bash", "-c", command], cwd=os.path.join(self.copy, self.place), env={**os.environ, "PYTHONDONTWRITEBYTECODE": "1"},
                                 stdout=subprocess.PIPE, stderr=subprocess.PIPE, text=True, start_new_session=True)
 
@@ -87,19 +80,18 @@ class Package:
 PACKAGES = [
     Package("Python", "python", "python3 -c 'import asyncio; asyncio.timeout'", "Python 3.11", ("pyproject.toml", r'^version = "(.*)"$'),
             r"src/ssikvd/\w+\.py", "PYTHONPATH=src python3 harness.py", "PYTHONPATH=src python3 -m unittest discover -s tests",
-            "PYTHONPATH=src python3 first.py", service="PYTHONPATH=src python3 examples/seats.py"),
+            "PYTHONPATH=src python3 first.py"),
     Package("Python, asyncio", "python", "python3 -c 'import asyncio; asyncio.timeout'", "Python 3.11",
             ("src/ssikvd/__init__.py", r'^__version__ = "(.*)"$'), r"src/ssikvd/\w+\.py", "PYTHONPATH=src python3 harness.py aio"),
     Package("JavaScript", "javascript", "node -e 'process.exit(parseInt(process.versions.node) < 18 ? 1 : 0)'", "Node.js 18",
-            ("package.json", r'^  "version": "(.*)",$'), r"\w+(?<!harness)\.(js|d\.ts)", "node harness.js", "node --test tests/", "node first.mjs",
-            service="node examples/seats.mjs"),
+            ("package.json", r'^  "version": "(.*)",$'), r"\w+(?<!harness)\.(js|d\.ts)", "node harness.js", "node --test tests/", "node first.mjs"),
     Package("Ruby", "ruby", "ruby -e 'exit RUBY_VERSION >= \"3.1\"'", "Ruby 3.1", ("lib/ssikvd/version.rb", r'^  VERSION = "(.*)"$'),
             r"lib/.*\.rb", "ruby -Ilib harness.rb", "ruby -Ilib test/frames_test.rb", "ruby -Ilib first.rb"),
     Package("PHP", "php", "php -r 'exit(PHP_VERSION_ID >= 80100 && extension_loaded(\"pcntl\") ? 0 : 1);'", "PHP 8.1 with pcntl",
             ("composer.json", r'^    "version": "(.*)",$'), r"(src/\w+|autoload)\.php", "php harness.php", "php tests/frames.php",
             "mkdir -p vendor && cp -r autoload.php src vendor && php first.php"),
     Package("Rust", "rust", "cargo --version", "cargo (Debian's cargo)", ("Cargo.toml", r'^version = "(.*)"$'), r"src/\w+\.rs",
-            "target/release/examples/jobs", "cargo test --quiet --offline",
+            "target/release/examples/jobs", "cargo test --quiet --offline --lib && cargo test --quiet --offline --doc",
             "mkdir -p examples && cp first.rs examples/ && cargo run --release --quiet --offline --example first # first.rs",
             "cargo build --release --quiet --offline --example jobs"),
     Package("C", "c", "cc --version", "a C compiler as cc", ("ssikvd.h", r'^#define SSIKVD_VERSION "(.*)"$'), r"ssikvd\.c", "out/jobs",
@@ -278,51 +270,6 @@ def readme(package):
         expect(status == 0 and out == due, f"{name} ended with {status}, {out!r} {errors[-400:]!r}, due is {due!r}")
 
 
-# The example of a web service
-
-BUYERS, SOLD = 6, 10
-
-
-def judge_sales(answers):
-    """Each seat has one buyer, who has its 201; all others were told that buyer. An answer that was asked for again is the same."""
-    for seat in range(SOLD):
-        told = {text for (other, _), (_, text, _) in answers.items() if other == seat}
-        expect(len(told) == 1, f"the seat {seat} is sold to {told}")
-        winners = [buyer for (other, buyer), (status, _, _) in answers.items() if other == seat and status == 201]
-        expect(len(winners) == 1 and told == {f"buyer{winners[0]}\n"}, f"the seat {seat} is sold to {winners}, and {told} is told")
-    expect(all(again == (status, text) for status, text, again in answers.values()), "a request that was sent again got another reply")
-
-
-def service(package):
-    """Buyers ask for the same seats at once, each request twice with its key."""
-    answers = {}
-
-    def post(port, seat, buyer):
-        connection = http.client.HTTPConnection("127.0.0.1", port, timeout=PATIENCE)
-        with contextlib.closing(connection):
-            connection.request("POST", f"/seats/{seat}?buyer=buyer{buyer}", headers={"Idempotency-Key": f"{seat}-{buyer}"})
-            response = connection.getresponse()
-            return response.status, response.read().decode()
-
-    def buy(port, buyer):
-        for seat in range(SOLD):
-            answers[seat, buyer] = (*post(port, seat, buyer), post(port, seat, buyer))
-
-    with folder() as place, Server(fresh(place, 1_024)) as server:
-        process = package.process(f"{package.service} 127.0.0.1:{server.port} 0")
-        try:
-            port = int(process.stdout.readline().split()[1])
-            with concurrent.futures.ThreadPoolExecutor(BUYERS) as threads:
-                list(threads.map(lambda buyer: buy(port, buyer), range(BUYERS)))
-            judge_sales(answers)
-            server.kill()
-            found = post(port, 0, "late")
-            expect(found[0] == 503, f"without a store it answered {found}")
-        finally:
-            os.killpg(process.pid, signal.SIGKILL)
-            process.communicate()
-
-
 # A server that answers by a script
 
 CLOSE, SILENCE = object(), object()
@@ -490,10 +437,6 @@ def judges():
     for said, kept, times in ((right, stored[1:], 1), (right, stored + stored[:1], 1), (right, stored, 2), ({**right, (0, 0): False}, stored[1:], 1),
                               ({**right, (0, 7): True}, stored + [(b"blue:052", b"49 0 7")], 1)):
         expect(is_refused(judge_bookings, said, kept, times), f"{said} with {kept} was taken")
-    sales = {(seat, buyer): (409 if buyer else 201, "buyer0\n", (409 if buyer else 201, "buyer0\n")) for seat in range(SOLD) for buyer in range(2)}
-    judge_sales(sales)
-    for wrong_sale in ((201, "buyer1\n", (201, "buyer1\n")), (201, "buyer0\n", (201, "buyer0\n")), (409, "buyer0\n", (201, "buyer0\n"))):
-        expect(is_refused(judge_sales, {**sales, (0, 1): wrong_sale}), f"{wrong_sale} was taken")
     for out, asked in (("Lost\n", {"COMMIT": 2}), ("done\n", {"COMMIT": 1})):
         expect(is_refused(judge_script, out, collections.Counter(asked), "Lost", {"COMMIT": 1}), f"{out} with {asked} was taken")
     expect(code_lines('a\n\n# b\n"""c\nd\n"""\n // e\nf // g\n') == 2, "lines are counted in another way")
@@ -558,8 +501,6 @@ def parts_of(package, filled):
     yield "a walk", lambda: filled.walk(package)
     yield "errors", lambda: errors(package)
     yield "no server", lambda: no_server(package)
-    if package.service:
-        yield "the service", lambda: service(package)
     yield "the scripts", lambda: scripts(package)
     for part in (conflicts, cuts, kills) if is_long() else ():
         yield part.__name__, lambda part=part: part(package)
@@ -575,7 +516,7 @@ def play(package, filled):
     tally, begun = Tally(f"packages, {package.name}"), time.monotonic()
     with folder() as place:
         package.copy = os.path.join(place, "clients")
-        shutil.copytree(CLIENTS, package.copy, ignore=shutil.ignore_patterns("out", "__pycache__"))
+        shutil.copytree(CLIENTS, package.copy, ignore=shutil.ignore_patterns("out", "target", "__pycache__"))
         if package.build:
             with tally.run("build"):
                 expect_command(package, package.build)
