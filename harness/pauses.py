@@ -29,7 +29,7 @@ BOUNDS_MS = {
     "the end of that transaction": 28,
     "the COMMIT of one with 256 ranges and 64 writes, beside which everything was written again": 32,
     "the end of the younger of two old ones": 56,
-    "one key written again and again, while many lists of older versions are left": 1.2,
+    "one key written again and again, while many lists of older versions are left": 14,
     "a queue beside an old reader": 16,
     "half of the keys deleted, and ranges over them": 3,
     "256 ranges over a run that straddles the begin": 4,

@@ -260,11 +260,10 @@ fn mixed_runs_are_swept(rt: HostRuntime) {
         if at_once {
             committed.forget(39);
         }
-        let mut steps = 0;
-        while steps < 64 && committed.forget_step(39) {
-            steps += 1;
+        for _ in 0..64 {
+            committed.forget_step(39);
         }
-        assert!(rt; steps < 64 && committed.postings() <= 160);
+        assert!(rt; !committed.forget_step(39) && committed.postings() <= 160);
     }
 }
 
