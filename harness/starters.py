@@ -81,8 +81,8 @@ LANGUAGES = [
              "node examples/{name}.mjs"),
     Language("Go", "go", "go version", "Go (Debian's golang-go)", "out/{name}", "go build -o out/ ./examples/..."),
     Language("Java", "java", "javac --version", "a JDK", "java -cp out {Name}", "javac -d out src/main/java/ssikvd/*.java examples/*.java"),
-    Language("Rust", "rust", "cargo --version", "cargo (Debian's cargo)", "target/release/examples/{name}",
-             "cargo build --release --quiet --offline --examples"),
+    Language("Rust", "rust", "cargo --version", "cargo (Debian's cargo)", "target/debug/examples/{name}",
+             "cargo build --quiet --offline --examples"),
 ]
 
 

@@ -86,6 +86,7 @@ def create_app(store):
 
 
 def main():
+    """Serves the application to try it. A site gives `create_app` to a WSGI server with threads."""
     address, port = sys.argv[1:]
     with ssikvd.connect(address, connections=CONNECTIONS, connect_timeout=1, reply_timeout=DEADLINE, deadline=DEADLINE) as store:
         server = make_server("127.0.0.1", int(port), create_app(store), threaded=True)

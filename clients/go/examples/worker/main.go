@@ -8,13 +8,14 @@
 // Work outside the store is done at least once, and its result is written once. A lease is to be longer than the longest job: a worker that
 // is late has worked in vain. A job that ends each of its workers comes back each time; whoever minds counts the tries in its value.
 //
-// The store has no clock. Times are those of the machines of who puts and who takes, whose clocks may differ by far less than a lease.
-// Where they differ by more, jobs are taken too early, and their work is done twice, or too late. Even so no result is written twice: that
-// is decided by the job's key, and by no clock.
+// The store has no clock. Times are those of the machines that put and take jobs, and the premise is that their clocks differ by
+// far less than a lease. Where they differ by more, jobs are taken too late, or too early, so that their work is done twice. Even then no
+// result is written twice: that is decided by the job's key, which moves on each time it is taken, and by no clock.
 //
 // Keys: `job:DUE:ID` holds the work; the job may be taken from DUE on, in milliseconds since 1970 with 15 digits. Taking it moves it to the
 // end of the lease, and finishing it deletes it. `put:ID` and `done:ID` say that this came to pass, `done:ID` with the result; delete both
 // in one transaction, once nobody puts this ID again. `finished:NAME` counts for each worker, so that workers don't meet in one key.
+// A worker's name is its own: no two have the same.
 package main
 
 import (
