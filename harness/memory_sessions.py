@@ -16,6 +16,8 @@ PAIRS = 128
 OUTPUT_KEPT, REST = 65_536, 2_048
 # More than all that a session keeps, and less than the largest reply.
 LARGE = 1 << 20
+# A large reply leaves in parts, over several turns.
+MANY_TURNS = 30
 BEGIN, COMMIT, ABORT, PING = (frame(word) for word in ("BEGIN", "COMMIT", "ABORT", "PING"))
 LARGEST_RANGE = frame("RANGE", b"l", b"m", b"%d" % PAIRS)
 OK = b"+OK\r\n"
@@ -32,9 +34,9 @@ def fill(port):
             expect(client.ask(COMMIT)[:1] == b":", "COMMIT was refused")
 
 
-def held(refusals, client):
-    """What the process holds, once it has done all that came before."""
-    for _ in range(3):
+def held(refusals, client, turns=3):
+    """What the process holds, once it has done all that came before: these turns of the loop at least have passed then."""
+    for _ in range(turns):
         expect(client.ask(PING) == b"+PONG\r\n", "PING was not answered")
         time.sleep(0.02)
     return refusals.held()
@@ -81,28 +83,27 @@ def unread_reply_is_counted(tally, server, refusals):
     with Connection(server.port) as client, Connection(server.port, receive_buffer=4_096) as late, tally.run("a reply that isn't read"):
         first = held(refusals, client)
         late.send(BEGIN + LARGEST_RANGE * 8)
-        time.sleep(0.5)
-        kept = held(refusals, client) - first
+        kept = held(refusals, client, MANY_TURNS) - first
         expect(kept > bound(1), f"only {kept:,} bytes are held for it")
 
 
 def sending_asks_for_none(tally, server, refusals):
     """From when the last reply waits until all of it was sent, no memory is asked for, and its buffer is given back."""
     allocations = refusals.of(MEMORY)
-    with Connection(server.port, receive_buffer=4_096) as late, tally.run("a reply that is read late"):
+    with Connection(server.port) as client, Connection(server.port, receive_buffer=4_096) as late, tally.run("a reply that is read late"):
         late.send(BEGIN)
-        first, count = refusals.held(), 0
+        first, count = held(refusals, client), 0
         while refusals.held() - first < LARGE and count < 8:
             late.send(LARGEST_RANGE)
-            time.sleep(0.5)
+            held(refusals, client, MANY_TURNS)
             count += 1
         waiting, asked = refusals.held(), allocations.made
         expect(waiting - first >= LARGE, "no reply waits")
         sizes = [len(late.reply() or b"") for _ in range(1 + count)]
         expect(min(sizes[1:]) > PAIRS * VALUE_MAX, f"replies of {sizes} bytes")
-        time.sleep(0.5)
-        expect(waiting - refusals.held() >= LARGE, "the buffer of a reply that was sent is held still")
-        expect(allocations.made == asked, f"memory was asked for {allocations.made - asked} times while a reply was sent")
+        asked_since = allocations.made - asked
+        expect(waiting - held(refusals, client, MANY_TURNS) >= LARGE, "the buffer of a reply that was sent is held still")
+        expect(asked_since == 0, f"memory was asked for {asked_since} times while a reply was sent")
 
 
 def main():
