@@ -79,8 +79,10 @@ LANGUAGES = [
              "PYTHONPATH=src python3 examples/{name}.py"),
     Language("JavaScript", "javascript", "node -e 'process.exit(parseInt(process.versions.node) < 18 ? 1 : 0)'", "Node.js 18",
              "node examples/{name}.mjs"),
-    Language("Go", "go", "go version", "Go (Debian's golang-go)", "out/{name}", "go build -o out/ ./examples/seats ./examples/worker ./examples/ledger"),
-    Language("Java", "java", "javac --version", "a JDK", "java -cp out {Name}", "javac -d out src/main/java/ssikvd/*.java examples/{Seats,Worker,Ledger}.java"),
+    Language("Go", "go", "go version", "Go (Debian's golang-go)", "out/{name}",
+             "go build -o out/ ./examples/seats ./examples/worker ./examples/ledger"),
+    Language("Java", "java", "javac --version", "a JDK", "java -cp out {Name}",
+             "javac -d out src/main/java/ssikvd/*.java examples/{Seats,Worker,Ledger}.java"),
     Language("Rust", "rust", "cargo --version", "cargo (Debian's cargo)", "target/debug/examples/{name}",
              "cargo build --quiet --offline --example seats --example worker --example ledger"),
 ]
