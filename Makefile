@@ -23,7 +23,7 @@ COMMANDS = $(foreach file,$(wildcard dist/ssikvd-*),$(if $(findstring .,$(notdir
 MANUALS = man/ssikvd.1 man/ssikvd.5 man/ssikvd.7 $(wildcard $(COMMANDS:dist/%=man/%.8))
 NOTES = LICENSE NOTICE README.md CHANGELOG.md SECURITY.md $(wildcard docs/*.md docs/*.svg docs/pictures/*.svg) \
 	$(filter-out $(UNITS) $(COMMANDS),$(wildcard dist/*)) \
-	$(sort $(shell find examples clients -type f -not -path '*/__pycache__/*' -not -path '*/out/*'))
+	$(sort $(shell find examples clients -type f -not -path '*/__pycache__/*' -not -path '*/out/*' -not -path '*/target/*'))
 
 help:
 	@echo 'make build      proves and builds $(BUILT), with the kit'

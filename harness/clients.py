@@ -482,12 +482,35 @@ def redis_tools(tally):
             expect(status == 0 and "requests per second" in text, f"it ended with {status}, {text!r}")
 
 
+class Resending(over_redis.OverRedis if over_redis else object):
+    """As it is where redis-py sends a request again, which it does by default from 6.0 on."""
+
+    def __init__(self, port):
+        super().__init__(port)
+        self.redis = redis.Redis(port=port, single_connection_client=True, retry=redis.retry.Retry(redis.backoff.NoBackoff(), 3),
+                                 retry_on_error=[redis.ConnectionError])
+
+
+def commits_sent_once(tally):
+    """Over a proxy that cuts each COMMIT, `over_redis.py` sends one, and raises. With redis-py's retrying the proxy sees more."""
+    for kind in (over_redis.OverRedis, Resending):
+        with folder() as place, Server(fresh(place)) as server, contextlib.closing(Cutting(server.port, random.Random(5), 1.0)) as proxy:
+            with trial(tally, f"a COMMIT that is cut, {kind.__name__}"):
+                try:
+                    found = kind(proxy.own_port).transact(lambda store: store.ask("SET", "a", "1"))
+                except redis.RedisError as error:
+                    found = type(error)
+                is_once = found == redis.ConnectionError and proxy.cuts == 1
+                expect(is_once == (kind is over_redis.OverRedis), f"it sent {proxy.cuts} COMMITs and gave {found}")
+
+
 def redis_py(tally):
     if over_redis is None:
         missing("over_redis.py, and what redis-py meets", "redis-py (Debian's python3-redis)")
         return
     transfers(tally, over_redis.OverRedis, "over_redis.py")
     among_others(tally, over_redis.OverRedis, "over_redis.py")
+    commits_sent_once(tally)
     with folder() as place, Server(fresh(place)) as server:
         def value_of(key):
             return simple_client.Client(server.port).transact(lambda store: store.ask("GET", key))

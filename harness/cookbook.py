@@ -1,17 +1,15 @@
-"""The recipes of docs/COOKBOOK.md, which stand in examples/cookbook, against `serve` under conflicts.
+"""The recipes of docs/COOKBOOK.md, which stand among the examples of the client packages, against `serve` under conflicts.
 
-Each recipe is run by several clients at once, and a judge looks at what they leave. Each judge is also shown a wrong form of the recipe,
+Each recipe in Python is run by several clients at once, and a judge looks at what they leave. Each judge is also shown a wrong form of the recipe,
 and must see it: a range that is read in another transaction, an index without its deletion, a queue that deletes nothing. The code that
-the document shows must be that of the files. At last it prints how many tries a commit takes.
+the document shows must be that of the file. It prints how many tries a commit takes. Then recipe_calls.py runs the recipes of all languages.
 
-`quick` does less of each.
+`quick` does less of each. `links` writes the document's links to the lines of the recipes in the other languages.
 """
 import bisect
-import collections
 import concurrent.futures
 import contextlib
 import itertools
-import json
 import os
 import random
 import re
@@ -20,25 +18,15 @@ import threading
 import time
 
 from client import PATIENCE, PROGRAM, Deviation, Server, Tally, create, expect, folder, is_long, need, run_harness
-
-TOP = os.path.normpath(os.path.join(os.path.dirname(os.path.abspath(__file__)), ".."))
-sys.path[1:1] = [os.path.join(TOP, "examples", "cookbook"), os.path.join(TOP, "examples", "clients")]
-
-import batch                 # noqa: E402
-import counter               # noqa: E402
-import holds                 # noqa: E402
-import index                 # noqa: E402
-import jobs                  # noqa: E402
-import key_parts             # noqa: E402
-import reservations          # noqa: E402
-import simple_client         # noqa: E402
-import unique                # noqa: E402
-import walk                  # noqa: E402
+from recipe_judges import (
+    TOP, Client, booked, items_of, key, not_indexed, not_inverse, once, overlaps, recipes, simple_client, torn, under, walk, wrong_holds,
+    wrong_takes)
+import recipe_calls
 
 DOCUMENT = "docs/COOKBOOK.md"
 SECTORS = 262_144
 CLIENTS = 8
-key = key_parts.key
+RECIPES = "clients/python/examples/recipes.py"
 
 
 @contextlib.contextmanager
@@ -56,7 +44,7 @@ def trial(tally, what):
 
 def at_once(port, *works):
     """Runs each work in a transaction of its own, all of them begun before the first commits. What each gave; None where it was refused."""
-    clients = [simple_client.Client(port) for _ in works]
+    clients = [Client(port) for _ in works]
     for client in clients:
         client.ask("BEGIN")
     given = [work(client) for client, work in zip(clients, works)]
@@ -72,7 +60,7 @@ def is_committed(client):
     return True
 
 
-def crowd(port, play, count=CLIENTS, kind=simple_client.Client):
+def crowd(port, play, count=CLIENTS, kind=Client):
     """Runs play(client, number) in so many threads, each with a connection. What each gave."""
     def one(number):
         return play(kind(port), number)
@@ -81,19 +69,7 @@ def crowd(port, play, count=CLIENTS, kind=simple_client.Client):
         return list(pool.map(one, range(count), timeout=6 * PATIENCE))
 
 
-def once(port, work):
-    return simple_client.Client(port).transact(work)
-
-
-def under(*parts):
-    """A work that gives all pairs whose keys begin with these parts: the other parts, and the value."""
-    def work(store):
-        return [(key_parts.parts_of(found)[len(parts):], value) for found, value in walk.walk(store, key(*parts))]
-
-    return work
-
-
-class Counting(simple_client.Client):
+class Counting(Client):
     """A client that counts the COMMITs that it sends."""
 
     commits = 0
@@ -106,20 +82,13 @@ class Counting(simple_client.Client):
 # The document
 
 def in_document(text):
-    """Each block of Python in a document, with the file that the nearest link before it names."""
-    found, name = [], None
-    pieces = re.split(r"^```(\w*)\n", text, flags=re.M)
-    for kind, piece in zip(["", *pieces[1::2]], pieces[0::2]):
-        if kind == "python":
-            found.append((name, piece))
-        else:
-            name = next(iter(re.findall(r"\]\(\.\./(examples/[^)]*\.py)\)", piece)[::-1]), name)
-    return found
+    """The blocks of Python in a document."""
+    return re.findall(r"^```python\n(.*?)^```$", text, re.M | re.S)
 
 
 def of_other_code(text):
-    """The blocks of a document that are not to be found in the file that they name."""
-    return [block for name, block in in_document(text) if name is None or block not in read(name)]
+    """The blocks of a document that are not to be found in the recipes in Python."""
+    return [block for block in in_document(text) if block not in read(RECIPES)]
 
 
 def read(name):
@@ -130,11 +99,44 @@ def read(name):
 def document(tally):
     with tally.run("the code in the document"):
         text = read(DOCUMENT)
-        expect(not of_other_code(text), f"{DOCUMENT} has code that its file has not: {of_other_code(text)[:1]}")
-        expect(len(of_other_code(text.replace("store.ask", "store.asks"))) > 5, "code that was changed isn't seen")
-        files = {f"examples/cookbook/{name}" for name in os.listdir(os.path.join(TOP, "examples", "cookbook")) if name.endswith(".py")}
-        missing = files - {name for name, _ in in_document(text)}
-        expect(not missing, f"{DOCUMENT} shows nothing of {sorted(missing)}")
+        expect(not of_other_code(text), f"{DOCUMENT} has code that {RECIPES} has not: {of_other_code(text)[:1]}")
+        expect(len(of_other_code(text.replace("transaction.set", "transaction.sets"))) > 5, "code that was changed isn't seen")
+        parts = re.split(r"^# (.*)\n", read(RECIPES), flags=re.M)
+        for name, code in zip(parts[1::2], parts[2::2]):
+            name, is_shown = name.split(".")[0], any(block in code for block in in_document(text))
+            expect(name == "The calls" or is_shown and f"\n## {name}\n" in text, f"{DOCUMENT} shows nothing of {name!r}")
+        expect(text.count("\nThe same in [") == text.count("\n## "), "a recipe has no links to the other languages")
+        expect(with_links(text) == text, "the links to the recipes in other languages are others: `cookbook.py links` writes them")
+        expect(with_links(text.replace("#L", "#L1")) == text, "a link to another line isn't seen")
+
+
+def with_links(text):
+    """The document with the links to each recipe's line in the other languages."""
+    places = re.findall(r"^\| (\w+) \| \[[^]]*\]\((\.\./[^)]*)\)", text, re.M)[1:]
+
+    def links(name):
+        found = [f"[{language}]({place}#L{line_of(name, read(os.path.join('docs', place)))})" for language, place in places]
+        return f"The same in {', '.join(found[:-1])} and {found[-1]}."
+
+    parts = re.split(r"^(## .*\n)", text, flags=re.M)
+    for at in range(1, len(parts), 2):
+        parts[at + 1] = re.sub(r"^The same in \[.*\]\(.*\)\.$", lambda _, at=at: links(parts[at][3:-1]), parts[at + 1], flags=re.M)
+    return "".join(parts)
+
+
+def line_of(name, code):
+    """The number of the line with the comment that names the recipe."""
+    lines = [number for number, line in enumerate(code.splitlines(), 1) if re.match(rf" *// {name}\b", line)]
+    expect(len(lines) == 1, f"the recipe {name!r} stands at the lines {lines}")
+    return lines[0]
+
+
+def write_links():
+    with open(os.path.join(TOP, DOCUMENT), "r+", encoding="utf-8") as file:
+        text = with_links(file.read())
+        file.seek(0)
+        file.write(text)
+        file.truncate()
 
 
 # Keys
@@ -176,7 +178,7 @@ def keys(tally):
     lists = [random_parts(chance) for _ in range(20_000 if is_long() else 3_000)]
     with tally.run("keys of several parts"):
         for parts in lists:
-            expect(key_parts.parts_of(key(*parts)) == parts, f"{parts} come back as {key_parts.parts_of(key(*parts))}")
+            expect(recipes.parts_of(key(*parts)) == parts, f"{parts} come back as {recipes.parts_of(key(*parts))}")
         expect(not wrongly_ordered(key, lists), f"in the wrong order: {wrongly_ordered(key, lists)[:1]}")
         expect(wrongly_ordered(joined, [[9], [10], [2]]), "decimals in a wrong order aren't seen")
         prefixes = [parts for parts in lists[:300] if len(parts) < 3]
@@ -184,7 +186,7 @@ def keys(tally):
         expect(wrongly_found(joined, [[b"a", b"b"], [b"ab"]], [b"a"]), "a range that holds others isn't seen")
     with trial(tally, "keys of several parts in the store") as port:
         some = sorted({key(*parts) for parts in lists[:400]})
-        client = simple_client.Client(port)
+        client = Client(port)
         for at in range(0, len(some), 64):
             client.transact(lambda store: [store.ask("SET", it, b"") for it in some[at:at + 64]])
         expect([it for it, _ in client.transact(lambda store: list(walk.walk(store)))] == some, "the store has another order")
@@ -192,22 +194,13 @@ def keys(tally):
 
 # Reservations
 
-def overlaps(bookings):
-    """Neighbours of one room of which the second starts before the first ends, of (room, start, end)."""
-    return [pair for pair in itertools.pairwise(sorted(bookings)) if pair[0][0] == pair[1][0] and pair[1][1] < pair[0][2]]
-
-
-def booked(port):
-    return [(room, json.loads(value)[0], end) for (room, end), value in once(port, under("booking"))]
-
-
 def book(room, start, end):
-    return lambda store: reservations.book(store, room, start, end, "x") is None
+    return lambda store: recipes.book(store, room, start, end, "x") is None
 
 
 def write_alone(room, start, end):
     """The wrong form: that nobody has it was read in a transaction before this one."""
-    return lambda store: store.ask("SET", key("booking", room, end), json.dumps([start, "x"]))
+    return lambda store: store.ask("SET", key("booking", room, end), f"{start} x")
 
 
 TIMES = (("equal ends", (9, 11), (10, 11)), ("equal starts", (9, 10), (9, 12)), ("one within the other", (8, 15), (10, 11)),
@@ -225,7 +218,7 @@ def reservation(tally):
             expect(once(port, book("a", 12 if one[1] < 12 else 15, 20)), "what touches others was not booked")
             expect(not overlaps(booked(port)), f"double bookings: {overlaps(booked(port))}")
     with trial(tally, "the judge of bookings") as port:
-        expect(once(port, lambda store: reservations.holder(store, "a", 9, 12)) is None, "an empty room is held")
+        expect(once(port, lambda store: recipes.holder(store, "a", 9, 12)) is None, "an empty room is held")
         at_once(port, write_alone("a", 9, 11), write_alone("a", 10, 12))
         expect(overlaps(booked(port)), "two bookings without the range were not seen")
     right, sent = book_in_crowd(tally, True)
@@ -244,7 +237,7 @@ def book_in_crowd(tally, is_right):
             end = start + chance.randrange(1, 40)
             if is_right:
                 own += client.transact(book(room, start, end))
-            elif client.transact(lambda store: reservations.holder(store, room, start, end)) is None:
+            elif client.transact(lambda store: recipes.holder(store, room, start, end)) is None:
                 client.transact(write_alone(room, start, end))
         return own, client.commits
 
@@ -261,22 +254,13 @@ def book_in_crowd(tally, is_right):
 
 # A unique index, and an index of many
 
-def not_inverse(port):
-    """Users whose address isn't theirs, and addresses whose user has another."""
-    def both(store):
-        return under("user")(store), under("address")(store)
-
-    users, addresses = once(port, both)
-    return {(user, address) for (user,), address in users} ^ {(user, address) for (address,), user in addresses}
-
-
 def uniqueness(tally):
     with trial(tally, "one address for two users at once") as port:
-        found = at_once(port, lambda store: unique.register(store, b"ann", b"x"), lambda store: unique.register(store, b"bob", b"x"))
+        found = at_once(port, lambda store: recipes.register(store, "ann", "x"), lambda store: recipes.register(store, "bob", "x"))
         expect(found == [True, None], f"two users with one address: {found}")
-        expect(not once(port, lambda store: unique.register(store, b"bob", b"x")), "bob was given ann's address")
-        expect(once(port, lambda store: unique.register(store, b"ann", b"y")), "ann was refused another address")
-        expect(once(port, lambda store: unique.register(store, b"bob", b"x")), "bob was refused a free address")
+        expect(not once(port, lambda store: recipes.register(store, "bob", "x")), "bob was given ann's address")
+        expect(once(port, lambda store: recipes.register(store, "ann", "y")), "ann was refused another address")
+        expect(once(port, lambda store: recipes.register(store, "bob", "x")), "bob was refused a free address")
         expect(not not_inverse(port), f"the index is wrong: {not_inverse(port)}")
         once(port, lambda store: [store.ask("SET", key("address", b"y"), b"bob"), store.ask("SET", key("user", b"bob"), b"y")])
         expect(not_inverse(port), "an address of two users isn't seen")
@@ -284,23 +268,18 @@ def uniqueness(tally):
         def play(client, number):
             chance = random.Random(number)
             for _ in range(100 if is_long() else 15):
-                user, address = b"u%d" % chance.randrange(6), b"a%d" % chance.randrange(8)
-                client.transact(lambda store: unique.register(store, user, address))
+                user, address = f"u{chance.randrange(6)}", f"a{chance.randrange(8)}"
+                client.transact(lambda store: recipes.register(store, user, address))
 
         crowd(port, play)
         expect(not not_inverse(port), f"the index is wrong: {not_inverse(port)}")
 
 
-def not_indexed(store):
-    """What stands in the tasks or in their index, and not in both."""
-    return {(state, task) for (task,), state in under("task")(store)} ^ {(state, task) for (state, task), _ in under("by state")(store)}
-
-
 def indexes(tally):
     states = [b"waiting", b"running", b"done", b"wait\0ing"]
     with trial(tally, "the judge of indexes") as port:
-        once(port, lambda store: [index.put(store, b"t", state) for state in states])
-        expect(once(port, lambda store: [index.with_state(store, it) for it in states]) == [[], [], [], [b"t"]], "a task has two states")
+        once(port, lambda store: [recipes.put(store, b"t", state) for state in states])
+        expect(once(port, lambda store: [recipes.with_state(store, it) for it in states]) == [[], [], [], ["t"]], "a task has two states")
         once(port, lambda store: store.ask("SET", key("by state", b"done", b"t"), b""))
         expect(once(port, not_indexed), "an entry that was not deleted isn't seen")
     with trial(tally, "an index while others write") as port:
@@ -316,7 +295,7 @@ def indexes(tally):
                 return found
             for _ in range(100 if is_long() else 15):
                 task, state = b"%d" % chance.randrange(20), chance.choice(states)
-                client.transact(lambda store: index.put(store, task, state))
+                client.transact(lambda store: recipes.put(store, task, state))
             if number == 1:
                 is_done.set()
             return 0
@@ -327,32 +306,24 @@ def indexes(tally):
 
 # Holds
 
-def wrong_holds(store):
-    """What of the holds and their ends doesn't fit, and seats that are held and sold."""
-    held = {(seat, json.loads(value)[0]) for (seat,), value in under("hold")(store)}
-    ends = {(seat, end) for (end, seat), _ in under("ends")(store)}
-    sold = {seat for (seat,), _ in under("sold")(store)}
-    return (held ^ ends) | {(seat, end) for seat, end in held if seat in sold}
-
-
 def held_seats(tally):
     with trial(tally, "holds, step by step") as port:
         def do(work, *arguments):
             return once(port, lambda store: work(store, *arguments))
 
-        expect(do(holds.hold, "1", "ann", 100, 10) and not do(holds.hold, "1", "bob", 109, 10), "a held seat was held")
-        expect(not do(holds.buy, "1", "bob", 105) and not do(holds.buy, "1", "ann", 110), "one without a hold bought")
-        expect(do(holds.hold, "1", "bob", 110, 10), "a hold whose time was over was kept")
-        expect(do(holds.sweep, 119) == 0 and do(holds.buy, "1", "bob", 119), "a running hold was swept")
-        expect(not do(holds.hold, "1", "ann", 200, 10) and not do(wrong_holds), "a sold seat was held")
-        do(holds.hold, "2", "ann", 100, 10)
-        found = at_once(port, lambda store: holds.buy(store, "2", "ann", 105), lambda store: holds.sweep(store, 110))
+        expect(do(recipes.hold, "1", "ann", 100, 10) and not do(recipes.hold, "1", "bob", 109, 10), "a held seat was held")
+        expect(not do(recipes.buy, "1", "bob", 105) and not do(recipes.buy, "1", "ann", 110), "one without a hold bought")
+        expect(do(recipes.hold, "1", "bob", 110, 10), "a hold whose time was over was kept")
+        expect(do(recipes.sweep, 119) == 0 and do(recipes.buy, "1", "bob", 119), "a running hold was swept")
+        expect(not do(recipes.hold, "1", "ann", 200, 10) and not do(wrong_holds), "a sold seat was held")
+        do(recipes.hold, "2", "ann", 100, 10)
+        found = at_once(port, lambda store: recipes.buy(store, "2", "ann", 105), lambda store: recipes.sweep(store, 110))
         expect(found == [True, None], f"a purchase and a sweep at once gave {found}")
         for seat in range(70):
-            do(holds.hold, f"many {seat}", "ann", 100, seat % 3)
-        swept = [do(holds.sweep, 200) for _ in range(4)]
+            do(recipes.hold, f"many {seat}", "ann", 100, seat % 3)
+        swept = [do(recipes.sweep, 200) for _ in range(4)]
         expect(swept == [32, 32, 6, 0] and not do(wrong_holds), f"sweeps dropped {swept}")
-        do(holds.hold, "3", "ann", 100, 10)
+        do(recipes.hold, "3", "ann", 100, 10)
         do(lambda store: store.ask("DEL", key("hold", "3")))
         expect(do(wrong_holds), "a hold that went without its end isn't seen")
     with trial(tally, "holds of many clients") as port:
@@ -363,11 +334,11 @@ def held_seats(tally):
             for _ in range(100 if is_long() else 20):
                 seat, now, who = str(chance.randrange(12)), next(clock), str(number)
                 if number == 0:
-                    client.transact(lambda store: holds.sweep(store, now))
+                    client.transact(lambda store: recipes.sweep(store, now))
                     expect(not client.transact(wrong_holds), "holds and their ends don't fit")
-                elif client.transact(lambda store: holds.hold(store, seat, who, now, 12)):
+                elif client.transact(lambda store: recipes.hold(store, seat, who, now, 12)):
                     later = next(clock)
-                    bought += [seat] if client.transact(lambda store: holds.buy(store, seat, who, later)) else []
+                    bought += [seat] if client.transact(lambda store: recipes.buy(store, seat, who, later)) else []
             return bought
 
         bought = list(itertools.chain(*crowd(port, play)))
@@ -378,29 +349,24 @@ def held_seats(tally):
 
 # Jobs
 
-def wrong_takes(put, taken):
-    """Jobs that were taken twice, or not at all."""
-    return collections.Counter(put) - collections.Counter(taken) + (collections.Counter(taken) - collections.Counter(put))
-
-
 def queue(tally):
     with trial(tally, "a queue, step by step") as port:
         for number in range(5):
-            once(port, lambda store: jobs.put(store, b"%d" % number, number, 1))
-        expect(at_once(port, jobs.take, jobs.take) == [b"0", None], "two clients took the head")
-        puts = [lambda store, at=at: jobs.put(store, b"%d" % at, at, 1) or True for at in (5, 6)]
-        expect(at_once(port, *puts, jobs.take) == [True, True, b"1"], "puts and a take met")
-        found = [once(port, jobs.take) for _ in range(6)]
+            once(port, lambda store: recipes.enqueue(store, b"%d" % number, number, 1))
+        expect(at_once(port, recipes.take, recipes.take) == [b"0", None], "two clients took the head")
+        puts = [lambda store, at=at: recipes.enqueue(store, b"%d" % at, at, 1) or True for at in (5, 6)]
+        expect(at_once(port, *puts, recipes.take) == [True, True, b"1"], "puts and a take met")
+        found = [once(port, recipes.take) for _ in range(6)]
         expect(found == [b"2", b"3", b"4", b"5", b"6", None], f"they were taken as {found}")
-        expect(at_once(port, jobs.take, puts[0]) == [None, True], "a take from an empty queue and a put gave another reply")
+        expect(at_once(port, recipes.take, puts[0]) == [None, True], "a take from an empty queue and a put gave another reply")
 
         def put_behind(store):
             store.ask("GET", key("job", 5, 1))
-            jobs.put(store, b"7", 7, 1)
+            recipes.enqueue(store, b"7", 7, 1)
             return True
 
-        expect(at_once(port, jobs.take, put_behind) == [b"5", True], "a take marked more than the head")
-    for take in (jobs.take, "near", "kept"):
+        expect(at_once(port, recipes.take, put_behind) == [b"5", True], "a take marked more than the head")
+    for take in (recipes.take, "near", "kept"):
         jobs_in_crowd(tally, take)
 
 
@@ -410,15 +376,15 @@ def jobs_in_crowd(tally, take):
 
     def one(client):
         if take == "near":
-            return jobs.take_near(client, 4)
+            return recipes.take_near(client, 4)
         if take == "kept":
-            return client.transact(lambda store: (store.ask("RANGE", *key_parts.under("job"), 1) or [None, None])[1])
+            return client.transact(lambda store: (store.ask("RANGE", *recipes.under("job"), 1) or [None, None])[1])
         return client.transact(take)
 
     def play(client, number):
         if number < 4:
             for turn in range(count):
-                client.transact(lambda store: jobs.put(store, b"%d.%d" % (number, turn), time.time_ns(), number))
+                client.transact(lambda store: recipes.enqueue(store, b"%d.%d" % (number, turn), time.time_ns(), number))
             return []
         taken = []
         while len(taken) < 4 * count:
@@ -430,7 +396,7 @@ def jobs_in_crowd(tally, take):
 
     with trial(tally, f"jobs of many clients, {take}") as port:
         with concurrent.futures.ThreadPoolExecutor(8) as pool:
-            all_of_them = [pool.submit(play, simple_client.Client(port), number) for number in range(8)]
+            all_of_them = [pool.submit(play, Client(port), number) for number in range(8)]
             for future in all_of_them[:4]:
                 future.result(6 * PATIENCE)
             is_over.set()
@@ -444,14 +410,14 @@ def jobs_in_crowd(tally, take):
 def counters(tally):
     with trial(tally, "a counter, step by step") as port:
         place = key("hits")
-        expect(at_once(port, *[lambda store: counter.add(store, place) or True] * 2) == [True, None], "an addition was lost")
-        spread = [lambda store, number=number: counter.add(store, key("hits", number)) or True for number in range(5)]
+        expect(at_once(port, *[lambda store: recipes.add(store, place) or True] * 2) == [True, None], "an addition was lost")
+        spread = [lambda store, number=number: recipes.add(store, key("hits", number)) or True for number in range(5)]
         expect(at_once(port, *spread) == [True] * 5, "writers of keys of their own met")
-        expect(once(port, lambda store: counter.total(store, "hits")) == 6, "the sum is another")
+        expect(once(port, lambda store: recipes.total(store, "hits")) == 6, "the sum is another")
         read = [once(port, lambda store: int(store.ask("GET", place))) for _ in range(2)]
         for number in read:
             once(port, lambda store: store.ask("SET", place, number + 1))
-        expect(once(port, lambda store: counter.total(store, "hits")) != 8, "an addition that was lost isn't seen")
+        expect(once(port, lambda store: recipes.total(store, "hits")) != 8, "an addition that was lost isn't seen")
 
 
 def table(tally):
@@ -462,11 +428,11 @@ def table(tally):
             count = 1_600 // clients if is_long() else 12
             with trial(tally, f"{name}, {clients} clients") as port:
                 for at in range(0, clients * count if fill else 0, 64):
-                    once(port, lambda store: [jobs.put(store, b"", it, 0) for it in range(at, min(at + 64, clients * count))])
+                    once(port, lambda store: [recipes.enqueue(store, b"", it, 0) for it in range(at, min(at + 64, clients * count))])
                 begun = time.monotonic()
                 sent = sum(crowd(port, lambda client, number: commits_of(client, lambda: work(client, number), count), clients, Counting))
                 seconds = time.monotonic() - begun
-                left = once(port, lambda store: counter.total(store, "hits")) if not fill else clients * count - len(once(port, under("job")))
+                left = once(port, lambda store: recipes.total(store, "hits")) if not fill else clients * count - len(once(port, under("job")))
                 expect(left == clients * count, f"{left} were done, due are {clients * count}")
                 expect(sent >= left and (name != "a counter spread" or sent == left), f"{sent} COMMITs for {left}")
                 cells.append(f"{sent / left:.2f} ({left / seconds:,.0f}/s)")
@@ -474,10 +440,10 @@ def table(tally):
 
 
 WORKS = (
-    ("a counter in one key", False, lambda client, number: client.transact(lambda store: counter.add(store, key("hits")))),
-    ("a counter spread", False, lambda client, number: client.transact(lambda store: counter.add(store, key("hits", number)))),
-    ("the head of a queue", True, lambda client, number: client.transact(jobs.take)),
-    ("one of its first 16 jobs", True, lambda client, number: jobs.take_near(client, 16)))
+    ("a counter in one key", False, lambda client, number: client.transact(lambda store: recipes.add(store, key("hits")))),
+    ("a counter spread", False, lambda client, number: client.transact(lambda store: recipes.add(store, key("hits", number)))),
+    ("the head of a queue", True, lambda client, number: client.transact(recipes.take)),
+    ("one of its first 16 jobs", True, lambda client, number: recipes.take_near(client, 16)))
 
 
 def commits_of(client, work, count):
@@ -489,37 +455,28 @@ def commits_of(client, work, count):
 
 # Batches
 
-def items_of(version, count):
-    return [(b"%05d" % number, b"%d" % version) for number in range(count)]
-
-
-def torn(items, count):
-    """Isn't this a whole version?"""
-    return items != (items_of(int(items[0][1]), count) if items else [])
-
-
 def batches(tally):
     with trial(tally, "batches of all lengths") as port:
         for version, count in enumerate((1, 61, 62, 63, 64, 124, 125, 300), 1):
-            batch.load(simple_client.Client(port), "prices", version, items_of(version, count))
-            found = once(port, lambda store: batch.read(store, "prices"))
+            recipes.load(Client(port), "prices", version, items_of(version, count))
+            found = once(port, lambda store: recipes.read(store, "prices"))
             expect(found == items_of(version, count), f"of {count} items {len(found)} are read")
-        cleared = [once(port, lambda store: batch.clear(store, "prices")) for _ in range(9)]
+        cleared = [once(port, lambda store: recipes.clear(store, "prices")) for _ in range(9)]
         expect(cleared == [*[64] * 7, 52, 0], f"{cleared} items were cleared")
-        expect(once(port, lambda store: batch.read(store, "prices")) == items_of(8, 300), "the current version was cleared")
-        batch.load(simple_client.Client(port), "prices", 6, items_of(6, 124))
-        expect(once(port, lambda store: batch.current(store, "prices")) == 8, "an old version became the current one again")
+        expect(once(port, lambda store: recipes.read(store, "prices")) == items_of(8, 300), "the current version was cleared")
+        recipes.load(Client(port), "prices", 6, items_of(6, 124))
+        expect(once(port, lambda store: recipes.current(store, "prices")) == 8, "an old version became the current one again")
     with trial(tally, "batches that are broken off") as port:
-        batch.load(simple_client.Client(port), "prices", 1, items_of(1, 300))
+        recipes.load(Client(port), "prices", 1, items_of(1, 300))
         for steps in range(6):
             for _ in range(steps):
-                once(port, lambda store: batch.step(store, "prices", steps + 2, items_of(steps + 2, 300)))
-            found = once(port, lambda store: batch.read(store, "prices"))
+                once(port, lambda store: recipes.step(store, "prices", steps + 2, items_of(steps + 2, 300)))
+            found = once(port, lambda store: recipes.read(store, "prices"))
             expect(found == items_of(steps + 2 if steps == 5 else steps + 1, 300), f"behind {steps} steps {len(found)} items are read")
-            batch.load(simple_client.Client(port), "prices", steps + 2, items_of(steps + 2, 300))
-            expect(once(port, lambda store: batch.read(store, "prices")) == items_of(steps + 2, 300), "it did not go on")
+            recipes.load(Client(port), "prices", steps + 2, items_of(steps + 2, 300))
+            expect(once(port, lambda store: recipes.read(store, "prices")) == items_of(steps + 2, 300), "it did not go on")
         once(port, lambda store: store.ask("SET", key("item", "prices", 7, b"00123"), b"6"))
-        expect(torn(once(port, lambda store: batch.read(store, "prices")), 300), "a version of two batches isn't seen")
+        expect(torn(once(port, lambda store: recipes.read(store, "prices")), 300), "a version of two batches isn't seen")
     batches_in_crowd(tally)
 
 
@@ -530,19 +487,19 @@ def batches_in_crowd(tally):
     def play(client, number):
         looks = 0
         while number > 1 and not (is_done.is_set() and looks):
-            items = client.transact(lambda store: batch.read(store, "prices"))
+            items = client.transact(lambda store: recipes.read(store, "prices"))
             expect(not torn(items, count), f"a reader found {len(items)} items that are no version")
             looks += 1
         for version in range(1, versions + 1) if number <= 1 else ():
-            batch.load(client, "prices", version, items_of(version, count))
-            while client.transact(lambda store: batch.clear(store, "prices")):
+            recipes.load(client, "prices", version, items_of(version, count))
+            while client.transact(lambda store: recipes.clear(store, "prices")):
                 pass
         if number <= 1:
             is_done.set()
 
     with trial(tally, "batches while others read") as port:
         crowd(port, play, 4)
-        expect(once(port, lambda store: batch.read(store, "prices")) == items_of(versions, count), "the last version isn't there")
+        expect(once(port, lambda store: recipes.read(store, "prices")) == items_of(versions, count), "the last version isn't there")
         left = once(port, under("item", "prices"))
         expect(len(left) == count, f"{len(left)} items are left, of which {count} are current")
 
@@ -556,16 +513,16 @@ def batches_over_kills(tally):
             is_whole = False
             while not is_whole:
                 with Server(data) as server:
-                    items = once(server.port, lambda store: batch.read(store, "prices"))
+                    items = once(server.port, lambda store: recipes.read(store, "prices"))
                     expect(not torn(items, 2_000), f"behind a kill there are {len(items)} items that are no version")
                     threading.Timer(chance.uniform(0, 0.05), server.process.kill).start()
                     with contextlib.suppress(simple_client.Lost, ConnectionError):
-                        batch.load(simple_client.Client(server.port), "prices", version, items_of(version, 2_000))
+                        recipes.load(Client(server.port), "prices", version, items_of(version, 2_000))
                         is_whole = True
                     server.process.wait(PATIENCE)
                     kills += 1
         with Server(data) as server:
-            expect(once(server.port, lambda store: batch.read(store, "prices")) == items_of(12, 2_000), "the last version isn't there")
+            expect(once(server.port, lambda store: recipes.read(store, "prices")) == items_of(12, 2_000), "the last version isn't there")
         print(f"  batches over kills: {kills} kills", flush=True)
 
 
@@ -573,20 +530,24 @@ def longest(tally):
     """The longest list that one transaction reads, and one item more."""
     with trial(tally, "the longest list") as port:
         for version, count in ((1, 32_639), (2, 32_640)):
-            batch.load(simple_client.Client(port), "prices", version, items_of(version, count))
+            recipes.load(Client(port), "prices", version, items_of(version, count))
             try:
-                found = len(once(port, lambda store: batch.read(store, "prices")))
+                found = len(once(port, lambda store: recipes.read(store, "prices")))
             except simple_client.Refused as refusal:
                 found = str(refusal)
             expect(found == (count if version == 1 else "FULL marks"), f"a list of {count} items was answered {found}")
 
 
 def main():
+    if "links" in sys.argv[1:]:
+        write_links()
+        return 0
     need(PROGRAM)
     tally = Tally("cookbook")
     parts = (document, keys, reservation, uniqueness, indexes, held_seats, queue, counters, table, batches)
     for part in (*parts, longest, batches_over_kills) if is_long() else parts:
         part(tally)
+    recipe_calls.in_languages(tally)
     return 0 if tally.end() else 1
 
 

@@ -317,8 +317,9 @@ def in_pieces(reply):
 
 
 FULL, PIVOT = refusal("FULL transactions"), refusal("CONFLICT pivot 7")
-SET, ONCE = "set a b 0 0.5", "once a 0 0.5"
-PATIENT_SET, PATIENT_ONCE = "set a b 10 0.5", "once a 10 0.5"
+SET, ONCE = "set a b 0 10", "once a 0 10"
+PATIENT_SET, PATIENT_ONCE = "set a b 30 10", "once a 30 10"
+SHORT_SET = "set a b 30 1"    # where a reply never comes
 # What is scripted, the job, the answers by name, what the job prints, and how often each name is asked.
 SCRIPTS = [
     ("the usual", SET, {}, "done", {"PING": 1, "BEGIN": 1, "SET": 1, "COMMIT": 1}),
@@ -335,14 +336,14 @@ SCRIPTS = [
     ("a refusal amid it", PATIENT_SET, {"SET": [refusal("ERR key")]}, "Refused ERR key", {"BEGIN": 1, "SET": 1, "ABORT": 1, "COMMIT": 0}),
     ("no room for a write", PATIENT_SET, {"SET": [refusal("FULL writes")]}, "Full writes", {"ABORT": 1, "COMMIT": 0}),
     ("a COMMIT that is cut", PATIENT_SET, {"COMMIT": [CLOSE]}, "Lost", {"BEGIN": 1, "COMMIT": 1}),
-    ("a COMMIT without a reply", PATIENT_SET, {"COMMIT": [SILENCE]}, "Lost", {"BEGIN": 1, "COMMIT": 1}),
-    ("half a reply to COMMIT", PATIENT_SET, {"COMMIT": [[b":1"]]}, "Lost", {"COMMIT": 1}),
+    ("a COMMIT without a reply", SHORT_SET, {"COMMIT": [SILENCE]}, "Lost", {"BEGIN": 1, "COMMIT": 1}),
+    ("half a reply to COMMIT", SHORT_SET, {"COMMIT": [[b":1"]]}, "Lost", {"COMMIT": 1}),
     ("a reply that is none", SET, {"SET": [b"?\r\n"]}, "Unreachable", {"SET": 1, "COMMIT": 0}),
     ("cut at BEGIN", SET, {"BEGIN": [CLOSE]}, "Unreachable", {"BEGIN": 1, "SET": 0}),
     ("cut at BEGIN once", PATIENT_SET, {"BEGIN": [CLOSE, OK]}, "done", {"BEGIN": 2, "COMMIT": 1}),
     ("cut at SET once", PATIENT_SET, {"SET": [CLOSE, OK]}, "done", {"BEGIN": 2, "SET": 2, "COMMIT": 1}),
-    ("no reply to SET once", PATIENT_SET, {"SET": [SILENCE, OK]}, "done", {"BEGIN": 2, "SET": 2, "COMMIT": 1, "ABORT": 0}),
-    ("no reply to PING", PATIENT_SET, {"PING": [SILENCE]}, "Unreachable", {"PING": 1, "BEGIN": 0}),
+    ("no reply to SET once", SHORT_SET, {"SET": [SILENCE, OK]}, "done", {"BEGIN": 2, "SET": 2, "COMMIT": 1, "ABORT": 0}),
+    ("no reply to PING", SHORT_SET, {"PING": [SILENCE]}, "Unreachable", {"PING": 1, "BEGIN": 0}),
     ("cut at PING", PATIENT_SET, {"PING": [CLOSE]}, "Unreachable", {"PING": 1, "BEGIN": 0}),
     ("once", ONCE, {}, "made", {"GET": 1, "SET": 1, "COMMIT": 1}),
     ("once, done before", ONCE, {"GET": [bulk(b"before")]}, "before", {"GET": 1, "SET": 0, "COMMIT": 1}),

@@ -34,6 +34,7 @@ NUMBER = re.compile(rb":(\d+)\r\n")
 WHOLE = "BEGIN\nSET a 1\nCOMMIT\n"
 LAST_REPLY, ALL_REPLIES, CONFLICT = range(3)
 COLUMNS = 7
+TRIED = re.compile(r"(\S+) \d+(?:\.\d+)+")    # a library with its version; a row of any other isn't compared
 ARRIVALS = {"raised": "exception", "dies": "exception", "rejects": "exception", "error": "error", "reply of type error": "error reply",
             "gave false": "`false`", 'gave "': "string"}
 
@@ -111,10 +112,10 @@ def arrival(line):
 
 
 def rows():
-    """The rows of the document's table of libraries: the cells behind the name, by the name without its version."""
+    """The rows of the document's table of libraries that were tried: the cells behind the name, by the name without its version."""
     with open(DOCUMENT, encoding="utf-8") as file:
         cells = [[cell.strip() for cell in line.split("|")[1:-1]] for line in file if line.startswith("|")]
-    return {row[0].split(" ")[0]: row[1:] for row in cells if len(row) == COLUMNS}
+    return {TRIED.fullmatch(row[0])[1]: row[1:] for row in cells if len(row) == COLUMNS and TRIED.fullmatch(row[0])}
 
 
 def compare(tally, library, row):

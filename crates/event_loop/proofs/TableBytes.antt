@@ -4,8 +4,8 @@ use Rattle.stream_driver.specs.{declared.answers.Progress.Progress, declared.ans
 use Rattle.event_loop.proofs.{Entries.no_entry, Polled.gone_as, Polled.gone_at_end, Polled.was_driven, Polled.was_polled}
 
 -- a drive keeps the number of a stream's connection
-why_same : (s : ℕ) (last : HubState) (before after : Traffic) (served sent : ℕ) (answer : Progress) → Why s last before after served sent answer → after.connection ≡ before.connection
-why_same s last before after served sent answer why = grind arith
+why_same : (s : ℕ) (last : HubState) (before after : Traffic) (served : ℕ) (answer : Progress) → Why s last before after served answer → after.connection ≡ before.connection
+why_same s last before after served answer why = grind arith
 
 -- each entry that isn't gone has its own session
 abbrev AreOwn : {T : Type 0} → Slots T → Type 0
@@ -16,7 +16,7 @@ module _ {T : Type 0} (tells : Type 0) (traffic : T → Traffic) where
   -- ---- one entry is driven
 
   same_numbers : (state : EntryState) (earlier : Point) (old : Entry T) (later : Point) (new : Entry T) → DrivenIn tells traffic state earlier old later new → (new.session ≡ old.session) × ((traffic new.stream).connection ≡ (traffic old.stream).connection)
-  same_numbers Ready earlier old later new d = (d.session, why_same old.session d.drove.last.hub (traffic old.stream) (traffic new.stream) _ _ d.answer d.drove.why)
+  same_numbers Ready earlier old later new d = (d.session, why_same old.session d.drove.last.hub (traffic old.stream) (traffic new.stream) _ d.answer d.drove.why)
   same_numbers _ earlier old later new d = (ap (λ (x : Entry T). x.session) d.0, ap (λ (x : Entry T). (traffic x.stream).connection) d.0)
 
   -- it was not gone before

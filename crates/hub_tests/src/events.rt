@@ -127,7 +127,8 @@ fn expect_values<R: Abort + AllocGlobal>(rt: &R, store: &mut Pieces, a: usize, b
 /// Replies of 536 bytes, for which a session keeps the room, of one byte more, and of the longest values, each with a short one behind it.
 #[test]
 fn replies_around_the_kept_room(rt: HostRuntime) {
-    let mut store = Pieces::new(new_hub(&rt, 4096), FRAME_MAX);
+    let hub = new_hub(rt.alloc(), 4096).expect(&rt, "a hub");
+    let mut store = Pieces::new(hub, FRAME_MAX);
     expect(&rt, &mut store, "1 BEGIN", "+OK");
     for (a, b) in [
         (528usize, 1usize),

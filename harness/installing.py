@@ -468,7 +468,7 @@ def install_package(tally, place, deb, test):
 
 def main():
     need(PROGRAM)
-    tally = Tally("packaging")
+    tally = Tally("installing")
     for part in (first_manual, other_manuals, manuals_of_tools, man_lints, help_examples, completions, versions, quick_start):
         part(tally)
     with folder() as place:
