@@ -16,6 +16,7 @@ import re
 import shutil
 import signal
 import subprocess
+import threading
 import time
 
 from client import HERE, PATIENCE, PROGRAM, Connection, Deviation, Server, Tally, expect, folder, is_long, need, run_harness
@@ -76,6 +77,7 @@ class Proxy(Cutting):
     def __init__(self, port, share):
         super().__init__(port, random.Random(7), share)
         self.firsts, self.names, self.refusals = set(), collections.Counter(), collections.Counter()
+        self.counting = threading.Lock()
 
     def _carry(self, client):
         with contextlib.suppress(OSError, Deviation), client, Connection(self.port) as server:
@@ -99,9 +101,10 @@ class Proxy(Cutting):
 
     def _pass_on(self, name, request, before, client, server):
         """Passes on a request and its reply. Is the connection still whole? A transaction that only reads one key is left alone."""
-        self.names[name] += 1
         is_cut = name == b"COMMIT" and before == b"SET" and self.chance.random() < self.share
-        self.cuts += is_cut
+        with self.counting:
+            self.names[name] += 1
+            self.cuts += is_cut
         if is_cut and self.chance.random() < 0.3:
             return False
         server.send(request)
@@ -110,7 +113,8 @@ class Proxy(Cutting):
         reply = server.reply()
         if is_cut or reply is None:
             return False
-        self.refusals[reply] += reply[:1] == b"-"
+        with self.counting:
+            self.refusals[reply] += reply[:1] == b"-"
         client.sendall(reply)
         return not (name == before == b"GET" and self.chance.random() < self.share / 3)
 

@@ -79,10 +79,12 @@ LANGUAGES = [
              "PYTHONPATH=src python3 examples/{name}.py"),
     Language("JavaScript", "javascript", "node -e 'process.exit(parseInt(process.versions.node) < 18 ? 1 : 0)'", "Node.js 18",
              "node examples/{name}.mjs"),
-    Language("Go", "go", "go version", "Go (Debian's golang-go)", "out/{name}", "go build -o out/ ./examples/..."),
-    Language("Java", "java", "javac --version", "a JDK", "java -cp out {Name}", "javac -d out src/main/java/ssikvd/*.java examples/*.java"),
+    Language("Go", "go", "go version", "Go (Debian's golang-go)", "out/{name}",
+             "go build -o out/ ./examples/seats ./examples/worker ./examples/ledger"),
+    Language("Java", "java", "javac --version", "a JDK", "java -cp out {Name}",
+             "javac -d out src/main/java/ssikvd/*.java examples/{Seats,Worker,Ledger}.java"),
     Language("Rust", "rust", "cargo --version", "cargo (Debian's cargo)", "target/debug/examples/{name}",
-             "cargo build --quiet --offline --examples"),
+             "cargo build --quiet --offline --example seats --example worker --example ledger"),
 ]
 
 
@@ -583,27 +585,29 @@ WRONG = [
 ]
 
 
-def wrong(language, place, file_name, right, instead, part):
-    """A wrong form of the program, which the run must find."""
-    other = language.of(place)
-    path = os.path.join(place, language.place, "examples", file_name)
+def wrong(language, file_name, right, instead, part):
+    """A wrong form of the program, which the run must find. It stands in the place of the right one until then."""
+    path = os.path.join(language.copy, language.place, "examples", file_name)
     with open(path, encoding="utf-8") as file:
         text = file.read()
     expect(text.count(right) == 1, f"{right!r} stands {text.count(right)} times in {file_name}")
+    try:
+        write(path, text.replace(right, instead))
+        build(language)
+        expect(any(is_refused(part, language) for _ in range(3)), f"{part.__name__} doesn't find {instead or 'that it lacks'} {right!r}")
+    finally:
+        write(path, text)
+
+
+def write(path, text):
     with open(path, "w", encoding="utf-8") as file:
-        file.write(text.replace(right, instead))
-    build(other)
-    expect(any(is_refused(part, other) for _ in range(3)), f"{part.__name__} doesn't find {instead or 'that it lacks'} {right!r}")
+        file.write(text)
 
 
 def wrong_forms(language):
-    """All wrong forms of a language's programs."""
-    found = []
-    for name, *form in WRONG:
-        if name == language.name:
-            with folder() as place:
-                found.append(judged(language, f"wrong: {form[0]}", lambda: wrong(language, place, *form)))
-    return found
+    """All wrong forms of a language's programs, one after another."""
+    return [judged(language, f"wrong: {file_name}", lambda: wrong(language, file_name, *form))
+            for name, file_name, *form in WRONG if name == language.name]
 
 
 # All languages at once

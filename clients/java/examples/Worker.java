@@ -25,8 +25,7 @@ import ssikvd.Transaction;
  * <p>Keys: {@code job:DUE:ID} holds the work; the job may be taken from DUE on, in milliseconds since 1970 with 15 digits. Taking it moves
  * it to the end of the lease, and finishing it deletes it. {@code put:ID} and {@code done:ID} say that this came to pass, {@code done:ID}
  * with the result; delete both in one transaction, once nobody puts this ID again. {@code finished:NAME} counts for each worker, so that
- * workers don't meet in one key.
- * A worker's name is its own: no two have the same.
+ * workers don't meet in one key. A worker's name is its own: no two have the same.
  */
 public class Worker {
     private static final long PAUSE_MIN = 10;

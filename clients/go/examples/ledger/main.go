@@ -62,7 +62,7 @@ func transferOf(words []string) (transfer, bool) {
 }
 
 // asked is the transfer without its ID, as it is kept with the answer.
-func (of transfer) asked() string { return fmt.Sprint(of.source, " ", of.target, " ", of.amount) }
+func (of transfer) asked() string { return fmt.Sprintf("%s %s %d", of.source, of.target, of.amount) }
 
 // balanceOf gives the balance, and how many entries there are; zero of both for an account that nobody has used.
 func balanceOf(t *ssikvd.Transaction, account string) (balance, entries int64, err error) {
@@ -80,10 +80,11 @@ func post(t *ssikvd.Transaction, account string, amount int64, id, other string)
 	if err != nil {
 		return err
 	}
-	if err := t.Set("account:"+account, []byte(fmt.Sprint(balance+amount, entries+1))); err != nil {
+	if err := t.Set("account:"+account, []byte(fmt.Sprintf("%d %d", balance+amount, entries+1))); err != nil {
 		return err
 	}
-	return t.Set(fmt.Sprintf("entry:%s:%010d", account, entries+1), []byte(fmt.Sprint(amount, " ", balance+amount, " ", id, " ", other)))
+	entry := fmt.Sprintf("%d %d %s %s", amount, balance+amount, id, other)
+	return t.Set(fmt.Sprintf("entry:%s:%010d", account, entries+1), []byte(entry))
 }
 
 // move makes both entries, unless the source has less. It gives the answer, and what was asked.
