@@ -613,7 +613,7 @@ def wrong_forms(language):
 # All languages at once
 
 def build(language):
-    found = shell(language.build or "true", os.path.join(language.copy, language.place))
+    found = shell(language.build or "true", os.path.join(language.copy, language.place), 15 * PATIENCE)
     expect(found[0] == 0, f"{language.build} ended with {found[0]}: {(found[1] + found[2])[-600:]}")
 
 
