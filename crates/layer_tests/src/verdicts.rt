@@ -246,6 +246,12 @@ fn old_runs_go_in_steps(rt: HostRuntime) {
     assert!(rt; !committed.forget_step(last) && !committed.forget_step(last));
 }
 
+// Forgets, a step of it, what is in reach. Whether more is due.
+fn forget_step<R: Abort>(rt: &R, committed: &mut Committed, oldest: u64) -> bool {
+    assert!(rt; oldest <= committed.last());
+    committed.forget_step(oldest)
+}
+
 /// Of 40 transactions that wrote 64 keys each the keys of the last are left, and those that a merge had moved, once the others are
 /// forgotten: at once, or in steps, of which a look at all keys takes some.
 #[test]
@@ -261,9 +267,9 @@ fn mixed_runs_are_swept(rt: HostRuntime) {
             committed.forget(39);
         }
         for _ in 0..64 {
-            committed.forget_step(39);
+            forget_step(&rt, &mut committed, 39);
         }
-        assert!(rt; !committed.forget_step(39) && committed.postings() <= 160);
+        assert!(rt; !forget_step(&rt, &mut committed, 39) && committed.postings() <= 160);
     }
 }
 
