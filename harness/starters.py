@@ -324,7 +324,7 @@ def judge_seats(said, stored, wanted):
 
 # Jobs
 
-LEASE, LONG = 3_000, 2_500    # of a worker, and the work of a job that one holds; both in milliseconds
+LEASE, LONG = 6_000, 4_000    # of a worker, and the work of a job that one holds; both in milliseconds
 
 
 def jobs(language):
@@ -378,7 +378,10 @@ def judge_jobs(lines, ids, done, finished, left):
     expect(len(took) <= len(ids) + 2 + len(ids) // 4, f"{len(took)} times a job was taken, for {len(ids)}")    # two at least twice
     owners = {job: result.removeprefix("done by ") for job, result in done.items()}
     expect(all((worker, job) in took for job, worker in owners.items()), "a job was done by a worker that didn't take it")
-    wrong = [job for worker, what, job in lines if what == "did" and owners[job] != worker or what == "late" and owners[job] == worker]
+    did = {(worker, job) for worker, what, job in lines if what == "did"}
+    wrong = [job for worker, job in did if owners[job] != worker]
+    # One that was late may have taken the job again, and done it then.
+    wrong += [job for worker, what, job in lines if what == "late" and owners[job] == worker and (worker, job) not in did]
     expect(not wrong, f"{wrong} were done by others than those who say so")
 
 
