@@ -1,4 +1,5 @@
-"""`ssikvd-restore`: what it refuses before anything is stopped, what it leaves, and what a kill or a loss of power leaves at each step.
+"""`ssikvd-restore`: what it refuses before anything is stopped, what it leaves, and what a kill or a loss of power leaves at each step. And the
+copies of before that `ssikvd-ship` keeps, with its kills, its metrics and the links that it refuses.
 
 A sparse copy is put in the place of a served file: each sector of the new one has its place, owner and mode are as before, the file of before
 is kept, and the server serves the copy's map. Then the tool is killed before and after each of its calls: the data file is the old or the new one, byte by
@@ -26,7 +27,7 @@ from operation_tools import DIST, ENVIRONMENT, commit, fill, loaded, log_of, map
 SECTORS = 256
 OWNER = (0o640, 12_345 if os.getuid() == 0 else os.getuid(), 12_346 if os.getuid() == 0 else os.getgid())
 FILES = {"data", "data.before-restore", "data.lock"}
-CALLS = ("open", "posix_fallocate", "pwrite", "fchown", "fchmod", "fsync", "link", "rename", "unlink")
+CALLS = ("open", "posix_fallocate", "pwrite", "fchown", "fchmod", "fsync", "link", "rename", "unlink", "remove", "truncate", "utime")
 
 
 def read(name):
@@ -125,7 +126,8 @@ def with_calls(script, calls):
     """The tool of this file, whose calls are these."""
     module = loaded(script)
     module.os = calls
-    module.run_command = calls.counted("command", module.run_command)
+    if hasattr(module, "run_command"):
+        module.run_command = calls.counted("command", module.run_command)
     return module
 
 
@@ -146,13 +148,13 @@ def main_of(module, words):
     return status, out.getvalue(), err.getvalue()
 
 
-def killed(script, case, number, is_after):
+def killed(script, words, number, is_after):
     """A run in a process of its own, killed at this call: the signal that ended it, or 0."""
     process = os.fork()
     if process == 0:
         status = 1
         try:
-            status = main_of(with_calls(script, Calls(number, is_after)), case.words)[0]
+            status = main_of(with_calls(script, Calls(number, is_after)), words)[0]
         finally:
             os._exit(status)
     return os.WTERMSIG(os.waitpid(process, 0)[1])
@@ -161,7 +163,7 @@ def killed(script, case, number, is_after):
 def judge_kill(files, script, number, is_after, serves):
     """One kill, what it leaves, and a run after it."""
     with files.case() as case:
-        expect(killed(script, case, number, is_after) == signal.SIGKILL, "it was not killed")
+        expect(killed(script, case.words, number, is_after) == signal.SIGKILL, "it was not killed")
         found = names(case)
         own = {name for name in found if name.startswith("data.restoring-")}
         expect("data" in found and found <= FILES | own and len(own) <= 1, f"a kill leaves {sorted(found)}")
@@ -449,6 +451,106 @@ def again(tally, files):
         expect((stat.S_IMODE(now.st_mode), now.st_uid) == (0o600, like.st_uid), f"mode and owner are {oct(now.st_mode), now.st_uid}")
 
 
+# The copies that ssikvd-ship keeps
+
+class Copies:
+    """Data files that are different logs, of which each ends the copy of the one before, and the copy's folder."""
+
+    COUNT = 5
+
+    def __init__(self, place):
+        self.data = [os.path.join(place, f"data{number}") for number in range(self.COUNT)]
+        for number, name in enumerate(self.data):
+            fill(name, 3 + number, 64 + number)
+        self.bytes = [read(name) for name in self.data]
+
+    @contextlib.contextmanager
+    def shipped(self, count, keep):
+        """A copy of the first so many, one after another."""
+        with folder() as place:
+            copy = os.path.join(place, "copy")
+            for name in self.data[:count]:
+                found = tool("ssikvd-ship", "--keep", str(keep), name, copy)
+                expect(found[0] == 0 and found[1].endswith(", a new copy\n"), f"it answered {found}")
+            yield copy
+
+    def kept(self, copy):
+        """Which of the data files the copy and those of before are, by their names."""
+        return {name: self.bytes.index(read(os.path.join(os.path.dirname(copy), name)))
+                for name in os.listdir(os.path.dirname(copy)) if name != "copy.lock"}
+
+
+def keeping(tally, copies):
+    due = {0: {"copy": 4}, 1: {"copy": 4, "copy.old": 3}, 3: {"copy": 4, "copy.old": 3, "copy.old.2": 2, "copy.old.3": 1}}
+    for keep, names_due in due.items():
+        with tally.run(f"--keep {keep}"), copies.shipped(copies.COUNT, keep) as copy:
+            expect(copies.kept(copy) == names_due, f"it keeps {copies.kept(copy)}")
+    with tally.run("fewer than before"), copies.shipped(4, 3) as copy:
+        found = tool("ssikvd-ship", copies.data[4], copy)
+        expect(found[0] == 0 and copies.kept(copy) == due[1], f"it answered {found}, and keeps {copies.kept(copy)}")
+    with tally.run("none fewer than none"):
+        expect(tool("ssikvd-ship", "--keep", "-1", copies.data[0], "copy")[0] == 2, "it was taken")
+    with copies.shipped(3, 2) as copy:
+        calls = Calls()
+        found = main_of(with_calls("ssikvd-ship", calls), ["--keep", "2", copies.data[3], copy])
+        with tally.run("the calls of a run"):
+            expect(found[0] == 0 and len(calls.made) > 10, f"it answered {found}")
+    for number, name in enumerate(calls.made, 1):
+        for is_after in (False, True) if is_long() else (True,) if name in ("link", "rename", "remove") else ():
+            with tally.run(f"ssikvd-ship killed {'after' if is_after else 'before'} call {number}, {name}"):
+                judge_killed_ship(copies, number, is_after)
+
+
+def judge_killed_ship(copies, number, is_after):
+    """A run that begins a new copy is killed: the copy stands whole, and of those of before the last alone may go. Run again, it goes on."""
+    with copies.shipped(3, 2) as copy:
+        words = ["--keep", "2", copies.data[3], copy]
+        expect(killed("ssikvd-ship", words, number, is_after) == signal.SIGKILL, "it was not killed")
+        found = {name: read(os.path.join(os.path.dirname(copy), name)) for name in os.listdir(os.path.dirname(copy)) if name != "copy.new"}
+        expect(found["copy"] in copies.bytes[2:4], "the copy is neither that of before nor the new one")
+        expect(all(content in found.values() for content in copies.bytes[1:3]), f"one of before is gone: {sorted(found)}")
+        found = tool("ssikvd-ship", *words)
+        expect(found[0] == 0, f"run again it answered {found}")
+        expect(copies.kept(copy) == {"copy": 3, "copy.old": 2, "copy.old.2": 1}, f"run again it keeps {copies.kept(copy)}")
+
+
+def ages(tally, copies):
+    with tally.run("the metrics of a backup"), copies.shipped(1, 1) as copy:
+        text = copy + ".prom"
+        os.utime(copy, (1_000, 1_000))
+        found = tool("ssikvd-ship", "--metrics", text, copies.data[0] + ".missing", copy)
+        expect(found[0] == 2 and "up to date" in found[2] and "seconds ago" in found[2], f"it answered {found}")
+        told = read(text).decode()
+        expect("_time_seconds{" in told and told.count("} 1000.0\n") == 1 and "ssikvd_backup_failed{" in told and told.endswith("} 1\n"), told)
+        found = tool("ssikvd-ship", "--metrics", text, copies.data[0], copy)
+        told = read(text).decode()
+        expect(found[0] == 0 and told.endswith("} 0\n") and os.stat(copy).st_mtime > 1_000, f"it answered {found}, and wrote {told}")
+        expect(f"}} {os.stat(copy).st_mtime}\n" in told and stat.S_IMODE(os.stat(text).st_mode) == 0o644, told)
+        found = tool("ssikvd-ship", "--metrics", os.path.join(copy, "no", "folder"), copies.data[0], copy)
+        expect(found[0] == 0 and "no metrics" in found[2], f"without the folder it answered {found}")
+
+
+def links_of_ships(tally, copies):
+    """Links in the copy's folder lead to a file of root."""
+    for name in ("copy.lock", "copy.new", "copy.old", "copy", "text", "text.tmp"):
+        if os.getuid() != 0 and name in ("copy", "text"):
+            continue
+        with tally.run(f"ssikvd-ship beside a link {name}"), copies.shipped(1, 1) as copy, folder() as elsewhere:
+            target, link = os.path.join(elsewhere, "target"), os.path.join(os.path.dirname(copy), name)
+            with open(target, "wb") as file:
+                file.write(copies.bytes[1] if name == "copy" else b"of root")
+            os.utime(target, (1_000, 1_000))
+            before = read(target), os.stat(target).st_mtime, stat.S_IMODE(os.stat(target).st_mode), os.stat(target).st_uid
+            with contextlib.suppress(FileNotFoundError):
+                os.remove(link)
+            os.symlink(target, link)
+            os.lchown(link, *OWNER[1:])
+            found = tool("ssikvd-ship", "--metrics", os.path.join(os.path.dirname(copy), "text"), copies.data[1], copy)
+            expect(found[0] == (2 if name in ("copy.lock", "copy") else 0), f"it answered {found}")
+            after = read(target), os.stat(target).st_mtime, stat.S_IMODE(os.stat(target).st_mode), os.stat(target).st_uid
+            expect(before == after and os.listdir(elsewhere) == ["target"], f"it wrote to what the link leads to: {found}")
+
+
 # Faults that are planted
 
 WRONG = {
@@ -502,6 +604,10 @@ def main():
         with tally.run("a loss of power at each call"):
             print(f"  ssikvd-restore: {judge_power(files, 'ssikvd-restore')} cases of names after a loss of power", flush=True)
         show_that_they_fail(tally, files)
+    with folder() as place:
+        copies = Copies(place)
+        for part in (keeping, ages, links_of_ships):
+            part(tally, copies)
     return 0 if tally.end() else 1
 
 
