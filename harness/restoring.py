@@ -1,5 +1,5 @@
 """`ssikvd-restore`: what it refuses before anything is stopped, what it leaves, and what a kill or a loss of power leaves at each step. And the
-copies of before that `ssikvd-ship` keeps, with its kills, its metrics and the links that it refuses.
+copies of before that `ssikvd-ship` keeps, with its kills, its metrics, the links that it refuses, and its unit's command.
 
 A sparse copy is put in the place of a served file: each sector of the new one has its place, owner and mode are as before, the file of before
 is kept, and the server serves the copy's map. Then the tool is killed before and after each of its calls: the data file is the old or the new one, byte by
@@ -13,6 +13,7 @@ import fcntl
 import io
 import itertools
 import os
+import re
 import shutil
 import signal
 import stat
@@ -551,6 +552,36 @@ def links_of_ships(tally, copies):
             expect(before == after and os.listdir(elsewhere) == ["target"], f"it wrote to what the link leads to: {found}")
 
 
+def unit(tally, copies):
+    """The unit's command with its default settings, in folders of another user, and its score."""
+    with open(os.path.join(DIST, "ssikvd-ship@.service"), encoding="utf-8") as file:
+        text = file.read()
+    settings = dict(word.split("=") for word in re.search(r"(?m)^Environment=(.*)$", text)[1].split())
+    command = re.search(r"(?m)^ExecStart=(.*)$", text)[1].replace("%i", "shop")
+    with tally.run("the command of ssikvd-ship@.service"), folder() as place:
+        for name in ("ssikvd", "ssikvd-backups"):
+            os.mkdir(os.path.join(place, name), 0o700)
+        shutil.copy(copies.data[0], os.path.join(place, "ssikvd", "shop.data"))
+        for name in ("", "ssikvd", "ssikvd/shop.data", "ssikvd-backups"):
+            os.chown(os.path.join(place, name), *OWNER[1:])
+        for name, value in settings.items():
+            command = command.replace(f"${{{name}}}", value)
+        words = command.replace("/var/lib/prometheus", place + "/no").replace("/var/lib", place).split()
+        words[0] = os.path.join(DIST, words[0])
+        as_user = ["setpriv", f"--reuid={OWNER[1]}", f"--regid={OWNER[2]}", "--clear-groups"] if os.getuid() == 0 else []
+        reads = not as_user or tool(*as_user, "test", "-x", words[0])[0] == 0
+        found = tool(*(as_user if reads else []), *words)
+        expect(found[0] == 0 and "no metrics" in found[2], f"it answered {found}")
+        expect(read(os.path.join(place, "ssikvd-backups", "shop.data")) == copies.bytes[0], "the copy is another log")
+    said = re.search(r"this unit an exposure level of ([\d.]+) of 10 \(by systemd (\d+)\)", operation_tools.operations().replace("\n", " "))
+    if not shutil.which("systemd-analyze") or f"systemd {said[2]}" not in tool("systemd-analyze", "--version")[1]:
+        operation_tools.missing("the score of ssikvd-ship@.service", f"systemd {said[2]}")
+        return
+    with tally.run("the score of ssikvd-ship@.service"):
+        found = tool("systemd-analyze", "security", "--offline=true", os.path.join(DIST, "ssikvd-ship@.service"))
+        expect(f": {said[1]} " in found[1].splitlines()[-1], f"the score is {found[1].splitlines()[-1:]}, docs/OPERATIONS.md says {said[1]}")
+
+
 # Faults that are planted
 
 WRONG = {
@@ -606,7 +637,7 @@ def main():
         show_that_they_fail(tally, files)
     with folder() as place:
         copies = Copies(place)
-        for part in (keeping, ages, links_of_ships):
+        for part in (keeping, ages, links_of_ships, unit):
             part(tally, copies)
     return 0 if tally.end() else 1
 
