@@ -213,9 +213,10 @@ class Interrupted:
 def ship_while(data, copy, number):
     """A run of `ssikvd-ship` before whose n-th call another one is made: how many calls it made, and what that one answered."""
     ship, others = loaded("ssikvd-ship"), []
-    ship.os = Interrupted(number, lambda: others.append(tool("ssikvd-ship", data, copy)))
-    with contextlib.suppress(BlockingIOError), ship.locked(copy + ".lock"):
-        ship.ship_file(data, copy, None)
+    with ship.Place(copy) as place:
+        ship.os = Interrupted(number, lambda: others.append(tool("ssikvd-ship", data, copy)))
+        with contextlib.suppress(BlockingIOError), place.locked():
+            ship.ship_file(data, place)
     return ship.os.count, others
 
 
@@ -270,9 +271,10 @@ def show_that_they_fail(tally):
             words = [os.path.join(place, "ssikvd-ship"), data, copy]
             ship = loaded("ssikvd-ship")
             others = []
-            ship.os = Interrupted(4, lambda: others.append(subprocess.run(words, capture_output=True, text=True, env=ENVIRONMENT)))
-            with contextlib.suppress(OSError), ship.locked(copy + ".lock"):
-                ship.ship_file(data, copy, None)
+            with ship.Place(copy) as held:
+                ship.os = Interrupted(4, lambda: others.append(subprocess.run(words, capture_output=True, text=True, env=ENVIRONMENT)))
+                with contextlib.suppress(OSError), held.locked():
+                    ship.ship_file(data, held)
             answers = [(other.returncode, other.stdout, other.stderr) for other in others]
             expect(is_refused(lambda: judge_two(data, copy, answers, 4)), "it isn't reported")
 

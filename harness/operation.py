@@ -291,7 +291,8 @@ def judge_ship(ship, data, copy, is_new):
     try:
         with ship.used.Log(data) as source:
             if is_new:
-                ship.new_copy(source.walk(), copy + ".judged")
+                with ship.Place(copy) as place:
+                    ship.new_copy(source.walk(), place, ".judged")
             else:
                 ship.ship(source.walk(), 0, place)
     finally:
