@@ -16,7 +16,7 @@ import time
 from at_rest import damages, turn
 from client import PATIENCE, PROGRAM, Server, Tally, create, expect, folder, free_port, is_refused, need, run_harness
 from model import SECTOR, log_image
-from operation_tools import DIST, ENVIRONMENT, fill, missing, tool
+from operation_tools import DIST, ENVIRONMENT, fill, missing, simple_client, tool
 
 SECTORS = 512
 NOBODY = 65_534
@@ -72,17 +72,24 @@ def image_of(place):
     return found
 
 
+def writes_nothing(tally):
+    """It leaves a folder as it was, whatever it finds there."""
+    with store(tally, "what it leaves") as (place, data):
+        for size in (SECTOR * SECTORS, 1_000, 0, None):
+            os.truncate(data, size) if size is not None else os.remove(data)
+            before = image_of(place)
+            why("--data", data, "--listen", "127.0.0.1:0")
+            expect(image_of(place) == before, "the folder is another one after it")
+
+
 @contextlib.contextmanager
 def store(tally, what):
-    """A run with a fresh data file in a folder, of which nothing is changed by `ssikvd-why`."""
+    """A run with a fresh data file in a folder."""
     with folder() as place, tally.run(what):
         os.chmod(place, 0o755)
         data = os.path.join(place, "shop.data")
         create(data, SECTORS)
         yield place, data
-        before = image_of(place)
-        why("--data", data, "--listen", "127.0.0.1:0")
-        expect(image_of(place) == before, "the folder is another one after it")
 
 
 def kinds_of_file(tally):
@@ -339,6 +346,60 @@ def the_unit(tally):
             expect(ran.returncode == due and not ran.stderr and ran.stdout.count("ssikvd-why: ") == 2 * due, f"it answered {ran}")
 
 
+# The probe
+
+def expect_probe(found, status, *texts):
+    """One line with this status and these texts."""
+    expect(found[0] == status and found[1].count("\n") == 1 and not found[2], f"the probe answered {found}")
+    expect(all(text in found[1] for text in texts), f"the probe says {found[1]!r}, due is {texts}")
+
+
+def probes(tally):
+    """The probe tells the fill of a log, and why the connection beyond 128 is closed."""
+    with folder() as place:
+        data, state = os.path.join(place, "data"), os.path.join(place, "state")
+        create(data, 64)
+        with Server(data) as server:
+            words = "ssikvd-probe", "--used", "50", "--data", data, f"127.0.0.1:{server.port}"
+            with tally.run("the probe of an empty log"):
+                expect_probe(tool(*words), 0, "SSIKVD OK: transactions begin; 2 of 64 sectors are used | time=")
+            put(server.port, 15)
+            with tally.run("the probe of half a log"):
+                expect_probe(tool(*words), 1, "SSIKVD WARNING: 32 of 64 sectors are used; transactions begin | time=")
+                expect_probe(tool(*words, "--used", "51"), 0)
+            with tally.run("the probe from where ssikvd-used stopped"):
+                expect(tool("ssikvd-used", "--state", state, data)[0] == 0, "it failed")
+                put(server.port, 15)
+                expect_probe(tool(*words, "--state", state), 1, "62 of 64 sectors")
+            with tally.run("the probe of a full log"):
+                put(server.port, 1)
+                expect_probe(tool(*words), 2, "SSIKVD CRITICAL: the log is full: 64 of 64 sectors are used; transactions begin | time=")
+                expect_probe(tool(words[0], words[-1]), 0)
+            with tally.run("the probe of a file that is gone"):
+                expect_probe(tool(*words[:3], "--data", data + "x", words[-1]), 2, "No such file or directory; transactions begin")
+            with tally.run("the probe beside 128 connections"), connected(server.port, 128):
+                expect_probe(tool("ssikvd-probe", words[-1]), 2, "perhaps since 128 are open")
+
+
+def put(port, count):
+    """So many commits of one small key."""
+    store = simple_client.Client(port)
+    for number in range(count):
+        store.transact(lambda store, number=number: store.ask("SET", "a", number))
+    store.socket.close()
+
+
+@contextlib.contextmanager
+def connected(port, count):
+    """So many connections that the server has taken."""
+    with contextlib.ExitStack() as held:
+        for _ in range(count):
+            client = simple_client.Client(port)
+            held.callback(client.socket.close)
+            client.ask("PING")
+        yield
+
+
 def show_that_they_fail(tally):
     """A `ssikvd-why` that looks at no lock, or finds what isn't there, is reported."""
     with open(os.path.join(DIST, "ssikvd-why"), encoding="utf-8") as file:
@@ -360,7 +421,7 @@ def show_that_they_fail(tally):
 def main():
     need(PROGRAM)
     tally = Tally("stat_and_why")
-    for part in (kinds_of_file, permissions, folders, formats, damage, room, locks, addresses, no_cause, the_unit, show_that_they_fail):
+    for part in (writes_nothing, kinds_of_file, permissions, folders, formats, damage, room, locks, addresses, no_cause, the_unit, probes, show_that_they_fail):
         part(tally)
     return 0 if tally.end() else 1
 
