@@ -3,9 +3,13 @@
 Each cause for which a start fails is provoked: in the folder, the file, its format, room, the locks and the address. What a start needs then
 refuses, and `ssikvd-why` names this cause alone, in one line with its cure, and leaves all as it was. Where there is no cause it finds none,
 also over files that look odd and aren't wrong. The unit's line runs it where a start failed, and not else.
+
+`ssikvd-stat` tells of a server what was done to it: commits and keys, connections and their silence, memory, the ages of a backup and of a
+compaction; also without `ss`. The probe tells a full log. Each figure of the alert rules is one that a tool writes.
 """
 import contextlib
 import fcntl
+import json
 import os
 import re
 import shutil
@@ -16,7 +20,9 @@ import time
 from at_rest import damages, turn
 from client import PATIENCE, PROGRAM, Server, Tally, create, expect, folder, free_port, is_refused, need, run_harness
 from model import SECTOR, log_image
-from operation_tools import DIST, ENVIRONMENT, fill, missing, simple_client, tool
+from operation import judge_metrics
+from operation_tools import DIST, ENVIRONMENT, fill, loaded, missing, operations, simple_client, tool
+from operation_units import names_of_stat
 
 SECTORS = 512
 NOBODY = 65_534
@@ -381,6 +387,149 @@ def probes(tally):
                 expect_probe(tool("ssikvd-probe", words[-1]), 2, "perhaps since 128 are open")
 
 
+# What a server does
+
+def stat(*words, environment=ENVIRONMENT):
+    """What `ssikvd-stat` answers, which ends with status 0."""
+    status, out, err = tool("ssikvd-stat", *words, environment=environment)
+    expect((status, err) == (0, ""), f"it answered {status, out, err}")
+    return out
+
+
+def figures(text):
+    """The figures of Prometheus's text, by their names without `ssikvd_stat_`."""
+    return {name: float(value) for name, value in re.findall(r"^ssikvd_stat_(\w+)\{data=\"[^\"]+\"\} (\S+)$", text, re.M)}
+
+
+def without_ss(place):
+    """An environment in which there is no `ss`, but Python."""
+    commands = os.path.join(place, "without")
+    os.makedirs(commands, exist_ok=True)
+    with contextlib.suppress(FileExistsError):
+        os.symlink("/usr/bin/env", os.path.join(commands, "env"))
+    return {**ENVIRONMENT, "PATH": f"{DIST}:{commands}"}
+
+
+@contextlib.contextmanager
+def locked_server(data):
+    """A server that holds its lock, as units have it: its process and its port."""
+    words = ["flock", "-n", "-F", "-E", "75", data + ".lock", PROGRAM, "serve", "--data", data, "--listen", "127.0.0.1:0"]
+    with subprocess.Popen(words, stdin=subprocess.DEVNULL, stdout=subprocess.PIPE) as process:
+        try:
+            yield process.pid, int(process.stdout.readline().rsplit(b":", 1)[1])
+        finally:
+            process.kill()
+
+
+def judge_process(found, process):
+    """What is said of the process is what /proc says."""
+    with open(f"/proc/{process}/status", encoding="ascii") as file:
+        resident = 1_024 * int(re.search(r"VmRSS:\s+(\d+)", file.read())[1])
+    expect(abs(found["resident_memory_bytes"] - resident) <= 4 << 20, f"{found['resident_memory_bytes']} bytes in place of {resident}")
+    expect(found["open_descriptors"] == len(os.listdir(f"/proc/{process}/fd")), f"it has {found['open_descriptors']} descriptors")
+    expect(found["processor_seconds_total"] < 20 and found["max_descriptors"] >= 64, f"it said {found}")
+
+
+def stats(tally):
+    """Each figure is what was done."""
+    with folder() as place:
+        data, state, copy = (os.path.join(place, name) for name in ("shop.data", "state", "copy"))
+        create(data, SECTORS)
+        with locked_server(data) as (process, port):
+            words = "--data", data, "--listen", f"127.0.0.1:{port}", "--state", state, "--prometheus"
+            with tally.run("a server that does nothing"):
+                text = stat(*words)
+                judge_metrics(text)
+                found = figures(text)
+                expect((found["connections"], found["log_sectors_used"], found["log_sectors"]) == (0, 2, SECTORS), f"it said {found}")
+                expect("commits_per_minute" not in found and "backup_age_seconds" not in found, f"it knows what it can't: {found}")
+                judge_process(found, process)
+            with tally.run("commits and keys"):
+                before = age_state(state, 60.0)
+                put(port, 30)
+                found = figures(stat(*words))
+                elapsed = (found["time_seconds"] - before) / 60
+                made = found["commits_per_minute"] * elapsed, found["keys_written_per_minute"] * elapsed
+                expect(all(abs(count - 30) < 2 for count in made) and found["log_sectors_used"] == 62, f"it said {found}")
+                due = (SECTORS - 62) / (60 / (60 * elapsed))
+                expect(abs(found["full_seconds"] - due) < due / 10, f"{found['full_seconds']} in place of {due}")
+            with tally.run("connections, and the silent one"), connected(port, 3):
+                time.sleep(0.3)
+                with connected(port, 1):
+                    found = figures(stat(*words))
+                    age_state(state, 500.0)
+                    later = figures(stat(*words))
+                expect(found["connections"] == later["connections"] == 4 and later["open_seconds"] >= 500, f"it said {found}, {later}")
+                if shutil.which("ss"):
+                    expect(0.3 <= found["idle_seconds"] < 20 and found["open_seconds"] >= 0.3, f"it said {found}")
+                else:
+                    missing("the silence of connections", "ss")
+                found = figures(stat(*words, environment=without_ss(place)))
+                expect(found["connections"] >= 3 and "idle_seconds" not in found, f"without ss it said {found}")
+            with tally.run("the age of the backup"):
+                expect(tool("ssikvd-ship", data, copy)[0] == 0, "it failed")
+                os.utime(copy, (1, time.time() - 100))
+                expect(figures(stat(*words, "--backup", copy))["backup_age_seconds"] == 0, "a whole copy has an age")
+                put(port, 1)
+                expect(99 < figures(stat(*words, "--backup", copy))["backup_age_seconds"] < 160, "it has another age")
+            with tally.run("the age of the compaction"):
+                os.link(data, data + ".old")
+                expect(figures(stat(*words))["compaction_age_seconds"] < 60, "it has another age")
+            with tally.run("the table, without a state"):
+                lines = stat(*words[:4], "--interval", "0.1").splitlines()
+                due = {"connections             0 of 128", "commits a minute        0.0", "sectors used            64"}
+                expect(len(lines) == 13 and due <= set(lines), f"it printed {lines}")
+            with tally.run("metrics in a file"):
+                name = os.path.join(place, "metrics")
+                expect(stat(*words[:-1], "--metrics", name) == "" and figures(open(name, encoding="utf-8").read()), "it wrote none")
+                expect(os.stat(name).st_mode & 0o777 == 0o644 and not [it for it in os.listdir(place) if it.startswith(".")], "it left something")
+            links(tally, place, words)
+        with tally.run("no server"):
+            status, out, err = tool("ssikvd-stat", *words)
+            expect(status == 1 and "log_sectors" in out and "no process holds" in err, f"it answered {status, out, err}")
+        with tally.run("no log"):
+            os.truncate(data, 100)
+            status, out, err = tool("ssikvd-stat", *words)
+            expect((status, out) == (2, "") and "not a log" in err, f"it answered {status, out, err}")
+            expect(tool("ssikvd-stat", "--data", data, "--listen", "7777")[0] == 2, "it took the address")
+
+
+def age_state(state, seconds):
+    """Makes the look before older by so many seconds: when it was, now."""
+    with open(state, encoding="utf-8") as file:
+        found = json.load(file)
+    found["log"]["time"] -= seconds
+    found["seen"] = {peer: then - seconds for peer, then in found["seen"].items()}
+    with open(state, "w", encoding="utf-8") as file:
+        json.dump(found, file)
+    return found["log"]["time"]
+
+
+def links(tally, place, words):
+    """Where the state is a link that another user planted, or no state at all, what it leads to stays as it was."""
+    with tally.run("a state that is a link"):
+        victim, state = os.path.join(place, "victim"), os.path.join(place, "planted")
+        with open(victim, "w", encoding="utf-8") as file:
+            file.write("[1]")
+        os.symlink(victim, state)
+        stat(*words[:4], "--state", state)
+        with open(victim, encoding="utf-8") as file:
+            expect(file.read() == "[1]" and not os.path.islink(state), "what the link leads to was changed")
+
+
+def alerts(tally):
+    """Each figure that a rule names is written by a tool, and each alert is in docs/OPERATIONS.md."""
+    with open(os.path.join(DIST, "alerts.yml"), encoding="utf-8") as file:
+        text = file.read()
+    with tally.run("the figures of the alert rules"):
+        named = set(re.findall(r"\bssikvd_[a-z]+_\w+", re.sub(r"(?m)^#.*|summary:.*", "", text)))
+        due = {f"ssikvd_log_{name}" for name in loaded("ssikvd-used").HELP} | {"ssikvd_probe_status"} | names_of_stat()
+        expect(len(named) > 10 and named <= due, f"the rules name {sorted(named - due)}")
+    with tally.run("the alerts in docs/OPERATIONS.md"):
+        lost = [name for name in re.findall(r"alert: (\w+)", text) if f"`{name}`" not in operations()]
+        expect(not lost, f"it lacks {lost}")
+
+
 def put(port, count):
     """So many commits of one small key."""
     store = simple_client.Client(port)
@@ -421,7 +570,9 @@ def show_that_they_fail(tally):
 def main():
     need(PROGRAM)
     tally = Tally("stat_and_why")
-    for part in (writes_nothing, kinds_of_file, permissions, folders, formats, damage, room, locks, addresses, no_cause, the_unit, probes, show_that_they_fail):
+    for part in (
+            writes_nothing, kinds_of_file, permissions, folders, formats, damage, room, locks, addresses, no_cause, the_unit, probes, stats, alerts,
+            show_that_they_fail):
         part(tally)
     return 0 if tally.end() else 1
 
