@@ -9,12 +9,14 @@ compaction; also without `ss`. The probe tells a full log. Each figure of the al
 """
 import contextlib
 import fcntl
+import io
 import json
 import os
 import re
 import shutil
 import socket
 import subprocess
+import sys
 import time
 
 from at_rest import damages, turn
@@ -26,17 +28,35 @@ from operation_units import names_of_stat
 
 SECTORS = 512
 NOBODY = 65_534
+WHY = loaded("ssikvd-why")
 IS_ROOT = os.geteuid() == 0
 OTHER = {"user": NOBODY, "group": NOBODY, "extra_groups": []} if IS_ROOT else {}    # one whom permissions bind
 
 
 # Why a start fails
 
-def why(*words, as_nobody=False, before=(), program=os.path.join(DIST, "ssikvd-why")):
-    """What `ssikvd-why` answers. As another user than root where it is asked for, whom permissions bind."""
+def why(*words, as_nobody=False, before=(), program=None):
+    """What `ssikvd-why` answers: within this process, which is faster, or as one of its own where it runs otherwise than here. As another user
+    than root where it is asked for, whom permissions bind."""
+    if not (as_nobody or before or program):
+        return within(WHY, words)
     how = {"capture_output": True, "text": True, "env": ENVIRONMENT, "timeout": PATIENCE, "stdin": subprocess.DEVNULL}
-    ran = subprocess.run([*before, program, *words], **how, **(OTHER if as_nobody else {}))
+    ran = subprocess.run([*before, program or os.path.join(DIST, "ssikvd-why"), *words], **how, **(OTHER if as_nobody else {}))
     return ran.returncode, ran.stdout, ran.stderr
+
+
+def within(module, words):
+    """What a tool answers to these words, run by this process."""
+    out, err, own = io.StringIO(), io.StringIO(), sys.argv
+    sys.argv = ["tool", *words]
+    try:
+        with contextlib.redirect_stdout(out), contextlib.redirect_stderr(err):
+            status = module.main()
+    except SystemExit as end:
+        status = end.code
+    finally:
+        sys.argv = own
+    return status, out.getvalue(), err.getvalue()
 
 
 def expect_causes(found, *due):
@@ -180,7 +200,7 @@ def folders(tally):
         expect(os.path.isdir(os.path.join(place, "none")), "its cure makes none")
         expect_causes(why("--data", os.path.join(data, "data")), f"{data} is no folder")
     with tally.run("a folder that can't be synced"):
-        name = "/proc/self/comm"
+        name = "/proc/self/comm"    # of this process, or of the program
         expect_fault(name, "file fault")
         status, out, err = why("--data", name)
         due = "the folder /proc/self can't be synced: Invalid argument (EINVAL)"
