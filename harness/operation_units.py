@@ -55,6 +55,12 @@ def judge_score(unit):
         expect(found and found[1] == said[1], f"the score is {found and found[1]}, docs/OPERATIONS.md says {said[1]}")
 
 
+def names_of_stat():
+    """The metrics that `ssikvd-stat` writes."""
+    stat = loaded("ssikvd-stat")
+    return {f"ssikvd_stat_{name}" for name in (*stat.FIGURES, stat.TIME, "processor_seconds_total")}
+
+
 # For each alert: a series, its values each minute where it fires after an hour, and where it doesn't.
 FIRES = {
     "SsikvdLogAlmostFull": ("ssikvd_log_sectors_used", "950x60", "890x60"),
@@ -64,6 +70,10 @@ FIRES = {
     "SsikvdLogNotVerified": ("ssikvd_log_verified_time_seconds", "-169300x60", "-169100x60"),
     "SsikvdDown": ('node_systemd_unit_state{name="ssikvd@shop.service", state="active"}', "0x60", "1x60"),
     "SsikvdNoTransactions": ("ssikvd_probe_status", "2x60", "1x60"),
+    "SsikvdConnectionsMany": ("ssikvd_stat_connections", "111x60", "110x60"),
+    "SsikvdClientSilent": ("ssikvd_stat_idle_seconds", "601x60", "600x60"),
+    "SsikvdBackupOld": ("ssikvd_stat_backup_age_seconds", "90000x60", "80000x60"),
+    "SsikvdStatNotRead": ("ssikvd_stat_time_seconds", "2900x60", "3100x60"),
 }
 
 
@@ -95,7 +105,7 @@ def rules(tally):
     with tally.run("the metrics of the rules"):
         with open(os.path.join(DIST, "alerts.yml"), encoding="utf-8") as file:
             named = set(re.findall(r"ssikvd_[a-z]+_\w+", file.read()))
-        due = {f"ssikvd_log_{name}" for name in loaded("ssikvd-used").HELP} | {"ssikvd_probe_status"}
+        due = {f"ssikvd_log_{name}" for name in loaded("ssikvd-used").HELP} | {"ssikvd_probe_status"} | names_of_stat()
         expect(named <= due, f"the rules name {sorted(named - due)}")
 
 
