@@ -25,10 +25,10 @@ run_all() {
 
 for form in ${1:-quick long}; do
     case $form in
-        quick) names="packages kills hostile operation planted_links at_rest clients languages lossy histories commands documents system_limits server_calls proxies cookbook
+        quick) names="packages kills hostile operation planted_links looks at_rest clients languages lossy histories commands documents system_limits server_calls proxies cookbook
             every_command random_scripts trace streams pictures packaging audit reading frames memory_commands memory_calls memory_reads
             memory_pages memory_sessions memory_commits memory_opening memory_order" ;;
-        long) names="packages kills hostile operation planted_links at_rest clients languages lossy histories resending commands documents system_limits server_calls proxies cookbook
+        long) names="packages kills hostile operation planted_links looks at_rest clients languages lossy histories resending commands documents system_limits server_calls proxies cookbook
             every_command random_scripts trace streams pictures packaging" ;;
         *) echo "usage: run.sh [quick | long]" >&2; exit 2 ;;
     esac
