@@ -489,7 +489,7 @@ def judge_failure(script, step):
     """A step fails: the server goes on, or is started again, with all commits."""
     with trial_of(script) as trial:
         status, out, err, _ = trial.run(fails=step)
-        is_told = status != 0 or "stopped for" in out    # but for the time that it took
+        is_told = status != 0 or "copied in" in out    # but for the time that it took
         expect(is_told and names(trial) <= FILES - {"data.new"}, f"it ended with {status}, and left {sorted(names(trial))}: {out}{err}")
         trial.commit()
         expect(trial.contents() == trial.due(), "a commit is lost")
@@ -570,7 +570,7 @@ def compactions(tally):
 def whole(trial):
     """Runs to the end, and ones that end at once since there is nothing to do or too little room. Gives the steps of the first."""
     status, out, err, lines = trial.run()
-    expect(status == 0 and not err and "sectors were used" in out, f"it ended with {status}: {out}{err}")
+    expect(status == 0 and not err and "sectors are used; copied in" in out, f"it ended with {status}: {out}{err}")
     judge_whole(trial, OWNER)
     found = trial.run(words=["--above", "90"])
     expect(found[0] == 0 and "nothing to do" in found[1], f"--above 90 answered {found[:3]}")
@@ -626,11 +626,11 @@ def growing(script):
 def show_that_they_fail(tally, script):
     """Scripts with a planted fault, which must be reported."""
     text = open(script, encoding="utf-8").read()
-    swap = 'ln "$data" "$data.old"\nsync "$folder"\nmv -fT "$new" "$data"\n'.replace("$new", "$data.new")
+    swap = '    ln "$data" "$data.old"\n    sync "$folder"\n    mv -fT "$data.new" "$data"\n'
     expect(swap in text, "the swap is written in another way")
     wrong = {
-        "a swap by two renames": (swap, 'mv "$data" "$data.old"\nmv -fT "$data.new" "$data"\n'),
-        "a swap that is not synced": ('mv -fT "$data.new" "$data"\nsync "$folder"\n', 'mv -fT "$data.new" "$data"\n'),
+        "a swap by two renames": (swap, '    mv "$data" "$data.old"\n    mv -fT "$data.new" "$data"\n'),
+        "a swap that is not synced": ('mv -fT "$data.new" "$data"\n    sync "$folder"\n', 'mv -fT "$data.new" "$data"\n'),
         "a copy that keeps no mode": ('chmod --reference="$data" "$data.new"\n', ""),
     }
     with folder() as place:

@@ -4,7 +4,7 @@ import re
 import shutil
 import subprocess
 
-from client import PATIENCE, Deviation, expect, folder
+from client import PATIENCE, Deviation, expect, folder, is_refused
 from operation_tools import DIST, TOP, loaded, missing, operations, promtool, tool
 
 def units(tally):
@@ -33,8 +33,15 @@ def units(tally):
                 expect(False, "it was not reported")
             except Deviation as found:
                 expect("ProtectHouse" in str(found), str(found))
-        with tally.run("the score of the unit"):
-            judge_score(os.path.join(place, "ssikvd@.service"))
+        for name in sorted(os.listdir(place)):
+            if name.endswith(".service") and name != "wrong@.service":
+                with tally.run(f"the score of {name}, and who runs it"):
+                    judge_score(os.path.join(place, name))
+                    with open(os.path.join(place, name), encoding="utf-8") as file:
+                        judge_user(file.read())
+        with tally.run("a unit that runs as root is reported"):
+            expect(is_refused(judge_user, "[Service]\nExecStart=true\n"), "root was not reported")
+            expect(is_refused(judge_user, "[Service]\nUser=ssikvd\nExecStart=+ssikvd-compact shop\n"), "a tool with root's rights was not reported")
 
 
 def judge_unit(unit):
@@ -44,15 +51,27 @@ def judge_unit(unit):
     expect(not said, f"systemd-analyze says {said}")
 
 
+def judge_user(text):
+    """A unit runs as the service's user, and what it runs with root's rights is systemctl, or a case that calls it."""
+    expect("\nUser=ssikvd\n" in text, "it runs as root")
+    for line in re.findall(r"(?m)^Exec\w+=[-@:]*[+!]+[-@:]*(.*)$", text):
+        expect(re.fullmatch(r"systemctl [^;|&]*|sh -c 'case \S+ in [\w-]+\) ;; \*\) systemctl [^;|&]* ;; esac'", line), f"root runs {line}")
+
+
 def judge_score(unit):
-    version = re.search(r"systemd (\d+)", tool("systemd-analyze", "--version")[1])[1]
-    said = re.search(r"exposure level of ([\d.]+) of 10 \(by systemd (\d+)\)", operations().replace("\n", " "))
-    expect(said, "docs/OPERATIONS.md names no score")
+    """The score of a unit is at most 2, and what docs/OPERATIONS.md says: the server's with the version, those of others behind it."""
+    version, told = re.search(r"systemd (\d+)", tool("systemd-analyze", "--version")[1])[1], operations().replace("\n", " ")
+    server = re.search(r"exposure level of ([\d.]+) of 10 \(by systemd (\d+)\)", told)
+    expect(server, "docs/OPERATIONS.md names no score")
+    stem = os.path.basename(unit).split("@")[0]
+    said = server if stem == "ssikvd" else re.search(rf"`{stem}@` ([\d.]+\d)", told)
+    expect(said, f"docs/OPERATIONS.md names no score of {stem}@")
     found = re.search(r"exposure level for \S+: ([\d.]+)", tool("systemd-analyze", "security", "--offline=true", unit)[1])
-    if said[2] != version:
-        missing("the unit's score", f"systemd {said[2]}, here is {version}")
+    if server[2] != version:
+        missing("the unit's score", f"systemd {server[2]}, here is {version}")
     else:
         expect(found and found[1] == said[1], f"the score is {found and found[1]}, docs/OPERATIONS.md says {said[1]}")
+        expect(float(found[1]) <= 2, f"the score is {found[1]}")
 
 
 def names_of_stat():

@@ -25,11 +25,13 @@ run_all() {
 
 for form in ${1:-quick long}; do
     case $form in
-        quick) names="packages kills hostile operation at_rest stat_and_why restoring clients languages lossy histories commands
-            documents system_limits server_calls proxies every_command random_scripts trace streams pictures installing audit reading
-            frames memory_commands memory_calls memory_reads memory_pages memory_sessions memory_commits memory_opening memory_order" ;;
-        long) names="packages kills hostile operation at_rest stat_and_why restoring clients languages lossy histories resending commands
-            documents system_limits server_calls proxies every_command random_scripts trace streams pictures installing" ;;
+        quick) names="packages kills hostile operation at_rest looks planted_links stat_and_why restoring clients languages lossy
+            histories commands documents system_limits server_calls proxies every_command random_scripts trace streams pictures
+            installing audit reading frames memory_commands memory_calls memory_reads memory_pages memory_sessions memory_commits
+            memory_opening memory_order" ;;
+        long) names="packages kills hostile operation at_rest looks planted_links stat_and_why restoring clients languages lossy
+            histories resending commands documents system_limits server_calls proxies every_command random_scripts trace streams pictures
+            installing" ;;
         *) echo "usage: run.sh [quick | long]" >&2; exit 2 ;;
     esac
     # shellcheck disable=SC2086    # a list of names

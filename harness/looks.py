@@ -1,0 +1,198 @@
+"""Looks at a log that fills, as the timer of `ssikvd-compact` makes them, on a clock that runs faster: a full log is never met.
+
+Clients write as fast as the program answers them. A minute is over once they have filled 10 of 100 sectors, and a tenth of that is filled while
+a look is under way; then they fill 60 of 100 in a minute, then 80. By the rate each look compacts, also the first one after a compaction, and no
+COMMIT is answered `FULL log`. Each that was acknowledged is there at the end. By the fill alone the looks before the rise do nothing, and it is met.
+What a look says after few and after many commits, and after a compaction, is what the rule asks for.
+"""
+import contextlib
+import math
+import os
+import re
+import socket
+import tempfile
+import threading
+import time
+
+from client import PATIENCE, PROGRAM, Tally, check, create, expect, folder, is_long, need, run_harness
+from model import frame
+from operation import Trial
+from operation_tools import DIST, log_of, map_of, tool
+
+CLIENTS, AT_ONCE = 4, 16
+
+
+class Load:
+    """Clients of which each counts in a key of its own, some transactions at once, and comes again where its connection is lost. Together they
+    begin no more transactions than they are allowed."""
+
+    def __init__(self, port):
+        self.port, self.is_over, self.lock = port, threading.Event(), threading.Lock()
+        self.acknowledged, self.full, self.other = [0] * CLIENTS, 0, set()
+        self.begun = self.allowed = 0
+        self.threads = [threading.Thread(target=self._work, args=(number,), daemon=True) for number in range(CLIENTS)]
+
+    def allow(self, count):
+        """So many transactions more."""
+        self.allowed = self.begun + count
+
+    def wait(self):
+        """Waits until they have begun."""
+        end = time.monotonic() + 3 * PATIENCE
+        while self.begun + AT_ONCE <= self.allowed and time.monotonic() < end:
+            time.sleep(0.002)
+
+    def _take(self):
+        with self.lock:
+            if self.begun + AT_ONCE > self.allowed:
+                return False
+            self.begun += AT_ONCE
+            return True
+
+    def __enter__(self):
+        for thread in self.threads:
+            thread.start()
+        return self
+
+    def __exit__(self, *_):
+        self.is_over.set()
+        for thread in self.threads:
+            thread.join(PATIENCE)
+
+    def _work(self, number):
+        while not self.is_over.is_set():
+            with contextlib.suppress(OSError), socket.create_connection(("127.0.0.1", self.port), PATIENCE) as connection:
+                with connection.makefile("rb") as lines:
+                    while not self.is_over.is_set() and self._ask(connection, lines, number):
+                        pass
+            time.sleep(0.01)
+
+    def _ask(self, connection, lines, number):
+        """Some transactions, and their replies. Did all of them come?"""
+        if not self._take():
+            time.sleep(0.002)
+            return True
+        first = self.acknowledged[number] + 1
+        requests = [frame("BEGIN") + frame("SET", f"client {number}", str(value)) + frame("COMMIT") for value in range(first, first + AT_ONCE)]
+        connection.sendall(b"".join(requests))
+        for value in range(first, first + AT_ONCE):
+            replies = [lines.readline() for _ in range(3)]
+            if not replies[2].endswith(b"\n"):
+                return False
+            if replies[2].startswith(b"-"):
+                self.full += replies[2] == b"-FULL log\r\n"
+                self.other |= {replies[2]} - {b"-FULL log\r\n"}
+                return True
+            self.acknowledged[number] = value
+        return True
+
+
+def in_memory():
+    """A folder in memory where that is possible: the program is faster there, and no sync is judged."""
+    if os.path.isdir("/dev/shm"):
+        tempfile.tempdir = "/dev/shm"
+    return folder()
+
+
+class Looks:
+    """A served file, and the timer's command over it."""
+
+    def __init__(self, place, sectors):
+        self.trial, self.state = Trial(place, os.path.join(DIST, "ssikvd-compact")), os.path.join(place, "looked")
+        create(self.trial.data, sectors)
+        self.trial.start()
+
+    def look(self, *words, within):
+        starts = ["--stop", self.trial.bin + "/stops", "--start", self.trial.bin + "/starts"]
+        return tool("ssikvd-compact", *starts, "--above", "50", "--within", str(within), "--state", self.state, *words, self.trial.data,
+                    seconds=6 * PATIENCE)
+
+
+@contextlib.contextmanager
+def looks_at(sectors):
+    with in_memory() as place:
+        looks = Looks(place, sectors)
+        try:
+            yield looks
+        finally:
+            looks.trial.stop()
+
+
+SECTORS = 8_192
+SLOW, FAST = (10, 10, 10, 10, 60), (80,)    # of 100 sectors, what is filled in each minute
+
+
+def run_looks(minutes, has_rate):
+    """A look in each minute, beside the clients: the load, and the fill at each compaction, in sectors."""
+    with looks_at(SECTORS) as looks:
+        fills, before = [], time.monotonic()
+        looks.look(within=0)
+        with Load(looks.trial.port) as load:
+            for part in minutes:
+                load.allow(SECTORS // 2 * part // 100)
+                load.wait()
+                load.allow(SECTORS // 2 * part // 1_000)
+                before, now = time.monotonic(), before
+                status, out, err = looks.look(within=10 * math.ceil(before - now) if has_rate else 0)
+                expect(status == 0, f"a look ended with {status}: {out}{err}")
+                found = re.search(r": (\d+) of \d+ sectors are used.*: compaction\n", out)
+                if found:
+                    fills.append(int(found[1]))
+        looks.trial.stop()
+        found = map_of(log_of(looks.trial.data))
+        for number, value in enumerate(load.acknowledged):
+            expect(int(found.get(b"client %d" % number, 0)) >= value, f"client {number} has lost a commit: {value} was acknowledged")
+        expect(not load.other, f"COMMIT was answered {load.other}")
+        return load, fills
+
+
+def keeps_up(tally):
+    minutes = SLOW + FAST * (40 if is_long() else 1)
+    with tally.run("looks that know the rate"):
+        load, fills = run_looks(minutes, True)
+        print(f"  {len(fills)} compactions, {sum(load.acknowledged)} commits", flush=True)
+        expect(load.full == 0, f"{load.full} commits met a full log; compactions at {fills} of {SECTORS}")
+        expect(len(fills) == len(minutes), f"it was compacted {len(fills)} times in {len(minutes)} minutes")
+    with tally.run("looks that don't"):
+        load, _ = run_looks(SLOW, False)
+        expect(load.full > 0, "no full log was met")
+
+
+def rule(tally):
+    """What a look alone says."""
+    with looks_at(1_024) as looks:
+        def due(within, number):
+            return looks.look("--part", "look", within=within)[0] == number
+
+        with tally.run("a first look, and one at a log that doesn't grow"):
+            looks.trial.commit(3)
+            expect(due(10 ** 9, 4), "a first look knows a rate")
+            expect(due(10 ** 9, 4), "a log that doesn't grow will be full")
+        with tally.run("a log that grows"):
+            looks.trial.commit(3)
+            expect(due(0, 4), "0 asks for a compaction")
+            looks.trial.commit(3)
+            expect(due(10 ** 9, 0), "a log that grows isn't compacted")
+            looks.trial.commit(3)
+            expect(due(1, 4), "a log that lasts for longer is compacted")
+        with tally.run("the first look after a compaction"):
+            looks.trial.commit(20)
+            found = looks.look(within=10 ** 9)
+            expect(found[0] == 0 and "copied in" in found[1], f"it answered {found}")
+            expect(due(10 ** 9, 0), "the rate from before the compaction is forgotten")
+        with tally.run("more than half is used"):
+            while check(looks.trial.data)[2] <= 512:
+                looks.trial.commit(20)
+            expect(due(0, 0), "it isn't due")
+
+
+def main():
+    need(PROGRAM)
+    tally = Tally("looks")
+    rule(tally)
+    keeps_up(tally)
+    return 0 if tally.end() else 1
+
+
+if __name__ == "__main__":
+    run_harness(main)
