@@ -23,9 +23,9 @@ file only grows.
 A seed gives the same operations again. How threads and processes meet isn't the seed's, so a round of kills, histories, scenes or lossy may
 fail only now and then.
 
-SIGINT, SIGTERM or SIGHUP ends it behind the round that is played, which takes seconds, or behind a deviation at most a minute. It takes one
-processor or two, and some megabytes in the folder for temporary files. The status is 0 where all held, 1 where a round failed, and 2 where the
-command line is refused or a program is missing. With --sight it is 1 where something wasn't seen.
+SIGINT, SIGTERM or SIGHUP ends it behind the round that is played, which takes seconds, on a loaded machine one of `compactions` minutes, and where
+it failed a minute more. It takes one processor or two, and some megabytes in the folder for temporary files. The status is 0 where all held, 1
+where a round failed, and 2 where the command line is refused or a program is missing. With --sight it is 1 where something wasn't seen.
 """
 import argparse
 import contextlib
@@ -489,7 +489,8 @@ def soak(log, names, seconds):
         tell(line)
         results[name].append(line["result"])
     for name, found in results.items():
-        print(f"  {name}: " + ", ".join(f"{found.count(result)} {result}" for result in ("held", "failed", "left out") if result in found))
+        counts = [f"{found.count(result)} {result}" for result in ("held", "failed", "left out") if result in found]
+        print(f"  {name}: {', '.join(counts) or 'none'}")
     whole = list(itertools.chain(*results.values()))
     failed = whole.count("failed")
     ended = f", ended by {signal.Signals(min(told_to_end)).name}" if told_to_end else ""
