@@ -161,6 +161,30 @@ def judged(name):
     return by_check, by_verify
 
 
+def some_changes(chooser, image, places, end):
+    """A few bytes of an image that are changed, most of them in a gate or a header: the place of each, and what is put there."""
+    changed, changes = bytearray(image), []
+    for _ in range(chooser.choice((1, 1, 1, 3))):
+        at = chooser.choice((chooser.randrange(SECTOR * (end + 1)), SECTOR * chooser.choice(places), SECTOR * (chooser.choice(places) + 1) + chooser.randrange(60)))
+        changed[at] = chooser.choice((0, 1, 255, changed[at] ^ 1))
+        changes.append((at, changed[at]))
+    return changes
+
+
+def expect_same_words(name, image, changes):
+    """What `check` and `ssikvd-verify` say of an image with these bytes changed. It is the same, but for a closed gate, of which `check` can't know."""
+    changed = bytearray(image)
+    for at, byte in changes:
+        changed[at] = byte
+    with open(name, "wb") as file:
+        file.write(changed)
+    by_check, by_verify = judged(name)
+    is_closed = by_verify.startswith("closed gate of record ")
+    expect(by_check == by_verify or is_closed and by_check.startswith(f"records {by_verify.split()[-1]} "),
+           f"check says {by_check!r}, ssikvd-verify {by_verify!r}")
+    return by_check, by_verify
+
+
 def changed_images(tally):
     """Images with one byte changed, and with several: the two say the same, but for a closed gate."""
     chooser, count, closed = random.Random(20_261_127), 2_000 if is_long() else 150, 0
@@ -168,20 +192,11 @@ def changed_images(tally):
     image = log_image([sorted(writes) for writes in log], 64)
     places, end = places_of(image)
     with folder() as place:
-        name = os.path.join(place, "image")
         for number in range(count):
-            changed = bytearray(image)
-            for _ in range(chooser.choice((1, 1, 1, 3))):
-                at = chooser.choice((chooser.randrange(SECTOR * (end + 1)), SECTOR * chooser.choice(places), SECTOR * (chooser.choice(places) + 1) + chooser.randrange(60)))
-                changed[at] = chooser.choice((0, 1, 255, changed[at] ^ 1))
-            with open(name, "wb") as file:
-                file.write(changed)
+            changes = some_changes(chooser, image, places, end)
             with tally.run(f"image {number}"):
-                by_check, by_verify = judged(name)
-                is_closed = by_verify.startswith("closed gate of record ")
-                closed += is_closed
-                expect(by_check == by_verify or is_closed and by_check.startswith(f"records {by_verify.split()[-1]} "),
-                       f"check says {by_check!r}, ssikvd-verify {by_verify!r}")
+                _, said = expect_same_words(os.path.join(place, "image"), image, changes)
+                closed += said.startswith("closed gate")
     with tally.run("closed gates among the images"):
         expect(closed > count // 50, f"only {closed} of {count} images have a closed gate")
 

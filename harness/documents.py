@@ -30,6 +30,7 @@ NOT_RUN = (
     (r"^\(?(cd \S+ && )?rt (run|ci)|^make (build|check)", "proves for minutes to an hour; the gate runs it"),
     (r"^(SSIKVD=\S+ )?harness/run.sh", "would run this harness again"),
     (r"^bench/", "measures for minutes"),
+    (r"^python3 harness/soak.py ", "plays rounds for as long as it is told to"),
     (r"^wrong_bodies/", "proves for hours"),
     (r"^systemd-run ", "starts a unit of the system"),
     (r"(pip|npm|gem|composer|cargo|mvn) ", "installs a client package, which may need the network"),

@@ -474,23 +474,32 @@ def replies_due(stream, store):
         out, stream = out + store.request("random", parts), stream[used:]
 
 
-def random_bytes(siege):
+def stream_due(stream):
+    """What a stream of a session is answered over the map of `fill`, and whether the session goes on to its end. None where it commits."""
+    store = Store()
+    store.contents = {**dict.fromkeys(KEYS, VALUE), GOOD_KEY: GOOD_VALUE}
+    return replies_due(stream, store)
+
+
+def expect_answered(siege, stream, cut, due, goes_on):
+    """A stream, sent in two pieces, is answered to the byte."""
+    with siege.join() as client:
+        client.send(stream[:cut])
+        client.send(stream[cut:])
+        if goes_on and not client.is_closed:
+            client.socket.shutdown(socket.SHUT_WR)
+        came = client.rest()
+    expect(came == due, f"{stream[:200]!r}: {came[-200:]!r}, due is {due[-200:]!r}")
+
+
+def random_bytes(siege, seed=20_081):
     """Streams of random bytes, each answered as the model does to the byte, in pieces of any size."""
-    chance = random.Random(20_081)
-    for number in range(siege.times(300, 10_000)):
-        store, stream = Store(), random_stream(chance)
-        store.contents = {**dict.fromkeys(KEYS, VALUE), GOOD_KEY: GOOD_VALUE}
-        due, goes_on = replies_due(stream, store)
-        if due is None:
-            continue
-        with siege.join() as client:
-            cut = chance.randrange(len(stream) + 1)
-            client.send(stream[:cut])
-            client.send(stream[cut:])
-            if goes_on and not client.is_closed:
-                client.socket.shutdown(socket.SHUT_WR)
-            came = client.rest()
-        expect(came == due, f"stream {number}, {stream[:200]!r}: {came[-200:]!r}, due is {due[-200:]!r}")
+    chance = random.Random(seed)
+    for _ in range(siege.times(300, 10_000)):
+        stream = random_stream(chance)
+        due, goes_on = stream_due(stream)
+        if due is not None:
+            expect_answered(siege, stream, chance.randrange(len(stream) + 1), due, goes_on)
 
 
 # Memory

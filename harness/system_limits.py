@@ -6,14 +6,23 @@ the server doesn't end and doesn't spin.
 While a transaction is open, what the transactions that commit beside it have read is kept, and nothing bounds how many they are: this is
 outside the memory bound of the other harness. The address space is bounded here, so that memory is refused: the connection that met it
 is closed, sessions that need none are served, and soon after the old transaction has ended there is memory again.
+
+Of a pipe that is full and that nobody reads, each line waits that `serve` writes to it: until the pipe is read nobody is served, a server that
+would end doesn't, and no commit that was answered is lost. A pipe with room takes both lines though nobody reads it. Where the pipe is set not
+to block, a refused first line ends the server, and `store stopped` is lost.
 """
+import contextlib
+import errno
 import os
 import resource
 import select
+import subprocess
 import time
 
-from client import Connection, Server, Tally, create, expect, folder, is_long, need, run_harness
-from model import KEY_MAX, MARKS_MAX, OK, PONG, frame
+from client import (
+    ALL, DEVICE, PATIENCE, POLL, PROGRAM, STORE_STOPPED, Connection, Refusals, Server, Tally, check, create, expect, folder, free_port,
+    is_long, need, run_harness)
+from model import KEY_MAX, MARKS_MAX, OK, PONG, frame, refusal
 
 DESCRIPTORS, CONNECTIONS = 24, 40
 SOON = 0.5
@@ -151,6 +160,139 @@ def scene(tally, place, name, play, limit):
         expect(server.is_alive() and server.error_text() == b"", f"it ended, or wrote {server.error_text()!r}")
 
 
+# A full pipe
+
+WAIT = 0.5
+
+
+class Pipe:
+    """A pipe, filled or not, which nobody reads until it is asked to."""
+
+    def __init__(self, is_full):
+        self.end, self.start = os.pipe()
+        os.set_blocking(self.end, False)
+        os.set_blocking(self.start, False)
+        self.filled = sum(iter(self._fill, 0)) if is_full else 0
+        os.set_blocking(self.start, True)
+
+    def _fill(self):
+        try:
+            return os.write(self.start, bytes(4_096))
+        except BlockingIOError:
+            return 0
+
+    def line(self):
+        """What was written behind the filling, once it is all read and as long as nothing more comes."""
+        came, end = b"", time.monotonic() + PATIENCE
+        while len(came) <= self.filled and time.monotonic() < end or select.select([self.end], [], [], WAIT / 5)[0]:
+            with contextlib.suppress(BlockingIOError):
+                came += os.read(self.end, 1 << 16)
+        return came[self.filled:]
+
+    def close(self):
+        os.close(self.end)
+        os.close(self.start)
+
+
+class Piped:
+    """A server, of which one standard stream is a pipe and the other goes nowhere."""
+
+    def __init__(self, place, stream, is_full=True, is_blocking=True):
+        self.data, self.port, self.refusals, self.pipe = os.path.join(place, "data"), free_port(), Refusals(place), Pipe(is_full)
+        create(self.data, 512)
+        os.set_blocking(self.pipe.start, is_blocking)
+        words = [PROGRAM, "serve", "--data", self.data, "--listen", f"127.0.0.1:{self.port}"]
+        both = {"stdout": subprocess.DEVNULL, "stderr": subprocess.DEVNULL, stream: self.pipe.start}
+        self.process = subprocess.Popen(words, stdin=subprocess.DEVNULL, env=self.refusals.environment(), **both)
+
+    def connected(self):
+        """A connection, for which it may have to be waited until the port is there."""
+        end = time.monotonic() + PATIENCE
+        while True:
+            try:
+                return Connection(self.port)
+            except ConnectionRefusedError:
+                expect(time.monotonic() < end and self.process.poll() is None, f"the port isn't there; status {self.process.poll()}")
+                time.sleep(0.01)
+
+    def is_served(self, client):
+        """Is a PING answered soon?"""
+        client.send(PING)
+        return bool(select.select([client.socket], [], [], WAIT)[0]) and client.reply() == PONG
+
+    def stop_the_store(self, client):
+        """A commit, and one in which the data file fails."""
+        for number, due in enumerate((b":1\r\n", refusal("STORE fault"))):
+            if number:
+                self.refusals.of(DEVICE).fail(self.refusals.of(DEVICE).made + 1, ALL, errno.EIO)
+            replies = [client.ask(request) for request in (BEGIN, frame("SET", "a", str(number)), COMMIT)]
+            expect(replies == [OK, OK, due], f"a commit was answered {replies}")
+
+    def __enter__(self):
+        return self
+
+    def __exit__(self, *_):
+        self.process.kill()
+        self.process.wait()
+        self.pipe.close()
+
+
+def expect_line(server, due):
+    line = server.pipe.line()
+    expect(line == due, f"behind the filling of the pipe came {line!r}")
+
+
+def full_output(place):
+    """The port is there, and nobody is served until the first line is taken."""
+    with Piped(place, "stdout") as server, server.connected() as client:
+        expect(not server.is_served(client), "a client is served though the first line has no room")
+        expect_line(server, b"listening 127.0.0.1:%d\n" % server.port)
+        expect(client.reply() == PONG and server.is_served(client), "nobody is served though the line was taken")
+
+
+def full_errors_of_a_stopped_store(place):
+    """The COMMIT that met the fault is answered; then nobody is served until the line is taken."""
+    with Piped(place, "stderr") as server, server.connected() as client:
+        server.stop_the_store(client)
+        expect(not server.is_served(client), "a client is served though the line has no room")
+        expect_line(server, STORE_STOPPED)
+        expect(client.reply() == PONG and client.ask(BEGIN) == refusal("STORE stopped"), "nobody is served though the line was taken")
+    expect(check(server.data)[0] == 1, "the commit that was answered is not there")
+
+
+def full_errors_of_an_end(place):
+    """A server that has met a fault of the poll ends once its line is taken."""
+    with Piped(place, "stderr") as server, server.connected() as client:
+        expect(server.is_served(client), "a client is not served")
+        server.refusals.of(POLL).fail(server.refusals.of(POLL).made + 1, ALL, errno.EBADF)
+        client.send(PING)
+        time.sleep(WAIT)
+        expect(server.process.poll() is None, "it ended though its line has no room")
+        expect_line(server, b"ssikvd: poll fault\n")
+        expect(server.process.wait(PATIENCE) == 3, f"it ended with {server.process.returncode}")
+
+
+def pipe_with_room(place):
+    """Nobody reads, and all are served, also behind a stopped store."""
+    for stream, line in (("stdout", b"listening 127.0.0.1:%d\n"), ("stderr", STORE_STOPPED)):
+        with folder() as own, Piped(own, stream, is_full=False) as server, server.connected() as client:
+            server.stop_the_store(client)
+            expect(server.is_served(client), "a client is not served")
+            expect_line(server, line % server.port if b"%d" in line else line)
+
+
+def pipe_that_does_not_block(place):
+    """The first line, refused, is a fault of the output; `store stopped` is lost, and all are served."""
+    with Piped(place, "stdout", is_blocking=False) as server:
+        expect(server.process.wait(PATIENCE) == 3, f"it ended with {server.process.returncode}")
+    with folder() as own, Piped(own, "stderr", is_blocking=False) as server, server.connected() as client:
+        server.stop_the_store(client)
+        expect(server.is_served(client) and client.ask(BEGIN) == refusal("STORE stopped"), "a client is not served")
+
+
+PIPES = (full_output, full_errors_of_a_stopped_store, full_errors_of_an_end, pipe_with_room, pipe_that_does_not_block)
+
+
 def main():
     need()
     tally = Tally("limits of the system")
@@ -158,6 +300,9 @@ def main():
         scene(tally, place, "few descriptors", few_descriptors, with_limit(resource.RLIMIT_NOFILE, DESCRIPTORS))
         memory = (256 if is_long() else 64) * MIB
         scene(tally, place, "an old transaction", old_transaction, with_limit(resource.RLIMIT_AS, memory))
+    for play in PIPES:
+        with folder() as place, tally.run(play.__name__.replace("_", " ")):
+            play(place)
     return 0 if tally.end() else 1
 
 
