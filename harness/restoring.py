@@ -553,7 +553,7 @@ def links_of_ships(tally, copies):
 
 
 def unit(tally, copies):
-    """The unit's command with its default settings, in folders of another user, and its score."""
+    """The unit's command with its default settings, in folders of another user."""
     with open(os.path.join(DIST, "ssikvd-ship@.service"), encoding="utf-8") as file:
         text = file.read()
     settings = dict(word.split("=") for word in re.search(r"(?m)^Environment=(.*)$", text)[1].split())
@@ -566,20 +566,13 @@ def unit(tally, copies):
             os.chown(os.path.join(place, name), *OWNER[1:])
         for name, value in settings.items():
             command = command.replace(f"${{{name}}}", value)
-        words = command.replace("/var/lib/prometheus", place + "/no").replace("/var/lib", place).split()
+        words = command.replace("/run/ssikvd-metrics", place + "/no").replace("/var/lib", place).split()
         words[0] = os.path.join(DIST, words[0])
         as_user = ["setpriv", f"--reuid={OWNER[1]}", f"--regid={OWNER[2]}", "--clear-groups"] if os.getuid() == 0 else []
         reads = not as_user or tool(*as_user, "test", "-x", words[0])[0] == 0
         found = tool(*(as_user if reads else []), *words)
         expect(found[0] == 0 and "no metrics" in found[2], f"it answered {found}")
         expect(read(os.path.join(place, "ssikvd-backups", "shop.data")) == copies.bytes[0], "the copy is another log")
-    said = re.search(r"this unit an exposure level of ([\d.]+) of 10 \(by systemd (\d+)\)", operation_tools.operations().replace("\n", " "))
-    if not shutil.which("systemd-analyze") or f"systemd {said[2]}" not in tool("systemd-analyze", "--version")[1]:
-        operation_tools.missing("the score of ssikvd-ship@.service", f"systemd {said[2]}")
-        return
-    with tally.run("the score of ssikvd-ship@.service"):
-        found = tool("systemd-analyze", "security", "--offline=true", os.path.join(DIST, "ssikvd-ship@.service"))
-        expect(f": {said[1]} " in found[1].splitlines()[-1], f"the score is {found[1].splitlines()[-1:]}, docs/OPERATIONS.md says {said[1]}")
 
 
 # Faults that are planted
