@@ -192,7 +192,7 @@ class Scene:
         sent, waits, late = self.waits
         for name, begun, ended, figures in self.parts:
             chosen = [number for number, at in enumerate(sent) if begun <= at < ended]
-            yield name, {**waits_ms(sorted(waits[it] for it in chosen)), "client_late_ms": rounded_ms(max(late[it] for it in chosen)), **figures}
+            yield name, {**waits_ms(sorted(waits[it] for it in chosen)), "client_late_ms": rounded_ms(max((late[it] for it in chosen), default=0)), **figures}
 
 
 def rounded_ms(seconds):
@@ -201,7 +201,8 @@ def rounded_ms(seconds):
 
 def waits_ms(waits):
     places = {"median_ms": len(waits) // 2, "most_ms": min(len(waits) * 999 // 1000, len(waits) - 1), "longest_ms": -1}
-    return {"pings": len(waits), **{name: rounded_ms(waits[at]) for name, at in places.items()}}
+    # None where the machine let no PING leave in all that time.
+    return {"pings": len(waits), **{name: rounded_ms(waits[at]) if waits else None for name, at in places.items()}}
 
 
 # Pieces of scenes
